@@ -1,0 +1,130 @@
+-- Reading values one after the other.
+use Rattle.std.proofs.Common.{◌≡◌, ◌≢◌, ℕ, zero, suc, ◌+◌, ◌-◌, ◌<◌, ◌≤◌, Bool, true, false, cond, ltb, List, [], ◌∷◌, ◌++◌, length, Result, Ok, Err, refl, sym, ap, ◌∙◌, append_assoc, arith, length-append}
+use Rattle.std.proofs.lemmas.Bool.{lt-ltb, le-ltb}
+use Rattle.std.proofs.lemmas.List.{append-nil}
+use Rattle.neli_wire.specs.declared.errors.DeError.{DeError}
+use Rattle.neli_wire.specs.declared.errors.DeError.TheVariants.{Msg, Io, Utf8, InvalidInput, Memory}
+use Rattle.neli_wire.specs.Place.{Place, whole}
+use Rattle.neli_wire.specs.Reading.{Reading, Refuses, ◌>>=◌, IsLocal, elements_by, elements, map_refusal, within, is_short}
+
+-- what was read before, and what is still read
+abbrev pub with_front : {V : Type 0} → List V → Result (List V) DeError → Result (List V) DeError
+with_front front read = read >>= λ more. Ok (front ++ more)
+
+abbrev done : {A : Type 0} → A → Result A DeError
+done x = Ok x
+
+nothing_left : {V : Type 0} (read : List ℕ → Reading V) (stuck : DeError) (fuel : ℕ) (s : List ℕ) → length s ≡ 0 → elements_by read stuck fuel s ≡ Ok []
+unfolding elements_by
+nothing_left read stuck zero [] e = refl
+nothing_left read stuck (suc fuel) [] e = refl
+nothing_left read stuck fuel (b ∷ s) e = absurd (omega arith)
+
+one_more : {V : Type 0} (read : List ℕ → Reading V) (stuck : DeError) (fuel : ℕ) (s r : List ℕ) (v : V) → read s ≡ Ok (v, r) → length r < length s → elements_by read stuck (suc fuel) s ≡ (elements_by read stuck fuel r >>= λ more. Ok (v ∷ more))
+unfolding elements_by
+one_more read stuck fuel [] r v e lt = absurd (omega arith)
+one_more read stuck fuel (b ∷ s) r v e lt =
+    let shorter : ltb (length r) (suc (length s)) ≡ true = lt-ltb _ _ lt in
+    rw (e, shorter) refl
+
+none_taken : {V : Type 0} (read : List ℕ → Reading V) (stuck : DeError) (fuel : ℕ) (s r : List ℕ) (v : V) → read s ≡ Ok (v, r) → 0 < length s → length s ≤ length r → elements_by read stuck (suc fuel) s ≡ Err stuck
+unfolding elements_by
+none_taken read stuck fuel [] r v e some le = absurd (omega arith)
+none_taken read stuck fuel (b ∷ s) r v e some le =
+    let same : ltb (length r) (suc (length s)) ≡ false = le-ltb _ _ le in
+    rw (e, same) refl
+
+none_read : {V : Type 0} (read : List ℕ → Reading V) (stuck : DeError) (fuel : ℕ) (s : List ℕ) (e : DeError) → read s ≡ Err e → 0 < length s → elements_by read stuck (suc fuel) s ≡ Err e
+unfolding elements_by
+none_read read stuck fuel [] e h some = absurd (omega arith)
+none_read read stuck fuel (b ∷ s) e h some = rw h refl
+
+regroup : {V : Type 0} (front : List V) (v : V) (read : Result (List V) DeError) → with_front front (read >>= λ more. Ok (v ∷ more)) ≡ with_front (front ++ v ∷ []) read
+regroup front v (Ok more) = ap done (simp append_assoc)
+regroup front v (Err e) = refl
+
+front_nil : {V : Type 0} (read : Result (List V) DeError) → with_front [] read ≡ read
+front_nil (Ok more) = refl
+front_nil (Err e) = refl
+
+-- the values read so far, and the place behind them
+pub record Spells {V : Type 0} (read : List ℕ → Reading V) (bytes : List ℕ) (vs : List V) (at : Place) : Type 0 where
+  pub place : whole at ≡ bytes
+  pub room : length vs + length at.rest ≤ length bytes
+  pub others : with_front vs (elements_by read (InvalidInput (length bytes)) (length bytes - length vs) at.rest) ≡ elements_by read (InvalidInput (length bytes)) (length bytes) bytes
+
+pub Spells-init : {V : Type 0} (read : List ℕ → Reading V) (bytes : List ℕ) (at : Place) → at.before ≡ [] → at.rest ≡ bytes → Spells read bytes [] at
+Spells-init read bytes at b r = record {
+  place = rw (b, r) refl;
+  room = omega (arith, ap length r);
+  others = let none : length bytes - 0 ≡ length bytes = omega arith in rw (r, none) (front_nil (elements_by read (InvalidInput (length bytes)) (length bytes) bytes));
+}
+
+module _ {V : Type 0} (read : List ℕ → Reading V) (bytes : List ℕ) (vs : List V) (at : Place) (so_far : Spells read bytes vs at) where
+  pub Spells-end : length bytes ≤ length at.before → elements read bytes ≡ Ok vs
+  Spells-end le =
+      let none : length at.rest ≡ 0 = omega (arith, ap length so_far.place, length-append at.before at.rest) in
+      let all : elements_by read (InvalidInput (length bytes)) (length bytes) bytes ≡ Ok vs = sym so_far.others ∙ (rw (nothing_left read (InvalidInput (length bytes)) (length bytes - length vs) at.rest none) (ap done (append-nil vs))) in
+      rw all refl
+
+  pub Spells-shorter : (v : V) (next : Place) → IsLocal read → read at.rest ≡ Ok (v, next.rest) → whole next ≡ whole at → length next.before ≢ length at.before → length next.rest < length at.rest
+  Spells-shorter v next local e same moved =
+      let front = local at.rest next.rest v e in
+      let len : length at.rest ≡ length front.0 + length next.rest = ap length front.1 ∙ length-append front.0 next.rest in
+      let total : length next.before + length next.rest ≡ length at.before + length at.rest = sym (length-append next.before next.rest) ∙ ap length same ∙ length-append at.before at.rest in
+      omega (arith, len, total, moved)
+
+  pub Spells-more : (v : V) (next : Place) → IsLocal read → read at.rest ≡ Ok (v, next.rest) → whole next ≡ whole at → length next.before ≢ length at.before → Spells read bytes (vs ++ v ∷ []) next
+  Spells-more v next local e same moved =
+      let shorter = Spells-shorter v next local e same moved in
+      let count : length (vs ++ v ∷ []) ≡ length vs + 1 = length-append vs (v ∷ []) in
+      let step : length bytes - length vs ≡ suc (length bytes - length (vs ++ v ∷ [])) = omega (arith, so_far.room, shorter, count) in
+      record {
+        place = same ∙ so_far.place;
+        room = omega (arith, so_far.room, shorter, count);
+        others = sym (regroup vs v (elements_by read (InvalidInput (length bytes)) (length bytes - length (vs ++ v ∷ [])) next.rest))
+            ∙ ap (with_front vs) (sym (one_more read (InvalidInput (length bytes)) (length bytes - length (vs ++ v ∷ [])) at.rest next.rest v e shorter))
+            ∙ ap (λ (fuel : ℕ). with_front vs (elements_by read (InvalidInput (length bytes)) fuel at.rest)) (sym step)
+            ∙ so_far.others;
+      }
+
+  some_left : length at.before < length bytes → 0 < length at.rest
+  some_left lt = omega (arith, ap length so_far.place, length-append at.before at.rest)
+
+  pub Spells-refused : (e : DeError) → length at.before < length bytes → read at.rest ≡ Err e → elements_by read (InvalidInput (length bytes)) (length bytes) bytes ≡ Err e
+  Spells-refused e lt h =
+      let some = some_left lt in
+      let step : length bytes - length vs ≡ suc (length bytes - length vs - 1) = omega (arith, so_far.room, some) in
+      sym so_far.others ∙ (rw (step, none_read read (InvalidInput (length bytes)) (length bytes - length vs - 1) at.rest e h some) refl)
+
+  pub Spells-stuck : (v : V) (next : Place) → length at.before < length bytes → read at.rest ≡ Ok (v, next.rest) → whole next ≡ whole at → length next.before ≡ length at.before → elements read bytes ≡ Err (InvalidInput (length bytes))
+  Spells-stuck v next lt e same stays =
+      let some = some_left lt in
+      let total : length next.before + length next.rest ≡ length at.before + length at.rest = sym (length-append next.before next.rest) ∙ ap length same ∙ length-append at.before at.rest in
+      let step : length bytes - length vs ≡ suc (length bytes - length vs - 1) = omega (arith, so_far.room, some) in
+      let all : elements_by read (InvalidInput (length bytes)) (length bytes) bytes ≡ Err (InvalidInput (length bytes)) = sym so_far.others ∙ (rw (step, none_taken read (InvalidInput (length bytes)) (length bytes - length vs - 1) at.rest next.rest v e some (omega (arith, total, stays))) refl) in
+      rw all refl
+
+-- a refusal, not for memory, is its own
+refuses_self : (A : Type 0) (memory : Type 0) (e : DeError) → e ≢ Memory → Refuses {A = A} (Err e) memory e
+refuses_self A memory (Msg m) h = refl
+refuses_self A memory (Io k) h = refl
+refuses_self A memory (Utf8 u) h = refl
+refuses_self A memory (InvalidInput n) h = refl
+refuses_self A memory Memory h = absurd (h refl)
+
+within_cases : (n : ℕ) (b : Bool) (e : DeError) → e ≢ Memory → cond b (InvalidInput n) e ≢ Memory
+within_cases n true e h f = cc
+within_cases n false e h f = h f
+
+-- a refusal is passed on
+passed : {A : Type 0} (memory : Type 0) (n : ℕ) (all : Result A DeError) (e : DeError) → e ≢ Memory → all ≡ Err e → Refuses (map_refusal (within n) all) memory (within n e)
+passed {A} memory n all e h is = rw is (refuses_self A memory (within n e) (within_cases n (is_short e) e h))
+
+-- the refusal of an element is that of the list
+pub elements-refused : {V : Type 0} (read : List ℕ → Reading V) (bytes : List ℕ) (vs : List V) (at : Place) (memory : Type 0) (e : DeError) → Spells read bytes vs at → length at.before < length bytes → Refuses (read at.rest) memory e → Refuses (elements read bytes) (0 < length bytes) (within (length bytes) e)
+elements-refused read bytes vs at memory (Msg m) s lt h = passed (0 < length bytes) (length bytes) _ (Msg m) (λ f. cc) (Spells-refused read bytes vs at s (Msg m) lt h)
+elements-refused read bytes vs at memory (Io k) s lt h = passed (0 < length bytes) (length bytes) _ (Io k) (λ f. cc) (Spells-refused read bytes vs at s (Io k) lt h)
+elements-refused read bytes vs at memory (Utf8 u) s lt h = passed (0 < length bytes) (length bytes) _ (Utf8 u) (λ f. cc) (Spells-refused read bytes vs at s (Utf8 u) lt h)
+elements-refused read bytes vs at memory (InvalidInput n) s lt h = passed (0 < length bytes) (length bytes) _ (InvalidInput n) (λ f. cc) (Spells-refused read bytes vs at s (InvalidInput n) lt h)
+elements-refused read bytes vs at memory Memory s lt h = omega arith

@@ -1,0 +1,12 @@
+pub mod Constants
+pub mod ErrorTexts
+pub mod ListLaws
+pub mod NumberLaws
+pub mod Numbers
+pub mod Place
+pub mod Reading
+pub mod ReadingLaws
+pub mod Sizes
+pub mod Texts
+pub mod Writing
+pub mod WritingLaws

@@ -1,0 +1,15 @@
+-- A place in a byte list, which is what a cursor stands for.
+use Rattle.std.specs.Prelude.{ℕ, List, ◌++◌, take, drop}
+
+-- the bytes before the place, and those after it
+pub record Place : Type 0 where
+  pub before : List ℕ
+  pub rest : List ℕ
+
+-- all the bytes
+abbrev pub whole : Place → List ℕ
+whole p = p.before ++ p.rest
+
+-- the place n bytes further on
+abbrev pub moved : Place → ℕ → Place
+moved p n = record { before = p.before ++ take n p.rest; rest = drop n p.rest }

@@ -1,0 +1,98 @@
+-- Reading: what a byte list says, or why it says nothing.
+use Rattle.std.specs.Prelude.{◌≡◌, ◌≤◌, Bool, true, false, ℕ, zero, suc, List, [], ◌∷◌, ◌++◌, length, take, drop, Result, Ok, Err, nat_lt, if◌then◌else◌}
+use Rattle.byteorder.specs.Endian.{little_number}
+use Rattle.std.specs.declared.io.ErrorKind.TheVariants.{UnexpectedEof}
+use Rattle.neli_wire.specs.declared.errors.DeError.{DeError}
+use Rattle.neli_wire.specs.declared.errors.DeError.TheVariants.{Msg, Io, Utf8, InvalidInput, Memory}
+
+-- the value that begins a byte list and the bytes after it, or a refusal
+abbrev pub Reading : Type 0 → Type 0
+Reading V = Result (V × List ℕ) DeError
+
+-- the bytes end too early
+abbrev pub short : DeError
+short = Io UnexpectedEof
+
+-- what is done with a value that was read; a refusal stays
+infixl 10 ◌>>=◌
+abbrev pub ◌>>=◌ : {A B : Type 0} → Result A DeError → (A → Result B DeError) → Result B DeError
+(Ok x) >>= f = f x
+(Err e) >>= f = Err e
+
+-- one reading after the other
+abbrev pub and_then : {A B : Type 0} → (List ℕ → Reading A) → (A → List ℕ → Reading B) → List ℕ → Reading B
+and_then read next s = read s >>= λ p. next p.0 p.1
+
+-- ---- parts of readings
+
+-- the next n bytes
+abbrev pub bytes_at : ℕ → List ℕ → Reading (List ℕ)
+bytes_at n s = if nat_lt (length s) n then Err short else Ok (take n s, drop n s)
+
+-- the value that the next n bytes spell
+abbrev pub value_at : {V : Type 0} → ℕ → (List ℕ → V) → List ℕ → Reading V
+value_at n value = and_then (bytes_at n) (λ bytes rest. Ok (value bytes, rest))
+
+-- the number in the next n bytes, the lowest first
+abbrev pub number_at : ℕ → List ℕ → Reading ℕ
+number_at n = value_at n (little_number n)
+
+-- a number of two bytes, and what it stands for
+abbrev pub number_as : {V : Type 0} → (ℕ → V) → List ℕ → Reading V
+number_as of = value_at 2 (λ bytes. of (little_number 2 bytes))
+
+-- the reading of exactly the next n bytes
+abbrev pub sized : {V : Type 0} → (List ℕ → Result V DeError) → ℕ → List ℕ → Reading V
+sized read n s = if nat_lt (length s) n then Err (InvalidInput n) else (read (take n s) >>= λ v. Ok (v, drop n s))
+
+-- ---- refusals
+
+-- e is the refusal that the reading gives; or memory ran out, where the reading takes some
+abbrev pub Refuses : {A : Type 0} → Result A DeError → Type 0 → DeError → Type 0
+Refuses outcome takes_memory (Msg m) = outcome ≡ Err (Msg m)
+Refuses outcome takes_memory (Io k) = outcome ≡ Err (Io k)
+Refuses outcome takes_memory (Utf8 u) = outcome ≡ Err (Utf8 u)
+Refuses outcome takes_memory (InvalidInput n) = outcome ≡ Err (InvalidInput n)
+Refuses outcome takes_memory Memory = takes_memory
+
+-- the first n bytes are there, and reading them takes memory
+abbrev pub sized_takes : (List ℕ → Type 0) → ℕ → List ℕ → Type 0
+sized_takes takes_memory n s = (n ≤ length s) × takes_memory (take n s)
+
+-- a part was read, and what is said of it holds
+abbrev pub Then : {A : Type 0} → Reading A → (A → List ℕ → Type 0) → Type 0
+Then (Ok p) P = P p.0 p.1
+Then (Err e) P = ⊥
+
+-- the refusal says that bytes are missing
+abbrev pub is_short : DeError → Bool
+is_short (Io UnexpectedEof) = true
+is_short e = false
+
+-- a refusal as a read with input n passes it on: there missing bytes are an invalid input
+abbrev pub within : ℕ → DeError → DeError
+within n e = if is_short e then InvalidInput n else e
+
+-- a refusal as it is passed on
+abbrev pub map_refusal : {A : Type 0} → (DeError → DeError) → Result A DeError → Result A DeError
+map_refusal f (Ok x) = Ok x
+map_refusal f (Err e) = Err (f e)
+
+-- ---- lists of values
+
+-- the elements that a byte list of at most `fuel` bytes spells, one after the other; stuck where one takes no byte
+unfoldable pub elements_by : {V : Type 0} → (List ℕ → Reading V) → DeError → ℕ → List ℕ → Result (List V) DeError
+elements_by read stuck fuel [] = Ok []
+elements_by read stuck zero (b ∷ s) = Err stuck
+elements_by read stuck (suc fuel) (b ∷ s) =
+    read (b ∷ s) >>= λ p. if nat_lt (length p.1) (suc (length s)) then (elements_by read stuck fuel p.1 >>= λ more. Ok (p.0 ∷ more)) else Err stuck
+
+-- the elements that a whole byte list spells
+abbrev pub elements : {V : Type 0} → (List ℕ → Reading V) → List ℕ → Result (List V) DeError
+elements read s = map_refusal (within (length s)) (elements_by read (InvalidInput (length s)) (length s) s)
+
+-- ---- laws that a reading meets
+
+-- a value that is read is told by its own bytes alone, whatever follows
+abbrev pub IsLocal : {V : Type 0} → (List ℕ → Reading V) → Type 0
+IsLocal {V} read = (s r : List ℕ) (v : V) → read s ≡ Ok (v, r) → (front : List ℕ) × (s ≡ front ++ r) × ((t : List ℕ) → read (front ++ t) ≡ Ok (v, t))

@@ -1,0 +1,119 @@
+//! Lists of values, one after the other.
+
+ghost use Rattle.std.specs.Prelude.{◌≡◌, ◌≤◌, ◌<◌, ◌+◌, ℕ, List, Ok, Err, IfOk, IfErr, OnOk, OnErr, length, min, map, take, drop, sum_by};
+ghost use Rattle.neli_wire.specs.ListLaws.{wire_all-length, wire_all-no_memory, elements-no_memory, elements-never_short};
+ghost use Rattle.neli_wire.specs.Reading.{Refuses, elements, within};
+ghost use Rattle.neli_wire.specs.Writing.{IsRefused, appended, wire_all};
+
+use crate::{
+    Cursor, DeError, FromBytes, FromBytesWithInput, SerError, Size, ToBytes, undone, within_input,
+};
+use std::alloc::Global;
+
+/// How many bytes the values take together; `usize::MAX` where that is larger.
+pub fn size_of_all<T: Size>(items: &[T]) -> usize
+    ensures { result ≡ min (sum_by T.written items.now) usize.MAX }
+{
+    let mut total: usize = 0;
+    for item in items {
+        total = total.saturating_add(item.written_size());
+    }
+    total
+}
+
+/// Appends the bytes of the values. A refusal leaves some of them behind what was there.
+fn write_each<T: ToBytes>(items: &[T], buffer: &mut Vec<u8>) -> Result<(), SerError>
+    ensures appended { OnOk result (appended buffer.old.items (wire_all T.wire items.now) ≡ Ok buffer.new.items) }
+    ensures refused { IfErr result (IsRefused (wire_all T.wire items.now)) }
+    ensures front { OnErr result (take (length buffer.old.items) buffer.new.items ≡ buffer.old.items) }
+{
+    for item in items {
+        item.to_bytes(buffer)?;
+    }
+    Ok(())
+}
+
+/// Appends the bytes of all the values, or leaves the buffer as it was.
+pub fn write_all<T: ToBytes>(items: &[T], buffer: &mut Vec<u8>) -> Result<(), SerError>
+    ensures appended { OnOk result (appended buffer.old.items (wire_all T.wire items.now) ≡ Ok buffer.new.items) }
+    ensures refused { IfErr result (IsRefused (wire_all T.wire items.now)) }
+    ensures unchanged { OnErr result (buffer.new.items ≡ buffer.old.items) }
+{
+    let start = buffer.len();
+    let outcome = write_each(items, buffer);
+    undone(buffer, start, outcome)
+}
+
+/// The values that all of the bytes spell, one after the other.
+///
+/// An element that takes no byte while bytes are left is `InvalidInput` of their whole count.
+pub fn read_all<T: FromBytes>(alloc: Global, bytes: &[u8]) -> Result<Vec<T>, DeError>
+    ensures value { IfOk result (λ v. elements T.read bytes.now ≡ Ok (map T.view v.items)) }
+    ensures refused { IfErr result (Refuses (elements T.read bytes.now) (0 < length bytes.now)) }
+{
+    let mut items = Vec::new(alloc);
+    let mut cursor = Cursor::new(bytes);
+    while cursor.position() < bytes.len() {
+        let start = cursor.position();
+        let item = match T::from_bytes(alloc, &mut cursor) {
+            Ok(item) => item,
+            Err(error) => return Err(within_input(error, bytes.len())),
+        };
+        if cursor.position() == start {
+            return Err(DeError::InvalidInput(bytes.len()));
+        }
+        items.push(item)?;
+    }
+    Ok(items)
+}
+
+impl<T: Size> Size for Vec<T> {
+    ghost unpadded = { λ v. sum_by T.written v.items };
+
+    ghost written = { λ v. sum_by T.written v.items };
+
+    fn unpadded_size(&self) -> usize {
+        size_of_all(self)
+    }
+
+    fn written_size(&self) -> usize {
+        size_of_all(self)
+    }
+}
+
+impl<T: ToBytes> ToBytes for Vec<T> {
+    ghost wire = { λ v. wire_all T.wire v.items };
+
+    ghost length_is = { λ v bytes e. wire_all-length T.wire T.Size.written T.length_is v.items bytes e };
+
+    ghost no_memory = { λ v e. wire_all-no_memory T.wire T.no_memory v.items e };
+
+    fn to_bytes(&self, buffer: &mut Vec<u8>) -> Result<(), SerError> {
+        write_all(self, buffer)
+    }
+}
+
+impl<T: FromBytes> FromBytesWithInput for Vec<T> {
+    ghost Value = { List T.Value };
+
+    ghost view = { λ v. map T.view v.items };
+
+    ghost read = { elements T.read };
+
+    ghost takes_memory = { λ s. 0 < length s };
+
+    ghost no_memory = { λ s e. elements-no_memory T.read T.no_memory s e };
+
+    ghost never_short = { λ s e. elements-never_short T.read s e };
+
+    fn from_bytes_with_input(
+        alloc: Global,
+        cursor: &mut Cursor<'_>,
+        n: usize,
+    ) -> Result<Self, DeError> {
+        let bytes = cursor.input(n)?;
+        let items = read_all(alloc, bytes)?;
+        cursor.advance(n);
+        Ok(items)
+    }
+}

@@ -1,0 +1,53 @@
+//! Sizes of values, and lengths rounded up to four.
+
+ghost use Rattle.std.specs.Prelude.{◌≡◌, ◌≤◌, ℕ, min};
+ghost use Rattle.neli_wire.specs.Sizes.{align};
+
+/// A length rounded up to four, as the kernel's `NLMSG_ALIGN`, `NLA_ALIGN` and `RTA_ALIGN` do
+/// (`linux/netlink.h`, `linux/rtnetlink.h`).
+pub const fn alignto(len: usize) -> usize
+    requires { align len ≤ usize.MAX }
+    ensures { result ≡ align len }
+{
+    if len > usize::MAX - 3 {
+        len
+    } else {
+        (len + 3) / 4 * 4
+    }
+}
+
+/// A size rounded up to four; `usize::MAX` where that is larger.
+pub fn padded_length(size: usize) -> usize
+    ensures { result ≡ min (align size) usize.MAX }
+{
+    if size > usize::MAX - 3 {
+        usize::MAX
+    } else {
+        alignto(size)
+    }
+}
+
+/// How many bytes a value takes; `usize::MAX` where that is larger.
+pub trait Size {
+    // The length of a value's wire text without padding at its end.
+    ghost unpadded: { Self → ℕ };
+
+    // The length of the whole wire text.
+    ghost written: { Self → ℕ };
+
+    /// The number of bytes of the value, in bytes, without padding at its end.
+    fn unpadded_size(&self) -> usize
+        ensures { result ≡ min (unpadded self.now) usize.MAX };
+
+    /// The unpadded size rounded up to four, in bytes.
+    fn padded_size(&self) -> usize
+        ensures { result ≡ min (align (unpadded self.now)) usize.MAX }
+    {
+        padded_length(self.unpadded_size())
+    }
+
+    /// How many bytes `ToBytes::to_bytes` appends: the padded size of attributes and messages, the
+    /// unpadded size of all other values.
+    fn written_size(&self) -> usize
+        ensures { result ≡ min (written self.now) usize.MAX };
+}
