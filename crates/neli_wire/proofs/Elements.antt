@@ -5,6 +5,7 @@ use Rattle.std.proofs.lemmas.List.{append-nil}
 use Rattle.neli_wire.specs.declared.errors.DeError.{DeError}
 use Rattle.neli_wire.specs.declared.errors.DeError.TheVariants.{Msg, Io, Utf8, InvalidInput, Memory}
 use Rattle.neli_wire.specs.Place.{Place, whole}
+use Rattle.neli_wire.specs.ListLaws.{nothing_left, one_more, none_taken, none_read}
 use Rattle.neli_wire.specs.Reading.{Reading, Refuses, ◌>>=◌, IsLocal, elements_by, elements, map_refusal, within, is_short}
 
 -- what was read before, and what is still read
@@ -13,31 +14,6 @@ with_front front read = read >>= λ more. Ok (front ++ more)
 
 abbrev done : {A : Type 0} → A → Result A DeError
 done x = Ok x
-
-nothing_left : {V : Type 0} (read : List ℕ → Reading V) (stuck : DeError) (fuel : ℕ) (s : List ℕ) → length s ≡ 0 → elements_by read stuck fuel s ≡ Ok []
-unfolding elements_by
-nothing_left read stuck zero [] e = refl
-nothing_left read stuck (suc fuel) [] e = refl
-nothing_left read stuck fuel (b ∷ s) e = absurd (omega arith)
-
-one_more : {V : Type 0} (read : List ℕ → Reading V) (stuck : DeError) (fuel : ℕ) (s r : List ℕ) (v : V) → read s ≡ Ok (v, r) → length r < length s → elements_by read stuck (suc fuel) s ≡ (elements_by read stuck fuel r >>= λ more. Ok (v ∷ more))
-unfolding elements_by
-one_more read stuck fuel [] r v e lt = absurd (omega arith)
-one_more read stuck fuel (b ∷ s) r v e lt =
-    let shorter : ltb (length r) (suc (length s)) ≡ true = lt-ltb _ _ lt in
-    rw (e, shorter) refl
-
-none_taken : {V : Type 0} (read : List ℕ → Reading V) (stuck : DeError) (fuel : ℕ) (s r : List ℕ) (v : V) → read s ≡ Ok (v, r) → 0 < length s → length s ≤ length r → elements_by read stuck (suc fuel) s ≡ Err stuck
-unfolding elements_by
-none_taken read stuck fuel [] r v e some le = absurd (omega arith)
-none_taken read stuck fuel (b ∷ s) r v e some le =
-    let same : ltb (length r) (suc (length s)) ≡ false = le-ltb _ _ le in
-    rw (e, same) refl
-
-none_read : {V : Type 0} (read : List ℕ → Reading V) (stuck : DeError) (fuel : ℕ) (s : List ℕ) (e : DeError) → read s ≡ Err e → 0 < length s → elements_by read stuck (suc fuel) s ≡ Err e
-unfolding elements_by
-none_read read stuck fuel [] e h some = absurd (omega arith)
-none_read read stuck fuel (b ∷ s) e h some = rw h refl
 
 regroup : {V : Type 0} (front : List V) (v : V) (read : Result (List V) DeError) → with_front front (read >>= λ more. Ok (v ∷ more)) ≡ with_front (front ++ v ∷ []) read
 regroup front v (Ok more) = ap done (simp append_assoc)

@@ -1,5 +1,7 @@
 pub mod Constants
 pub mod ErrorTexts
+pub mod FrameLaws
+pub mod Frames
 pub mod ListLaws
 pub mod NumberLaws
 pub mod Numbers

@@ -1,13 +1,15 @@
 -- Laws of lists of values, which the impls cite.
-use Rattle.std.proofs.Common.{◌≡◌, ◌≢◌, ℕ, zero, suc, ◌+◌, ◌<◌, Bool, true, false, cond, ltb, List, [], ◌∷◌, ◌++◌, length, Result, Ok, Err, refl, sym, ap, subst, ◌∙◌, arith, length-append}
+use Rattle.std.proofs.Common.{◌≡◌, ◌≢◌, ℕ, zero, suc, ◌+◌, ◌<◌, ◌≤◌, Bool, true, false, cond, ltb, List, [], ◌∷◌, ◌++◌, length, Result, Ok, Err, refl, sym, ap, subst, ◌∙◌, append_assoc, arith, length-append}
 use Rattle.std.specs.Prelude.{sum_by}
 use Rattle.std.proofs.lemmas.List.Sums.{sum_by-cons}
 use Rattle.neli_wire.specs.declared.errors.SerError.{SerError}
 use Rattle.neli_wire.specs.declared.errors.SerError.TheVariants as ser
 use Rattle.neli_wire.specs.declared.errors.DeError.{DeError}
 use Rattle.neli_wire.specs.declared.errors.DeError.TheVariants.{Msg, Io, Utf8, InvalidInput, Memory}
+use Rattle.neli_wire.specs.ReadingLaws.{bind_ok}
+use Rattle.std.proofs.lemmas.Bool.{ltb-true, lt-ltb, le-ltb}
 use Rattle.neli_wire.specs.Writing.{Wire, ◌+++◌, wire_all}
-use Rattle.neli_wire.specs.Reading.{Reading, ◌>>=◌, elements_by, elements, map_refusal, within, is_short, short}
+use Rattle.neli_wire.specs.Reading.{Reading, IsLocal, AreElements, ◌>>=◌, elements_by, elements, map_refusal, within, is_short, short}
 
 abbrev written : List ℕ → Wire
 written bytes = Ok bytes
@@ -74,3 +76,94 @@ map_refusal-never_short n (Err d) e = within-never_short n (is_short d) d refl c
 
 pub elements-never_short : {V : Type 0} (read : List ℕ → Reading V) (s : List ℕ) → elements read s ≢ Err short
 elements-never_short read s e = map_refusal-never_short (length s) (elements_by read (InvalidInput (length s)) (length s) s) e
+
+-- ---- the elements one after the other
+
+pub nothing_left : {V : Type 0} (read : List ℕ → Reading V) (stuck : DeError) (fuel : ℕ) (s : List ℕ) → length s ≡ 0 → elements_by read stuck fuel s ≡ Ok []
+unfolding elements_by
+nothing_left read stuck zero [] e = refl
+nothing_left read stuck (suc fuel) [] e = refl
+nothing_left read stuck fuel (b ∷ s) e = absurd (omega arith)
+
+pub one_more : {V : Type 0} (read : List ℕ → Reading V) (stuck : DeError) (fuel : ℕ) (s r : List ℕ) (v : V) → read s ≡ Ok (v, r) → length r < length s → elements_by read stuck (suc fuel) s ≡ (elements_by read stuck fuel r >>= λ more. Ok (v ∷ more))
+unfolding elements_by
+one_more read stuck fuel [] r v e lt = absurd (omega arith)
+one_more read stuck fuel (b ∷ s) r v e lt =
+    let shorter : ltb (length r) (suc (length s)) ≡ true = lt-ltb _ _ lt in
+    rw (e, shorter) refl
+
+pub none_taken : {V : Type 0} (read : List ℕ → Reading V) (stuck : DeError) (fuel : ℕ) (s r : List ℕ) (v : V) → read s ≡ Ok (v, r) → 0 < length s → length s ≤ length r → elements_by read stuck (suc fuel) s ≡ Err stuck
+unfolding elements_by
+none_taken read stuck fuel [] r v e some le = absurd (omega arith)
+none_taken read stuck fuel (b ∷ s) r v e some le =
+    let same : ltb (length r) (suc (length s)) ≡ false = le-ltb _ _ le in
+    rw (e, same) refl
+
+pub none_read : {V : Type 0} (read : List ℕ → Reading V) (stuck : DeError) (fuel : ℕ) (s : List ℕ) (e : DeError) → read s ≡ Err e → 0 < length s → elements_by read stuck (suc fuel) s ≡ Err e
+unfolding elements_by
+none_read read stuck fuel [] e h some = absurd (omega arith)
+none_read read stuck fuel (b ∷ s) e h some = rw h refl
+
+-- ---- what a list of elements is
+
+ok_is : {A : Type 0} (x y : A) → (let r : Result A DeError = Ok x in r ≡ Ok y) → x ≡ y
+ok_is x y e = cc
+
+-- a test that is passed, where the refusal comes last
+else_ok : {A : Type 0} (b : Bool) (r : Result A DeError) (stuck : DeError) (y : A) → cond b r (Err stuck) ≡ Ok y → (b ≡ true) × (r ≡ Ok y)
+else_ok true r stuck y e = (refl, e)
+else_ok false r stuck y e = absurd cc
+
+module _ {V : Type 0} (read : List ℕ → Reading V) (stuck : DeError) where
+  are_by : IsLocal read → (fuel : ℕ) (s : List ℕ) (vs : List V) → elements_by read stuck fuel s ≡ Ok vs → AreElements read s vs
+  unfolding elements_by
+  are_by local zero [] vs e = subst (AreElements read []) (ok_is [] vs e) refl
+  are_by local (suc fuel) [] vs e = subst (AreElements read []) (ok_is [] vs e) refl
+  are_by local zero (b ∷ s) vs e = absurd cc
+  are_by local (suc fuel) (b ∷ s) vs e =
+      let one = bind_ok (read (b ∷ s)) _ vs e in
+      let two = else_ok (ltb (length one.0.1) (suc (length s))) _ stuck vs one.2 in
+      let three = bind_ok (elements_by read stuck fuel one.0.1) _ vs two.1 in
+      let front = local (b ∷ s) one.0.1 one.0.0 one.1 in
+      let shorter : length one.0.1 < suc (length s) = ltb-true _ _ two.0 in
+      let some : 0 < length front.0 = omega (arith, ap length front.1, length-append front.0 one.0.1) in
+      subst (AreElements read (b ∷ s)) (ok_is (one.0.0 ∷ three.0) vs three.2)
+      (front.0, one.0.1, front.1, some, front.2, are_by local fuel one.0.1 three.0 three.1)
+
+  by_are : (fuel : ℕ) (s : List ℕ) (vs : List V) → length s ≤ fuel → AreElements read s vs → elements_by read stuck fuel s ≡ Ok vs
+  by_are fuel s [] le are = nothing_left read stuck fuel s (ap length are)
+  by_are zero s (v ∷ vs) le are = absurd (omega (arith, ap length are.2, length-append are.0 are.1, are.3))
+  by_are (suc fuel) s (v ∷ vs) le are =
+      let len : length s ≡ length are.0 + length are.1 = ap length are.2 ∙ length-append are.0 are.1 in
+      let here : read s ≡ Ok (v, are.1) = ap read are.2 ∙ are.4 are.1 in
+      let later : elements_by read stuck fuel are.1 ≡ Ok vs = by_are fuel are.1 vs (omega (arith, len, are.3)) are.5 in
+      rw (one_more read stuck fuel s are.1 v here (omega (arith, len, are.3)), later) refl
+
+  by_refused : (fuel : ℕ) (front rest : List ℕ) (vs : List V) (e : DeError) → length (front ++ rest) ≤ fuel → AreElements read front vs → 0 < length rest → read rest ≡ Err e → elements_by read stuck fuel (front ++ rest) ≡ Err e
+  by_refused zero front rest vs e le are some h = absurd (omega (arith, length-append front rest))
+  by_refused (suc fuel) front rest [] e le are some h = rw are (none_read read stuck fuel rest e h some)
+  by_refused (suc fuel) front rest (v ∷ vs) e le are some h =
+      let len : length front ≡ length are.0 + length are.1 = ap length are.2 ∙ length-append are.0 are.1 in
+      let both = length-append front rest in
+      let inner = length-append are.1 rest in
+      let parts : front ++ rest ≡ are.0 ++ (are.1 ++ rest) = ap (λ (x : List ℕ). x ++ rest) are.2 ∙ append_assoc are.0 are.1 rest in
+      let here : read (front ++ rest) ≡ Ok (v, are.1 ++ rest) = ap read parts ∙ are.4 (are.1 ++ rest) in
+      let later : elements_by read stuck fuel (are.1 ++ rest) ≡ Err e = by_refused fuel are.1 rest vs e (omega (arith, len, are.3, both, inner)) are.5 some h in
+      rw (one_more read stuck fuel (front ++ rest) (are.1 ++ rest) v here (omega (arith, len, are.3, both, inner)), later) refl
+
+unpassed : {A : Type 0} (n : ℕ) (r : Result A DeError) (x : A) → map_refusal (within n) r ≡ Ok x → r ≡ Ok x
+unpassed n (Ok y) x e = e
+unpassed n (Err d) x e = absurd cc
+
+-- a list that is read is spelled by the bytes
+pub elements-are : {V : Type 0} (read : List ℕ → Reading V) → IsLocal read → (s : List ℕ) (vs : List V) → elements read s ≡ Ok vs → AreElements read s vs
+elements-are read local s vs e =
+    are_by read (InvalidInput (length s)) local (length s) s vs (unpassed (length s) (elements_by read (InvalidInput (length s)) (length s) s) vs e)
+
+-- and what is so spelled is read
+pub are-elements : {V : Type 0} (read : List ℕ → Reading V) (s : List ℕ) (vs : List V) → AreElements read s vs → elements read s ≡ Ok vs
+are-elements read s vs are = rw (by_are read (InvalidInput (length s)) (length s) s vs (omega arith) are) refl
+
+-- behind elements that are read, the first refusal is that of the list
+pub elements-refusal : {V : Type 0} (read : List ℕ → Reading V) (front rest : List ℕ) (vs : List V) (e : DeError) → AreElements read front vs → 0 < length rest → read rest ≡ Err e → elements read (front ++ rest) ≡ Err (within (length (front ++ rest)) e)
+elements-refusal read front rest vs e are some h = rw (by_refused read (InvalidInput (length (front ++ rest))) (length (front ++ rest)) front rest vs e (omega arith) are some h) refl

@@ -1,5 +1,5 @@
 -- Reading: what a byte list says, or why it says nothing.
-use Rattle.std.specs.Prelude.{◌≡◌, ◌≤◌, Bool, true, false, ℕ, zero, suc, List, [], ◌∷◌, ◌++◌, length, take, drop, Result, Ok, Err, nat_lt, if◌then◌else◌}
+use Rattle.std.specs.Prelude.{◌≡◌, ◌≤◌, ◌<◌, Bool, true, false, ℕ, zero, suc, List, [], ◌∷◌, ◌++◌, length, take, drop, Result, Ok, Err, nat_lt, if◌then◌else◌}
 use Rattle.byteorder.specs.Endian.{little_number}
 use Rattle.std.specs.declared.io.ErrorKind.TheVariants.{UnexpectedEof}
 use Rattle.neli_wire.specs.declared.errors.DeError.{DeError}
@@ -90,6 +90,11 @@ elements_by read stuck (suc fuel) (b ∷ s) =
 -- the elements that a whole byte list spells
 abbrev pub elements : {V : Type 0} → (List ℕ → Reading V) → List ℕ → Result (List V) DeError
 elements read s = map_refusal (within (length s)) (elements_by read (InvalidInput (length s)) (length s) s)
+
+-- the bytes are the texts of these values, one after the other, each of a byte at least
+abbrev pub AreElements : {V : Type 0} → (List ℕ → Reading V) → List ℕ → List V → Type 0
+AreElements read s [] = s ≡ []
+AreElements read s (v ∷ vs) = (text : List ℕ) × (rest : List ℕ) × (s ≡ text ++ rest) × (0 < length text) × ((t : List ℕ) → read (text ++ t) ≡ Ok (v, t)) × AreElements read rest vs
 
 -- ---- laws that a reading meets
 

@@ -16,11 +16,10 @@ ghost use Rattle.std.specs.String.{from_utf8_error_cause};
 use crate::MsgError;
 use std::alloc::{AllocError, AllocFailed, Global};
 use std::error::Error;
-use std::fmt;
-use std::io;
 use std::io::ErrorKind;
 use std::str::Utf8Error;
 use std::string::FromUtf8Error;
+use std::{fmt, io};
 
 /// Bytes that are not UTF-8, as a borrowed or an owned text was to be read.
 #[derive(Clone, Copy, Debug)]

@@ -5,8 +5,8 @@
 mod constants;
 mod cursor;
 mod errors;
+mod frames;
 pub mod laws;
-
 mod lists;
 mod message;
 mod numbers;
@@ -17,6 +17,7 @@ mod writing;
 pub use constants::{Constant, WireNumber};
 pub use cursor::Cursor;
 pub use errors::{DeError, NoMemory, SerError, Utf8};
+pub use frames::read_body;
 pub use lists::{read_all, size_of_all, write_all};
 pub use message::{MsgError, UninitializedFieldError};
 pub use reading::{
