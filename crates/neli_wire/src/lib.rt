@@ -2,6 +2,7 @@
 //! the integer types, lists, and the errors.
 #![tactic(auto)]
 
+mod bytes;
 mod constants;
 mod cursor;
 mod errors;
@@ -12,6 +13,8 @@ mod message;
 mod numbers;
 mod reading;
 mod sizes;
+mod texts;
+mod unit;
 mod writing;
 
 pub use constants::{Constant, WireNumber};
