@@ -137,3 +137,9 @@ done-no_memory x s e = cc
 
 pub done-wide : {A : Type 0} (x : A) (s r : List ℕ) (v : A) → done {A = A × List ℕ} (x, s) ≡ Ok (v, r) → length s ≡ 0 + length r
 done-wide {A} x s r v e = omega (arith, ap (λ (p : A × List ℕ). length p.1) (ok_is (x, s) (v, r) e))
+
+-- n bytes in front give their value
+pub value_at-append : {V : Type 0} (n : ℕ) (value : List ℕ → V) (bytes rest : List ℕ) → length bytes ≡ n → value_at n value (bytes ++ rest) ≡ Ok (value bytes, rest)
+value_at-append n value bytes rest len =
+    let enough : ltb (length (bytes ++ rest)) n ≡ false = le-ltb _ _ (omega (arith, length-append bytes rest)) in
+    rw (enough, take_at bytes rest n len, drop_at bytes rest n len) refl
