@@ -186,7 +186,7 @@ module _ {H V : Type 0} (layout : Layout H V) (placed : IsPlaced layout) where
       let P : (H × V) × List ℕ → Type 0 = λ q. (f : List ℕ) × (s ≡ f ++ q.1) × IsFrame layout f q.0.0 q.0.1 in
       let found : P ((head, b.0), rest) = (frame, sym parts, record { header_is = headers; least = least; whole = len; payload_is = body }) in
       let same : ((head, b.0), rest) ≡ ((h, v), r) = ok_is ((head, b.0), rest) ((h, v), r) g4.1 in
-      subst P same found
+      subst P {x = ((head, b.0), rest)} {y = ((h, v), r)} same found
 
   -- a frame is told by its own bytes alone
   pub framed-local : IsLocal (framed layout)

@@ -1,7 +1,8 @@
 -- Numbers on the wire: as many bytes as their type has, the lowest first.
 use Rattle.std.specs.Prelude.{◌≡◌, ℕ, ℤ, ◌<◌, ◌^◌, List, length, slice_index}
 use Rattle.std.specs.Int.{Width, cast_signed, cast_unsigned}
-use Rattle.byteorder.specs.Endian.{little_bytes, little_number}
+-- the bytes of a number, the lowest or the highest first, and the number that bytes spell
+pub use Rattle.byteorder.specs.Endian.{little_bytes, little_number, big_bytes, big_number}
 
 -- a byte list holds numbers below 256
 abbrev pub AreBytes : List ℕ → Type 0

@@ -73,7 +73,7 @@ pub number_at-no_memory : (n : ℕ) (s : List ℕ) → number_at n s ≢ Err Mem
 number_at-no_memory n s e = value_at-no_memory n (little_number n) s e
 
 -- a refusal of the first part is that of the whole
-pub refused_first : {A B : Type 0} (read : Reading A) (next : A × List ℕ → Reading B) (memory more : Type 0) (e : DeError) → Refuses read memory e → (memory → more) → Refuses (read >>= next) more e
+pub refused_first : {A B : Type 0} (read : Result A DeError) (next : A → Result B DeError) (memory more : Type 0) (e : DeError) → Refuses read memory e → (memory → more) → Refuses (read >>= next) more e
 refused_first read next memory more (Msg m) h f = rw h refl
 refused_first read next memory more (Io k) h f = rw h refl
 refused_first read next memory more (Utf8 u) h f = rw h refl
