@@ -50,7 +50,7 @@ pub enum Frattr {
     SportMask,
     DportMask,
     DscpMask,
-    /// One above the last attribute (`__FRA_MAX`).
+    /// One above the last of these (`__FRA_MAX`); a later kernel may have an attribute there.
     Max,
     UnrecognizedConst(u16),
 }

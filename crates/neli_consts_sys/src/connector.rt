@@ -16,9 +16,9 @@ pub enum CnMsgIdx {
     Cifs,
     /// The 1-wire bus.
     W1,
-    /// A helper for video modes.
+    /// The helper of the frame buffer uvesafb.
     V86d,
-    /// Bluetooth at Blackfin boards (`CN_IDX_BB`).
+    /// The sampling framework BlackBoard.
     Bb,
     /// Distributed storage.
     Dst,
