@@ -226,15 +226,13 @@ fn types_of_messages(rt: HostRuntime) {
         (NlTypeWrapper::UnrecognizedConst(1026), 1026),
     ];
     check_types(&rt, &rows);
-    let wrapped: [NlTypeWrapper; 4] = [
-        Nlmsg::Done.into(),
-        GenlId::Ctrl.into(),
-        Rtm::Setlink.into(),
-        NetfilterMsg::LogPacket.into(),
+    let wrapped = [
+        (NlTypeWrapper::from(Nlmsg::Done), 3),
+        (NlTypeWrapper::from(GenlId::Ctrl), 16),
+        (NlTypeWrapper::from(Rtm::Setlink), 19),
+        (NlTypeWrapper::from(NetfilterMsg::LogPacket), 1024),
     ];
-    for (value, number) in wrapped.into_iter().zip([3, 16, 19, 1024]) {
-        assert_eq!(rt; NlTypeWrapper::from(number), value, "at {number}");
-    }
+    check_types(&rt, &wrapped);
 }
 
 #[test]
