@@ -33,10 +33,7 @@ where
 
 #[test]
 fn numbers_of_af(rt: HostRuntime) {
-    let rows = [
-        (Af::Inet, 2),
-        (Af::Inet6, 10),
-    ];
+    let rows = [(Af::Inet, 2), (Af::Inet6, 10)];
     check_u8(&rt, &rows);
 }
 
@@ -243,8 +240,14 @@ fn through_the_wire(rt: HostRuntime) -> Result<(), Fail> {
     assert_eq!(rt; buffer.as_slice(), [18, 0, 253, 4, 3].as_slice());
     let mut cursor = Cursor::new(buffer.as_slice());
     assert_eq!(rt; Rtm::from_bytes(rt.alloc(), &mut cursor)?, Rtm::Getlink);
-    assert_eq!(rt; RtScope::from_bytes(rt.alloc(), &mut cursor)?, RtScope::Link);
-    assert_eq!(rt; Arphrd::from_bytes(rt.alloc(), &mut cursor)?, Arphrd::Loopback);
+    assert_eq!(rt;
+        RtScope::from_bytes(rt.alloc(), &mut cursor)?,
+        RtScope::Link
+    );
+    assert_eq!(rt;
+        Arphrd::from_bytes(rt.alloc(), &mut cursor)?,
+        Arphrd::Loopback
+    );
     assert_eq!(rt; (Rtm::type_size(), RtScope::type_size()), (2, 1));
     Ok(())
 }

@@ -1,16 +1,17 @@
-//! The numbers of the attributes in routing messages, by name, and what such a number may be read as.
+//! The numbers of the attributes in routing messages, by name, and what such a number may be read
+//! as.
 //!
-//! Each table is an enum with a variant for each name and `UnrecognizedConst` for every other number.
-//! A number is read as the first variant that has it, so no number is lost: what it is read as has that
-//! same number. Two values are equal where they are the same variant; an `UnrecognizedConst` that is made
-//! by hand with a named number is equal to no named variant.
+//! Each table is an enum with a variant for each name and `UnrecognizedConst` for every other
+//! number. A number is read as the first variant that has it, so no number is lost: what it is read
+//! as has that same number. Two values are equal where they are the same variant; an
+//! `UnrecognizedConst` that is made by hand with a named number is equal to no named variant.
 //!
-//! `From` goes both ways, to the number also from a reference. By [`neli_wire::Constant`] each table is
-//! written as its number, and read from it. [`RtaType`] is the bound of code that takes any of them, and
-//! [`RtaTypeWrapper`] the value of all of them.
+//! `From` goes both ways, to the number also from a reference. By [`neli_wire::Constant`] each
+//! table is written as its number, and read from it. [`RtaType`] is the bound of code that takes
+//! any of them, and [`RtaTypeWrapper`] the value of all of them.
 //!
-//! The kernel's header and the prefix of its names stand with each table; a variant is spelled like the
-//! rest of the kernel's name.
+//! The kernel's header and the prefix of its names stand with each table; a variant is spelled like
+//! the rest of the kernel's name.
 //!
 //! - `addresses`: attributes of addresses
 //! - `links`: attributes of links

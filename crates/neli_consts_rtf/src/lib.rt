@@ -1,15 +1,15 @@
 //! The flags of the fields in routing bodies, by name.
 //!
-//! Each set is a number whose bits have names; the names are constants of the type. Some names share their
-//! bits, and one may have none or several.
+//! Each set is a number whose bits have names; the names are constants of the type. Some names
+//! share their bits, and one may have none or several.
 //!
-//! The calls of a set are those of `bitflags::Flags`. `|`, `&`, `-` and `^` are the union, the intersection,
-//! the difference and the symmetric difference, and `!` gives the named bits that are not in the set.
-//! `From` of a number keeps the named bits alone. By [`neli_wire::Constant`] a set is written as its number,
-//! and read with all of its bits, also those without a name.
+//! The calls of a set are those of `bitflags::Flags`. `|`, `&`, `-` and `^` are the union, the
+//! intersection, the difference and the symmetric difference, and `!` gives the named bits that are
+//! not in the set. `From` of a number keeps the named bits alone. By [`neli_wire::Constant`] a set
+//! is written as its number, and read with all of its bits, also those without a name.
 //!
-//! The kernel's header and the prefix of its names stand with each set; a constant is spelled like the rest
-//! of the kernel's name.
+//! The kernel's header and the prefix of its names stand with each set; a constant is spelled like
+//! the rest of the kernel's name.
 //!
 //! - `iff`: links
 //! - `ifa_f`: addresses
