@@ -1,0 +1,11 @@
+pub mod CtrlAttr
+pub mod CtrlAttrMcastGrp
+pub mod CtrlCmd
+pub mod GenlId
+pub mod Index
+pub mod LogCfgCmdWrapper
+pub mod NlAttrTypeWrapper
+pub mod NlTypeWrapper
+pub mod NlmF
+pub mod Nlmsg
+pub mod NlmsgerrAttr

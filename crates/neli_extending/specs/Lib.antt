@@ -1,0 +1,2 @@
+pub mod WirelessAttribute
+pub mod WirelessCommand
