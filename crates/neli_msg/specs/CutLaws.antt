@@ -55,7 +55,7 @@ module _ {K V : Type 0} (type_of : ℕ → K) (payload_in : Header K → List �
   cut_from-Cuts s (Err e) later some is rest = (some, is)
   cut_from-Cuts s (Ok p) later some is rest =
       let f = frame_of-message_at type_of payload_in s p.1 p.0 is in
-      (f.0, p.1, f.1, f.2, rest p.1 (message_at-shorter type_of payload_in s p.1 p.0 is))
+      (f.0, p.1, f.1, f.2, rest p.1 (omega (arith, message_at-shorter type_of payload_in s p.1 p.0 is)))
 
   cut_by-Cuts : (fuel : ℕ) (s : List ℕ) → length s ≤ fuel → Cuts type_of payload_in s (cut_by read fuel s).0 (cut_by read fuel s).1
   unfolding cut_by

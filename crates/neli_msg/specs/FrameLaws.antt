@@ -234,8 +234,8 @@ frame_of-message_at {K} {V} type_of payload_in s r m e =
 pub frame-long : {K V : Type 0} (type_of : ℕ → K) (payload_in : Header K → List ℕ → Result V DeError) (frame : List ℕ) (m : Message K V) → IsFrame type_of payload_in frame m → 16 ≤ length frame
 frame-long type_of payload_in frame m is = omega (arith, is.whole, is.least, align-le m.header.len)
 
--- a message takes bytes
-pub message_at-shorter : {K V : Type 0} (type_of : ℕ → K) (payload_in : Header K → List ℕ → Result V DeError) (s r : List ℕ) (m : Message K V) → message_at type_of payload_in s ≡ Ok (m, r) → length r < length s
+-- a message takes 16 bytes at least
+pub message_at-shorter : {K V : Type 0} (type_of : ℕ → K) (payload_in : Header K → List ℕ → Result V DeError) (s r : List ℕ) (m : Message K V) → message_at type_of payload_in s ≡ Ok (m, r) → length r + 16 ≤ length s
 message_at-shorter type_of payload_in s r m e =
     let f = frame_of-message_at type_of payload_in s r m e in
     omega (arith, ap length f.1, length-append f.0 r, frame-long type_of payload_in f.0 m f.2)

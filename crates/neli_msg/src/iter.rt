@@ -1,6 +1,6 @@
 //! The reader of a datagram.
 
-ghost use Rattle.std.specs.Prelude.{◌≡◌, ◌↔◌, ℕ, List, [], Ok, Some, None, Result, IfOk, IfErr, IfSome, IsNone, OnOk, length, map};
+ghost use Rattle.std.specs.Prelude.{◌≡◌, ◌↔◌, ◌+◌, ◌≤◌, ℕ, List, [], Ok, Some, None, Result, IfOk, IfErr, IfSome, IsNone, OnOk, length, map};
 ghost use Rattle.neli_msg.specs.Payload.{payload_at, payload_takes};
 ghost use Rattle.neli_msg.specs.View.{message_of, item_of};
 ghost use Rattle.neli_msg.specs.Frames.{message_at, TakesMemory};
@@ -47,6 +47,8 @@ impl<'b, T: NlType, P: FromBytesWithInput> NlBufferIter<'b, T, P> {
             (λ m. message_at T.wire_value (payload_at P.read) self.old ≡ Ok (message_of P.view m, self.new))) }
         ensures fault { IfSome result (λ item. IfErr item (Faults (message_at T.wire_value (payload_at P.read) self.old)
             (TakesMemory T.wire_value (payload_takes P.takes_memory) self.old) self.old self.new)) }
+        // A message takes at least the 16 bytes of its header.
+        ensures shorter { IfSome result (λ item. OnOk item (length self.new + 16 ≤ length self.old)) }
         ensures cut { cut_of T.wire_value (payload_at P.read) self.old
             ≡ cut_with (item_of P.view result) (cut_of T.wire_value (payload_at P.read) self.new) }
     {
@@ -64,6 +66,8 @@ impl<'b, T: NlType, P: FromBytesWithInput> NlBufferIter<'b, T, P> {
             (λ m. message_at T2.wire_value (payload_at P2.read) self.old ≡ Ok (message_of P2.view m, self.new))) }
         ensures fault { IfSome result (λ item. IfErr item (Faults (message_at T2.wire_value (payload_at P2.read) self.old)
             (TakesMemory T2.wire_value (payload_takes P2.takes_memory) self.old) self.old self.new)) }
+        // A message takes at least the 16 bytes of its header.
+        ensures shorter { IfSome result (λ item. OnOk item (length self.new + 16 ≤ length self.old)) }
         ensures cut { cut_of T2.wire_value (payload_at P2.read) self.old
             ≡ cut_with (item_of P2.view result) (cut_of T2.wire_value (payload_at P2.read) self.new) }
     {

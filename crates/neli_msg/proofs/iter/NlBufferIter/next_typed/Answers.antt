@@ -2,6 +2,7 @@ use Rattle.std.proofs.Common.{rules, ◌≡◌, ◌≢◌, [], ◌∙◌, ap, sy
 use Rattle.std.proofs.lemmas.Bool.{eqb-true}
 use Rattle.neli_msg.specs.Payload.{payload_at}
 use Rattle.neli_msg.specs.Frames.{message_at}
+use Rattle.neli_msg.specs.FrameLaws.{message_at-shorter}
 use Rattle.neli_msg.specs.CutLaws.{cut_of-end, cut_of-message, cut_of-fault, refused_is, drop_whole, empty_is}
 use Rattle.neli_msg.proofs.iter.NlBufferIter.next_typed.Goals as goal
 
@@ -15,6 +16,10 @@ pub returns-in-Ok-clause-cut : goal.returns-in-Ok-clause-cut
 returns-in-Ok-clause-cut g c =
     cut_of-message g.T2.Constant.wire_value (payload_at g.P2.FromBytesWithInput.read) _ _ _ (rw c.self.view_is at c.in-Ok.ensures.value)
 
+pub returns-in-Ok-clause-shorter : goal.returns-in-Ok-clause-shorter
+returns-in-Ok-clause-shorter g c =
+    message_at-shorter g.T2.Constant.wire_value (payload_at g.P2.FromBytesWithInput.read) _ _ _ (rw c.self.view_is at c.in-Ok.ensures.value)
+
 -- the fault is that of the rest, and the cursor stands behind the last byte
 pub returns-in_default : goal.returns-in_default
 returns-in_default g c =
@@ -27,5 +32,6 @@ returns-in_default g c =
       end = λ h. nothing;
       message = tt;
       fault = (faulty, nothing);
+      shorter = tt;
       cut = cut_of-fault g.T2.Constant.wire_value (payload_at g.P2.FromBytesWithInput.read) c.args.self.now c.in-Err.error some faulty;
     }
