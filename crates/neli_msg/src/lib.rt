@@ -27,6 +27,8 @@ mod iter;
 pub mod laws;
 mod message;
 mod payload;
+#[cfg(test)]
+mod tests;
 
 pub use errors::SocketError;
 pub use iter::{NlBufferIter, cut};

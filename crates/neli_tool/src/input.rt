@@ -9,8 +9,8 @@ use std::io::Read;
 /// How often the input is read at most.
 const MOST_READS: u32 = 1_000_000;
 
-/// How many bytes one call of `read` may give: the largest datagram, the crate neli's `MAX_NL_LENGTH`.
-const PIECE: usize = 32768;
+/// How many bytes one call of `read` may give: a million calls then take 4 GB at most.
+const PIECE: usize = 4096;
 
 /// Why the input was not read.
 #[derive(Clone, Copy, Debug, PartialEq, Eq)]
