@@ -13,7 +13,7 @@ ghost use Rattle.neli_msg.specs.FrameLaws.{message_at-local, message_at-no_memor
 use crate::NlPayload;
 use crate::payload::read_payload;
 use neli_consts::{NlType, NlmF};
-use neli_wire::{Cursor, DeError, FromBytes, FromBytesWithInput, alignto};
+use neli_wire::{Cursor, DeError, FromBytes, FromBytesWithInput, Header, alignto};
 use std::alloc::Global;
 
 /// The size of a message's header, in bytes: the kernel's `NLMSG_HDRLEN` (linux/netlink.h).
@@ -74,6 +74,14 @@ impl<T, P> Nlmsghdr<T, P> {
         ensures { result.now ≡ payload_of self.now }
     {
         &self.nl_payload
+    }
+}
+
+impl<T, P> Header for Nlmsghdr<T, P> {
+    ghost header = { 16 };
+
+    fn header_size() -> usize {
+        HEADER_SIZE
     }
 }
 

@@ -3,7 +3,7 @@
 
 use crate::{NlBufferIter, NlPayload, Nlmsghdr, SocketError, cut};
 use neli_consts::{NlmF, Nlmsg};
-use neli_wire::{Cursor, DeError, FromBytes, MsgError, SerError};
+use neli_wire::{Cursor, DeError, FromBytes, Header, MsgError, SerError};
 use std::io::ErrorKind;
 use std::process::Abort;
 use std::test::Fail;
@@ -117,6 +117,11 @@ fn a_datagram_ends_or_has_one_fault(rt: HostRuntime) -> Result<(), Fail> {
         );
     }
     Ok(())
+}
+
+#[test]
+fn the_header_has_16_bytes(rt: HostRuntime) {
+    assert_eq!(rt; <Nlmsghdr<u16, Vec<u8>> as Header>::header_size(), 16);
 }
 
 #[test]

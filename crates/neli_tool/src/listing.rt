@@ -1,6 +1,6 @@
 //! The listing of a datagram.
 
-ghost use Rattle.std.specs.Prelude.{◌≡◌, ◌++◌, ◌⊎◌, codes, OnOk, OnErr, map};
+ghost use Rattle.std.specs.Prelude.{◌≡◌, ◌≢◌, ◌++◌, ◌⊎◌, codes, OnOk, OnErr, map};
 ghost use Rattle.std.specs.Io.KnownBytes.{Appends};
 ghost use Rattle.neli_msg.specs.View.{message_of};
 ghost use Rattle.neli_tool.specs.declared.line.Ending.TheVariants as line;
@@ -50,7 +50,9 @@ fn ending_at(error: &SocketError) -> Ending
 ///
 /// Where memory runs out, the lines are those of the messages before.
 pub fn listing_of(alloc: Global, bytes: &[u8]) -> Listing
-    ensures { Lists bytes.now result.lines.items result.ending }
+    ensures lists { Lists bytes.now result.lines.items result.ending }
+    // Plain bytes have no fault but those that have a line of their own.
+    ensures named { result.ending ≢ line.Other }
 {
     let mut lines = Vec::new(alloc);
     let mut messages: NlBufferIter<'_, u16, Vec<u8>> = NlBufferIter::new(bytes);
