@@ -1,8 +1,8 @@
 -- What the program prints of a datagram.
-use Rattle.std.specs.Prelude.{◌≡◌, ℕ, ◌^◌, ◌-◌, List, [], ◌∷◌, ◌++◌, length, take, codes, Option, Some, None, Result, Ok, Err, false, IfSome, ⊤}
+use Rattle.std.specs.Prelude.{◌≡◌, ℕ, ◌-◌, List, [], ◌∷◌, ◌++◌, length, take, codes, replicate, Option, Some, None, false, IfSome, ⊤}
 use Rattle.std.specs.Io.KnownBytes.{Appends, Keeps}
 use Rattle.std.specs.List.{flat_map}
-use Rattle.std.specs.Fmt.{decimal, digits, padded_integral, format_spec}
+use Rattle.std.specs.Fmt.{decimal, digits}
 use Rattle.byteorder.specs.Endian.{little_number}
 use Rattle.neli_wire.specs.declared.errors.DeError.{DeError}
 use Rattle.neli_wire.specs.declared.errors.DeError.TheVariants as de
@@ -37,9 +37,9 @@ Raw = Message ℕ (NlPayload (List ℕ))
 abbrev pub body_of : NlPayload (List ℕ) → List ℕ
 body_of (Payload bytes) = bytes
 
--- four lower-case hexadecimal digits
-abbrev pub hex4 : ℕ → List ℕ
-hex4 n = padded_integral (format_spec 32 0 4 4 (2 ^ 64 - 1)) false [] (digits 16 false n)
+-- four lower-case hexadecimal digits: as many zeros as the number's own digits leave, and these
+unfoldable pub hex4 : ℕ → List ℕ
+hex4 n = replicate (4 - length (digits 16 false n)) 48 ++ digits 16 false n
 
 -- what is printed of a message
 abbrev pub line_of : Raw → List ℕ

@@ -9,6 +9,22 @@ use std::fmt;
 /// A message as it was read: its type a number, its payload bytes.
 pub type RawMessage = Nlmsghdr<u16, Vec<u8>>;
 
+/// A number as four lower-case hexadecimal digits.
+#[derive(Clone, Copy)]
+struct FourDigits(u16);
+
+impl fmt::Display for FourDigits {
+    ghost use Rattle.std.specs.Prelude.{Some};
+    ghost use Rattle.neli_tool.specs.Listing.{hex4};
+
+    ghost output = { λ n. Some (hex4 n.0) };
+
+    fn fmt<W: fmt::Write>(&self, f: &mut fmt::Formatter<W>) -> fmt::Result {
+        let number = self.0;
+        write!(f, "{number:04x}")
+    }
+}
+
 /// A message, which prints its header and how many bytes it carries.
 #[derive(Drop)]
 pub struct Line<'m>(pub &'m RawMessage);
@@ -23,14 +39,14 @@ impl fmt::Display for Line<'_> {
     fn fmt<W: fmt::Write>(&self, f: &mut fmt::Formatter<W>) -> fmt::Result {
         let message = self.0;
         let message_type = *message.nl_type();
-        let flags = u16::from(*message.nl_flags());
+        let flags = FourDigits(u16::from(*message.nl_flags()));
         let number = *message.nl_seq();
         let port = *message.nl_pid();
         let NlPayload::Payload(body) = message.nl_payload();
         let count = body.len();
         write!(
             f,
-            "type {message_type} flags 0x{flags:04x} number {number} port {port} payload {count}"
+            "type {message_type} flags 0x{flags} number {number} port {port} payload {count}"
         )
     }
 }
