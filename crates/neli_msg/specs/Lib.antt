@@ -1,0 +1,9 @@
+pub mod CutLaws
+pub mod Cuts
+pub mod Fields
+pub mod FrameLaws
+pub mod Frames
+pub mod Message
+pub mod Payload
+pub mod SocketErrors
+pub mod View

@@ -1,0 +1,4 @@
+pub mod Hex
+pub mod Listings
+pub mod PlainBodies
+pub mod Streams

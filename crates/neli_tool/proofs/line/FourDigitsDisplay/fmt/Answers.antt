@@ -1,0 +1,7 @@
+use Rattle.std.proofs.Common.{rules, ◌^◌, ◌-◌, false, []}
+use Rattle.std.specs.Fmt.{digits, padded_integral, format_spec, HasWritten, IsPlainFormatter}
+use Rattle.neli_tool.proofs.Hex.{hex4_is}
+use Rattle.neli_tool.proofs.line.FourDigitsDisplay.fmt.Goals as goal
+
+pub returns-clause-writes : goal.returns-clause-writes
+returns-clause-writes g c = rw (← hex4_is c.args.self.now.0) (search rules)
