@@ -1,6 +1,5 @@
 pub mod CutLaws
 pub mod Cuts
-pub mod Fields
 pub mod FrameLaws
 pub mod Frames
 pub mod Message

@@ -15,6 +15,5 @@ pub record Header (K : Type 0) : Type 0 where
   pub port : ℕ
 
 -- a header, and what the bytes behind it say
-pub record Message (K V : Type 0) : Type 0 where
-  pub header : Header K
-  pub payload : V
+abbrev pub Message : Type 0 → Type 0 → Type 0
+Message K V = Header K × V

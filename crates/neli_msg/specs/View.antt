@@ -19,17 +19,12 @@ payload_of m = m.nl_payload
 
 -- the whole message, over what is seen of the body
 abbrev pub message_of : {T P V : Type 0} → (P → V) → Nlmsghdr T P → Message T (NlPayload V)
-message_of view m = record { header = header_of m; payload = payload_view view (payload_of m) }
+message_of view m = (header_of m, payload_view view (payload_of m))
 
--- the header of fields that were read, over what is seen of the type
-abbrev pub fields_of : {T K : Type 0} → (T → K) → Fields T → Header K
-fields_of view f =
-    record { len = f.len; message_type = view f.message_type; flags = f.flags; number = f.number; port = f.port }
-
--- the fields of a message before its payload
-abbrev pub fields_in : {T P : Type 0} → Nlmsghdr T P → Fields T
-fields_in m =
-    record { len = m.nl_len; message_type = m.nl_type; flags = m.nl_flags; number = m.nl_seq; port = m.nl_pid }
+-- the header of fields that were read
+abbrev pub fields_of : {T : Type 0} → Fields T → Header T
+fields_of f =
+    record { len = f.len; message_type = f.message_type; flags = f.flags; number = f.number; port = f.port }
 
 -- a reader's answer, over what is seen of the body
 abbrev pub item_of : {T P V : Type 0} → (P → V) → Option (Result (Nlmsghdr T P) SocketError) → Item T (NlPayload V)

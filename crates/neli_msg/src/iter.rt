@@ -46,7 +46,7 @@ impl<'b, T: NlType, P: FromBytesWithInput> NlBufferIter<'b, T, P> {
         ensures message { IfSome result (λ item. IfOk item
             (λ m. message_at T.wire_value (payload_at P.read) self.old ≡ Ok (message_of P.view m, self.new))) }
         ensures fault { IfSome result (λ item. IfErr item (Faults (message_at T.wire_value (payload_at P.read) self.old)
-            (TakesMemory T.wire_value (payload_takes P.takes_memory) self.old) self.old self.new)) }
+            (TakesMemory T.wire_value (payload_at P.read) (payload_takes P.takes_memory) self.old) self.old self.new)) }
         // A message takes at least the 16 bytes of its header.
         ensures shorter { IfSome result (λ item. OnOk item (length self.new + 16 ≤ length self.old)) }
         ensures cut { cut_of T.wire_value (payload_at P.read) self.old
@@ -65,7 +65,7 @@ impl<'b, T: NlType, P: FromBytesWithInput> NlBufferIter<'b, T, P> {
         ensures message { IfSome result (λ item. IfOk item
             (λ m. message_at T2.wire_value (payload_at P2.read) self.old ≡ Ok (message_of P2.view m, self.new))) }
         ensures fault { IfSome result (λ item. IfErr item (Faults (message_at T2.wire_value (payload_at P2.read) self.old)
-            (TakesMemory T2.wire_value (payload_takes P2.takes_memory) self.old) self.old self.new)) }
+            (TakesMemory T2.wire_value (payload_at P2.read) (payload_takes P2.takes_memory) self.old) self.old self.new)) }
         // A message takes at least the 16 bytes of its header.
         ensures shorter { IfSome result (λ item. OnOk item (length self.new + 16 ≤ length self.old)) }
         ensures cut { cut_of T2.wire_value (payload_at P2.read) self.old

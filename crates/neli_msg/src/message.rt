@@ -4,16 +4,15 @@ ghost use Rattle.std.specs.Prelude.{◌≡◌, Ok, IfOk, IfErr, OnOk, OnErr};
 ghost use Rattle.neli_wire.specs.Place.{whole};
 ghost use Rattle.neli_wire.specs.Reading.{Refuses};
 ghost use Rattle.neli_msg.specs.Message.{Message};
-ghost use Rattle.neli_msg.specs.Payload.{payload_at, payload_takes, payload_view};
-ghost use Rattle.neli_msg.specs.View.{fields_in, fields_of, payload_of};
-ghost use Rattle.neli_msg.specs.Fields.{header_at, header_takes, fields_at, fields_take};
-ghost use Rattle.neli_msg.specs.Frames.{message_at, TakesMemory};
+ghost use Rattle.neli_msg.specs.Payload.{payload_at, payload_takes};
+ghost use Rattle.neli_msg.specs.View.{fields_of, message_of};
+ghost use Rattle.neli_msg.specs.Frames.{message_at, TakesMemory, header_at, fields_at, fields_take};
 ghost use Rattle.neli_msg.specs.FrameLaws.{message_at-local, message_at-no_memory, payload_at-no_memory};
 
 use crate::NlPayload;
 use crate::payload::read_payload;
 use neli_consts::{NlType, NlmF};
-use neli_wire::{Cursor, DeError, FromBytes, FromBytesWithInput, Header, alignto};
+use neli_wire::{Constant, Cursor, DeError, FromBytes, FromBytesWithInput, Header, alignto};
 use std::alloc::Global;
 
 /// The size of a message's header, in bytes: the kernel's `NLMSG_HDRLEN` (linux/netlink.h).
@@ -96,11 +95,14 @@ struct Fields<T> {
 }
 
 /// Reads a header. A refusal leaves the cursor anywhere.
-#[tactic(auto, using(neli_wire::specs::ReadingLaws::refused_first), unfolding(crate::specs::Fields::header_at, crate::specs::Fields::header_takes))]
-fn read_header<T: FromBytes>(alloc: Global, cursor: &mut Cursor<'_>) -> Result<Fields<T>, DeError>
-    ensures value { IfOk result (λ h. header_at T.read cursor.old.rest ≡ Ok (fields_of T.view h, cursor.new.rest)) }
+#[tactic(auto, using(neli_wire::specs::ReadingLaws::refused_first), unfolding(crate::specs::Frames::header_at))]
+fn read_header<T: Constant<Number = u16>>(
+    alloc: Global,
+    cursor: &mut Cursor<'_>,
+) -> Result<Fields<T>, DeError>
+    ensures value { IfOk result (λ h. header_at T.wire_value cursor.old.rest ≡ Ok (fields_of h, cursor.new.rest)) }
     ensures moved { OnOk result (whole cursor.new ≡ whole cursor.old) }
-    ensures refused { IfErr result (Refuses (header_at T.read cursor.old.rest) (header_takes T.takes_memory cursor.old.rest)) }
+    ensures refused { IfErr result (Refuses (header_at T.wire_value cursor.old.rest) ⊥) }
 {
     let len = u32::from_bytes(alloc, cursor)?;
     let message_type = T::from_bytes(alloc, cursor)?;
@@ -117,16 +119,15 @@ fn read_header<T: FromBytes>(alloc: Global, cursor: &mut Cursor<'_>) -> Result<F
 }
 
 /// Reads a message. A refusal leaves the cursor where it was.
-#[tactic(auto, using(neli_wire::specs::ReadingLaws::refused_first), unfolding(crate::specs::Fields::fields_at, crate::specs::Fields::fields_take))]
-fn read_message<T: FromBytes, P: FromBytesWithInput>(
+#[tactic(auto, using(neli_wire::specs::ReadingLaws::refused_first), unfolding(crate::specs::Frames::fields_at, crate::specs::Frames::fields_take))]
+fn read_message<T: Constant<Number = u16>, P: FromBytesWithInput>(
     alloc: Global,
     cursor: &mut Cursor<'_>,
 ) -> Result<Nlmsghdr<T, P>, DeError>
-    ensures value { IfOk result (λ m. fields_at T.read (payload_at P.read) cursor.old.rest
-        ≡ Ok (record { header = fields_of T.view (fields_in m); payload = payload_view P.view (payload_of m) }, cursor.new.rest)) }
+    ensures value { IfOk result (λ m. fields_at T.wire_value (payload_at P.read) cursor.old.rest ≡ Ok (message_of P.view m, cursor.new.rest)) }
     ensures moved { OnOk result (whole cursor.new ≡ whole cursor.old) }
-    ensures refused { IfErr result (Refuses (fields_at T.read (payload_at P.read) cursor.old.rest)
-        (fields_take T.read T.takes_memory (payload_takes P.takes_memory) cursor.old.rest)) }
+    ensures refused { IfErr result (Refuses (fields_at T.wire_value (payload_at P.read) cursor.old.rest)
+        (fields_take T.wire_value (payload_takes P.takes_memory) cursor.old.rest)) }
     ensures unchanged { OnErr result (cursor.new ≡ cursor.old) }
 {
     let mut ahead = cursor.ahead();
@@ -158,7 +159,7 @@ impl<T: NlType, P: FromBytesWithInput> FromBytes for Nlmsghdr<T, P> {
 
     ghost read = { message_at T.wire_value (payload_at P.read) };
 
-    ghost takes_memory = { TakesMemory T.wire_value (payload_takes P.takes_memory) };
+    ghost takes_memory = { TakesMemory T.wire_value (payload_at P.read) (payload_takes P.takes_memory) };
 
     ghost local = { message_at-local T.wire_value (payload_at P.read) };
 

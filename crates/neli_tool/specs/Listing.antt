@@ -44,11 +44,11 @@ hex4 n = replicate (4 - length (digits 16 false n)) 48 ++ digits 16 false n
 -- what is printed of a message
 abbrev pub line_of : Raw → List ℕ
 line_of m =
-    codes "type " ++ decimal m.header.message_type
-    ++ codes " flags 0x" ++ hex4 m.header.flags.0
-    ++ codes " number " ++ decimal m.header.number
-    ++ codes " port " ++ decimal m.header.port
-    ++ codes " payload " ++ decimal (length (body_of m.payload))
+    codes "type " ++ decimal m.0.message_type
+    ++ codes " flags 0x" ++ hex4 m.0.flags.0
+    ++ codes " number " ++ decimal m.0.number
+    ++ codes " port " ++ decimal m.0.port
+    ++ codes " payload " ++ decimal (length (body_of m.1))
 
 -- the last line, where there is one
 abbrev pub ending : Ending → List ℕ

@@ -10,5 +10,5 @@ pub returns-clause-refused : goal.returns-clause-refused
 returns-clause-refused g c =
     refuses_as c.read_message.result _ _ _ _
     (fields_at-is g.T.Constant.wire_value (payload_at g.P.FromBytesWithInput.read) c.args.cursor.now.rest)
-    (fields_take-TakesMemory g.T.Constant.wire_value (payload_takes g.P.FromBytesWithInput.takes_memory) c.args.cursor.now.rest)
+    (fields_take-TakesMemory g.T.Constant.wire_value (payload_at g.P.FromBytesWithInput.read) (payload_takes g.P.FromBytesWithInput.takes_memory) c.args.cursor.now.rest)
     c.read_message.ensures.refused
