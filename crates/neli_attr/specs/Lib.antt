@@ -1,0 +1,3 @@
+pub mod AttrType
+pub mod AttrTypeLaws
+pub mod Buffers

@@ -1,0 +1,25 @@
+-- The numbers of `CtrlAttrMcastGrp`.
+use Rattle.std.specs.Prelude.{◌≡◌, ℕ, List, [], ◌∷◌, refl}
+use Rattle.neli_wire.specs.Constants.{first_with, first_with-number}
+use Rattle.neli_consts.specs.declared.groups.CtrlAttrMcastGrp.{CtrlAttrMcastGrp}
+use Rattle.neli_consts.specs.declared.groups.CtrlAttrMcastGrp.TheVariants.{Unspec, Name, Id, UnrecognizedConst}
+
+-- the number of each variant
+abbrev pub ctrl_attr_mcast_grp_number : CtrlAttrMcastGrp → ℕ
+ctrl_attr_mcast_grp_number Unspec = 0
+ctrl_attr_mcast_grp_number Name = 1
+ctrl_attr_mcast_grp_number Id = 2
+ctrl_attr_mcast_grp_number (UnrecognizedConst n) = n
+
+-- the variants, in their order
+abbrev pub ctrl_attr_mcast_grp_variants : List CtrlAttrMcastGrp
+ctrl_attr_mcast_grp_variants =
+    Unspec ∷ Name ∷ Id ∷ []
+
+-- the first variant with a number, else the number without a name
+abbrev pub ctrl_attr_mcast_grp_of : ℕ → CtrlAttrMcastGrp
+ctrl_attr_mcast_grp_of = first_with ctrl_attr_mcast_grp_number ctrl_attr_mcast_grp_variants UnrecognizedConst
+
+-- what a number is read as has that number
+pub ctrl_attr_mcast_grp_of-number : (n : ℕ) → ctrl_attr_mcast_grp_number (ctrl_attr_mcast_grp_of n) ≡ n
+ctrl_attr_mcast_grp_of-number = first_with-number ctrl_attr_mcast_grp_number ctrl_attr_mcast_grp_variants UnrecognizedConst (λ _. refl)

@@ -1,0 +1,31 @@
+-- The numbers of `Ifa`.
+use Rattle.std.specs.Prelude.{◌≡◌, ℕ, List, [], ◌∷◌, refl}
+use Rattle.neli_wire.specs.Constants.{first_with, first_with-number}
+use Rattle.neli_consts_rta.specs.declared.ifa.Ifa.{Ifa}
+use Rattle.neli_consts_rta.specs.declared.ifa.Ifa.TheVariants.{Unspec, Address, Local, Label, Broadcast, Anycast, Cacheinfo, Multicast, Flags, UnrecognizedConst}
+
+-- the number of each variant
+abbrev pub ifa_number : Ifa → ℕ
+ifa_number Unspec = 0
+ifa_number Address = 1
+ifa_number Local = 2
+ifa_number Label = 3
+ifa_number Broadcast = 4
+ifa_number Anycast = 5
+ifa_number Cacheinfo = 6
+ifa_number Multicast = 7
+ifa_number Flags = 8
+ifa_number (UnrecognizedConst n) = n
+
+-- the variants, in their order
+abbrev pub ifa_variants : List Ifa
+ifa_variants =
+    Unspec ∷ Address ∷ Local ∷ Label ∷ Broadcast ∷ Anycast ∷ Cacheinfo ∷ Multicast ∷ Flags ∷ []
+
+-- the first variant with a number, else the number without a name
+abbrev pub ifa_of : ℕ → Ifa
+ifa_of = first_with ifa_number ifa_variants UnrecognizedConst
+
+-- what a number is read as has that number
+pub ifa_of-number : (n : ℕ) → ifa_number (ifa_of n) ≡ n
+ifa_of-number = first_with-number ifa_number ifa_variants UnrecognizedConst (λ _. refl)

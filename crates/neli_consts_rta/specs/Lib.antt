@@ -1,0 +1,2 @@
+pub mod Ifa
+pub mod Rta
