@@ -1,6 +1,8 @@
 -- The type field of a generic attribute: two flags above a number of 14 bits.
-use Rattle.std.specs.Prelude.{ℕ, Bool, nat_eq, not, bit_and, bit_or, if◌then◌else◌}
+use Rattle.std.specs.Prelude.{ℕ, Bool, false, nat_eq, not, bit_and, bit_or, if◌then◌else◌, codes, unwrap_or, Ok}
 use Rattle.neli_attr.specs.declared.attr_type.AttrType.{AttrType}
+use Rattle.neli_attr.specs.declared.attr_type.AttrTypeBuilder.{AttrTypeBuilder}
+use Rattle.neli_attr.specs.Builders.{Outcome, given}
 
 -- whether a number has the bit of this value
 abbrev pub has : ℕ → ℕ → Bool
@@ -21,3 +23,9 @@ field_of n nested network_order = bit_or (bit_or n (bit_where nested 32768)) (bi
 -- the number of a field
 abbrev pub number_of : {T : Type 0} → (T → ℕ) → AttrType T → ℕ
 number_of type_number t = field_of (type_number t.nla_type) t.nla_nested t.nla_network_order
+
+-- what a builder makes of its fields: flags that were not given are not set
+abbrev pub attr_type_built : {T : Type 0} → AttrTypeBuilder T → Outcome (AttrType T)
+attr_type_built b =
+    given (codes "nla_type") b.nla_type (λ t.
+    Ok (record { nla_nested = unwrap_or b.nla_nested false; nla_network_order = unwrap_or b.nla_network_order false; nla_type = t }))

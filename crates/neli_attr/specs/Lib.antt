@@ -1,3 +1,8 @@
 pub mod AttrType
 pub mod AttrTypeLaws
+pub mod AttributeLaws
+pub mod Attributes
 pub mod Buffers
+pub mod Builders
+pub mod Nlattr
+pub mod Rtattr

@@ -1,11 +1,13 @@
 //! The type of a generic attribute, with its two flags.
 
-ghost use Rattle.std.specs.Prelude.{◌≡◌};
-ghost use Rattle.neli_attr.specs.AttrType.{type_of, number_of};
+ghost use Rattle.std.specs.Prelude.{◌≡◌, Ok, IfOk, IfErr, None, Some, true};
+ghost use Rattle.neli_attr.specs.AttrType.{type_of, number_of, attr_type_built};
+ghost use Rattle.neli_attr.specs.Builders.{IsWhyNot};
 ghost use Rattle.neli_attr.specs.AttrTypeLaws.{number_of-type_of};
 
+use crate::{BuildError, of};
 use neli_consts::NlAttrType;
-use neli_wire::Constant;
+use neli_wire::{Constant, UninitializedFieldError};
 
 /// Set where the payload is a list of attributes (`NLA_F_NESTED` of `linux/netlink.h`).
 const NESTED: u16 = 0x8000;
@@ -47,6 +49,17 @@ impl<T> AttrType<T> {
         ensures { result.now ≡ self.now.nla_type }
     {
         &self.nla_type
+    }
+
+    /// The same type, marked as that of a list of attributes.
+    pub(crate) fn as_nested(self) -> AttrType<T>
+        ensures { result ≡ record self { nla_nested = true } }
+    {
+        AttrType {
+            nla_nested: true,
+            nla_network_order: self.nla_network_order,
+            nla_type: self.nla_type,
+        }
     }
 }
 
@@ -100,4 +113,69 @@ impl<T: NlAttrType> Constant for AttrType<T> {
     }
 
     ghost back_to_number = { number_of-type_of T.wire_number T.wire_value T.back_to_number };
+}
+
+/// Why no type field was built.
+pub type AttrTypeBuilderError = BuildError<{ of::ATTR_TYPE }>;
+
+/// A builder of type fields. Without more, neither flag is set.
+#[derive(Debug, Drop)]
+pub struct AttrTypeBuilder<T> {
+    nla_nested: Option<bool>,
+    nla_network_order: Option<bool>,
+    nla_type: Option<T>,
+}
+
+impl<T> Default for AttrTypeBuilder<T> {
+    ghost use Rattle.std.specs.Prelude.{◌≡◌, None};
+
+    ghost is_default = { λ b. b ≡ record { nla_nested = None; nla_network_order = None; nla_type = None } };
+
+    fn default() -> AttrTypeBuilder<T> {
+        AttrTypeBuilder {
+            nla_nested: None,
+            nla_network_order: None,
+            nla_type: None,
+        }
+    }
+}
+
+impl<T: Drop> AttrTypeBuilder<T> {
+    /// Whether the payload is a list of attributes; it is not where this is not said.
+    pub fn nla_nested(mut self, value: bool) -> Self
+        ensures { result ≡ record self { nla_nested = Some value } }
+    {
+        self.nla_nested = Some(value);
+        self
+    }
+
+    /// Whether the payload is in network byte order; it is not where this is not said.
+    pub fn nla_network_order(mut self, value: bool) -> Self
+        ensures { result ≡ record self { nla_network_order = Some value } }
+    {
+        self.nla_network_order = Some(value);
+        self
+    }
+
+    /// The type without its flags.
+    pub fn nla_type(mut self, value: T) -> Self
+        ensures { result ≡ record self { nla_type = Some value } }
+    {
+        self.nla_type = Some(value);
+        self
+    }
+
+    /// The type field of what was given. Only the type itself can be missing, and it takes no memory.
+    pub fn build(self) -> Result<AttrType<T>, AttrTypeBuilderError>
+        ensures built { IfOk result (λ t. attr_type_built self ≡ Ok t) }
+        ensures refused { IfErr result (λ e. (e ≡ BuildError.Memory → ⊥) × IsWhyNot (attr_type_built self) e) }
+    {
+        Ok(AttrType {
+            nla_nested: self.nla_nested.unwrap_or(false),
+            nla_network_order: self.nla_network_order.unwrap_or(false),
+            nla_type: self
+                .nla_type
+                .ok_or(UninitializedFieldError::new("nla_type"))?,
+        })
+    }
 }

@@ -1,0 +1,21 @@
+-- Routing attributes: what their calls make.
+use Rattle.std.specs.Prelude.{ℕ, ◌+◌, List, Bool, true, codes, length, Ok}
+use Rattle.neli_wire.specs.Writing.{Wire}
+use Rattle.neli_attr.specs.declared.rtattr.Rtattr.{Rtattr}
+use Rattle.neli_attr.specs.declared.rtattr.RtattrBuilder.{RtattrBuilder}
+use Rattle.neli_attr.specs.Builders.{Outcome, given, payload_in, ◌>>>◌}
+
+-- an attribute with this type and payload, and the length that goes with it
+abbrev pub with_length : {T : Type 0} → T → List ℕ → Rtattr T (List ℕ)
+with_length kind bytes = record { rta_len = 4 + length bytes; rta_type = kind; rta_payload = bytes }
+
+-- an attribute with another payload
+abbrev pub with_bytes : {T : Type 0} → Rtattr T (List ℕ) → List ℕ → Rtattr T (List ℕ)
+with_bytes a bytes = with_length a.rta_type bytes
+
+-- what a builder makes of its fields
+abbrev pub rtattr_built : {T P : Type 0} → (P → Wire) → RtattrBuilder T P → Outcome (Rtattr T (List ℕ))
+rtattr_built wire b =
+    given (codes "rta_type") b.rta_type (λ kind.
+    given (codes "rta_payload") b.rta_payload (λ payload.
+    payload_in 4 (wire payload) >>> λ bytes. Ok (with_length kind bytes)))
