@@ -1,5 +1,7 @@
 -- The type field of a generic attribute: two flags above a number of 14 bits.
 use Rattle.std.specs.Prelude.{ℕ, Bool, false, nat_eq, not, bit_and, bit_or, if◌then◌else◌, codes, unwrap_or, Ok}
+use mathlib.Core.Bool.{beq}
+use Rattle.std.specs.Ordering.{eq_of_both, on}
 use Rattle.neli_attr.specs.declared.attr_type.AttrType.{AttrType}
 use Rattle.neli_attr.specs.declared.attr_type.AttrTypeBuilder.{AttrTypeBuilder}
 use Rattle.neli_attr.specs.Builders.{Outcome, given}
@@ -23,6 +25,10 @@ field_of n nested network_order = bit_or (bit_or n (bit_where nested 32768)) (bi
 -- the number of a field
 abbrev pub number_of : {T : Type 0} → (T → ℕ) → AttrType T → ℕ
 number_of type_number t = field_of (type_number t.nla_type) t.nla_nested t.nla_network_order
+
+-- whether both flags and the types are equal
+abbrev pub attr_type_eq : {T : Type 0} → (T → T → Bool) → AttrType T → AttrType T → Bool
+attr_type_eq same = eq_of_both (eq_of_both (on (λ t. t.nla_nested) beq) (on (λ t. t.nla_network_order) beq)) (on (λ t. t.nla_type) same)
 
 -- what a builder makes of its fields: flags that were not given are not set
 abbrev pub attr_type_built : {T : Type 0} → AttrTypeBuilder T → Outcome (AttrType T)

@@ -3,7 +3,9 @@ use Rattle.std.proofs.Common.{◌≡◌, ℕ, zero, suc, ◌+◌, ◌*◌, ◌/�
 use Rattle.std.specs.Prelude.{◌⊎◌, nat_eq, not}
 use Rattle.std.proofs.lemmas.Nat.{and_le_r, and_mask, or_disjoint}
 use Rattle.std.proofs.lemmas.Nat.Bits.{and_pow}
-use Rattle.neli_attr.specs.AttrType.{has, bit_where, field_of, type_of, number_of}
+use Rattle.std.specs.Cmp.{IsEquivalence, IsPartialEquivalence, and_equiv, and_per, bool_eq_equiv, on_equiv, on_per, partial_equiv_from_equiv}
+use Rattle.neli_attr.specs.declared.attr_type.AttrType.{AttrType}
+use Rattle.neli_attr.specs.AttrType.{attr_type_eq, has, bit_where, field_of, type_of, number_of}
 
 -- a bit that is taken from a number is 0 or whole
 bit_case : (n k : ℕ) → (bit_and n (2 ^ k) ≡ 0) ⊎ (bit_and n (2 ^ k) ≡ 2 ^ k)
@@ -41,3 +43,11 @@ field_of-parts n lt =
 pub number_of-type_of : {T : Type 0} (type_number : T → ℕ) (value_of : ℕ → T) → ((n : ℕ) → n < 256 ^ 2 → type_number (value_of n) ≡ n) → (n : ℕ) → n < 256 ^ 2 → number_of type_number (type_of value_of n) ≡ n
 number_of-type_of type_number value_of back n lt =
     rw (back (bit_and n 16383) (omega (arith, and_le_r n 16383))) (field_of-parts n lt)
+
+-- ---- equality
+
+pub attr_type_per : {T : Type 0} {same : T → T → Bool} → IsPartialEquivalence same → IsPartialEquivalence (attr_type_eq same)
+attr_type_per laws = and_per (and_per (on_per (λ t. t.nla_nested) (partial_equiv_from_equiv bool_eq_equiv)) (on_per (λ t. t.nla_network_order) (partial_equiv_from_equiv bool_eq_equiv))) (on_per (λ t. t.nla_type) laws)
+
+pub attr_type_equiv : {T : Type 0} {same : T → T → Bool} → IsEquivalence same → IsEquivalence (attr_type_eq same)
+attr_type_equiv laws = and_equiv (and_equiv (on_equiv (λ t. t.nla_nested) bool_eq_equiv) (on_equiv (λ t. t.nla_network_order) bool_eq_equiv)) (on_equiv (λ t. t.nla_type) laws)

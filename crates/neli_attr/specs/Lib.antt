@@ -4,5 +4,9 @@ pub mod AttributeLaws
 pub mod Attributes
 pub mod Buffers
 pub mod Builders
+pub mod GenlLends
 pub mod Nlattr
+pub mod NlattrLaws
+pub mod RtLends
 pub mod Rtattr
+pub mod RtattrLaws

@@ -1,6 +1,11 @@
 -- Routing attributes: what their calls make.
-use Rattle.std.specs.Prelude.{ℕ, ◌+◌, List, Bool, true, codes, length, Ok}
+use Rattle.std.specs.Prelude.{ℕ, ◌+◌, List, Bool, true, codes, length, nat_eq, Result, Ok}
+use Rattle.std.specs.Ordering.{eq_of_both, on}
+use Rattle.neli_wire.specs.declared.errors.DeError.{DeError}
+use Rattle.neli_wire.specs.Frames.{Layout}
+use Rattle.neli_wire.specs.Sizes.{align}
 use Rattle.neli_wire.specs.Writing.{Wire}
+use Rattle.neli_attr.specs.Attributes.{Attr, Head, attr, attribute, attribute_wire}
 use Rattle.neli_attr.specs.declared.rtattr.Rtattr.{Rtattr}
 use Rattle.neli_attr.specs.declared.rtattr.RtattrBuilder.{RtattrBuilder}
 use Rattle.neli_attr.specs.Builders.{Outcome, given, payload_in, ◌>>>◌}
@@ -19,3 +24,21 @@ rtattr_built wire b =
     given (codes "rta_type") b.rta_type (λ kind.
     given (codes "rta_payload") b.rta_payload (λ payload.
     payload_in 4 (wire payload) >>> λ bytes. Ok (with_length kind bytes)))
+
+-- ---- as values that are written and read
+
+-- how many bytes an attribute is written as
+abbrev pub rtattr_size : {T P : Type 0} → (P → ℕ) → Rtattr T P → ℕ
+rtattr_size size a = align (4 + size a.rta_payload)
+
+-- the bytes of an attribute
+abbrev pub rtattr_wire : {T P : Type 0} → (T → ℕ) → (P → Wire) → Rtattr T P → Wire
+rtattr_wire type_number wire a = attribute_wire a.rta_len (type_number a.rta_type) (wire a.rta_payload)
+
+-- what an attribute says
+abbrev pub rtattr_view : {T P V : Type 0} → (P → V) → Rtattr T P → Attr T V
+rtattr_view view a = attr a.rta_len a.rta_type (view a.rta_payload)
+
+-- how it lies in bytes
+abbrev pub rtattr_layout : {T V : Type 0} → (ℕ → T) → (List ℕ → Result V DeError) → Layout (Head T) V
+rtattr_layout value_of payload_of = attribute value_of payload_of

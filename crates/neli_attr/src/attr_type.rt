@@ -1,9 +1,9 @@
 //! The type of a generic attribute, with its two flags.
 
 ghost use Rattle.std.specs.Prelude.{◌≡◌, Ok, IfOk, IfErr, None, Some, true};
-ghost use Rattle.neli_attr.specs.AttrType.{type_of, number_of, attr_type_built};
+ghost use Rattle.neli_attr.specs.AttrType.{attr_type_built, attr_type_eq, number_of, type_of};
 ghost use Rattle.neli_attr.specs.Builders.{IsWhyNot};
-ghost use Rattle.neli_attr.specs.AttrTypeLaws.{number_of-type_of};
+ghost use Rattle.neli_attr.specs.AttrTypeLaws.{attr_type_equiv, attr_type_per, number_of-type_of};
 
 use crate::{BuildError, of};
 use neli_consts::NlAttrType;
@@ -22,7 +22,7 @@ const TYPE: u16 = 0x3fff;
 ///
 /// A type with a number of 16384 or more is written with bits that stand for the flags, and is not read
 /// back as itself.
-#[derive(Clone, Copy, Debug, PartialEq, Eq)]
+#[derive(Clone, Copy, Debug)]
 pub struct AttrType<T> {
     nla_nested: bool,
     nla_network_order: bool,
@@ -61,6 +61,22 @@ impl<T> AttrType<T> {
             nla_type: self.nla_type,
         }
     }
+}
+
+impl<T: PartialEq> PartialEq for AttrType<T> {
+    ghost eq = { attr_type_eq T.eq };
+
+    ghost laws = { attr_type_per T.PartialEq.laws };
+
+    fn eq(&self, other: &Self) -> bool {
+        self.nla_nested == other.nla_nested
+            && self.nla_network_order == other.nla_network_order
+            && self.nla_type == other.nla_type
+    }
+}
+
+impl<T: Eq> Eq for AttrType<T> {
+    ghost laws = { attr_type_equiv T.Eq.laws };
 }
 
 impl<T: NlAttrType> From<u16> for AttrType<T> {

@@ -9,7 +9,8 @@ ghost use Rattle.neli_attr.specs.AttributeLaws.{attribute-local, attribute-no_me
 ghost use Rattle.neli_attr.specs.Builders.{IsWhyNot};
 ghost use Rattle.neli_attr.specs.AttrType.{number_of, type_of};
 ghost use Rattle.neli_attr.specs.declared.attr_type.AttrType.{AttrType as Field};
-ghost use Rattle.neli_attr.specs.Nlattr.{nlattr_built, with_bytes, nested_with};
+ghost use Rattle.neli_attr.specs.NlattrLaws.{nlattr_equiv, nlattr_per};
+ghost use Rattle.neli_attr.specs.Nlattr.{nlattr_built, with_bytes, nested_with, nlattr_eq};
 
 use crate::frame::{
     HEADER_SIZE, length_with, nested_text, payload_text, read_attribute, size_with,
@@ -27,7 +28,7 @@ use std::alloc::Global;
 ///
 /// On the wire it is a length of two bytes, which counts these four and the payload and not the padding,
 /// a type of two bytes, the payload, and zeros up to a multiple of four (`linux/netlink.h`, `struct nlattr`).
-#[derive(Debug, Drop, PartialEq, Eq)]
+#[derive(Debug, Drop)]
 pub struct Nlattr<T, P> {
     nla_len: u16,
     nla_type: AttrType<T>,
@@ -88,6 +89,22 @@ impl<T: NlAttrType> Nlattr<T, Buffer> {
             nla_payload: self.nla_payload.try_clone()?,
         })
     }
+}
+
+impl<T: PartialEq, P: PartialEq> PartialEq for Nlattr<T, P> {
+    ghost eq = { nlattr_eq T.eq P.eq };
+
+    ghost laws = { nlattr_per T.PartialEq.laws P.PartialEq.laws };
+
+    fn eq(&self, other: &Self) -> bool {
+        self.nla_len == other.nla_len
+            && self.nla_type == other.nla_type
+            && self.nla_payload == other.nla_payload
+    }
+}
+
+impl<T: Eq, P: Eq> Eq for Nlattr<T, P> {
+    ghost laws = { nlattr_equiv T.Eq.laws P.Eq.laws };
 }
 
 impl<T: NlAttrType> Attribute<T> for Nlattr<T, Buffer> {
