@@ -4,7 +4,10 @@ pub mod AttributeLaws
 pub mod Attributes
 pub mod Buffers
 pub mod Builders
+pub mod FrameListLaws
+pub mod FrameLists
 pub mod GenlLends
+pub mod Lookup
 pub mod Nlattr
 pub mod NlattrLaws
 pub mod RtLends

@@ -1,8 +1,9 @@
 -- Generic attributes: what their calls make.
-use Rattle.std.specs.Prelude.{ℕ, ◌+◌, List, Bool, true, codes, length, nat_eq, Result, Ok}
+use Rattle.std.specs.Prelude.{ℕ, ◌+◌, List, Bool, true, codes, find, length, map, nat_eq, Option, Result, Ok}
 use Rattle.std.specs.Ordering.{eq_of_both, on}
 use Rattle.neli_wire.specs.declared.errors.DeError.{DeError}
-use Rattle.neli_wire.specs.Frames.{Layout}
+use Rattle.neli_wire.specs.Frames.{Layout, framed}
+use Rattle.neli_wire.specs.Reading.{elements}
 use Rattle.neli_wire.specs.Sizes.{align}
 use Rattle.neli_wire.specs.Writing.{Wire}
 use Rattle.neli_attr.specs.Attributes.{Attr, Head, attr, attribute, attribute_wire}
@@ -52,3 +53,25 @@ nlattr_view view a = attr a.nla_len a.nla_type (view a.nla_payload)
 -- how it lies in bytes
 abbrev pub nlattr_layout : {T V : Type 0} → (ℕ → T) → (List ℕ → Result V DeError) → Layout (Head (AttrType T)) V
 nlattr_layout value_of payload_of = attribute (type_of value_of) payload_of
+
+-- ---- lists of them
+
+-- the first attribute with this type
+abbrev pub nlattr_of_type : {T P : Type 0} → (T → T → Bool) → T → List (Nlattr T P) → Option (Nlattr T P)
+nlattr_of_type same kind attrs = find (λ a. same a.nla_type.nla_type kind) attrs
+
+-- what a payload of bytes lists
+abbrev pub nlattr_list : {T : Type 0} → (ℕ → T) → List ℕ → Result (List (Attr (AttrType T) (List ℕ))) DeError
+nlattr_list value_of = elements (framed (nlattr_layout value_of (λ bytes. Ok bytes)))
+
+-- what attributes with payloads of bytes say
+abbrev pub nlattr_texts : {T : Type 0} → List (Nlattr T (List ℕ)) → List (Attr (AttrType T) (List ℕ))
+nlattr_texts = map (nlattr_view (λ bytes. bytes))
+
+-- the same attributes with types that their numbers mean
+abbrev pub retyped : {T : Type 0} → (ℕ → T) → Nlattr ℕ (List ℕ) → Nlattr T (List ℕ)
+retyped value_of a = record {
+  nla_len = a.nla_len;
+  nla_type = record { nla_nested = a.nla_type.nla_nested; nla_network_order = a.nla_type.nla_network_order; nla_type = value_of a.nla_type.nla_type };
+  nla_payload = a.nla_payload;
+}

@@ -1,8 +1,9 @@
 -- Routing attributes: what their calls make.
-use Rattle.std.specs.Prelude.{ℕ, ◌+◌, List, Bool, true, codes, length, nat_eq, Result, Ok}
+use Rattle.std.specs.Prelude.{ℕ, ◌+◌, List, Bool, true, codes, find, length, map, nat_eq, Option, Result, Ok}
 use Rattle.std.specs.Ordering.{eq_of_both, on}
 use Rattle.neli_wire.specs.declared.errors.DeError.{DeError}
-use Rattle.neli_wire.specs.Frames.{Layout}
+use Rattle.neli_wire.specs.Frames.{Layout, framed}
+use Rattle.neli_wire.specs.Reading.{elements}
 use Rattle.neli_wire.specs.Sizes.{align}
 use Rattle.neli_wire.specs.Writing.{Wire}
 use Rattle.neli_attr.specs.Attributes.{Attr, Head, attr, attribute, attribute_wire}
@@ -42,3 +43,17 @@ rtattr_view view a = attr a.rta_len a.rta_type (view a.rta_payload)
 -- how it lies in bytes
 abbrev pub rtattr_layout : {T V : Type 0} → (ℕ → T) → (List ℕ → Result V DeError) → Layout (Head T) V
 rtattr_layout value_of payload_of = attribute value_of payload_of
+
+-- ---- lists of them
+
+-- the first attribute with this type
+abbrev pub rtattr_of_type : {T P : Type 0} → (T → T → Bool) → T → List (Rtattr T P) → Option (Rtattr T P)
+rtattr_of_type same kind attrs = find (λ a. same a.rta_type kind) attrs
+
+-- what a payload of bytes lists
+abbrev pub rtattr_list : {T : Type 0} → (ℕ → T) → List ℕ → Result (List (Attr T (List ℕ))) DeError
+rtattr_list value_of = elements (framed (rtattr_layout value_of (λ bytes. Ok bytes)))
+
+-- what attributes with payloads of bytes say
+abbrev pub rtattr_texts : {T : Type 0} → List (Rtattr T (List ℕ)) → List (Attr T (List ℕ))
+rtattr_texts = map (rtattr_view (λ bytes. bytes))

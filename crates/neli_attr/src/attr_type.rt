@@ -63,6 +63,19 @@ impl<T> AttrType<T> {
     }
 }
 
+impl AttrType<u16> {
+    /// The same flags with what the number means.
+    pub(crate) fn retyped<T: NlAttrType>(self) -> AttrType<T>
+        ensures { result ≡ record { nla_nested = self.nla_nested; nla_network_order = self.nla_network_order; nla_type = T.wire_value self.nla_type } }
+    {
+        AttrType {
+            nla_nested: self.nla_nested,
+            nla_network_order: self.nla_network_order,
+            nla_type: T::from_number(self.nla_type),
+        }
+    }
+}
+
 impl<T: PartialEq> PartialEq for AttrType<T> {
     ghost eq = { attr_type_eq T.eq };
 

@@ -9,7 +9,9 @@ ghost use Rattle.neli_wire.specs.Writing.{IsRefused};
 ghost use Rattle.neli_attr.specs.Attributes.{attribute_payload};
 
 use crate::Buffer;
-use neli_wire::{Cursor, DeError, FromBytes, FromBytesWithInput, SerError, ToBytes};
+use neli_wire::{
+    Cursor, DeError, FromBytes, FromBytesWithInput, FromBytesWithInputBorrowed, SerError, ToBytes,
+};
 use std::alloc::Global;
 
 /// An attribute with a type of type `T`, of which the payload is bytes.
@@ -54,5 +56,22 @@ pub trait Attribute<T> {
     {
         let payload = self.payload();
         R::from_bytes_with_input(alloc, &mut Cursor::new(payload.as_ref()), payload.len())
+    }
+}
+
+/// The value that the whole payload spells, made of the payload's own bytes.
+///
+/// The error is converted here: no function can be checked whose bound names a lifetime and which
+/// answers a `DeError`, since that can hold a text of the program's own.
+pub(crate) fn read_borrowed<'a, R, E>(payload: &'a Buffer) -> Result<R, E>
+where
+    R: FromBytesWithInputBorrowed<'a>,
+    E: From<DeError>,
+    ensures value { IfOk result (λ v. R.read payload.now ≡ Ok (R.view v)) }
+    ensures refused { IfErr result (λ e. (d : DeError) × E.from_gives d e × Refuses (R.read payload.now) ⊥ d) }
+{
+    match R::from_bytes_with_input(&mut Cursor::new(payload.as_ref()), payload.len()) {
+        Ok(value) => Ok(value),
+        Err(error) => Err(E::from(error)),
     }
 }

@@ -1,6 +1,6 @@
 //! Lists of generic attributes.
 
-ghost use Rattle.std.specs.Prelude.{◌≡◌, ◌++◌, ◌∷◌, ◌↔◌, ◌<◌, List, [], IfOk, OnOk, OnErr, IsTrue, IsSome, length, map, option_to_list, sum_by, take};
+ghost use Rattle.std.specs.Prelude.{◌≡◌, ◌++◌, ◌∷◌, ◌↔◌, ◌<◌, List, [], IfErr, IfOk, OnOk, OnErr, IsTrue, IsSome, length, map, option_to_list, sum_by, take};
 ghost use Rattle.std.specs.Borrow.{sem};
 ghost use Rattle.std.specs.Cmp.Lexicographic.{lists_equiv, lists_per, pointwise};
 ghost use Rattle.std.specs.Slice.Iter.{iter_rest, iter_mut_rest};
@@ -9,12 +9,13 @@ ghost use Rattle.neli_wire.specs.ListLaws.{elements-no_memory, elements-never_sh
 ghost use Rattle.neli_wire.specs.Reading.{elements};
 ghost use Rattle.neli_wire.specs.Writing.{wire_all};
 ghost use Rattle.neli_attr.specs.Attributes.{Attr};
+ghost use Rattle.neli_attr.specs.Lookup.{attrs_in};
 ghost use Rattle.neli_attr.specs.declared.attr_type.AttrType.{AttrType as Field};
-ghost use Rattle.neli_attr.specs.Nlattr.{nlattr_eq, nlattr_layout, nlattr_size, nlattr_view, nlattr_wire};
+ghost use Rattle.neli_attr.specs.Nlattr.{nlattr_eq, nlattr_layout, nlattr_size, nlattr_view, nlattr_wire, retyped};
 ghost use Rattle.neli_attr.specs.NlattrLaws.{nlattr_equiv, nlattr_per, nlattr_layout-no_memory, nlattr_wire-length, nlattr_wire-no_memory};
 ghost use Rattle.neli_attr.specs.GenlLends.{lends_list, lends_iter};
 
-use crate::{Buffer, Nlattr};
+use crate::{AttrHandle, Buffer, GenlAttrHandle, Nlattr};
 use neli_consts::NlAttrType;
 use neli_wire::{Cursor, DeError, FromBytesWithInput, NoMemory, SerError, Size, ToBytes};
 use std::alloc::Global;
@@ -122,6 +123,13 @@ impl<T, P> GenlBuffer<T, P> {
 }
 
 impl<T: NlAttrType> GenlBuffer<T, Buffer> {
+    /// A handle of these attributes, which are lent to it. It takes no memory.
+    pub fn get_attr_handle(&self) -> GenlAttrHandle<'_, T>
+        ensures { attrs_in result ≡ self.now }
+    {
+        AttrHandle::new_borrowed(self.as_ref())
+    }
+
     /// A list of equal attributes.
     ///
     /// Refused only for want of memory.
@@ -133,6 +141,22 @@ impl<T: NlAttrType> GenlBuffer<T, Buffer> {
             attrs.push(attr.try_clone()?)?;
         }
         Ok(GenlBuffer { attrs })
+    }
+}
+
+impl GenlBuffer<u16, Buffer> {
+    /// A handle of copies of these attributes, of which each type is what its number means.
+    ///
+    /// Refused only for want of memory.
+    pub fn get_typed_attr_handle<T: NlAttrType>(&self) -> Result<GenlAttrHandle<'_, T>, DeError>
+        ensures value { IfOk result (λ h. attrs_in h ≡ map (retyped T.wire_value) self.now) }
+        ensures memory { IfErr result (λ e. e ≡ DeError.Memory) }
+    {
+        let mut attrs = Vec::new(*self.attrs.allocator());
+        for attr in &self.attrs {
+            attrs.push(attr.retyped()?)?;
+        }
+        Ok(AttrHandle::new(GenlBuffer { attrs }))
     }
 }
 

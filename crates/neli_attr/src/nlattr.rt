@@ -1,26 +1,29 @@
 //! Generic attributes.
 
-ghost use Rattle.std.specs.Prelude.{◌≡◌, ◌+◌, ℕ, List, Some, None, Ok, IfOk, IfErr, OnOk, OnErr, length, option_map, min};
+ghost use Rattle.std.specs.Prelude.{◌≡◌, ◌+◌, ◌<◌, ℕ, List, Some, None, Ok, IfOk, IfErr, OnOk, OnErr, length, option_map, min};
 ghost use Rattle.neli_wire.specs.Frames.{framed, framed_takes};
+ghost use Rattle.neli_wire.specs.Reading.{Refuses};
 ghost use Rattle.neli_wire.specs.Sizes.{align};
 ghost use Rattle.neli_wire.specs.Writing.{IsRefused, appended};
 ghost use Rattle.neli_attr.specs.Attributes.{Attr, attr, attribute, attribute_payload, attribute_wire};
 ghost use Rattle.neli_attr.specs.AttributeLaws.{attribute-local, attribute-no_memory, attribute_wire-length, attribute_wire-no_memory};
+ghost use Rattle.neli_attr.specs.Lookup.{attrs_in};
 ghost use Rattle.neli_attr.specs.Builders.{IsWhyNot};
 ghost use Rattle.neli_attr.specs.AttrType.{number_of, type_of};
 ghost use Rattle.neli_attr.specs.declared.attr_type.AttrType.{AttrType as Field};
 ghost use Rattle.neli_attr.specs.NlattrLaws.{nlattr_equiv, nlattr_per};
-ghost use Rattle.neli_attr.specs.Nlattr.{nlattr_built, with_bytes, nested_with, nlattr_eq};
+ghost use Rattle.neli_attr.specs.Nlattr.{nlattr_built, nlattr_list, nlattr_texts, with_bytes, nested_with, nlattr_eq, retyped};
 
+use crate::attribute::read_borrowed;
 use crate::frame::{
     HEADER_SIZE, length_with, nested_text, payload_text, read_attribute, size_with,
     write_attribute, written,
 };
-use crate::{AttrType, Attribute, Buffer, BuildError, of};
+use crate::{AttrHandle, AttrType, Attribute, Buffer, BuildError, GenlAttrHandle, GenlBuffer, of};
 use neli_consts::NlAttrType;
 use neli_wire::{
-    Cursor, DeError, FromBytes, FromBytesWithInput, Header, NoMemory, SerError, Size, ToBytes,
-    UninitializedFieldError, padded_length,
+    Cursor, DeError, FromBytes, FromBytesWithInput, FromBytesWithInputBorrowed, Header, NoMemory,
+    SerError, Size, ToBytes, UninitializedFieldError, padded_length,
 };
 use std::alloc::Global;
 
@@ -77,6 +80,34 @@ impl<T: NlAttrType> Nlattr<T, Buffer> {
         })
     }
 
+    /// The attributes that the payload lists.
+    ///
+    /// Refused as the payload is refused as a list of attributes.
+    pub fn get_attr_handle<R: NlAttrType>(
+        &self,
+        alloc: Global,
+    ) -> Result<GenlAttrHandle<'_, R>, DeError>
+        ensures value { IfOk result (λ h. nlattr_list R.wire_value self.now.nla_payload ≡ Ok (nlattr_texts (attrs_in h))) }
+        ensures refused { IfErr result (Refuses (nlattr_list R.wire_value self.now.nla_payload) (0 < length self.now.nla_payload)) }
+    {
+        let attrs: GenlBuffer<R, Buffer> = self.get_payload_as_with_len(alloc)?;
+        Ok(AttrHandle::new(attrs))
+    }
+
+    /// The value that the whole payload spells, made of the payload's own bytes: it lives as long as the
+    /// attribute. It takes no memory. The error is a `DeError`, or what it is converted into.
+    ///
+    /// Refused as the type's own read refuses these bytes.
+    pub fn get_payload_as_with_len_borrowed<'a, R, E>(&'a self) -> Result<R, E>
+    where
+        R: FromBytesWithInputBorrowed<'a>,
+        E: From<DeError>,
+        ensures value { IfOk result (λ v. R.read self.now.nla_payload ≡ Ok (R.view v)) }
+        ensures refused { IfErr result (λ e. (d : DeError) × E.from_gives d e × Refuses (R.read self.now.nla_payload) ⊥ d) }
+    {
+        read_borrowed(&self.nla_payload)
+    }
+
     /// An equal attribute.
     ///
     /// Refused only for want of memory.
@@ -86,6 +117,19 @@ impl<T: NlAttrType> Nlattr<T, Buffer> {
         Ok(Nlattr {
             nla_len: self.nla_len,
             nla_type: self.nla_type,
+            nla_payload: self.nla_payload.try_clone()?,
+        })
+    }
+}
+
+impl Nlattr<u16, Buffer> {
+    /// The same attribute with what the number of its type means.
+    pub(crate) fn retyped<T: NlAttrType>(&self) -> Result<Nlattr<T, Buffer>, NoMemory>
+        ensures { IfOk result (λ a. a ≡ retyped T.wire_value self.now) }
+    {
+        Ok(Nlattr {
+            nla_len: self.nla_len,
+            nla_type: self.nla_type.retyped(),
             nla_payload: self.nla_payload.try_clone()?,
         })
     }

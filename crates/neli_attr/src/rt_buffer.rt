@@ -8,11 +8,12 @@ ghost use Rattle.neli_wire.specs.ListLaws.{elements-no_memory, elements-never_sh
 ghost use Rattle.neli_wire.specs.Reading.{elements};
 ghost use Rattle.neli_wire.specs.Writing.{wire_all};
 ghost use Rattle.neli_attr.specs.Attributes.{Attr};
+ghost use Rattle.neli_attr.specs.Lookup.{attrs_in};
 ghost use Rattle.neli_attr.specs.Rtattr.{rtattr_layout, rtattr_size, rtattr_view, rtattr_wire};
 ghost use Rattle.neli_attr.specs.RtattrLaws.{rtattr_layout-no_memory, rtattr_wire-length, rtattr_wire-no_memory};
 ghost use Rattle.neli_attr.specs.RtLends.{lends_list, lends_iter};
 
-use crate::{Buffer, Rtattr};
+use crate::{AttrHandle, Buffer, RtAttrHandle, Rtattr};
 use neli_consts_rta::RtaType;
 use neli_wire::{Cursor, DeError, FromBytesWithInput, NoMemory, SerError, Size, ToBytes};
 use std::alloc::Global;
@@ -120,6 +121,13 @@ impl<T, P> RtBuffer<T, P> {
 }
 
 impl<T: RtaType> RtBuffer<T, Buffer> {
+    /// A handle of these attributes, which are lent to it. It takes no memory.
+    pub fn get_attr_handle(&self) -> RtAttrHandle<'_, T>
+        ensures { attrs_in result ≡ self.now }
+    {
+        AttrHandle::new_borrowed(self.as_ref())
+    }
+
     /// A list of equal attributes.
     ///
     /// Refused only for want of memory.

@@ -1,23 +1,26 @@
 //! Routing attributes.
 
-ghost use Rattle.std.specs.Prelude.{◌≡◌, ◌+◌, ℕ, List, Some, None, Ok, IfOk, IfErr, OnOk, OnErr, length, option_map, min};
+ghost use Rattle.std.specs.Prelude.{◌≡◌, ◌+◌, ◌<◌, ℕ, List, Some, None, Ok, IfOk, IfErr, OnOk, OnErr, length, option_map, min};
 ghost use Rattle.neli_wire.specs.Frames.{framed, framed_takes};
+ghost use Rattle.neli_wire.specs.Reading.{Refuses};
 ghost use Rattle.neli_wire.specs.Sizes.{align};
 ghost use Rattle.neli_wire.specs.Writing.{IsRefused, appended};
 ghost use Rattle.neli_attr.specs.Attributes.{Attr, attr, attribute, attribute_payload, attribute_wire};
 ghost use Rattle.neli_attr.specs.AttributeLaws.{attribute-local, attribute-no_memory, attribute_wire-length, attribute_wire-no_memory};
+ghost use Rattle.neli_attr.specs.Lookup.{attrs_in};
 ghost use Rattle.neli_attr.specs.Builders.{IsWhyNot};
-ghost use Rattle.neli_attr.specs.Rtattr.{rtattr_built, with_bytes};
+ghost use Rattle.neli_attr.specs.Rtattr.{rtattr_built, rtattr_list, rtattr_texts, with_bytes};
 
+use crate::attribute::read_borrowed;
 use crate::frame::{
     HEADER_SIZE, length_with, nested_text, payload_text, read_attribute, size_with,
     write_attribute, written,
 };
-use crate::{Attribute, Buffer, BuildError, of};
+use crate::{AttrHandle, Attribute, Buffer, BuildError, RtAttrHandle, RtBuffer, of};
 use neli_consts_rta::RtaType;
 use neli_wire::{
-    Cursor, DeError, FromBytes, FromBytesWithInput, Header, NoMemory, SerError, Size, ToBytes,
-    UninitializedFieldError, padded_length,
+    Cursor, DeError, FromBytes, FromBytesWithInput, FromBytesWithInputBorrowed, Header, NoMemory,
+    SerError, Size, ToBytes, UninitializedFieldError, padded_length,
 };
 use std::alloc::Global;
 
@@ -72,6 +75,31 @@ impl<T: RtaType> Rtattr<T, Buffer> {
             rta_type: self.rta_type,
             rta_payload,
         })
+    }
+
+    /// The attributes that the payload lists.
+    ///
+    /// Refused as the payload is refused as a list of attributes.
+    pub fn get_attr_handle<R: RtaType>(&self, alloc: Global) -> Result<RtAttrHandle<'_, R>, DeError>
+        ensures value { IfOk result (λ h. rtattr_list R.wire_value self.now.rta_payload ≡ Ok (rtattr_texts (attrs_in h))) }
+        ensures refused { IfErr result (Refuses (rtattr_list R.wire_value self.now.rta_payload) (0 < length self.now.rta_payload)) }
+    {
+        let attrs: RtBuffer<R, Buffer> = self.get_payload_as_with_len(alloc)?;
+        Ok(AttrHandle::new(attrs))
+    }
+
+    /// The value that the whole payload spells, made of the payload's own bytes: it lives as long as the
+    /// attribute. It takes no memory. The error is a `DeError`, or what it is converted into.
+    ///
+    /// Refused as the type's own read refuses these bytes.
+    pub fn get_payload_as_with_len_borrowed<'a, R, E>(&'a self) -> Result<R, E>
+    where
+        R: FromBytesWithInputBorrowed<'a>,
+        E: From<DeError>,
+        ensures value { IfOk result (λ v. R.read self.now.rta_payload ≡ Ok (R.view v)) }
+        ensures refused { IfErr result (λ e. (d : DeError) × E.from_gives d e × Refuses (R.read self.now.rta_payload) ⊥ d) }
+    {
+        read_borrowed(&self.rta_payload)
     }
 
     /// An equal attribute.
