@@ -51,3 +51,18 @@ attr_type_per laws = and_per (and_per (on_per (λ t. t.nla_nested) (partial_equi
 
 pub attr_type_equiv : {T : Type 0} {same : T → T → Bool} → IsEquivalence same → IsEquivalence (attr_type_eq same)
 attr_type_equiv laws = and_equiv (and_equiv (on_equiv (λ t. t.nla_nested) bool_eq_equiv) (on_equiv (λ t. t.nla_network_order) bool_eq_equiv)) (on_equiv (λ t. t.nla_type) laws)
+
+-- a small number with two bits is their sum
+pub field_of-sum : (n : ℕ) (nested network_order : Bool) → n < 16384 → field_of n nested network_order ≡ n + bit_where nested 32768 + bit_where network_order 16384
+field_of-sum n nested network_order lt =
+    let one : bit_or n (bit_where nested 32768) ≡ n + bit_where nested 32768 = or_bit n (bit_where nested 32768) 15 (bit_or_none nested 32768) (omega arith) in
+    let two : bit_or (n + bit_where nested 32768) (bit_where network_order 16384) ≡ n + bit_where nested 32768 + bit_where network_order 16384 = or_bit (n + bit_where nested 32768) (bit_where network_order 16384) 14 (bit_or_none network_order 16384) (free nested) in
+    rw (one, two) refl
+  where
+    bit_or_none : (flag : Bool) (p : ℕ) → (bit_where flag p ≡ 0) ⊎ (bit_where flag p ≡ p)
+    bit_or_none true p = inr refl
+    bit_or_none false p = inl refl
+
+    free : (flag : Bool) → (n + bit_where flag 32768) / 16384 % 2 ≡ 0
+    free true = omega arith
+    free false = omega arith

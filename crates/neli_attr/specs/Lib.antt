@@ -10,6 +10,8 @@ pub mod GenlLends
 pub mod Lookup
 pub mod Nlattr
 pub mod NlattrLaws
+pub mod RoundTripLaws
+pub mod RoundTrips
 pub mod RtLends
 pub mod Rtattr
 pub mod RtattrLaws

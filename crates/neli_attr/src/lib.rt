@@ -9,6 +9,7 @@ mod builders;
 mod frame;
 mod genl_buffer;
 mod genl_handle;
+pub mod laws;
 mod nlattr;
 mod rt_buffer;
 mod rt_handle;
