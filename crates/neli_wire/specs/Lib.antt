@@ -9,6 +9,8 @@ pub mod Place
 pub mod Reading
 pub mod ReadingLaws
 pub mod Sizes
-pub mod Texts
+pub mod Messages
+pub mod StringLaws
+pub mod Strings
 pub mod Writing
 pub mod WritingLaws

@@ -129,3 +129,17 @@ sized-no_memory read h n s = guard-not (ltb (length s) n) (InvalidInput n) Memor
 
 pub read-never_short : (s : List ℕ) → done s ≢ Err short
 read-never_short s e = cc
+
+-- ---- a value that takes no byte
+
+pub done-no_memory : {A : Type 0} (x : A) (s : List ℕ) → done {A = A × List ℕ} (x, s) ≢ Err Memory
+done-no_memory x s e = cc
+
+pub done-wide : {A : Type 0} (x : A) (s r : List ℕ) (v : A) → done {A = A × List ℕ} (x, s) ≡ Ok (v, r) → length s ≡ 0 + length r
+done-wide {A} x s r v e = omega (arith, ap (λ (p : A × List ℕ). length p.1) (ok_is (x, s) (v, r) e))
+
+-- n bytes in front give their value
+pub value_at-append : {V : Type 0} (n : ℕ) (value : List ℕ → V) (bytes rest : List ℕ) → length bytes ≡ n → value_at n value (bytes ++ rest) ≡ Ok (value bytes, rest)
+value_at-append n value bytes rest len =
+    let enough : ltb (length (bytes ++ rest)) n ≡ false = le-ltb _ _ (omega (arith, length-append bytes rest)) in
+    rw (enough, take_at bytes rest n len, drop_at bytes rest n len) refl

@@ -22,6 +22,9 @@ written bytes = Ok bytes
 pub written-length : (known bytes : List ℕ) (n : ℕ) → length known ≡ n → written known ≡ Ok bytes → length bytes ≡ n
 written-length known bytes n len e = let same : known ≡ bytes = cc in rw (← same) len
 
+pub own-length : (known bytes : List ℕ) → written known ≡ Ok bytes → length bytes ≡ length known
+own-length known bytes e = written-length known bytes (length known) refl e
+
 pub written-no_memory : (known : List ℕ) → written known ≢ Err Memory
 written-no_memory known e = cc
 

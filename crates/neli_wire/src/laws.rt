@@ -1,16 +1,24 @@
 //! Laws over the definitions alone. The functions do nothing: their contracts are the laws.
 
 ghost use Rattle.std.specs.Prelude.{◌≡◌, ◌≤◌, ◌<◌, ◌++◌, ℕ, List, Ok, Err, length, take};
-ghost use Rattle.byteorder.specs.Endian.{little_bytes, little_number};
+ghost use Rattle.byteorder.specs.Endian.{big_bytes, big_number, little_bytes, little_number};
 ghost use Rattle.neli_wire.specs.Numbers.{AreBytes};
-ghost use Rattle.neli_wire.specs.Reading.{AreElements, elements, within};
+ghost use Rattle.neli_wire.specs.Reading.{AreElements, elements, value_at, within};
 ghost use Rattle.neli_wire.specs.declared.errors.DeError.{DeError as Refusal};
 
-use crate::FromBytes;
+use crate::{Constant, FromBytes};
 
-/// Bytes that are read as a number are the bytes of that number.
+/// Bytes that are read as a number are the bytes of that number, in either order.
 pub fn bytes_of_number()
-    ensures { (n : ℕ) (s : List ℕ) → n ≤ length s → AreBytes s → little_bytes n (little_number n s) ≡ take n s }
+    ensures lowest_first { (n : ℕ) (s : List ℕ) → n ≤ length s → AreBytes s → little_bytes n (little_number n s) ≡ take n s }
+    ensures highest_first { (n : ℕ) (s : List ℕ) → n ≤ length s → AreBytes s → big_bytes n (big_number n s) ≡ take n s }
+{}
+
+/// What a constant is written as is read, whatever follows, as the value that its number means.
+pub fn constant_is_read_back<T: Constant>()
+    ensures { (v : T) (rest : List ℕ) → T.Number.IsInRange (T.wire_number v)
+        → value_at T.Number.byte_count (λ bytes. T.wire_value (T.Number.number_of bytes)) (T.Number.bytes_of (T.wire_number v) ++ rest)
+        ≡ Ok (T.wire_value (T.wire_number v), rest) }
 {}
 
 /// A list that is read is the texts of its elements, one after the other, and every such byte list is

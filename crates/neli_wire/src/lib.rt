@@ -1,7 +1,19 @@
-//! The traits by which values are written as bytes and read back, the cursor that reads go through,
-//! the integer types, lists, and the errors.
+//! The wire layer of netlink: values that are written as bytes and read back.
+//!
+//! - [`Size`], [`ToBytes`], [`TypeSize`], [`Header`]: how long a value is, and its bytes, its wire text.
+//! - [`FromBytes`]: values that take as many bytes as they need. [`FromBytesWithInput`] and
+//!   [`FromBytesWithInputBorrowed`]: values that are told their number of bytes.
+//! - [`Constant`]: values that are one number each, such as enums and flag sets. It brings the traits above.
+//! - [`Cursor`]: the place that reads go through.
+//! - [`SerError`], [`DeError`], [`NoMemory`]: why something is not written or read.
+//!
+//! What is implemented here: the integer types, lowest byte first, [`BeU64`], `Vec<T>`, texts, byte
+//! slices and arrays, `()` and `PhantomData`. What a read or a write means is stated in `specs/`: `Sizes`,
+//! `Writing`, `Reading`, `Numbers`, `Strings` and `Frames`.
 #![tactic(auto)]
 
+mod big_endian;
+mod bytes;
 mod constants;
 mod cursor;
 mod errors;
@@ -12,8 +24,13 @@ mod message;
 mod numbers;
 mod reading;
 mod sizes;
+#[cfg(test)]
+mod tests;
+mod texts;
+mod unit;
 mod writing;
 
+pub use big_endian::BeU64;
 pub use constants::{Constant, WireNumber};
 pub use cursor::Cursor;
 pub use errors::{DeError, NoMemory, SerError, Utf8};
