@@ -1,0 +1,17 @@
+pub mod AttrType
+pub mod AttrTypeLaws
+pub mod AttributeLaws
+pub mod Attributes
+pub mod Buffers
+pub mod Builders
+pub mod FrameListLaws
+pub mod FrameLists
+pub mod GenlLends
+pub mod Lookup
+pub mod Nlattr
+pub mod NlattrLaws
+pub mod RoundTripLaws
+pub mod RoundTrips
+pub mod RtLends
+pub mod Rtattr
+pub mod RtattrLaws

@@ -1,0 +1,105 @@
+//! Builders: what each of them answers where it makes nothing.
+//!
+//! A builder is a struct of the fields that were given so far. `default` gives none, takes no memory, and
+//! each setter gives one by value. `build` names the first field that is missing, in the order of the
+//! fields; then come the faults of the value that they would make; then want of memory, which may also
+//! stand in place of such a fault.
+
+ghost use Rattle.std.specs.Prelude.{◌≡◌, Some, codes};
+
+use neli_wire::{NoMemory, SerError, UninitializedFieldError};
+use std::alloc::{AllocError, AllocFailed};
+use std::error::Error;
+use std::fmt;
+
+/// The builders, by the type that they make. A number tells a builder's errors from those of the others.
+pub mod of {
+    pub const ATTR_TYPE: u8 = 0;
+
+    pub const NLATTR: u8 = 1;
+
+    pub const RTATTR: u8 = 2;
+}
+
+/// Why a builder, known by the number `OF`, made no value.
+#[derive(Debug, Drop)]
+pub enum BuildError<const OF: u8> {
+    /// The field of this name was not given.
+    UninitializedField(&'static str),
+    /// No value can be made of the fields, in words.
+    ValidationError(&'static str),
+    /// Memory ran out.
+    Memory,
+}
+
+impl<const OF: u8> fmt::Display for BuildError<OF> {
+    ghost use Rattle.neli_attr.specs.Builders.{error_text};
+
+    ghost output = { λ e. Some (error_text e) };
+
+    fn fmt<W: fmt::Write>(&self, f: &mut fmt::Formatter<W>) -> fmt::Result {
+        match self {
+            BuildError::UninitializedField(name) => write!(f, "`{name}` must be initialized"),
+            BuildError::ValidationError(text) => write!(f, "{text}"),
+            BuildError::Memory => write!(f, "Out of memory"),
+        }
+    }
+}
+
+impl<const OF: u8> Error for BuildError<OF> {}
+
+impl<const OF: u8> From<UninitializedFieldError> for BuildError<OF> {
+    ghost use Rattle.std.specs.Prelude.{◌≡◌};
+    ghost use Rattle.neli_wire.specs.Texts.{name_of};
+    ghost use Rattle.neli_attr.specs.Builders.{IsMissing};
+
+    ghost from_gives = { λ error e. IsMissing (name_of error) e };
+
+    fn from(error: UninitializedFieldError) -> BuildError<OF> {
+        BuildError::UninitializedField(error.field_name())
+    }
+}
+
+impl<const OF: u8> From<SerError> for BuildError<OF> {
+    ghost use Rattle.neli_attr.specs.Builders.{IsUnwritten};
+
+    ghost from_gives = { IsUnwritten };
+
+    /// A payload that was not written. Want of memory stays want of memory.
+    fn from(error: SerError) -> BuildError<OF> {
+        match error {
+            SerError::Memory => BuildError::Memory,
+            _ => BuildError::ValidationError("Could not convert payload to binary representation"),
+        }
+    }
+}
+
+impl<const OF: u8> From<NoMemory> for BuildError<OF> {
+    ghost use Rattle.neli_attr.specs.Builders.{IsMemory};
+
+    ghost from_gives = { λ _ e. IsMemory e };
+
+    fn from(_error: NoMemory) -> BuildError<OF> {
+        BuildError::Memory
+    }
+}
+
+impl<const OF: u8> From<AllocError> for BuildError<OF> {
+    ghost use Rattle.neli_attr.specs.Builders.{IsMemory};
+
+    ghost from_gives = { λ _ e. IsMemory e };
+
+    fn from(_error: AllocError) -> BuildError<OF> {
+        BuildError::Memory
+    }
+}
+
+impl<const OF: u8, T: Drop> From<AllocFailed<T>> for BuildError<OF> {
+    ghost use Rattle.neli_attr.specs.Builders.{IsMemory};
+
+    ghost from_gives = { λ _ e. IsMemory e };
+
+    fn from(_error: AllocFailed<T>) -> BuildError<OF> {
+        BuildError::Memory
+    }
+}

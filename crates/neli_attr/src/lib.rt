@@ -1,0 +1,28 @@
+//! Attributes: a length, a type and a payload, padded to four bytes.
+#![tactic(auto)]
+
+mod attr_handle;
+mod attr_type;
+mod attribute;
+mod buffer;
+mod builders;
+mod frame;
+mod genl_buffer;
+mod genl_handle;
+pub mod laws;
+mod nlattr;
+mod rt_buffer;
+mod rt_handle;
+mod rtattr;
+
+pub use attr_handle::{AttrHandle, AttrSlice};
+pub use attr_type::{AttrType, AttrTypeBuilder, AttrTypeBuilderError};
+pub use attribute::Attribute;
+pub use buffer::Buffer;
+pub use builders::{BuildError, of};
+pub use genl_buffer::GenlBuffer;
+pub use genl_handle::GenlAttrHandle;
+pub use nlattr::{Nlattr, NlattrBuilder, NlattrBuilderError};
+pub use rt_buffer::RtBuffer;
+pub use rt_handle::RtAttrHandle;
+pub use rtattr::{Rtattr, RtattrBuilder, RtattrBuilderError};

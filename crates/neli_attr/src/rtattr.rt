@@ -1,0 +1,254 @@
+//! Routing attributes.
+
+ghost use Rattle.std.specs.Prelude.{◌≡◌, ◌+◌, ◌<◌, ℕ, List, Some, None, Ok, IfOk, IfErr, OnOk, OnErr, length, option_map, min};
+ghost use Rattle.neli_wire.specs.Frames.{framed, framed_takes};
+ghost use Rattle.neli_wire.specs.Reading.{Refuses};
+ghost use Rattle.neli_wire.specs.Sizes.{align};
+ghost use Rattle.neli_wire.specs.Writing.{IsRefused, appended};
+ghost use Rattle.neli_attr.specs.Attributes.{Attr, attr, attribute, attribute_payload, attribute_wire};
+ghost use Rattle.neli_attr.specs.AttributeLaws.{attribute-local, attribute-no_memory, attribute_wire-length, attribute_wire-no_memory};
+ghost use Rattle.neli_attr.specs.Lookup.{attrs_in};
+ghost use Rattle.neli_attr.specs.Builders.{IsWhyNot};
+ghost use Rattle.neli_attr.specs.Rtattr.{rtattr_built, rtattr_list, rtattr_texts, with_bytes};
+
+use crate::attribute::read_borrowed;
+use crate::frame::{
+    HEADER_SIZE, length_with, nested_text, payload_text, read_attribute, size_with,
+    write_attribute, written,
+};
+use crate::{AttrHandle, Attribute, Buffer, BuildError, RtAttrHandle, RtBuffer, of};
+use neli_consts_rta::RtaType;
+use neli_wire::{
+    Cursor, DeError, FromBytes, FromBytesWithInput, FromBytesWithInputBorrowed, Header, NoMemory,
+    SerError, Size, ToBytes, UninitializedFieldError, padded_length,
+};
+use std::alloc::Global;
+
+/// An attribute of routing netlink: all 16 bits of its type are the number.
+///
+/// On the wire it is a length of two bytes, which counts these four and the payload and not the padding,
+/// a type of two bytes, the payload, and zeros up to a multiple of four (`linux/rtnetlink.h`, `struct rtattr`).
+#[derive(Debug, Drop)]
+pub struct Rtattr<T, P> {
+    rta_len: u16,
+    rta_type: T,
+    rta_payload: P,
+}
+
+impl<T, P> Rtattr<T, P> {
+    /// The length in bytes of the header and the payload, as it was read or computed.
+    pub fn rta_len(&self) -> &u16
+        ensures { result.now ≡ self.now.rta_len }
+    {
+        &self.rta_len
+    }
+
+    /// The type.
+    pub fn rta_type(&self) -> &T
+        ensures { result.now ≡ self.now.rta_type }
+    {
+        &self.rta_type
+    }
+
+    /// The payload.
+    pub fn rta_payload(&self) -> &P
+        ensures { result.now ≡ self.now.rta_payload }
+    {
+        &self.rta_payload
+    }
+}
+
+impl<T: RtaType> Rtattr<T, Buffer> {
+    /// The attribute with another one behind what its payload holds, and the length computed anew.
+    ///
+    /// Refused first with the refusal of the nested attribute; then with a `SerError::Msg` where the
+    /// length passes its field. Want of memory may stand in place of either. A refusal gives the
+    /// attribute up.
+    pub fn nest<S: RtaType, P: ToBytes>(self, attr: &Rtattr<S, P>) -> Result<Self, SerError>
+        ensures payload { IfOk result (λ a. attribute_payload (appended self.rta_payload (attribute_wire attr.now.rta_len (S.wire_number attr.now.rta_type) (P.wire attr.now.rta_payload))) ≡ Ok a.rta_payload) }
+        ensures nested { IfOk result (λ a. a ≡ with_bytes self a.rta_payload) }
+        ensures refused { IfErr result (IsRefused (attribute_payload (appended self.rta_payload (attribute_wire attr.now.rta_len (S.wire_number attr.now.rta_type) (P.wire attr.now.rta_payload))))) }
+    {
+        let (rta_len, rta_payload) = nested_text(self.rta_payload, attr)?;
+        Ok(Rtattr {
+            rta_len,
+            rta_type: self.rta_type,
+            rta_payload,
+        })
+    }
+
+    /// The attributes that the payload lists.
+    ///
+    /// Refused as the payload is refused as a list of attributes.
+    pub fn get_attr_handle<R: RtaType>(&self, alloc: Global) -> Result<RtAttrHandle<'_, R>, DeError>
+        ensures value { IfOk result (λ h. rtattr_list R.wire_value self.now.rta_payload ≡ Ok (rtattr_texts (attrs_in h))) }
+        ensures refused { IfErr result (Refuses (rtattr_list R.wire_value self.now.rta_payload) (0 < length self.now.rta_payload)) }
+    {
+        let attrs: RtBuffer<R, Buffer> = self.get_payload_as_with_len(alloc)?;
+        Ok(AttrHandle::new(attrs))
+    }
+
+    /// The value that the whole payload spells, made of the payload's own bytes: it lives as long as the
+    /// attribute. It takes no memory. The error is a `DeError`, or what it is converted into.
+    ///
+    /// Refused as the type's own read refuses these bytes.
+    pub fn get_payload_as_with_len_borrowed<'a, R, E>(&'a self) -> Result<R, E>
+    where
+        R: FromBytesWithInputBorrowed<'a>,
+        E: From<DeError>,
+        ensures value { IfOk result (λ v. R.read self.now.rta_payload ≡ Ok (R.view v)) }
+        ensures refused { IfErr result (λ e. (d : DeError) × E.from_gives d e × Refuses (R.read self.now.rta_payload) ⊥ d) }
+    {
+        read_borrowed(&self.rta_payload)
+    }
+
+    /// An equal attribute.
+    ///
+    /// Refused only for want of memory.
+    pub fn try_clone(&self) -> Result<Self, NoMemory>
+        ensures { IfOk result (λ a. a ≡ self.now) }
+    {
+        Ok(Rtattr {
+            rta_len: self.rta_len,
+            rta_type: self.rta_type,
+            rta_payload: self.rta_payload.try_clone()?,
+        })
+    }
+}
+
+impl<T: RtaType> Attribute<T> for Rtattr<T, Buffer> {
+    ghost payload_of = { λ a. a.rta_payload };
+
+    ghost with_payload = { with_bytes };
+
+    fn payload(&self) -> &Buffer {
+        &self.rta_payload
+    }
+
+    fn set_payload<P: ToBytes>(&mut self, alloc: Global, payload: &P) -> Result<(), SerError> {
+        let (rta_len, rta_payload) = payload_text(alloc, payload)?;
+        self.rta_len = rta_len;
+        self.rta_payload = rta_payload;
+        Ok(())
+    }
+}
+
+impl<T: RtaType, P: Size> Size for Rtattr<T, P> {
+    ghost unpadded = { λ a. 4 + P.written a.rta_payload };
+
+    ghost written = { λ a. align (4 + P.written a.rta_payload) };
+
+    fn unpadded_size(&self) -> usize {
+        size_with(&self.rta_payload)
+    }
+
+    fn written_size(&self) -> usize {
+        padded_length(self.unpadded_size())
+    }
+}
+
+impl<T: RtaType, P: ToBytes> ToBytes for Rtattr<T, P> {
+    ghost wire = { λ a. attribute_wire a.rta_len (T.wire_number a.rta_type) (P.wire a.rta_payload) };
+
+    ghost length_is = { λ a. attribute_wire-length a.rta_len (T.wire_number a.rta_type) (P.Size.written a.rta_payload) (P.wire a.rta_payload) (P.length_is a.rta_payload) };
+
+    ghost no_memory = { λ a. attribute_wire-no_memory a.rta_len (T.wire_number a.rta_type) (P.wire a.rta_payload) (P.no_memory a.rta_payload) };
+
+    fn to_bytes(&self, buffer: &mut Vec<u8>) -> Result<(), SerError> {
+        write_attribute(self.rta_len, &self.rta_type, &self.rta_payload, buffer)
+    }
+}
+
+impl<T: RtaType, P: FromBytesWithInput> FromBytes for Rtattr<T, P> {
+    ghost Value = { Attr T P.Value };
+
+    ghost view = { λ a. attr a.rta_len a.rta_type (P.view a.rta_payload) };
+
+    ghost read = { framed (attribute T.wire_value P.read) };
+
+    ghost takes_memory = { framed_takes (attribute T.wire_value P.read) (λ _. P.takes_memory) };
+
+    ghost local = { attribute-local T.wire_value P.read };
+
+    ghost no_memory = { attribute-no_memory T.wire_value P.read P.no_memory };
+
+    fn from_bytes(alloc: Global, cursor: &mut Cursor<'_>) -> Result<Self, DeError> {
+        let (rta_len, rta_type, rta_payload) = read_attribute(alloc, cursor)?;
+        Ok(Rtattr {
+            rta_len,
+            rta_type,
+            rta_payload,
+        })
+    }
+}
+
+impl<T: RtaType, P> Header for Rtattr<T, P> {
+    ghost header = { 4 };
+
+    fn header_size() -> usize {
+        HEADER_SIZE
+    }
+}
+
+/// Why no routing attribute was built.
+pub type RtattrBuilderError = BuildError<{ of::RTATTR }>;
+
+/// A builder of routing attributes. The payload's wire text becomes the attribute's payload.
+#[derive(Debug, Drop)]
+pub struct RtattrBuilder<T, P> {
+    rta_type: Option<T>,
+    rta_payload: Option<P>,
+}
+
+impl<T, P> Default for RtattrBuilder<T, P> {
+    ghost is_default = { λ b. b ≡ record { rta_type = None; rta_payload = None } };
+
+    fn default() -> Self {
+        RtattrBuilder {
+            rta_type: None,
+            rta_payload: None,
+        }
+    }
+}
+
+impl<T: RtaType, P: ToBytes + Drop> RtattrBuilder<T, P> {
+    /// The type.
+    pub fn rta_type(mut self, value: T) -> Self
+        ensures { result ≡ record self { rta_type = Some value } }
+    {
+        self.rta_type = Some(value);
+        self
+    }
+
+    /// What the payload is the wire text of.
+    pub fn rta_payload(mut self, value: P) -> Self
+        ensures { result ≡ record self { rta_payload = Some value } }
+    {
+        self.rta_payload = Some(value);
+        self
+    }
+
+    /// The attribute of what was given, with the length of its header and payload.
+    ///
+    /// Refused where a field is missing, the payload has no wire text, or the length passes 65535.
+    pub fn build(self, alloc: Global) -> Result<Rtattr<T, Buffer>, RtattrBuilderError>
+        ensures built { IfOk result (λ a. rtattr_built P.wire self ≡ Ok a) }
+        ensures refused { IfErr result (IsWhyNot (rtattr_built P.wire self)) }
+    {
+        let rta_type = self
+            .rta_type
+            .ok_or(UninitializedFieldError::new("rta_type"))?;
+        let payload = self
+            .rta_payload
+            .ok_or(UninitializedFieldError::new("rta_payload"))?;
+        let rta_payload = written(alloc, &payload)?;
+        let rta_len = length_with(&rta_payload).ok_or(BuildError::ValidationError(
+            "Length does not fit its field",
+        ))?;
+        Ok(Rtattr {
+            rta_len,
+            rta_type,
+            rta_payload,
+        })
+    }
+}
