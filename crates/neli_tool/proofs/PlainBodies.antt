@@ -4,13 +4,14 @@ use Rattle.std.proofs.lemmas.Bool.{le-ltb, lt-ltb}
 use Rattle.byteorder.specs.Endian.{little_number}
 use Rattle.neli_wire.specs.declared.errors.DeError.{DeError}
 use Rattle.neli_wire.specs.declared.errors.DeError.TheVariants as de
+use Rattle.neli_wire.specs.Frames.{framed}
 use Rattle.neli_wire.specs.Sizes.{align}
 use Rattle.neli_wire.specs.Reading.{Reading, ◌>>=◌, elements, elements_by, map_refusal, within, value_at, short}
 use Rattle.neli_msg.specs.declared.payload.NlPayload.{NlPayload}
 use Rattle.neli_msg.specs.declared.payload.NlPayload.TheVariants.{Payload}
 use Rattle.neli_msg.specs.Message.{Header, Message}
 use Rattle.neli_msg.specs.Payload.{payload_at}
-use Rattle.neli_msg.specs.Frames.{header_in, body_in, message_at}
+use Rattle.neli_msg.specs.Frames.{header_in, message_at}
 use Rattle.neli_msg.specs.Cuts.{Cuts, cut_of}
 use Rattle.neli_msg.specs.CutLaws.{cut_of-Cuts}
 use Rattle.neli_tool.specs.declared.line.Ending.{Ending}
@@ -20,29 +21,8 @@ use Rattle.neli_tool.specs.Listing.{Raw, raw_cut, ending_of, Lists}
 abbrev done : {A : Type 0} → A → Result A DeError
 done x = Ok x
 
--- a byte is always read
-one_byte : (b : ℕ) (s : List ℕ) → value_at 1 (little_number 1) (b ∷ s) ≡ done (little_number 1 (b ∷ []), s)
-one_byte b s =
-    let enough : ltb (suc (length s)) 1 ≡ false = le-ltb _ _ (omega arith) in
-    rw enough refl
-
-bytes_by : (stuck : DeError) (fuel : ℕ) (s : List ℕ) → length s ≤ fuel → (v : List ℕ) × (elements_by (value_at 1 (little_number 1)) stuck fuel s ≡ Ok v)
-unfolding elements_by
-bytes_by stuck zero [] le = ([], refl)
-bytes_by stuck (suc fuel) [] le = ([], refl)
-bytes_by stuck zero (b ∷ s) le = absurd (omega arith)
-bytes_by stuck (suc fuel) (b ∷ s) le =
-    let later = bytes_by stuck fuel s (omega arith) in
-    let fewer : ltb (length s) (suc (length s)) ≡ true = lt-ltb _ _ (omega arith) in
-    (little_number 1 (b ∷ []) ∷ later.0, rw (one_byte b s, fewer, later.1) refl)
-
 abbrev raw_payload : Header ℕ → List ℕ → Result (NlPayload (List ℕ)) DeError
-raw_payload = payload_at (elements (value_at 1 (little_number 1)))
-
-payload_is : (h : Header ℕ) (body : List ℕ) → (p : NlPayload (List ℕ)) × (raw_payload h body ≡ Ok p)
-payload_is h body =
-    let all = bytes_by (de.InvalidInput (length body)) (length body) body (omega arith) in
-    (Payload all.0, rw all.1 refl)
+raw_payload = payload_at Ok
 
 -- a refusal that has a line of its own
 abbrev IsNamed : DeError → Type 0
@@ -54,15 +34,15 @@ guard-named true d e x is later h = let same : d ≡ e = cc in subst IsNamed sam
 guard-named false d e x is later h = later h
 
 message-named : (s : List ℕ) (e : DeError) → message_at (λ n. n) raw_payload s ≡ Err e → IsNamed e
-unfolding message_at
+unfolding framed
 message-named s e =
     let h : Header ℕ = header_in (λ n. n) s in
-    let p = payload_is h (body_in h.len s) in
+    let p : NlPayload (List ℕ) = Payload (take (h.len - 16) (drop 16 s)) in
     let short-named : IsNamed short = λ f. cc in
     guard-named (ltb (length s) 16) short e _ short-named
     (guard-named (ltb h.len 16) (de.InvalidInput h.len) e _ (λ f. cc)
     (guard-named (ltb (length s) h.len) (de.InvalidInput (h.len - 16)) e _ (λ f. cc)
-    (rw p.1 (guard-named (ltb (length s) (align h.len)) short e (done {A = Raw × List ℕ} (record { header = h; payload = p.0 }, drop (align h.len) s)) short-named (λ f. absurd cc)))))
+    (guard-named (ltb (length s) (align h.len)) short e (done {A = Raw × List ℕ} ((h, p), drop (align h.len) s)) short-named (λ f. absurd cc))))
 
 cut-named : (b : List ℕ) (ms : List Raw) (e : DeError) → Cuts (λ n. n) raw_payload b ms (Some e) → IsNamed e
 cut-named b [] e c = message-named b e c.1

@@ -1,13 +1,11 @@
 -- What the program prints of a datagram.
-use Rattle.std.specs.Prelude.{◌≡◌, ℕ, ◌-◌, List, [], ◌∷◌, ◌++◌, length, take, codes, replicate, Option, Some, None, false, IfSome, ⊤}
+use Rattle.std.specs.Prelude.{◌≡◌, ℕ, ◌-◌, List, [], ◌∷◌, ◌++◌, length, take, codes, replicate, Ok, Option, Some, None, false, IfSome, ⊤}
 use Rattle.std.specs.Io.KnownBytes.{Appends, Keeps}
 use Rattle.std.specs.List.{flat_map}
 use Rattle.std.specs.Fmt.{decimal, digits}
-use Rattle.byteorder.specs.Endian.{little_number}
 use Rattle.neli_wire.specs.declared.errors.DeError.{DeError}
 use Rattle.neli_wire.specs.declared.errors.DeError.TheVariants as de
 use Rattle.std.specs.declared.io.ErrorKind.TheVariants.{UnexpectedEof}
-use Rattle.neli_wire.specs.Reading.{elements, value_at}
 use Rattle.neli_msg.specs.declared.errors.SocketError.{SocketError}
 use Rattle.neli_msg.specs.declared.errors.SocketError.TheVariants as socket
 use Rattle.neli_msg.specs.declared.payload.NlPayload.{NlPayload}
@@ -62,7 +60,7 @@ ending Memory = codes "fault: memory\n"
 
 -- the cut of a datagram into such messages
 abbrev pub raw_cut : List ℕ → Cut ℕ (NlPayload (List ℕ))
-raw_cut = cut_of (λ n. n) (payload_at (elements (value_at 1 (little_number 1))))
+raw_cut = cut_of (λ n. n) (payload_at Ok)
 
 -- a line for each message
 abbrev pub lines_of : List Raw → List ℕ

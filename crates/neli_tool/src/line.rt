@@ -3,11 +3,12 @@
 ghost use Rattle.std.specs.Prelude.{Some};
 ghost use Rattle.neli_tool.specs.Listing.{ending};
 
+use neli_attr::Buffer;
 use neli_msg::{NlPayload, Nlmsghdr};
 use std::fmt;
 
 /// A message as it was read: its type a number, its payload bytes.
-pub type RawMessage = Nlmsghdr<u16, Vec<u8>>;
+pub type RawMessage = Nlmsghdr<u16, Buffer>;
 
 /// A number as four lower-case hexadecimal digits.
 #[derive(Clone, Copy)]
@@ -30,11 +31,11 @@ impl fmt::Display for FourDigits {
 pub struct Line<'m>(pub &'m RawMessage);
 
 impl fmt::Display for Line<'_> {
-    ghost use Rattle.std.specs.Prelude.{Some, map};
+    ghost use Rattle.std.specs.Prelude.{Some};
     ghost use Rattle.neli_msg.specs.View.{message_of};
     ghost use Rattle.neli_tool.specs.Listing.{line_of};
 
-    ghost output = { λ l. Some (line_of (message_of (λ v. map (λ b. b) v.items) l.0.now)) };
+    ghost output = { λ l. Some (line_of (message_of (λ b. b) l.0.now)) };
 
     fn fmt<W: fmt::Write>(&self, f: &mut fmt::Formatter<W>) -> fmt::Result {
         let message = self.0;

@@ -1,6 +1,6 @@
 //! The listing of a datagram.
 
-ghost use Rattle.std.specs.Prelude.{◌≡◌, ◌≢◌, ◌++◌, ◌⊎◌, codes, OnOk, OnErr, map};
+ghost use Rattle.std.specs.Prelude.{◌≡◌, ◌≢◌, ◌++◌, ◌⊎◌, codes, OnOk, OnErr};
 ghost use Rattle.std.specs.Io.KnownBytes.{Appends};
 ghost use Rattle.neli_msg.specs.View.{message_of};
 ghost use Rattle.neli_tool.specs.declared.line.Ending.TheVariants as line;
@@ -10,6 +10,7 @@ ghost use Rattle.neli_tool.specs.Listing.{Lists, Prints, ending, ending_by, line
 use crate::input::{InputError, read_whole};
 use crate::line::{Ending, Line, RawMessage};
 use crate::status::Status;
+use neli_attr::Buffer;
 use neli_msg::{NlBufferIter, SocketError};
 use neli_wire::DeError;
 use std::alloc::{AllocError, Global};
@@ -26,7 +27,7 @@ pub struct Listing {
 
 /// Appends the line of a message. A refusal, for want of memory, leaves the lines as they were.
 fn append_line(alloc: Global, message: &RawMessage, lines: &mut Vec<u8>) -> Result<(), AllocError>
-    ensures ok { OnOk result (lines.new.items ≡ lines.old.items ++ (line_of (message_of (λ v. map (λ b. b) v.items) message.now) ++ codes "\n")) }
+    ensures ok { OnOk result (lines.new.items ≡ lines.old.items ++ (line_of (message_of (λ b. b) message.now) ++ codes "\n")) }
     ensures err { OnErr result (lines.new.items ≡ lines.old.items) }
 {
     let line = Line(message);
@@ -55,7 +56,7 @@ pub fn listing_of(alloc: Global, bytes: &[u8]) -> Listing
     ensures named { result.ending ≢ line.Other }
 {
     let mut lines = Vec::new(alloc);
-    let mut messages: NlBufferIter<'_, u16, Vec<u8>> = NlBufferIter::new(bytes);
+    let mut messages: NlBufferIter<'_, u16, Buffer> = NlBufferIter::new(bytes);
     while let Some(item) = messages.next(alloc) {
         match item {
             Ok(message) => {
