@@ -1,8 +1,8 @@
 -- The numbers of `CtrlAttrMcastGrp`.
-use Rattle.std.specs.Prelude.{◌≡◌, ℕ, List, [], ◌∷◌, refl}
+use Rattle.std.specs.Prelude.{◌≡◌, ℕ, Bool, true, false, List, [], ◌∷◌, refl}
 use Rattle.neli_wire.specs.Constants.{first_with, first_with-number}
-use Rattle.neli_consts.specs.declared.groups.CtrlAttrMcastGrp.{CtrlAttrMcastGrp}
-use Rattle.neli_consts.specs.declared.groups.CtrlAttrMcastGrp.TheVariants.{Unspec, Name, Id, UnrecognizedConst}
+use Rattle.neli_consts.specs.declared.genl.CtrlAttrMcastGrp.{CtrlAttrMcastGrp}
+use Rattle.neli_consts.specs.declared.genl.CtrlAttrMcastGrp.TheVariants.{Unspec, Name, Id, UnrecognizedConst}
 
 -- the number of each variant
 abbrev pub ctrl_attr_mcast_grp_number : CtrlAttrMcastGrp → ℕ
@@ -19,6 +19,11 @@ ctrl_attr_mcast_grp_variants =
 -- the first variant with a number, else the number without a name
 abbrev pub ctrl_attr_mcast_grp_of : ℕ → CtrlAttrMcastGrp
 ctrl_attr_mcast_grp_of = first_with ctrl_attr_mcast_grp_number ctrl_attr_mcast_grp_variants UnrecognizedConst
+
+-- whether a value is a number without a name
+abbrev pub ctrl_attr_mcast_grp_is_unrecognized : CtrlAttrMcastGrp → Bool
+ctrl_attr_mcast_grp_is_unrecognized (UnrecognizedConst n) = true
+ctrl_attr_mcast_grp_is_unrecognized v = false
 
 -- what a number is read as has that number
 pub ctrl_attr_mcast_grp_of-number : (n : ℕ) → ctrl_attr_mcast_grp_number (ctrl_attr_mcast_grp_of n) ≡ n

@@ -1,17 +1,17 @@
-//! Attributes that are known by their place.
+//! Attributes that are numbered instead of named.
 
-ghost use Rattle.std.specs.Prelude.{refl};
+ghost use Rattle.std.specs.Prelude.{◌≡◌};
+ghost use Rattle.neli_consts.specs.Index.{index_number, index_of, index_of-number};
 
 use neli_wire::Constant;
 
-/// A number that stands for itself.
+/// The place of an attribute in a list whose elements have no names, as the groups inside
+/// [`crate::CtrlAttr::McastGroups`]. Every number is one.
 #[derive(Clone, Copy, Debug, PartialEq, Eq)]
 pub struct Index(u16);
 
 impl From<u16> for Index {
-    ghost use Rattle.std.specs.Prelude.{◌≡◌};
-
-    ghost from_gives = { λ number value. value ≡ record { 0 = number } };
+    ghost from_gives = { λ number value. value ≡ index_of number };
 
     fn from(number: u16) -> Index {
         Index(number)
@@ -19,11 +19,17 @@ impl From<u16> for Index {
 }
 
 impl From<Index> for u16 {
-    ghost use Rattle.std.specs.Prelude.{◌≡◌};
-
-    ghost from_gives = { λ value number. number ≡ value.0 };
+    ghost from_gives = { λ value number. number ≡ index_number value };
 
     fn from(value: Index) -> u16 {
+        value.0
+    }
+}
+
+impl From<&Index> for u16 {
+    ghost from_gives = { λ value number. number ≡ index_number value.now };
+
+    fn from(value: &Index) -> u16 {
         value.0
     }
 }
@@ -31,17 +37,17 @@ impl From<Index> for u16 {
 impl Constant for Index {
     type Number = u16;
 
-    ghost wire_number = { λ v. v.0 };
+    ghost wire_number = { index_number };
 
-    ghost wire_value = { λ n. record { 0 = n } };
+    ghost wire_value = { index_of };
 
     fn from_wire(number: u16) -> Index {
-        Index(number)
+        Index::from(number)
     }
 
     fn to_wire(&self) -> u16 {
-        self.0
+        u16::from(self)
     }
 
-    ghost back_to_number = { λ n _. refl };
+    ghost back_to_number = { λ n _. index_of-number n };
 }

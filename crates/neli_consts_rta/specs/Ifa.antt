@@ -1,8 +1,8 @@
 -- The numbers of `Ifa`.
-use Rattle.std.specs.Prelude.{◌≡◌, ℕ, List, [], ◌∷◌, refl}
+use Rattle.std.specs.Prelude.{◌≡◌, ℕ, Bool, true, false, List, [], ◌∷◌, refl}
 use Rattle.neli_wire.specs.Constants.{first_with, first_with-number}
-use Rattle.neli_consts_rta.specs.declared.ifa.Ifa.{Ifa}
-use Rattle.neli_consts_rta.specs.declared.ifa.Ifa.TheVariants.{Unspec, Address, Local, Label, Broadcast, Anycast, Cacheinfo, Multicast, Flags, UnrecognizedConst}
+use Rattle.neli_consts_rta.specs.declared.addresses.Ifa.{Ifa}
+use Rattle.neli_consts_rta.specs.declared.addresses.Ifa.TheVariants.{Unspec, Address, Local, Label, Broadcast, Anycast, Cacheinfo, Multicast, Flags, UnrecognizedConst}
 
 -- the number of each variant
 abbrev pub ifa_number : Ifa → ℕ
@@ -25,6 +25,11 @@ ifa_variants =
 -- the first variant with a number, else the number without a name
 abbrev pub ifa_of : ℕ → Ifa
 ifa_of = first_with ifa_number ifa_variants UnrecognizedConst
+
+-- whether a value is a number without a name
+abbrev pub ifa_is_unrecognized : Ifa → Bool
+ifa_is_unrecognized (UnrecognizedConst n) = true
+ifa_is_unrecognized v = false
 
 -- what a number is read as has that number
 pub ifa_of-number : (n : ℕ) → ifa_number (ifa_of n) ≡ n

@@ -1,2 +1,10 @@
+pub mod Frattr
 pub mod Ifa
+pub mod Ifla
+pub mod IflaInfo
+pub mod IflaVlan
+pub mod IflaVlanQos
+pub mod Nda
 pub mod Rta
+pub mod RtaTypeWrapper
+pub mod Tca

@@ -1,0 +1,9 @@
+pub mod Af
+pub mod Arphrd
+pub mod FrAct
+pub mod RtAddrFamily
+pub mod RtScope
+pub mod RtTable
+pub mod Rtm
+pub mod Rtn
+pub mod Rtprot

@@ -1,0 +1,32 @@
+-- The numbers of `Rtprot`.
+use Rattle.std.specs.Prelude.{◌≡◌, ℕ, Bool, true, false, List, [], ◌∷◌, refl}
+use Rattle.neli_wire.specs.Constants.{first_with, first_with-number}
+use Rattle.neli_consts_rt.specs.declared.routes.Rtprot.{Rtprot}
+use Rattle.neli_consts_rt.specs.declared.routes.Rtprot.TheVariants.{Unspec, Redirect, Kernel, Boot, Static, UnrecognizedConst}
+
+-- the number of each variant
+abbrev pub rtprot_number : Rtprot → ℕ
+rtprot_number Unspec = 0
+rtprot_number Redirect = 1
+rtprot_number Kernel = 2
+rtprot_number Boot = 3
+rtprot_number Static = 4
+rtprot_number (UnrecognizedConst n) = n
+
+-- the variants, in their order
+abbrev pub rtprot_variants : List Rtprot
+rtprot_variants =
+    Unspec ∷ Redirect ∷ Kernel ∷ Boot ∷ Static ∷ []
+
+-- the first variant with a number, else the number without a name
+abbrev pub rtprot_of : ℕ → Rtprot
+rtprot_of = first_with rtprot_number rtprot_variants UnrecognizedConst
+
+-- whether a value is a number without a name
+abbrev pub rtprot_is_unrecognized : Rtprot → Bool
+rtprot_is_unrecognized (UnrecognizedConst n) = true
+rtprot_is_unrecognized v = false
+
+-- what a number is read as has that number
+pub rtprot_of-number : (n : ℕ) → rtprot_number (rtprot_of n) ≡ n
+rtprot_of-number = first_with-number rtprot_number rtprot_variants UnrecognizedConst (λ _. refl)

@@ -1,0 +1,12 @@
+pub mod AddrFamily
+pub mod CnMsgIdx
+pub mod CnMsgVal
+pub mod LogCmd
+pub mod LogCopyMode
+pub mod Msg
+pub mod NetfilterMsg
+pub mod NfLogAttr
+pub mod NfLogCfg
+pub mod NlFamily
+pub mod ProcCnMcastOp
+pub mod ProcEventType
