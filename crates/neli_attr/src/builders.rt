@@ -12,13 +12,48 @@ use std::alloc::{AllocError, AllocFailed};
 use std::error::Error;
 use std::fmt;
 
-/// The builders, by the type that they make. A number tells a builder's errors from those of the others.
+/// The builders, by the type that they make. A number tells a builder's errors from those of the
+/// others; a builder outside these crates takes one from 128 on.
 pub mod of {
     pub const ATTR_TYPE: u8 = 0;
 
     pub const NLATTR: u8 = 1;
 
     pub const RTATTR: u8 = 2;
+
+    pub const GENLMSGHDR: u8 = 3;
+
+    pub const CN_MSG: u8 = 4;
+
+    pub const PROC_EVENT_HEADER: u8 = 5;
+
+    pub const IFINFOMSG: u8 = 6;
+
+    pub const IFADDRMSG: u8 = 7;
+
+    pub const NDMSG: u8 = 8;
+
+    pub const NDA_CACHEINFO: u8 = 9;
+
+    pub const IFLA_VLAN_FLAGS: u8 = 10;
+
+    pub const IFLA_VLAN_QOS_MAPPING: u8 = 11;
+
+    pub const RTGENMSG: u8 = 12;
+
+    pub const RTMSG: u8 = 13;
+
+    pub const TCMSG: u8 = 14;
+
+    pub const FIBMSG: u8 = 15;
+
+    pub const NLMSGHDR_ACK: u8 = 16;
+
+    pub const NLMSGHDR_ERR: u8 = 17;
+
+    pub const NLMSGERR: u8 = 18;
+
+    pub const NLMSGHDR: u8 = 19;
 }
 
 /// Why a builder, known by the number `OF`, made no value.

@@ -148,11 +148,14 @@ impl GenlBuffer<u16, Buffer> {
     /// A handle of copies of these attributes, of which each type is what its number means.
     ///
     /// Refused only for want of memory.
-    pub fn get_typed_attr_handle<T: NlAttrType>(&self) -> Result<GenlAttrHandle<'_, T>, DeError>
+    pub fn get_typed_attr_handle<T: NlAttrType>(
+        &self,
+        alloc: Global,
+    ) -> Result<GenlAttrHandle<'_, T>, DeError>
         ensures value { IfOk result (λ h. attrs_in h ≡ map (retyped T.wire_value) self.now) }
         ensures memory { IfErr result (λ e. e ≡ DeError.Memory) }
     {
-        let mut attrs = Vec::new(*self.attrs.allocator());
+        let mut attrs = Vec::new(alloc);
         for attr in &self.attrs {
             attrs.push(attr.retyped()?)?;
         }

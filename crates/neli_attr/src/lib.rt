@@ -11,9 +11,13 @@ mod genl_buffer;
 mod genl_handle;
 pub mod laws;
 mod nlattr;
+#[cfg(test)]
+mod recorded;
 mod rt_buffer;
 mod rt_handle;
 mod rtattr;
+#[cfg(test)]
+mod tests;
 
 pub use attr_handle::{AttrHandle, AttrSlice};
 pub use attr_type::{AttrType, AttrTypeBuilder, AttrTypeBuilderError};

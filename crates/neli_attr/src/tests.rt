@@ -1,0 +1,469 @@
+use crate::{
+    AttrHandle, AttrType, AttrTypeBuilder, AttrTypeBuilderError, Attribute, Buffer, GenlBuffer,
+    Nlattr, NlattrBuilder, NlattrBuilderError, RtBuffer, Rtattr, RtattrBuilder, RtattrBuilderError,
+};
+use neli_consts::{CtrlAttr, CtrlAttrMcastGrp, Index, NlAttrType};
+use neli_consts_rta::{Frattr, Ifa, Rta, RtaType};
+use neli_wire::{
+    Cursor, DeError, FromBytes, FromBytesWithInput, Header, SerError, Size, ToBytes,
+    UninitializedFieldError,
+};
+use std::alloc::Global;
+use std::io::ErrorKind;
+use std::process::Abort;
+use std::test::Fail;
+
+/// A generic attribute without flags.
+fn generic<T: NlAttrType, P: ToBytes + Drop>(
+    alloc: Global,
+    kind: T,
+    payload: P,
+) -> Result<Nlattr<T, Buffer>, Fail> {
+    let nla_type = AttrTypeBuilder::default().nla_type(kind).build()?;
+    Ok(
+        NlattrBuilder::default()
+            .nla_type(nla_type)
+            .nla_payload(payload)
+            .build(alloc)?,
+    )
+}
+
+/// A routing attribute.
+fn routing<T: RtaType, P: ToBytes + Drop>(
+    alloc: Global,
+    kind: T,
+    payload: P,
+) -> Result<Rtattr<T, Buffer>, Fail> {
+    Ok(
+        RtattrBuilder::default()
+            .rta_type(kind)
+            .rta_payload(payload)
+            .build(alloc)?,
+    )
+}
+
+/// Asserts that the value is written as these bytes.
+fn assert_written<T: ToBytes>(
+    rt: &impl Abort,
+    alloc: Global,
+    value: &T,
+    bytes: &[u8],
+) -> Result<(), Fail> {
+    let mut buffer = Vec::from_slice(alloc, b"..")?;
+    value.to_bytes(&mut buffer)?;
+    assert_eq!(rt; &buffer.as_slice()[2..], bytes);
+    assert_eq!(rt; value.written_size(), bytes.len());
+    Ok(())
+}
+
+/// The list of generic attributes that all of the bytes spell.
+fn generic_list<T: NlAttrType>(
+    alloc: Global,
+    bytes: &[u8],
+) -> Result<GenlBuffer<T, Buffer>, DeError> {
+    GenlBuffer::from_bytes_with_input(alloc, &mut Cursor::new(bytes), bytes.len())
+}
+
+/// The list of routing attributes that all of the bytes spell.
+fn routing_list<T: RtaType>(alloc: Global, bytes: &[u8]) -> Result<RtBuffer<T, Buffer>, DeError> {
+    RtBuffer::from_bytes_with_input(alloc, &mut Cursor::new(bytes), bytes.len())
+}
+
+// The frame of `struct rtattr` (the kernel's linux/rtnetlink.h).
+#[test]
+fn routing_attributes(rt: HostRuntime) -> Result<(), Fail> {
+    let alloc = rt.alloc();
+    assert_eq!(rt; Rtattr::<Rta, Buffer>::header_size(), 4);
+    let mut cursor = Cursor::new(&[4, 0, 0, 0]);
+    let empty: Rtattr<Rta, Buffer> = Rtattr::from_bytes(alloc, &mut cursor)?;
+    assert_eq!(rt; *empty.rta_len(), 4);
+    assert_eq!(rt; *empty.rta_type(), Rta::Unspec);
+    assert!(rt; empty.rta_payload().is_empty());
+    assert_eq!(rt; cursor.position(), 4);
+
+    let mut cursor = Cursor::new(&[3, 0, 0, 0]);
+    let short: Result<Rtattr<Rta, Buffer>, DeError> = Rtattr::from_bytes(alloc, &mut cursor);
+    assert!(rt; matches!(short, Err(DeError::InvalidInput(3))));
+    assert_eq!(rt; cursor.position(), 0);
+
+    let built = routing(alloc, Rta::Unspec, 0u8)?;
+    assert_eq!(rt; built.unpadded_size(), 5);
+    assert_eq!(rt; built.padded_size(), 8);
+    assert_written(&rt, alloc, &built, &[5, 0, 0, 0, 0, 0, 0, 0])?;
+    assert_written(&rt, alloc, &built.try_clone()?, &[5, 0, 0, 0, 0, 0, 0, 0])
+}
+
+// The first fault that holds, where several do.
+#[test]
+fn faults_of_one_attribute(rt: HostRuntime) -> Result<(), Fail> {
+    let rows: [(&[u8], Option<usize>); 7] = [
+        (&[], None),
+        (&[8, 0, 1], None),
+        (&[0, 0, 1, 0], Some(0)),
+        (&[3, 0, 1, 0, 9, 9, 9, 9], Some(3)),
+        (&[9, 0, 1, 0, 9, 9, 9, 9], Some(5)),
+        (&[255, 255, 1, 0], Some(65531)),
+        (&[5, 0, 1, 0, 9], None),
+    ];
+    for (bytes, input) in rows {
+        let mut cursor = Cursor::new(bytes);
+        let read: Result<Nlattr<u16, Buffer>, DeError> = Nlattr::from_bytes(
+            rt.alloc(),
+            &mut cursor,
+        );
+        match read {
+            Err(DeError::InvalidInput(n)) => assert_eq!(rt; input, Some(n), "at {bytes:?}"),
+            Err(DeError::Io(ErrorKind::UnexpectedEof)) => {
+                assert_eq!(rt; input, None, "at {bytes:?}");
+            }
+            _ => assert!(rt; false, "at {bytes:?}"),
+        }
+        assert_eq!(rt; cursor.position(), 0, "at {bytes:?}");
+    }
+    Ok(())
+}
+
+// A length of 65535 is the last that its field of 16 bits holds.
+#[test]
+fn lengths_at_the_limit(rt: HostRuntime) -> Result<(), Fail> {
+    let alloc = rt.alloc();
+    let longest = generic(alloc, 1u16, Buffer::from(vec![in alloc; 0u8; 65531]?))?;
+    assert_eq!(rt; *longest.nla_len(), 65535);
+    assert_eq!(rt; longest.padded_size(), 65536);
+
+    let too_long = NlattrBuilder::default()
+        .nla_type(AttrType::<u16>::from(1))
+        .nla_payload(Buffer::from(vec![in alloc; 0u8; 65532]?))
+        .build(alloc);
+    match too_long {
+        Err(NlattrBuilderError::ValidationError(text)) => {
+            assert_eq!(rt; text, "Length does not fit its field");
+        }
+        _ => assert!(rt; false),
+    }
+
+    let four = generic(alloc, 2u16, Buffer::from_slice(alloc, b"four")?)?;
+    let full = generic(alloc, 1u16, Buffer::from(vec![in alloc; 0u8; 65528]?))?;
+    match full.nest(&four) {
+        Err(SerError::Msg(text)) => {
+            assert_eq!(rt; text.to_string(alloc)?, "Length does not fit its field");
+        }
+        _ => assert!(rt; false),
+    }
+
+    let mut attr = generic(alloc, 1u16, 7u32)?;
+    let refused = attr.set_payload(alloc, &Buffer::from(vec![in alloc; 0u8; 65532]?));
+    assert!(rt; matches!(refused, Err(SerError::Msg(_))));
+    assert_written(&rt, alloc, &attr, &[8, 0, 1, 0, 7, 0, 0, 0])?;
+    attr.set_payload(alloc, &9u8)?;
+    assert_written(&rt, alloc, &attr, &[5, 0, 1, 0, 9, 0, 0, 0])
+}
+
+// The flags of the type field, `NLA_F_NESTED` and `NLA_F_NET_BYTEORDER` (the kernel's linux/netlink.h).
+#[test]
+fn type_fields(rt: HostRuntime) -> Result<(), Fail> {
+    let rows: [(u16, bool, bool, CtrlAttr); 5] = [
+        (0x0002, false, false, CtrlAttr::FamilyName),
+        (0x8002, true, false, CtrlAttr::FamilyName),
+        (0x4002, false, true, CtrlAttr::FamilyName),
+        (0xc007, true, true, CtrlAttr::McastGroups),
+        (0x3fff, false, false, CtrlAttr::UnrecognizedConst(0x3fff)),
+    ];
+    for (number, nested, network_order, kind) in rows {
+        let field = AttrType::<CtrlAttr>::from(number);
+        assert_eq!(rt; *field.nla_nested(), nested, "at {number}");
+        assert_eq!(rt; *field.nla_network_order(), network_order, "at {number}");
+        assert_eq!(rt; *field.nla_type(), kind, "at {number}");
+        assert_eq!(rt; u16::from(&field), number);
+        assert_eq!(rt; u16::from(field), number);
+        let built = AttrTypeBuilder::default()
+            .nla_nested(nested)
+            .nla_network_order(network_order)
+            .nla_type(kind)
+            .build()?;
+        assert_eq!(rt; built, field, "at {number}");
+    }
+    Ok(())
+}
+
+// The names of missing fields, the first in the order of the fields.
+#[test]
+fn missing_fields(rt: HostRuntime) -> Result<(), Fail> {
+    let alloc = rt.alloc();
+    let field = AttrTypeBuilder::<u16>::default().build();
+    assert!(rt;
+        matches!(
+            field,
+            Err(AttrTypeBuilderError::UninitializedField("nla_type"))
+        )
+    );
+    let neither = NlattrBuilder::<u16, u8>::default().build(alloc);
+    assert!(rt;
+        matches!(
+            neither,
+            Err(NlattrBuilderError::UninitializedField("nla_type"))
+        )
+    );
+    let untyped = NlattrBuilder::<u16, u8>::default()
+        .nla_payload(1)
+        .build(alloc);
+    assert!(rt;
+        matches!(
+            untyped,
+            Err(NlattrBuilderError::UninitializedField("nla_type"))
+        )
+    );
+    let bare = RtattrBuilder::<u16, u8>::default().rta_type(1).build(alloc);
+    match bare {
+        Err(error) => {
+            assert_eq!(rt;
+                error.to_string(alloc)?,
+                "`rta_payload` must be initialized"
+            );
+            assert!(rt; matches!(error, RtattrBuilderError::UninitializedField("rta_payload")));
+        }
+        Ok(_) => assert!(rt; false),
+    }
+    let error = NlattrBuilderError::from(UninitializedFieldError::new("nla_payload"));
+    assert_eq!(rt;
+        error.to_string(alloc)?,
+        "`nla_payload` must be initialized"
+    );
+    assert_eq!(rt;
+        NlattrBuilderError::Memory.to_string(alloc)?,
+        "Out of memory"
+    );
+    Ok(())
+}
+
+// Sizes of lists, as in neli's own tests of them.
+#[test]
+fn sizes_of_lists(rt: HostRuntime) -> Result<(), Fail> {
+    let alloc = rt.alloc();
+    let mut indexed = GenlBuffer::new(alloc);
+    let mut addresses = RtBuffer::new(alloc);
+    let rows = [(0u8, Ifa::Unspec), (1, Ifa::Address), (2, Ifa::Local)];
+    for (n, kind) in rows {
+        indexed.push(generic(alloc, Index::from(u16::from(n)), n)?)?;
+        addresses.push(routing(alloc, kind, n)?)?;
+    }
+    assert_eq!(rt; indexed.unpadded_size(), 24);
+    assert_eq!(rt; addresses.unpadded_size(), 24);
+    let bytes = [
+        5, 0, 0, 0, 0, 0, 0, 0, 5, 0, 1, 0, 1, 0, 0, 0, 5, 0, 2, 0, 2, 0, 0, 0,
+    ];
+    assert_written(&rt, alloc, &indexed, &bytes)?;
+    assert_written(&rt, alloc, &addresses, &bytes)
+}
+
+// The calls of a list.
+#[test]
+fn lists(rt: HostRuntime) -> Result<(), Fail> {
+    let alloc = rt.alloc();
+    let bytes = [5, 0, 1, 0, 9, 7, 7, 7, 4, 0, 2, 0];
+    let mut list = generic_list::<u16>(alloc, &bytes)?;
+    assert_eq!(rt; list.len(), 2);
+    assert!(rt; list.try_clone()? == list);
+    for attr in list.iter_mut() {
+        attr.set_payload(alloc, &3u8)?;
+    }
+    for attr in list.as_mut() {
+        attr.set_payload(alloc, &4u16)?;
+    }
+    let lengths: Vec<u16> = list.iter().map(|attr| *attr.nla_len()).collect(alloc)?;
+    assert_eq!(rt; lengths.as_slice(), [6, 6].as_slice());
+    assert_eq!(rt; list.as_ref().len(), 2);
+    let last = list.pop().ok_or("empty")?;
+    assert_eq!(rt; *last.nla_type().nla_type(), 2);
+    let mut rest = 0;
+    for attr in list {
+        rest += usize::from(*attr.nla_len());
+    }
+    assert_eq!(rt; rest, 6);
+
+    let mut routes = routing_list::<Rta>(alloc, &bytes)?;
+    assert!(rt; !routes.is_empty());
+    for attr in routes.iter_mut() {
+        attr.set_payload(alloc, &5u8)?;
+    }
+    for attr in routes.as_mut() {
+        attr.set_payload(alloc, &6u8)?;
+    }
+    let copy = routes.try_clone()?;
+    assert_written(
+        &rt,
+        alloc,
+        &copy,
+        &[5, 0, 1, 0, 6, 0, 0, 0, 5, 0, 2, 0, 6, 0, 0, 0],
+    )?;
+    assert_eq!(rt; routes.iter().count(), 2);
+    let attrs = vec![in alloc; routing(alloc, Rta::Oif, 1u32)?]?;
+    assert_eq!(rt; RtBuffer::from_list(attrs).as_ref().len(), 1);
+    assert!(rt; routes.pop().is_some());
+    Ok(())
+}
+
+// The payload of the groups of a generic family, made from the inside out.
+#[test]
+fn nested_groups(rt: HostRuntime) -> Result<(), Fail> {
+    let alloc = rt.alloc();
+    let group = generic(alloc, Index::from(1), ())?
+        .nest(&generic(alloc, CtrlAttrMcastGrp::Name, "notify")?)?
+        .nest(&generic(alloc, CtrlAttrMcastGrp::Id, 5u32)?)?;
+    let groups = generic(alloc, CtrlAttr::McastGroups, ())?.nest(&group)?;
+    assert_written(
+        &rt,
+        alloc,
+        &groups,
+        &[
+            0x1c, 0, 7, 0x80, 0x18, 0, 1, 0x80, 0x0b, 0, 1, 0, 0x6e, 0x6f, 0x74, 0x69, 0x66, 0x79,
+            0, 0, 8, 0, 2, 0, 5, 0, 0, 0,
+        ],
+    )?;
+
+    let mut list = GenlBuffer::new(alloc);
+    list.push(groups)?;
+    let handle = list.get_attr_handle();
+    let indexed = handle.get_nested_attributes::<Index>(alloc, CtrlAttr::McastGroups)?;
+    assert_eq!(rt; indexed.iter().count(), 1);
+    let inner = indexed
+        .get_attribute(Index::from(1))
+        .ok_or("no group")?
+        .get_attr_handle::<CtrlAttrMcastGrp>(alloc)?;
+    let name: String = inner.get_attr_payload_as_with_len(alloc, CtrlAttrMcastGrp::Name)?;
+    assert_eq!(rt; name, "notify");
+    let lent: Result<&str, DeError> = inner.get_attr_payload_as_with_len_borrowed(
+        CtrlAttrMcastGrp::Name,
+    );
+    assert_eq!(rt; lent?, "notify\0");
+    let id: u32 = inner.get_attr_payload_as(alloc, CtrlAttrMcastGrp::Id)?;
+    assert_eq!(rt; id, 5);
+    Ok(())
+}
+
+// What is answered where an attribute is missing.
+#[test]
+fn missing_attributes(rt: HostRuntime) -> Result<(), Fail> {
+    let alloc = rt.alloc();
+    let list = generic_list::<u16>(alloc, &[8, 0, 1, 0, 5, 0, 0, 0])?;
+    let handle = list.get_typed_attr_handle::<CtrlAttr>(alloc)?;
+    assert!(rt; handle.get_attribute(CtrlAttr::FamilyId).is_some());
+    assert!(rt; handle.get_attribute(CtrlAttr::FamilyName).is_none());
+    match handle.get_nested_attributes::<Index>(alloc, CtrlAttr::McastGroups) {
+        Err(error) => {
+            assert_eq!(rt;
+                error.to_string(alloc)?,
+                "Couldn't find specified attribute"
+            );
+        }
+        Ok(_) => assert!(rt; false),
+    }
+    let text = "Failed to find specified attribute";
+    let number: Result<u32, DeError> = handle.get_attr_payload_as(alloc, CtrlAttr::Version);
+    assert_eq!(rt; number.err().ok_or("found")?.to_string(alloc)?, text);
+    let name: Result<String, DeError> = handle.get_attr_payload_as_with_len(
+        alloc,
+        CtrlAttr::Version,
+    );
+    assert_eq!(rt; name.err().ok_or("found")?.to_string(alloc)?, text);
+    let lent: Result<&[u8], DeError> = handle.get_attr_payload_as_with_len_borrowed(
+        CtrlAttr::Version,
+    );
+    assert_eq!(rt; lent.err().ok_or("found")?.to_string(alloc)?, text);
+    Ok(())
+}
+
+// Two names of one number: a type that was read is the first of them.
+#[test]
+fn lookup_goes_by_equality(rt: HostRuntime) -> Result<(), Fail> {
+    let alloc = rt.alloc();
+    let bytes = [8, 0, 3, 0, 1, 0, 0, 0, 8, 0, 3, 0, 2, 0, 0, 0];
+    let list = routing_list::<Frattr>(alloc, &bytes)?;
+    let handle = list.get_attr_handle();
+    let first: u32 = handle.get_attr_payload_as(alloc, Frattr::Iifname)?;
+    assert_eq!(rt; first, 1, "the first of two");
+    assert!(rt; handle.get_attribute(Frattr::Ifname).is_none());
+    let whole: Buffer = handle.get_attr_payload_as_with_len(alloc, Frattr::Iifname)?;
+    assert_eq!(rt; whole.as_ref(), [1, 0, 0, 0].as_slice());
+    let lent: Result<&[u8], DeError> = handle.get_attr_payload_as_with_len_borrowed(
+        Frattr::Iifname,
+    );
+    assert_eq!(rt; lent?, [1, 0, 0, 0].as_slice());
+    let nested = routing(alloc, Frattr::Dst, ())?.nest(&routing(alloc, Rta::Oif, 4u32)?)?;
+    let inner = nested.get_attr_handle::<Rta>(alloc)?;
+    assert_eq!(rt; inner.get_attrs().len(), 1);
+    let owned = AttrHandle::<RtBuffer<Frattr, Buffer>, _>::new(RtBuffer::from(vec![in alloc;
+        nested,
+    ]?));
+    let found = owned.get_nested_attributes::<Rta>(alloc, Frattr::Dst)?;
+    assert_eq!(rt; found.get_attr_payload_as::<u32>(alloc, Rta::Oif)?, 4);
+    Ok(())
+}
+
+// Faults inside a list are faults of the whole list's bytes.
+#[test]
+fn faults_of_lists(rt: HostRuntime) -> Result<(), Fail> {
+    let rows: [(&[u8], usize); 4] = [
+        (&[8, 0], 2),
+        (&[3, 0, 1, 0], 3),
+        (&[8, 0, 1, 0, 0x61], 4),
+        (&[5, 0, 1, 0, 0x61], 5),
+    ];
+    for (bytes, want) in rows {
+        let read = generic_list::<u16>(rt.alloc(), bytes);
+        assert!(rt;
+            matches!(read, Err(DeError::InvalidInput(n)) if n == want),
+            "at {bytes:?}"
+        );
+    }
+    assert!(rt; generic_list::<u16>(rt.alloc(), &[])?.is_empty());
+    let one = generic_list::<u16>(rt.alloc(), &[5, 0, 1, 0, 0x61, 0xff, 0xff, 0xff])?;
+    assert_eq!(rt; one.len(), 1);
+    for attr in one.iter() {
+        assert_eq!(rt; attr.payload().as_ref(), b"a".as_slice());
+    }
+    Ok(())
+}
+
+// Each level is read by a call of its own, so the depth of the input is no depth of the stack.
+#[test]
+fn a_thousand_levels(rt: HostRuntime) -> Result<(), Fail> {
+    let alloc = rt.alloc();
+    let mut attr = generic(alloc, 1u16, ())?;
+    for _ in 0..1000 {
+        attr = generic(alloc, 1u16, ())?.nest(&attr)?;
+    }
+    assert_eq!(rt; *attr.nla_len(), 4004);
+    for _ in 0..1000 {
+        let inner = attr
+            .get_attr_handle::<u16>(alloc)?
+            .get_attribute(1)
+            .ok_or("no level")?
+            .try_clone()?;
+        attr = inner;
+    }
+    assert_eq!(rt; *attr.nla_len(), 4);
+    assert!(rt; attr.nla_payload().is_empty());
+    Ok(())
+}
+
+// The bytes of a buffer.
+#[test]
+fn buffers(rt: HostRuntime) -> Result<(), Fail> {
+    let alloc = rt.alloc();
+    let mut buffer = Buffer::new(alloc);
+    assert!(rt; buffer.is_empty());
+    buffer.extend_from_slice(b"abc")?;
+    for byte in buffer.as_mut() {
+        *byte = b'x';
+    }
+    assert_eq!(rt; buffer.as_ref(), b"xxx".as_slice());
+    assert_eq!(rt; buffer.len(), 3);
+    assert!(rt; buffer.try_clone()? == buffer);
+    assert!(rt; Buffer::from_slice(alloc, b"xx")? != buffer);
+    assert_eq!(rt; format!(in alloc; "{buffer:?}")?, "Buffer");
+    assert_written(&rt, alloc, &buffer, b"xxx")?;
+    let bytes: Vec<u8> = buffer.into();
+    assert_eq!(rt; bytes.as_slice(), b"xxx".as_slice());
+    Ok(())
+}
