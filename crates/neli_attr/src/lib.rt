@@ -10,6 +10,8 @@ mod frame;
 mod genl_buffer;
 mod genl_handle;
 pub mod laws;
+#[cfg(test)]
+mod memory;
 mod nlattr;
 #[cfg(test)]
 mod recorded;
