@@ -33,6 +33,7 @@ impl<T, P> AttrSlice<Rtattr<T, P>> for RtBuffer<T, P> {
 }
 
 /// Attributes in which one is looked up: a list of its own, or one that is lent.
+#[derive(Drop)]
 pub enum AttrHandle<'a, O, I> {
     /// A list of its own.
     Owned(O),

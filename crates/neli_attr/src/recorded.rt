@@ -1,26 +1,26 @@
 //! The attributes of datagrams that were recorded from Linux 6.18, against what libmnl and pyroute2 read
 //! there. Each row is the part of a message behind the header of its body.
 
-use crate::{Buffer, GenlBuffer, RtBuffer};
-use neli_consts::{CtrlAttr, CtrlAttrMcastGrp, Index};
-use neli_consts_rta::{Ifa, Ifla, Rta};
+use crate::{Buffer, GenlBuffer, Nlattr, RtBuffer};
+use neli_consts::{CtrlAttr, CtrlAttrMcastGrp, Index, NlAttrType};
+use neli_consts_rta::{Ifa, Ifla, Rta, RtaType};
 use neli_wire::{Cursor, DeError, FromBytesWithInput, ToBytes};
 use std::alloc::Global;
-use std::test::Fail;
+use std::process::Abort;
 
 /// The bytes that lines of hexadecimal digits spell.
-fn decoded(alloc: Global, lines: &[&str]) -> Result<Vec<u8>, Fail> {
+fn decoded(rt: &impl Abort, alloc: Global, lines: &[&str]) -> Vec<u8> {
     let mut bytes = Vec::new(alloc);
     for line in lines {
         for pair in line.as_bytes().chunks(2) {
             if let [high, low] = pair {
-                let high = char::from(*high).to_digit(16).ok_or("no digit")?;
-                let low = char::from(*low).to_digit(16).ok_or("no digit")?;
-                bytes.push((high * 16 + low) as u8)?;
+                let high = char::from(*high).to_digit(16).expect(rt, "a digit");
+                let low = char::from(*low).to_digit(16).expect(rt, "a digit");
+                bytes.push((high * 16 + low) as u8).expect(rt, "memory");
             }
         }
     }
-    Ok(bytes)
+    bytes
 }
 
 /// Attributes as they were recorded, and what libmnl reads: the type without its two upper bits, the
@@ -216,29 +216,39 @@ const ROWS: [Row; 13] = [
     R0004, R0005, R0017, R0024, R0205, R0277, R0281, R0396, R0402, R0152, R0821, R0867, R0869,
 ];
 
-/// The routing attributes of a row.
-fn routes<T: neli_consts_rta::RtaType>(
-    alloc: Global,
-    row: Row,
-) -> Result<RtBuffer<T, Buffer>, Fail> {
-    let bytes = decoded(alloc, row.1)?;
+/// The generic attributes of a row.
+fn family<T: NlAttrType>(rt: &impl Abort, alloc: Global, row: Row) -> GenlBuffer<T, Buffer> {
+    let bytes = decoded(rt, alloc, row.1);
     let mut cursor = Cursor::new(bytes.as_slice());
-    Ok(RtBuffer::from_bytes_with_input(alloc, &mut cursor, bytes.len())?)
+    GenlBuffer::from_bytes_with_input(alloc, &mut cursor, bytes.len()).expect(rt, "a list")
+}
+
+/// The routing attributes of a row.
+fn routes<T: RtaType>(rt: &impl Abort, alloc: Global, row: Row) -> RtBuffer<T, Buffer> {
+    let bytes = decoded(rt, alloc, row.1);
+    let mut cursor = Cursor::new(bytes.as_slice());
+    RtBuffer::from_bytes_with_input(alloc, &mut cursor, bytes.len()).expect(rt, "a list")
+}
+
+/// Asserts that the list is written as the row's bytes.
+fn assert_written<T: ToBytes>(rt: &impl Abort, alloc: Global, list: &T, row: Row) {
+    let mut again = Vec::new(alloc);
+    list.to_bytes(&mut again).expect(rt, "memory");
+    assert_eq!(rt;
+        again.as_slice(),
+        decoded(rt, alloc, row.1).as_slice(),
+        "{}",
+        row.0
+    );
 }
 
 // Every attribute of each row, as a generic and as a routing one, and written again.
 #[test]
-fn attributes_are_as_libmnl_reads_them(rt: HostRuntime) -> Result<(), Fail> {
+fn attributes_are_as_libmnl_reads_them(rt: HostRuntime) {
     let alloc = rt.alloc();
     for row in ROWS {
-        let (what, lines, want) = row;
-        let bytes = decoded(alloc, lines)?;
-        let mut cursor = Cursor::new(bytes.as_slice());
-        let list: GenlBuffer<u16, Buffer> = GenlBuffer::from_bytes_with_input(
-            alloc,
-            &mut cursor,
-            bytes.len(),
-        )?;
+        let (what, _, want) = row;
+        let list = family::<u16>(&rt, alloc, row);
         let mut seen = Vec::new(alloc);
         for attr in list.iter() {
             let field = attr.nla_type();
@@ -246,109 +256,124 @@ fn attributes_are_as_libmnl_reads_them(rt: HostRuntime) -> Result<(), Fail> {
                 *field.nla_type(),
                 attr.nla_payload().len(),
                 *field.nla_nested(),
-            ))?;
+            ))
+            .expect(&rt, "memory");
         }
         assert_eq!(rt; seen.as_slice(), want, "{what}");
-
-        let mut again = Vec::new(alloc);
-        list.to_bytes(&mut again)?;
-        assert_eq!(rt; again.as_slice(), bytes.as_slice(), "{what}");
-        let routing = routes::<u16>(alloc, row)?;
+        assert_written(&rt, alloc, &list, row);
+        let routing = routes::<u16>(&rt, alloc, row);
         assert_eq!(rt; routing.len(), want.len(), "{what}");
-        let mut again = Vec::new(alloc);
-        routing.to_bytes(&mut again)?;
-        assert_eq!(rt; again.as_slice(), bytes.as_slice(), "{what}");
+        assert_written(&rt, alloc, &routing, row);
     }
-    Ok(())
 }
 
-// Values that pyroute2 reads in addresses, routes and links.
+// Values that pyroute2 reads in an address.
 #[test]
-fn values_of_routes(rt: HostRuntime) -> Result<(), Fail> {
+fn values_of_an_address(rt: HostRuntime) {
     let alloc = rt.alloc();
-    let address = routes::<Ifa>(alloc, R0004)?;
+    let address = routes::<Ifa>(&rt, alloc, R0004);
     let handle = address.get_attr_handle();
-    let local: Buffer = handle.get_attr_payload_as_with_len(alloc, Ifa::Local)?;
-    assert_eq!(rt; local.as_ref(), [127, 0, 0, 1].as_slice());
-    assert_eq!(rt;
-        handle.get_attr_payload_as_with_len::<String>(alloc, Ifa::Label)?,
-        "lo"
-    );
-    assert_eq!(rt; handle.get_attr_payload_as::<u32>(alloc, Ifa::Flags)?, 128);
+    let local: Result<&[u8], DeError> = handle.get_attr_payload_as_with_len_borrowed(Ifa::Local);
+    assert_eq!(rt; local.expect(&rt, "an address"), [127, 0, 0, 1].as_slice());
+    let label: Result<String, DeError> = handle.get_attr_payload_as_with_len(alloc, Ifa::Label);
+    assert_eq!(rt; label.expect(&rt, "a label").as_str(), "lo");
+    let flags: Result<u32, DeError> = handle.get_attr_payload_as(alloc, Ifa::Flags);
+    assert_eq!(rt; flags.expect(&rt, "flags"), 128);
+}
 
-    let route = routes::<Rta>(alloc, R0277)?;
+// Values that pyroute2 reads in a route.
+#[test]
+fn values_of_a_route(rt: HostRuntime) {
+    let alloc = rt.alloc();
+    let route = routes::<Rta>(&rt, alloc, R0277);
     let handle = route.get_attr_handle();
-    assert_eq!(rt; handle.get_attr_payload_as::<u32>(alloc, Rta::Table)?, 254);
-    assert_eq!(rt;
-        handle.get_attr_payload_as::<u32>(alloc, Rta::Priority)?,
-        1024
-    );
-    assert_eq!(rt; handle.get_attr_payload_as::<u32>(alloc, Rta::Oif)?, 3);
+    for (kind, want) in [(Rta::Table, 254), (Rta::Priority, 1024), (Rta::Oif, 3)] {
+        let number: Result<u32, DeError> = handle.get_attr_payload_as(alloc, kind);
+        assert_eq!(rt; number.expect(&rt, "a number"), want, "at {kind:?}");
+    }
     let gateway: Result<&[u8], DeError> = handle.get_attr_payload_as_with_len_borrowed(
         Rta::Gateway,
     );
     assert_eq!(rt;
-        gateway?,
+        gateway.expect(&rt, "a gateway"),
         b"\x20\x01\x0d\xb8\0\0\0\0\0\0\0\0\0\0\0\x09".as_slice()
     );
-    let none: Result<u32, DeError> = handle.get_attr_payload_as(alloc, Rta::Metrics);
-    assert!(rt; none.is_err());
-
-    let port = routes::<Ifla>(alloc, R0152)?;
-    let handle = port.get_attr_handle();
-    assert_eq!(rt;
-        handle.get_attr_payload_as_with_len::<String>(alloc, Ifla::Ifname)?,
-        "veth1"
-    );
-    assert_eq!(rt; handle.get_attr_payload_as::<u32>(alloc, Ifla::Mtu)?, 1500);
-    Ok(())
+    assert!(rt; handle.get_attribute(Rta::Metrics).is_none());
 }
 
-// Values that pyroute2 reads in the family IOAM6, its operations and its group.
+// Values that pyroute2 reads in a link.
 #[test]
-fn values_of_a_generic_family(rt: HostRuntime) -> Result<(), Fail> {
+fn values_of_a_link(rt: HostRuntime) {
     let alloc = rt.alloc();
-    let bytes = decoded(alloc, R0867.1)?;
-    let mut cursor = Cursor::new(bytes.as_slice());
-    let family: GenlBuffer<CtrlAttr, Buffer> = GenlBuffer::from_bytes_with_input(
-        alloc,
-        &mut cursor,
-        bytes.len(),
-    )?;
-    let handle = family.get_attr_handle();
-    let name: String = handle.get_attr_payload_as_with_len(alloc, CtrlAttr::FamilyName)?;
-    assert_eq!(rt; name, "IOAM6");
-    assert_eq!(rt;
-        handle.get_attr_payload_as::<u16>(alloc, CtrlAttr::FamilyId)?,
-        30
-    );
-    assert_eq!(rt;
-        handle.get_attr_payload_as::<u32>(alloc, CtrlAttr::Version)?,
-        1
-    );
+    let port = routes::<Ifla>(&rt, alloc, R0152);
+    let handle = port.get_attr_handle();
+    let name: Result<String, DeError> = handle.get_attr_payload_as_with_len(alloc, Ifla::Ifname);
+    assert_eq!(rt; name.expect(&rt, "a name").as_str(), "veth1");
+    let mtu: Result<u32, DeError> = handle.get_attr_payload_as(alloc, Ifla::Mtu);
+    assert_eq!(rt; mtu.expect(&rt, "a number"), 1500);
+}
 
-    let operations = handle.get_nested_attributes::<Index>(alloc, CtrlAttr::Ops)?;
-    let want: [(u32, u32); 7] = [(1, 11), (2, 11), (3, 5), (4, 11), (5, 11), (6, 5), (7, 11)];
+// Values that pyroute2 reads in the family IOAM6.
+#[test]
+fn values_of_a_generic_family(rt: HostRuntime) {
+    let alloc = rt.alloc();
+    let family = family::<CtrlAttr>(&rt, alloc, R0867);
+    let handle = family.get_attr_handle();
+    let name: Result<String, DeError> = handle.get_attr_payload_as_with_len(
+        alloc,
+        CtrlAttr::FamilyName,
+    );
+    assert_eq!(rt; name.expect(&rt, "a name").as_str(), "IOAM6");
+    let id: Result<u16, DeError> = handle.get_attr_payload_as(alloc, CtrlAttr::FamilyId);
+    assert_eq!(rt; id.expect(&rt, "a number"), 30);
+}
+
+/// Two numbers of a nested attribute.
+fn numbers(rt: &impl Abort, alloc: Global, attr: &Nlattr<Index, Buffer>) -> (u32, u32) {
+    let fields = attr.get_attr_handle::<u16>(alloc).expect(rt, "a list");
+    let first: Result<u32, DeError> = fields.get_attr_payload_as(alloc, 1);
+    let second: Result<u32, DeError> = fields.get_attr_payload_as(alloc, 2);
+    (first.expect(rt, "a number"), second.expect(rt, "a number"))
+}
+
+// The operations of the family IOAM6, each a number and its flags.
+#[test]
+fn operations_of_a_generic_family(rt: HostRuntime) {
+    let alloc = rt.alloc();
+    let family = family::<CtrlAttr>(&rt, alloc, R0867);
+    let handle = family.get_attr_handle();
+    let operations = handle
+        .get_nested_attributes::<Index>(alloc, CtrlAttr::Ops)
+        .expect(&rt, "operations");
     let mut seen = Vec::new(alloc);
     for operation in operations.iter() {
-        let fields = operation.get_attr_handle::<u16>(alloc)?;
-        seen.push((
-            fields.get_attr_payload_as::<u32>(alloc, 1)?,
-            fields.get_attr_payload_as::<u32>(alloc, 2)?,
-        ))?;
+        seen.push(numbers(&rt, alloc, operation))
+            .expect(&rt, "memory");
     }
+    let want: [(u32, u32); 7] = [(1, 11), (2, 11), (3, 5), (4, 11), (5, 11), (6, 5), (7, 11)];
     assert_eq!(rt; seen.as_slice(), want.as_slice());
+}
 
-    let groups = handle.get_nested_attributes::<Index>(alloc, CtrlAttr::McastGroups)?;
+// The multicast group of the family IOAM6.
+#[test]
+fn groups_of_a_generic_family(rt: HostRuntime) {
+    let alloc = rt.alloc();
+    let family = family::<CtrlAttr>(&rt, alloc, R0867);
+    let handle = family.get_attr_handle();
+    let groups = handle
+        .get_nested_attributes::<Index>(alloc, CtrlAttr::McastGroups)
+        .expect(&rt, "groups");
+    assert_eq!(rt; groups.get_attrs().len(), 1);
     for group in groups.iter() {
-        let fields = group.get_attr_handle::<CtrlAttrMcastGrp>(alloc)?;
-        assert_eq!(rt;
-            fields.get_attr_payload_as::<u32>(alloc, CtrlAttrMcastGrp::Id)?,
-            10
+        let fields = group
+            .get_attr_handle::<CtrlAttrMcastGrp>(alloc)
+            .expect(&rt, "a list");
+        let id: Result<u32, DeError> = fields.get_attr_payload_as(alloc, CtrlAttrMcastGrp::Id);
+        assert_eq!(rt; id.expect(&rt, "a number"), 10);
+        let name: Result<String, DeError> = fields.get_attr_payload_as_with_len(
+            alloc,
+            CtrlAttrMcastGrp::Name,
         );
-        let name: String = fields.get_attr_payload_as_with_len(alloc, CtrlAttrMcastGrp::Name)?;
-        assert_eq!(rt; name, "ioam6_events");
+        assert_eq!(rt; name.expect(&rt, "a name").as_str(), "ioam6_events");
     }
-    assert_eq!(rt; groups.iter().count(), 1);
-    Ok(())
 }
