@@ -1,6 +1,5 @@
 -- A listing that is made message by message.
 use Rattle.std.proofs.Common.{◌≡◌, ◌≢◌, ◌⊎◌, inl, inr, ℕ, List, [], ◌∷◌, ◌++◌, length, take, codes, Option, Some, None, Result, Err, refl, sym, ap, ◌∙◌, append_assoc}
-use Rattle.std.specs.List.{flat_map}
 use Rattle.std.specs.Io.KnownBytes.{Appends}
 use Rattle.std.proofs.lemmas.List.{take_at, append-nil}
 use Rattle.std.proofs.lemmas.List.Concat.{flat_map-append}
@@ -11,7 +10,6 @@ use Rattle.std.specs.declared.io.ErrorKind.TheVariants.{UnexpectedEof}
 use Rattle.neli_msg.specs.declared.errors.SocketError.{SocketError}
 use Rattle.neli_msg.specs.declared.errors.SocketError.TheVariants as socket
 use Rattle.neli_msg.specs.declared.payload.NlPayload.{NlPayload}
-use Rattle.neli_msg.specs.Message.{Message}
 use Rattle.neli_msg.specs.Cuts.{Cut, cons_message, behind, cut_with, Faults}
 use Rattle.neli_tool.specs.declared.status.Status.{Status}
 use Rattle.neli_tool.specs.declared.status.Status.TheVariants as status

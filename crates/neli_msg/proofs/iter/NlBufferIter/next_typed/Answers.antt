@@ -1,4 +1,4 @@
-use Rattle.std.proofs.Common.{rules, ◌≡◌, ◌≢◌, [], ◌∙◌, ap, sym, List, ℕ, length, drop, true, false, Err}
+use Rattle.std.proofs.Common.{rules, ◌≡◌, ◌≢◌, [], ◌∙◌, sym, length, true, false, Err}
 use Rattle.std.proofs.lemmas.Bool.{eqb-true}
 use Rattle.neli_msg.specs.Payload.{payload_at}
 use Rattle.neli_msg.specs.Frames.{message_at}

@@ -1,5 +1,4 @@
-use Rattle.std.proofs.Common.{rules, ◌^◌, ◌-◌, false, []}
-use Rattle.std.specs.Fmt.{digits, padded_integral, format_spec, HasWritten, IsPlainFormatter}
+use Rattle.std.proofs.Common.{rules}
 use Rattle.neli_tool.proofs.Hex.{hex4_is}
 use Rattle.neli_tool.proofs.line.FourDigitsDisplay.fmt.Goals as goal
 
