@@ -308,11 +308,9 @@ fn lists(rt: HostRuntime) {
     assert_eq!(rt; list.as_ref().len(), 2);
     let last = list.pop().expect(&rt, "two attributes");
     assert_eq!(rt; *last.nla_type().nla_type(), 2);
-    let mut rest = 0;
     for attr in list {
-        rest += usize::from(*attr.nla_len());
+        assert_eq!(rt; *attr.nla_len(), 6);
     }
-    assert_eq!(rt; rest, 6);
 
     let mut routes = routing_list::<Rta>(alloc, &bytes).expect(&rt, "memory is there");
     assert!(rt; !routes.is_empty());
