@@ -1,6 +1,6 @@
 -- Laws of lists of frames, and of attributes that are written and read again.
-use Rattle.std.proofs.Common.{◌≡◌, ℕ, ◌+◌, ◌-◌, ◌<◌, ◌≤◌, Bool, false, cond, ltb, List, [], ◌∷◌, ◌++◌, length, take, drop, Result, Ok, Err, refl, sym, ap, subst, ◌∙◌, append_assoc, arith, length-append}
-use Rattle.std.proofs.lemmas.List.{append-nil, take_at, drop_at, drop-drop, length-replicate}
+use Rattle.std.proofs.Common.{◌≡◌, ℕ, ◌+◌, ◌-◌, ◌<◌, List, [], ◌∷◌, ◌++◌, length, take, drop, Result, Ok, Err, refl, sym, ap, ◌∙◌, append_assoc, arith, length-append}
+use Rattle.std.proofs.lemmas.List.{append-nil, take_at, drop_at, length-replicate}
 use Rattle.byteorder.specs.Endian.{little_bytes, little_number}
 use Rattle.byteorder.specs.Numbers.{little_number-reads_back}
 use Rattle.neli_wire.specs.declared.errors.DeError.{DeError}
@@ -9,10 +9,9 @@ use Rattle.neli_wire.specs.Frames.{Layout, IsFrame, framed, number_in}
 use Rattle.neli_wire.specs.FrameLaws.{IsPlaced, framed-frame, frame_of-framed, framed-local}
 use Rattle.neli_wire.specs.ListLaws.{elements-are, are-elements, elements-refusal}
 use Rattle.neli_wire.specs.NumberLaws.{count-unsigned}
-use Rattle.neli_wire.specs.Reading.{Reading, AreElements, elements, within}
-use Rattle.neli_wire.specs.Writing.{Wire, zeros_for}
-use Rattle.neli_attr.specs.Attributes.{Attr, Head, attr, attribute, attribute_wire}
-use Rattle.neli_attr.specs.AttributeLaws.{attribute-placed}
+use Rattle.neli_wire.specs.Reading.{AreElements, elements, within}
+use Rattle.neli_wire.specs.Writing.{zeros_for}
+use Rattle.neli_attr.specs.Attributes.{attribute}
 use Rattle.neli_attr.specs.FrameLists.{AreFrames}
 
 module _ {H V : Type 0} (layout : Layout H V) (placed : IsPlaced layout) (some : 0 < layout.size) where

@@ -1,5 +1,5 @@
 -- Lists of frames, such as the attributes of a message.
-use Rattle.std.specs.Prelude.{◌≡◌, ℕ, ◌<◌, List, [], ◌∷◌, ◌++◌}
+use Rattle.std.specs.Prelude.{◌≡◌, ℕ, List, [], ◌∷◌, ◌++◌}
 use Rattle.neli_wire.specs.Frames.{Layout, IsFrame}
 
 -- the bytes are the frames of these headers and payloads, one after the other

@@ -6,7 +6,6 @@ use Rattle.neli_wire.specs.declared.errors.SerError.TheVariants as ser
 use Rattle.neli_wire.specs.Frames.{framed}
 use Rattle.neli_wire.specs.Reading.{IsLocal}
 use Rattle.neli_wire.specs.Writing.{Wire}
-use Rattle.neli_attr.specs.declared.attr_type.AttrType.{AttrType}
 use Rattle.neli_attr.specs.declared.nlattr.Nlattr.{Nlattr}
 use Rattle.neli_attr.specs.Nlattr.{nlattr_layout, nlattr_size, nlattr_wire}
 use Rattle.neli_attr.specs.AttributeLaws.{attribute-local, attribute-no_memory, attribute_wire-length, attribute_wire-no_memory}

@@ -1,5 +1,5 @@
 -- Laws of attributes that are built or nested, written and read again.
-use Rattle.std.proofs.Common.{◌≡◌, ℕ, ◌+◌, ◌*◌, ◌/◌, ◌%◌, ◌^◌, ◌<◌, ◌≤◌, Bool, true, false, cond, ltb, List, [], ◌∷◌, ◌++◌, length, Option, Some, None, Result, Ok, Err, bit_and, refl, sym, ap, subst, ◌∙◌, arith, length-append}
+use Rattle.std.proofs.Common.{◌≡◌, ℕ, ◌+◌, ◌*◌, ◌/◌, ◌%◌, ◌^◌, ◌<◌, ◌≤◌, Bool, true, false, cond, ltb, List, [], ◌∷◌, ◌++◌, length, Option, Some, None, Ok, Err, bit_and, refl, sym, ap, subst, ◌∙◌, arith, length-append}
 use Rattle.std.specs.Prelude.{nat_eq, not, codes}
 use Rattle.std.proofs.lemmas.Bool.{ltb-false}
 use Rattle.std.proofs.lemmas.Nat.{and_mask}
@@ -10,22 +10,22 @@ use Rattle.neli_wire.specs.FrameLaws.{framed-frame}
 use Rattle.byteorder.specs.Endian.{little_bytes}
 use Rattle.neli_wire.specs.NumberLaws.{count-unsigned}
 use Rattle.neli_wire.specs.Reading.{elements}
-use Rattle.neli_wire.specs.Writing.{Wire, ◌+++◌, appended, zeros_for}
+use Rattle.neli_wire.specs.Writing.{Wire, appended, zeros_for}
 use Rattle.neli_attr.specs.declared.attr_type.AttrType.{AttrType}
 use Rattle.neli_attr.specs.declared.nlattr.Nlattr.{Nlattr}
 use Rattle.neli_attr.specs.declared.nlattr.NlattrBuilder.{NlattrBuilder}
 use Rattle.neli_attr.specs.declared.rtattr.Rtattr.{Rtattr}
 use Rattle.neli_attr.specs.declared.rtattr.RtattrBuilder.{RtattrBuilder}
-use Rattle.neli_attr.specs.Builders.{Fault, Outcome, given, ◌>>>◌, payload_in}
-use Rattle.neli_attr.specs.Builders.Fault.{Missing, Invalid}
-use Rattle.neli_attr.specs.Attributes.{Attr, Head, attr, attribute, attribute_payload, attribute_wire}
+use Rattle.neli_attr.specs.Builders.{Outcome, given, ◌>>>◌, payload_in}
+use Rattle.neli_attr.specs.Builders.Fault.{Invalid}
+use Rattle.neli_attr.specs.Attributes.{Attr, attr, attribute, attribute_payload, attribute_wire}
 use Rattle.neli_attr.specs.AttributeLaws.{attribute-placed}
-use Rattle.neli_attr.specs.AttrType.{bit_where, field_of, has, number_of, type_of}
+use Rattle.neli_attr.specs.AttrType.{bit_where, has, number_of, type_of}
 use Rattle.neli_attr.specs.AttrTypeLaws.{field_of-sum}
 use Rattle.neli_attr.specs.FrameListLaws.{attribute_text, attribute_text-frame, frames-list, frames-more, list-frames}
-use Rattle.neli_attr.specs.Nlattr.{nlattr_built, nlattr_layout, nlattr_list, nlattr_wire, with_length as nlattr_with_length}
-use Rattle.neli_attr.specs.Rtattr.{rtattr_built, rtattr_layout, rtattr_list, rtattr_wire, with_length as rtattr_with_length}
-use Rattle.neli_attr.specs.RoundTrips.{NlattrReadsBack, RtattrReadsBack, SaysNlattr, SaysRtattr}
+use Rattle.neli_attr.specs.Nlattr.{nlattr_built, with_length as nlattr_with_length}
+use Rattle.neli_attr.specs.Rtattr.{rtattr_built, with_length as rtattr_with_length}
+use Rattle.neli_attr.specs.RoundTrips.{NlattrReadsBack, RtattrReadsBack}
 
 -- ---- builders
 

@@ -1,18 +1,16 @@
 -- Bodies of plain bytes are always read, so a datagram of them has two faults only.
-use Rattle.std.proofs.Common.{◌≡◌, ◌≢◌, ℕ, zero, suc, ◌-◌, ◌<◌, ◌≤◌, Bool, true, false, cond, ltb, List, [], ◌∷◌, ◌++◌, length, take, drop, Result, Ok, Err, Option, Some, None, refl, sym, ap, subst, ◌∙◌, arith}
-use Rattle.std.proofs.lemmas.Bool.{le-ltb, lt-ltb}
-use Rattle.byteorder.specs.Endian.{little_number}
+use Rattle.std.proofs.Common.{◌≡◌, ◌≢◌, ℕ, ◌-◌, Bool, true, false, cond, ltb, List, [], ◌∷◌, length, take, drop, Result, Ok, Err, Option, Some, None, sym, subst}
 use Rattle.neli_wire.specs.declared.errors.DeError.{DeError}
 use Rattle.neli_wire.specs.declared.errors.DeError.TheVariants as de
 use Rattle.neli_wire.specs.Frames.{framed}
 use Rattle.neli_wire.specs.Sizes.{align}
-use Rattle.neli_wire.specs.Reading.{Reading, ◌>>=◌, elements, elements_by, map_refusal, within, value_at, short}
+use Rattle.neli_wire.specs.Reading.{short}
 use Rattle.neli_msg.specs.declared.payload.NlPayload.{NlPayload}
 use Rattle.neli_msg.specs.declared.payload.NlPayload.TheVariants.{Payload}
-use Rattle.neli_msg.specs.Message.{Header, Message}
+use Rattle.neli_msg.specs.Message.{Header}
 use Rattle.neli_msg.specs.Payload.{payload_at}
 use Rattle.neli_msg.specs.Frames.{header_in, message_at}
-use Rattle.neli_msg.specs.Cuts.{Cuts, cut_of}
+use Rattle.neli_msg.specs.Cuts.{Cuts}
 use Rattle.neli_msg.specs.CutLaws.{cut_of-Cuts}
 use Rattle.neli_tool.specs.declared.line.Ending.{Ending}
 use Rattle.neli_tool.specs.declared.line.Ending.TheVariants.{Whole, Input, Short, Other, Memory}

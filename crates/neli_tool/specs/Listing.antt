@@ -1,5 +1,5 @@
 -- What the program prints of a datagram.
-use Rattle.std.specs.Prelude.{◌≡◌, ℕ, ◌-◌, List, [], ◌∷◌, ◌++◌, length, take, codes, replicate, Ok, Option, Some, None, false, IfSome, ⊤}
+use Rattle.std.specs.Prelude.{◌≡◌, ℕ, ◌-◌, List, [], ◌++◌, length, take, codes, replicate, Ok, Option, Some, None, false, IfSome, ⊤}
 use Rattle.std.specs.Io.KnownBytes.{Appends, Keeps}
 use Rattle.std.specs.List.{flat_map}
 use Rattle.std.specs.Fmt.{decimal, digits}
@@ -10,7 +10,7 @@ use Rattle.neli_msg.specs.declared.errors.SocketError.{SocketError}
 use Rattle.neli_msg.specs.declared.errors.SocketError.TheVariants as socket
 use Rattle.neli_msg.specs.declared.payload.NlPayload.{NlPayload}
 use Rattle.neli_msg.specs.declared.payload.NlPayload.TheVariants.{Payload}
-use Rattle.neli_msg.specs.Message.{Header, Message}
+use Rattle.neli_msg.specs.Message.{Message}
 use Rattle.neli_msg.specs.Payload.{payload_at}
 use Rattle.neli_msg.specs.Cuts.{Cut, cut_of}
 use Rattle.neli_tool.specs.declared.status.Status.{Status}

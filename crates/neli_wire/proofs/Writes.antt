@@ -1,6 +1,6 @@
 -- Writing values one after the other.
-use Rattle.std.proofs.Common.{◌≡◌, ℕ, ◌+◌, ◌<◌, ◌≤◌, List, ◌++◌, length, take, drop, get_or, Ok, Err, refl, sym, ap, ◌∙◌, append_assoc, arith}
-use Rattle.std.proofs.lemmas.List.{take_at, length-take, drop_more, take-take}
+use Rattle.std.proofs.Common.{◌≡◌, ℕ, ◌+◌, ◌<◌, List, length, take, drop, get_or, Ok, sym, ap, ◌∙◌}
+use Rattle.std.proofs.lemmas.List.{drop_more}
 use Rattle.neli_wire.specs.declared.errors.SerError.{SerError}
 use Rattle.neli_wire.specs.declared.errors.SerError.TheVariants.{Msg, Io, Utf8, Memory}
 use Rattle.neli_wire.specs.WritingLaws.{appended_then, appended-err, appended_front, front_trans, unwritten_first}

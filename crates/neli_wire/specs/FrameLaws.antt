@@ -1,13 +1,13 @@
 -- Laws of fixed headers and of frames.
-use Rattle.std.proofs.Common.{◌≡◌, ◌≢◌, ℕ, ◌+◌, ◌-◌, ◌<◌, ◌≤◌, Bool, true, false, cond, ltb, List, [], ◌∷◌, ◌++◌, length, take, drop, Result, Ok, Err, inl, inr, refl, sym, ap, subst, ◌∙◌, arith, length-append, length-drop}
+use Rattle.std.proofs.Common.{◌≡◌, ◌≢◌, ℕ, ◌+◌, ◌-◌, ◌<◌, ◌≤◌, true, false, cond, ltb, List, ◌++◌, length, take, drop, Result, Ok, Err, inl, inr, refl, sym, ap, subst, ◌∙◌, arith, length-append, length-drop}
 use Rattle.std.proofs.lemmas.Bool.{cases_lt, ltb-false, le-ltb, lt-ltb}
 use Rattle.std.proofs.lemmas.List.{take-append-drop, take-append-le, drop-append-le, drop-drop, drop_at, length-take-le}
 use Rattle.byteorder.specs.Endian.{little_number}
 use Rattle.byteorder.specs.Numbers.{little_from-append}
 use Rattle.neli_wire.specs.declared.errors.DeError.{DeError}
-use Rattle.neli_wire.specs.declared.errors.DeError.TheVariants.{Msg, Io, Utf8, InvalidInput, Memory}
+use Rattle.neli_wire.specs.declared.errors.DeError.TheVariants.{InvalidInput, Memory}
 use Rattle.neli_wire.specs.Sizes.{align}
-use Rattle.neli_wire.specs.Reading.{Reading, ◌>>=◌, IsLocal, and_then, bytes_at, value_at, number_at, sized, sized_takes, Then, short}
+use Rattle.neli_wire.specs.Reading.{Reading, ◌>>=◌, IsLocal, and_then, bytes_at, value_at, number_at, short}
 use Rattle.neli_wire.specs.ReadingLaws.{bind_ok, guard_ok, ok_is, guard-not, bind-not}
 use Rattle.neli_wire.specs.Frames.{Layout, IsFrame, framed, framed_by, framed_takes, number_in, body_at, body_takes, header_then, header_then_takes}
 

@@ -1,5 +1,5 @@
 -- Numbers on the wire: as many bytes as their type has, the lowest first.
-use Rattle.std.specs.Prelude.{◌≡◌, ℕ, ℤ, ◌<◌, ◌^◌, List, length, slice_index}
+use Rattle.std.specs.Prelude.{ℕ, ℤ, ◌<◌, ◌^◌, List, slice_index}
 use Rattle.std.specs.Int.{Width, cast_signed, cast_unsigned}
 -- the bytes of a number, the lowest or the highest first, and the number that bytes spell
 pub use Rattle.byteorder.specs.Endian.{little_bytes, little_number, big_bytes, big_number}

@@ -1,11 +1,11 @@
 -- Laws of texts and of nothing, which the impls cite.
-use Rattle.std.proofs.Common.{◌≡◌, ◌≢◌, ℕ, ◌+◌, ◌-◌, Bool, true, false, cond, ltb, eqb, List, [], ◌∷◌, ◌++◌, length, take, Result, Ok, Err, refl, sym, ap, arith, eq-eqb, length-append}
+use Rattle.std.proofs.Common.{◌≡◌, ◌≢◌, ℕ, ◌+◌, ◌-◌, Bool, true, false, cond, ltb, eqb, List, [], ◌∷◌, ◌++◌, length, take, Result, Ok, Err, refl, ap, arith, eq-eqb, length-append}
 use Rattle.std.specs.declared.str.Utf8Error.{Utf8Error}
 use Rattle.std.specs.Str.{IsUtf8}
 use Rattle.std.specs.Str.Lossy.{utf8_valid_len}
 use Rattle.std.proofs.lemmas.Str.{utf8_valid_len-IsUtf8}
 use Rattle.neli_wire.specs.declared.errors.DeError.{DeError}
-use Rattle.neli_wire.specs.declared.errors.DeError.TheVariants.{Msg, Io, Utf8 as NotText, InvalidInput, Memory}
+use Rattle.neli_wire.specs.declared.errors.DeError.TheVariants.{Utf8 as NotText, InvalidInput, Memory}
 use Rattle.neli_wire.specs.declared.errors.Utf8.{Utf8}
 use Rattle.neli_wire.specs.declared.errors.Utf8.TheVariants.{String as OfString, Str as OfStr}
 use Rattle.neli_wire.specs.Reading.{short}

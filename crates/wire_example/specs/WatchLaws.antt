@@ -1,6 +1,5 @@
 -- Laws of a watch, from those of its fields.
-use Rattle.std.proofs.Common.{◌≡◌, ◌≢◌, ℕ, ◌+◌, List, ◌++◌, length, Ok, Err, refl, ap, arith, length-append}
-use Rattle.std.specs.Prelude.{sum_by}
+use Rattle.std.proofs.Common.{◌≡◌, ◌≢◌, ℕ, List, length, Ok, Err, ap, arith, length-append}
 use Rattle.neli_wire.specs.Numbers.{little_bytes}
 use Rattle.neli_wire.specs.ListLaws.{both_written, both-no_memory, wire_all-length, wire_all-no_memory, elements-no_memory, map_refusal-no_memory, map_refusal-never_short}
 use Rattle.neli_wire.specs.NumberLaws.{count-unsigned}

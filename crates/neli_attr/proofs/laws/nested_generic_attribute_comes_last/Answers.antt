@@ -1,4 +1,4 @@
-use Rattle.std.proofs.Common.{Ok, ◌≡◌, ap, sym, ◌∙◌}
+use Rattle.std.proofs.Common.{ap, sym, ◌∙◌}
 use Rattle.neli_wire.specs.Writing.{Wire, appended}
 use Rattle.neli_attr.specs.AttrType.{number_of, type_of}
 use Rattle.neli_attr.specs.Attributes.{attribute_payload, attribute_wire}

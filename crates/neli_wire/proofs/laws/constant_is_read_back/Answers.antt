@@ -1,4 +1,4 @@
-use Rattle.std.proofs.Common.{◌≡◌, length, refl}
+use Rattle.std.proofs.Common.{refl}
 use Rattle.neli_wire.specs.ReadingLaws.{value_at-append}
 use Rattle.neli_wire.proofs.laws.constant_is_read_back.Goals as goal
 

@@ -1,9 +1,7 @@
-use Rattle.std.proofs.Common.{◌≡◌, ◌≢◌, ◌<◌, ◌≤◌, ◌++◌, ◌∷◌, [], length, arith, ap, sym, ◌∙◌}
+use Rattle.std.proofs.Common.{◌≡◌, ◌<◌, ◌++◌, ◌∷◌, [], length, arith}
 use Rattle.std.specs.Prelude.{map}
-use Rattle.std.proofs.lemmas.List.{length-append, map_push}
-use Rattle.neli_wire.specs.Place.{whole}
-use Rattle.neli_wire.specs.Reading.{Refuses, elements}
-use Rattle.neli_wire.proofs.Elements.{Spells-init, Spells-end, Spells-more, Spells-stuck, Spells-shorter, elements-refused}
+use Rattle.std.proofs.lemmas.List.{map_push}
+use Rattle.neli_wire.proofs.Elements.{Spells-end, Spells-more, Spells-stuck, Spells-shorter, elements-refused}
 use Rattle.neli_wire.proofs.lists.read_all.Goals as goal
 
 pub returns-in-Err-clause-refused : goal.returns-in-Err-clause-refused

@@ -1,5 +1,3 @@
-use Rattle.std.proofs.Common.{◌≡◌, length, take, drop}
-use Rattle.neli_wire.specs.Writing.{appended, wire_all}
 use Rattle.neli_wire.proofs.Writes.{Writes}
 use Rattle.neli_wire.proofs.lists.write_each.Given as goal
 

@@ -1,4 +1,4 @@
-use Rattle.std.proofs.Common.{◌≡◌, ◌∙◌, ap, length}
+use Rattle.std.proofs.Common.{◌∙◌, ap, length}
 use Rattle.neli_attr.proofs.Payloads.{whole_value, whole_refusal}
 use Rattle.neli_attr.proofs.attribute.Attribute.get_payload_as_with_len.Goals as goal
 

@@ -1,4 +1,4 @@
-use Rattle.std.proofs.Common.{◌≡◌, ◌++◌, ◌∙◌, ap, sym, refl, length, take, drop, ℕ, List}
+use Rattle.std.proofs.Common.{◌≡◌, ◌∙◌, ap, sym, refl, length}
 use Rattle.neli_attr.proofs.buffer.Buffer.as_mut.Goals as goal
 
 pub returns : goal.returns
