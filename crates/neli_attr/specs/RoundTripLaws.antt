@@ -1,8 +1,8 @@
 -- Laws of attributes that are built or nested, written and read again.
-use Rattle.std.proofs.Common.{◌≡◌, ℕ, ◌+◌, ◌*◌, ◌/◌, ◌%◌, ◌^◌, ◌<◌, ◌≤◌, Bool, true, false, cond, ltb, List, [], ◌∷◌, ◌++◌, length, Option, Some, None, Ok, Err, bit_and, refl, sym, ap, subst, ◌∙◌, arith, length-append}
+use Rattle.std.proofs.Common.{◌≡◌, ℕ, ◌+◌, ◌*◌, ◌/◌, ◌%◌, ◌^◌, ◌<◌, ◌≤◌, Bool, true, false, cond, ltb, List, [], ◌∷◌, ◌++◌, length, Option, Some, None, Ok, Err, bit_and, bit_or, refl, sym, ap, subst, ◌∙◌, arith, length-append}
 use Rattle.std.specs.Prelude.{nat_eq, not, codes}
 use Rattle.std.proofs.lemmas.Bool.{ltb-false}
-use Rattle.std.proofs.lemmas.Nat.{and_mask}
+use Rattle.std.proofs.lemmas.Nat.{and_mask, or_lt}
 use Rattle.std.proofs.lemmas.Nat.Bits.{and_pow}
 use Rattle.neli_wire.specs.declared.errors.SerError.TheVariants.{Msg}
 use Rattle.neli_wire.specs.Frames.{framed, IsFrame}
@@ -25,7 +25,7 @@ use Rattle.neli_attr.specs.AttrTypeLaws.{field_of-sum}
 use Rattle.neli_attr.specs.FrameListLaws.{attribute_text, attribute_text-frame, frames-list, frames-more, list-frames}
 use Rattle.neli_attr.specs.Nlattr.{nlattr_built, with_length as nlattr_with_length}
 use Rattle.neli_attr.specs.Rtattr.{rtattr_built, with_length as rtattr_with_length}
-use Rattle.neli_attr.specs.RoundTrips.{NlattrReadsBack, RtattrReadsBack}
+use Rattle.neli_attr.specs.RoundTrips.{NlattrKeepsPayload, NlattrReadsBack, RtattrReadsBack}
 
 -- ---- builders
 
@@ -127,6 +127,36 @@ nlattr-reads_back {T} value_of type_number back wire b a e lt =
           number = ap (λ (m : ℕ). type_number (value_of m)) low ∙ back n (omega arith);
           payload = refl;
         },
+      ),
+    )
+
+-- a flag's bit is a bit of the type field
+bit_where-small : (flag : Bool) (bit : ℕ) → bit < 65536 → bit_where flag bit < 65536
+bit_where-small true bit lt = lt
+bit_where-small false bit lt = omega arith
+
+number_of-small : {T : Type 0} (type_number : T → ℕ) (t : AttrType T) → type_number t.nla_type < 65536 → number_of type_number t < 65536
+number_of-small type_number t lt =
+    let n = type_number t.nla_type in
+    let nested = bit_where t.nla_nested 32768 in
+    let order = bit_where t.nla_network_order 16384 in
+    or_lt 16 (bit_or n nested) order (or_lt 16 n nested lt (bit_where-small t.nla_nested 32768 (omega arith))) (bit_where-small t.nla_network_order 16384 (omega arith))
+
+pub nlattr-keeps_payload : {T P : Type 0} (value_of : ℕ → T) (type_number : T → ℕ) (wire : P → Wire) (b : NlattrBuilder T P) (a : Nlattr T (List ℕ)) → nlattr_built wire b ≡ Ok a → type_number a.nla_type.nla_type < 65536 → NlattrKeepsPayload value_of type_number a
+nlattr-keeps_payload {T} value_of type_number wire b a e lt =
+    let built = nlattr_built-length wire b a e in
+    let field : ℕ = number_of type_number a.nla_type in
+    let small = number_of-small type_number a.nla_type lt in
+    let frame = attribute_text-frame (type_of value_of) (λ bytes. Ok bytes) field a.nla_payload a.nla_payload small built.1 refl in
+    let text : List ℕ = attribute_text (4 + length a.nla_payload) field a.nla_payload in
+    let read : Attr (AttrType T) (List ℕ) = attr (4 + length a.nla_payload) (type_of value_of field) a.nla_payload in (
+      text,
+      rw built.0 refl,
+      λ rest. (
+        read,
+        framed-frame (attribute (type_of value_of) (λ bytes. Ok bytes)) (attribute-placed (type_of value_of) (λ bytes. Ok bytes)) text rest read.0 read.1 frame,
+        sym built.0,
+        refl,
       ),
     )
 

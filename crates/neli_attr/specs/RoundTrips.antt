@@ -22,6 +22,13 @@ NlattrReadsBack {T} value_of type_number a =
     (text : List ℕ) × (nlattr_wire type_number (λ bytes. Ok bytes) a ≡ Ok text)
     × ((rest : List ℕ) → (read : Attr (AttrType T) (List ℕ)) × (framed (nlattr_layout value_of (λ bytes. Ok bytes)) (text ++ rest) ≡ Ok (read, rest)) × SaysNlattr type_number a read)
 
+-- a generic attribute has a text, which is read as one with its length and its payload's bytes, whatever follows
+abbrev pub NlattrKeepsPayload : {T : Type 0} → (ℕ → T) → (T → ℕ) → Nlattr T (List ℕ) → Type 0
+NlattrKeepsPayload {T} value_of type_number a =
+    (text : List ℕ) × (nlattr_wire type_number (λ bytes. Ok bytes) a ≡ Ok text)
+    × ((rest : List ℕ) → (read : Attr (AttrType T) (List ℕ)) × (framed (nlattr_layout value_of (λ bytes. Ok bytes)) (text ++ rest) ≡ Ok (read, rest))
+    × (read.0.len ≡ a.nla_len) × (read.1 ≡ a.nla_payload))
+
 -- what was read has the number and the payload's bytes of a routing attribute
 pub record SaysRtattr {T : Type 0} (type_number : T → ℕ) (a : Rtattr T (List ℕ)) (read : Attr T (List ℕ)) : Type 0 where
   pub len : read.0.len ≡ a.rta_len

@@ -60,18 +60,12 @@ pub trait Attribute<T> {
 }
 
 /// The value that the whole payload spells, made of the payload's own bytes.
-///
-/// The error is converted here: no function can be checked whose bound names a lifetime and which
-/// answers a `DeError`, since that can hold a text of the program's own.
-pub(crate) fn read_borrowed<'a, R, E>(payload: &'a Buffer) -> Result<R, E>
+pub(crate) fn read_borrowed<'a, R>(payload: &'a Buffer) -> Result<R, R::Error>
 where
     R: FromBytesWithInputBorrowed<'a>,
-    E: From<DeError>,
     ensures value { IfOk result (λ v. R.read payload.now ≡ Ok (R.view v)) }
-    ensures refused { IfErr result (λ e. (d : DeError) × E.from_gives d e × Refuses (R.read payload.now) ⊥ d) }
+    ensures refused { IfErr result (λ e. (d : DeError) × R.Error.from_gives d e × Refuses (R.read payload.now) ⊥ d) }
 {
-    match R::from_bytes_with_input(&mut Cursor::new(payload.as_ref()), payload.len()) {
-        Ok(value) => Ok(value),
-        Err(error) => Err(E::from(error)),
-    }
+    let value = R::from_bytes_with_input(&mut Cursor::new(payload.as_ref()), payload.len())?;
+    Ok(value)
 }

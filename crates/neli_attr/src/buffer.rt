@@ -6,6 +6,7 @@ ghost use Rattle.std.specs.Cmp.{partial_equiv_from_equiv};
 ghost use Rattle.std.specs.Cmp.Lexicographic.{pointwise};
 ghost use Rattle.std.proofs.lemmas.Cmp.{nat_list_eq_equiv};
 ghost use Rattle.neli_wire.specs.ReadingLaws.{read-never_short};
+ghost use Rattle.neli_wire.specs.SizeLaws.{unpadded-rounded};
 ghost use Rattle.neli_wire.specs.WritingLaws.{written-length, written-no_memory};
 ghost use Rattle.neli_attr.specs.Buffers.{LendsBytes};
 
@@ -144,6 +145,8 @@ impl Size for Buffer {
     ghost unpadded = { length };
 
     ghost written = { length };
+
+    ghost rounded = { unpadded-rounded length };
 
     fn unpadded_size(&self) -> usize {
         self.len()

@@ -25,8 +25,6 @@ pub mod of {
 
     pub const CN_MSG: u8 = 4;
 
-    pub const PROC_EVENT_HEADER: u8 = 5;
-
     pub const IFINFOMSG: u8 = 6;
 
     pub const IFADDRMSG: u8 = 7;

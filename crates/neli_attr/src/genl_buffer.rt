@@ -7,6 +7,7 @@ ghost use Rattle.std.specs.Slice.Iter.{iter_rest, iter_mut_rest};
 ghost use Rattle.neli_wire.specs.Frames.{framed};
 ghost use Rattle.neli_wire.specs.ListLaws.{elements-no_memory, elements-never_short, wire_all-length, wire_all-no_memory};
 ghost use Rattle.neli_wire.specs.Reading.{elements};
+ghost use Rattle.neli_wire.specs.SizeLaws.{unpadded-rounded};
 ghost use Rattle.neli_wire.specs.Writing.{wire_all};
 ghost use Rattle.neli_attr.specs.Attributes.{Attr};
 ghost use Rattle.neli_attr.specs.Lookup.{attrs_in};
@@ -171,6 +172,15 @@ impl<T, P> From<Vec<Nlattr<T, P>>> for GenlBuffer<T, P> {
     }
 }
 
+impl<T, P> From<GenlBuffer<T, P>> for Vec<Nlattr<T, P>> {
+    ghost from_gives = { λ list attrs. attrs.items ≡ list };
+
+    fn from(list: GenlBuffer<T, P>) -> Self {
+        let GenlBuffer { attrs } = list;
+        attrs
+    }
+}
+
 impl<T: Drop, P: Drop> IntoIterator for GenlBuffer<T, P> {
     type Item = Nlattr<T, P>;
 
@@ -205,6 +215,8 @@ impl<T: NlAttrType, P: Size> Size for GenlBuffer<T, P> {
     ghost unpadded = { sum_by (nlattr_size P.written) };
 
     ghost written = { sum_by (nlattr_size P.written) };
+
+    ghost rounded = { unpadded-rounded (sum_by (nlattr_size P.written)) };
 
     fn unpadded_size(&self) -> usize {
         self.attrs.unpadded_size()

@@ -75,20 +75,18 @@ impl<'a, T: NlAttrType> AttrHandle<'a, GenlBuffer<T, Buffer>, Nlattr<T, Buffer>>
     }
 
     /// The value that the whole payload of the first attribute of this type spells, made of the payload's
-    /// own bytes: it lives as long as the attribute. It takes no memory. The error is a `DeError`, or what
-    /// it is converted into.
+    /// own bytes: it lives as long as the attribute. It takes no memory.
     ///
     /// Refused with a `DeError::Msg` where there is none; else as the type's read refuses the payload.
-    pub fn get_attr_payload_as_with_len_borrowed<'b, R, E>(&'b self, attr: T) -> Result<R, E>
+    pub fn get_attr_payload_as_with_len_borrowed<'b, R>(&'b self, attr: T) -> Result<R, R::Error>
     where
         R: FromBytesWithInputBorrowed<'b>,
-        E: From<DeError>,
         ensures value { IfOk result (λ v. looked_up (codes "Failed to find specified attribute") (nlattr_of_type T.eq attr (attrs_in self.now)) (λ a. R.read a.nla_payload) ≡ Ok (R.view v)) }
-        ensures refused { IfErr result (λ e. (d : DeError) × E.from_gives d e × Refuses (looked_up (codes "Failed to find specified attribute") (nlattr_of_type T.eq attr (attrs_in self.now)) (λ a. R.read a.nla_payload)) ⊥ d) }
+        ensures refused { IfErr result (λ e. (d : DeError) × R.Error.from_gives d e × Refuses (looked_up (codes "Failed to find specified attribute") (nlattr_of_type T.eq attr (attrs_in self.now)) (λ a. R.read a.nla_payload)) ⊥ d) }
     {
         match self.get_attribute(attr) {
             Some(attr) => attr.get_payload_as_with_len_borrowed(),
-            None => Err(E::from(DeError::Msg(MsgError::from_static(
+            None => Err(R::Error::from(DeError::Msg(MsgError::from_static(
                 "Failed to find specified attribute",
             )))),
         }

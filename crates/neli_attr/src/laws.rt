@@ -15,7 +15,7 @@ ghost use Rattle.neli_attr.specs.Attributes.{Attr, attr, attribute_payload};
 ghost use Rattle.neli_attr.specs.FrameLists.{AreFrames};
 ghost use Rattle.neli_attr.specs.Nlattr.{nlattr_built, nlattr_layout, nlattr_list, nlattr_wire};
 ghost use Rattle.neli_attr.specs.Rtattr.{rtattr_built, rtattr_layout, rtattr_list, rtattr_wire};
-ghost use Rattle.neli_attr.specs.RoundTrips.{NlattrReadsBack, RtattrReadsBack};
+ghost use Rattle.neli_attr.specs.RoundTrips.{NlattrKeepsPayload, NlattrReadsBack, RtattrReadsBack};
 
 use neli_consts::NlAttrType;
 use neli_consts_rta::RtaType;
@@ -45,10 +45,12 @@ pub fn routing_list_is_its_frames<T: RtaType, P: FromBytesWithInput>()
         → elements (framed (rtattr_layout T.wire_value P.read)) (front ++ rest) ≡ Err (within (length (front ++ rest)) e) }
 {}
 
-/// A generic attribute that was built is written, and read again as one with its length, its flags, its
-/// number and its payload's bytes, where the number leaves the two flags' bits alone.
+/// A generic attribute that was built is written, and read again as one with its length and its payload's
+/// bytes; and with its flags and its number, where the number leaves the two flags' bits alone.
 pub fn built_generic_attribute_reads_back<T: NlAttrType, P: ToBytes>()
-    ensures { (b : GenericBuilder T P) (a : Generic T (List ℕ)) → nlattr_built P.wire b ≡ Ok a
+    ensures payload { (b : GenericBuilder T P) (a : Generic T (List ℕ)) → nlattr_built P.wire b ≡ Ok a
+        → T.wire_number a.nla_type.nla_type < 65536 → NlattrKeepsPayload T.wire_value T.wire_number a }
+    ensures whole { (b : GenericBuilder T P) (a : Generic T (List ℕ)) → nlattr_built P.wire b ≡ Ok a
         → T.wire_number a.nla_type.nla_type < 16384 → NlattrReadsBack T.wire_value T.wire_number a }
 {}
 

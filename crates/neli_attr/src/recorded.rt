@@ -273,8 +273,10 @@ fn values_of_an_address(rt: HostRuntime) {
     let alloc = rt.alloc();
     let address = routes::<Ifa>(&rt, alloc, R0004);
     let handle = address.get_attr_handle();
-    let local: Result<&[u8], DeError> = handle.get_attr_payload_as_with_len_borrowed(Ifa::Local);
-    assert_eq!(rt; local.expect(&rt, "an address"), [127, 0, 0, 1].as_slice());
+    let local: &[u8] = handle
+        .get_attr_payload_as_with_len_borrowed(Ifa::Local)
+        .expect(&rt, "an address");
+    assert_eq!(rt; local, [127, 0, 0, 1].as_slice());
     let label: Result<String, DeError> = handle.get_attr_payload_as_with_len(alloc, Ifa::Label);
     assert_eq!(rt; label.expect(&rt, "a label").as_str(), "lo");
     let flags: Result<u32, DeError> = handle.get_attr_payload_as(alloc, Ifa::Flags);
@@ -291,11 +293,11 @@ fn values_of_a_route(rt: HostRuntime) {
         let number: Result<u32, DeError> = handle.get_attr_payload_as(alloc, kind);
         assert_eq!(rt; number.expect(&rt, "a number"), want, "at {kind:?}");
     }
-    let gateway: Result<&[u8], DeError> = handle.get_attr_payload_as_with_len_borrowed(
-        Rta::Gateway,
-    );
+    let gateway: &[u8] = handle
+        .get_attr_payload_as_with_len_borrowed(Rta::Gateway)
+        .expect(&rt, "a gateway");
     assert_eq!(rt;
-        gateway.expect(&rt, "a gateway"),
+        gateway,
         b"\x20\x01\x0d\xb8\0\0\0\0\0\0\0\0\0\0\0\x09".as_slice()
     );
     assert!(rt; handle.get_attribute(Rta::Metrics).is_none());

@@ -6,6 +6,7 @@ ghost use Rattle.std.specs.Slice.Iter.{iter_rest, iter_mut_rest};
 ghost use Rattle.neli_wire.specs.Frames.{framed};
 ghost use Rattle.neli_wire.specs.ListLaws.{elements-no_memory, elements-never_short, wire_all-length, wire_all-no_memory};
 ghost use Rattle.neli_wire.specs.Reading.{elements};
+ghost use Rattle.neli_wire.specs.SizeLaws.{unpadded-rounded};
 ghost use Rattle.neli_wire.specs.Writing.{wire_all};
 ghost use Rattle.neli_attr.specs.Attributes.{Attr};
 ghost use Rattle.neli_attr.specs.Lookup.{attrs_in};
@@ -150,6 +151,15 @@ impl<T, P> From<Vec<Rtattr<T, P>>> for RtBuffer<T, P> {
     }
 }
 
+impl<T, P> From<RtBuffer<T, P>> for Vec<Rtattr<T, P>> {
+    ghost from_gives = { λ list attrs. attrs.items ≡ list };
+
+    fn from(list: RtBuffer<T, P>) -> Self {
+        let RtBuffer { attrs } = list;
+        attrs
+    }
+}
+
 impl<T: Drop, P: Drop> IntoIterator for RtBuffer<T, P> {
     type Item = Rtattr<T, P>;
 
@@ -170,6 +180,8 @@ impl<T: RtaType, P: Size> Size for RtBuffer<T, P> {
     ghost unpadded = { sum_by (rtattr_size P.written) };
 
     ghost written = { sum_by (rtattr_size P.written) };
+
+    ghost rounded = { unpadded-rounded (sum_by (rtattr_size P.written)) };
 
     fn unpadded_size(&self) -> usize {
         self.attrs.unpadded_size()

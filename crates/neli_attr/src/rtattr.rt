@@ -3,6 +3,7 @@
 ghost use Rattle.std.specs.Prelude.{◌≡◌, ◌+◌, ◌<◌, ℕ, List, Some, None, Ok, IfOk, IfErr, OnOk, OnErr, length, option_map, min};
 ghost use Rattle.neli_wire.specs.Frames.{framed, framed_takes};
 ghost use Rattle.neli_wire.specs.Reading.{Refuses};
+ghost use Rattle.neli_wire.specs.SizeLaws.{padded-rounded};
 ghost use Rattle.neli_wire.specs.Sizes.{align};
 ghost use Rattle.neli_wire.specs.Writing.{IsRefused, appended};
 ghost use Rattle.neli_attr.specs.Attributes.{Attr, attr, attribute, attribute_payload, attribute_wire};
@@ -89,15 +90,14 @@ impl<T: RtaType> Rtattr<T, Buffer> {
     }
 
     /// The value that the whole payload spells, made of the payload's own bytes: it lives as long as the
-    /// attribute. It takes no memory. The error is a `DeError`, or what it is converted into.
+    /// attribute. It takes no memory.
     ///
     /// Refused as the type's own read refuses these bytes.
-    pub fn get_payload_as_with_len_borrowed<'a, R, E>(&'a self) -> Result<R, E>
+    pub fn get_payload_as_with_len_borrowed<'a, R>(&'a self) -> Result<R, R::Error>
     where
         R: FromBytesWithInputBorrowed<'a>,
-        E: From<DeError>,
         ensures value { IfOk result (λ v. R.read self.now.rta_payload ≡ Ok (R.view v)) }
-        ensures refused { IfErr result (λ e. (d : DeError) × E.from_gives d e × Refuses (R.read self.now.rta_payload) ⊥ d) }
+        ensures refused { IfErr result (λ e. (d : DeError) × R.Error.from_gives d e × Refuses (R.read self.now.rta_payload) ⊥ d) }
     {
         read_borrowed(&self.rta_payload)
     }
@@ -137,6 +137,8 @@ impl<T: RtaType, P: Size> Size for Rtattr<T, P> {
     ghost unpadded = { λ a. 4 + P.written a.rta_payload };
 
     ghost written = { λ a. align (4 + P.written a.rta_payload) };
+
+    ghost rounded = { padded-rounded (λ a. 4 + P.written a.rta_payload) };
 
     fn unpadded_size(&self) -> usize {
         size_with(&self.rta_payload)

@@ -371,10 +371,10 @@ fn nested_groups(rt: HostRuntime) {
         .get_attr_payload_as_with_len(alloc, CtrlAttrMcastGrp::Name)
         .expect(&rt, "memory is there");
     assert_eq!(rt; name.as_str(), "notify");
-    let lent: Result<&str, DeError> = inner.get_attr_payload_as_with_len_borrowed(
-        CtrlAttrMcastGrp::Name,
-    );
-    assert_eq!(rt; lent.expect(&rt, "it is there"), "notify\0");
+    let lent: &str = inner
+        .get_attr_payload_as_with_len_borrowed(CtrlAttrMcastGrp::Name)
+        .expect(&rt, "it is there");
+    assert_eq!(rt; lent, "notify\0");
     let id: u32 = inner
         .get_attr_payload_as(alloc, CtrlAttrMcastGrp::Id)
         .expect(&rt, "memory is there");
@@ -426,11 +426,10 @@ fn missing_attributes(rt: HostRuntime) {
             .as_str(),
         text
     );
-    let lent: Result<&[u8], DeError> = handle.get_attr_payload_as_with_len_borrowed(
-        CtrlAttr::Version,
-    );
     assert_eq!(rt;
-        lent.err()
+        handle
+            .get_attr_payload_as_with_len_borrowed::<&[u8]>(CtrlAttr::Version)
+            .err()
             .expect(&rt, "nothing to find")
             .to_string(alloc)
             .expect(&rt, "memory is there")
@@ -455,10 +454,10 @@ fn lookup_goes_by_equality(rt: HostRuntime) {
         .get_attr_payload_as_with_len(alloc, Frattr::Iifname)
         .expect(&rt, "memory is there");
     assert_eq!(rt; whole.as_ref(), [1, 0, 0, 0].as_slice());
-    let lent: Result<&[u8], DeError> = handle.get_attr_payload_as_with_len_borrowed(
-        Frattr::Iifname,
-    );
-    assert_eq!(rt; lent.expect(&rt, "it is there"), [1, 0, 0, 0].as_slice());
+    let lent: &[u8] = handle
+        .get_attr_payload_as_with_len_borrowed(Frattr::Iifname)
+        .expect(&rt, "it is there");
+    assert_eq!(rt; lent, [1, 0, 0, 0].as_slice());
 }
 
 // Nested routing attributes, lent and owned.

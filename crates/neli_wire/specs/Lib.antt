@@ -9,6 +9,7 @@ pub mod Place
 pub mod Reading
 pub mod ReadingLaws
 pub mod Sizes
+pub mod SizeLaws
 pub mod Messages
 pub mod StringLaws
 pub mod Strings

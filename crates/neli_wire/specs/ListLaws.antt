@@ -138,9 +138,10 @@ module _ {V : Type 0} (read : List ℕ → Reading V) (stuck : DeError) where
       let later : elements_by read stuck fuel are.1 ≡ Ok vs = by_are fuel are.1 vs (omega (arith, len, are.3)) are.5 in
       rw (one_more read stuck fuel s are.1 v here (omega (arith, len, are.3)), later) refl
 
-  by_refused : (fuel : ℕ) (front rest : List ℕ) (vs : List V) (e : DeError) → length (front ++ rest) ≤ fuel → AreElements read front vs → 0 < length rest → read rest ≡ Err e → elements_by read stuck fuel (front ++ rest) ≡ Err e
+  -- what refuses the bytes behind elements refuses the whole
+  by_refused : (fuel : ℕ) (front rest : List ℕ) (vs : List V) (e : DeError) → length (front ++ rest) ≤ fuel → AreElements read front vs → 0 < length rest → ((more : ℕ) → elements_by read stuck (suc more) rest ≡ Err e) → elements_by read stuck fuel (front ++ rest) ≡ Err e
   by_refused zero front rest vs e le are some h = absurd (omega (arith, length-append front rest))
-  by_refused (suc fuel) front rest [] e le are some h = rw are (none_read read stuck fuel rest e h some)
+  by_refused (suc fuel) front rest [] e le are some h = rw are (h fuel)
   by_refused (suc fuel) front rest (v ∷ vs) e le are some h =
       let len : length front ≡ length are.0 + length are.1 = ap length are.2 ∙ length-append are.0 are.1 in
       let both = length-append front rest in
@@ -165,4 +166,12 @@ are-elements read s vs are = rw (by_are read (InvalidInput (length s)) (length s
 
 -- behind elements that are read, the first refusal is that of the list
 pub elements-refusal : {V : Type 0} (read : List ℕ → Reading V) (front rest : List ℕ) (vs : List V) (e : DeError) → AreElements read front vs → 0 < length rest → read rest ≡ Err e → elements read (front ++ rest) ≡ Err (within (length (front ++ rest)) e)
-elements-refusal read front rest vs e are some h = rw (by_refused read (InvalidInput (length (front ++ rest))) (length (front ++ rest)) front rest vs e (omega arith) are some h) refl
+elements-refusal read front rest vs e are some h =
+    let stuck : DeError = InvalidInput (length (front ++ rest)) in
+    rw (by_refused read stuck (length (front ++ rest)) front rest vs e (omega arith) are some (λ more. none_read read stuck more rest e h some)) refl
+
+-- behind elements that are read, one that takes no byte refuses the list
+pub elements-stuck : {V : Type 0} (read : List ℕ → Reading V) (front rest r : List ℕ) (vs : List V) (v : V) → AreElements read front vs → 0 < length rest → read rest ≡ Ok (v, r) → length rest ≤ length r → elements read (front ++ rest) ≡ Err (InvalidInput (length (front ++ rest)))
+elements-stuck read front rest r vs v are some h none =
+    let stuck : DeError = InvalidInput (length (front ++ rest)) in
+    rw (by_refused read stuck (length (front ++ rest)) front rest vs stuck (omega arith) are some (λ more. none_taken read stuck more rest r v h some none)) refl

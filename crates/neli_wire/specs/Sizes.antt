@@ -1,5 +1,5 @@
 -- Sizes: lengths that are rounded up to four, as netlink aligns whatever it carries.
-use Rattle.std.specs.Prelude.{ℕ, ◌+◌, ◌*◌, ◌/◌, ◌-◌}
+use Rattle.std.specs.Prelude.{◌≡◌, ℕ, ◌+◌, ◌*◌, ◌/◌, ◌-◌, ◌⊎◌}
 
 -- n rounded up to a multiple of four
 abbrev pub align : ℕ → ℕ
@@ -8,3 +8,7 @@ align n = (n + 3) / 4 * 4
 -- how many bytes are missing to a multiple of four
 abbrev pub gap : ℕ → ℕ
 gap n = align n - n
+
+-- the whole has no padding at its end, or as much as rounds it up to a multiple of four
+abbrev pub IsRounded : ℕ → ℕ → Type 0
+IsRounded unpadded written = (written ≡ unpadded) ⊎ (written ≡ align unpadded)

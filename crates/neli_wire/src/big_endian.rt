@@ -34,8 +34,8 @@ impl BeU64 {
     }
 
     /// The number, as the machine has it.
-    pub fn as_ne_u64(&self) -> u64
-        ensures { result ≡ self.now }
+    pub fn as_ne_u64(self) -> u64
+        ensures { result ≡ self }
     {
         self.0
     }

@@ -3,6 +3,7 @@
 ghost use Rattle.std.specs.Prelude.{◌≡◌, ℕ, List, Ok, Err, length};
 ghost use Rattle.neli_wire.specs.Reading.{value_at};
 ghost use Rattle.neli_wire.specs.ReadingLaws.{value_at-local, value_at-no_memory};
+ghost use Rattle.neli_wire.specs.SizeLaws.{unpadded-rounded};
 ghost use Rattle.neli_wire.specs.StringLaws.{all-never_short};
 ghost use Rattle.neli_wire.specs.WritingLaws.{own-length, written-no_memory};
 
@@ -16,6 +17,8 @@ impl<'a> Size for &'a [u8] {
     ghost unpadded = { λ b. length b.now };
 
     ghost written = { λ b. length b.now };
+
+    ghost rounded = { unpadded-rounded (λ b. length b.now) };
 
     fn unpadded_size(&self) -> usize {
         self.len()
@@ -40,6 +43,8 @@ impl<'a> ToBytes for &'a [u8] {
 }
 
 impl<'a> FromBytesWithInputBorrowed<'a> for &'a [u8] {
+    type Error = DeError;
+
     ghost Value = { List ℕ };
 
     ghost view = { λ b. b.now };
@@ -62,6 +67,8 @@ impl<const N: usize> Size for [u8; N] {
 
     ghost written = { λ b. length b };
 
+    ghost rounded = { unpadded-rounded (λ b. length b) };
+
     fn unpadded_size(&self) -> usize {
         self.len()
     }
@@ -83,7 +90,7 @@ impl<const N: usize> ToBytes for [u8; N] {
         Ok(())
     }
 
-    fn pad(buffer: &mut Vec<u8>) -> Result<(), SerError> {
+    fn pad(&self, buffer: &mut Vec<u8>) -> Result<(), SerError> {
         pad_from(buffer, 0)?;
         Ok(())
     }

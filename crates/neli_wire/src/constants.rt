@@ -7,6 +7,7 @@ ghost use Rattle.std.specs.Prelude.{◌≡◌, ◌++◌, ℕ, List, Ok, OnOk, On
 ghost use Rattle.neli_wire.specs.Numbers.{AreBytes};
 ghost use Rattle.neli_wire.specs.Reading.{value_at};
 ghost use Rattle.neli_wire.specs.ReadingLaws.{value_at-local, value_at-no_memory, value_at-wide};
+ghost use Rattle.neli_wire.specs.SizeLaws.{unpadded-rounded};
 ghost use Rattle.neli_wire.specs.WritingLaws.{written-length, written-no_memory};
 
 use crate::{Cursor, DeError, FromBytes, SerError, Size, ToBytes, TypeSize};
@@ -78,6 +79,8 @@ impl<T: Constant> Size for T {
     ghost unpadded = { λ _. T.Number.byte_count };
 
     ghost written = { λ _. T.Number.byte_count };
+
+    ghost rounded = { unpadded-rounded (λ _. T.Number.byte_count) };
 
     fn unpadded_size(&self) -> usize {
         T::Number::count()

@@ -1,6 +1,6 @@
 //! Frames: a header that states the length of the whole, the payload, and padding to four bytes.
 
-ghost use Rattle.std.specs.Prelude.{◌≡◌, ◌≤◌, Ok, IfOk, IfErr, OnOk};
+ghost use Rattle.std.specs.Prelude.{◌≡◌, ◌≤◌, Ok, IfOk, IfErr, OnOk, OnErr};
 ghost use Rattle.neli_wire.specs.Frames.{body_at, body_takes};
 ghost use Rattle.neli_wire.specs.Place.{whole};
 ghost use Rattle.neli_wire.specs.Reading.{Refuses};
@@ -13,8 +13,8 @@ use std::alloc::Global;
 /// the padding to four bytes, whatever the padding holds.
 ///
 /// A length below the header's own is `InvalidInput(len)`; one past the bytes `InvalidInput(len - size)`;
-/// then comes the payload's refusal, and `Io(UnexpectedEof)` where padding is missing. A refusal may
-/// leave the cursor anywhere: a caller reads with one of its own.
+/// then comes the payload's refusal, and `Io(UnexpectedEof)` where padding is missing. A refusal leaves
+/// the cursor where it was.
 pub fn read_body<P: FromBytesWithInput>(
     alloc: Global,
     cursor: &mut Cursor<'_>,
@@ -25,11 +25,14 @@ pub fn read_body<P: FromBytesWithInput>(
     ensures value { IfOk result (λ p. body_at P.read size len cursor.old.rest ≡ Ok (P.view p, cursor.new.rest)) }
     ensures moved { OnOk result (whole cursor.new ≡ whole cursor.old) }
     ensures refused { IfErr result (Refuses (body_at P.read size len cursor.old.rest) (body_takes P.takes_memory size len cursor.old.rest)) }
+    ensures unchanged { OnErr result (cursor.new ≡ cursor.old) }
 {
     if len < size {
         return Err(DeError::InvalidInput(len));
     }
-    let payload = P::from_bytes_with_input(alloc, cursor, len - size)?;
-    cursor.bytes(alignto(len) - len)?;
+    let mut ahead = cursor.ahead();
+    let payload = P::from_bytes_with_input(alloc, &mut ahead, len - size)?;
+    ahead.bytes(alignto(len) - len)?;
+    *cursor = ahead;
     Ok(payload)
 }

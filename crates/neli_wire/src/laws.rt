@@ -5,6 +5,7 @@ ghost use Rattle.byteorder.specs.Endian.{big_bytes, big_number, little_bytes, li
 ghost use Rattle.neli_wire.specs.Numbers.{AreBytes};
 ghost use Rattle.neli_wire.specs.Reading.{AreElements, elements, value_at, within};
 ghost use Rattle.neli_wire.specs.declared.errors.DeError.{DeError as Refusal};
+ghost use Rattle.neli_wire.specs.declared.errors.DeError.TheVariants as de;
 
 use crate::{Constant, FromBytes};
 
@@ -22,10 +23,13 @@ pub fn constant_is_read_back<T: Constant>()
 {}
 
 /// A list that is read is the texts of its elements, one after the other, and every such byte list is
-/// read as that list. Behind elements that can be read, the first refusal is that of the whole list.
+/// read as that list. Behind elements that can be read, the first refusal is that of the whole list, and
+/// an element that takes no byte refuses it with `InvalidInput`.
 pub fn list_is_its_elements<T: FromBytes>()
     ensures read { (s : List ℕ) (vs : List T.Value) → elements T.read s ≡ Ok vs → AreElements T.read s vs }
     ensures spelled { (s : List ℕ) (vs : List T.Value) → AreElements T.read s vs → elements T.read s ≡ Ok vs }
     ensures refused { (front rest : List ℕ) (vs : List T.Value) (e : Refusal) → AreElements T.read front vs
         → 0 < length rest → T.read rest ≡ Err e → elements T.read (front ++ rest) ≡ Err (within (length (front ++ rest)) e) }
+    ensures stuck { (front rest r : List ℕ) (vs : List T.Value) (v : T.Value) → AreElements T.read front vs
+        → 0 < length rest → T.read rest ≡ Ok (v, r) → length rest ≤ length r → elements T.read (front ++ rest) ≡ Err (de.InvalidInput (length (front ++ rest))) }
 {}

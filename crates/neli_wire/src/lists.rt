@@ -3,6 +3,7 @@
 ghost use Rattle.std.specs.Prelude.{◌≡◌, ◌≤◌, ◌<◌, ◌+◌, ℕ, List, Ok, Err, IfOk, IfErr, OnOk, OnErr, length, min, map, take, drop, sum_by};
 ghost use Rattle.neli_wire.specs.ListLaws.{wire_all-length, wire_all-no_memory, elements-no_memory, elements-never_short};
 ghost use Rattle.neli_wire.specs.Reading.{Refuses, elements, within};
+ghost use Rattle.neli_wire.specs.SizeLaws.{unpadded-rounded};
 ghost use Rattle.neli_wire.specs.Writing.{IsRefused, appended, wire_all};
 
 use crate::{
@@ -71,6 +72,8 @@ impl<T: Size> Size for Vec<T> {
     ghost unpadded = { λ v. sum_by T.written v.items };
 
     ghost written = { λ v. sum_by T.written v.items };
+
+    ghost rounded = { unpadded-rounded (λ v. sum_by T.written v.items) };
 
     fn unpadded_size(&self) -> usize {
         size_of_all(self)

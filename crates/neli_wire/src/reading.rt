@@ -95,6 +95,9 @@ pub trait FromBytesWithInput: Sized + Debug + Drop {
 
 /// A value that borrows exactly the next `n` bytes. The cursor stays where it is.
 pub trait FromBytesWithInputBorrowed<'a>: Sized + Debug {
+    /// What a refusal becomes in calls that are generic in the type that is read: [`DeError`].
+    type Error: From<DeError>;
+
     // What contracts see of a value.
     ghost Value: { Type 0 };
 

@@ -1,7 +1,7 @@
 //! Sizes of values, and lengths rounded up to four.
 
 ghost use Rattle.std.specs.Prelude.{◌≡◌, ◌≤◌, ℕ, min};
-ghost use Rattle.neli_wire.specs.Sizes.{align};
+ghost use Rattle.neli_wire.specs.Sizes.{align, IsRounded};
 
 /// A length rounded up to four, as the kernel's `NLMSG_ALIGN`, `NLA_ALIGN` and `RTA_ALIGN` do
 /// (`linux/netlink.h`, `linux/rtnetlink.h`).
@@ -50,4 +50,7 @@ pub trait Size {
     /// unpadded size of all other values.
     fn written_size(&self) -> usize
         ensures { result ≡ min (written self.now) usize.MAX };
+
+    // The whole text is the one without padding, or as long as that rounded up to four.
+    ghost rounded: { (v : Self) → IsRounded (unpadded v) (written v) };
 }

@@ -136,7 +136,7 @@ fn written_lists(rt: HostRuntime) -> Result<(), Fail> {
     assert_eq!(rt; buffer.as_slice(), [1u8, 2, 3, 4, 5, 6, 7, 8, 9].as_slice());
     assert_eq!(rt; list.unpadded_size(), 9);
     assert_eq!(rt; list.padded_size(), 12);
-    <Vec<u8> as ToBytes>::pad(&mut buffer)?;
+    list.pad(&mut buffer)?;
     assert_eq!(rt;
         buffer.as_slice(),
         [1u8, 2, 3, 4, 5, 6, 7, 8, 9, 0, 0, 0].as_slice()

@@ -2,6 +2,7 @@
 
 ghost use Rattle.std.specs.Prelude.{◌≡◌, ◌+◌, ◌<◌, ◌++◌, ◌∷◌, [], ℕ, List, Ok, Err, OnOk, OnErr, IfOk, IfErr, length, string_bytes};
 ghost use Rattle.neli_wire.specs.Reading.{Refuses};
+ghost use Rattle.neli_wire.specs.SizeLaws.{unpadded-rounded};
 ghost use Rattle.neli_wire.specs.StringLaws.{terminated-length, borrowed_text-never_short, owned_text-never_short, owned_text-no_memory};
 ghost use Rattle.neli_wire.specs.Strings.{terminated, borrowed_text, owned_text};
 ghost use Rattle.neli_wire.specs.WritingLaws.{written-no_memory};
@@ -46,6 +47,8 @@ impl<'a> Size for &'a str {
 
     ghost written = { λ t. length t.now + 1 };
 
+    ghost rounded = { unpadded-rounded (λ t. length t.now + 1) };
+
     fn unpadded_size(&self) -> usize {
         self.len().saturating_add(1)
     }
@@ -69,6 +72,8 @@ impl<'a> ToBytes for &'a str {
 }
 
 impl<'a> FromBytesWithInputBorrowed<'a> for &'a str {
+    type Error = DeError;
+
     ghost Value = { List ℕ };
 
     ghost view = { λ t. t.now };
@@ -94,6 +99,8 @@ impl Size for String {
     ghost unpadded = { λ t. length (string_bytes t) + 1 };
 
     ghost written = { λ t. length (string_bytes t) + 1 };
+
+    ghost rounded = { unpadded-rounded (λ t. length (string_bytes t) + 1) };
 
     fn unpadded_size(&self) -> usize {
         self.len().saturating_add(1)

@@ -2,6 +2,7 @@
 
 ghost use Rattle.std.specs.Prelude.{◌≡◌, ℕ, [], refl, Ok, Err};
 ghost use Rattle.neli_wire.specs.ReadingLaws.{done-local, done-no_memory, done-wide};
+ghost use Rattle.neli_wire.specs.SizeLaws.{unpadded-rounded};
 ghost use Rattle.neli_wire.specs.StringLaws.{nothing-no_memory, nothing-never_short};
 ghost use Rattle.neli_wire.specs.Strings.{nothing};
 ghost use Rattle.neli_wire.specs.WritingLaws.{written-length, written-no_memory};
@@ -14,6 +15,8 @@ impl Size for () {
     ghost unpadded = { λ _. 0 };
 
     ghost written = { λ _. 0 };
+
+    ghost rounded = { unpadded-rounded (λ _. 0) };
 
     fn unpadded_size(&self) -> usize {
         0
@@ -83,6 +86,8 @@ impl<T> Size for PhantomData<T> {
     ghost unpadded = { λ _. 0 };
 
     ghost written = { λ _. 0 };
+
+    ghost rounded = { unpadded-rounded (λ _. 0) };
 
     fn unpadded_size(&self) -> usize {
         0

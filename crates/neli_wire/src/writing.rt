@@ -21,7 +21,7 @@ pub trait ToBytes: Size + Debug {
 
     /// Appends zeros until the length of the whole buffer is a multiple of four. Only want of memory
     /// refuses it, and then the buffer is as it was.
-    fn pad(buffer: &mut Vec<u8>) -> Result<(), SerError>
+    fn pad(&self, buffer: &mut Vec<u8>) -> Result<(), SerError>
         ensures padded { OnOk result (buffer.new.items ≡ buffer.old.items ++ zeros_for (length buffer.old.items)) }
         ensures memory { IfErr result (λ e. e ≡ ser.Memory) }
         ensures kept { OnErr result (buffer.new.items ≡ buffer.old.items) }

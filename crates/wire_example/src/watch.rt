@@ -22,10 +22,13 @@ pub struct Watch {
 
 impl Size for Watch {
     ghost use Rattle.wire_example.specs.Watch.{watch_size};
+    ghost use Rattle.neli_wire.specs.SizeLaws.{unpadded-rounded};
 
     ghost unpadded = { watch_size };
 
     ghost written = { watch_size };
+
+    ghost rounded = { unpadded-rounded watch_size };
 
     fn unpadded_size(&self) -> usize {
         self.port
