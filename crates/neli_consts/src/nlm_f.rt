@@ -11,7 +11,7 @@ use std::ops::{
     BitAnd, BitAndAssign, BitOr, BitOrAssign, BitXor, BitXorAssign, Not, Sub, SubAssign,
 };
 
-/// The flags of a message: `NLM_F_*` of `linux/netlink.h` (RFC 3549, section 2.2). What the bits
+/// The flags of a message: `NLM_F_*` of `linux/netlink.h` (RFC 3549, section 2.3.2). What the bits
 /// from 0x100 on mean depends on the message: whether it asks, makes, or answers with an error.
 #[derive(Clone, Copy, Debug, PartialEq, Eq)]
 pub struct NlmF(u16);

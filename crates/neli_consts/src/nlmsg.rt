@@ -7,7 +7,7 @@ ghost use Rattle.neli_consts.specs.NlmsgerrAttr.{nlmsgerr_attr_number, nlmsgerr_
 use neli_wire::Constant;
 
 /// Types of control messages, which every netlink protocol has: `NLMSG_*` of `linux/netlink.h` (RFC
-/// 3549, section 2.2).
+/// 3549, section 2.3.2).
 #[derive(Clone, Copy, Debug, PartialEq, Eq)]
 pub enum Nlmsg {
     /// To be passed over.

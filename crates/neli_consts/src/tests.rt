@@ -1,4 +1,4 @@
-//! Each table against the numbers of the kernel's headers, the wrappers, and through the wire traits.
+//! Each table against a list of its numbers written by hand, the wrappers, and through the wire traits.
 
 use crate::{
     Cmd, CtrlAttr, CtrlAttrMcastGrp, CtrlCmd, GenlId, Index, LogCfgCmd, LogCfgCmdWrapper,

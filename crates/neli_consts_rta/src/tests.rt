@@ -1,4 +1,4 @@
-//! Each table against the numbers of the kernel's headers, the wrapper, and through the wire traits.
+//! Each table against a list of its numbers written by hand, the wrapper, and through the wire traits.
 
 use crate::{
     Frattr, Ifa, Ifla, IflaInfo, IflaVlan, IflaVlanQos, Nda, Rta, RtaType, RtaTypeWrapper, Tca,

@@ -1,4 +1,4 @@
-//! Each set against the bits of the kernel's headers, its operators, and through the wire traits.
+//! Each set against a list of its bits written by hand, its operators, and through the wire traits.
 
 use crate::{Frf, IfaF, Iff, Ntf, Nud, RtmF, VlanFlags};
 use bitflags::Flags;

@@ -1,4 +1,4 @@
-//! Each table against the numbers of the kernel's headers, and through the wire traits.
+//! Each table against a list of its numbers written by hand, and through the wire traits.
 
 use crate::{
     AddrFamily, CnMsgIdx, CnMsgVal, LogCmd, LogCopyMode, Msg, NetfilterMsg, NfLogAttr, NfLogCfg,
