@@ -4,9 +4,10 @@ use Rattle.std.specs.Prelude.{IfOk, IfErr}
 use Rattle.std.proofs.lemmas.Bool.{le-ltb}
 use Rattle.std.proofs.lemmas.List.{take_all}
 use Rattle.std.proofs.lemmas.Result.{IfOk-weaker}
-use Rattle.neli_wire.specs.declared.errors.DeError.{DeError}
-use Rattle.neli_wire.specs.declared.errors.DeError.TheVariants.{Msg, Io, Utf8, InvalidInput, Memory}
-use Rattle.neli_wire.specs.Reading.{Reading, Refuses, ◌>>=◌, sized, sized_takes}
+use Rattle.neli_wire_base.specs.declared.errors.DeError.{DeError}
+use Rattle.neli_wire_base.specs.declared.errors.DeError.TheVariants.{Msg, Io, Utf8, InvalidInput, Memory}
+use Rattle.neli_wire_base.specs.Bytes.{Reading, Refuses}
+use Rattle.neli_wire.specs.Reading.{◌>>=◌, sized, sized_takes}
 use Rattle.neli_wire.specs.ReadingLaws.{bind_ok, ok_is}
 
 abbrev with_rest : {V : Type 0} → List ℕ → Result V DeError → Reading V

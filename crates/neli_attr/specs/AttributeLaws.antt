@@ -3,11 +3,12 @@ use Rattle.std.proofs.Common.{◌≡◌, ◌≢◌, ℕ, ◌+◌, ◌-◌, ◌�
 use Rattle.std.specs.Prelude.{IfErr}
 use Rattle.std.proofs.lemmas.List.{length-replicate}
 use Rattle.byteorder.specs.Endian.{little_bytes, little_number}
-use Rattle.neli_wire.specs.declared.errors.DeError.{DeError}
-use Rattle.neli_wire.specs.declared.errors.DeError.TheVariants.{Msg, Io, Utf8, InvalidInput, Memory}
-use Rattle.neli_wire.specs.declared.errors.SerError.TheVariants as ser
+use Rattle.neli_wire_base.specs.declared.errors.DeError.{DeError}
+use Rattle.neli_wire_base.specs.declared.errors.DeError.TheVariants.{Msg, Io, Utf8, InvalidInput, Memory}
+use Rattle.neli_wire_base.specs.declared.errors.SerError.TheVariants as ser
 use Rattle.neli_wire.specs.Sizes.{align}
-use Rattle.neli_wire.specs.Reading.{Refuses, IsLocal, number_at, number_as}
+use Rattle.neli_wire_base.specs.Bytes.{Refuses}
+use Rattle.neli_wire.specs.Reading.{IsLocal, number_at, number_as}
 use Rattle.neli_wire.specs.Frames.{framed, framed_takes, number_in}
 use Rattle.neli_wire.specs.FrameLaws.{IsWide, IsPlaced, number_at-wide_by, value_at-wide_by, then-wide, done-wide, header_then-is, header_then_takes-is, framed-local, framed-no_memory, number_in-take}
 use Rattle.neli_wire.specs.NumberLaws.{count-unsigned}

@@ -1,10 +1,11 @@
 -- Attributes: a header of four bytes, which are the length of the whole and the type, then a payload, and padding to four bytes.
 use Rattle.std.specs.Prelude.{ℕ, ◌+◌, List, codes, length, Result, Ok, Err, nat_lt, if◌then◌else◌}
 use Rattle.byteorder.specs.Endian.{little_bytes}
-use Rattle.neli_wire.specs.declared.errors.DeError.{DeError}
-use Rattle.neli_wire.specs.declared.errors.SerError.TheVariants.{Msg}
+use Rattle.neli_wire_base.specs.declared.errors.DeError.{DeError}
+use Rattle.neli_wire_base.specs.declared.errors.SerError.TheVariants.{Msg}
 use Rattle.neli_wire.specs.Frames.{Layout, number_in, header_then, header_then_takes}
-use Rattle.neli_wire.specs.Reading.{Reading, ◌>>=◌, number_at, number_as}
+use Rattle.neli_wire_base.specs.Bytes.{Reading}
+use Rattle.neli_wire.specs.Reading.{◌>>=◌, number_at, number_as}
 use Rattle.neli_wire.specs.Writing.{Wire, ◌+++◌, padded}
 
 -- what a header says: the length of the attribute without its padding, and the type

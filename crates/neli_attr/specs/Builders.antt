@@ -1,9 +1,9 @@
 -- Builders: what they make of the fields that they were given, or why they make nothing.
 use Rattle.std.specs.Prelude.{◌≡◌, ℕ, ◌+◌, List, codes, length, Option, Some, None, Result, Ok, Err, nat_lt, if◌then◌else◌}
-use Rattle.neli_wire.specs.Messages.{uninitialized}
+use Rattle.neli_wire_base.specs.Messages.{uninitialized}
 use Rattle.neli_wire.specs.Writing.{Wire}
-use Rattle.neli_wire.specs.declared.errors.SerError.{SerError}
-use Rattle.neli_wire.specs.declared.errors.SerError.TheVariants as ser
+use Rattle.neli_wire_base.specs.declared.errors.SerError.{SerError}
+use Rattle.neli_wire_base.specs.declared.errors.SerError.TheVariants as ser
 use Rattle.neli_attr.specs.declared.builders.BuildError.{BuildError}
 use Rattle.neli_attr.specs.declared.builders.BuildError.TheVariants.{UninitializedField, ValidationError, Memory}
 

@@ -3,7 +3,7 @@ use Rattle.std.proofs.Common.{◌≡◌, ℕ, ◌+◌, ◌-◌, ◌<◌, List, [
 use Rattle.std.proofs.lemmas.List.{append-nil, take_at, drop_at, length-replicate}
 use Rattle.byteorder.specs.Endian.{little_bytes, little_number}
 use Rattle.byteorder.specs.Numbers.{little_number-reads_back}
-use Rattle.neli_wire.specs.declared.errors.DeError.{DeError}
+use Rattle.neli_wire_base.specs.declared.errors.DeError.{DeError}
 use Rattle.neli_wire.specs.Sizes.{align}
 use Rattle.neli_wire.specs.Frames.{Layout, IsFrame, framed, number_in}
 use Rattle.neli_wire.specs.FrameLaws.{IsPlaced, framed-frame, frame_of-framed, framed-local}

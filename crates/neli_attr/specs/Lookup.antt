@@ -1,7 +1,7 @@
 -- Looking attributes up.
 use Rattle.std.specs.Prelude.{ℕ, List, Option, Some, None, Result, Err}
-use Rattle.neli_wire.specs.declared.errors.DeError.{DeError}
-use Rattle.neli_wire.specs.declared.errors.DeError.TheVariants.{Msg}
+use Rattle.neli_wire_base.specs.declared.errors.DeError.{DeError}
+use Rattle.neli_wire_base.specs.declared.errors.DeError.TheVariants.{Msg}
 use Rattle.neli_attr.specs.declared.attr_handle.AttrHandle.{AttrHandle}
 use Rattle.neli_attr.specs.declared.attr_handle.AttrHandle.TheVariants.{Owned, Borrowed}
 

@@ -1,7 +1,7 @@
 -- Generic attributes: what their calls make.
 use Rattle.std.specs.Prelude.{ℕ, ◌+◌, List, Bool, true, codes, find, length, map, nat_eq, Option, Result, Ok}
 use Rattle.std.specs.Ordering.{eq_of_both, on}
-use Rattle.neli_wire.specs.declared.errors.DeError.{DeError}
+use Rattle.neli_wire_base.specs.declared.errors.DeError.{DeError}
 use Rattle.neli_wire.specs.Frames.{Layout, framed}
 use Rattle.neli_wire.specs.Reading.{elements}
 use Rattle.neli_wire.specs.Sizes.{align}

@@ -4,7 +4,7 @@ use Rattle.std.specs.Prelude.{nat_eq, not, codes}
 use Rattle.std.proofs.lemmas.Bool.{ltb-false}
 use Rattle.std.proofs.lemmas.Nat.{and_mask, or_lt}
 use Rattle.std.proofs.lemmas.Nat.Bits.{and_pow}
-use Rattle.neli_wire.specs.declared.errors.SerError.TheVariants.{Msg}
+use Rattle.neli_wire_base.specs.declared.errors.SerError.TheVariants.{Msg}
 use Rattle.neli_wire.specs.Frames.{framed, IsFrame}
 use Rattle.neli_wire.specs.FrameLaws.{framed-frame}
 use Rattle.byteorder.specs.Endian.{little_bytes}

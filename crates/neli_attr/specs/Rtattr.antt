@@ -1,6 +1,6 @@
 -- Routing attributes: what their calls make.
 use Rattle.std.specs.Prelude.{ℕ, ◌+◌, List, Bool, codes, find, length, map, Option, Result, Ok}
-use Rattle.neli_wire.specs.declared.errors.DeError.{DeError}
+use Rattle.neli_wire_base.specs.declared.errors.DeError.{DeError}
 use Rattle.neli_wire.specs.Frames.{Layout, framed}
 use Rattle.neli_wire.specs.Reading.{elements}
 use Rattle.neli_wire.specs.Sizes.{align}

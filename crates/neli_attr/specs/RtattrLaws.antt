@@ -1,8 +1,8 @@
 -- Laws of routing attributes, which the impls cite.
 use Rattle.std.proofs.Common.{◌≡◌, ◌≢◌, ℕ, List, length, Result, Ok, Err}
-use Rattle.neli_wire.specs.declared.errors.DeError.{DeError}
-use Rattle.neli_wire.specs.declared.errors.DeError.TheVariants.{Memory}
-use Rattle.neli_wire.specs.declared.errors.SerError.TheVariants as ser
+use Rattle.neli_wire_base.specs.declared.errors.DeError.{DeError}
+use Rattle.neli_wire_base.specs.declared.errors.DeError.TheVariants.{Memory}
+use Rattle.neli_wire_base.specs.declared.errors.SerError.TheVariants as ser
 use Rattle.neli_wire.specs.Frames.{framed}
 use Rattle.neli_wire.specs.Reading.{IsLocal}
 use Rattle.neli_wire.specs.Writing.{Wire}

@@ -4,7 +4,7 @@
 //! `get_payload_as_with_len_borrowed`.
 
 ghost use Rattle.std.specs.Prelude.{◌≡◌, ℕ, List, Ok, IfOk, IfErr, OnOk, OnErr, length};
-ghost use Rattle.neli_wire.specs.Reading.{Refuses};
+ghost use Rattle.neli_wire_base.specs.Bytes.{Refuses};
 ghost use Rattle.neli_wire.specs.Writing.{IsRefused};
 ghost use Rattle.neli_attr.specs.Attributes.{attribute_payload};
 

@@ -83,7 +83,7 @@ impl<const OF: u8> Error for BuildError<OF> {}
 
 impl<const OF: u8> From<UninitializedFieldError> for BuildError<OF> {
     ghost use Rattle.std.specs.Prelude.{◌≡◌};
-    ghost use Rattle.neli_wire.specs.Messages.{name_of};
+    ghost use Rattle.neli_wire_base.specs.Messages.{name_of};
     ghost use Rattle.neli_attr.specs.Builders.{IsMissing};
 
     ghost from_gives = { λ error e. IsMissing (name_of error) e };

@@ -2,8 +2,8 @@
 
 ghost use Rattle.std.specs.Prelude.{◌≡◌, ◌+◌, ◌<◌, Ok, IfOk, IfErr, OnOk, OnErr, MatchOption, codes, length, min, take};
 ghost use Rattle.neli_wire.specs.Frames.{framed, framed_takes};
-ghost use Rattle.neli_wire.specs.Place.{whole};
-ghost use Rattle.neli_wire.specs.Reading.{Refuses};
+ghost use Rattle.neli_wire_base.specs.Place.{whole};
+ghost use Rattle.neli_wire_base.specs.Bytes.{Refuses};
 ghost use Rattle.neli_wire.specs.Writing.{IsRefused, appended};
 ghost use Rattle.neli_attr.specs.Attributes.{attr, attribute, attribute_at, attribute_payload, attribute_takes, attribute_wire};
 

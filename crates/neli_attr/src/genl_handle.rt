@@ -2,7 +2,7 @@
 
 ghost use Rattle.std.specs.Prelude.{◌≡◌, ◌<◌, ℕ, List, Ok, IfOk, IfErr, IsSomeAnd, codes, length, map};
 ghost use Rattle.std.specs.Option.{option_copied};
-ghost use Rattle.neli_wire.specs.Reading.{Refuses};
+ghost use Rattle.neli_wire_base.specs.Bytes.{Refuses};
 ghost use Rattle.neli_attr.specs.Lookup.{attrs_in, looked_up};
 ghost use Rattle.neli_attr.specs.Nlattr.{nlattr_list, nlattr_of_type, nlattr_texts};
 

@@ -4,7 +4,7 @@ ghost use Rattle.std.specs.Prelude.{◌≡◌, ◌+◌, ◌<◌, ◌++◌, ◌�
 ghost use Rattle.neli_wire.specs.Frames.{framed};
 ghost use Rattle.neli_wire.specs.Reading.{elements, within};
 ghost use Rattle.neli_wire.specs.Writing.{appended};
-ghost use Rattle.neli_wire.specs.declared.errors.DeError.{DeError as Refusal};
+ghost use Rattle.neli_wire_base.specs.declared.errors.DeError.{DeError as Refusal};
 ghost use Rattle.neli_attr.specs.declared.attr_type.AttrType.{AttrType as Field};
 ghost use Rattle.neli_attr.specs.declared.nlattr.Nlattr.{Nlattr as Generic};
 ghost use Rattle.neli_attr.specs.declared.nlattr.NlattrBuilder.{NlattrBuilder as GenericBuilder};

@@ -2,7 +2,7 @@
 
 ghost use Rattle.std.specs.Prelude.{◌≡◌, ◌+◌, ◌<◌, ℕ, List, Some, None, Ok, IfOk, IfErr, OnOk, OnErr, length, option_map, min};
 ghost use Rattle.neli_wire.specs.Frames.{framed, framed_takes};
-ghost use Rattle.neli_wire.specs.Reading.{Refuses};
+ghost use Rattle.neli_wire_base.specs.Bytes.{Refuses};
 ghost use Rattle.neli_wire.specs.SizeLaws.{padded-rounded};
 ghost use Rattle.neli_wire.specs.Sizes.{align};
 ghost use Rattle.neli_wire.specs.Writing.{IsRefused, appended};

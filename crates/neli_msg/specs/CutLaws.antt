@@ -1,9 +1,9 @@
 -- Laws of cuts.
 use Rattle.std.proofs.Common.{◌≡◌, ◌≢◌, ℕ, zero, suc, ◌*◌, ◌/◌, ◌<◌, ◌≤◌, List, [], ◌∷◌, ◌++◌, length, Result, Ok, Err, Option, Some, None, refl, sym, ap, subst, ◌∙◌, append_assoc, arith, length-append, drop}
 use Rattle.std.proofs.lemmas.List.{append-nil}
-use Rattle.neli_wire.specs.declared.errors.DeError.{DeError}
-use Rattle.neli_wire.specs.declared.errors.DeError.TheVariants.{Msg, Io, Utf8, InvalidInput, Memory}
-use Rattle.neli_wire.specs.Reading.{Reading, Refuses}
+use Rattle.neli_wire_base.specs.declared.errors.DeError.{DeError}
+use Rattle.neli_wire_base.specs.declared.errors.DeError.TheVariants.{Msg, Io, Utf8, InvalidInput, Memory}
+use Rattle.neli_wire_base.specs.Bytes.{Reading, Refuses}
 use Rattle.neli_wire.specs.ReadingLaws.{ok_is}
 use Rattle.neli_msg.specs.Message.{Header, Message}
 use Rattle.neli_msg.specs.Frames.{IsFrame, message_at}

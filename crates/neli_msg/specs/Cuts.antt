@@ -1,7 +1,7 @@
 -- What a datagram says: frames of messages, one after the other.
 use Rattle.std.specs.Prelude.{◌≡◌, ◌≢◌, ℕ, zero, suc, List, [], ◌∷◌, ◌++◌, length, Result, Ok, Err, Option, Some, None}
-use Rattle.neli_wire.specs.declared.errors.DeError.{DeError}
-use Rattle.neli_wire.specs.Reading.{Reading}
+use Rattle.neli_wire_base.specs.declared.errors.DeError.{DeError}
+use Rattle.neli_wire_base.specs.Bytes.{Reading}
 use Rattle.neli_msg.specs.declared.errors.SocketError.{SocketError}
 use Rattle.neli_msg.specs.declared.errors.SocketError.TheVariants.{Msg, Ser, De, Io, Memory}
 use Rattle.neli_msg.specs.Message.{Header, Message}

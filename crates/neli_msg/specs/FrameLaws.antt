@@ -2,12 +2,13 @@
 use Rattle.std.proofs.Common.{◌≡◌, ◌≢◌, ℕ, ◌+◌, ◌≤◌, Bool, true, false, cond, ltb, List, ◌++◌, length, take, drop, Result, Ok, Err, refl, sym, ap, ◌∙◌, arith, length-append}
 use Rattle.std.specs.Prelude.{IfErr}
 use Rattle.std.proofs.lemmas.List.{drop-drop}
-use Rattle.neli_wire.specs.declared.errors.DeError.{DeError}
-use Rattle.neli_wire.specs.declared.errors.DeError.TheVariants.{Msg, Io, Utf8, InvalidInput, Memory}
+use Rattle.neli_wire_base.specs.declared.errors.DeError.{DeError}
+use Rattle.neli_wire_base.specs.declared.errors.DeError.TheVariants.{Msg, Io, Utf8, InvalidInput, Memory}
 use Rattle.neli_wire.specs.FrameLaws.{IsWide, IsPlaced, then-wide, done-wide, value_at-wide_by, number_at-wide_by, number_in-take, header_then-is, header_then_takes-is, framed-frame, frame_of-framed, framed-local, framed-no_memory}
 use Rattle.neli_wire.specs.Frames.{number_in}
 use Rattle.neli_wire.specs.Numbers.{little_number}
-use Rattle.neli_wire.specs.Reading.{Refuses, ◌>>=◌, IsLocal, number_as, number_at, sized}
+use Rattle.neli_wire_base.specs.Bytes.{Refuses}
+use Rattle.neli_wire.specs.Reading.{◌>>=◌, IsLocal, number_as, number_at, sized}
 use Rattle.neli_wire.specs.ReadingLaws.{bind-not}
 use Rattle.neli_consts.specs.declared.nlm_f.NlmF.{NlmF}
 use Rattle.neli_msg.specs.declared.payload.NlPayload.{NlPayload}

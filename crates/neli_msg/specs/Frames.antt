@@ -1,9 +1,10 @@
 -- Frames: how a message lies in bytes (RFC 3549 section 2.3.2; `struct nlmsghdr` of linux/netlink.h).
 use Rattle.std.specs.Prelude.{ℕ, List, Result, Ok}
-use Rattle.neli_wire.specs.declared.errors.DeError.{DeError}
+use Rattle.neli_wire_base.specs.declared.errors.DeError.{DeError}
 use Rattle.neli_wire.specs.Frames as wire
 use Rattle.neli_wire.specs.Frames.{Layout, framed, framed_takes, number_in, header_then, header_then_takes}
-use Rattle.neli_wire.specs.Reading.{Reading, ◌>>=◌, number_as, number_at}
+use Rattle.neli_wire_base.specs.Bytes.{Reading}
+use Rattle.neli_wire.specs.Reading.{◌>>=◌, number_as, number_at}
 use Rattle.neli_msg.specs.Message.{Header, Message, flags_of}
 
 -- the header, by its places: length at 0, type at 4, flags at 6, number at 8, port at 12

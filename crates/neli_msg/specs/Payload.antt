@@ -1,6 +1,6 @@
 -- What the bytes behind a header say.
 use Rattle.std.specs.Prelude.{ℕ, List, Result, Ok}
-use Rattle.neli_wire.specs.declared.errors.DeError.{DeError}
+use Rattle.neli_wire_base.specs.declared.errors.DeError.{DeError}
 use Rattle.neli_wire.specs.Reading.{◌>>=◌}
 use Rattle.neli_msg.specs.Message.{Header}
 use Rattle.neli_msg.specs.declared.payload.NlPayload.{NlPayload}

@@ -1,7 +1,7 @@
 //! Laws of datagrams, over the definitions alone. The calls do nothing: their contracts are the laws.
 
 ghost use Rattle.std.specs.Prelude.{◌≡◌, ◌*◌, ◌/◌, ◌≤◌, ℕ, List, Option, length};
-ghost use Rattle.neli_wire.specs.declared.errors.DeError.{DeError as Refusal};
+ghost use Rattle.neli_wire_base.specs.declared.errors.DeError.{DeError as Refusal};
 ghost use Rattle.neli_msg.specs.declared.payload.NlPayload.{NlPayload as Payload};
 ghost use Rattle.neli_msg.specs.Message.{Message};
 ghost use Rattle.neli_msg.specs.Payload.{payload_at};

@@ -1,8 +1,8 @@
 //! Messages.
 
 ghost use Rattle.std.specs.Prelude.{◌≡◌, Ok, IfOk, IfErr, OnOk, OnErr};
-ghost use Rattle.neli_wire.specs.Place.{whole};
-ghost use Rattle.neli_wire.specs.Reading.{Refuses};
+ghost use Rattle.neli_wire_base.specs.Place.{whole};
+ghost use Rattle.neli_wire_base.specs.Bytes.{Refuses};
 ghost use Rattle.neli_msg.specs.Message.{Message};
 ghost use Rattle.neli_msg.specs.Payload.{payload_at, payload_takes};
 ghost use Rattle.neli_msg.specs.View.{fields_of, message_of};

@@ -1,8 +1,9 @@
 //! What a message carries behind its header.
 
 ghost use Rattle.std.specs.Prelude.{◌≡◌, Ok, IfOk, IfErr, OnOk};
-ghost use Rattle.neli_wire.specs.Place.{whole};
-ghost use Rattle.neli_wire.specs.Reading.{Refuses, sized, sized_takes};
+ghost use Rattle.neli_wire_base.specs.Place.{whole};
+ghost use Rattle.neli_wire_base.specs.Bytes.{Refuses};
+ghost use Rattle.neli_wire.specs.Reading.{sized, sized_takes};
 ghost use Rattle.neli_msg.specs.Payload.{body_payload, payload_view};
 
 use neli_wire::{Cursor, DeError, FromBytesWithInput};

@@ -1,10 +1,10 @@
 -- Bodies of plain bytes are always read, so a datagram of them has two faults only.
 use Rattle.std.proofs.Common.{◌≡◌, ◌≢◌, ℕ, ◌-◌, Bool, true, false, cond, ltb, List, [], ◌∷◌, length, take, drop, Result, Ok, Err, Option, Some, None, sym, subst}
-use Rattle.neli_wire.specs.declared.errors.DeError.{DeError}
-use Rattle.neli_wire.specs.declared.errors.DeError.TheVariants as de
+use Rattle.neli_wire_base.specs.declared.errors.DeError.{DeError}
+use Rattle.neli_wire_base.specs.declared.errors.DeError.TheVariants as de
 use Rattle.neli_wire.specs.Frames.{framed}
 use Rattle.neli_wire.specs.Sizes.{align}
-use Rattle.neli_wire.specs.Reading.{short}
+use Rattle.neli_wire_base.specs.Bytes.{short}
 use Rattle.neli_msg.specs.declared.payload.NlPayload.{NlPayload}
 use Rattle.neli_msg.specs.declared.payload.NlPayload.TheVariants.{Payload}
 use Rattle.neli_msg.specs.Message.{Header}

@@ -3,8 +3,8 @@ use Rattle.std.specs.Prelude.{◌≡◌, ℕ, ◌-◌, List, [], ◌++◌, lengt
 use Rattle.std.specs.Io.KnownBytes.{Appends, Keeps}
 use Rattle.std.specs.List.{flat_map}
 use Rattle.std.specs.Fmt.{decimal, digits}
-use Rattle.neli_wire.specs.declared.errors.DeError.{DeError}
-use Rattle.neli_wire.specs.declared.errors.DeError.TheVariants as de
+use Rattle.neli_wire_base.specs.declared.errors.DeError.{DeError}
+use Rattle.neli_wire_base.specs.declared.errors.DeError.TheVariants as de
 use Rattle.std.specs.declared.io.ErrorKind.TheVariants.{UnexpectedEof}
 use Rattle.neli_msg.specs.declared.errors.SocketError.{SocketError}
 use Rattle.neli_msg.specs.declared.errors.SocketError.TheVariants as socket

@@ -1,11 +1,12 @@
 -- Reading values one after the other.
 use Rattle.std.proofs.Common.{◌≡◌, ◌≢◌, ℕ, suc, ◌+◌, ◌-◌, ◌<◌, ◌≤◌, Bool, true, false, cond, List, [], ◌∷◌, ◌++◌, length, Result, Ok, Err, refl, sym, ap, ◌∙◌, append_assoc, arith, length-append}
 use Rattle.std.proofs.lemmas.List.{append-nil}
-use Rattle.neli_wire.specs.declared.errors.DeError.{DeError}
-use Rattle.neli_wire.specs.declared.errors.DeError.TheVariants.{Msg, Io, Utf8, InvalidInput, Memory}
-use Rattle.neli_wire.specs.Place.{Place, whole}
+use Rattle.neli_wire_base.specs.declared.errors.DeError.{DeError}
+use Rattle.neli_wire_base.specs.declared.errors.DeError.TheVariants.{Msg, Io, Utf8, InvalidInput, Memory}
+use Rattle.neli_wire_base.specs.Place.{Place, whole}
 use Rattle.neli_wire.specs.ListLaws.{nothing_left, one_more, none_taken, none_read}
-use Rattle.neli_wire.specs.Reading.{Reading, Refuses, ◌>>=◌, IsLocal, elements_by, elements, map_refusal, within, is_short}
+use Rattle.neli_wire_base.specs.Bytes.{Reading, Refuses}
+use Rattle.neli_wire.specs.Reading.{◌>>=◌, IsLocal, elements_by, elements, map_refusal, within, is_short}
 
 -- what was read before, and what is still read
 abbrev pub with_front : {V : Type 0} → List V → Result (List V) DeError → Result (List V) DeError

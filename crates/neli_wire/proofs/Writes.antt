@@ -1,8 +1,8 @@
 -- Writing values one after the other.
 use Rattle.std.proofs.Common.{◌≡◌, ℕ, ◌+◌, ◌<◌, List, length, take, drop, get_or, Ok, sym, ap, ◌∙◌}
 use Rattle.std.proofs.lemmas.List.{drop_more}
-use Rattle.neli_wire.specs.declared.errors.SerError.{SerError}
-use Rattle.neli_wire.specs.declared.errors.SerError.TheVariants.{Msg, Io, Utf8, Memory}
+use Rattle.neli_wire_base.specs.declared.errors.SerError.{SerError}
+use Rattle.neli_wire_base.specs.declared.errors.SerError.TheVariants.{Msg, Io, Utf8, Memory}
 use Rattle.neli_wire.specs.WritingLaws.{appended_then, appended-err, appended_front, front_trans, unwritten_first}
 use Rattle.neli_wire.specs.Writing.{Wire, ◌+++◌, appended, IsRefused, wire_all}
 

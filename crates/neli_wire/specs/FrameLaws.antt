@@ -4,10 +4,11 @@ use Rattle.std.proofs.lemmas.Bool.{cases_lt, ltb-false, le-ltb, lt-ltb}
 use Rattle.std.proofs.lemmas.List.{take-append-drop, take-append-le, drop-append-le, drop-drop, drop_at, length-take-le}
 use Rattle.byteorder.specs.Endian.{little_number}
 use Rattle.byteorder.specs.Numbers.{little_from-append}
-use Rattle.neli_wire.specs.declared.errors.DeError.{DeError}
-use Rattle.neli_wire.specs.declared.errors.DeError.TheVariants.{InvalidInput, Memory}
+use Rattle.neli_wire_base.specs.declared.errors.DeError.{DeError}
+use Rattle.neli_wire_base.specs.declared.errors.DeError.TheVariants.{InvalidInput, Memory}
 use Rattle.neli_wire.specs.Sizes.{align}
-use Rattle.neli_wire.specs.Reading.{Reading, ◌>>=◌, IsLocal, and_then, bytes_at, value_at, number_at, short}
+use Rattle.neli_wire_base.specs.Bytes.{Reading, bytes_at, short}
+use Rattle.neli_wire.specs.Reading.{◌>>=◌, IsLocal, and_then, value_at, number_at}
 use Rattle.neli_wire.specs.ReadingLaws.{bind_ok, guard_ok, ok_is, guard-not, bind-not}
 use Rattle.neli_wire.specs.Frames.{Layout, IsFrame, framed, framed_by, framed_takes, number_in, body_at, body_takes, header_then, header_then_takes}
 

@@ -2,9 +2,10 @@
 use Rattle.std.specs.Prelude.{◌≡◌, ℕ, ◌-◌, ◌≤◌, List, length, take, drop, Result, Ok, Err, nat_lt, if◌then◌else◌}
 use Rattle.byteorder.specs.Endian.{little_number}
 use Rattle.neli_wire.specs.Sizes.{align}
-use Rattle.neli_wire.specs.declared.errors.DeError.{DeError}
-use Rattle.neli_wire.specs.declared.errors.DeError.TheVariants.{InvalidInput}
-use Rattle.neli_wire.specs.Reading.{Reading, ◌>>=◌, Then, bytes_at, sized, sized_takes, short}
+use Rattle.neli_wire_base.specs.declared.errors.DeError.{DeError}
+use Rattle.neli_wire_base.specs.declared.errors.DeError.TheVariants.{InvalidInput}
+use Rattle.neli_wire_base.specs.Bytes.{Reading, bytes_at, short}
+use Rattle.neli_wire.specs.Reading.{◌>>=◌, Then, sized, sized_takes}
 
 -- the number in the n bytes from place i, the lowest first
 abbrev pub number_in : ℕ → ℕ → List ℕ → ℕ

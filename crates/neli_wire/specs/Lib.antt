@@ -1,16 +1,13 @@
 pub mod Constants
-pub mod ErrorTexts
 pub mod FrameLaws
 pub mod Frames
 pub mod ListLaws
 pub mod NumberLaws
 pub mod Numbers
-pub mod Place
 pub mod Reading
 pub mod ReadingLaws
 pub mod Sizes
 pub mod SizeLaws
-pub mod Messages
 pub mod StringLaws
 pub mod Strings
 pub mod Writing

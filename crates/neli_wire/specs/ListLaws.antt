@@ -2,13 +2,14 @@
 use Rattle.std.proofs.Common.{◌≡◌, ◌≢◌, ℕ, zero, suc, ◌+◌, ◌<◌, ◌≤◌, Bool, true, false, cond, ltb, List, [], ◌∷◌, ◌++◌, length, Result, Ok, Err, refl, sym, ap, subst, ◌∙◌, append_assoc, arith, length-append}
 use Rattle.std.specs.Prelude.{sum_by}
 use Rattle.std.proofs.lemmas.List.Sums.{sum_by-cons}
-use Rattle.neli_wire.specs.declared.errors.SerError.TheVariants as ser
-use Rattle.neli_wire.specs.declared.errors.DeError.{DeError}
-use Rattle.neli_wire.specs.declared.errors.DeError.TheVariants.{InvalidInput, Memory}
+use Rattle.neli_wire_base.specs.declared.errors.SerError.TheVariants as ser
+use Rattle.neli_wire_base.specs.declared.errors.DeError.{DeError}
+use Rattle.neli_wire_base.specs.declared.errors.DeError.TheVariants.{InvalidInput, Memory}
 use Rattle.neli_wire.specs.ReadingLaws.{bind_ok}
 use Rattle.std.proofs.lemmas.Bool.{ltb-true, lt-ltb, le-ltb}
 use Rattle.neli_wire.specs.Writing.{Wire, ◌+++◌, wire_all}
-use Rattle.neli_wire.specs.Reading.{Reading, IsLocal, AreElements, ◌>>=◌, elements_by, elements, map_refusal, within, is_short, short}
+use Rattle.neli_wire_base.specs.Bytes.{Reading, short}
+use Rattle.neli_wire.specs.Reading.{IsLocal, AreElements, ◌>>=◌, elements_by, elements, map_refusal, within, is_short}
 
 abbrev written : List ℕ → Wire
 written bytes = Ok bytes

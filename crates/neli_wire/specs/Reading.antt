@@ -2,16 +2,9 @@
 use Rattle.std.specs.Prelude.{◌≡◌, ◌≤◌, ◌<◌, Bool, true, false, ℕ, zero, suc, List, [], ◌∷◌, ◌++◌, length, take, drop, Result, Ok, Err, nat_lt, if◌then◌else◌}
 use Rattle.byteorder.specs.Endian.{little_number}
 use Rattle.std.specs.declared.io.ErrorKind.TheVariants.{UnexpectedEof}
-use Rattle.neli_wire.specs.declared.errors.DeError.{DeError}
-use Rattle.neli_wire.specs.declared.errors.DeError.TheVariants.{Msg, Io, Utf8, InvalidInput, Memory}
-
--- the value that begins a byte list and the bytes after it, or a refusal
-abbrev pub Reading : Type 0 → Type 0
-Reading V = Result (V × List ℕ) DeError
-
--- the bytes end too early
-abbrev pub short : DeError
-short = Io UnexpectedEof
+use Rattle.neli_wire_base.specs.Bytes.{Reading, bytes_at}
+use Rattle.neli_wire_base.specs.declared.errors.DeError.{DeError}
+use Rattle.neli_wire_base.specs.declared.errors.DeError.TheVariants.{Io, InvalidInput}
 
 -- what is done with a value that was read; a refusal stays
 infixl 10 ◌>>=◌
@@ -24,10 +17,6 @@ abbrev pub and_then : {A B : Type 0} → (List ℕ → Reading A) → (A → Lis
 and_then read next s = read s >>= λ p. next p.0 p.1
 
 -- ---- parts of readings
-
--- the next n bytes
-abbrev pub bytes_at : ℕ → List ℕ → Reading (List ℕ)
-bytes_at n s = if nat_lt (length s) n then Err short else Ok (take n s, drop n s)
 
 -- the value that the next n bytes spell
 abbrev pub value_at : {V : Type 0} → ℕ → (List ℕ → V) → List ℕ → Reading V
@@ -46,14 +35,6 @@ abbrev pub sized : {V : Type 0} → (List ℕ → Result V DeError) → ℕ → 
 sized read n s = if nat_lt (length s) n then Err (InvalidInput n) else (read (take n s) >>= λ v. Ok (v, drop n s))
 
 -- ---- refusals
-
--- e is the refusal that the reading gives; or memory ran out, where the reading takes some
-abbrev pub Refuses : {A : Type 0} → Result A DeError → Type 0 → DeError → Type 0
-Refuses outcome takes_memory (Msg m) = outcome ≡ Err (Msg m)
-Refuses outcome takes_memory (Io k) = outcome ≡ Err (Io k)
-Refuses outcome takes_memory (Utf8 u) = outcome ≡ Err (Utf8 u)
-Refuses outcome takes_memory (InvalidInput n) = outcome ≡ Err (InvalidInput n)
-Refuses outcome takes_memory Memory = takes_memory
 
 -- the first n bytes are there, and reading them takes memory
 abbrev pub sized_takes : (List ℕ → Type 0) → ℕ → List ℕ → Type 0

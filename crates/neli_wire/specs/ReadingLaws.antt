@@ -2,10 +2,11 @@
 use Rattle.std.proofs.Common.{◌≡◌, ◌≢◌, [], ℕ, ◌≤◌, ◌+◌, Bool, true, false, cond, ltb, List, ◌++◌, length, take, drop, Result, Ok, Err, refl, sym, ap, subst, ◌∙◌, append_assoc, arith, length-append, length-drop}
 use Rattle.std.proofs.lemmas.Bool.{ltb-false, le-ltb}
 use Rattle.std.proofs.lemmas.List.{take_at, drop_at, take-append-drop, length-take-le}
-use Rattle.neli_wire.specs.declared.errors.DeError.{DeError}
-use Rattle.neli_wire.specs.declared.errors.DeError.TheVariants.{Msg, Io, Utf8, InvalidInput, Memory}
+use Rattle.neli_wire_base.specs.declared.errors.DeError.{DeError}
+use Rattle.neli_wire_base.specs.declared.errors.DeError.TheVariants.{Msg, Io, Utf8, InvalidInput, Memory}
 use Rattle.byteorder.specs.Endian.{little_number}
-use Rattle.neli_wire.specs.Reading.{Reading, Refuses, ◌>>=◌, IsLocal, and_then, sized, bytes_at, value_at, number_at, short}
+use Rattle.neli_wire_base.specs.Bytes.{Reading, Refuses, bytes_at, short}
+use Rattle.neli_wire.specs.Reading.{◌>>=◌, IsLocal, and_then, sized, value_at, number_at}
 
 -- the parts of a reading that gives a value
 pub bind_ok : {A B : Type 0} (r : Result A DeError) (f : A → Result B DeError) (y : B) → (r >>= f) ≡ Ok y → (x : A) × (r ≡ Ok x) × (f x ≡ Ok y)

@@ -1,8 +1,8 @@
 -- Writing: the bytes of a value, called its wire text, or why it has none.
 use Rattle.std.specs.Prelude.{◌≡◌, ℕ, List, [], ◌∷◌, ◌++◌, length, replicate, Result, Ok, Err}
 use Rattle.neli_wire.specs.Sizes.{gap}
-use Rattle.neli_wire.specs.declared.errors.SerError.{SerError}
-use Rattle.neli_wire.specs.declared.errors.SerError.TheVariants.{Msg, Io, Utf8, Memory}
+use Rattle.neli_wire_base.specs.declared.errors.SerError.{SerError}
+use Rattle.neli_wire_base.specs.declared.errors.SerError.TheVariants.{Msg, Io, Utf8, Memory}
 
 -- the bytes of a value, or a refusal
 abbrev pub Wire : Type 0

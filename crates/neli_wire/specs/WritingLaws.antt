@@ -1,8 +1,8 @@
 -- Laws of texts of several parts.
 use Rattle.std.proofs.Common.{◌≡◌, ◌≢◌, ℕ, ◌-◌, ◌≤◌, List, ◌++◌, length, take, Ok, Err, refl, sym, ap, ◌∙◌, append_assoc, arith, length-append}
 use Rattle.std.proofs.lemmas.List.{take_at, length-take, take-take}
-use Rattle.neli_wire.specs.declared.errors.SerError.{SerError}
-use Rattle.neli_wire.specs.declared.errors.SerError.TheVariants.{Msg, Io, Utf8, Memory}
+use Rattle.neli_wire_base.specs.declared.errors.SerError.{SerError}
+use Rattle.neli_wire_base.specs.declared.errors.SerError.TheVariants.{Msg, Io, Utf8, Memory}
 use Rattle.neli_wire.specs.Writing.{Wire, ◌+++◌, appended, padded, zeros_for, IsRefused}
 
 -- a text behind what was appended

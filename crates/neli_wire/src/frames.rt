@@ -2,8 +2,8 @@
 
 ghost use Rattle.std.specs.Prelude.{◌≡◌, ◌≤◌, Ok, IfOk, IfErr, OnOk, OnErr};
 ghost use Rattle.neli_wire.specs.Frames.{body_at, body_takes};
-ghost use Rattle.neli_wire.specs.Place.{whole};
-ghost use Rattle.neli_wire.specs.Reading.{Refuses};
+ghost use Rattle.neli_wire_base.specs.Place.{whole};
+ghost use Rattle.neli_wire_base.specs.Bytes.{Refuses};
 ghost use Rattle.neli_wire.specs.Sizes.{align};
 
 use crate::{Cursor, DeError, FromBytesWithInput, alignto};

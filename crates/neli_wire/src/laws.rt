@@ -4,8 +4,8 @@ ghost use Rattle.std.specs.Prelude.{◌≡◌, ◌≤◌, ◌<◌, ◌++◌, ℕ
 ghost use Rattle.byteorder.specs.Endian.{big_bytes, big_number, little_bytes, little_number};
 ghost use Rattle.neli_wire.specs.Numbers.{AreBytes};
 ghost use Rattle.neli_wire.specs.Reading.{AreElements, elements, value_at, within};
-ghost use Rattle.neli_wire.specs.declared.errors.DeError.{DeError as Refusal};
-ghost use Rattle.neli_wire.specs.declared.errors.DeError.TheVariants as de;
+ghost use Rattle.neli_wire_base.specs.declared.errors.DeError.{DeError as Refusal};
+ghost use Rattle.neli_wire_base.specs.declared.errors.DeError.TheVariants as de;
 
 use crate::{Constant, FromBytes};
 

@@ -15,12 +15,9 @@
 mod big_endian;
 mod bytes;
 mod constants;
-mod cursor;
-mod errors;
 mod frames;
 pub mod laws;
 mod lists;
-mod message;
 mod numbers;
 mod reading;
 mod sizes;
@@ -32,11 +29,11 @@ mod writing;
 
 pub use big_endian::BeU64;
 pub use constants::{Constant, WireNumber};
-pub use cursor::Cursor;
-pub use errors::{DeError, NoMemory, SerError, Utf8};
 pub use frames::read_body;
 pub use lists::{read_all, size_of_all, write_all};
-pub use message::{MsgError, UninitializedFieldError};
+pub use neli_wire_base::{
+    Cursor, DeError, MsgError, NoMemory, SerError, UninitializedFieldError, Utf8,
+};
 pub use reading::{
     FromBytes, FromBytesWithInput, FromBytesWithInputBorrowed, Header, TypeSize, strip_to_four,
     within_input,

@@ -2,7 +2,8 @@
 
 ghost use Rattle.std.specs.Prelude.{◌≡◌, ◌≤◌, ◌<◌, ◌+◌, ℕ, List, Ok, Err, IfOk, IfErr, OnOk, OnErr, length, min, map, take, drop, sum_by};
 ghost use Rattle.neli_wire.specs.ListLaws.{wire_all-length, wire_all-no_memory, elements-no_memory, elements-never_short};
-ghost use Rattle.neli_wire.specs.Reading.{Refuses, elements, within};
+ghost use Rattle.neli_wire_base.specs.Bytes.{Refuses};
+ghost use Rattle.neli_wire.specs.Reading.{elements, within};
 ghost use Rattle.neli_wire.specs.SizeLaws.{unpadded-rounded};
 ghost use Rattle.neli_wire.specs.Writing.{IsRefused, appended, wire_all};
 

@@ -1,11 +1,12 @@
 //! Values that are read from bytes.
 
 ghost use Rattle.std.specs.Prelude.{◌≡◌, ℕ, ◌+◌, ◌-◌, ◌≤◌, ◌<◌, List, Result, Ok, Err, IfOk, IfErr, OnOk, OnErr, length, drop};
-ghost use Rattle.neli_wire.specs.Place.{whole, moved};
-ghost use Rattle.neli_wire.specs.Reading.{Reading, Refuses, IsLocal, sized, sized_takes, short, within};
+ghost use Rattle.neli_wire_base.specs.Place.{whole, moved};
+ghost use Rattle.neli_wire_base.specs.Bytes.{Reading, Refuses, short};
+ghost use Rattle.neli_wire.specs.Reading.{IsLocal, sized, sized_takes, within};
 ghost use Rattle.neli_wire.specs.Sizes.{gap};
-ghost use Rattle.neli_wire.specs.declared.errors.DeError.{DeError as Refusal};
-ghost use Rattle.neli_wire.specs.declared.errors.DeError.TheVariants as de;
+ghost use Rattle.neli_wire_base.specs.declared.errors.DeError.{DeError as Refusal};
+ghost use Rattle.neli_wire_base.specs.declared.errors.DeError.TheVariants as de;
 
 use crate::{Cursor, DeError, ToBytes, alignto};
 use std::alloc::Global;

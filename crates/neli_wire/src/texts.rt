@@ -1,7 +1,7 @@
 //! Text: written as its UTF-8 bytes and a zero.
 
 ghost use Rattle.std.specs.Prelude.{◌≡◌, ◌+◌, ◌<◌, ◌++◌, ◌∷◌, [], ℕ, List, Ok, Err, OnOk, OnErr, IfOk, IfErr, length, string_bytes};
-ghost use Rattle.neli_wire.specs.Reading.{Refuses};
+ghost use Rattle.neli_wire_base.specs.Bytes.{Refuses};
 ghost use Rattle.neli_wire.specs.SizeLaws.{unpadded-rounded};
 ghost use Rattle.neli_wire.specs.StringLaws.{terminated-length, borrowed_text-never_short, owned_text-never_short, owned_text-no_memory};
 ghost use Rattle.neli_wire.specs.Strings.{terminated, borrowed_text, owned_text};

@@ -2,7 +2,7 @@
 
 ghost use Rattle.std.specs.Prelude.{◌≡◌, ℕ, ◌++◌, ◌-◌, ◌≤◌, List, Ok, Err, IfErr, OnOk, OnErr, length, take};
 ghost use Rattle.neli_wire.specs.Writing.{Wire, IsRefused, appended, zeros_for};
-ghost use Rattle.neli_wire.specs.declared.errors.SerError.TheVariants as ser;
+ghost use Rattle.neli_wire_base.specs.declared.errors.SerError.TheVariants as ser;
 
 use crate::{SerError, Size, alignto};
 use std::alloc::AllocError;

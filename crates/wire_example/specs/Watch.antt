@@ -1,7 +1,7 @@
 -- A port and its levels on the wire.
 use Rattle.std.specs.Prelude.{ℕ, ◌+◌, ◌<◌, List, Ok, Result, length, sum_by}
 use Rattle.neli_wire.specs.Numbers.{little_bytes}
-use Rattle.neli_wire.specs.declared.errors.DeError.{DeError}
+use Rattle.neli_wire_base.specs.declared.errors.DeError.{DeError}
 use Rattle.neli_wire.specs.Reading.{◌>>=◌, Then, number_at, elements, map_refusal, within}
 use Rattle.neli_wire.specs.Writing.{Wire, ◌+++◌, wire_all}
 use Rattle.wire_example.specs.declared.watch.Watch.{Watch}

@@ -3,12 +3,13 @@ use Rattle.std.proofs.Common.{◌≡◌, ◌≢◌, ℕ, List, length, Ok, Err, 
 use Rattle.neli_wire.specs.Numbers.{little_bytes}
 use Rattle.neli_wire.specs.ListLaws.{both_written, both-no_memory, wire_all-length, wire_all-no_memory, elements-no_memory, map_refusal-no_memory, map_refusal-never_short}
 use Rattle.neli_wire.specs.NumberLaws.{count-unsigned}
-use Rattle.neli_wire.specs.Reading.{number_at, elements, short}
+use Rattle.neli_wire_base.specs.Bytes.{short}
+use Rattle.neli_wire.specs.Reading.{number_at, elements}
 use Rattle.neli_wire.specs.ReadingLaws.{bind-not, number_at-no_memory}
 use Rattle.neli_wire.specs.Writing.{wire_all}
 use Rattle.neli_wire.specs.WritingLaws.{written-length, written-no_memory}
-use Rattle.neli_wire.specs.declared.errors.DeError.TheVariants.{Memory}
-use Rattle.neli_wire.specs.declared.errors.SerError.TheVariants as ser
+use Rattle.neli_wire_base.specs.declared.errors.DeError.TheVariants.{Memory}
+use Rattle.neli_wire_base.specs.declared.errors.SerError.TheVariants as ser
 use Rattle.wire_example.specs.declared.watch.Watch.{Watch}
 use Rattle.wire_example.specs.Watch.{level_wire, watch_wire, watch_size, watch_fields, watch_of}
 

@@ -1,8 +1,8 @@
 //! A port and the levels that are watched there.
 
 ghost use Rattle.std.specs.Prelude.{◌≡◌, ◌+◌, ◌<◌, ℕ, List, Ok, Err, IfOk, IfErr, OnOk, OnErr, length, take};
-ghost use Rattle.neli_wire.specs.Place.{whole};
-ghost use Rattle.neli_wire.specs.Reading.{Refuses};
+ghost use Rattle.neli_wire_base.specs.Place.{whole};
+ghost use Rattle.neli_wire_base.specs.Bytes.{Refuses};
 ghost use Rattle.neli_wire.specs.Writing.{IsRefused, appended};
 ghost use Rattle.wire_example.specs.Watch.{Seen, seen, watch_wire, watch_size, watch_fields, watch_takes, watch_of};
 ghost use Rattle.wire_example.specs.WatchLaws.{watch_wire-length, watch_wire-no_memory, watch_of-no_memory, watch_of-never_short};

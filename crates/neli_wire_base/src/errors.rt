@@ -6,10 +6,10 @@
 
 ghost use Rattle.std.specs.Prelude.{◌≡◌, ◌++◌, IfOk, IfSome, Some, None, codes, string_bytes};
 ghost use Rattle.std.specs.Fmt.{decimal};
-ghost use Rattle.neli_wire.specs.declared.errors.SerError.TheVariants as ser;
-ghost use Rattle.neli_wire.specs.declared.errors.DeError.TheVariants as de;
-ghost use Rattle.neli_wire.specs.declared.errors.Utf8.TheVariants as utf8;
-ghost use Rattle.neli_wire.specs.ErrorTexts.{ser_text, de_text};
+ghost use Rattle.neli_wire_base.specs.declared.errors.SerError.TheVariants as ser;
+ghost use Rattle.neli_wire_base.specs.declared.errors.DeError.TheVariants as de;
+ghost use Rattle.neli_wire_base.specs.declared.errors.Utf8.TheVariants as utf8;
+ghost use Rattle.neli_wire_base.specs.ErrorTexts.{ser_text, de_text};
 ghost use Rattle.std.specs.IoError.{error_kind};
 ghost use Rattle.std.specs.String.{from_utf8_error_cause};
 

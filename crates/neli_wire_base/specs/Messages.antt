@@ -1,8 +1,8 @@
 -- The texts of messages.
 use Rattle.std.specs.Prelude.{ℕ, List, ◌++◌, string_bytes, codes}
-use Rattle.neli_wire.specs.declared.message.Text.{Text}
-use Rattle.neli_wire.specs.declared.message.Text.TheVariants.{Fixed, Owned, Uninitialized}
-use Rattle.neli_wire.specs.declared.message.UninitializedFieldError.{UninitializedFieldError}
+use Rattle.neli_wire_base.specs.declared.message.Text.{Text}
+use Rattle.neli_wire_base.specs.declared.message.Text.TheVariants.{Fixed, Owned, Uninitialized}
+use Rattle.neli_wire_base.specs.declared.message.UninitializedFieldError.{UninitializedFieldError}
 
 -- what a missing field of a builder is reported as
 abbrev pub uninitialized : List ℕ → List ℕ

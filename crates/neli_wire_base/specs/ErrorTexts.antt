@@ -1,10 +1,10 @@
 -- The texts of refusals, where they are this library's; the standard library has those of an `Io` and a `Utf8`.
 use Rattle.std.specs.Prelude.{ℕ, List, ◌++◌, codes, Option, Some, None}
 use Rattle.std.specs.Fmt.{decimal}
-use Rattle.neli_wire.specs.declared.errors.SerError.{SerError}
-use Rattle.neli_wire.specs.declared.errors.SerError.TheVariants as ser
-use Rattle.neli_wire.specs.declared.errors.DeError.{DeError}
-use Rattle.neli_wire.specs.declared.errors.DeError.TheVariants as de
+use Rattle.neli_wire_base.specs.declared.errors.SerError.{SerError}
+use Rattle.neli_wire_base.specs.declared.errors.SerError.TheVariants as ser
+use Rattle.neli_wire_base.specs.declared.errors.DeError.{DeError}
+use Rattle.neli_wire_base.specs.declared.errors.DeError.TheVariants as de
 
 abbrev pub ser_text : SerError → Option (List ℕ)
 ser_text (ser.Msg text) = Some text

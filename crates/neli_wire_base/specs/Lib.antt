@@ -1,0 +1,4 @@
+pub mod Bytes
+pub mod ErrorTexts
+pub mod Messages
+pub mod Place

@@ -1,0 +1,19 @@
+//! What every read and write of the wire layer speaks of: the place in bytes, and why a value is not
+//! written or read.
+//!
+//! - [`Cursor`]: the place that reads go through.
+//! - [`SerError`], [`DeError`], [`NoMemory`]: why something is not written or read.
+//! - [`MsgError`], [`UninitializedFieldError`]: the texts that errors hold.
+//!
+//! What they mean is stated in `specs/`: `Bytes`, `Place`, `Messages` and `ErrorTexts`.
+#![tactic(auto)]
+
+mod cursor;
+mod errors;
+mod message;
+#[cfg(test)]
+mod tests;
+
+pub use cursor::Cursor;
+pub use errors::{DeError, NoMemory, SerError, Utf8};
+pub use message::{MsgError, UninitializedFieldError};
