@@ -6,7 +6,7 @@
 ghost use Rattle.std.specs.Prelude.{◌≡◌, ℕ, List, Ok, IfOk, IfErr, OnOk, OnErr, length};
 ghost use Rattle.neli_wire_base.specs.Bytes.{Refuses};
 ghost use Rattle.neli_wire.specs.Writing.{IsRefused};
-ghost use Rattle.neli_attr.specs.Attributes.{attribute_payload};
+ghost use Rattle.neli_attr_base.specs.Attributes.{attribute_payload};
 
 use crate::Buffer;
 use neli_wire::{
@@ -63,7 +63,7 @@ pub trait Attribute<T> {
 ///
 /// The error is converted here: no function can be checked whose bound names a lifetime and which
 /// answers a `DeError`, since that can hold a text of the program's own.
-pub(crate) fn read_borrowed<'a, R, E>(payload: &'a Buffer) -> Result<R, E>
+pub fn read_borrowed<'a, R, E>(payload: &'a Buffer) -> Result<R, E>
 where
     R: FromBytesWithInputBorrowed<'a>,
     E: From<DeError>,
