@@ -11,7 +11,7 @@ use Rattle.neli_wire.specs.ListLaws.{elements-are, are-elements, elements-refusa
 use Rattle.neli_wire.specs.NumberLaws.{count-unsigned}
 use Rattle.neli_wire.specs.Reading.{AreElements, elements, within}
 use Rattle.neli_wire.specs.Writing.{zeros_for}
-use Rattle.neli_attr.specs.Attributes.{attribute}
+use Rattle.neli_attr_base.specs.Attributes.{attribute}
 use Rattle.neli_attr.specs.FrameLists.{AreFrames}
 
 module _ {H V : Type 0} (layout : Layout H V) (placed : IsPlaced layout) (some : 0 < layout.size) where

@@ -1,9 +1,3 @@
-pub mod AttrType
-pub mod AttrTypeLaws
-pub mod AttributeLaws
-pub mod Attributes
-pub mod Buffers
-pub mod Builders
 pub mod FrameListLaws
 pub mod FrameLists
 pub mod GenlLends

@@ -6,12 +6,12 @@ use Rattle.neli_wire.specs.Frames.{Layout, framed}
 use Rattle.neli_wire.specs.Reading.{elements}
 use Rattle.neli_wire.specs.Sizes.{align}
 use Rattle.neli_wire.specs.Writing.{Wire}
-use Rattle.neli_attr.specs.Attributes.{Attr, Head, attr, attribute, attribute_wire}
-use Rattle.neli_attr.specs.AttrType.{attr_type_eq, number_of, type_of}
-use Rattle.neli_attr.specs.declared.attr_type.AttrType.{AttrType}
+use Rattle.neli_attr_base.specs.Attributes.{Attr, Head, attr, attribute, attribute_wire}
+use Rattle.neli_attr_base.specs.AttrType.{attr_type_eq, number_of, type_of}
+use Rattle.neli_attr_base.specs.declared.attr_type.AttrType.{AttrType}
 use Rattle.neli_attr.specs.declared.nlattr.Nlattr.{Nlattr}
 use Rattle.neli_attr.specs.declared.nlattr.NlattrBuilder.{NlattrBuilder}
-use Rattle.neli_attr.specs.Builders.{Outcome, given, payload_in, ◌>>>◌}
+use Rattle.neli_attr_base.specs.Builders.{Outcome, given, payload_in, ◌>>>◌}
 
 -- an attribute with this type and payload, and the length that goes with it
 abbrev pub with_length : {T : Type 0} → AttrType T → List ℕ → Nlattr T (List ℕ)

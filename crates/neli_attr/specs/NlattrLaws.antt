@@ -8,10 +8,10 @@ use Rattle.neli_wire.specs.Reading.{IsLocal}
 use Rattle.neli_wire.specs.Writing.{Wire}
 use Rattle.neli_attr.specs.declared.nlattr.Nlattr.{Nlattr}
 use Rattle.neli_attr.specs.Nlattr.{nlattr_layout, nlattr_size, nlattr_wire}
-use Rattle.neli_attr.specs.AttributeLaws.{attribute-local, attribute-no_memory, attribute_wire-length, attribute_wire-no_memory}
+use Rattle.neli_attr_base.specs.AttributeLaws.{attribute-local, attribute-no_memory, attribute_wire-length, attribute_wire-no_memory}
 use Rattle.std.specs.Cmp.{IsEquivalence, IsPartialEquivalence, and_equiv, and_per, nat_eq_equiv, on_equiv, on_per, partial_equiv_from_equiv}
-use Rattle.neli_attr.specs.AttrType.{number_of, type_of}
-use Rattle.neli_attr.specs.AttrTypeLaws.{attr_type_equiv, attr_type_per}
+use Rattle.neli_attr_base.specs.AttrType.{number_of, type_of}
+use Rattle.neli_attr_base.specs.AttrTypeLaws.{attr_type_equiv, attr_type_per}
 use Rattle.neli_attr.specs.Nlattr.{nlattr_eq}
 
 module _ {T V : Type 0} (value_of : ℕ → T) (payload_of : List ℕ → Result V DeError) where

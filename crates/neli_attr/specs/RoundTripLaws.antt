@@ -11,17 +11,17 @@ use Rattle.byteorder.specs.Endian.{little_bytes}
 use Rattle.neli_wire.specs.NumberLaws.{count-unsigned}
 use Rattle.neli_wire.specs.Reading.{elements}
 use Rattle.neli_wire.specs.Writing.{Wire, appended, zeros_for}
-use Rattle.neli_attr.specs.declared.attr_type.AttrType.{AttrType}
+use Rattle.neli_attr_base.specs.declared.attr_type.AttrType.{AttrType}
 use Rattle.neli_attr.specs.declared.nlattr.Nlattr.{Nlattr}
 use Rattle.neli_attr.specs.declared.nlattr.NlattrBuilder.{NlattrBuilder}
 use Rattle.neli_attr.specs.declared.rtattr.Rtattr.{Rtattr}
 use Rattle.neli_attr.specs.declared.rtattr.RtattrBuilder.{RtattrBuilder}
-use Rattle.neli_attr.specs.Builders.{Outcome, given, ◌>>>◌, payload_in}
-use Rattle.neli_attr.specs.Builders.Fault.{Invalid}
-use Rattle.neli_attr.specs.Attributes.{Attr, attr, attribute, attribute_payload, attribute_wire}
-use Rattle.neli_attr.specs.AttributeLaws.{attribute-placed}
-use Rattle.neli_attr.specs.AttrType.{bit_where, has, number_of, type_of}
-use Rattle.neli_attr.specs.AttrTypeLaws.{field_of-sum}
+use Rattle.neli_attr_base.specs.Builders.{Outcome, given, ◌>>>◌, payload_in}
+use Rattle.neli_attr_base.specs.Builders.Fault.{Invalid}
+use Rattle.neli_attr_base.specs.Attributes.{Attr, attr, attribute, attribute_payload, attribute_wire}
+use Rattle.neli_attr_base.specs.AttributeLaws.{attribute-placed}
+use Rattle.neli_attr_base.specs.AttrType.{bit_where, has, number_of, type_of}
+use Rattle.neli_attr_base.specs.AttrTypeLaws.{field_of-sum}
 use Rattle.neli_attr.specs.FrameListLaws.{attribute_text, attribute_text-frame, frames-list, frames-more, list-frames}
 use Rattle.neli_attr.specs.Nlattr.{nlattr_built, with_length as nlattr_with_length}
 use Rattle.neli_attr.specs.Rtattr.{rtattr_built, with_length as rtattr_with_length}

@@ -1,10 +1,10 @@
 -- What is written of an attribute is read again as what is equal to it.
 use Rattle.std.specs.Prelude.{◌≡◌, ℕ, List, ◌++◌, Ok}
 use Rattle.neli_wire.specs.Frames.{framed}
-use Rattle.neli_attr.specs.declared.attr_type.AttrType.{AttrType}
+use Rattle.neli_attr_base.specs.declared.attr_type.AttrType.{AttrType}
 use Rattle.neli_attr.specs.declared.nlattr.Nlattr.{Nlattr}
 use Rattle.neli_attr.specs.declared.rtattr.Rtattr.{Rtattr}
-use Rattle.neli_attr.specs.Attributes.{Attr}
+use Rattle.neli_attr_base.specs.Attributes.{Attr}
 use Rattle.neli_attr.specs.Nlattr.{nlattr_layout, nlattr_wire}
 use Rattle.neli_attr.specs.Rtattr.{rtattr_layout, rtattr_wire}
 

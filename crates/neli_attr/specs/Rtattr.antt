@@ -5,10 +5,10 @@ use Rattle.neli_wire.specs.Frames.{Layout, framed}
 use Rattle.neli_wire.specs.Reading.{elements}
 use Rattle.neli_wire.specs.Sizes.{align}
 use Rattle.neli_wire.specs.Writing.{Wire}
-use Rattle.neli_attr.specs.Attributes.{Attr, Head, attr, attribute, attribute_wire}
+use Rattle.neli_attr_base.specs.Attributes.{Attr, Head, attr, attribute, attribute_wire}
 use Rattle.neli_attr.specs.declared.rtattr.Rtattr.{Rtattr}
 use Rattle.neli_attr.specs.declared.rtattr.RtattrBuilder.{RtattrBuilder}
-use Rattle.neli_attr.specs.Builders.{Outcome, given, payload_in, ◌>>>◌}
+use Rattle.neli_attr_base.specs.Builders.{Outcome, given, payload_in, ◌>>>◌}
 
 -- an attribute with this type and payload, and the length that goes with it
 abbrev pub with_length : {T : Type 0} → T → List ℕ → Rtattr T (List ℕ)

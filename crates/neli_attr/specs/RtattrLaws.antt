@@ -8,7 +8,7 @@ use Rattle.neli_wire.specs.Reading.{IsLocal}
 use Rattle.neli_wire.specs.Writing.{Wire}
 use Rattle.neli_attr.specs.declared.rtattr.Rtattr.{Rtattr}
 use Rattle.neli_attr.specs.Rtattr.{rtattr_layout, rtattr_size, rtattr_wire}
-use Rattle.neli_attr.specs.AttributeLaws.{attribute-local, attribute-no_memory, attribute_wire-length, attribute_wire-no_memory}
+use Rattle.neli_attr_base.specs.AttributeLaws.{attribute-local, attribute-no_memory, attribute_wire-length, attribute_wire-no_memory}
 
 module _ {T V : Type 0} (value_of : ℕ → T) (payload_of : List ℕ → Result V DeError) where
   pub rtattr_layout-local : IsLocal (framed (rtattr_layout value_of payload_of))

@@ -9,9 +9,9 @@ ghost use Rattle.neli_wire.specs.ListLaws.{elements-no_memory, elements-never_sh
 ghost use Rattle.neli_wire.specs.Reading.{elements};
 ghost use Rattle.neli_wire.specs.SizeLaws.{unpadded-rounded};
 ghost use Rattle.neli_wire.specs.Writing.{wire_all};
-ghost use Rattle.neli_attr.specs.Attributes.{Attr};
+ghost use Rattle.neli_attr_base.specs.Attributes.{Attr};
 ghost use Rattle.neli_attr.specs.Lookup.{attrs_in};
-ghost use Rattle.neli_attr.specs.declared.attr_type.AttrType.{AttrType as Field};
+ghost use Rattle.neli_attr_base.specs.declared.attr_type.AttrType.{AttrType as Field};
 ghost use Rattle.neli_attr.specs.Nlattr.{nlattr_eq, nlattr_layout, nlattr_size, nlattr_view, nlattr_wire, retyped};
 ghost use Rattle.neli_attr.specs.NlattrLaws.{nlattr_equiv, nlattr_per, nlattr_layout-no_memory, nlattr_wire-length, nlattr_wire-no_memory};
 ghost use Rattle.neli_attr.specs.GenlLends.{lends_list, lends_iter};

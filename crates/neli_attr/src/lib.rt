@@ -2,11 +2,6 @@
 #![tactic(auto)]
 
 mod attr_handle;
-mod attr_type;
-mod attribute;
-mod buffer;
-mod builders;
-mod frame;
 mod genl_buffer;
 mod genl_handle;
 pub mod laws;
@@ -22,12 +17,11 @@ mod rtattr;
 mod tests;
 
 pub use attr_handle::{AttrHandle, AttrSlice};
-pub use attr_type::{AttrType, AttrTypeBuilder, AttrTypeBuilderError};
-pub use attribute::Attribute;
-pub use buffer::Buffer;
-pub use builders::{BuildError, of};
 pub use genl_buffer::GenlBuffer;
 pub use genl_handle::GenlAttrHandle;
+pub use neli_attr_base::{
+    AttrType, AttrTypeBuilder, AttrTypeBuilderError, Attribute, Buffer, BuildError, of,
+};
 pub use nlattr::{Nlattr, NlattrBuilder, NlattrBuilderError};
 pub use rt_buffer::RtBuffer;
 pub use rt_handle::RtAttrHandle;

@@ -6,21 +6,21 @@ ghost use Rattle.neli_wire_base.specs.Bytes.{Refuses};
 ghost use Rattle.neli_wire.specs.SizeLaws.{padded-rounded};
 ghost use Rattle.neli_wire.specs.Sizes.{align};
 ghost use Rattle.neli_wire.specs.Writing.{IsRefused, appended};
-ghost use Rattle.neli_attr.specs.Attributes.{Attr, attr, attribute, attribute_payload, attribute_wire};
-ghost use Rattle.neli_attr.specs.AttributeLaws.{attribute-local, attribute-no_memory, attribute_wire-length, attribute_wire-no_memory};
+ghost use Rattle.neli_attr_base.specs.Attributes.{Attr, attr, attribute, attribute_payload, attribute_wire};
+ghost use Rattle.neli_attr_base.specs.AttributeLaws.{attribute-local, attribute-no_memory, attribute_wire-length, attribute_wire-no_memory};
 ghost use Rattle.neli_attr.specs.Lookup.{attrs_in};
-ghost use Rattle.neli_attr.specs.Builders.{IsWhyNot};
-ghost use Rattle.neli_attr.specs.AttrType.{number_of, type_of};
-ghost use Rattle.neli_attr.specs.declared.attr_type.AttrType.{AttrType as Field};
+ghost use Rattle.neli_attr_base.specs.Builders.{IsWhyNot};
+ghost use Rattle.neli_attr_base.specs.AttrType.{number_of, type_of};
+ghost use Rattle.neli_attr_base.specs.declared.attr_type.AttrType.{AttrType as Field};
 ghost use Rattle.neli_attr.specs.NlattrLaws.{nlattr_equiv, nlattr_per};
 ghost use Rattle.neli_attr.specs.Nlattr.{nlattr_built, nlattr_list, nlattr_texts, with_bytes, nested_with, nlattr_eq, retyped};
 
-use crate::attribute::read_borrowed;
-use crate::frame::{
+use crate::{AttrHandle, AttrType, Attribute, Buffer, BuildError, GenlAttrHandle, GenlBuffer, of};
+use neli_attr_base::frame::{
     HEADER_SIZE, length_with, nested_text, payload_text, read_attribute, size_with,
     write_attribute, written,
 };
-use crate::{AttrHandle, AttrType, Attribute, Buffer, BuildError, GenlAttrHandle, GenlBuffer, of};
+use neli_attr_base::read_borrowed;
 use neli_consts::NlAttrType;
 use neli_wire::{
     Cursor, DeError, FromBytes, FromBytesWithInput, FromBytesWithInputBorrowed, Header, NoMemory,

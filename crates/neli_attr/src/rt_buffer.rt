@@ -8,7 +8,7 @@ ghost use Rattle.neli_wire.specs.ListLaws.{elements-no_memory, elements-never_sh
 ghost use Rattle.neli_wire.specs.Reading.{elements};
 ghost use Rattle.neli_wire.specs.SizeLaws.{unpadded-rounded};
 ghost use Rattle.neli_wire.specs.Writing.{wire_all};
-ghost use Rattle.neli_attr.specs.Attributes.{Attr};
+ghost use Rattle.neli_attr_base.specs.Attributes.{Attr};
 ghost use Rattle.neli_attr.specs.Lookup.{attrs_in};
 ghost use Rattle.neli_attr.specs.Rtattr.{rtattr_layout, rtattr_size, rtattr_view, rtattr_wire};
 ghost use Rattle.neli_attr.specs.RtattrLaws.{rtattr_layout-no_memory, rtattr_wire-length, rtattr_wire-no_memory};

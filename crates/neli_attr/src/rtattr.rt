@@ -6,18 +6,18 @@ ghost use Rattle.neli_wire_base.specs.Bytes.{Refuses};
 ghost use Rattle.neli_wire.specs.SizeLaws.{padded-rounded};
 ghost use Rattle.neli_wire.specs.Sizes.{align};
 ghost use Rattle.neli_wire.specs.Writing.{IsRefused, appended};
-ghost use Rattle.neli_attr.specs.Attributes.{Attr, attr, attribute, attribute_payload, attribute_wire};
-ghost use Rattle.neli_attr.specs.AttributeLaws.{attribute-local, attribute-no_memory, attribute_wire-length, attribute_wire-no_memory};
+ghost use Rattle.neli_attr_base.specs.Attributes.{Attr, attr, attribute, attribute_payload, attribute_wire};
+ghost use Rattle.neli_attr_base.specs.AttributeLaws.{attribute-local, attribute-no_memory, attribute_wire-length, attribute_wire-no_memory};
 ghost use Rattle.neli_attr.specs.Lookup.{attrs_in};
-ghost use Rattle.neli_attr.specs.Builders.{IsWhyNot};
+ghost use Rattle.neli_attr_base.specs.Builders.{IsWhyNot};
 ghost use Rattle.neli_attr.specs.Rtattr.{rtattr_built, rtattr_list, rtattr_texts, with_bytes};
 
-use crate::attribute::read_borrowed;
-use crate::frame::{
+use crate::{AttrHandle, Attribute, Buffer, BuildError, RtAttrHandle, RtBuffer, of};
+use neli_attr_base::frame::{
     HEADER_SIZE, length_with, nested_text, payload_text, read_attribute, size_with,
     write_attribute, written,
 };
-use crate::{AttrHandle, Attribute, Buffer, BuildError, RtAttrHandle, RtBuffer, of};
+use neli_attr_base::read_borrowed;
 use neli_consts_rta::RtaType;
 use neli_wire::{
     Cursor, DeError, FromBytes, FromBytesWithInput, FromBytesWithInputBorrowed, Header, NoMemory,

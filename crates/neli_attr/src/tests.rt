@@ -175,33 +175,6 @@ fn payloads_that_are_set(rt: HostRuntime) {
     assert_written(&rt, alloc, &attr, &[5, 0, 1, 0, 9, 0, 0, 0]);
 }
 
-// The flags of the type field, `NLA_F_NESTED` and `NLA_F_NET_BYTEORDER` (the kernel's linux/netlink.h).
-#[test]
-fn type_fields(rt: HostRuntime) {
-    let rows: [(u16, bool, bool, CtrlAttr); 5] = [
-        (0x0002, false, false, CtrlAttr::FamilyName),
-        (0x8002, true, false, CtrlAttr::FamilyName),
-        (0x4002, false, true, CtrlAttr::FamilyName),
-        (0xc007, true, true, CtrlAttr::McastGroups),
-        (0x3fff, false, false, CtrlAttr::UnrecognizedConst(0x3fff)),
-    ];
-    for (number, nested, network_order, kind) in rows {
-        let field = AttrType::<CtrlAttr>::from(number);
-        assert_eq!(rt; *field.nla_nested(), nested, "at {number}");
-        assert_eq!(rt; *field.nla_network_order(), network_order, "at {number}");
-        assert_eq!(rt; *field.nla_type(), kind, "at {number}");
-        assert_eq!(rt; u16::from(&field), number);
-        assert_eq!(rt; u16::from(field), number);
-        let built = AttrTypeBuilder::default()
-            .nla_nested(nested)
-            .nla_network_order(network_order)
-            .nla_type(kind)
-            .build()
-            .expect(&rt, "memory is there");
-        assert_eq!(rt; built, field, "at {number}");
-    }
-}
-
 // The names of missing fields, the first in the order of the fields.
 #[test]
 fn missing_fields(rt: HostRuntime) {
@@ -534,31 +507,4 @@ fn a_thousand_levels(rt: HostRuntime) {
     }
     assert_eq!(rt; *attr.nla_len(), 4);
     assert!(rt; attr.nla_payload().is_empty());
-}
-
-// The bytes of a buffer.
-#[test]
-fn buffers(rt: HostRuntime) {
-    let alloc = rt.alloc();
-    let mut buffer = Buffer::new(alloc);
-    assert!(rt; buffer.is_empty());
-    buffer
-        .extend_from_slice(b"abc")
-        .expect(&rt, "memory is there");
-    for byte in buffer.as_mut() {
-        *byte = b'x';
-    }
-    assert_eq!(rt; buffer.as_ref(), b"xxx".as_slice());
-    assert_eq!(rt; buffer.len(), 3);
-    assert!(rt; buffer.try_clone().expect(&rt, "memory is there") == buffer);
-    assert!(rt; Buffer::from_slice(alloc, b"xx").expect(&rt, "memory is there") != buffer);
-    assert_eq!(rt;
-        format!(in alloc; "{buffer:?}")
-            .expect(&rt, "memory is there")
-            .as_str(),
-        "Buffer"
-    );
-    assert_written(&rt, alloc, &buffer, b"xxx");
-    let bytes: Vec<u8> = buffer.into();
-    assert_eq!(rt; bytes.as_slice(), b"xxx".as_slice());
 }

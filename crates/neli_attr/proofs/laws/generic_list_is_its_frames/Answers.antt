@@ -1,6 +1,6 @@
 use Rattle.std.proofs.Common.{arith}
-use Rattle.neli_attr.specs.AttributeLaws.{attribute-placed}
-use Rattle.neli_attr.specs.AttrType.{type_of}
+use Rattle.neli_attr_base.specs.AttributeLaws.{attribute-placed}
+use Rattle.neli_attr_base.specs.AttrType.{type_of}
 use Rattle.neli_attr.specs.FrameListLaws.{list-frames, frames-list, frames-refusal}
 use Rattle.neli_attr.specs.Nlattr.{nlattr_layout}
 use Rattle.neli_attr.proofs.laws.generic_list_is_its_frames.Goals as goal

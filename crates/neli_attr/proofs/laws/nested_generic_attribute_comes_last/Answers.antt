@@ -1,7 +1,7 @@
 use Rattle.std.proofs.Common.{ap, sym, ◌∙◌}
 use Rattle.neli_wire.specs.Writing.{Wire, appended}
-use Rattle.neli_attr.specs.AttrType.{number_of, type_of}
-use Rattle.neli_attr.specs.Attributes.{attribute_payload, attribute_wire}
+use Rattle.neli_attr_base.specs.AttrType.{number_of, type_of}
+use Rattle.neli_attr_base.specs.Attributes.{attribute_payload, attribute_wire}
 use Rattle.neli_attr.specs.RoundTripLaws.{nested-last}
 use Rattle.neli_attr.proofs.laws.nested_generic_attribute_comes_last.Goals as goal
 

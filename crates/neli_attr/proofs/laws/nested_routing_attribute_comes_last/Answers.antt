@@ -1,6 +1,6 @@
 use Rattle.std.proofs.Common.{ap, sym, ◌∙◌}
 use Rattle.neli_wire.specs.Writing.{Wire, appended}
-use Rattle.neli_attr.specs.Attributes.{attribute_payload, attribute_wire}
+use Rattle.neli_attr_base.specs.Attributes.{attribute_payload, attribute_wire}
 use Rattle.neli_attr.specs.RoundTripLaws.{nested-last}
 use Rattle.neli_attr.proofs.laws.nested_routing_attribute_comes_last.Goals as goal
 

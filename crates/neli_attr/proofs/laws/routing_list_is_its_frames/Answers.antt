@@ -1,5 +1,5 @@
 use Rattle.std.proofs.Common.{arith}
-use Rattle.neli_attr.specs.AttributeLaws.{attribute-placed}
+use Rattle.neli_attr_base.specs.AttributeLaws.{attribute-placed}
 use Rattle.neli_attr.specs.FrameListLaws.{list-frames, frames-list, frames-refusal}
 use Rattle.neli_attr.specs.Rtattr.{rtattr_layout}
 use Rattle.neli_attr.proofs.laws.routing_list_is_its_frames.Goals as goal

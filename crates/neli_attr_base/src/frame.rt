@@ -5,7 +5,7 @@ ghost use Rattle.neli_wire.specs.Frames.{framed, framed_takes};
 ghost use Rattle.neli_wire_base.specs.Place.{whole};
 ghost use Rattle.neli_wire_base.specs.Bytes.{Refuses};
 ghost use Rattle.neli_wire.specs.Writing.{IsRefused, appended};
-ghost use Rattle.neli_attr.specs.Attributes.{attr, attribute, attribute_at, attribute_payload, attribute_takes, attribute_wire};
+ghost use Rattle.neli_attr_base.specs.Attributes.{attr, attribute, attribute_at, attribute_payload, attribute_takes, attribute_wire};
 
 use crate::Buffer;
 use neli_wire::{
@@ -15,10 +15,10 @@ use neli_wire::{
 use std::alloc::Global;
 
 /// The size of an attribute's header, in bytes (`NLA_HDRLEN` of `linux/netlink.h`).
-pub(crate) const HEADER_SIZE: usize = 4;
+pub const HEADER_SIZE: usize = 4;
 
 /// The parts of an attribute: its length, its type and its payload.
-pub(crate) type Parts<K, P> = (u16, K, P);
+pub type Parts<K, P> = (u16, K, P);
 
 /// Reads an attribute, its header first.
 #[tactic(auto, using(neli_wire::specs::ReadingLaws::refused_first), unfolding(crate::specs::Attributes::head_at, crate::specs::Attributes::attribute_at, crate::specs::Attributes::attribute_takes))]
@@ -40,7 +40,7 @@ fn read_fields<K: Constant<Number = u16>, P: FromBytesWithInput>(
 }
 
 /// Reads the attribute that the cursor's rest begins with. A refusal leaves the cursor where it was.
-pub(crate) fn read_attribute<K: Constant<Number = u16>, P: FromBytesWithInput>(
+pub fn read_attribute<K: Constant<Number = u16>, P: FromBytesWithInput>(
     alloc: Global,
     cursor: &mut Cursor<'_>,
 ) -> Result<Parts<K, P>, DeError>
@@ -74,7 +74,7 @@ fn write_fields<K: Constant<Number = u16>, P: ToBytes>(
 }
 
 /// Appends an attribute with its padding. A refusal leaves the buffer as it was.
-pub(crate) fn write_attribute<K: Constant<Number = u16>, P: ToBytes>(
+pub fn write_attribute<K: Constant<Number = u16>, P: ToBytes>(
     len: u16,
     kind: &K,
     payload: &P,
@@ -91,7 +91,7 @@ pub(crate) fn write_attribute<K: Constant<Number = u16>, P: ToBytes>(
 
 /// The wire text of a payload.
 #[tactic(auto, using(crate::specs::AttributeLaws::behind_nothing))]
-pub(crate) fn written<P: ToBytes>(alloc: Global, payload: &P) -> Result<Buffer, SerError>
+pub fn written<P: ToBytes>(alloc: Global, payload: &P) -> Result<Buffer, SerError>
     ensures text { IfOk result (λ b. P.wire payload.now ≡ Ok b) }
     ensures refused { IfErr result (IsRefused (P.wire payload.now)) }
 {
@@ -101,24 +101,21 @@ pub(crate) fn written<P: ToBytes>(alloc: Global, payload: &P) -> Result<Buffer, 
 }
 
 /// The length of an attribute with this payload, where it fits its field.
-pub(crate) fn length_with(payload: &Buffer) -> Option<u16>
+pub fn length_with(payload: &Buffer) -> Option<u16>
     ensures { MatchOption result (65535 < 4 + length payload.now) (λ len. len ≡ 4 + length payload.now) }
 {
     u16::try_from(payload.len().saturating_add(HEADER_SIZE)).ok()
 }
 
 /// The refusal of a length that passes its field.
-pub(crate) fn too_long() -> SerError
+fn too_long() -> SerError
     ensures { result ≡ SerError.Msg (codes "Length does not fit its field") }
 {
     SerError::Msg(MsgError::from_static("Length does not fit its field"))
 }
 
 /// The wire text of a payload and the length of an attribute with it.
-pub(crate) fn payload_text<P: ToBytes>(
-    alloc: Global,
-    payload: &P,
-) -> Result<(u16, Buffer), SerError>
+pub fn payload_text<P: ToBytes>(alloc: Global, payload: &P) -> Result<(u16, Buffer), SerError>
     ensures text { IfOk result (λ a. (attribute_payload (P.wire payload.now) ≡ Ok a.1) × (a.0 ≡ 4 + length a.1)) }
     ensures refused { IfErr result (IsRefused (attribute_payload (P.wire payload.now))) }
 {
@@ -128,7 +125,7 @@ pub(crate) fn payload_text<P: ToBytes>(
 }
 
 /// The payload with the wire text of an attribute behind it, and the length of an attribute with that.
-pub(crate) fn nested_text<A: ToBytes>(payload: Buffer, attr: &A) -> Result<(u16, Buffer), SerError>
+pub fn nested_text<A: ToBytes>(payload: Buffer, attr: &A) -> Result<(u16, Buffer), SerError>
     ensures text { IfOk result (λ a. (attribute_payload (appended payload (A.wire attr.now)) ≡ Ok a.1) × (a.0 ≡ 4 + length a.1)) }
     ensures refused { IfErr result (IsRefused (attribute_payload (appended payload (A.wire attr.now)))) }
 {
@@ -140,7 +137,7 @@ pub(crate) fn nested_text<A: ToBytes>(payload: Buffer, attr: &A) -> Result<(u16,
 }
 
 /// The size of an attribute with this payload, without padding; `usize::MAX` where it is larger.
-pub(crate) fn size_with<P: Size>(payload: &P) -> usize
+pub fn size_with<P: Size>(payload: &P) -> usize
     ensures { result ≡ min (4 + P.written payload.now) usize.MAX }
 {
     payload.written_size().saturating_add(HEADER_SIZE)

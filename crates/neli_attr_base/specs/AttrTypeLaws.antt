@@ -4,7 +4,7 @@ use Rattle.std.specs.Prelude.{◌⊎◌, nat_eq, not}
 use Rattle.std.proofs.lemmas.Nat.{and_le_r, and_mask, or_disjoint}
 use Rattle.std.proofs.lemmas.Nat.Bits.{and_pow}
 use Rattle.std.specs.Cmp.{IsEquivalence, IsPartialEquivalence, and_equiv, and_per, bool_eq_equiv, on_equiv, on_per, partial_equiv_from_equiv}
-use Rattle.neli_attr.specs.AttrType.{attr_type_eq, has, bit_where, field_of, type_of, number_of}
+use Rattle.neli_attr_base.specs.AttrType.{attr_type_eq, has, bit_where, field_of, type_of, number_of}
 
 -- a bit that is taken from a number is 0 or whole
 bit_case : (n k : ℕ) → (bit_and n (2 ^ k) ≡ 0) ⊎ (bit_and n (2 ^ k) ≡ 2 ^ k)

@@ -6,7 +6,7 @@
 ghost use Rattle.std.specs.Prelude.{◌≡◌, ℕ, List, Ok, IfOk, IfErr, OnOk, OnErr, length};
 ghost use Rattle.neli_wire_base.specs.Bytes.{Refuses};
 ghost use Rattle.neli_wire.specs.Writing.{IsRefused};
-ghost use Rattle.neli_attr.specs.Attributes.{attribute_payload};
+ghost use Rattle.neli_attr_base.specs.Attributes.{attribute_payload};
 
 use crate::Buffer;
 use neli_wire::{
@@ -60,7 +60,7 @@ pub trait Attribute<T> {
 }
 
 /// The value that the whole payload spells, made of the payload's own bytes.
-pub(crate) fn read_borrowed<'a, R>(payload: &'a Buffer) -> Result<R, R::Error>
+pub fn read_borrowed<'a, R>(payload: &'a Buffer) -> Result<R, R::Error>
 where
     R: FromBytesWithInputBorrowed<'a>,
     ensures value { IfOk result (λ v. R.read payload.now ≡ Ok (R.view v)) }

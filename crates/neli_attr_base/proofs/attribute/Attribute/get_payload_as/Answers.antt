@@ -1,6 +1,6 @@
 use Rattle.std.proofs.Common.{◌∙◌}
-use Rattle.neli_attr.proofs.Payloads.{first_value}
-use Rattle.neli_attr.proofs.attribute.Attribute.get_payload_as.Goals as goal
+use Rattle.neli_attr_base.proofs.Payloads.{first_value}
+use Rattle.neli_attr_base.proofs.attribute.Attribute.get_payload_as.Goals as goal
 
 pub returns-clause-value : goal.returns-clause-value
 returns-clause-value g c =

@@ -8,7 +8,7 @@ ghost use Rattle.std.proofs.lemmas.Cmp.{nat_list_eq_equiv};
 ghost use Rattle.neli_wire.specs.ReadingLaws.{read-never_short};
 ghost use Rattle.neli_wire.specs.SizeLaws.{unpadded-rounded};
 ghost use Rattle.neli_wire.specs.WritingLaws.{written-length, written-no_memory};
-ghost use Rattle.neli_attr.specs.Buffers.{LendsBytes};
+ghost use Rattle.neli_attr_base.specs.Buffers.{LendsBytes};
 
 use neli_wire::{Cursor, DeError, FromBytesWithInput, NoMemory, SerError, Size, ToBytes};
 use std::alloc::Global;

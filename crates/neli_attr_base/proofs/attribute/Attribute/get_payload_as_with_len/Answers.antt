@@ -1,6 +1,6 @@
 use Rattle.std.proofs.Common.{◌∙◌, ap, length}
-use Rattle.neli_attr.proofs.Payloads.{whole_value, whole_refusal}
-use Rattle.neli_attr.proofs.attribute.Attribute.get_payload_as_with_len.Goals as goal
+use Rattle.neli_attr_base.proofs.Payloads.{whole_value, whole_refusal}
+use Rattle.neli_attr_base.proofs.attribute.Attribute.get_payload_as_with_len.Goals as goal
 
 pub returns-clause-value : goal.returns-clause-value
 returns-clause-value g c =

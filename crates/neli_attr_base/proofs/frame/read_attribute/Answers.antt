@@ -1,5 +1,5 @@
-use Rattle.neli_attr.specs.AttributeLaws.{attribute_at-is, attribute_takes-is, refuses-same}
-use Rattle.neli_attr.proofs.frame.read_attribute.Goals as goal
+use Rattle.neli_attr_base.specs.AttributeLaws.{attribute_at-is, attribute_takes-is, refuses-same}
+use Rattle.neli_attr_base.proofs.frame.read_attribute.Goals as goal
 
 pub returns-clause-value : goal.returns-clause-value
 returns-clause-value g c = rw (← attribute_at-is g.K.Constant.wire_value g.P.FromBytesWithInput.read c.args.cursor.now.rest) c.read_fields.ensures.value

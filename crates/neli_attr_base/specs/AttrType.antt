@@ -2,9 +2,9 @@
 use Rattle.std.specs.Prelude.{ℕ, Bool, false, nat_eq, not, bit_and, bit_or, if◌then◌else◌, codes, unwrap_or, Ok}
 use mathlib.Core.Bool.{beq}
 use Rattle.std.specs.Ordering.{eq_of_both, on}
-use Rattle.neli_attr.specs.declared.attr_type.AttrType.{AttrType}
-use Rattle.neli_attr.specs.declared.attr_type.AttrTypeBuilder.{AttrTypeBuilder}
-use Rattle.neli_attr.specs.Builders.{Outcome, given}
+use Rattle.neli_attr_base.specs.declared.attr_type.AttrType.{AttrType}
+use Rattle.neli_attr_base.specs.declared.attr_type.AttrTypeBuilder.{AttrTypeBuilder}
+use Rattle.neli_attr_base.specs.Builders.{Outcome, given}
 
 -- whether a number has the bit of this value
 abbrev pub has : ℕ → ℕ → Bool

@@ -1,5 +1,5 @@
 use Rattle.std.proofs.Common.{◌≡◌, ◌∙◌, ap, sym, refl, length}
-use Rattle.neli_attr.proofs.buffer.Buffer.as_mut.Goals as goal
+use Rattle.neli_attr_base.proofs.buffer.Buffer.as_mut.Goals as goal
 
 pub returns : goal.returns
 returns c =

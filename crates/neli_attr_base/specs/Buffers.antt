@@ -1,7 +1,7 @@
 -- Buffers: bytes that a value owns, which are seen as a list.
 use Rattle.std.specs.Prelude.{ℕ, List, ◌++◌, length, take, drop}
 use Rattle.std.specs.Borrow.{Lends, MutBor, Fml, Array, u8}
-use Rattle.neli_attr.specs.contracts.buffer.Buffer.{the_row}
+use Rattle.neli_attr_base.specs.contracts.buffer.Buffer.{the_row}
 
 -- the bytes with others written over them from the first on
 abbrev pub overwritten : List ℕ → List ℕ → List ℕ

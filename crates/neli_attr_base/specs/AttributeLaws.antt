@@ -14,7 +14,7 @@ use Rattle.neli_wire.specs.FrameLaws.{IsWide, IsPlaced, number_at-wide_by, value
 use Rattle.neli_wire.specs.NumberLaws.{count-unsigned}
 use Rattle.neli_wire.specs.ListLaws.{both_written, both-no_memory}
 use Rattle.neli_wire.specs.Writing.{Wire, ◌+++◌, appended, padded, zeros_for}
-use Rattle.neli_attr.specs.Attributes.{Head, attribute, attribute_wire, head_at, attribute_at, attribute_takes}
+use Rattle.neli_attr_base.specs.Attributes.{Head, attribute, attribute_wire, head_at, attribute_at, attribute_takes}
 
 -- ---- reading
 

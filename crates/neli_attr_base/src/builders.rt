@@ -66,7 +66,7 @@ pub enum BuildError<const OF: u8> {
 }
 
 impl<const OF: u8> fmt::Display for BuildError<OF> {
-    ghost use Rattle.neli_attr.specs.Builders.{error_text};
+    ghost use Rattle.neli_attr_base.specs.Builders.{error_text};
 
     ghost output = { λ e. Some (error_text e) };
 
@@ -84,7 +84,7 @@ impl<const OF: u8> Error for BuildError<OF> {}
 impl<const OF: u8> From<UninitializedFieldError> for BuildError<OF> {
     ghost use Rattle.std.specs.Prelude.{◌≡◌};
     ghost use Rattle.neli_wire_base.specs.Messages.{name_of};
-    ghost use Rattle.neli_attr.specs.Builders.{IsMissing};
+    ghost use Rattle.neli_attr_base.specs.Builders.{IsMissing};
 
     ghost from_gives = { λ error e. IsMissing (name_of error) e };
 
@@ -94,7 +94,7 @@ impl<const OF: u8> From<UninitializedFieldError> for BuildError<OF> {
 }
 
 impl<const OF: u8> From<SerError> for BuildError<OF> {
-    ghost use Rattle.neli_attr.specs.Builders.{IsUnwritten};
+    ghost use Rattle.neli_attr_base.specs.Builders.{IsUnwritten};
 
     ghost from_gives = { IsUnwritten };
 
@@ -108,7 +108,7 @@ impl<const OF: u8> From<SerError> for BuildError<OF> {
 }
 
 impl<const OF: u8> From<NoMemory> for BuildError<OF> {
-    ghost use Rattle.neli_attr.specs.Builders.{IsMemory};
+    ghost use Rattle.neli_attr_base.specs.Builders.{IsMemory};
 
     ghost from_gives = { λ _ e. IsMemory e };
 
@@ -118,7 +118,7 @@ impl<const OF: u8> From<NoMemory> for BuildError<OF> {
 }
 
 impl<const OF: u8> From<AllocError> for BuildError<OF> {
-    ghost use Rattle.neli_attr.specs.Builders.{IsMemory};
+    ghost use Rattle.neli_attr_base.specs.Builders.{IsMemory};
 
     ghost from_gives = { λ _ e. IsMemory e };
 
@@ -128,7 +128,7 @@ impl<const OF: u8> From<AllocError> for BuildError<OF> {
 }
 
 impl<const OF: u8, T: Drop> From<AllocFailed<T>> for BuildError<OF> {
-    ghost use Rattle.neli_attr.specs.Builders.{IsMemory};
+    ghost use Rattle.neli_attr_base.specs.Builders.{IsMemory};
 
     ghost from_gives = { λ _ e. IsMemory e };
 

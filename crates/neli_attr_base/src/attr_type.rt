@@ -1,9 +1,9 @@
 //! The type of a generic attribute, with its two flags.
 
 ghost use Rattle.std.specs.Prelude.{◌≡◌, Ok, IfOk, IfErr, None, Some, true};
-ghost use Rattle.neli_attr.specs.AttrType.{attr_type_built, attr_type_eq, number_of, type_of};
-ghost use Rattle.neli_attr.specs.Builders.{IsWhyNot};
-ghost use Rattle.neli_attr.specs.AttrTypeLaws.{attr_type_equiv, attr_type_per, number_of-type_of};
+ghost use Rattle.neli_attr_base.specs.AttrType.{attr_type_built, attr_type_eq, number_of, type_of};
+ghost use Rattle.neli_attr_base.specs.Builders.{IsWhyNot};
+ghost use Rattle.neli_attr_base.specs.AttrTypeLaws.{attr_type_equiv, attr_type_per, number_of-type_of};
 
 use crate::{BuildError, of};
 use neli_consts::NlAttrType;
@@ -52,7 +52,7 @@ impl<T> AttrType<T> {
     }
 
     /// The same type, marked as that of a list of attributes.
-    pub(crate) fn as_nested(self) -> AttrType<T>
+    pub fn as_nested(self) -> AttrType<T>
         ensures { result ≡ record self { nla_nested = true } }
     {
         AttrType {
@@ -65,7 +65,7 @@ impl<T> AttrType<T> {
 
 impl AttrType<u16> {
     /// The same flags with what the number means.
-    pub(crate) fn retyped<T: NlAttrType>(self) -> AttrType<T>
+    pub fn retyped<T: NlAttrType>(self) -> AttrType<T>
         ensures { result ≡ record { nla_nested = self.nla_nested; nla_network_order = self.nla_network_order; nla_type = T.wire_value self.nla_type } }
     {
         AttrType {

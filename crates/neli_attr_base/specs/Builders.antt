@@ -4,8 +4,8 @@ use Rattle.neli_wire_base.specs.Messages.{uninitialized}
 use Rattle.neli_wire.specs.Writing.{Wire}
 use Rattle.neli_wire_base.specs.declared.errors.SerError.{SerError}
 use Rattle.neli_wire_base.specs.declared.errors.SerError.TheVariants as ser
-use Rattle.neli_attr.specs.declared.builders.BuildError.{BuildError}
-use Rattle.neli_attr.specs.declared.builders.BuildError.TheVariants.{UninitializedField, ValidationError, Memory}
+use Rattle.neli_attr_base.specs.declared.builders.BuildError.{BuildError}
+use Rattle.neli_attr_base.specs.declared.builders.BuildError.TheVariants.{UninitializedField, ValidationError, Memory}
 
 -- what an error prints
 abbrev pub error_text : {of : ℕ} → BuildError of → List ℕ
