@@ -51,14 +51,17 @@ IsWhyNot outcome Memory = AreGiven outcome
 
 -- ---- errors by what they were made of
 
+-- the field of this name is missing
 abbrev pub IsMissing : {of : ℕ} → List ℕ → BuildError of → Type 0
 IsMissing field (UninitializedField name) = name.now ≡ field
 IsMissing field e = ⊥
 
+-- memory ran out
 abbrev pub IsMemory : {of : ℕ} → BuildError of → Type 0
 IsMemory Memory = Unit {0}
 IsMemory e = ⊥
 
+-- the value is none, in these words
 abbrev pub IsInvalid : {of : ℕ} → List ℕ → BuildError of → Type 0
 IsInvalid words (ValidationError text) = text.now ≡ words
 IsInvalid words e = ⊥

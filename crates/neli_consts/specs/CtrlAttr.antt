@@ -1,6 +1,7 @@
 -- The numbers of `CtrlAttr`.
 use Rattle.std.specs.Prelude.{◌≡◌, ℕ, Bool, true, false, List, [], ◌∷◌, refl}
-use Rattle.neli_wire.specs.Constants.{first_with, first_with-number}
+use Rattle.neli_wire.specs.ConstantLaws.{first_with-number}
+use Rattle.neli_wire.specs.Constants.{first_with}
 use Rattle.neli_consts.specs.declared.genl.CtrlAttr.{CtrlAttr}
 use Rattle.neli_consts.specs.declared.genl.CtrlAttr.TheVariants.{Unspec, FamilyId, FamilyName, Version, Hdrsize, Maxattr, Ops, McastGroups, UnrecognizedConst}
 

@@ -1,6 +1,7 @@
 -- The numbers of `CtrlCmd`.
 use Rattle.std.specs.Prelude.{◌≡◌, ℕ, Bool, true, false, List, [], ◌∷◌, refl}
-use Rattle.neli_wire.specs.Constants.{first_with, first_with-number}
+use Rattle.neli_wire.specs.ConstantLaws.{first_with-number}
+use Rattle.neli_wire.specs.Constants.{first_with}
 use Rattle.neli_consts.specs.declared.genl.CtrlCmd.{CtrlCmd}
 use Rattle.neli_consts.specs.declared.genl.CtrlCmd.TheVariants.{Unspec, Newfamily, Delfamily, Getfamily, Newops, Delops, Getops, NewmcastGrp, DelmcastGrp, GetmcastGrp, UnrecognizedConst}
 

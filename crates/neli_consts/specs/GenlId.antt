@@ -1,6 +1,7 @@
 -- The numbers of `GenlId`.
 use Rattle.std.specs.Prelude.{◌≡◌, ℕ, Bool, true, false, List, [], ◌∷◌, refl}
-use Rattle.neli_wire.specs.Constants.{first_with, first_with-number}
+use Rattle.neli_wire.specs.ConstantLaws.{first_with-number}
+use Rattle.neli_wire.specs.Constants.{first_with}
 use Rattle.neli_consts.specs.declared.genl.GenlId.{GenlId}
 use Rattle.neli_consts.specs.declared.genl.GenlId.TheVariants.{Ctrl, VfsDquot, Pmcraid, UnrecognizedConst}
 

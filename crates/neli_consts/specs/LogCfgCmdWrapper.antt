@@ -1,6 +1,7 @@
 -- The meaning of a logging command's number.
 use Rattle.std.specs.Prelude.{◌≡◌, ℕ, Bool, List, [], ◌∷◌, refl}
-use Rattle.neli_wire.specs.Constants.{reading, first_recognized, first_recognized-number}
+use Rattle.neli_wire.specs.ConstantLaws.{first_recognized-number}
+use Rattle.neli_wire.specs.Constants.{reading, first_recognized}
 use Rattle.neli_consts_sys.specs.LogCmd.{log_cmd_number, log_cmd_of, log_cmd_of-number, log_cmd_is_unrecognized}
 use Rattle.neli_consts.specs.declared.commands.LogCfgCmdWrapper.{LogCfgCmdWrapper}
 use Rattle.neli_consts.specs.declared.commands.LogCfgCmdWrapper.TheVariants.{LogCmd, UnrecognizedConst}

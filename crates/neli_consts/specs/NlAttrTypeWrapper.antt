@@ -1,6 +1,7 @@
 -- The meaning of an attribute's number: the first table that has a name for it.
 use Rattle.std.specs.Prelude.{◌≡◌, ℕ, Bool, List, [], ◌∷◌, refl}
-use Rattle.neli_wire.specs.Constants.{reading, first_recognized, first_recognized-number}
+use Rattle.neli_wire.specs.ConstantLaws.{first_recognized-number}
+use Rattle.neli_wire.specs.Constants.{reading, first_recognized}
 use Rattle.neli_consts.specs.CtrlAttr.{ctrl_attr_number, ctrl_attr_of, ctrl_attr_of-number, ctrl_attr_is_unrecognized}
 use Rattle.neli_consts.specs.CtrlAttrMcastGrp.{ctrl_attr_mcast_grp_number, ctrl_attr_mcast_grp_of, ctrl_attr_mcast_grp_of-number, ctrl_attr_mcast_grp_is_unrecognized}
 use Rattle.neli_consts_sys.specs.NfLogAttr.{nf_log_attr_number, nf_log_attr_of, nf_log_attr_of-number, nf_log_attr_is_unrecognized}

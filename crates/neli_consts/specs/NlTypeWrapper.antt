@@ -1,6 +1,7 @@
 -- The meaning of a message's type number: the first table that has a name for it.
 use Rattle.std.specs.Prelude.{◌≡◌, ℕ, Bool, List, [], ◌∷◌, refl}
-use Rattle.neli_wire.specs.Constants.{reading, first_recognized, first_recognized-number}
+use Rattle.neli_wire.specs.ConstantLaws.{first_recognized-number}
+use Rattle.neli_wire.specs.Constants.{reading, first_recognized}
 use Rattle.neli_consts.specs.Nlmsg.{nlmsg_number, nlmsg_of, nlmsg_of-number, nlmsg_is_unrecognized}
 use Rattle.neli_consts.specs.GenlId.{genl_id_number, genl_id_of, genl_id_of-number, genl_id_is_unrecognized}
 use Rattle.neli_consts_rt.specs.Rtm.{rtm_number, rtm_of, rtm_of-number, rtm_is_unrecognized}

@@ -1,6 +1,7 @@
 -- The numbers of `NlmsgerrAttr`.
 use Rattle.std.specs.Prelude.{◌≡◌, ℕ, Bool, true, false, List, [], ◌∷◌, refl}
-use Rattle.neli_wire.specs.Constants.{first_with, first_with-number}
+use Rattle.neli_wire.specs.ConstantLaws.{first_with-number}
+use Rattle.neli_wire.specs.Constants.{first_with}
 use Rattle.neli_consts.specs.declared.nlmsg.NlmsgerrAttr.{NlmsgerrAttr}
 use Rattle.neli_consts.specs.declared.nlmsg.NlmsgerrAttr.TheVariants.{Unused, Msg, Offset, Cookie, Policy, UnrecognizedConst}
 

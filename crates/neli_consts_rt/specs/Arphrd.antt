@@ -1,6 +1,7 @@
 -- The numbers of `Arphrd`.
 use Rattle.std.specs.Prelude.{◌≡◌, ℕ, Bool, true, false, List, [], ◌∷◌, refl}
-use Rattle.neli_wire.specs.Constants.{first_with, first_with-number}
+use Rattle.neli_wire.specs.ConstantLaws.{first_with-number}
+use Rattle.neli_wire.specs.Constants.{first_with}
 use Rattle.neli_consts_rt.specs.declared.links.Arphrd.{Arphrd}
 use Rattle.neli_consts_rt.specs.declared.links.Arphrd.TheVariants.{Netrom, Ether, Eether, AX25, Pronet, Chaos, Ieee802, Arcnet, Appletlk, Dlci, Atm, Metricom, Ieee1394, Eui64, Infiniband, Loopback, Void, None, UnrecognizedConst}
 

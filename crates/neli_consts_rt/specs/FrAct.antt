@@ -1,6 +1,7 @@
 -- The numbers of `FrAct`.
 use Rattle.std.specs.Prelude.{◌≡◌, ℕ, Bool, true, false, List, [], ◌∷◌, refl}
-use Rattle.neli_wire.specs.Constants.{first_with, first_with-number}
+use Rattle.neli_wire.specs.ConstantLaws.{first_with-number}
+use Rattle.neli_wire.specs.Constants.{first_with}
 use Rattle.neli_consts_rt.specs.declared.rules.FrAct.{FrAct}
 use Rattle.neli_consts_rt.specs.declared.rules.FrAct.TheVariants.{Unspec, FrActToTbl, FrActGoto, FrActNop, FrActRes3, FrActRes4, FrActBlackhole, FrActUnreachable, FrActProhibit, FrActMax, UnrecognizedConst}
 

@@ -1,6 +1,7 @@
 -- The numbers of `RtAddrFamily`.
 use Rattle.std.specs.Prelude.{◌≡◌, ℕ, Bool, true, false, List, [], ◌∷◌, refl}
-use Rattle.neli_wire.specs.Constants.{first_with, first_with-number}
+use Rattle.neli_wire.specs.ConstantLaws.{first_with-number}
+use Rattle.neli_wire.specs.Constants.{first_with}
 use Rattle.neli_consts_rt.specs.declared.addresses.RtAddrFamily.{RtAddrFamily}
 use Rattle.neli_consts_rt.specs.declared.addresses.RtAddrFamily.TheVariants.{Unspecified, UnixOrLocal, Inet, Inet6, Ipx, Netlink, X25, Ax25, Atmpvc, Appletalk, Packet, Alg, UnrecognizedConst}
 

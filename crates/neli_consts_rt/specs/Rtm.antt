@@ -1,6 +1,7 @@
 -- The numbers of `Rtm`.
 use Rattle.std.specs.Prelude.{◌≡◌, ℕ, Bool, true, false, List, [], ◌∷◌, refl}
-use Rattle.neli_wire.specs.Constants.{first_with, first_with-number}
+use Rattle.neli_wire.specs.ConstantLaws.{first_with-number}
+use Rattle.neli_wire.specs.Constants.{first_with}
 use Rattle.neli_consts_rt.specs.declared.messages.Rtm.{Rtm}
 use Rattle.neli_consts_rt.specs.declared.messages.Rtm.TheVariants.{Newlink, Dellink, Getlink, Setlink, Newaddr, Deladdr, Getaddr, Newroute, Delroute, Getroute, Newneigh, Delneigh, Getneigh, Newrule, Delrule, Getrule, Newqdisc, Delqdisc, Getqdisc, Newtclass, Deltclass, Gettclass, Newtfilter, Deltfilter, Gettfilter, Newaction, Delaction, Getaction, Newprefix, Getmulticast, Getanycast, Newneightbl, Getneightbl, Setneightbl, Newnduseropt, Newaddrlabel, Deladdrlabel, Getaddrlabel, Getdcb, Setdcb, Newnetconf, Getnetconf, Newmdb, Delmdb, Getmdb, Newnsid, Delnsid, Getnsid, UnrecognizedConst}
 

@@ -1,6 +1,7 @@
 -- The numbers of `Rtprot`.
 use Rattle.std.specs.Prelude.{◌≡◌, ℕ, Bool, true, false, List, [], ◌∷◌, refl}
-use Rattle.neli_wire.specs.Constants.{first_with, first_with-number}
+use Rattle.neli_wire.specs.ConstantLaws.{first_with-number}
+use Rattle.neli_wire.specs.Constants.{first_with}
 use Rattle.neli_consts_rt.specs.declared.routes.Rtprot.{Rtprot}
 use Rattle.neli_consts_rt.specs.declared.routes.Rtprot.TheVariants.{Unspec, Redirect, Kernel, Boot, Static, UnrecognizedConst}
 

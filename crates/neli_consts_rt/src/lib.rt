@@ -19,6 +19,8 @@
 #![tactic(auto)]
 
 mod addresses;
+#[cfg(test)]
+mod calls;
 mod links;
 mod messages;
 mod routes;

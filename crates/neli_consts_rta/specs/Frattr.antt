@@ -1,6 +1,7 @@
 -- The numbers of `Frattr`.
 use Rattle.std.specs.Prelude.{◌≡◌, ℕ, Bool, true, false, List, [], ◌∷◌, refl}
-use Rattle.neli_wire.specs.Constants.{first_with, first_with-number}
+use Rattle.neli_wire.specs.ConstantLaws.{first_with-number}
+use Rattle.neli_wire.specs.Constants.{first_with}
 use Rattle.neli_consts_rta.specs.declared.rules.Frattr.{Frattr}
 use Rattle.neli_consts_rta.specs.declared.rules.Frattr.TheVariants.{Unspec, Dst, Src, Iifname, Ifname, Goto, Unused2, Priority, Unused3, Unused4, Unused5, Fwmark, Flow, TunId, SuppressIfgroup, SuppressPrefixlen, Table, Fwmask, Oifname, Pad, L3mdev, UidRange, Protocol, IpProto, SportRange, DportRange, Dscp, Flowlabel, FlowlabelMask, SportMask, DportMask, DscpMask, Max, UnrecognizedConst}
 

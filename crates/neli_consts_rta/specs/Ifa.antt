@@ -1,6 +1,7 @@
 -- The numbers of `Ifa`.
 use Rattle.std.specs.Prelude.{◌≡◌, ℕ, Bool, true, false, List, [], ◌∷◌, refl}
-use Rattle.neli_wire.specs.Constants.{first_with, first_with-number}
+use Rattle.neli_wire.specs.ConstantLaws.{first_with-number}
+use Rattle.neli_wire.specs.Constants.{first_with}
 use Rattle.neli_consts_rta.specs.declared.addresses.Ifa.{Ifa}
 use Rattle.neli_consts_rta.specs.declared.addresses.Ifa.TheVariants.{Unspec, Address, Local, Label, Broadcast, Anycast, Cacheinfo, Multicast, Flags, UnrecognizedConst}
 

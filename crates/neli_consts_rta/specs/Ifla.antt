@@ -1,6 +1,7 @@
 -- The numbers of `Ifla`.
 use Rattle.std.specs.Prelude.{◌≡◌, ℕ, Bool, true, false, List, [], ◌∷◌, refl}
-use Rattle.neli_wire.specs.Constants.{first_with, first_with-number}
+use Rattle.neli_wire.specs.ConstantLaws.{first_with-number}
+use Rattle.neli_wire.specs.Constants.{first_with}
 use Rattle.neli_consts_rta.specs.declared.links.Ifla.{Ifla}
 use Rattle.neli_consts_rta.specs.declared.links.Ifla.TheVariants.{Unspec, Address, Broadcast, Ifname, Mtu, Link, Qdisc, Stats, Cost, Priority, Master, Wireless, Protinfo, Txqlen, Map, Weight, Operstate, Linkmode, Linkinfo, NetNsPid, Ifalias, NumVf, VfinfoList, Stats64, VfPorts, PortSelf, AfSpec, Group, NetNsFd, ExtMask, Promiscuity, NumTxQueues, NumRxQueues, Carrier, PhysPortId, CarrierChanges, PhysSwitchId, LinkNetnsid, PhysPortName, ProtoDown, GsoMaxSegs, GsoMaxSize, Pad, Xdp, Event, NewNetnsid, IfNetnsid, CarrierUpCount, CarrierDownCount, NewIfindex, MinMtu, MaxMtu, PropList, AltIfname, PermAddress, ProtoDownReason, UnrecognizedConst}
 

@@ -1,6 +1,7 @@
 -- The numbers of `IflaVlan`.
 use Rattle.std.specs.Prelude.{◌≡◌, ℕ, Bool, true, false, List, [], ◌∷◌, refl}
-use Rattle.neli_wire.specs.Constants.{first_with, first_with-number}
+use Rattle.neli_wire.specs.ConstantLaws.{first_with-number}
+use Rattle.neli_wire.specs.Constants.{first_with}
 use Rattle.neli_consts_rta.specs.declared.link_kinds.IflaVlan.{IflaVlan}
 use Rattle.neli_consts_rta.specs.declared.link_kinds.IflaVlan.TheVariants.{Unspec, Id, Flags, EgressQos, IngressQos, Protocol, UnrecognizedConst}
 

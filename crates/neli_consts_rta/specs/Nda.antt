@@ -1,6 +1,7 @@
 -- The numbers of `Nda`.
 use Rattle.std.specs.Prelude.{◌≡◌, ℕ, Bool, true, false, List, [], ◌∷◌, refl}
-use Rattle.neli_wire.specs.Constants.{first_with, first_with-number}
+use Rattle.neli_wire.specs.ConstantLaws.{first_with-number}
+use Rattle.neli_wire.specs.Constants.{first_with}
 use Rattle.neli_consts_rta.specs.declared.neighbours.Nda.{Nda}
 use Rattle.neli_consts_rta.specs.declared.neighbours.Nda.TheVariants.{Unspec, Dst, Lladdr, Cacheinfo, Probes, Vlan, Port, Vni, Ifindex, Master, LinkNetnsid, SrcVni, UnrecognizedConst}
 

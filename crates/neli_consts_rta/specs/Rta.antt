@@ -1,6 +1,7 @@
 -- The numbers of `Rta`.
 use Rattle.std.specs.Prelude.{◌≡◌, ℕ, Bool, true, false, List, [], ◌∷◌, refl}
-use Rattle.neli_wire.specs.Constants.{first_with, first_with-number}
+use Rattle.neli_wire.specs.ConstantLaws.{first_with-number}
+use Rattle.neli_wire.specs.Constants.{first_with}
 use Rattle.neli_consts_rta.specs.declared.routes.Rta.{Rta}
 use Rattle.neli_consts_rta.specs.declared.routes.Rta.TheVariants.{Unspec, Dst, Src, Iif, Oif, Gateway, Priority, Prefsrc, Metrics, Multipath, Protoinfo, Flow, Cacheinfo, Session, MpAlgo, Table, Mark, MfcStats, Via, Newdst, Pref, EncapType, Encap, Expires, Pad, Uid, TtlPropagate, UnrecognizedConst}
 

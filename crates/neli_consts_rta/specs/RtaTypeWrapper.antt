@@ -1,6 +1,7 @@
 -- The meaning of an attribute's number in routing messages: the first table that has a name for it.
 use Rattle.std.specs.Prelude.{◌≡◌, ℕ, Bool, List, [], ◌∷◌, refl}
-use Rattle.neli_wire.specs.Constants.{reading, first_recognized, first_recognized-number}
+use Rattle.neli_wire.specs.ConstantLaws.{first_recognized-number}
+use Rattle.neli_wire.specs.Constants.{reading, first_recognized}
 use Rattle.neli_consts_rta.specs.Ifla.{ifla_number, ifla_of, ifla_of-number, ifla_is_unrecognized}
 use Rattle.neli_consts_rta.specs.Ifa.{ifa_number, ifa_of, ifa_of-number, ifa_is_unrecognized}
 use Rattle.neli_consts_rta.specs.Rta.{rta_number, rta_of, rta_of-number, rta_is_unrecognized}

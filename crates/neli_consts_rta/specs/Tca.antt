@@ -1,6 +1,7 @@
 -- The numbers of `Tca`.
 use Rattle.std.specs.Prelude.{◌≡◌, ℕ, Bool, true, false, List, [], ◌∷◌, refl}
-use Rattle.neli_wire.specs.Constants.{first_with, first_with-number}
+use Rattle.neli_wire.specs.ConstantLaws.{first_with-number}
+use Rattle.neli_wire.specs.Constants.{first_with}
 use Rattle.neli_consts_rta.specs.declared.queues.Tca.{Tca}
 use Rattle.neli_consts_rta.specs.declared.queues.Tca.TheVariants.{Unspec, Kind, Options, Stats, Xstats, Rate, Fcnt, Stats2, Stab, UnrecognizedConst}
 

@@ -24,6 +24,8 @@
 #![tactic(auto)]
 
 mod addresses;
+#[cfg(test)]
+mod calls;
 mod link_kinds;
 mod links;
 mod neighbours;

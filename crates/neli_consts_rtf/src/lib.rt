@@ -26,6 +26,8 @@ macro_rules! flag_list {
     };
 }
 
+#[cfg(test)]
+mod calls;
 mod frf;
 mod ifa_f;
 mod iff;

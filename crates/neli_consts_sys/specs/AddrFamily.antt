@@ -1,6 +1,7 @@
 -- The numbers of `AddrFamily`.
 use Rattle.std.specs.Prelude.{◌≡◌, ℤ, pos, Bool, true, false, List, [], ◌∷◌, refl}
-use Rattle.neli_wire.specs.Constants.{first_with_int, first_with_int-number}
+use Rattle.neli_wire.specs.ConstantLaws.{first_with_int-number}
+use Rattle.neli_wire.specs.Constants.{first_with_int}
 use Rattle.neli_consts_sys.specs.declared.socket.AddrFamily.{AddrFamily}
 use Rattle.neli_consts_sys.specs.declared.socket.AddrFamily.TheVariants.{UnixOrLocal, Inet, Inet6, Ipx, Netlink, X25, Ax25, Atmpvc, Appletalk, Packet, Alg, UnrecognizedConst}
 

@@ -1,6 +1,7 @@
 -- The numbers of `CnMsgVal`.
 use Rattle.std.specs.Prelude.{◌≡◌, ℕ, Bool, true, false, List, [], ◌∷◌, refl}
-use Rattle.neli_wire.specs.Constants.{first_with, first_with-number}
+use Rattle.neli_wire.specs.ConstantLaws.{first_with-number}
+use Rattle.neli_wire.specs.Constants.{first_with}
 use Rattle.neli_consts_sys.specs.declared.connector.CnMsgVal.{CnMsgVal}
 use Rattle.neli_consts_sys.specs.declared.connector.CnMsgVal.TheVariants.{Proc, Cifs, W1, V86dUvesafb, Dst, DmUserspaceLog, Drbd, Kvp, Vss, UnrecognizedConst}
 

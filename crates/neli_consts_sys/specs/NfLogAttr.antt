@@ -1,6 +1,7 @@
 -- The numbers of `NfLogAttr`.
 use Rattle.std.specs.Prelude.{◌≡◌, ℕ, Bool, true, false, List, [], ◌∷◌, refl}
-use Rattle.neli_wire.specs.Constants.{first_with, first_with-number}
+use Rattle.neli_wire.specs.ConstantLaws.{first_with-number}
+use Rattle.neli_wire.specs.Constants.{first_with}
 use Rattle.neli_consts_sys.specs.declared.netfilter.NfLogAttr.{NfLogAttr}
 use Rattle.neli_consts_sys.specs.declared.netfilter.NfLogAttr.TheVariants.{PacketHdr, Mark, Timestamp, IfindexIndev, IfindexOutdev, IfindexPhyindev, IfindexPhyoutdev, Hwaddr, Payload, Prefix, Uid, Seq, SeqGlobal, Gid, Hwtype, Hwheader, Hwlen, Ct, CtInfo, UnrecognizedConst}
 

@@ -1,6 +1,7 @@
 -- The numbers of `NfLogCfg`.
 use Rattle.std.specs.Prelude.{◌≡◌, ℕ, Bool, true, false, List, [], ◌∷◌, refl}
-use Rattle.neli_wire.specs.Constants.{first_with, first_with-number}
+use Rattle.neli_wire.specs.ConstantLaws.{first_with-number}
+use Rattle.neli_wire.specs.Constants.{first_with}
 use Rattle.neli_consts_sys.specs.declared.netfilter.NfLogCfg.{NfLogCfg}
 use Rattle.neli_consts_sys.specs.declared.netfilter.NfLogCfg.TheVariants.{Cmd, Mode, NlBufSize, Timeout, QThresh, Flags, UnrecognizedConst}
 

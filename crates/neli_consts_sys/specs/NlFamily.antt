@@ -1,6 +1,7 @@
 -- The numbers of `NlFamily`.
 use Rattle.std.specs.Prelude.{◌≡◌, ℤ, pos, Bool, true, false, List, [], ◌∷◌, refl}
-use Rattle.neli_wire.specs.Constants.{first_with_int, first_with_int-number}
+use Rattle.neli_wire.specs.ConstantLaws.{first_with_int-number}
+use Rattle.neli_wire.specs.Constants.{first_with_int}
 use Rattle.neli_consts_sys.specs.declared.socket.NlFamily.{NlFamily}
 use Rattle.neli_consts_sys.specs.declared.socket.NlFamily.TheVariants.{Route, Unused, Usersock, Firewall, SockOrInetDiag, Nflog, Xfrm, Selinux, Iscsi, Audit, FibLookup, Connector, Netfilter, Ip6Fw, Dnrtmsg, KobjectUevent, Generic, Scsitransport, Ecryptfs, Rdma, Crypto, UnrecognizedConst}
 

@@ -27,6 +27,8 @@ macro_rules! flag_list {
     };
 }
 
+#[cfg(test)]
+mod calls;
 mod connector;
 mod msg;
 mod netfilter;

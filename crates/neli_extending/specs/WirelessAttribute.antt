@@ -1,6 +1,7 @@
 -- The numbers of `WirelessAttribute`.
 use Rattle.std.specs.Prelude.{◌≡◌, ℕ, List, [], ◌∷◌, refl}
-use Rattle.neli_wire.specs.Constants.{first_with, first_with-number}
+use Rattle.neli_wire.specs.ConstantLaws.{first_with-number}
+use Rattle.neli_wire.specs.Constants.{first_with}
 use Rattle.neli_extending.specs.declared.attribute.WirelessAttribute.{WirelessAttribute}
 use Rattle.neli_extending.specs.declared.attribute.WirelessAttribute.TheVariants.{Ifindex, Ifname, Mac, UnrecognizedConst}
 

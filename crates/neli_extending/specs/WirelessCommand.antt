@@ -1,6 +1,7 @@
 -- The numbers of `WirelessCommand`.
 use Rattle.std.specs.Prelude.{◌≡◌, ℕ, List, [], ◌∷◌, refl}
-use Rattle.neli_wire.specs.Constants.{first_with, first_with-number}
+use Rattle.neli_wire.specs.ConstantLaws.{first_with-number}
+use Rattle.neli_wire.specs.Constants.{first_with}
 use Rattle.neli_extending.specs.declared.command.WirelessCommand.{WirelessCommand}
 use Rattle.neli_extending.specs.declared.command.WirelessCommand.TheVariants.{GetInterface, NewInterface, GetScan, TriggerScan, UnrecognizedConst}
 

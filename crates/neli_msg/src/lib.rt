@@ -22,6 +22,8 @@
 //! `specs/Cuts.antt` says what a whole datagram means.
 #![tactic(auto)]
 
+#[cfg(test)]
+mod calls;
 mod errors;
 mod iter;
 pub mod laws;

@@ -1,3 +1,4 @@
+pub mod ConstantLaws
 pub mod Constants
 pub mod FrameLaws
 pub mod Frames

@@ -5,7 +5,8 @@
 //!   [`FromBytesWithInputBorrowed`]: values that are told their number of bytes.
 //! - [`Constant`]: values that are one number each, such as enums and flag sets. It brings the traits above.
 //! - [`Cursor`]: the place that reads go through.
-//! - [`SerError`], [`DeError`], [`NoMemory`]: why something is not written or read.
+//! - [`SerError`], [`DeError`], [`NoMemory`]: why something is not written or read. These and the cursor
+//!   are those of `neli_wire_base`.
 //!
 //! What is implemented here: the integer types, lowest byte first, [`BeU64`], `Vec<T>`, texts, byte
 //! slices and arrays, `()` and `PhantomData`. What a read or a write means is stated in `specs/`: `Sizes`,
@@ -14,6 +15,8 @@
 
 mod big_endian;
 mod bytes;
+#[cfg(test)]
+mod calls;
 mod constants;
 mod frames;
 pub mod laws;

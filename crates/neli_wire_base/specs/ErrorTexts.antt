@@ -6,12 +6,14 @@ use Rattle.neli_wire_base.specs.declared.errors.SerError.TheVariants as ser
 use Rattle.neli_wire_base.specs.declared.errors.DeError.{DeError}
 use Rattle.neli_wire_base.specs.declared.errors.DeError.TheVariants as de
 
+-- what the refusal of a write prints
 abbrev pub ser_text : SerError → Option (List ℕ)
 ser_text (ser.Msg text) = Some text
 ser_text (ser.Io kind) = None
 ser_text (ser.Utf8 error) = None
 ser_text ser.Memory = Some (codes "Out of memory")
 
+-- what the refusal of a read prints
 abbrev pub de_text : DeError → Option (List ℕ)
 de_text (de.Msg text) = Some text
 de_text (de.Io kind) = None

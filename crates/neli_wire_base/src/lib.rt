@@ -8,6 +8,8 @@
 //! What they mean is stated in `specs/`: `Bytes`, `Place`, `Messages` and `ErrorTexts`.
 #![tactic(auto)]
 
+#[cfg(test)]
+mod calls;
 mod cursor;
 mod errors;
 mod message;
