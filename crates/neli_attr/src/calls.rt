@@ -62,7 +62,7 @@ fn payloads_of_generic_attributes(rt: HostRuntime) -> Result<(), Fail> {
     assert_eq!(rt; first, 0x0107);
     let whole: Vec<u8> = attr.get_payload_as_with_len(alloc)?;
     assert_eq!(rt; whole.as_slice(), [7u8, 1, 9, 9].as_slice());
-    let lent: &[u8] = attr.get_payload_as_with_len_borrowed().expect(&rt, "bytes");
+    let lent: &[u8] = attr.get_payload_as_with_len_borrowed()?;
     assert_eq!(rt; lent, [7u8, 1, 9, 9].as_slice());
     let mut other = attr.try_clone()?;
     assert!(rt; other == attr);
@@ -81,7 +81,7 @@ fn payloads_of_routing_attributes(rt: HostRuntime) -> Result<(), Fail> {
     assert_eq!(rt; first, 0x0107);
     let whole: Vec<u8> = attr.get_payload_as_with_len(alloc)?;
     assert_eq!(rt; whole.as_slice(), [7u8, 1, 9, 9].as_slice());
-    let lent: &[u8] = attr.get_payload_as_with_len_borrowed().expect(&rt, "bytes");
+    let lent: &[u8] = attr.get_payload_as_with_len_borrowed()?;
     assert_eq!(rt; lent, [7u8, 1, 9, 9].as_slice());
     let copy = attr.try_clone()?;
     assert_eq!(rt; (*copy.rta_len(), *copy.rta_type()), (8, Rta::Dst));
@@ -102,6 +102,12 @@ fn assert_routing(rt: &impl Abort, attrs: &[Rtattr<Rta, Buffer>]) {
     assert_eq!(rt; *attrs[1].rta_len(), 5);
 }
 
+/// Asserts that this handle is of the attributes of [`BYTES`].
+fn assert_generic_handle(rt: &impl Abort, handle: &GenlAttrHandle<'_, CtrlAttr>) {
+    assert_generic(rt, handle.get_attrs());
+    assert_eq!(rt; handle.iter().count(), 2);
+}
+
 #[test]
 fn generic_lists_of_attributes(rt: HostRuntime) -> Result<(), Fail> {
     let alloc = rt.alloc();
@@ -113,12 +119,10 @@ fn generic_lists_of_attributes(rt: HostRuntime) -> Result<(), Fail> {
     let list = GenlBuffer::from_list(read);
     assert_generic(&rt, list.attr_slice());
     assert_generic(&rt, list.as_ref());
-    let handle: GenlAttrHandle<'_, CtrlAttr> = AttrHandle::new_borrowed(list.as_ref());
-    assert_generic(&rt, handle.get_attrs());
-    assert_eq!(rt; handle.iter().count(), 2);
+    assert_generic_handle(&rt, &AttrHandle::new_borrowed(list.as_ref()));
     let mut attrs = Vec::new(alloc);
     for attr in list {
-        attrs.push(attr).map_err(|_| AllocError)?;
+        attrs.push(attr).expect(&rt, "memory");
     }
     let again = GenlBuffer::from(Vec::from(GenlBuffer::from(attrs)));
     assert_generic(&rt, again.as_ref());
@@ -126,6 +130,12 @@ fn generic_lists_of_attributes(rt: HostRuntime) -> Result<(), Fail> {
     let owned: GenlAttrHandle<'_, CtrlAttr> = AttrHandle::new(again);
     assert_generic(&rt, owned.get_attrs());
     Ok(())
+}
+
+/// Asserts that this handle is of the attributes of [`BYTES`].
+fn assert_routing_handle(rt: &impl Abort, handle: &RtAttrHandle<'_, Rta>) {
+    assert_routing(rt, handle.get_attrs());
+    assert_eq!(rt; handle.iter().count(), 2);
 }
 
 #[test]
@@ -139,12 +149,10 @@ fn routing_lists_of_attributes(rt: HostRuntime) -> Result<(), Fail> {
     let list = RtBuffer::from_list(read);
     assert_routing(&rt, list.attr_slice());
     assert_routing(&rt, list.as_ref());
-    let handle: RtAttrHandle<'_, Rta> = AttrHandle::new_borrowed(list.as_ref());
-    assert_routing(&rt, handle.get_attrs());
-    assert_eq!(rt; handle.iter().count(), 2);
+    assert_routing_handle(&rt, &AttrHandle::new_borrowed(list.as_ref()));
     let mut attrs = Vec::new(alloc);
     for attr in list {
-        attrs.push(attr).map_err(|_| AllocError)?;
+        attrs.push(attr).expect(&rt, "memory");
     }
     let again = RtBuffer::from(Vec::from(RtBuffer::from(attrs)));
     assert_routing(&rt, again.as_ref());

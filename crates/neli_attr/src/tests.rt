@@ -1,7 +1,7 @@
 use crate::{
-    AttrHandle, AttrType, AttrTypeBuilder, AttrTypeBuilderError, Attribute, Buffer, GenlBuffer,
-    Nlattr, NlattrBuilder, NlattrBuilderError, RtAttrHandle, RtBuffer, Rtattr, RtattrBuilder,
-    RtattrBuilderError,
+    AttrHandle, AttrType, AttrTypeBuilder, AttrTypeBuilderError, Attribute, Buffer, BuildError,
+    GenlBuffer, Nlattr, NlattrBuilder, NlattrBuilderError, RtAttrHandle, RtBuffer, Rtattr,
+    RtattrBuilder, RtattrBuilderError,
 };
 use neli_consts::{CtrlAttr, CtrlAttrMcastGrp, Index, NlAttrType};
 use neli_consts_rta::{Frattr, Ifa, Rta, RtaType};
@@ -143,8 +143,8 @@ fn lengths_at_the_limit(rt: HostRuntime) {
         .build(alloc);
     let text = "Length does not fit its field";
     match too_long {
-        Err(error) => assert_eq!(rt; error.to_string(alloc).expect(&rt, "memory").as_str(), text),
-        Ok(_attr) => assert!(rt; false),
+        Err(BuildError::ValidationError(words)) => assert_eq!(rt; words, text),
+        Err(_) | Ok(_) => assert!(rt; false),
     }
 }
 
@@ -155,11 +155,11 @@ fn nesting_at_the_limit(rt: HostRuntime) {
     let four = generic(&rt, alloc, 2u16, 4u32);
     let full = generic(&rt, alloc, 1u16, Buffer::from(zeros(&rt, alloc, 65528)));
     match full.nest(&four) {
-        Err(error) => {
-            let text = error.to_string(alloc).expect(&rt, "memory");
+        Err(SerError::Msg(message)) => {
+            let text = message.to_string(alloc).expect(&rt, "memory");
             assert_eq!(rt; text.as_str(), "Length does not fit its field");
         }
-        Ok(_attr) => assert!(rt; false),
+        Err(_) | Ok(_) => assert!(rt; false),
     }
 }
 

@@ -11,6 +11,8 @@ mod attr_type;
 mod attribute;
 mod buffer;
 mod builders;
+#[cfg(test)]
+mod calls;
 pub mod frame;
 #[cfg(test)]
 mod tests;

@@ -24,7 +24,7 @@ type Header = (u16, u16, u32, u32, usize);
 
 #[derive(Clone, Copy, Debug)]
 struct Row {
-    /// The number of the recording.
+    /// A label: the recordings were numbered as they were made.
     file: &'static str,
     hex: &'static str,
     messages: &'static [Header],
