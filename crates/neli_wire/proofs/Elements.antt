@@ -1,12 +1,14 @@
 -- Reading values one after the other.
 use Rattle.std.proofs.Common.{◌≡◌, ◌≢◌, ℕ, suc, ◌+◌, ◌-◌, ◌<◌, ◌≤◌, Bool, true, false, cond, List, [], ◌∷◌, ◌++◌, length, Result, Ok, Err, refl, sym, ap, ◌∙◌, append_assoc, arith, length-append}
 use Rattle.std.proofs.lemmas.List.{append-nil}
-use Rattle.neli_wire_base.specs.declared.errors.DeError.{DeError}
-use Rattle.neli_wire_base.specs.declared.errors.DeError.TheVariants.{Msg, Io, Utf8, InvalidInput, Memory}
-use Rattle.neli_wire_base.specs.Place.{Place, whole}
-use Rattle.neli_wire.specs.ListLaws.{nothing_left, one_more, none_taken, none_read}
-use Rattle.neli_wire_base.specs.Bytes.{Reading, Refuses}
-use Rattle.neli_wire.specs.Reading.{◌>>=◌, IsLocal, elements_by, elements, map_refusal, within, is_short}
+use Rattle.neli_wire.specs.DeError.{DeError}
+use Rattle.neli_wire.specs.DeError.TheVariants.{Msg, Io, Utf8, InvalidInput, Memory}
+use Rattle.neli_wire.specs.Place.{Place, whole}
+use Rattle.neli_wire.specs.laws.Lists.{nothing_left, one_more, none_taken, none_read}
+use Rattle.neli_wire.specs.Bytes.{Reading}
+use Rattle.neli_wire.specs.Refusals.{Refuses}
+use Rattle.neli_wire.specs.Reading.{◌>>=◌, IsLocal, map_refusal, refusal_within, is_short}
+use Rattle.neli_wire.specs.laws.Elements.{elements_by, elements}
 
 -- what was read before, and what is still read
 abbrev pub with_front : {V : Type 0} → List V → Result (List V) DeError → Result (List V) DeError
@@ -23,7 +25,7 @@ front_nil : {V : Type 0} (read : Result (List V) DeError) → with_front [] read
 front_nil (Ok more) = refl
 front_nil (Err e) = refl
 
--- the values read so far, and the place behind them
+-- the values read so far, and the place after them
 pub record Spells {V : Type 0} (read : List ℕ → Reading V) (bytes : List ℕ) (vs : List V) (at : Place) : Type 0 where
   pub place : whole at ≡ bytes
   pub room : length vs + length at.rest ≤ length bytes
@@ -44,15 +46,15 @@ module _ {V : Type 0} (read : List ℕ → Reading V) (bytes : List ℕ) (vs : L
       rw all refl
 
   pub Spells-shorter : (v : V) (next : Place) → IsLocal read → read at.rest ≡ Ok (v, next.rest) → whole next ≡ whole at → length next.before ≢ length at.before → length next.rest < length at.rest
-  Spells-shorter v next local e same moved =
+  Spells-shorter v next local e same place_after =
       let front = local at.rest next.rest v e in
       let len : length at.rest ≡ length front.0 + length next.rest = ap length front.1 ∙ length-append front.0 next.rest in
       let total : length next.before + length next.rest ≡ length at.before + length at.rest = sym (length-append next.before next.rest) ∙ ap length same ∙ length-append at.before at.rest in
-      omega (arith, len, total, moved)
+      omega (arith, len, total, place_after)
 
   pub Spells-more : (v : V) (next : Place) → IsLocal read → read at.rest ≡ Ok (v, next.rest) → whole next ≡ whole at → length next.before ≢ length at.before → Spells read bytes (vs ++ v ∷ []) next
-  Spells-more v next local e same moved =
-      let shorter = Spells-shorter v next local e same moved in
+  Spells-more v next local e same place_after =
+      let shorter = Spells-shorter v next local e same place_after in
       let count : length (vs ++ v ∷ []) ≡ length vs + 1 = length-append vs (v ∷ []) in
       let step : length bytes - length vs ≡ suc (length bytes - length (vs ++ v ∷ [])) = omega (arith, so_far.room, shorter, count) in
       record {
@@ -89,16 +91,16 @@ refuses_self A memory (Utf8 u) h = refl
 refuses_self A memory (InvalidInput n) h = refl
 refuses_self A memory Memory h = absurd (h refl)
 
-within_cases : (n : ℕ) (b : Bool) (e : DeError) → e ≢ Memory → cond b (InvalidInput n) e ≢ Memory
-within_cases n true e h f = cc
-within_cases n false e h f = h f
+refusal_within_cases : (n : ℕ) (b : Bool) (e : DeError) → e ≢ Memory → cond b (InvalidInput n) e ≢ Memory
+refusal_within_cases n true e h f = cc
+refusal_within_cases n false e h f = h f
 
 -- a refusal is passed on
-passed : {A : Type 0} (memory : Type 0) (n : ℕ) (all : Result A DeError) (e : DeError) → e ≢ Memory → all ≡ Err e → Refuses (map_refusal (within n) all) memory (within n e)
-passed {A} memory n all e h is = rw is (refuses_self A memory (within n e) (within_cases n (is_short e) e h))
+passed : {A : Type 0} (memory : Type 0) (n : ℕ) (all : Result A DeError) (e : DeError) → e ≢ Memory → all ≡ Err e → Refuses (map_refusal (refusal_within n) all) memory (refusal_within n e)
+passed {A} memory n all e h is = rw is (refuses_self A memory (refusal_within n e) (refusal_within_cases n (is_short e) e h))
 
 -- the refusal of an element is that of the list
-pub elements-refused : {V : Type 0} (read : List ℕ → Reading V) (bytes : List ℕ) (vs : List V) (at : Place) (memory : Type 0) (e : DeError) → Spells read bytes vs at → length at.before < length bytes → Refuses (read at.rest) memory e → Refuses (elements read bytes) (0 < length bytes) (within (length bytes) e)
+pub elements-refused : {V : Type 0} (read : List ℕ → Reading V) (bytes : List ℕ) (vs : List V) (at : Place) (memory : Type 0) (e : DeError) → Spells read bytes vs at → length at.before < length bytes → Refuses (read at.rest) memory e → Refuses (elements read bytes) (0 < length bytes) (refusal_within (length bytes) e)
 elements-refused read bytes vs at memory (Msg m) s lt h = passed (0 < length bytes) (length bytes) _ (Msg m) (λ f. cc) (Spells-refused read bytes vs at s (Msg m) lt h)
 elements-refused read bytes vs at memory (Io k) s lt h = passed (0 < length bytes) (length bytes) _ (Io k) (λ f. cc) (Spells-refused read bytes vs at s (Io k) lt h)
 elements-refused read bytes vs at memory (Utf8 u) s lt h = passed (0 < length bytes) (length bytes) _ (Utf8 u) (λ f. cc) (Spells-refused read bytes vs at s (Utf8 u) lt h)

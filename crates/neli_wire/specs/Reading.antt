@@ -1,10 +1,12 @@
 -- Reading: what a byte list says, or why it says nothing.
-use Rattle.std.specs.Prelude.{◌≡◌, ◌≤◌, ◌<◌, Bool, true, false, ℕ, zero, suc, List, [], ◌∷◌, ◌++◌, length, take, drop, Result, Ok, Err, nat_lt, if◌then◌else◌}
+use Rattle.std.specs.Prelude.{◌≡◌, ◌≤◌, ◌<◌, Bool, true, false, ℕ, List, [], ◌∷◌, ◌++◌, length, take, drop, Result, Ok, Err, nat_lt, if◌then◌else◌}
 use Rattle.byteorder.specs.Endian.{little_number}
 use Rattle.std.specs.declared.io.ErrorKind.TheVariants.{UnexpectedEof}
-use Rattle.neli_wire_base.specs.Bytes.{Reading, bytes_at}
-use Rattle.neli_wire_base.specs.declared.errors.DeError.{DeError}
-use Rattle.neli_wire_base.specs.declared.errors.DeError.TheVariants.{Io, InvalidInput}
+use Rattle.neli_wire.specs.Bytes.{Reading, bytes_at, short}
+use Rattle.neli_wire.specs.Place.{Place, place_after}
+use Rattle.neli_wire.specs.Sizes.{gap}
+use Rattle.neli_wire.specs.DeError.{DeError}
+use Rattle.neli_wire.specs.DeError.TheVariants.{Io, InvalidInput}
 
 -- what is done with a value that was read; a refusal stays
 infixl 10 ◌>>=◌
@@ -31,28 +33,37 @@ abbrev pub number_as : {V : Type 0} → (ℕ → V) → List ℕ → Reading V
 number_as of = value_at 2 (λ bytes. of (little_number 2 bytes))
 
 -- the reading of exactly the next n bytes
-abbrev pub sized : {V : Type 0} → (List ℕ → Result V DeError) → ℕ → List ℕ → Reading V
-sized read n s = if nat_lt (length s) n then Err (InvalidInput n) else (read (take n s) >>= λ v. Ok (v, drop n s))
+abbrev pub exact_reading : {V : Type 0} → (List ℕ → Result V DeError) → ℕ → List ℕ → Reading V
+exact_reading read n s =
+    if nat_lt (length s) n then Err (InvalidInput n) else (read (take n s) >>= λ v. Ok (v, drop n s))
 
 -- ---- refusals
 
 -- the first n bytes are there, and reading them takes memory
-abbrev pub sized_takes : (List ℕ → Type 0) → ℕ → List ℕ → Type 0
-sized_takes takes_memory n s = (n ≤ length s) × takes_memory (take n s)
+abbrev pub exact_takes : (List ℕ → Type 0) → ℕ → List ℕ → Type 0
+exact_takes takes_memory n s = (n ≤ length s) × takes_memory (take n s)
 
 -- a part was read, and what is said of it holds
-abbrev pub Then : {A : Type 0} → Reading A → (A → List ℕ → Type 0) → Type 0
-Then (Ok p) P = P p.0 p.1
-Then (Err e) P = ⊥
+abbrev pub IfRead : {A : Type 0} → Reading A → (A → List ℕ → Type 0) → Type 0
+IfRead (Ok p) P = P p.0 p.1
+IfRead (Err e) P = ⊥
 
 -- the refusal says that bytes are missing
 abbrev pub is_short : DeError → Bool
 is_short (Io UnexpectedEof) = true
 is_short e = false
 
+-- the place is now at the next multiple of four, over bytes of any value
+abbrev pub StripsTo : Place → Place → Type 0
+StripsTo old new = (gap (length old.before) ≤ length old.rest) × (new ≡ place_after old (gap (length old.before)))
+
+-- the bytes up to the next multiple of four are not there, and the refusal says so
+abbrev pub LacksPadding : Place → DeError → Type 0
+LacksPadding old e = (e ≡ short) × (length old.rest < gap (length old.before))
+
 -- a refusal as a read with input n passes it on: there missing bytes are an invalid input
-abbrev pub within : ℕ → DeError → DeError
-within n e = if is_short e then InvalidInput n else e
+abbrev pub refusal_within : ℕ → DeError → DeError
+refusal_within n e = if is_short e then InvalidInput n else e
 
 -- a refusal as it is passed on
 abbrev pub map_refusal : {A : Type 0} → (DeError → DeError) → Result A DeError → Result A DeError
@@ -61,24 +72,17 @@ map_refusal f (Err e) = Err (f e)
 
 -- ---- lists of values
 
--- the elements that a byte list of at most `fuel` bytes spells, one after the other; stuck where one takes no byte
-unfoldable pub elements_by : {V : Type 0} → (List ℕ → Reading V) → DeError → ℕ → List ℕ → Result (List V) DeError
-elements_by read stuck fuel [] = Ok []
-elements_by read stuck zero (b ∷ s) = Err stuck
-elements_by read stuck (suc fuel) (b ∷ s) =
-    read (b ∷ s) >>= λ p. if nat_lt (length p.1) (suc (length s)) then (elements_by read stuck fuel p.1 >>= λ more. Ok (p.0 ∷ more)) else Err stuck
-
--- the elements that a whole byte list spells
-abbrev pub elements : {V : Type 0} → (List ℕ → Reading V) → List ℕ → Result (List V) DeError
-elements read s = map_refusal (within (length s)) (elements_by read (InvalidInput (length s)) (length s) s)
-
--- the bytes are the texts of these values, one after the other, each of a byte at least
+-- the bytes spell these values, one after the other, each of a byte at least
 abbrev pub AreElements : {V : Type 0} → (List ℕ → Reading V) → List ℕ → List V → Type 0
 AreElements read s [] = s ≡ []
-AreElements read s (v ∷ vs) = (text : List ℕ) × (rest : List ℕ) × (s ≡ text ++ rest) × (0 < length text) × ((t : List ℕ) → read (text ++ t) ≡ Ok (v, t)) × AreElements read rest vs
+AreElements read s (v ∷ vs) =
+    (own : List ℕ) × (rest : List ℕ) × (s ≡ own ++ rest) × (0 < length own) × ((t : List ℕ) → read (own ++ t) ≡ Ok (v, t))
+    × AreElements read rest vs
 
 -- ---- laws that a reading meets
 
 -- a value that is read is told by its own bytes alone, whatever follows
 abbrev pub IsLocal : {V : Type 0} → (List ℕ → Reading V) → Type 0
-IsLocal {V} read = (s r : List ℕ) (v : V) → read s ≡ Ok (v, r) → (front : List ℕ) × (s ≡ front ++ r) × ((t : List ℕ) → read (front ++ t) ≡ Ok (v, t))
+IsLocal {V} read =
+    (s r : List ℕ) (v : V) → read s ≡ Ok (v, r)
+    → (own : List ℕ) × (s ≡ own ++ r) × ((t : List ℕ) → read (own ++ t) ≡ Ok (v, t))

@@ -1,5 +1,5 @@
 -- Sizes: lengths that are rounded up to four, as netlink aligns whatever it carries.
-use Rattle.std.specs.Prelude.{◌≡◌, ℕ, ◌+◌, ◌*◌, ◌/◌, ◌-◌, ◌⊎◌}
+use Rattle.std.specs.Prelude.{◌≡◌, ℕ, ◌+◌, ◌*◌, ◌/◌, ◌-◌, ◌⊎◌, List, ◌++◌, length, replicate, take}
 
 -- n rounded up to a multiple of four
 abbrev pub align : ℕ → ℕ
@@ -12,3 +12,7 @@ gap n = align n - n
 -- the whole has no padding at its end, or as much as rounds it up to a multiple of four
 abbrev pub IsRounded : ℕ → ℕ → Type 0
 IsRounded unpadded written = (written ≡ unpadded) ⊎ (written ≡ align unpadded)
+
+-- after their first n bytes there are zeros alone
+abbrev pub EndsInZeros : ℕ → List ℕ → Type 0
+EndsInZeros n bytes = bytes ≡ take n bytes ++ replicate (length bytes - n) 0

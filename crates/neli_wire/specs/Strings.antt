@@ -3,16 +3,16 @@ use Rattle.std.specs.Prelude.{ℕ, ◌-◌, List, [], ◌∷◌, ◌++◌, lengt
 use Rattle.std.specs.Str.Lossy.{utf8_valid_len, utf8_error_len}
 use Rattle.std.specs.declared.str.Utf8Error.{Utf8Error}
 use Rattle.neli_wire.specs.Writing.{Wire}
-use Rattle.neli_wire_base.specs.declared.errors.DeError.{DeError}
-use Rattle.neli_wire_base.specs.declared.errors.DeError.TheVariants.{InvalidInput, Utf8 as NotText}
-use Rattle.neli_wire_base.specs.declared.errors.Utf8.{Utf8}
-use Rattle.neli_wire_base.specs.declared.errors.Utf8.TheVariants.{String as OfString, Str as OfStr}
+use Rattle.neli_wire.specs.DeError.{DeError}
+use Rattle.neli_wire.specs.DeError.TheVariants.{InvalidInput, Utf8 as NotText}
+use Rattle.neli_wire.specs.Utf8.{Utf8}
+use Rattle.neli_wire.specs.Utf8.TheVariants.{String as OfString, Str as OfStr}
 
--- a text and a zero behind it
+-- a text and a zero after it
 abbrev pub terminated : List ℕ → Wire
 terminated text = Ok (text ++ 0 ∷ [])
 
--- where bytes stop being UTF-8: how many are, and how many behind these are at fault, if that is known
+-- where bytes stop being UTF-8: how many are, and how many after these are at fault, if that is known
 abbrev pub fault_of : List ℕ → Utf8Error
 fault_of s = record { valid_up_to = utf8_valid_len s; error_len = utf8_error_len (drop (utf8_valid_len s) s) }
 

@@ -1,8 +1,8 @@
--- Writing: the bytes of a value, called its wire text, or why it has none.
-use Rattle.std.specs.Prelude.{◌≡◌, ℕ, List, [], ◌∷◌, ◌++◌, length, replicate, Result, Ok, Err}
+-- Writing: the bytes of a value, called its wire bytes, or why it has none.
+use Rattle.std.specs.Prelude.{ℕ, ◌<◌, List, [], ◌∷◌, ◌++◌, length, replicate, Result, Ok, Err, ⊤}
 use Rattle.neli_wire.specs.Sizes.{gap}
-use Rattle.neli_wire_base.specs.declared.errors.SerError.{SerError}
-use Rattle.neli_wire_base.specs.declared.errors.SerError.TheVariants.{Msg, Io, Utf8, Memory}
+use Rattle.neli_wire.specs.SerError.{SerError}
+use Rattle.neli_wire.specs.Refusals.{IsRefusal, ser_ran_out}
 
 -- the bytes of a value, or a refusal
 abbrev pub Wire : Type 0
@@ -24,19 +24,21 @@ wire_all wire (x ∷ xs) = wire x +++ wire_all wire xs
 abbrev pub zeros_for : ℕ → List ℕ
 zeros_for n = replicate (gap n) 0
 
--- a text with zeros up to a multiple of four
-abbrev pub padded : Wire → Wire
-padded (Ok bytes) = Ok (bytes ++ zeros_for (length bytes))
-padded (Err e) = Err e
+-- the bytes with zeros up to a multiple of four
+abbrev pub pad_wire : Wire → Wire
+pad_wire (Ok bytes) = Ok (bytes ++ zeros_for (length bytes))
+pad_wire (Err e) = Err e
 
 -- the bytes that stood there, and then those of a value
-abbrev pub appended : List ℕ → Wire → Wire
-appended old (Ok bytes) = Ok (old ++ bytes)
-appended old (Err e) = Err e
+abbrev pub append_wire : List ℕ → Wire → Wire
+append_wire old (Ok bytes) = Ok (old ++ bytes)
+append_wire old (Err e) = Err e
 
--- e is the refusal that the value has, or memory ran out
-abbrev pub IsRefused : Wire → SerError → Type 0
-IsRefused wire (Msg m) = wire ≡ Err (Msg m)
-IsRefused wire (Io k) = wire ≡ Err (Io k)
-IsRefused wire (Utf8 u) = wire ≡ Err (Utf8 u)
-IsRefused wire Memory = Unit {0}
+-- a write that appends a byte, or is refused half way, takes memory
+abbrev pub TakesRoom : Wire → Type 0
+TakesRoom (Ok bytes) = 0 < length bytes
+TakesRoom (Err e) = ⊤
+
+-- e is why a write is refused: the value has no bytes, or memory ran out
+abbrev pub RefusesWrite : Wire → SerError → Type 0
+RefusesWrite wire = IsRefusal ser_ran_out wire (TakesRoom wire)

@@ -3,7 +3,7 @@
 ghost use Rattle.std.specs.Prelude.{◌≡◌};
 ghost use Rattle.byteorder.specs.Endian.{big_bytes, big_number};
 ghost use Rattle.byteorder.specs.Numbers.{length-bytes_high_first};
-ghost use Rattle.neli_wire.specs.NumberLaws.{reads_back-big, writes_back-big, in_range-big};
+ghost use Rattle.neli_wire.specs.laws.Numbers.{reads_back-big, writes_back-big, in_range-big};
 ghost use Rattle.neli_wire.specs.Numbers.{FitsBytes};
 
 use crate::WireNumber;

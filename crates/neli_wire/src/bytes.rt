@@ -2,21 +2,19 @@
 
 ghost use Rattle.std.specs.Prelude.{◌≡◌, ℕ, List, Ok, Err, length};
 ghost use Rattle.neli_wire.specs.Reading.{value_at};
-ghost use Rattle.neli_wire.specs.ReadingLaws.{value_at-local, value_at-no_memory};
-ghost use Rattle.neli_wire.specs.SizeLaws.{unpadded-rounded};
-ghost use Rattle.neli_wire.specs.StringLaws.{all-never_short};
-ghost use Rattle.neli_wire.specs.WritingLaws.{own-length, written-no_memory};
+ghost use Rattle.neli_wire.specs.laws.Reading.{value_at-local, value_at-no_memory};
+ghost use Rattle.neli_wire.specs.laws.Sizes.{unpadded-rounded, unpadded-zeros};
+ghost use Rattle.neli_wire.specs.laws.Strings.{all-never_short};
+ghost use Rattle.neli_wire.specs.laws.Writing.{own-length, written-no_memory};
 
-use crate::{
-    Cursor, DeError, FromBytes, FromBytesWithInputBorrowed, SerError, Size, ToBytes, pad_from,
-    strip_to_four,
-};
+use crate::implementing::{pad_from, strip_to_four};
+use crate::{Cursor, DeError, FromBytes, FromBytesWithInputBorrowed, SerError, Size, ToBytes};
 use std::alloc::Global;
 
 impl<'a> Size for &'a [u8] {
-    ghost unpadded = { λ b. length b.now };
+    ghost unpadded_length = { λ b. length b.now };
 
-    ghost written = { λ b. length b.now };
+    ghost wire_length = { λ b. length b.now };
 
     ghost rounded = { unpadded-rounded (λ b. length b.now) };
 
@@ -33,6 +31,9 @@ impl<'a> ToBytes for &'a [u8] {
     ghost wire = { λ b. Ok b.now };
 
     ghost length_is = { λ b bytes e. own-length b.now bytes e };
+
+    ghost zeros_after = { λ b bytes e. unpadded-zeros (length b.now) bytes
+        (own-length b.now bytes e) };
 
     ghost no_memory = { λ b. written-no_memory b.now };
 
@@ -63,9 +64,9 @@ impl<'a> FromBytesWithInputBorrowed<'a> for &'a [u8] {
 }
 
 impl<const N: usize> Size for [u8; N] {
-    ghost unpadded = { λ b. length b };
+    ghost unpadded_length = { λ b. length b };
 
-    ghost written = { λ b. length b };
+    ghost wire_length = { λ b. length b };
 
     ghost rounded = { unpadded-rounded (λ b. length b) };
 
@@ -82,6 +83,8 @@ impl<const N: usize> ToBytes for [u8; N] {
     ghost wire = { λ b. Ok b };
 
     ghost length_is = { λ b bytes e. own-length b bytes e };
+
+    ghost zeros_after = { λ b bytes e. unpadded-zeros (length b) bytes (own-length b bytes e) };
 
     ghost no_memory = { λ b. written-no_memory b };
 

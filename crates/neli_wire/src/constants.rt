@@ -3,12 +3,12 @@
 //! A type of constants implements [`Constant`] alone, and with it has the four wire traits
 //! [`Size`], [`TypeSize`], [`ToBytes`] and [`FromBytes`].
 
-ghost use Rattle.std.specs.Prelude.{◌≡◌, ◌++◌, ℕ, List, Ok, OnOk, OnErr, length};
+ghost use Rattle.std.specs.Prelude.{◌≡◌, ◌<◌, ◌++◌, ℕ, List, Ok, OnOk, OnErr, length};
 ghost use Rattle.neli_wire.specs.Numbers.{AreBytes};
 ghost use Rattle.neli_wire.specs.Reading.{value_at};
-ghost use Rattle.neli_wire.specs.ReadingLaws.{value_at-local, value_at-no_memory, value_at-wide};
-ghost use Rattle.neli_wire.specs.SizeLaws.{unpadded-rounded};
-ghost use Rattle.neli_wire.specs.WritingLaws.{written-length, written-no_memory};
+ghost use Rattle.neli_wire.specs.laws.Reading.{value_at-local, value_at-no_memory, value_at-wide};
+ghost use Rattle.neli_wire.specs.laws.Sizes.{unpadded-rounded, unpadded-zeros};
+ghost use Rattle.neli_wire.specs.laws.Writing.{written-length, written-no_memory};
 
 use crate::{Cursor, DeError, FromBytes, SerError, Size, ToBytes, TypeSize};
 use std::alloc::{AllocError, Global};
@@ -35,7 +35,8 @@ pub trait WireNumber: Copy + Debug {
     /// Appends the bytes of the number. A refusal leaves the buffer as it was.
     fn append(self, buffer: &mut Vec<u8>) -> Result<(), AllocError>
         ensures ok { OnOk result (buffer.new.items ≡ buffer.old.items ++ bytes_of self) }
-        ensures err { OnErr result (buffer.new.items ≡ buffer.old.items) };
+        ensures err { OnErr result (buffer.new.items ≡ buffer.old.items) }
+        ensures memory { OnErr result (0 < byte_count) };
 
     /// The number of these bytes.
     fn number(bytes: &[u8]) -> Self
@@ -48,9 +49,11 @@ pub trait WireNumber: Copy + Debug {
     ghost reads_back: { (n : Self) → IsInRange n → number_of (bytes_of n) ≡ n };
 
     // Bytes that are read as a number are that number's bytes, and it is one of the type.
-    ghost writes_back: { (bytes : List ℕ) → length bytes ≡ byte_count → AreBytes bytes → bytes_of (number_of bytes) ≡ bytes };
+    ghost writes_back: { (bytes : List ℕ) → length bytes ≡ byte_count → AreBytes bytes
+        → bytes_of (number_of bytes) ≡ bytes };
 
-    ghost in_range: { (bytes : List ℕ) → length bytes ≡ byte_count → AreBytes bytes → IsInRange (number_of bytes) };
+    ghost in_range: { (bytes : List ℕ) → length bytes ≡ byte_count → AreBytes bytes
+        → IsInRange (number_of bytes) };
 }
 
 /// A value that is written as one number, and read as what that number means.
@@ -72,13 +75,14 @@ pub trait Constant: Copy + Debug {
         ensures { result ≡ wire_number self.now };
 
     // No number is lost: what it is read as is written as the same number.
-    ghost back_to_number: { (n : Self.Number) → Self.Number.IsInRange n → wire_number (wire_value n) ≡ n };
+    ghost back_to_number: { (n : Self.Number) → Self.Number.IsInRange n
+        → wire_number (wire_value n) ≡ n };
 }
 
 impl<T: Constant> Size for T {
-    ghost unpadded = { λ _. T.Number.byte_count };
+    ghost unpadded_length = { λ _. T.Number.byte_count };
 
-    ghost written = { λ _. T.Number.byte_count };
+    ghost wire_length = { λ _. T.Number.byte_count };
 
     ghost rounded = { unpadded-rounded (λ _. T.Number.byte_count) };
 
@@ -94,7 +98,13 @@ impl<T: Constant> Size for T {
 impl<T: Constant> ToBytes for T {
     ghost wire = { λ v. Ok (T.Number.bytes_of (T.wire_number v)) };
 
-    ghost length_is = { λ v bytes e. written-length (T.Number.bytes_of (T.wire_number v)) bytes T.Number.byte_count (T.Number.count_is (T.wire_number v)) e };
+    ghost length_is = { λ v bytes e. written-length
+        (T.Number.bytes_of (T.wire_number v)) bytes T.Number.byte_count
+        (T.Number.count_is (T.wire_number v)) e };
+
+    ghost zeros_after = { λ v bytes e. unpadded-zeros T.Number.byte_count bytes
+        (written-length (T.Number.bytes_of (T.wire_number v)) bytes T.Number.byte_count
+        (T.Number.count_is (T.wire_number v)) e) };
 
     ghost no_memory = { λ v. written-no_memory (T.Number.bytes_of (T.wire_number v)) };
 
@@ -109,13 +119,16 @@ impl<T: Constant> FromBytes for T {
 
     ghost view = { λ v. v };
 
-    ghost read = { value_at T.Number.byte_count (λ bytes. T.wire_value (T.Number.number_of bytes)) };
+    ghost read = { value_at T.Number.byte_count
+        (λ bytes. T.wire_value (T.Number.number_of bytes)) };
 
     ghost takes_memory = { λ _. ⊥ };
 
-    ghost local = { value_at-local T.Number.byte_count (λ bytes. T.wire_value (T.Number.number_of bytes)) };
+    ghost local = { value_at-local T.Number.byte_count
+        (λ bytes. T.wire_value (T.Number.number_of bytes)) };
 
-    ghost no_memory = { value_at-no_memory T.Number.byte_count (λ bytes. T.wire_value (T.Number.number_of bytes)) };
+    ghost no_memory = { value_at-no_memory T.Number.byte_count
+        (λ bytes. T.wire_value (T.Number.number_of bytes)) };
 
     fn from_bytes(_alloc: Global, cursor: &mut Cursor<'_>) -> Result<T, DeError> {
         let bytes = cursor.bytes(T::Number::count())?;
@@ -126,9 +139,12 @@ impl<T: Constant> FromBytes for T {
 impl<T: Constant> TypeSize for T {
     ghost width = { T.Number.byte_count };
 
-    ghost wire_is_wide = { λ v bytes e. written-length (T.Number.bytes_of (T.wire_number v)) bytes T.Number.byte_count (T.Number.count_is (T.wire_number v)) e };
+    ghost wire_is_wide = { λ v bytes e. written-length
+        (T.Number.bytes_of (T.wire_number v)) bytes T.Number.byte_count
+        (T.Number.count_is (T.wire_number v)) e };
 
-    ghost read_is_wide = { λ s r v e. value_at-wide T.Number.byte_count (λ bytes. T.wire_value (T.Number.number_of bytes)) s r v e };
+    ghost read_is_wide = { λ s r v e. value_at-wide T.Number.byte_count
+        (λ bytes. T.wire_value (T.Number.number_of bytes)) s r v e };
 
     fn type_size() -> usize {
         T::Number::count()

@@ -1,9 +1,9 @@
 //! Frames: a header that states the length of the whole, the payload, and padding to four bytes.
 
 ghost use Rattle.std.specs.Prelude.{◌≡◌, ◌≤◌, Ok, IfOk, IfErr, OnOk, OnErr};
-ghost use Rattle.neli_wire.specs.Frames.{body_at, body_takes};
-ghost use Rattle.neli_wire_base.specs.Place.{whole};
-ghost use Rattle.neli_wire_base.specs.Bytes.{Refuses};
+ghost use Rattle.neli_wire.specs.laws.Steps.{padded_payload_at, padded_payload_takes};
+ghost use Rattle.neli_wire.specs.Place.{whole};
+ghost use Rattle.neli_wire.specs.Refusals.{Refuses};
 ghost use Rattle.neli_wire.specs.Sizes.{align};
 
 use crate::{Cursor, DeError, FromBytesWithInput, alignto};
@@ -15,16 +15,19 @@ use std::alloc::Global;
 /// A length below the header's own is `InvalidInput(len)`; one past the bytes `InvalidInput(len - size)`;
 /// then comes the payload's refusal, and `Io(UnexpectedEof)` where padding is missing. A refusal leaves
 /// the cursor where it was.
-pub fn read_body<P: FromBytesWithInput>(
+pub fn read_padded_payload<P: FromBytesWithInput>(
     alloc: Global,
     cursor: &mut Cursor<'_>,
     size: usize,
     len: usize,
 ) -> Result<P, DeError>
     requires { align len ≤ usize.MAX }
-    ensures value { IfOk result (λ p. body_at P.read size len cursor.old.rest ≡ Ok (P.view p, cursor.new.rest)) }
+    ensures value { IfOk result (λ p. padded_payload_at P.read size len cursor.old.rest
+        ≡ Ok (P.view p, cursor.new.rest)) }
     ensures moved { OnOk result (whole cursor.new ≡ whole cursor.old) }
-    ensures refused { IfErr result (Refuses (body_at P.read size len cursor.old.rest) (body_takes P.takes_memory size len cursor.old.rest)) }
+    ensures refused { IfErr result
+        (Refuses (padded_payload_at P.read size len cursor.old.rest)
+        (padded_payload_takes P.takes_memory size len cursor.old.rest)) }
     ensures unchanged { OnErr result (cursor.new ≡ cursor.old) }
 {
     if len < size {

@@ -1,12 +1,13 @@
 //! The wire layer of netlink: values that are written as bytes and read back.
 //!
-//! - [`Size`], [`ToBytes`], [`TypeSize`], [`Header`]: how long a value is, and its bytes, its wire text.
+//! - [`Size`], [`ToBytes`], [`TypeSize`], [`Header`]: how long a value is, and its wire bytes.
 //! - [`FromBytes`]: values that take as many bytes as they need. [`FromBytesWithInput`] and
 //!   [`FromBytesWithInputBorrowed`]: values that are told their number of bytes.
 //! - [`Constant`]: values that are one number each, such as enums and flag sets. It brings the traits above.
 //! - [`Cursor`]: the place that reads go through.
 //! - [`SerError`], [`DeError`], [`NoMemory`]: why something is not written or read. These and the cursor
-//!   are those of `neli_wire_base`.
+//!   are re-exports of `neli_wire_base`.
+//! - [`implementing`]: what an implementer of these traits calls. [`laws`]: what holds of the definitions.
 //!
 //! What is implemented here: the integer types, lowest byte first, [`BeU64`], `Vec<T>`, texts, byte
 //! slices and arrays, `()` and `PhantomData`. What a read or a write means is stated in `specs/`: `Sizes`,
@@ -15,31 +16,23 @@
 
 mod big_endian;
 mod bytes;
-#[cfg(test)]
-mod calls;
 mod constants;
 mod frames;
+pub mod implementing;
 pub mod laws;
 mod lists;
 mod numbers;
 mod reading;
 mod sizes;
-#[cfg(test)]
-mod tests;
 mod texts;
 mod unit;
 mod writing;
 
 pub use big_endian::BeU64;
 pub use constants::{Constant, WireNumber};
-pub use frames::read_body;
-pub use lists::{read_all, size_of_all, write_all};
 pub use neli_wire_base::{
     Cursor, DeError, MsgError, NoMemory, SerError, UninitializedFieldError, Utf8,
 };
-pub use reading::{
-    FromBytes, FromBytesWithInput, FromBytesWithInputBorrowed, Header, TypeSize, strip_to_four,
-    within_input,
-};
-pub use sizes::{Size, alignto, padded_length};
-pub use writing::{ToBytes, pad_from, undone};
+pub use reading::{FromBytes, FromBytesWithInput, FromBytesWithInputBorrowed, Header, TypeSize};
+pub use sizes::{Size, alignto};
+pub use writing::ToBytes;

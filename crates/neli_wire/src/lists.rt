@@ -1,20 +1,20 @@
 //! Lists of values, one after the other.
 
 ghost use Rattle.std.specs.Prelude.{◌≡◌, ◌≤◌, ◌<◌, ◌+◌, ℕ, List, Ok, Err, IfOk, IfErr, OnOk, OnErr, length, min, map, take, drop, sum_by};
-ghost use Rattle.neli_wire.specs.ListLaws.{wire_all-length, wire_all-no_memory, elements-no_memory, elements-never_short};
-ghost use Rattle.neli_wire_base.specs.Bytes.{Refuses};
-ghost use Rattle.neli_wire.specs.Reading.{elements, within};
-ghost use Rattle.neli_wire.specs.SizeLaws.{unpadded-rounded};
-ghost use Rattle.neli_wire.specs.Writing.{IsRefused, appended, wire_all};
+ghost use Rattle.neli_wire.specs.laws.Lists.{wire_all-length, wire_all-no_memory, elements-no_memory, elements-never_short};
+ghost use Rattle.neli_wire.specs.Refusals.{Refuses};
+ghost use Rattle.neli_wire.specs.laws.Elements.{elements};
+ghost use Rattle.neli_wire.specs.Reading.{refusal_within};
+ghost use Rattle.neli_wire.specs.laws.Sizes.{unpadded-rounded, unpadded-zeros};
+ghost use Rattle.neli_wire.specs.Writing.{RefusesWrite, append_wire, wire_all};
 
-use crate::{
-    Cursor, DeError, FromBytes, FromBytesWithInput, SerError, Size, ToBytes, undone, within_input,
-};
+use crate::implementing::{undo_on_refusal, within_input};
+use crate::{Cursor, DeError, FromBytes, FromBytesWithInput, SerError, Size, ToBytes};
 use std::alloc::Global;
 
 /// How many bytes the values take together; `usize::MAX` where that is larger.
 pub fn size_of_all<T: Size>(items: &[T]) -> usize
-    ensures { result ≡ min (sum_by T.written items.now) usize.MAX }
+    ensures { result ≡ min (sum_by T.wire_length items.now) usize.MAX }
 {
     let mut total: usize = 0;
     for item in items {
@@ -23,11 +23,13 @@ pub fn size_of_all<T: Size>(items: &[T]) -> usize
     total
 }
 
-/// Appends the bytes of the values. A refusal leaves some of them behind what was there.
+/// Appends the bytes of the values. A refusal leaves some of them after what was there.
 fn write_each<T: ToBytes>(items: &[T], buffer: &mut Vec<u8>) -> Result<(), SerError>
-    ensures appended { OnOk result (appended buffer.old.items (wire_all T.wire items.now) ≡ Ok buffer.new.items) }
-    ensures refused { IfErr result (IsRefused (wire_all T.wire items.now)) }
-    ensures front { OnErr result (take (length buffer.old.items) buffer.new.items ≡ buffer.old.items) }
+    ensures appended { OnOk result (append_wire buffer.old.items (wire_all T.wire items.now)
+        ≡ Ok buffer.new.items) }
+    ensures refused { IfErr result (RefusesWrite (wire_all T.wire items.now)) }
+    ensures front { OnErr result (take (length buffer.old.items) buffer.new.items
+        ≡ buffer.old.items) }
 {
     for item in items {
         item.to_bytes(buffer)?;
@@ -37,13 +39,14 @@ fn write_each<T: ToBytes>(items: &[T], buffer: &mut Vec<u8>) -> Result<(), SerEr
 
 /// Appends the bytes of all the values, or leaves the buffer as it was.
 pub fn write_all<T: ToBytes>(items: &[T], buffer: &mut Vec<u8>) -> Result<(), SerError>
-    ensures appended { OnOk result (appended buffer.old.items (wire_all T.wire items.now) ≡ Ok buffer.new.items) }
-    ensures refused { IfErr result (IsRefused (wire_all T.wire items.now)) }
+    ensures appended { OnOk result (append_wire buffer.old.items (wire_all T.wire items.now)
+        ≡ Ok buffer.new.items) }
+    ensures refused { IfErr result (RefusesWrite (wire_all T.wire items.now)) }
     ensures unchanged { OnErr result (buffer.new.items ≡ buffer.old.items) }
 {
     let start = buffer.len();
     let outcome = write_each(items, buffer);
-    undone(buffer, start, outcome)
+    undo_on_refusal(buffer, start, outcome)
 }
 
 /// The values that all of the bytes spell, one after the other.
@@ -70,11 +73,11 @@ pub fn read_all<T: FromBytes>(alloc: Global, bytes: &[u8]) -> Result<Vec<T>, DeE
 }
 
 impl<T: Size> Size for Vec<T> {
-    ghost unpadded = { λ v. sum_by T.written v.items };
+    ghost unpadded_length = { λ v. sum_by T.wire_length v.items };
 
-    ghost written = { λ v. sum_by T.written v.items };
+    ghost wire_length = { λ v. sum_by T.wire_length v.items };
 
-    ghost rounded = { unpadded-rounded (λ v. sum_by T.written v.items) };
+    ghost rounded = { unpadded-rounded (λ v. sum_by T.wire_length v.items) };
 
     fn unpadded_size(&self) -> usize {
         size_of_all(self)
@@ -88,7 +91,10 @@ impl<T: Size> Size for Vec<T> {
 impl<T: ToBytes> ToBytes for Vec<T> {
     ghost wire = { λ v. wire_all T.wire v.items };
 
-    ghost length_is = { λ v bytes e. wire_all-length T.wire T.Size.written T.length_is v.items bytes e };
+    ghost length_is = { λ v bytes e. wire_all-length T.wire T.Size.wire_length T.length_is v.items bytes e };
+
+    ghost zeros_after = { λ v bytes e. unpadded-zeros (sum_by T.Size.wire_length v.items) bytes
+        (wire_all-length T.wire T.Size.wire_length T.length_is v.items bytes e) };
 
     ghost no_memory = { λ v e. wire_all-no_memory T.wire T.no_memory v.items e };
 

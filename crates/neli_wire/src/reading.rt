@@ -1,12 +1,13 @@
 //! Values that are read from bytes.
 
 ghost use Rattle.std.specs.Prelude.{◌≡◌, ℕ, ◌+◌, ◌-◌, ◌≤◌, ◌<◌, List, Result, Ok, Err, IfOk, IfErr, OnOk, OnErr, length, drop};
-ghost use Rattle.neli_wire_base.specs.Place.{whole, moved};
-ghost use Rattle.neli_wire_base.specs.Bytes.{Reading, Refuses, short};
-ghost use Rattle.neli_wire.specs.Reading.{IsLocal, sized, sized_takes, within};
+ghost use Rattle.neli_wire.specs.Place.{whole, place_after};
+ghost use Rattle.neli_wire.specs.Bytes.{Reading, short};
+ghost use Rattle.neli_wire.specs.Refusals.{Refuses};
+ghost use Rattle.neli_wire.specs.Reading.{IsLocal, LacksPadding, StripsTo, exact_reading, exact_takes, refusal_within};
 ghost use Rattle.neli_wire.specs.Sizes.{gap};
-ghost use Rattle.neli_wire_base.specs.declared.errors.DeError.{DeError as Refusal};
-ghost use Rattle.neli_wire_base.specs.declared.errors.DeError.TheVariants as de;
+ghost use Rattle.neli_wire.specs.DeError.{DeError as Refusal};
+ghost use Rattle.neli_wire.specs.DeError.TheVariants as de;
 
 use crate::{Cursor, DeError, ToBytes, alignto};
 use std::alloc::Global;
@@ -31,15 +32,15 @@ pub trait FromBytes: Sized + Debug + Drop {
     fn from_bytes(alloc: Global, cursor: &mut Cursor<'_>) -> Result<Self, DeError>
         ensures value { IfOk result (λ v. read cursor.old.rest ≡ Ok (view v, cursor.new.rest)) }
         ensures moved { OnOk result (whole cursor.new ≡ whole cursor.old) }
-        ensures refused { IfErr result (Refuses (read cursor.old.rest) (takes_memory cursor.old.rest)) }
+        ensures refused { IfErr result
+            (Refuses (read cursor.old.rest) (takes_memory cursor.old.rest)) }
         ensures unchanged { OnErr result (cursor.new ≡ cursor.old) };
 
     /// Moves to the next position that is a multiple of four, over bytes of any value. It is refused
     /// with `Io(UnexpectedEof)` where they are not there, and then the cursor stays.
     fn strip(cursor: &mut Cursor<'_>) -> Result<(), DeError>
-        ensures stripped { OnOk result ((gap (length cursor.old.before) ≤ length cursor.old.rest)
-            × (cursor.new ≡ moved cursor.old (gap (length cursor.old.before)))) }
-        ensures short { IfErr result (λ e. (e ≡ short) × (length cursor.old.rest < gap (length cursor.old.before))) }
+        ensures stripped { OnOk result (StripsTo cursor.old cursor.new) }
+        ensures short { IfErr result (LacksPadding cursor.old) }
         ensures kept { OnErr result (cursor.new ≡ cursor.old) }
     {
         strip_to_four(cursor)
@@ -48,7 +49,7 @@ pub trait FromBytes: Sized + Debug + Drop {
     // A value that is read is told by its own bytes alone, whatever follows.
     ghost local: { IsLocal read };
 
-    // No byte list is refused for want of memory by itself.
+    // No byte list is refused because memory ran out by itself.
     ghost no_memory: { (s : List ℕ) → read s ≡ Err de.Memory → ⊥ };
 }
 
@@ -72,22 +73,24 @@ pub trait FromBytesWithInput: Sized + Debug + Drop {
         cursor: &mut Cursor<'_>,
         n: usize,
     ) -> Result<Self, DeError>
-        ensures value { IfOk result (λ v. sized read n cursor.old.rest ≡ Ok (view v, cursor.new.rest)) }
+        ensures value { IfOk result (λ v. exact_reading read n cursor.old.rest
+            ≡ Ok (view v, cursor.new.rest)) }
         ensures moved { OnOk result (whole cursor.new ≡ whole cursor.old) }
-        ensures refused { IfErr result (Refuses (sized read n cursor.old.rest) (sized_takes takes_memory n cursor.old.rest)) }
+        ensures refused { IfErr result
+            (Refuses (exact_reading read n cursor.old.rest)
+            (exact_takes takes_memory n cursor.old.rest)) }
         ensures unchanged { OnErr result (cursor.new ≡ cursor.old) };
 
     /// Moves to the next position that is a multiple of four, as `FromBytes::strip` does.
     fn strip(cursor: &mut Cursor<'_>) -> Result<(), DeError>
-        ensures stripped { OnOk result ((gap (length cursor.old.before) ≤ length cursor.old.rest)
-            × (cursor.new ≡ moved cursor.old (gap (length cursor.old.before)))) }
-        ensures short { IfErr result (λ e. (e ≡ short) × (length cursor.old.rest < gap (length cursor.old.before))) }
+        ensures stripped { OnOk result (StripsTo cursor.old cursor.new) }
+        ensures short { IfErr result (LacksPadding cursor.old) }
         ensures kept { OnErr result (cursor.new ≡ cursor.old) }
     {
         strip_to_four(cursor)
     }
 
-    // No byte list is refused for want of memory by itself.
+    // No byte list is refused because memory ran out by itself.
     ghost no_memory: { (s : List ℕ) → read s ≡ Err de.Memory → ⊥ };
 
     // Bytes that are missing inside are an invalid input, and never `Io(UnexpectedEof)`.
@@ -97,7 +100,7 @@ pub trait FromBytesWithInput: Sized + Debug + Drop {
 /// A value that borrows exactly the next `n` bytes. The cursor stays where it is.
 pub trait FromBytesWithInputBorrowed<'a>: Sized + Debug {
     /// What a refusal becomes in calls that are generic in the type that is read: [`DeError`].
-    type Error: From<DeError>;
+    type Error: From<DeError> + Into<DeError> + Drop;
 
     // What contracts see of a value.
     ghost Value: { Type 0 };
@@ -110,16 +113,16 @@ pub trait FromBytesWithInputBorrowed<'a>: Sized + Debug {
     /// Reads the next `n` bytes as one value that borrows them. `InvalidInput(n)` where there are
     /// fewer. It takes no memory.
     fn from_bytes_with_input(cursor: &mut Cursor<'a>, n: usize) -> Result<Self, DeError>
-        ensures value { IfOk result (λ v. sized read n cursor.old.rest ≡ Ok (view v, drop n cursor.old.rest)) }
-        ensures refused { IfErr result (Refuses (sized read n cursor.old.rest) ⊥) }
+        ensures value { IfOk result (λ v. exact_reading read n cursor.old.rest
+            ≡ Ok (view v, drop n cursor.old.rest)) }
+        ensures refused { IfErr result (Refuses (exact_reading read n cursor.old.rest) ⊥) }
         ensures unchanged { cursor.new ≡ cursor.old };
 
     /// Moves to the next position that is a multiple of four, as `FromBytes::strip` does. An
     /// implementation calls [`strip_to_four`].
     fn strip(cursor: &mut Cursor<'a>) -> Result<(), DeError>
-        ensures stripped { OnOk result ((gap (length cursor.old.before) ≤ length cursor.old.rest)
-            × (cursor.new ≡ moved cursor.old (gap (length cursor.old.before)))) }
-        ensures short { IfErr result (λ e. (e ≡ short) × (length cursor.old.rest < gap (length cursor.old.before))) }
+        ensures stripped { OnOk result (StripsTo cursor.old cursor.new) }
+        ensures short { IfErr result (LacksPadding cursor.old) }
         ensures kept { OnErr result (cursor.new ≡ cursor.old) };
 
     // Bytes that are missing inside are an invalid input, and never `Io(UnexpectedEof)`.
@@ -134,9 +137,11 @@ pub trait TypeSize: ToBytes + FromBytes {
     fn type_size() -> usize
         ensures { result ≡ width };
 
-    ghost wire_is_wide: { (v : Self) (bytes : List ℕ) → Self.wire v ≡ Ok bytes → length bytes ≡ width };
+    ghost wire_is_wide: { (v : Self) (bytes : List ℕ) → Self.wire v ≡ Ok bytes
+        → length bytes ≡ width };
 
-    ghost read_is_wide: { (s r : List ℕ) (v : Self.Value) → Self.read s ≡ Ok (v, r) → length s ≡ width + length r };
+    ghost read_is_wide: { (s r : List ℕ) (v : Self.Value) → Self.read s ≡ Ok (v, r)
+        → length s ≡ width + length r };
 }
 
 /// A struct that begins with a header of fixed size.
@@ -151,9 +156,8 @@ pub trait Header {
 /// Moves to the next position that is a multiple of four. It is refused with `Io(UnexpectedEof)` where
 /// the bytes up to it are not there, and then the cursor stays.
 pub fn strip_to_four(cursor: &mut Cursor<'_>) -> Result<(), DeError>
-    ensures stripped { OnOk result ((gap (length cursor.old.before) ≤ length cursor.old.rest)
-        × (cursor.new ≡ moved cursor.old (gap (length cursor.old.before)))) }
-    ensures short { IfErr result (λ e. (e ≡ short) × (length cursor.old.rest < gap (length cursor.old.before))) }
+    ensures stripped { OnOk result (StripsTo cursor.old cursor.new) }
+    ensures short { IfErr result (LacksPadding cursor.old) }
     ensures kept { OnErr result (cursor.new ≡ cursor.old) }
 {
     let position = cursor.position();
@@ -167,7 +171,7 @@ pub fn strip_to_four(cursor: &mut Cursor<'_>) -> Result<(), DeError>
 
 /// A refusal as a read with input `n` passes it on: bytes that are missing make the input invalid.
 pub fn within_input(error: DeError, n: usize) -> DeError
-    ensures { result ≡ within n error }
+    ensures { result ≡ refusal_within n error }
 {
     match error {
         DeError::Io(ErrorKind::UnexpectedEof) => DeError::InvalidInput(n),

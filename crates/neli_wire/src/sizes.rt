@@ -29,19 +29,19 @@ pub fn padded_length(size: usize) -> usize
 
 /// How many bytes a value takes; `usize::MAX` where that is larger.
 pub trait Size {
-    // The length of a value's wire text without padding at its end.
-    ghost unpadded: { Self → ℕ };
+    // The length of a value's wire bytes without padding at its end.
+    ghost unpadded_length: { Self → ℕ };
 
-    // The length of the whole wire text.
-    ghost written: { Self → ℕ };
+    // The length of the whole wire bytes.
+    ghost wire_length: { Self → ℕ };
 
     /// The number of bytes of the value, in bytes, without padding at its end.
     fn unpadded_size(&self) -> usize
-        ensures { result ≡ min (unpadded self.now) usize.MAX };
+        ensures { result ≡ min (unpadded_length self.now) usize.MAX };
 
     /// The unpadded size rounded up to four, in bytes.
     fn padded_size(&self) -> usize
-        ensures { result ≡ min (align (unpadded self.now)) usize.MAX }
+        ensures { result ≡ min (align (unpadded_length self.now)) usize.MAX }
     {
         padded_length(self.unpadded_size())
     }
@@ -49,8 +49,8 @@ pub trait Size {
     /// How many bytes `ToBytes::to_bytes` appends: the padded size of attributes and messages, the
     /// unpadded size of all other values.
     fn written_size(&self) -> usize
-        ensures { result ≡ min (written self.now) usize.MAX };
+        ensures { result ≡ min (wire_length self.now) usize.MAX };
 
     // The whole text is the one without padding, or as long as that rounded up to four.
-    ghost rounded: { (v : Self) → IsRounded (unpadded v) (written v) };
+    ghost rounded: { (v : Self) → IsRounded (unpadded_length v) (wire_length v) };
 }

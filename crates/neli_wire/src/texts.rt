@@ -1,15 +1,15 @@
 //! Text: written as its UTF-8 bytes and a zero.
 
 ghost use Rattle.std.specs.Prelude.{◌≡◌, ◌+◌, ◌<◌, ◌++◌, ◌∷◌, [], ℕ, List, Ok, Err, OnOk, OnErr, IfOk, IfErr, length, string_bytes};
-ghost use Rattle.neli_wire_base.specs.Bytes.{Refuses};
-ghost use Rattle.neli_wire.specs.SizeLaws.{unpadded-rounded};
-ghost use Rattle.neli_wire.specs.StringLaws.{terminated-length, borrowed_text-never_short, owned_text-never_short, owned_text-no_memory};
+ghost use Rattle.neli_wire.specs.Refusals.{Refuses};
+ghost use Rattle.neli_wire.specs.laws.Sizes.{unpadded-rounded, unpadded-zeros};
+ghost use Rattle.neli_wire.specs.laws.Strings.{terminated-length, borrowed_text-never_short, owned_text-never_short, owned_text-no_memory};
 ghost use Rattle.neli_wire.specs.Strings.{terminated, borrowed_text, owned_text};
-ghost use Rattle.neli_wire.specs.WritingLaws.{written-no_memory};
+ghost use Rattle.neli_wire.specs.laws.Writing.{written-no_memory};
 
+use crate::implementing::strip_to_four;
 use crate::{
     Cursor, DeError, FromBytesWithInput, FromBytesWithInputBorrowed, SerError, Size, ToBytes, Utf8,
-    strip_to_four,
 };
 use std::alloc::{AllocError, Global};
 
@@ -43,9 +43,9 @@ fn read_text(alloc: Global, bytes: &[u8]) -> Result<String, DeError>
 }
 
 impl<'a> Size for &'a str {
-    ghost unpadded = { λ t. length t.now + 1 };
+    ghost unpadded_length = { λ t. length t.now + 1 };
 
-    ghost written = { λ t. length t.now + 1 };
+    ghost wire_length = { λ t. length t.now + 1 };
 
     ghost rounded = { unpadded-rounded (λ t. length t.now + 1) };
 
@@ -62,6 +62,9 @@ impl<'a> ToBytes for &'a str {
     ghost wire = { λ t. terminated t.now };
 
     ghost length_is = { λ t bytes e. terminated-length t.now bytes e };
+
+    ghost zeros_after = { λ t bytes e. unpadded-zeros (length t.now + 1) bytes
+        (terminated-length t.now bytes e) };
 
     ghost no_memory = { λ t. written-no_memory (t.now ++ 0 ∷ []) };
 
@@ -96,9 +99,9 @@ impl<'a> FromBytesWithInputBorrowed<'a> for &'a str {
 }
 
 impl Size for String {
-    ghost unpadded = { λ t. length (string_bytes t) + 1 };
+    ghost unpadded_length = { λ t. length (string_bytes t) + 1 };
 
-    ghost written = { λ t. length (string_bytes t) + 1 };
+    ghost wire_length = { λ t. length (string_bytes t) + 1 };
 
     ghost rounded = { unpadded-rounded (λ t. length (string_bytes t) + 1) };
 
@@ -115,6 +118,9 @@ impl ToBytes for String {
     ghost wire = { λ t. terminated (string_bytes t) };
 
     ghost length_is = { λ t bytes e. terminated-length (string_bytes t) bytes e };
+
+    ghost zeros_after = { λ t bytes e. unpadded-zeros (length (string_bytes t) + 1) bytes
+        (terminated-length (string_bytes t) bytes e) };
 
     ghost no_memory = { λ t. written-no_memory (string_bytes t ++ 0 ∷ []) };
 

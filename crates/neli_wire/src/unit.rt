@@ -1,20 +1,20 @@
 //! Values that take no bytes.
 
 ghost use Rattle.std.specs.Prelude.{◌≡◌, ℕ, [], refl, Ok, Err};
-ghost use Rattle.neli_wire.specs.ReadingLaws.{done-local, done-no_memory, done-wide};
-ghost use Rattle.neli_wire.specs.SizeLaws.{unpadded-rounded};
-ghost use Rattle.neli_wire.specs.StringLaws.{nothing-no_memory, nothing-never_short};
+ghost use Rattle.neli_wire.specs.laws.Reading.{done-local, done-no_memory, done-wide};
+ghost use Rattle.neli_wire.specs.laws.Sizes.{unpadded-rounded, unpadded-zeros};
+ghost use Rattle.neli_wire.specs.laws.Strings.{nothing-no_memory, nothing-never_short};
 ghost use Rattle.neli_wire.specs.Strings.{nothing};
-ghost use Rattle.neli_wire.specs.WritingLaws.{written-length, written-no_memory};
+ghost use Rattle.neli_wire.specs.laws.Writing.{written-length, written-no_memory};
 
 use crate::{Cursor, DeError, FromBytes, FromBytesWithInput, SerError, Size, ToBytes, TypeSize};
 use std::alloc::Global;
 use std::marker::PhantomData;
 
 impl Size for () {
-    ghost unpadded = { λ _. 0 };
+    ghost unpadded_length = { λ _. 0 };
 
-    ghost written = { λ _. 0 };
+    ghost wire_length = { λ _. 0 };
 
     ghost rounded = { unpadded-rounded (λ _. 0) };
 
@@ -31,6 +31,8 @@ impl ToBytes for () {
     ghost wire = { λ _. Ok [] };
 
     ghost length_is = { λ v bytes e. written-length [] bytes 0 refl e };
+
+    ghost zeros_after = { λ v bytes e. unpadded-zeros 0 bytes (written-length [] bytes 0 refl e) };
 
     ghost no_memory = { λ v. written-no_memory [] };
 
@@ -83,9 +85,9 @@ impl FromBytesWithInput for () {
 }
 
 impl<T> Size for PhantomData<T> {
-    ghost unpadded = { λ _. 0 };
+    ghost unpadded_length = { λ _. 0 };
 
-    ghost written = { λ _. 0 };
+    ghost wire_length = { λ _. 0 };
 
     ghost rounded = { unpadded-rounded (λ _. 0) };
 
@@ -102,6 +104,8 @@ impl<T> ToBytes for PhantomData<T> {
     ghost wire = { λ _. Ok [] };
 
     ghost length_is = { λ v bytes e. written-length [] bytes 0 refl e };
+
+    ghost zeros_after = { λ v bytes e. unpadded-zeros 0 bytes (written-length [] bytes 0 refl e) };
 
     ghost no_memory = { λ v. written-no_memory [] };
 

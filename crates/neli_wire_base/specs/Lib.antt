@@ -2,3 +2,4 @@ pub mod Bytes
 pub mod ErrorTexts
 pub mod Messages
 pub mod Place
+pub mod Refusals

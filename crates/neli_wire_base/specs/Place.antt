@@ -11,5 +11,5 @@ abbrev pub whole : Place → List ℕ
 whole p = p.before ++ p.rest
 
 -- the place n bytes further on
-abbrev pub moved : Place → ℕ → Place
-moved p n = record { before = p.before ++ take n p.rest; rest = drop n p.rest }
+abbrev pub place_after : Place → ℕ → Place
+place_after p n = record { before = p.before ++ take n p.rest; rest = drop n p.rest }

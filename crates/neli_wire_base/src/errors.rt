@@ -1,7 +1,7 @@
 //! Why values are not written or read.
 //!
 //! Writing is refused with a [`SerError`], reading with a [`DeError`]. Both can hold a message of the
-//! implementation's own, [`MsgError`]. Want of memory is a variant of each, `Memory`, and where nothing
+//! implementation's own, [`MsgError`]. Out of memory is a variant of each, `Memory`, and where nothing
 //! else can go wrong the error [`NoMemory`].
 
 ghost use Rattle.std.specs.Prelude.{◌≡◌, ◌++◌, IfOk, IfSome, Some, None, codes, string_bytes};
@@ -39,7 +39,7 @@ impl fmt::Display for Utf8 {
     }
 }
 
-/// Want of memory.
+/// Out of memory.
 #[derive(Clone, Copy, Debug, PartialEq, Eq)]
 pub struct NoMemory;
 
@@ -84,9 +84,9 @@ pub enum DeError {
 impl SerError {
     /// The refusal in the words that `message` prints.
     ///
-    /// Refused only for want of memory.
-    pub fn new<D: fmt::Display>(alloc: Global, message: &D) -> Result<SerError, NoMemory>
-        ensures { IfOk result (λ e. IfSome (D.output message.now) (λ text. e ≡ ser.Msg text)) }
+    /// Refused only where memory runs out.
+    pub fn new<D: fmt::Display + Drop>(alloc: Global, message: D) -> Result<SerError, NoMemory>
+        ensures { IfOk result (λ e. IfSome (D.output message) (λ text. e ≡ ser.Msg text)) }
     {
         Ok(SerError::Msg(MsgError::new(alloc, message)?))
     }
@@ -178,9 +178,9 @@ impl<T: Drop> From<AllocFailed<T>> for SerError {
 impl DeError {
     /// The refusal in the words that `message` prints.
     ///
-    /// Refused only for want of memory.
-    pub fn new<D: fmt::Display>(alloc: Global, message: &D) -> Result<DeError, NoMemory>
-        ensures { IfOk result (λ e. IfSome (D.output message.now) (λ text. e ≡ de.Msg text)) }
+    /// Refused only where memory runs out.
+    pub fn new<D: fmt::Display + Drop>(alloc: Global, message: D) -> Result<DeError, NoMemory>
+        ensures { IfOk result (λ e. IfSome (D.output message) (λ text. e ≡ de.Msg text)) }
     {
         Ok(DeError::Msg(MsgError::new(alloc, message)?))
     }

@@ -8,13 +8,9 @@
 //! What they mean is stated in `specs/`: `Bytes`, `Place`, `Messages` and `ErrorTexts`.
 #![tactic(auto)]
 
-#[cfg(test)]
-mod calls;
 mod cursor;
 mod errors;
 mod message;
-#[cfg(test)]
-mod tests;
 
 pub use cursor::Cursor;
 pub use errors::{DeError, NoMemory, SerError, Utf8};

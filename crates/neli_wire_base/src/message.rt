@@ -42,9 +42,9 @@ impl Model for MsgError {
 impl MsgError {
     /// The message that prints what `message` prints.
     ///
-    /// Refused only for want of memory.
-    pub fn new<D: fmt::Display>(alloc: Global, message: &D) -> Result<MsgError, NoMemory>
-        ensures { IfOk result (λ m. IfSome (D.output message.now) (λ text. m ≡ text)) }
+    /// Refused only where memory runs out.
+    pub fn new<D: fmt::Display + Drop>(alloc: Global, message: D) -> Result<MsgError, NoMemory>
+        ensures { IfOk result (λ m. IfSome (D.output message) (λ text. m ≡ text)) }
     {
         Ok(MsgError {
             text: Text::Owned(message.to_string(alloc)?),

@@ -1,5 +1,5 @@
 use Rattle.std.proofs.Common.{refl}
-use Rattle.neli_wire.specs.ReadingLaws.{value_at-append}
+use Rattle.neli_wire.specs.laws.Reading.{value_at-append}
 use Rattle.neli_wire.proofs.laws.constant_is_read_back.Goals as goal
 
 pub returns : goal.returns

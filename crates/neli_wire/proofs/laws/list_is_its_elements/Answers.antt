@@ -1,4 +1,4 @@
-use Rattle.neli_wire.specs.ListLaws.{elements-are, are-elements, elements-refusal, elements-stuck}
+use Rattle.neli_wire.specs.laws.Lists.{elements-are, are-elements, elements-refusal, elements-stuck}
 use Rattle.neli_wire.proofs.laws.list_is_its_elements.Goals as goal
 
 pub returns-clause-read : goal.returns-clause-read

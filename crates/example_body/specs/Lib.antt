@@ -1,0 +1,3 @@
+pub mod laws
+pub mod Probe
+pub mod Watch

@@ -1,0 +1,43 @@
+-- A port and its levels on the wire.
+use Rattle.std.specs.Prelude.{ℕ, ◌+◌, ◌<◌, List, Ok, Result, length, sum_by}
+use Rattle.neli_wire.specs.Numbers.{little_bytes}
+use Rattle.neli_wire.specs.DeError.{DeError}
+use Rattle.neli_wire.specs.Reading.{◌>>=◌, IfRead, number_at, map_refusal, refusal_within}
+use Rattle.neli_wire.specs.laws.Elements.{elements}
+use Rattle.neli_wire.specs.Writing.{Wire, ◌+++◌, wire_all}
+use Rattle.example_body.specs.declared.watch.Watch.{Watch}
+
+-- what is seen of a watch
+pub record Seen : Type 0 where
+  pub port : ℕ
+  pub levels : List ℕ
+
+-- what a watch shows
+abbrev pub seen : Watch → Seen
+seen w = record { port = w.port; levels = w.levels.items }
+
+-- the bytes of a number of four bytes
+abbrev pub level_wire : ℕ → Wire
+level_wire n = Ok (little_bytes 4 n)
+
+-- the port, and then the levels
+abbrev pub watch_wire : Watch → Wire
+watch_wire w = Ok (little_bytes 2 w.port) +++ wire_all level_wire w.levels.items
+
+-- how long its bytes are
+abbrev pub watch_size : Watch → ℕ
+watch_size w = 2 + sum_by (λ n. 4) w.levels.items
+
+-- the port, and then levels to the end
+unfoldable pub watch_fields : List ℕ → Result Seen DeError
+watch_fields s =
+    number_at 2 s >>= λ port.
+    (elements (number_at 4) port.1 >>= λ levels. Ok (record { port = port.0; levels = levels }))
+
+-- where there are levels, which take memory
+unfoldable pub watch_takes : List ℕ → Type 0
+watch_takes s = IfRead (number_at 2 s) (λ port rest. 0 < length rest)
+
+-- what a whole byte list spells
+abbrev pub watch_of : List ℕ → Result Seen DeError
+watch_of s = map_refusal (refusal_within (length s)) (watch_fields s)

@@ -1,0 +1,5 @@
+pub mod Payloads
+pub mod Handles
+pub mod Lookup
+pub mod Lends
+pub mod laws

@@ -1,0 +1,35 @@
+-- Looking attributes up by their type, and reading what was found.
+use Rattle.std.specs.Prelude.{ℕ, ◌<◌, List, Bool, Option, Some, None, Result, Ok, Err, IsSomeAnd, codes, find, length, option_map}
+use Rattle.neli_wire.specs.DeError.{DeError}
+use Rattle.neli_wire.specs.DeError.TheVariants.{Msg}
+use Rattle.neli_wire.specs.Bytes.{Reading}
+use Rattle.neli_wire.specs.laws.Elements.{elements}
+
+-- the first attribute with this type
+abbrev pub first_of_type : {I K : Type 0} → (I → K) → (K → K → Bool) → K → List I → Option I
+first_of_type type_of same kind attrs = find (λ a. same (type_of a) kind) attrs
+
+-- the payload of the first attribute with this type
+abbrev pub payload_of_type : {I K : Type 0} → (I → K) → (K → K → Bool) → (I → List ℕ) → K → List I → Option (List ℕ)
+payload_of_type type_of same bytes_of kind attrs = option_map bytes_of (first_of_type type_of same kind attrs)
+
+-- what is read of the payload that was found; without one the refusal has this text
+abbrev pub read_or : {V : Type 0} → List ℕ → Option (List ℕ) → (List ℕ → Result V DeError) → Result V DeError
+read_or text (Some payload) read = read payload
+read_or text None read = Err (Msg text)
+
+-- what is read of the payload of an attribute
+abbrev pub read_found : {V : Type 0} → Option (List ℕ) → (List ℕ → Result V DeError) → Result V DeError
+read_found = read_or (codes "Failed to find specified attribute")
+
+-- the attributes that the payload of an attribute lists
+abbrev pub list_found : {V : Type 0} → Option (List ℕ) → (List ℕ → Reading V) → Result (List V) DeError
+list_found payload read = read_or (codes "Couldn't find specified attribute") payload (elements read)
+
+-- a payload was found, and reading it takes memory
+abbrev pub read_found_takes : Option (List ℕ) → (List ℕ → Type 0) → Type 0
+read_found_takes = IsSomeAnd
+
+-- a payload was found, and it is not empty
+abbrev pub list_found_takes : Option (List ℕ) → Type 0
+list_found_takes payload = IsSomeAnd payload (λ bytes. 0 < length bytes)

@@ -1,0 +1,262 @@
+//! Attributes that are looked up, owned or lent.
+
+ghost use Rattle.std.specs.Prelude.{◌≡◌, ◌<◌, ℕ, List, Ok, IfErr, IfOk, length, map};
+ghost use Rattle.std.specs.Option.{option_copied};
+ghost use Rattle.std.specs.Slice.Iter.{iter_rest};
+ghost use Rattle.neli_wire.specs.Refusals.{Refuses};
+ghost use Rattle.neli_wire.specs.DeError.TheVariants.{Memory};
+ghost use Rattle.neli_wire.specs.laws.Elements.{elements};
+ghost use Rattle.neli_list.specs.Payloads.{ReadsFirst, RefusesAs};
+ghost use Rattle.neli_list.specs.Lookup.{first_of_type, list_found, list_found_takes, payload_of_type, read_found, read_found_takes};
+
+use crate::{FrameList, handle_of_payload, read_borrowed, read_first, read_whole};
+use neli_wire::{
+    DeError, FromBytes, FromBytesWithInput, FromBytesWithInputBorrowed, MsgError, NoMemory,
+};
+use std::alloc::Global;
+use std::slice::Iter;
+
+/// An attribute as handles see it: a type, by which it is found, and a payload of bytes.
+pub trait TypedPayload {
+    /// The type of its types.
+    type Kind: PartialEq + Copy;
+
+    // The type.
+    ghost type_of: { Self → Self.Kind };
+
+    // The payload's bytes.
+    ghost bytes_of: { Self → List ℕ };
+
+    /// The type by which the attribute is found.
+    fn own_type(&self) -> &Self::Kind
+        ensures { result.now ≡ type_of self.now };
+
+    /// The payload's bytes, lent.
+    fn own_payload(&self) -> &[u8]
+        ensures { result.now ≡ bytes_of self.now };
+}
+
+/// Attributes of one kind, which have attributes of the same kind with types `S` inside their payloads.
+pub trait Retyped<S> {
+    /// The same kind of attribute with a type of type `S`.
+    type Attr: FromBytes;
+}
+
+/// Attributes of which the type is a number, and which become those with what the number means.
+pub trait ToTyped<T> {
+    /// The same kind of attribute with a type of type `T`.
+    type Typed;
+
+    // The attribute with what the number of its type means.
+    ghost typed: { Self → Self.Typed };
+
+    /// The same attribute with what the number of its type means.
+    ///
+    /// Refused only where memory runs out.
+    fn to_typed(&self) -> Result<Self::Typed, NoMemory>
+        ensures { IfOk result (λ a. a ≡ typed self.now) };
+}
+
+/// A list that lends its attributes.
+pub trait AttrSlice<I> {
+    // The attributes.
+    ghost attrs_of: { Self → List I };
+
+    /// The attributes in their order.
+    fn attr_slice(&self) -> &[I]
+        ensures { result.now ≡ attrs_of self.now };
+}
+
+impl<I> AttrSlice<I> for FrameList<I> {
+    ghost attrs_of = { λ list. list };
+
+    fn attr_slice(&self) -> &[I] {
+        self.as_ref()
+    }
+}
+
+/// Attributes in which one is looked up: a list of its own, or one that is lent.
+#[derive(Drop)]
+pub enum AttrHandle<'a, O, I> {
+    /// A list of its own.
+    Owned(O),
+    /// Attributes that are lent.
+    Borrowed(&'a [I]),
+}
+
+impl<'a, O: AttrSlice<I>, I> AttrHandle<'a, O, I> {
+    ghost use Rattle.neli_list.specs.Handles.{IsLent, IsOwner, attrs_by};
+
+    /// A handle that owns the list.
+    pub fn new(owned: O) -> Self
+        ensures owner { IsOwner owned result }
+        ensures attrs { attrs_by O.attrs_of result ≡ O.attrs_of owned }
+    {
+        AttrHandle::Owned(owned)
+    }
+
+    /// A handle of attributes that are lent to it.
+    pub fn new_borrowed(borrowed: &'a [I]) -> Self
+        ensures lent { IsLent borrowed.now result }
+        ensures attrs { attrs_by O.attrs_of result ≡ borrowed.now }
+    {
+        AttrHandle::Borrowed(borrowed)
+    }
+
+    /// The attributes in their order.
+    pub fn get_attrs(&self) -> &[I]
+        ensures { result.now ≡ attrs_by O.attrs_of self.now }
+    {
+        match self {
+            AttrHandle::Owned(owned) => owned.attr_slice(),
+            AttrHandle::Borrowed(borrowed) => borrowed,
+        }
+    }
+
+    /// The attributes, one by one.
+    pub fn iter(&self) -> Iter<'_, I>
+        ensures { iter_rest result ≡ attrs_by O.attrs_of self.now }
+    {
+        self.get_attrs().iter()
+    }
+}
+
+impl<'a, O: AttrSlice<I>, I: TypedPayload> AttrHandle<'a, O, I> {
+    ghost use Rattle.neli_list.specs.Handles.{attrs_by, attrs_in};
+
+    /// The first attribute of this type. Types are compared as their `==` compares them.
+    pub fn get_attribute(&self, t: I::Kind) -> Option<&I>
+        ensures { option_copied result
+            ≡ first_of_type I.type_of I.Kind.eq t (attrs_by O.attrs_of self.now) }
+    {
+        self.get_attrs().iter().find(|attr| *attr.own_type() == t)
+    }
+
+    /// The attributes that the payload of the first attribute of this type lists.
+    ///
+    /// Refused with a `DeError::Msg` where there is none; else as the payload is refused as a list.
+    pub fn get_nested_attributes<S>(
+        &self,
+        alloc: Global,
+        subattr: I::Kind,
+    ) -> Result<AttrHandle<'_, FrameList<I::Attr>, I::Attr>, DeError>
+    where
+        I: Retyped<S>,
+        ensures value { let attrs = attrs_by O.attrs_of self.now in
+            let payload = payload_of_type I.type_of I.Kind.eq I.bytes_of subattr attrs in
+            IfOk result (λ h. list_found payload I.Attr.read ≡ Ok (map I.Attr.view (attrs_in h))) }
+        ensures refused { let attrs = attrs_by O.attrs_of self.now in
+            let payload = payload_of_type I.type_of I.Kind.eq I.bytes_of subattr attrs in
+            IfErr result (Refuses (list_found payload I.Attr.read) (list_found_takes payload)) }
+    {
+        match self.get_attribute(subattr) {
+            Some(attr) => handle_of_payload(alloc, attr.own_payload()),
+            None => Err(DeError::Msg(MsgError::from_static("Couldn't find specified attribute"))),
+        }
+    }
+
+    /// The value that the payload of the first attribute of this type begins with.
+    ///
+    /// Refused with a `DeError::Msg` where there is none; else as the type's read refuses the payload.
+    pub fn get_attr_payload_as<R: FromBytes>(
+        &self,
+        alloc: Global,
+        attr: I::Kind,
+    ) -> Result<R, DeError>
+        ensures value { let attrs = attrs_by O.attrs_of self.now in
+            let payload = payload_of_type I.type_of I.Kind.eq I.bytes_of attr attrs in
+            IfOk result (λ v. ReadsFirst (read_found payload R.read) (R.view v)) }
+        ensures refused { let attrs = attrs_by O.attrs_of self.now in
+            let payload = payload_of_type I.type_of I.Kind.eq I.bytes_of attr attrs in
+            IfErr result (Refuses (read_found payload R.read)
+            (read_found_takes payload R.takes_memory)) }
+    {
+        match self.get_attribute(attr) {
+            Some(attr) => read_first(alloc, attr.own_payload()),
+            None => Err(DeError::Msg(MsgError::from_static("Failed to find specified attribute"))),
+        }
+    }
+
+    /// The value that the whole payload of the first attribute of this type spells.
+    ///
+    /// Refused with a `DeError::Msg` where there is none; else as the type's read refuses the payload.
+    pub fn get_attr_payload_as_with_len<R: FromBytesWithInput>(
+        &self,
+        alloc: Global,
+        attr: I::Kind,
+    ) -> Result<R, DeError>
+        ensures value { let attrs = attrs_by O.attrs_of self.now in
+            let payload = payload_of_type I.type_of I.Kind.eq I.bytes_of attr attrs in
+            IfOk result (λ v. read_found payload R.read ≡ Ok (R.view v)) }
+        ensures refused { let attrs = attrs_by O.attrs_of self.now in
+            let payload = payload_of_type I.type_of I.Kind.eq I.bytes_of attr attrs in
+            IfErr result (Refuses (read_found payload R.read)
+            (read_found_takes payload R.takes_memory)) }
+    {
+        match self.get_attribute(attr) {
+            Some(attr) => read_whole(alloc, attr.own_payload()),
+            None => Err(DeError::Msg(MsgError::from_static("Failed to find specified attribute"))),
+        }
+    }
+
+    /// The value that the whole payload of the first attribute of this type spells, made of the payload's
+    /// own bytes: it lives as long as the handle is lent for this call. It takes no memory.
+    ///
+    /// Refused with a `DeError::Msg` where there is none; else as the type's read refuses the payload.
+    pub fn get_attr_payload_as_with_len_borrowed<'b, R>(
+        &'b self,
+        attr: I::Kind,
+    ) -> Result<R, R::Error>
+    where
+        R: FromBytesWithInputBorrowed<'b>,
+        ensures value { let attrs = attrs_by O.attrs_of self.now in
+            let payload = payload_of_type I.type_of I.Kind.eq I.bytes_of attr attrs in
+            IfOk result (λ v. read_found payload R.read ≡ Ok (R.view v)) }
+        ensures refused { let attrs = attrs_by O.attrs_of self.now in
+            let payload = payload_of_type I.type_of I.Kind.eq I.bytes_of attr attrs in
+            IfErr result (RefusesAs R.Error.from_gives (read_found payload R.read)) }
+    {
+        match self.get_attribute(attr) {
+            Some(attr) => read_borrowed(attr.own_payload()),
+            None => Err(R::Error::from(DeError::Msg(MsgError::from_static(
+                "Failed to find specified attribute",
+            )))),
+        }
+    }
+}
+
+impl<I: TypedPayload> FrameList<I> {
+    ghost use Rattle.neli_list.specs.Handles.{IsLent};
+
+    /// A handle of these attributes, which are lent to it. It takes no memory.
+    pub fn get_attr_handle(&self) -> AttrHandle<'_, FrameList<I>, I>
+        ensures { IsLent self.now result }
+    {
+        AttrHandle::new_borrowed(self.as_ref())
+    }
+}
+
+impl<I> FrameList<I> {
+    ghost use Rattle.neli_list.specs.Handles.{IsOwner};
+
+    /// A handle of copies of these attributes, of which each type is what its number means.
+    ///
+    /// Refused only where memory runs out.
+    pub fn get_typed_attr_handle<T>(
+        &self,
+        alloc: Global,
+    ) -> Result<AttrHandle<'_, FrameList<I::Typed>, I::Typed>, DeError>
+    where
+        I: ToTyped<T>,
+        I::Typed: Drop,
+        ensures value { IfOk result (λ h. IsOwner (map I.typed self.now) h) }
+        ensures memory { IfErr result (λ e. e ≡ Memory) }
+    {
+        let items = self.as_ref();
+        let mut attrs = Vec::new(alloc);
+        for attr in items {
+            attrs.push(attr.to_typed()?)?;
+        }
+        Ok(AttrHandle::new(FrameList::from_list(attrs)))
+    }
+}

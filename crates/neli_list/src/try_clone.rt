@@ -1,0 +1,14 @@
+//! Values that are copied.
+
+ghost use Rattle.std.specs.Prelude.{◌≡◌, IfOk};
+
+use neli_wire::NoMemory;
+
+/// A value of which a copy can be made where memory allows.
+pub trait TryClone: Sized + Drop {
+    /// An equal value.
+    ///
+    /// Refused only where memory runs out.
+    fn try_clone(&self) -> Result<Self, NoMemory>
+        ensures { IfOk result (λ v. v ≡ self.now) };
+}

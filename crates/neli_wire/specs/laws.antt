@@ -1,0 +1,12 @@
+pub mod Constants
+pub mod Elements
+pub mod Equality
+pub mod FrameLists
+pub mod Frames
+pub mod Lists
+pub mod Numbers
+pub mod Reading
+pub mod Sizes
+pub mod Steps
+pub mod Strings
+pub mod Writing

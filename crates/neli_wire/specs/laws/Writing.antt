@@ -1,0 +1,118 @@
+-- Laws of wire bytes of several parts.
+use Rattle.std.proofs.Common.{◌≡◌, ◌≢◌, ℕ, ◌-◌, ◌≤◌, List, ◌++◌, length, take, Ok, Err, refl, sym, ap, ◌∙◌, append_assoc, arith, length-append, Result, subst}
+use Rattle.std.specs.Prelude.{IfErr, IsErrAnd}
+use Rattle.std.proofs.lemmas.List.{take_at, length-take, take-take}
+use Rattle.neli_wire.specs.SerError.{SerError}
+use Rattle.neli_wire.specs.SerError.TheVariants.{Msg, Io, Utf8, Memory}
+use Rattle.neli_wire.specs.Writing.{Wire, ◌+++◌, append_wire, pad_wire, zeros_for, RefusesWrite, TakesRoom}
+
+-- a text after what was appended
+abbrev pub wire_after : Wire → Wire → Wire
+wire_after (Ok so_far) wire = append_wire so_far wire
+wire_after (Err e) wire = Err e
+
+-- zeros after what was appended to n bytes
+abbrev pub zeros_after : ℕ → Wire → Wire
+zeros_after n (Ok so_far) = Ok (so_far ++ zeros_for (length so_far - n))
+zeros_after n (Err e) = Err e
+
+abbrev written : List ℕ → Wire
+written bytes = Ok bytes
+
+-- the length of bytes that are known
+pub written-length : (known bytes : List ℕ) (n : ℕ) → length known ≡ n → written known ≡ Ok bytes → length bytes ≡ n
+written-length known bytes n len e = let same : known ≡ bytes = cc in rw (← same) len
+
+pub own-length : (known bytes : List ℕ) → written known ≡ Ok bytes → length bytes ≡ length known
+own-length known bytes e = written-length known bytes (length known) refl e
+
+pub written-no_memory : (known : List ℕ) → written known ≢ Err Memory
+written-no_memory known e = cc
+
+ok_is : (a b : List ℕ) → written a ≡ written b → a ≡ b
+ok_is a b e = cc
+
+-- the second part goes after the first
+pub append_wire_then : (old mid : List ℕ) (a b : Wire) → append_wire old a ≡ Ok mid → append_wire old (a +++ b) ≡ append_wire mid b
+append_wire_then old mid (Ok x) (Ok y) e = rw (← ok_is (old ++ x) mid e) (ap written (sym (append_assoc old x y)))
+append_wire_then old mid (Ok x) (Err d) e = refl
+append_wire_then old mid (Err d) b e = absurd cc
+
+pub append_wire-err : (old : List ℕ) (w : Wire) (e : SerError) → append_wire old w ≡ Err e → w ≡ Err e
+append_wire-err old (Ok x) e h = absurd cc
+append_wire-err old (Err d) e h = h
+
+-- what stood there stands there still
+pub append_wire_front : (old new : List ℕ) (w : Wire) → append_wire old w ≡ Ok new → take (length old) new ≡ old
+append_wire_front old new (Ok x) e = rw (← ok_is (old ++ x) new e) (take_at old x (length old) refl)
+append_wire_front old new (Err d) e = absurd cc
+
+pub front_trans : (a b c : List ℕ) → take (length a) b ≡ a → take (length b) c ≡ b → take (length a) c ≡ a
+front_trans a b c p q =
+    let shorter : length a ≤ length b = omega (arith, length-take (length a) b, ap length p) in
+    sym (take-take (length a) (length b) c shorter) ∙ (rw q p)
+
+-- what the first part takes, the whole takes
+room_first : (a b : Wire) → TakesRoom a → TakesRoom (a +++ b)
+room_first (Ok x) (Ok y) h = omega (arith, length-append x y)
+room_first (Ok x) (Err d) h = tt
+room_first (Err d) b h = tt
+
+-- what the second part takes, the whole takes
+room_second : (a b : Wire) → TakesRoom b → TakesRoom (a +++ b)
+room_second (Ok x) (Ok y) h = omega (arith, length-append x y)
+room_second (Ok x) (Err d) h = tt
+room_second (Err d) b h = tt
+
+-- a refusal of the first part is that of the whole
+pub refused_part_first : (a b : Wire) (e : SerError) → RefusesWrite a e → RefusesWrite (a +++ b) e
+refused_part_first a b (Msg m) h = rw h refl
+refused_part_first a b (Io k) h = rw h refl
+refused_part_first a b (Utf8 u) h = rw h refl
+refused_part_first a b Memory h = room_first a b h
+
+-- a refusal of the second part is that of the whole
+pub refused_part_second : (old mid : List ℕ) (a b : Wire) (e : SerError) → append_wire old a ≡ Ok mid → RefusesWrite b e → RefusesWrite (a +++ b) e
+refused_part_second old mid (Ok x) b (Msg m) s h = rw h refl
+refused_part_second old mid (Ok x) b (Io k) s h = rw h refl
+refused_part_second old mid (Ok x) b (Utf8 u) s h = rw h refl
+refused_part_second old mid (Ok x) b Memory s h = room_second (Ok x) b h
+refused_part_second old mid (Err d) b e s h = absurd cc
+
+-- what bytes take, they take with their padding
+room_padded : (a : Wire) → TakesRoom a → TakesRoom (pad_wire a)
+room_padded (Ok x) h = omega (arith, length-append x (zeros_for (length x)))
+room_padded (Err d) h = tt
+
+-- a refusal of bytes is that of the padded bytes
+pub refused_padded : (a : Wire) (e : SerError) → RefusesWrite a e → RefusesWrite (pad_wire a) e
+refused_padded a (Msg m) h = rw h refl
+refused_padded a (Io k) h = rw h refl
+refused_padded a (Utf8 u) h = rw h refl
+refused_padded a Memory h = room_padded a h
+
+-- the padding goes after
+pub append_wire_padded : (old mid : List ℕ) (a : Wire) → append_wire old a ≡ Ok mid → append_wire old (pad_wire a) ≡ Ok (mid ++ zeros_for (length mid - length old))
+append_wire_padded old mid (Ok x) e =
+    let same : old ++ x ≡ mid = ok_is (old ++ x) mid e in
+    let len : length mid - length old ≡ length x = omega (arith, ap length same, length-append old x) in
+    rw (len, ← same) (ap written (sym (append_assoc old x (zeros_for (length x)))))
+append_wire_padded old mid (Err d) e = absurd cc
+
+-- the second part goes after the first
+pub append_wire_both : (old : List ℕ) (a b : Wire) → append_wire old (a +++ b) ≡ wire_after (append_wire old a) b
+append_wire_both old (Ok x) (Ok y) = ap written (sym (append_assoc old x y))
+append_wire_both old (Ok x) (Err d) = refl
+append_wire_both old (Err d) b = refl
+
+-- the padding goes after the text
+pub append_wire_zeros : (old : List ℕ) (a : Wire) → append_wire old (pad_wire a) ≡ zeros_after (length old) (append_wire old a)
+append_wire_zeros old (Ok x) =
+    let len : length (old ++ x) - length old ≡ length x = omega (arith, length-append old x) in
+    rw len (ap written (sym (append_assoc old x (zeros_for (length x)))))
+append_wire_zeros old (Err d) = refl
+
+-- an error that a call passes on refuses the bytes that it refused there
+pub refuses_by : {A : Type 0} (r : Result A SerError) (w : Wire) (e : SerError) → IsErrAnd r (λ d. d ≡ e) → RefusesWrite w e → IfErr r (RefusesWrite w)
+refuses_by (Ok x) w e is h = tt
+refuses_by (Err d) w e is h = subst (RefusesWrite w) (sym is) h

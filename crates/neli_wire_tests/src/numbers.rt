@@ -1,0 +1,171 @@
+//! The integer types.
+
+use crate::refusal::{Refusal, refusal_of};
+use neli_wire::{BeU64, Constant, Cursor, DeError, FromBytes, Size, ToBytes, TypeSize, WireNumber};
+use std::alloc::Global;
+use std::process::Abort;
+use std::test::Fail;
+
+/// A number of one of the types.
+#[derive(Clone, Copy, Debug)]
+enum Number {
+    U8(u8),
+    U16(u16),
+    U32(u32),
+    U64(u64),
+    U128(u128),
+    I8(i8),
+    I16(i16),
+    I32(i32),
+    I64(i64),
+    I128(i128),
+    Be(BeU64),
+}
+
+// The number by the calls of the wire traits: its sizes, its bytes after others, and what is read.
+fn by_traits<T: Constant + PartialEq>(
+    rt: &impl Abort,
+    alloc: Global,
+    value: T,
+    bytes: &[u8],
+) -> Result<(), Fail> {
+    let sizes = (value.unpadded_size(), value.written_size(), T::type_size());
+    let n = bytes.len();
+    assert_eq!(rt; sizes, (n, n, n), "of {value:?}");
+    let mut buffer = Vec::from_slice(alloc, b"...")?;
+    value.to_bytes(&mut buffer)?;
+    assert_eq!(rt; &buffer.as_slice()[3..], bytes, "of {value:?}");
+    let mut cursor = Cursor::new(bytes);
+    let read: T = T::from_bytes(alloc, &mut cursor)?;
+    assert_eq!(rt; read, value);
+    assert_eq!(rt; cursor.position(), n, "of {value:?}");
+    Ok(())
+}
+
+// The number by the calls of its own type.
+fn by_its_type<N: WireNumber + PartialEq>(
+    rt: &impl Abort,
+    alloc: Global,
+    value: N,
+    bytes: &[u8],
+) -> Result<(), Fail> {
+    assert_eq!(rt; N::count(), bytes.len(), "of {value:?}");
+    assert_eq!(rt; N::number(bytes), value);
+    let mut buffer = Vec::new(alloc);
+    value.append(&mut buffer)?;
+    assert_eq!(rt; buffer.as_slice(), bytes, "of {value:?}");
+    Ok(())
+}
+
+fn both<N: WireNumber + PartialEq>(
+    rt: &impl Abort,
+    alloc: Global,
+    value: N,
+    bytes: &[u8],
+) -> Result<(), Fail> {
+    by_its_type(rt, alloc, value, bytes)?;
+    by_traits(rt, alloc, value, bytes)
+}
+
+fn check_row(rt: &impl Abort, alloc: Global, number: Number, bytes: &[u8]) -> Result<(), Fail> {
+    match number {
+        Number::U8(n) => both(rt, alloc, n, bytes),
+        Number::U16(n) => both(rt, alloc, n, bytes),
+        Number::U32(n) => both(rt, alloc, n, bytes),
+        Number::U64(n) => both(rt, alloc, n, bytes),
+        Number::U128(n) => both(rt, alloc, n, bytes),
+        Number::I8(n) => both(rt, alloc, n, bytes),
+        Number::I16(n) => both(rt, alloc, n, bytes),
+        Number::I32(n) => both(rt, alloc, n, bytes),
+        Number::I64(n) => both(rt, alloc, n, bytes),
+        Number::I128(n) => both(rt, alloc, n, bytes),
+        Number::Be(n) => both(rt, alloc, n, bytes),
+    }
+}
+
+/// Numbers of neli's own tests; their bytes as two's complement gives them.
+const FROM_NELI: [(Number, &[u8]); 7] = [
+    (Number::U8(5), &[5]),
+    (Number::U16(6000), &[112, 23]),
+    (Number::U32(600_000), &[192, 39, 9, 0]),
+    (Number::I32(600_000), &[192, 39, 9, 0]),
+    (Number::I32(-600_000), &[0x40, 0xd8, 0xf6, 0xff]),
+    (
+        Number::U64(12_345_678_901_234),
+        &[242, 47, 206, 115, 58, 11, 0, 0],
+    ),
+    (
+        Number::U128(123_456_789_012_345_678_901_234_567_890_123_456_789),
+        &[
+            21, 129, 57, 174, 40, 163, 223, 170, 197, 254, 21, 96, 165, 233, 224, 92,
+        ],
+    ),
+];
+
+/// A one at the lowest place and at the highest, and negative numbers, by hand.
+const BY_HAND: [(Number, &[u8]); 10] = [
+    (Number::U8(0x81), &[0x81]),
+    (Number::U16(0x8102), &[2, 0x81]),
+    (Number::U32(0x8102_0304), &[4, 3, 2, 0x81]),
+    (Number::U64(0x81), &[0x81, 0, 0, 0, 0, 0, 0, 0]),
+    (Number::I8(-2), &[0xfe]),
+    (Number::I16(-2), &[0xfe, 0xff]),
+    (Number::I32(-2), &[0xfe, 0xff, 0xff, 0xff]),
+    (
+        Number::I64(-2),
+        &[0xfe, 0xff, 0xff, 0xff, 0xff, 0xff, 0xff, 0xff],
+    ),
+    (Number::I128(-1), &[0xff; 16]),
+    (Number::U128(0), &[0; 16]),
+];
+
+#[test]
+fn numbers_of_neli(rt: HostRuntime) -> Result<(), Fail> {
+    for (number, bytes) in FROM_NELI {
+        check_row(&rt, rt.alloc(), number, bytes)?;
+    }
+    Ok(())
+}
+
+#[test]
+fn numbers_by_hand(rt: HostRuntime) -> Result<(), Fail> {
+    for (number, bytes) in BY_HAND {
+        check_row(&rt, rt.alloc(), number, bytes)?;
+    }
+    Ok(())
+}
+
+// The first number is of neli's own tests, with its bytes; the second by hand.
+#[test]
+fn the_highest_byte_first(rt: HostRuntime) -> Result<(), Fail> {
+    let rows: [(u64, &[u8]); 2] = [
+        (571_987_654, &[0, 0, 0, 0, 0x22, 0x17, 0xd6, 0xc6]),
+        (0x81, &[0, 0, 0, 0, 0, 0, 0, 0x81]),
+    ];
+    for (number, bytes) in rows {
+        let big = BeU64::new(number);
+        assert_eq!(rt; big.as_ne_u64(), number);
+        check_row(&rt, rt.alloc(), Number::Be(big), bytes)?;
+    }
+    Ok(())
+}
+
+// A number is a constant that means itself.
+#[test]
+fn numbers_mean_themselves(rt: HostRuntime) {
+    for number in [0u16, 1, 0x0102, u16::MAX] {
+        assert_eq!(rt; u16::from_wire(number), number);
+        assert_eq!(rt; number.to_wire(), number);
+    }
+}
+
+#[test]
+fn missing_bytes(rt: HostRuntime) {
+    for n in 0usize..4 {
+        let mut cursor = Cursor::new(&[1u8, 2, 3][..n]);
+        let read: Result<u32, DeError> = u32::from_bytes(rt.alloc(), &mut cursor);
+        let refused = read.map_err(|error| refusal_of(&error));
+        assert_eq!(rt; refused, Err(Refusal::Short), "of {n} bytes");
+        assert_eq!(rt; cursor.position(), 0, "of {n} bytes");
+    }
+}

@@ -1,0 +1,153 @@
+//! Lengths rounded up to four, zeros that are written, and bytes that are passed over.
+
+use crate::refusal::{Refusal, refusal_of};
+use neli_wire::implementing::{pad_from, padded_length, strip_to_four, undo_on_refusal};
+use neli_wire::{
+    Cursor, DeError, FromBytes, FromBytesWithInput, FromBytesWithInputBorrowed, SerError, ToBytes,
+    alignto,
+};
+use std::process::Abort;
+use std::test::Fail;
+
+#[test]
+fn alignment(rt: HostRuntime) {
+    for (len, want) in [
+        (0usize, 0usize),
+        (1, 4),
+        (3, 4),
+        (4, 4),
+        (5, 8),
+        (32767, 32768),
+    ] {
+        assert_eq!(rt; alignto(len), want, "of {len}");
+    }
+}
+
+// As far as a `usize` can hold it.
+#[test]
+fn padded_lengths(rt: HostRuntime) {
+    for (size, want) in [
+        (0usize, 0usize),
+        (1, 4),
+        (4, 4),
+        (5, 8),
+        (usize::MAX - 3, usize::MAX - 3),
+        (usize::MAX - 2, usize::MAX),
+        (usize::MAX, usize::MAX),
+    ] {
+        assert_eq!(rt; padded_length(size), want, "of {size}");
+    }
+}
+
+#[test]
+fn zeros_after_a_buffer(rt: HostRuntime) -> Result<(), Fail> {
+    for (text, want) in [
+        (b"".as_slice(), b"".as_slice()),
+        (b"1", b"1\0\0\0"),
+        (b"1234", b"1234"),
+        (b"12345", b"12345\0\0\0"),
+    ] {
+        let mut buffer = Vec::from_slice(rt.alloc(), text)?;
+        7u16.pad(&mut buffer)?;
+        assert_eq!(rt; buffer.as_slice(), want, "after {text:?}");
+        let mut buffer = Vec::from_slice(rt.alloc(), text)?;
+        [9u8; 3].pad(&mut buffer)?;
+        assert_eq!(rt; buffer.as_slice(), want, "after {text:?}, by an array");
+    }
+    Ok(())
+}
+
+#[test]
+fn zeros_from_a_place_on(rt: HostRuntime) -> Result<(), Fail> {
+    for (start, want) in [
+        (0usize, b"12345\0\0\0".as_slice()),
+        (1, b"12345"),
+        (2, b"12345\0"),
+        (4, b"12345\0\0\0"),
+        (5, b"12345"),
+    ] {
+        let mut buffer = Vec::from_slice(rt.alloc(), b"12345")?;
+        assert!(rt; start <= buffer.len());
+        pad_from(&mut buffer, start)?;
+        assert_eq!(rt; buffer.as_slice(), want, "from {start} on");
+    }
+    Ok(())
+}
+
+// The number 6000, the text `lo`, and zeros: 6000 is 0x1770.
+#[test]
+fn a_number_a_text_and_zeros(rt: HostRuntime) -> Result<(), Fail> {
+    let mut buffer = Vec::new(rt.alloc());
+    6000u16.to_bytes(&mut buffer)?;
+    "lo".to_bytes(&mut buffer)?;
+    "lo".pad(&mut buffer)?;
+    let want = [0x70u8, 0x17, 0x6c, 0x6f, 0, 0, 0, 0];
+    assert_eq!(rt; buffer.as_slice(), want.as_slice());
+    Ok(())
+}
+
+/// What bytes are passed over for.
+#[derive(Clone, Copy, Debug)]
+enum Kind {
+    Any,
+    Number,
+    Array,
+    List,
+    Bytes,
+    Text,
+}
+
+const KINDS: [Kind; 6] = [
+    Kind::Any,
+    Kind::Number,
+    Kind::Array,
+    Kind::List,
+    Kind::Bytes,
+    Kind::Text,
+];
+
+fn strip<'a>(kind: Kind, cursor: &mut Cursor<'a>) -> Result<(), DeError> {
+    match kind {
+        Kind::Any => strip_to_four(cursor),
+        Kind::Number => <u8 as FromBytes>::strip(cursor),
+        Kind::Array => <[u8; 3] as FromBytes>::strip(cursor),
+        Kind::List => <Vec<u8> as FromBytesWithInput>::strip(cursor),
+        Kind::Bytes => <&'a [u8] as FromBytesWithInputBorrowed<'a>>::strip(cursor),
+        Kind::Text => <&'a str as FromBytesWithInputBorrowed<'a>>::strip(cursor),
+    }
+}
+
+// From position 1 the next multiple of four is 4; from position 5 it is 8, which is not there.
+fn check_strip(rt: &impl Abort, kind: Kind) {
+    let rows = [
+        (0usize, Ok(()), 0usize),
+        (1, Ok(()), 4),
+        (4, Ok(()), 4),
+        (5, Err(Refusal::Short), 5),
+    ];
+    for (start, want, place) in rows {
+        let mut cursor = Cursor::new(b"12345");
+        cursor.set_position(start);
+        let got = strip(kind, &mut cursor).map_err(|error| refusal_of(&error));
+        assert_eq!(rt; got, want, "{kind:?} from {start}");
+        assert_eq!(rt; cursor.position(), place, "{kind:?} from {start}");
+    }
+}
+
+#[test]
+fn strips(rt: HostRuntime) {
+    for kind in KINDS {
+        check_strip(&rt, kind);
+    }
+}
+
+#[test]
+fn writes_taken_back(rt: HostRuntime) -> Result<(), Fail> {
+    let mut buffer = Vec::from_slice(rt.alloc(), b"12345")?;
+    assert!(rt; undo_on_refusal(&mut buffer, 2, Ok(())).is_ok());
+    assert_eq!(rt; buffer.as_slice(), b"12345".as_slice());
+    let refused = undo_on_refusal(&mut buffer, 2, Err(SerError::Memory));
+    assert!(rt; matches!(refused, Err(SerError::Memory)));
+    assert_eq!(rt; buffer.as_slice(), b"12".as_slice());
+    Ok(())
+}

@@ -1,0 +1,33 @@
+//! Refusals to read, by what the tables compare of them.
+
+use neli_wire::{DeError, Utf8};
+use std::io::ErrorKind;
+
+/// A refusal to read.
+#[derive(Clone, Copy, Debug, PartialEq, Eq)]
+pub enum Refusal {
+    /// A count of bytes that does not fit.
+    Input(usize),
+    /// The bytes end too early.
+    Short,
+    /// A borrowed text, which is UTF-8 up to this place.
+    Lent(usize),
+    /// An owned text, which is UTF-8 up to this place.
+    Owned(usize),
+    /// Memory ran out.
+    Memory,
+    /// Any other, which no row expects.
+    Other,
+}
+
+/// What the tables compare of a refusal.
+pub fn refusal_of(error: &DeError) -> Refusal {
+    match error {
+        DeError::InvalidInput(count) => Refusal::Input(*count),
+        DeError::Io(ErrorKind::UnexpectedEof) => Refusal::Short,
+        DeError::Utf8(Utf8::Str(error)) => Refusal::Lent(error.valid_up_to()),
+        DeError::Utf8(Utf8::String(error)) => Refusal::Owned(error.valid_up_to()),
+        DeError::Memory => Refusal::Memory,
+        _ => Refusal::Other,
+    }
+}

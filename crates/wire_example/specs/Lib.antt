@@ -1,2 +1,0 @@
-pub mod Watch
-pub mod WatchLaws
