@@ -1,6 +1,5 @@
 -- The numbers of `CtrlAttr`.
-use Rattle.std.specs.Prelude.{◌≡◌, ℕ, Bool, true, false, List, [], ◌∷◌, refl}
-use Rattle.neli_wire.specs.ConstantLaws.{first_with-number}
+use Rattle.std.specs.Prelude.{ℕ, Bool, true, false, List, [], ◌∷◌}
 use Rattle.neli_wire.specs.Constants.{first_with}
 use Rattle.neli_consts.specs.declared.genl.CtrlAttr.{CtrlAttr}
 use Rattle.neli_consts.specs.declared.genl.CtrlAttr.TheVariants.{Unspec, FamilyId, FamilyName, Version, Hdrsize, Maxattr, Ops, McastGroups, UnrecognizedConst}
@@ -30,7 +29,3 @@ ctrl_attr_of = first_with ctrl_attr_number ctrl_attr_variants UnrecognizedConst
 abbrev pub ctrl_attr_is_unrecognized : CtrlAttr → Bool
 ctrl_attr_is_unrecognized (UnrecognizedConst n) = true
 ctrl_attr_is_unrecognized v = false
-
--- what a number is read as has that number
-pub ctrl_attr_of-number : (n : ℕ) → ctrl_attr_number (ctrl_attr_of n) ≡ n
-ctrl_attr_of-number = first_with-number ctrl_attr_number ctrl_attr_variants UnrecognizedConst (λ _. refl)

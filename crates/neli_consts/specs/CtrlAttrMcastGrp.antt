@@ -1,6 +1,5 @@
 -- The numbers of `CtrlAttrMcastGrp`.
-use Rattle.std.specs.Prelude.{◌≡◌, ℕ, Bool, true, false, List, [], ◌∷◌, refl}
-use Rattle.neli_wire.specs.ConstantLaws.{first_with-number}
+use Rattle.std.specs.Prelude.{ℕ, Bool, true, false, List, [], ◌∷◌}
 use Rattle.neli_wire.specs.Constants.{first_with}
 use Rattle.neli_consts.specs.declared.genl.CtrlAttrMcastGrp.{CtrlAttrMcastGrp}
 use Rattle.neli_consts.specs.declared.genl.CtrlAttrMcastGrp.TheVariants.{Unspec, Name, Id, UnrecognizedConst}
@@ -25,7 +24,3 @@ ctrl_attr_mcast_grp_of = first_with ctrl_attr_mcast_grp_number ctrl_attr_mcast_g
 abbrev pub ctrl_attr_mcast_grp_is_unrecognized : CtrlAttrMcastGrp → Bool
 ctrl_attr_mcast_grp_is_unrecognized (UnrecognizedConst n) = true
 ctrl_attr_mcast_grp_is_unrecognized v = false
-
--- what a number is read as has that number
-pub ctrl_attr_mcast_grp_of-number : (n : ℕ) → ctrl_attr_mcast_grp_number (ctrl_attr_mcast_grp_of n) ≡ n
-ctrl_attr_mcast_grp_of-number = first_with-number ctrl_attr_mcast_grp_number ctrl_attr_mcast_grp_variants UnrecognizedConst (λ _. refl)

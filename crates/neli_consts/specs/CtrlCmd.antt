@@ -1,6 +1,5 @@
 -- The numbers of `CtrlCmd`.
-use Rattle.std.specs.Prelude.{◌≡◌, ℕ, Bool, true, false, List, [], ◌∷◌, refl}
-use Rattle.neli_wire.specs.ConstantLaws.{first_with-number}
+use Rattle.std.specs.Prelude.{ℕ, Bool, true, false, List, [], ◌∷◌}
 use Rattle.neli_wire.specs.Constants.{first_with}
 use Rattle.neli_consts.specs.declared.genl.CtrlCmd.{CtrlCmd}
 use Rattle.neli_consts.specs.declared.genl.CtrlCmd.TheVariants.{Unspec, Newfamily, Delfamily, Getfamily, Newops, Delops, Getops, NewmcastGrp, DelmcastGrp, GetmcastGrp, UnrecognizedConst}
@@ -33,7 +32,3 @@ ctrl_cmd_of = first_with ctrl_cmd_number ctrl_cmd_variants UnrecognizedConst
 abbrev pub ctrl_cmd_is_unrecognized : CtrlCmd → Bool
 ctrl_cmd_is_unrecognized (UnrecognizedConst n) = true
 ctrl_cmd_is_unrecognized v = false
-
--- what a number is read as has that number
-pub ctrl_cmd_of-number : (n : ℕ) → ctrl_cmd_number (ctrl_cmd_of n) ≡ n
-ctrl_cmd_of-number = first_with-number ctrl_cmd_number ctrl_cmd_variants UnrecognizedConst (λ _. refl)

@@ -1,6 +1,5 @@
 -- The numbers of `GenlId`.
-use Rattle.std.specs.Prelude.{◌≡◌, ℕ, Bool, true, false, List, [], ◌∷◌, refl}
-use Rattle.neli_wire.specs.ConstantLaws.{first_with-number}
+use Rattle.std.specs.Prelude.{ℕ, Bool, true, false, List, [], ◌∷◌}
 use Rattle.neli_wire.specs.Constants.{first_with}
 use Rattle.neli_consts.specs.declared.genl.GenlId.{GenlId}
 use Rattle.neli_consts.specs.declared.genl.GenlId.TheVariants.{Ctrl, VfsDquot, Pmcraid, UnrecognizedConst}
@@ -25,7 +24,3 @@ genl_id_of = first_with genl_id_number genl_id_variants UnrecognizedConst
 abbrev pub genl_id_is_unrecognized : GenlId → Bool
 genl_id_is_unrecognized (UnrecognizedConst n) = true
 genl_id_is_unrecognized v = false
-
--- what a number is read as has that number
-pub genl_id_of-number : (n : ℕ) → genl_id_number (genl_id_of n) ≡ n
-genl_id_of-number = first_with-number genl_id_number genl_id_variants UnrecognizedConst (λ _. refl)

@@ -1,5 +1,5 @@
 -- Attributes that are numbered: every number is an index.
-use Rattle.std.specs.Prelude.{◌≡◌, ℕ, Bool, false, refl}
+use Rattle.std.specs.Prelude.{ℕ, Bool, false}
 use Rattle.neli_consts.specs.declared.index.Index.{Index}
 
 -- the number of an index
@@ -13,7 +13,3 @@ index_of n = record { 0 = n }
 -- no index is a number without a meaning
 abbrev pub index_is_unrecognized : Index → Bool
 index_is_unrecognized v = false
-
--- what a number is read as has that number
-pub index_of-number : (n : ℕ) → index_number (index_of n) ≡ n
-index_of-number n = refl

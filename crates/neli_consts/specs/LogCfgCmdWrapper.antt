@@ -1,8 +1,7 @@
 -- The meaning of a logging command's number.
-use Rattle.std.specs.Prelude.{◌≡◌, ℕ, Bool, List, [], ◌∷◌, refl}
-use Rattle.neli_wire.specs.ConstantLaws.{first_recognized-number}
+use Rattle.std.specs.Prelude.{ℕ, Bool, List, [], ◌∷◌}
 use Rattle.neli_wire.specs.Constants.{reading, first_recognized}
-use Rattle.neli_consts_sys.specs.LogCmd.{log_cmd_number, log_cmd_of, log_cmd_of-number, log_cmd_is_unrecognized}
+use Rattle.neli_consts_sys.specs.LogCmd.{log_cmd_number, log_cmd_of, log_cmd_is_unrecognized}
 use Rattle.neli_consts.specs.declared.commands.LogCfgCmdWrapper.{LogCfgCmdWrapper}
 use Rattle.neli_consts.specs.declared.commands.LogCfgCmdWrapper.TheVariants.{LogCmd, UnrecognizedConst}
 
@@ -20,9 +19,3 @@ log_cfg_cmd_wrapper_readings n =
 -- what the first table says that has a name for a number, else the number without a name
 abbrev pub log_cfg_cmd_wrapper_of : ℕ → LogCfgCmdWrapper
 log_cfg_cmd_wrapper_of n = first_recognized (log_cfg_cmd_wrapper_readings n) (UnrecognizedConst n)
-
--- what a number is read as has that number
-pub log_cfg_cmd_wrapper_of-number : (n : ℕ) → log_cfg_cmd_wrapper_number (log_cfg_cmd_wrapper_of n) ≡ n
-log_cfg_cmd_wrapper_of-number n =
-    first_recognized-number log_cfg_cmd_wrapper_number (log_cfg_cmd_wrapper_readings n) (UnrecognizedConst n) n
-    (log_cmd_of-number n, tt) refl

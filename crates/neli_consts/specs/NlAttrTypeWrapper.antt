@@ -1,13 +1,12 @@
 -- The meaning of an attribute's number: the first table that has a name for it.
-use Rattle.std.specs.Prelude.{◌≡◌, ℕ, Bool, List, [], ◌∷◌, refl}
-use Rattle.neli_wire.specs.ConstantLaws.{first_recognized-number}
+use Rattle.std.specs.Prelude.{ℕ, Bool, List, [], ◌∷◌}
 use Rattle.neli_wire.specs.Constants.{reading, first_recognized}
-use Rattle.neli_consts.specs.CtrlAttr.{ctrl_attr_number, ctrl_attr_of, ctrl_attr_of-number, ctrl_attr_is_unrecognized}
-use Rattle.neli_consts.specs.CtrlAttrMcastGrp.{ctrl_attr_mcast_grp_number, ctrl_attr_mcast_grp_of, ctrl_attr_mcast_grp_of-number, ctrl_attr_mcast_grp_is_unrecognized}
-use Rattle.neli_consts_sys.specs.NfLogAttr.{nf_log_attr_number, nf_log_attr_of, nf_log_attr_of-number, nf_log_attr_is_unrecognized}
-use Rattle.neli_consts_sys.specs.NfLogCfg.{nf_log_cfg_number, nf_log_cfg_of, nf_log_cfg_of-number, nf_log_cfg_is_unrecognized}
-use Rattle.neli_consts.specs.Index.{index_number, index_of, index_of-number, index_is_unrecognized}
-use Rattle.neli_consts.specs.NlmsgerrAttr.{nlmsgerr_attr_number, nlmsgerr_attr_of, nlmsgerr_attr_of-number, nlmsgerr_attr_is_unrecognized}
+use Rattle.neli_consts.specs.CtrlAttr.{ctrl_attr_number, ctrl_attr_of, ctrl_attr_is_unrecognized}
+use Rattle.neli_consts.specs.CtrlAttrMcastGrp.{ctrl_attr_mcast_grp_number, ctrl_attr_mcast_grp_of, ctrl_attr_mcast_grp_is_unrecognized}
+use Rattle.neli_consts_sys.specs.NfLogAttr.{nf_log_attr_number, nf_log_attr_of, nf_log_attr_is_unrecognized}
+use Rattle.neli_consts_sys.specs.NfLogCfg.{nf_log_cfg_number, nf_log_cfg_of, nf_log_cfg_is_unrecognized}
+use Rattle.neli_consts.specs.Index.{index_number, index_of, index_is_unrecognized}
+use Rattle.neli_consts.specs.NlmsgerrAttr.{nlmsgerr_attr_number, nlmsgerr_attr_of, nlmsgerr_attr_is_unrecognized}
 use Rattle.neli_consts.specs.declared.nl_attr_type.NlAttrTypeWrapper.{NlAttrTypeWrapper}
 use Rattle.neli_consts.specs.declared.nl_attr_type.NlAttrTypeWrapper.TheVariants.{CtrlAttr, CtrlAttrMcastGrp, NfLogAttr, NfLogCfg, Index, NlmsgerrAttr, UnrecognizedConst}
 
@@ -35,9 +34,3 @@ nl_attr_type_wrapper_readings n =
 -- what the first table says that has a name for a number, else the number without a name
 abbrev pub nl_attr_type_wrapper_of : ℕ → NlAttrTypeWrapper
 nl_attr_type_wrapper_of n = first_recognized (nl_attr_type_wrapper_readings n) (UnrecognizedConst n)
-
--- what a number is read as has that number
-pub nl_attr_type_wrapper_of-number : (n : ℕ) → nl_attr_type_wrapper_number (nl_attr_type_wrapper_of n) ≡ n
-nl_attr_type_wrapper_of-number n =
-    first_recognized-number nl_attr_type_wrapper_number (nl_attr_type_wrapper_readings n) (UnrecognizedConst n) n
-    (ctrl_attr_of-number n, (ctrl_attr_mcast_grp_of-number n, (nf_log_attr_of-number n, (nf_log_cfg_of-number n, (index_of-number n, (nlmsgerr_attr_of-number n, tt)))))) refl

@@ -1,11 +1,10 @@
 -- The meaning of a message's type number: the first table that has a name for it.
-use Rattle.std.specs.Prelude.{◌≡◌, ℕ, Bool, List, [], ◌∷◌, refl}
-use Rattle.neli_wire.specs.ConstantLaws.{first_recognized-number}
+use Rattle.std.specs.Prelude.{ℕ, Bool, List, [], ◌∷◌}
 use Rattle.neli_wire.specs.Constants.{reading, first_recognized}
-use Rattle.neli_consts.specs.Nlmsg.{nlmsg_number, nlmsg_of, nlmsg_of-number, nlmsg_is_unrecognized}
-use Rattle.neli_consts.specs.GenlId.{genl_id_number, genl_id_of, genl_id_of-number, genl_id_is_unrecognized}
-use Rattle.neli_consts_rt.specs.Rtm.{rtm_number, rtm_of, rtm_of-number, rtm_is_unrecognized}
-use Rattle.neli_consts_sys.specs.NetfilterMsg.{netfilter_msg_number, netfilter_msg_of, netfilter_msg_of-number, netfilter_msg_is_unrecognized}
+use Rattle.neli_consts.specs.Nlmsg.{nlmsg_number, nlmsg_of, nlmsg_is_unrecognized}
+use Rattle.neli_consts.specs.GenlId.{genl_id_number, genl_id_of, genl_id_is_unrecognized}
+use Rattle.neli_consts_rt.specs.Rtm.{rtm_number, rtm_of, rtm_is_unrecognized}
+use Rattle.neli_consts_sys.specs.NetfilterMsg.{netfilter_msg_number, netfilter_msg_of, netfilter_msg_is_unrecognized}
 use Rattle.neli_consts.specs.declared.nl_type.NlTypeWrapper.{NlTypeWrapper}
 use Rattle.neli_consts.specs.declared.nl_type.NlTypeWrapper.TheVariants.{Nlmsg, GenlId, Rtm, NetfilterMsg, UnrecognizedConst}
 
@@ -29,9 +28,3 @@ nl_type_wrapper_readings n =
 -- what the first table says that has a name for a number, else the number without a name
 abbrev pub nl_type_wrapper_of : ℕ → NlTypeWrapper
 nl_type_wrapper_of n = first_recognized (nl_type_wrapper_readings n) (UnrecognizedConst n)
-
--- what a number is read as has that number
-pub nl_type_wrapper_of-number : (n : ℕ) → nl_type_wrapper_number (nl_type_wrapper_of n) ≡ n
-nl_type_wrapper_of-number n =
-    first_recognized-number nl_type_wrapper_number (nl_type_wrapper_readings n) (UnrecognizedConst n) n
-    (nlmsg_of-number n, (genl_id_of-number n, (rtm_of-number n, (netfilter_msg_of-number n, tt)))) refl

@@ -1,6 +1,5 @@
 -- The numbers of `NlmsgerrAttr`.
-use Rattle.std.specs.Prelude.{◌≡◌, ℕ, Bool, true, false, List, [], ◌∷◌, refl}
-use Rattle.neli_wire.specs.ConstantLaws.{first_with-number}
+use Rattle.std.specs.Prelude.{ℕ, Bool, true, false, List, [], ◌∷◌}
 use Rattle.neli_wire.specs.Constants.{first_with}
 use Rattle.neli_consts.specs.declared.nlmsg.NlmsgerrAttr.{NlmsgerrAttr}
 use Rattle.neli_consts.specs.declared.nlmsg.NlmsgerrAttr.TheVariants.{Unused, Msg, Offset, Cookie, Policy, UnrecognizedConst}
@@ -27,7 +26,3 @@ nlmsgerr_attr_of = first_with nlmsgerr_attr_number nlmsgerr_attr_variants Unreco
 abbrev pub nlmsgerr_attr_is_unrecognized : NlmsgerrAttr → Bool
 nlmsgerr_attr_is_unrecognized (UnrecognizedConst n) = true
 nlmsgerr_attr_is_unrecognized v = false
-
--- what a number is read as has that number
-pub nlmsgerr_attr_of-number : (n : ℕ) → nlmsgerr_attr_number (nlmsgerr_attr_of n) ≡ n
-nlmsgerr_attr_of-number = first_with-number nlmsgerr_attr_number nlmsgerr_attr_variants UnrecognizedConst (λ _. refl)

@@ -1,8 +1,10 @@
 //! What the number of a command may be read as.
 
+ghost use Rattle.std.proofs.Common.{rules};
 ghost use Rattle.std.specs.Prelude.{◌≡◌};
 ghost use Rattle.neli_consts.specs.declared.commands.LogCfgCmdWrapper.{LogCfgCmdWrapper};
-ghost use Rattle.neli_consts.specs.LogCfgCmdWrapper.{log_cfg_cmd_wrapper_number, log_cfg_cmd_wrapper_of, log_cfg_cmd_wrapper_of-number};
+ghost use Rattle.neli_consts.specs.LogCfgCmdWrapper.{log_cfg_cmd_wrapper_number, log_cfg_cmd_wrapper_of};
+ghost use Rattle.neli_wire.specs.laws.Constants.{first_recognized-number, first_with-number};
 
 use crate::CtrlCmd;
 use neli_consts_sys::LogCmd;
@@ -115,5 +117,6 @@ impl Constant for LogCfgCmdWrapper {
         u8::from(self)
     }
 
-    ghost back_to_number = { λ n _. log_cfg_cmd_wrapper_of-number n };
+    ghost back_to_number = { λ n _. Prim.search
+        (first_recognized-number, first_with-number, rules) };
 }

@@ -1,10 +1,12 @@
 //! Numbers of generic netlink and its controller.
 
+ghost use Rattle.std.proofs.Common.{rules};
 ghost use Rattle.std.specs.Prelude.{◌≡◌};
-ghost use Rattle.neli_consts.specs.GenlId.{genl_id_number, genl_id_of, genl_id_of-number, genl_id_is_unrecognized};
-ghost use Rattle.neli_consts.specs.CtrlCmd.{ctrl_cmd_number, ctrl_cmd_of, ctrl_cmd_of-number, ctrl_cmd_is_unrecognized};
-ghost use Rattle.neli_consts.specs.CtrlAttr.{ctrl_attr_number, ctrl_attr_of, ctrl_attr_of-number, ctrl_attr_is_unrecognized};
-ghost use Rattle.neli_consts.specs.CtrlAttrMcastGrp.{ctrl_attr_mcast_grp_number, ctrl_attr_mcast_grp_of, ctrl_attr_mcast_grp_of-number, ctrl_attr_mcast_grp_is_unrecognized};
+ghost use Rattle.neli_consts.specs.GenlId.{genl_id_number, genl_id_of, genl_id_is_unrecognized};
+ghost use Rattle.neli_consts.specs.CtrlCmd.{ctrl_cmd_number, ctrl_cmd_of, ctrl_cmd_is_unrecognized};
+ghost use Rattle.neli_consts.specs.CtrlAttr.{ctrl_attr_number, ctrl_attr_of, ctrl_attr_is_unrecognized};
+ghost use Rattle.neli_consts.specs.CtrlAttrMcastGrp.{ctrl_attr_mcast_grp_number, ctrl_attr_mcast_grp_of, ctrl_attr_mcast_grp_is_unrecognized};
+ghost use Rattle.neli_wire.specs.laws.Constants.{first_with-number};
 
 use neli_wire::Constant;
 
@@ -79,7 +81,7 @@ impl Constant for GenlId {
         u16::from(self)
     }
 
-    ghost back_to_number = { λ n _. genl_id_of-number n };
+    ghost back_to_number = { λ n _. Prim.search (first_with-number, rules) };
 }
 
 /// Commands of the controller of generic netlink: `CTRL_CMD_*` of `linux/genetlink.h`. The kernel
@@ -171,7 +173,7 @@ impl Constant for CtrlCmd {
         u8::from(self)
     }
 
-    ghost back_to_number = { λ n _. ctrl_cmd_of-number n };
+    ghost back_to_number = { λ n _. Prim.search (first_with-number, rules) };
 }
 
 /// Attributes of a family of generic netlink: `CTRL_ATTR_*` of `linux/genetlink.h`.
@@ -262,7 +264,7 @@ impl Constant for CtrlAttr {
         u16::from(self)
     }
 
-    ghost back_to_number = { λ n _. ctrl_attr_of-number n };
+    ghost back_to_number = { λ n _. Prim.search (first_with-number, rules) };
 }
 
 /// Attributes of a multicast group, inside [`CtrlAttr::McastGroups`]: `CTRL_ATTR_MCAST_GRP_*` of
@@ -335,5 +337,5 @@ impl Constant for CtrlAttrMcastGrp {
         u16::from(self)
     }
 
-    ghost back_to_number = { λ n _. ctrl_attr_mcast_grp_of-number n };
+    ghost back_to_number = { λ n _. Prim.search (first_with-number, rules) };
 }

@@ -1,7 +1,7 @@
 //! Attributes that are numbered instead of named.
 
-ghost use Rattle.std.specs.Prelude.{◌≡◌};
-ghost use Rattle.neli_consts.specs.Index.{index_number, index_of, index_of-number};
+ghost use Rattle.std.specs.Prelude.{◌≡◌, refl};
+ghost use Rattle.neli_consts.specs.Index.{index_number, index_of};
 
 use neli_wire::Constant;
 
@@ -49,5 +49,5 @@ impl Constant for Index {
         u16::from(self)
     }
 
-    ghost back_to_number = { λ n _. index_of-number n };
+    ghost back_to_number = { λ _ _. refl };
 }

@@ -1,8 +1,10 @@
 //! What the number of an attribute's type may be read as.
 
+ghost use Rattle.std.proofs.Common.{rules};
 ghost use Rattle.std.specs.Prelude.{◌≡◌};
 ghost use Rattle.neli_consts.specs.declared.nl_attr_type.NlAttrTypeWrapper.{NlAttrTypeWrapper};
-ghost use Rattle.neli_consts.specs.NlAttrTypeWrapper.{nl_attr_type_wrapper_number, nl_attr_type_wrapper_of, nl_attr_type_wrapper_of-number};
+ghost use Rattle.neli_consts.specs.NlAttrTypeWrapper.{nl_attr_type_wrapper_number, nl_attr_type_wrapper_of};
+ghost use Rattle.neli_wire.specs.laws.Constants.{first_recognized-number, first_with-number};
 
 use crate::{CtrlAttr, CtrlAttrMcastGrp, Index, NlmsgerrAttr};
 use neli_consts_sys::{NfLogAttr, NfLogCfg};
@@ -114,7 +116,8 @@ impl From<CtrlAttr> for NlAttrTypeWrapper {
 }
 
 impl From<CtrlAttrMcastGrp> for NlAttrTypeWrapper {
-    ghost from_gives = { λ ctrl_attr_mcast_grp value. value ≡ NlAttrTypeWrapper.CtrlAttrMcastGrp ctrl_attr_mcast_grp };
+    ghost from_gives = { λ ctrl_attr_mcast_grp value. value
+        ≡ NlAttrTypeWrapper.CtrlAttrMcastGrp ctrl_attr_mcast_grp };
 
     fn from(ctrl_attr_mcast_grp: CtrlAttrMcastGrp) -> NlAttrTypeWrapper {
         NlAttrTypeWrapper::CtrlAttrMcastGrp(ctrl_attr_mcast_grp)
@@ -146,7 +149,8 @@ impl From<Index> for NlAttrTypeWrapper {
 }
 
 impl From<NlmsgerrAttr> for NlAttrTypeWrapper {
-    ghost from_gives = { λ nlmsgerr_attr value. value ≡ NlAttrTypeWrapper.NlmsgerrAttr nlmsgerr_attr };
+    ghost from_gives = { λ nlmsgerr_attr value. value
+        ≡ NlAttrTypeWrapper.NlmsgerrAttr nlmsgerr_attr };
 
     fn from(nlmsgerr_attr: NlmsgerrAttr) -> NlAttrTypeWrapper {
         NlAttrTypeWrapper::NlmsgerrAttr(nlmsgerr_attr)
@@ -168,5 +172,6 @@ impl Constant for NlAttrTypeWrapper {
         u16::from(self)
     }
 
-    ghost back_to_number = { λ n _. nl_attr_type_wrapper_of-number n };
+    ghost back_to_number = { λ n _. Prim.search
+        (first_recognized-number, first_with-number, rules) };
 }

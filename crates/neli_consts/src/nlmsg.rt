@@ -1,8 +1,10 @@
 //! Numbers of control messages.
 
+ghost use Rattle.std.proofs.Common.{rules};
 ghost use Rattle.std.specs.Prelude.{◌≡◌};
-ghost use Rattle.neli_consts.specs.Nlmsg.{nlmsg_number, nlmsg_of, nlmsg_of-number, nlmsg_is_unrecognized};
-ghost use Rattle.neli_consts.specs.NlmsgerrAttr.{nlmsgerr_attr_number, nlmsgerr_attr_of, nlmsgerr_attr_of-number, nlmsgerr_attr_is_unrecognized};
+ghost use Rattle.neli_consts.specs.Nlmsg.{nlmsg_number, nlmsg_of, nlmsg_is_unrecognized};
+ghost use Rattle.neli_consts.specs.NlmsgerrAttr.{nlmsgerr_attr_number, nlmsgerr_attr_of, nlmsgerr_attr_is_unrecognized};
+ghost use Rattle.neli_wire.specs.laws.Constants.{first_with-number};
 
 use neli_wire::Constant;
 
@@ -81,7 +83,7 @@ impl Constant for Nlmsg {
         u16::from(self)
     }
 
-    ghost back_to_number = { λ n _. nlmsg_of-number n };
+    ghost back_to_number = { λ n _. Prim.search (first_with-number, rules) };
 }
 
 /// Attributes of an error or an acknowledgement: `NLMSGERR_ATTR_*` of `linux/netlink.h`.
@@ -161,5 +163,5 @@ impl Constant for NlmsgerrAttr {
         u16::from(self)
     }
 
-    ghost back_to_number = { λ n _. nlmsgerr_attr_of-number n };
+    ghost back_to_number = { λ n _. Prim.search (first_with-number, rules) };
 }

@@ -1,6 +1,5 @@
 -- The numbers of `Af`.
-use Rattle.std.specs.Prelude.{◌≡◌, ℕ, Bool, true, false, List, [], ◌∷◌, refl}
-use Rattle.neli_wire.specs.ConstantLaws.{first_with-number}
+use Rattle.std.specs.Prelude.{ℕ, Bool, true, false, List, [], ◌∷◌}
 use Rattle.neli_wire.specs.Constants.{first_with}
 use Rattle.neli_consts_rt.specs.declared.addresses.Af.{Af}
 use Rattle.neli_consts_rt.specs.declared.addresses.Af.TheVariants.{Inet, Inet6, UnrecognizedConst}
@@ -24,7 +23,3 @@ af_of = first_with af_number af_variants UnrecognizedConst
 abbrev pub af_is_unrecognized : Af → Bool
 af_is_unrecognized (UnrecognizedConst n) = true
 af_is_unrecognized v = false
-
--- what a number is read as has that number
-pub af_of-number : (n : ℕ) → af_number (af_of n) ≡ n
-af_of-number = first_with-number af_number af_variants UnrecognizedConst (λ _. refl)

@@ -1,6 +1,5 @@
 -- The numbers of `Arphrd`.
-use Rattle.std.specs.Prelude.{◌≡◌, ℕ, Bool, true, false, List, [], ◌∷◌, refl}
-use Rattle.neli_wire.specs.ConstantLaws.{first_with-number}
+use Rattle.std.specs.Prelude.{ℕ, Bool, true, false, List, [], ◌∷◌}
 use Rattle.neli_wire.specs.Constants.{first_with}
 use Rattle.neli_consts_rt.specs.declared.links.Arphrd.{Arphrd}
 use Rattle.neli_consts_rt.specs.declared.links.Arphrd.TheVariants.{Netrom, Ether, Eether, AX25, Pronet, Chaos, Ieee802, Arcnet, Appletlk, Dlci, Atm, Metricom, Ieee1394, Eui64, Infiniband, Loopback, Void, None, UnrecognizedConst}
@@ -41,7 +40,3 @@ arphrd_of = first_with arphrd_number arphrd_variants UnrecognizedConst
 abbrev pub arphrd_is_unrecognized : Arphrd → Bool
 arphrd_is_unrecognized (UnrecognizedConst n) = true
 arphrd_is_unrecognized v = false
-
--- what a number is read as has that number
-pub arphrd_of-number : (n : ℕ) → arphrd_number (arphrd_of n) ≡ n
-arphrd_of-number = first_with-number arphrd_number arphrd_variants UnrecognizedConst (λ _. refl)

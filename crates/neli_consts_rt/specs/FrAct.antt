@@ -1,6 +1,5 @@
 -- The numbers of `FrAct`.
-use Rattle.std.specs.Prelude.{◌≡◌, ℕ, Bool, true, false, List, [], ◌∷◌, refl}
-use Rattle.neli_wire.specs.ConstantLaws.{first_with-number}
+use Rattle.std.specs.Prelude.{ℕ, Bool, true, false, List, [], ◌∷◌}
 use Rattle.neli_wire.specs.Constants.{first_with}
 use Rattle.neli_consts_rt.specs.declared.rules.FrAct.{FrAct}
 use Rattle.neli_consts_rt.specs.declared.rules.FrAct.TheVariants.{Unspec, FrActToTbl, FrActGoto, FrActNop, FrActRes3, FrActRes4, FrActBlackhole, FrActUnreachable, FrActProhibit, FrActMax, UnrecognizedConst}
@@ -33,7 +32,3 @@ fr_act_of = first_with fr_act_number fr_act_variants UnrecognizedConst
 abbrev pub fr_act_is_unrecognized : FrAct → Bool
 fr_act_is_unrecognized (UnrecognizedConst n) = true
 fr_act_is_unrecognized v = false
-
--- what a number is read as has that number
-pub fr_act_of-number : (n : ℕ) → fr_act_number (fr_act_of n) ≡ n
-fr_act_of-number = first_with-number fr_act_number fr_act_variants UnrecognizedConst (λ _. refl)

@@ -1,6 +1,5 @@
 -- The numbers of `RtAddrFamily`.
-use Rattle.std.specs.Prelude.{◌≡◌, ℕ, Bool, true, false, List, [], ◌∷◌, refl}
-use Rattle.neli_wire.specs.ConstantLaws.{first_with-number}
+use Rattle.std.specs.Prelude.{ℕ, Bool, true, false, List, [], ◌∷◌}
 use Rattle.neli_wire.specs.Constants.{first_with}
 use Rattle.neli_consts_rt.specs.declared.addresses.RtAddrFamily.{RtAddrFamily}
 use Rattle.neli_consts_rt.specs.declared.addresses.RtAddrFamily.TheVariants.{Unspecified, UnixOrLocal, Inet, Inet6, Ipx, Netlink, X25, Ax25, Atmpvc, Appletalk, Packet, Alg, UnrecognizedConst}
@@ -35,7 +34,3 @@ rt_addr_family_of = first_with rt_addr_family_number rt_addr_family_variants Unr
 abbrev pub rt_addr_family_is_unrecognized : RtAddrFamily → Bool
 rt_addr_family_is_unrecognized (UnrecognizedConst n) = true
 rt_addr_family_is_unrecognized v = false
-
--- what a number is read as has that number
-pub rt_addr_family_of-number : (n : ℕ) → rt_addr_family_number (rt_addr_family_of n) ≡ n
-rt_addr_family_of-number = first_with-number rt_addr_family_number rt_addr_family_variants UnrecognizedConst (λ _. refl)

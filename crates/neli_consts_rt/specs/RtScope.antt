@@ -1,6 +1,5 @@
 -- The numbers of `RtScope`.
-use Rattle.std.specs.Prelude.{◌≡◌, ℕ, Bool, true, false, List, [], ◌∷◌, refl}
-use Rattle.neli_wire.specs.ConstantLaws.{first_with-number}
+use Rattle.std.specs.Prelude.{ℕ, Bool, true, false, List, [], ◌∷◌}
 use Rattle.neli_wire.specs.Constants.{first_with}
 use Rattle.neli_consts_rt.specs.declared.routes.RtScope.{RtScope}
 use Rattle.neli_consts_rt.specs.declared.routes.RtScope.TheVariants.{Universe, Site, Link, Host, Nowhere, UnrecognizedConst}
@@ -27,7 +26,3 @@ rt_scope_of = first_with rt_scope_number rt_scope_variants UnrecognizedConst
 abbrev pub rt_scope_is_unrecognized : RtScope → Bool
 rt_scope_is_unrecognized (UnrecognizedConst n) = true
 rt_scope_is_unrecognized v = false
-
--- what a number is read as has that number
-pub rt_scope_of-number : (n : ℕ) → rt_scope_number (rt_scope_of n) ≡ n
-rt_scope_of-number = first_with-number rt_scope_number rt_scope_variants UnrecognizedConst (λ _. refl)

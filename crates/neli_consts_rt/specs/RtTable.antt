@@ -1,6 +1,5 @@
 -- The numbers of `RtTable`.
-use Rattle.std.specs.Prelude.{◌≡◌, ℕ, Bool, true, false, List, [], ◌∷◌, refl}
-use Rattle.neli_wire.specs.ConstantLaws.{first_with-number}
+use Rattle.std.specs.Prelude.{ℕ, Bool, true, false, List, [], ◌∷◌}
 use Rattle.neli_wire.specs.Constants.{first_with}
 use Rattle.neli_consts_rt.specs.declared.routes.RtTable.{RtTable}
 use Rattle.neli_consts_rt.specs.declared.routes.RtTable.TheVariants.{Unspec, Compat, Default, Main, Local, UnrecognizedConst}
@@ -27,7 +26,3 @@ rt_table_of = first_with rt_table_number rt_table_variants UnrecognizedConst
 abbrev pub rt_table_is_unrecognized : RtTable → Bool
 rt_table_is_unrecognized (UnrecognizedConst n) = true
 rt_table_is_unrecognized v = false
-
--- what a number is read as has that number
-pub rt_table_of-number : (n : ℕ) → rt_table_number (rt_table_of n) ≡ n
-rt_table_of-number = first_with-number rt_table_number rt_table_variants UnrecognizedConst (λ _. refl)

@@ -1,6 +1,5 @@
 -- The numbers of `Rtm`.
-use Rattle.std.specs.Prelude.{◌≡◌, ℕ, Bool, true, false, List, [], ◌∷◌, refl}
-use Rattle.neli_wire.specs.ConstantLaws.{first_with-number}
+use Rattle.std.specs.Prelude.{ℕ, Bool, true, false, List, [], ◌∷◌}
 use Rattle.neli_wire.specs.Constants.{first_with}
 use Rattle.neli_consts_rt.specs.declared.messages.Rtm.{Rtm}
 use Rattle.neli_consts_rt.specs.declared.messages.Rtm.TheVariants.{Newlink, Dellink, Getlink, Setlink, Newaddr, Deladdr, Getaddr, Newroute, Delroute, Getroute, Newneigh, Delneigh, Getneigh, Newrule, Delrule, Getrule, Newqdisc, Delqdisc, Getqdisc, Newtclass, Deltclass, Gettclass, Newtfilter, Deltfilter, Gettfilter, Newaction, Delaction, Getaction, Newprefix, Getmulticast, Getanycast, Newneightbl, Getneightbl, Setneightbl, Newnduseropt, Newaddrlabel, Deladdrlabel, Getaddrlabel, Getdcb, Setdcb, Newnetconf, Getnetconf, Newmdb, Delmdb, Getmdb, Newnsid, Delnsid, Getnsid, UnrecognizedConst}
@@ -75,7 +74,3 @@ rtm_of = first_with rtm_number rtm_variants UnrecognizedConst
 abbrev pub rtm_is_unrecognized : Rtm → Bool
 rtm_is_unrecognized (UnrecognizedConst n) = true
 rtm_is_unrecognized v = false
-
--- what a number is read as has that number
-pub rtm_of-number : (n : ℕ) → rtm_number (rtm_of n) ≡ n
-rtm_of-number = first_with-number rtm_number rtm_variants UnrecognizedConst (λ _. refl)

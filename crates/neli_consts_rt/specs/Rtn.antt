@@ -1,6 +1,5 @@
 -- The numbers of `Rtn`.
-use Rattle.std.specs.Prelude.{◌≡◌, ℕ, Bool, true, false, List, [], ◌∷◌, refl}
-use Rattle.neli_wire.specs.ConstantLaws.{first_with-number}
+use Rattle.std.specs.Prelude.{ℕ, Bool, true, false, List, [], ◌∷◌}
 use Rattle.neli_wire.specs.Constants.{first_with}
 use Rattle.neli_consts_rt.specs.declared.routes.Rtn.{Rtn}
 use Rattle.neli_consts_rt.specs.declared.routes.Rtn.TheVariants.{Unspec, Unicast, Local, Broadcast, Anycast, Multicast, Blackhole, Unreachable, Prohibit, Throw, Nat, Xresolve, UnrecognizedConst}
@@ -35,7 +34,3 @@ rtn_of = first_with rtn_number rtn_variants UnrecognizedConst
 abbrev pub rtn_is_unrecognized : Rtn → Bool
 rtn_is_unrecognized (UnrecognizedConst n) = true
 rtn_is_unrecognized v = false
-
--- what a number is read as has that number
-pub rtn_of-number : (n : ℕ) → rtn_number (rtn_of n) ≡ n
-rtn_of-number = first_with-number rtn_number rtn_variants UnrecognizedConst (λ _. refl)

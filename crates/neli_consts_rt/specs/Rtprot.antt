@@ -1,6 +1,5 @@
 -- The numbers of `Rtprot`.
-use Rattle.std.specs.Prelude.{◌≡◌, ℕ, Bool, true, false, List, [], ◌∷◌, refl}
-use Rattle.neli_wire.specs.ConstantLaws.{first_with-number}
+use Rattle.std.specs.Prelude.{ℕ, Bool, true, false, List, [], ◌∷◌}
 use Rattle.neli_wire.specs.Constants.{first_with}
 use Rattle.neli_consts_rt.specs.declared.routes.Rtprot.{Rtprot}
 use Rattle.neli_consts_rt.specs.declared.routes.Rtprot.TheVariants.{Unspec, Redirect, Kernel, Boot, Static, UnrecognizedConst}
@@ -27,7 +26,3 @@ rtprot_of = first_with rtprot_number rtprot_variants UnrecognizedConst
 abbrev pub rtprot_is_unrecognized : Rtprot → Bool
 rtprot_is_unrecognized (UnrecognizedConst n) = true
 rtprot_is_unrecognized v = false
-
--- what a number is read as has that number
-pub rtprot_of-number : (n : ℕ) → rtprot_number (rtprot_of n) ≡ n
-rtprot_of-number = first_with-number rtprot_number rtprot_variants UnrecognizedConst (λ _. refl)

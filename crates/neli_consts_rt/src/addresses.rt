@@ -1,8 +1,10 @@
 //! Address families.
 
+ghost use Rattle.std.proofs.Common.{rules};
 ghost use Rattle.std.specs.Prelude.{◌≡◌};
-ghost use Rattle.neli_consts_rt.specs.Af.{af_number, af_of, af_of-number, af_is_unrecognized};
-ghost use Rattle.neli_consts_rt.specs.RtAddrFamily.{rt_addr_family_number, rt_addr_family_of, rt_addr_family_of-number, rt_addr_family_is_unrecognized};
+ghost use Rattle.neli_consts_rt.specs.Af.{af_number, af_of, af_is_unrecognized};
+ghost use Rattle.neli_consts_rt.specs.RtAddrFamily.{rt_addr_family_number, rt_addr_family_of, rt_addr_family_is_unrecognized};
+ghost use Rattle.neli_wire.specs.laws.Constants.{first_with-number};
 
 use neli_wire::Constant;
 
@@ -72,7 +74,7 @@ impl Constant for Af {
         u8::from(self)
     }
 
-    ghost back_to_number = { λ n _. af_of-number n };
+    ghost back_to_number = { λ n _. Prim.search (first_with-number, rules) };
 }
 
 /// Address families, as the first byte of a routing body carries them: `AF_*` of `linux/socket.h`.
@@ -175,5 +177,5 @@ impl Constant for RtAddrFamily {
         u8::from(self)
     }
 
-    ghost back_to_number = { λ n _. rt_addr_family_of-number n };
+    ghost back_to_number = { λ n _. Prim.search (first_with-number, rules) };
 }

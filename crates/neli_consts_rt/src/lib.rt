@@ -19,14 +19,11 @@
 #![tactic(auto)]
 
 mod addresses;
-#[cfg(test)]
-mod calls;
+pub mod laws;
 mod links;
 mod messages;
 mod routes;
 mod rules;
-#[cfg(test)]
-mod tests;
 
 pub use addresses::{Af, RtAddrFamily};
 pub use links::Arphrd;

@@ -1,7 +1,9 @@
 //! Kinds of link.
 
+ghost use Rattle.std.proofs.Common.{rules};
 ghost use Rattle.std.specs.Prelude.{◌≡◌};
-ghost use Rattle.neli_consts_rt.specs.Arphrd.{arphrd_number, arphrd_of, arphrd_of-number, arphrd_is_unrecognized};
+ghost use Rattle.neli_consts_rt.specs.Arphrd.{arphrd_number, arphrd_of, arphrd_is_unrecognized};
+ghost use Rattle.neli_wire.specs.laws.Constants.{first_with-number};
 
 use neli_wire::Constant;
 
@@ -125,5 +127,5 @@ impl Constant for Arphrd {
         u16::from(self)
     }
 
-    ghost back_to_number = { λ n _. arphrd_of-number n };
+    ghost back_to_number = { λ n _. Prim.search (first_with-number, rules) };
 }

@@ -1,7 +1,9 @@
 //! Types of routing messages.
 
+ghost use Rattle.std.proofs.Common.{rules};
 ghost use Rattle.std.specs.Prelude.{◌≡◌};
-ghost use Rattle.neli_consts_rt.specs.Rtm.{rtm_number, rtm_of, rtm_of-number, rtm_is_unrecognized};
+ghost use Rattle.neli_consts_rt.specs.Rtm.{rtm_number, rtm_of, rtm_is_unrecognized};
+ghost use Rattle.neli_wire.specs.laws.Constants.{first_with-number};
 
 use neli_wire::Constant;
 
@@ -208,5 +210,5 @@ impl Constant for Rtm {
         u16::from(self)
     }
 
-    ghost back_to_number = { λ n _. rtm_of-number n };
+    ghost back_to_number = { λ n _. Prim.search (first_with-number, rules) };
 }

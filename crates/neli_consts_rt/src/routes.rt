@@ -1,10 +1,12 @@
 //! Fields of a route.
 
+ghost use Rattle.std.proofs.Common.{rules};
 ghost use Rattle.std.specs.Prelude.{◌≡◌};
-ghost use Rattle.neli_consts_rt.specs.Rtn.{rtn_number, rtn_of, rtn_of-number, rtn_is_unrecognized};
-ghost use Rattle.neli_consts_rt.specs.Rtprot.{rtprot_number, rtprot_of, rtprot_of-number, rtprot_is_unrecognized};
-ghost use Rattle.neli_consts_rt.specs.RtScope.{rt_scope_number, rt_scope_of, rt_scope_of-number, rt_scope_is_unrecognized};
-ghost use Rattle.neli_consts_rt.specs.RtTable.{rt_table_number, rt_table_of, rt_table_of-number, rt_table_is_unrecognized};
+ghost use Rattle.neli_consts_rt.specs.Rtn.{rtn_number, rtn_of, rtn_is_unrecognized};
+ghost use Rattle.neli_consts_rt.specs.Rtprot.{rtprot_number, rtprot_of, rtprot_is_unrecognized};
+ghost use Rattle.neli_consts_rt.specs.RtScope.{rt_scope_number, rt_scope_of, rt_scope_is_unrecognized};
+ghost use Rattle.neli_consts_rt.specs.RtTable.{rt_table_number, rt_table_of, rt_table_is_unrecognized};
+ghost use Rattle.neli_wire.specs.laws.Constants.{first_with-number};
 
 use neli_wire::Constant;
 
@@ -112,7 +114,7 @@ impl Constant for Rtn {
         u8::from(self)
     }
 
-    ghost back_to_number = { λ n _. rtn_of-number n };
+    ghost back_to_number = { λ n _. Prim.search (first_with-number, rules) };
 }
 
 /// Who made a route: `RTPROT_*` of `linux/rtnetlink.h`.
@@ -191,7 +193,7 @@ impl Constant for Rtprot {
         u8::from(self)
     }
 
-    ghost back_to_number = { λ n _. rtprot_of-number n };
+    ghost back_to_number = { λ n _. Prim.search (first_with-number, rules) };
 }
 
 /// How far away a destination is: `RT_SCOPE_*` of `linux/rtnetlink.h`. A greater number is nearer.
@@ -272,7 +274,7 @@ impl Constant for RtScope {
         u8::from(self)
     }
 
-    ghost back_to_number = { λ n _. rt_scope_of-number n };
+    ghost back_to_number = { λ n _. Prim.search (first_with-number, rules) };
 }
 
 /// Routing tables: `RT_TABLE_*` of `linux/rtnetlink.h`.
@@ -351,5 +353,5 @@ impl Constant for RtTable {
         u8::from(self)
     }
 
-    ghost back_to_number = { λ n _. rt_table_of-number n };
+    ghost back_to_number = { λ n _. Prim.search (first_with-number, rules) };
 }

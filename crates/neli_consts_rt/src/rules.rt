@@ -1,7 +1,9 @@
 //! Actions of routing rules.
 
+ghost use Rattle.std.proofs.Common.{rules};
 ghost use Rattle.std.specs.Prelude.{◌≡◌};
-ghost use Rattle.neli_consts_rt.specs.FrAct.{fr_act_number, fr_act_of, fr_act_of-number, fr_act_is_unrecognized};
+ghost use Rattle.neli_consts_rt.specs.FrAct.{fr_act_number, fr_act_of, fr_act_is_unrecognized};
+ghost use Rattle.neli_wire.specs.laws.Constants.{first_with-number};
 
 use neli_wire::Constant;
 
@@ -102,5 +104,5 @@ impl Constant for FrAct {
         u8::from(self)
     }
 
-    ghost back_to_number = { λ n _. fr_act_of-number n };
+    ghost back_to_number = { λ n _. Prim.search (first_with-number, rules) };
 }

@@ -1,6 +1,5 @@
 -- The numbers of `Frattr`.
-use Rattle.std.specs.Prelude.{◌≡◌, ℕ, Bool, true, false, List, [], ◌∷◌, refl}
-use Rattle.neli_wire.specs.ConstantLaws.{first_with-number}
+use Rattle.std.specs.Prelude.{ℕ, Bool, true, false, List, [], ◌∷◌}
 use Rattle.neli_wire.specs.Constants.{first_with}
 use Rattle.neli_consts_rta.specs.declared.rules.Frattr.{Frattr}
 use Rattle.neli_consts_rta.specs.declared.rules.Frattr.TheVariants.{Unspec, Dst, Src, Iifname, Ifname, Goto, Unused2, Priority, Unused3, Unused4, Unused5, Fwmark, Flow, TunId, SuppressIfgroup, SuppressPrefixlen, Table, Fwmask, Oifname, Pad, L3mdev, UidRange, Protocol, IpProto, SportRange, DportRange, Dscp, Flowlabel, FlowlabelMask, SportMask, DportMask, DscpMask, Max, UnrecognizedConst}
@@ -58,7 +57,3 @@ frattr_of = first_with frattr_number frattr_variants UnrecognizedConst
 abbrev pub frattr_is_unrecognized : Frattr → Bool
 frattr_is_unrecognized (UnrecognizedConst n) = true
 frattr_is_unrecognized v = false
-
--- what a number is read as has that number
-pub frattr_of-number : (n : ℕ) → frattr_number (frattr_of n) ≡ n
-frattr_of-number = first_with-number frattr_number frattr_variants UnrecognizedConst (λ _. refl)

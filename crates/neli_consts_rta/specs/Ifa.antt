@@ -1,6 +1,5 @@
 -- The numbers of `Ifa`.
-use Rattle.std.specs.Prelude.{◌≡◌, ℕ, Bool, true, false, List, [], ◌∷◌, refl}
-use Rattle.neli_wire.specs.ConstantLaws.{first_with-number}
+use Rattle.std.specs.Prelude.{ℕ, Bool, true, false, List, [], ◌∷◌}
 use Rattle.neli_wire.specs.Constants.{first_with}
 use Rattle.neli_consts_rta.specs.declared.addresses.Ifa.{Ifa}
 use Rattle.neli_consts_rta.specs.declared.addresses.Ifa.TheVariants.{Unspec, Address, Local, Label, Broadcast, Anycast, Cacheinfo, Multicast, Flags, UnrecognizedConst}
@@ -31,7 +30,3 @@ ifa_of = first_with ifa_number ifa_variants UnrecognizedConst
 abbrev pub ifa_is_unrecognized : Ifa → Bool
 ifa_is_unrecognized (UnrecognizedConst n) = true
 ifa_is_unrecognized v = false
-
--- what a number is read as has that number
-pub ifa_of-number : (n : ℕ) → ifa_number (ifa_of n) ≡ n
-ifa_of-number = first_with-number ifa_number ifa_variants UnrecognizedConst (λ _. refl)

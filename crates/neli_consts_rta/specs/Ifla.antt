@@ -1,6 +1,5 @@
 -- The numbers of `Ifla`.
-use Rattle.std.specs.Prelude.{◌≡◌, ℕ, Bool, true, false, List, [], ◌∷◌, refl}
-use Rattle.neli_wire.specs.ConstantLaws.{first_with-number}
+use Rattle.std.specs.Prelude.{ℕ, Bool, true, false, List, [], ◌∷◌}
 use Rattle.neli_wire.specs.Constants.{first_with}
 use Rattle.neli_consts_rta.specs.declared.links.Ifla.{Ifla}
 use Rattle.neli_consts_rta.specs.declared.links.Ifla.TheVariants.{Unspec, Address, Broadcast, Ifname, Mtu, Link, Qdisc, Stats, Cost, Priority, Master, Wireless, Protinfo, Txqlen, Map, Weight, Operstate, Linkmode, Linkinfo, NetNsPid, Ifalias, NumVf, VfinfoList, Stats64, VfPorts, PortSelf, AfSpec, Group, NetNsFd, ExtMask, Promiscuity, NumTxQueues, NumRxQueues, Carrier, PhysPortId, CarrierChanges, PhysSwitchId, LinkNetnsid, PhysPortName, ProtoDown, GsoMaxSegs, GsoMaxSize, Pad, Xdp, Event, NewNetnsid, IfNetnsid, CarrierUpCount, CarrierDownCount, NewIfindex, MinMtu, MaxMtu, PropList, AltIfname, PermAddress, ProtoDownReason, UnrecognizedConst}
@@ -84,7 +83,3 @@ ifla_of = first_with ifla_number ifla_variants UnrecognizedConst
 abbrev pub ifla_is_unrecognized : Ifla → Bool
 ifla_is_unrecognized (UnrecognizedConst n) = true
 ifla_is_unrecognized v = false
-
--- what a number is read as has that number
-pub ifla_of-number : (n : ℕ) → ifla_number (ifla_of n) ≡ n
-ifla_of-number = first_with-number ifla_number ifla_variants UnrecognizedConst (λ _. refl)

@@ -1,6 +1,5 @@
 -- The numbers of `IflaInfo`.
-use Rattle.std.specs.Prelude.{◌≡◌, ℕ, Bool, true, false, List, [], ◌∷◌, refl}
-use Rattle.neli_wire.specs.ConstantLaws.{first_with-number}
+use Rattle.std.specs.Prelude.{ℕ, Bool, true, false, List, [], ◌∷◌}
 use Rattle.neli_wire.specs.Constants.{first_with}
 use Rattle.neli_consts_rta.specs.declared.link_kinds.IflaInfo.{IflaInfo}
 use Rattle.neli_consts_rta.specs.declared.link_kinds.IflaInfo.TheVariants.{Unspec, Kind, Data, Xstats, SlaveKind, SlaveData, UnrecognizedConst}
@@ -28,7 +27,3 @@ ifla_info_of = first_with ifla_info_number ifla_info_variants UnrecognizedConst
 abbrev pub ifla_info_is_unrecognized : IflaInfo → Bool
 ifla_info_is_unrecognized (UnrecognizedConst n) = true
 ifla_info_is_unrecognized v = false
-
--- what a number is read as has that number
-pub ifla_info_of-number : (n : ℕ) → ifla_info_number (ifla_info_of n) ≡ n
-ifla_info_of-number = first_with-number ifla_info_number ifla_info_variants UnrecognizedConst (λ _. refl)

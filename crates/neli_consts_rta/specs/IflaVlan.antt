@@ -1,6 +1,5 @@
 -- The numbers of `IflaVlan`.
-use Rattle.std.specs.Prelude.{◌≡◌, ℕ, Bool, true, false, List, [], ◌∷◌, refl}
-use Rattle.neli_wire.specs.ConstantLaws.{first_with-number}
+use Rattle.std.specs.Prelude.{ℕ, Bool, true, false, List, [], ◌∷◌}
 use Rattle.neli_wire.specs.Constants.{first_with}
 use Rattle.neli_consts_rta.specs.declared.link_kinds.IflaVlan.{IflaVlan}
 use Rattle.neli_consts_rta.specs.declared.link_kinds.IflaVlan.TheVariants.{Unspec, Id, Flags, EgressQos, IngressQos, Protocol, UnrecognizedConst}
@@ -28,7 +27,3 @@ ifla_vlan_of = first_with ifla_vlan_number ifla_vlan_variants UnrecognizedConst
 abbrev pub ifla_vlan_is_unrecognized : IflaVlan → Bool
 ifla_vlan_is_unrecognized (UnrecognizedConst n) = true
 ifla_vlan_is_unrecognized v = false
-
--- what a number is read as has that number
-pub ifla_vlan_of-number : (n : ℕ) → ifla_vlan_number (ifla_vlan_of n) ≡ n
-ifla_vlan_of-number = first_with-number ifla_vlan_number ifla_vlan_variants UnrecognizedConst (λ _. refl)

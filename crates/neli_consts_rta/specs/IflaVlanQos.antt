@@ -1,6 +1,5 @@
 -- The numbers of `IflaVlanQos`.
-use Rattle.std.specs.Prelude.{◌≡◌, ℕ, Bool, true, false, List, [], ◌∷◌, refl}
-use Rattle.neli_wire.specs.ConstantLaws.{first_with-number}
+use Rattle.std.specs.Prelude.{ℕ, Bool, true, false, List, [], ◌∷◌}
 use Rattle.neli_wire.specs.Constants.{first_with}
 use Rattle.neli_consts_rta.specs.declared.link_kinds.IflaVlanQos.{IflaVlanQos}
 use Rattle.neli_consts_rta.specs.declared.link_kinds.IflaVlanQos.TheVariants.{Unspec, Mapping, UnrecognizedConst}
@@ -24,7 +23,3 @@ ifla_vlan_qos_of = first_with ifla_vlan_qos_number ifla_vlan_qos_variants Unreco
 abbrev pub ifla_vlan_qos_is_unrecognized : IflaVlanQos → Bool
 ifla_vlan_qos_is_unrecognized (UnrecognizedConst n) = true
 ifla_vlan_qos_is_unrecognized v = false
-
--- what a number is read as has that number
-pub ifla_vlan_qos_of-number : (n : ℕ) → ifla_vlan_qos_number (ifla_vlan_qos_of n) ≡ n
-ifla_vlan_qos_of-number = first_with-number ifla_vlan_qos_number ifla_vlan_qos_variants UnrecognizedConst (λ _. refl)

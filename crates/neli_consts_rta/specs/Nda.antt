@@ -1,6 +1,5 @@
 -- The numbers of `Nda`.
-use Rattle.std.specs.Prelude.{◌≡◌, ℕ, Bool, true, false, List, [], ◌∷◌, refl}
-use Rattle.neli_wire.specs.ConstantLaws.{first_with-number}
+use Rattle.std.specs.Prelude.{ℕ, Bool, true, false, List, [], ◌∷◌}
 use Rattle.neli_wire.specs.Constants.{first_with}
 use Rattle.neli_consts_rta.specs.declared.neighbours.Nda.{Nda}
 use Rattle.neli_consts_rta.specs.declared.neighbours.Nda.TheVariants.{Unspec, Dst, Lladdr, Cacheinfo, Probes, Vlan, Port, Vni, Ifindex, Master, LinkNetnsid, SrcVni, UnrecognizedConst}
@@ -35,7 +34,3 @@ nda_of = first_with nda_number nda_variants UnrecognizedConst
 abbrev pub nda_is_unrecognized : Nda → Bool
 nda_is_unrecognized (UnrecognizedConst n) = true
 nda_is_unrecognized v = false
-
--- what a number is read as has that number
-pub nda_of-number : (n : ℕ) → nda_number (nda_of n) ≡ n
-nda_of-number = first_with-number nda_number nda_variants UnrecognizedConst (λ _. refl)

@@ -1,6 +1,5 @@
 -- The numbers of `Rta`.
-use Rattle.std.specs.Prelude.{◌≡◌, ℕ, Bool, true, false, List, [], ◌∷◌, refl}
-use Rattle.neli_wire.specs.ConstantLaws.{first_with-number}
+use Rattle.std.specs.Prelude.{ℕ, Bool, true, false, List, [], ◌∷◌}
 use Rattle.neli_wire.specs.Constants.{first_with}
 use Rattle.neli_consts_rta.specs.declared.routes.Rta.{Rta}
 use Rattle.neli_consts_rta.specs.declared.routes.Rta.TheVariants.{Unspec, Dst, Src, Iif, Oif, Gateway, Priority, Prefsrc, Metrics, Multipath, Protoinfo, Flow, Cacheinfo, Session, MpAlgo, Table, Mark, MfcStats, Via, Newdst, Pref, EncapType, Encap, Expires, Pad, Uid, TtlPropagate, UnrecognizedConst}
@@ -51,7 +50,3 @@ rta_of = first_with rta_number rta_variants UnrecognizedConst
 abbrev pub rta_is_unrecognized : Rta → Bool
 rta_is_unrecognized (UnrecognizedConst n) = true
 rta_is_unrecognized v = false
-
--- what a number is read as has that number
-pub rta_of-number : (n : ℕ) → rta_number (rta_of n) ≡ n
-rta_of-number = first_with-number rta_number rta_variants UnrecognizedConst (λ _. refl)

@@ -1,16 +1,15 @@
 -- The meaning of an attribute's number in routing messages: the first table that has a name for it.
-use Rattle.std.specs.Prelude.{◌≡◌, ℕ, Bool, List, [], ◌∷◌, refl}
-use Rattle.neli_wire.specs.ConstantLaws.{first_recognized-number}
+use Rattle.std.specs.Prelude.{ℕ, Bool, List, [], ◌∷◌}
 use Rattle.neli_wire.specs.Constants.{reading, first_recognized}
-use Rattle.neli_consts_rta.specs.Ifla.{ifla_number, ifla_of, ifla_of-number, ifla_is_unrecognized}
-use Rattle.neli_consts_rta.specs.Ifa.{ifa_number, ifa_of, ifa_of-number, ifa_is_unrecognized}
-use Rattle.neli_consts_rta.specs.Rta.{rta_number, rta_of, rta_of-number, rta_is_unrecognized}
-use Rattle.neli_consts_rta.specs.Tca.{tca_number, tca_of, tca_of-number, tca_is_unrecognized}
-use Rattle.neli_consts_rta.specs.Nda.{nda_number, nda_of, nda_of-number, nda_is_unrecognized}
-use Rattle.neli_consts_rta.specs.IflaInfo.{ifla_info_number, ifla_info_of, ifla_info_of-number, ifla_info_is_unrecognized}
-use Rattle.neli_consts_rta.specs.IflaVlan.{ifla_vlan_number, ifla_vlan_of, ifla_vlan_of-number, ifla_vlan_is_unrecognized}
-use Rattle.neli_consts_rta.specs.IflaVlanQos.{ifla_vlan_qos_number, ifla_vlan_qos_of, ifla_vlan_qos_of-number, ifla_vlan_qos_is_unrecognized}
-use Rattle.neli_consts_rta.specs.Frattr.{frattr_number, frattr_of, frattr_of-number, frattr_is_unrecognized}
+use Rattle.neli_consts_rta.specs.Ifla.{ifla_number, ifla_of, ifla_is_unrecognized}
+use Rattle.neli_consts_rta.specs.Ifa.{ifa_number, ifa_of, ifa_is_unrecognized}
+use Rattle.neli_consts_rta.specs.Rta.{rta_number, rta_of, rta_is_unrecognized}
+use Rattle.neli_consts_rta.specs.Tca.{tca_number, tca_of, tca_is_unrecognized}
+use Rattle.neli_consts_rta.specs.Nda.{nda_number, nda_of, nda_is_unrecognized}
+use Rattle.neli_consts_rta.specs.IflaInfo.{ifla_info_number, ifla_info_of, ifla_info_is_unrecognized}
+use Rattle.neli_consts_rta.specs.IflaVlan.{ifla_vlan_number, ifla_vlan_of, ifla_vlan_is_unrecognized}
+use Rattle.neli_consts_rta.specs.IflaVlanQos.{ifla_vlan_qos_number, ifla_vlan_qos_of, ifla_vlan_qos_is_unrecognized}
+use Rattle.neli_consts_rta.specs.Frattr.{frattr_number, frattr_of, frattr_is_unrecognized}
 use Rattle.neli_consts_rta.specs.declared.rta_type.RtaTypeWrapper.{RtaTypeWrapper}
 use Rattle.neli_consts_rta.specs.declared.rta_type.RtaTypeWrapper.TheVariants.{Ifla, Ifa, Rta, Tca, Nda, IflaInfo, IflaVlan, IflaVlanQos, Frattr, UnrecognizedConst}
 
@@ -44,9 +43,3 @@ rta_type_wrapper_readings n =
 -- what the first table says that has a name for a number, else the number without a name
 abbrev pub rta_type_wrapper_of : ℕ → RtaTypeWrapper
 rta_type_wrapper_of n = first_recognized (rta_type_wrapper_readings n) (UnrecognizedConst n)
-
--- what a number is read as has that number
-pub rta_type_wrapper_of-number : (n : ℕ) → rta_type_wrapper_number (rta_type_wrapper_of n) ≡ n
-rta_type_wrapper_of-number n =
-    first_recognized-number rta_type_wrapper_number (rta_type_wrapper_readings n) (UnrecognizedConst n) n
-    (ifla_of-number n, (ifa_of-number n, (rta_of-number n, (tca_of-number n, (nda_of-number n, (ifla_info_of-number n, (ifla_vlan_of-number n, (ifla_vlan_qos_of-number n, (frattr_of-number n, tt))))))))) refl

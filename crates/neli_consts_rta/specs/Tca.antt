@@ -1,6 +1,5 @@
 -- The numbers of `Tca`.
-use Rattle.std.specs.Prelude.{◌≡◌, ℕ, Bool, true, false, List, [], ◌∷◌, refl}
-use Rattle.neli_wire.specs.ConstantLaws.{first_with-number}
+use Rattle.std.specs.Prelude.{ℕ, Bool, true, false, List, [], ◌∷◌}
 use Rattle.neli_wire.specs.Constants.{first_with}
 use Rattle.neli_consts_rta.specs.declared.queues.Tca.{Tca}
 use Rattle.neli_consts_rta.specs.declared.queues.Tca.TheVariants.{Unspec, Kind, Options, Stats, Xstats, Rate, Fcnt, Stats2, Stab, UnrecognizedConst}
@@ -31,7 +30,3 @@ tca_of = first_with tca_number tca_variants UnrecognizedConst
 abbrev pub tca_is_unrecognized : Tca → Bool
 tca_is_unrecognized (UnrecognizedConst n) = true
 tca_is_unrecognized v = false
-
--- what a number is read as has that number
-pub tca_of-number : (n : ℕ) → tca_number (tca_of n) ≡ n
-tca_of-number = first_with-number tca_number tca_variants UnrecognizedConst (λ _. refl)

@@ -1,7 +1,9 @@
 //! Attributes of addresses.
 
+ghost use Rattle.std.proofs.Common.{rules};
 ghost use Rattle.std.specs.Prelude.{◌≡◌};
-ghost use Rattle.neli_consts_rta.specs.Ifa.{ifa_number, ifa_of, ifa_of-number, ifa_is_unrecognized};
+ghost use Rattle.neli_consts_rta.specs.Ifa.{ifa_number, ifa_of, ifa_is_unrecognized};
+ghost use Rattle.neli_wire.specs.laws.Constants.{first_with-number};
 
 use neli_wire::Constant;
 
@@ -95,5 +97,5 @@ impl Constant for Ifa {
         u16::from(self)
     }
 
-    ghost back_to_number = { λ n _. ifa_of-number n };
+    ghost back_to_number = { λ n _. Prim.search (first_with-number, rules) };
 }

@@ -24,8 +24,7 @@
 #![tactic(auto)]
 
 mod addresses;
-#[cfg(test)]
-mod calls;
+pub mod laws;
 mod link_kinds;
 mod links;
 mod neighbours;
@@ -33,8 +32,6 @@ mod queues;
 mod routes;
 mod rta_type;
 mod rules;
-#[cfg(test)]
-mod tests;
 
 pub use addresses::Ifa;
 pub use link_kinds::{IflaInfo, IflaVlan, IflaVlanQos};

@@ -1,9 +1,11 @@
 //! Attributes of a kind of link, inside those of links.
 
+ghost use Rattle.std.proofs.Common.{rules};
 ghost use Rattle.std.specs.Prelude.{◌≡◌};
-ghost use Rattle.neli_consts_rta.specs.IflaInfo.{ifla_info_number, ifla_info_of, ifla_info_of-number, ifla_info_is_unrecognized};
-ghost use Rattle.neli_consts_rta.specs.IflaVlan.{ifla_vlan_number, ifla_vlan_of, ifla_vlan_of-number, ifla_vlan_is_unrecognized};
-ghost use Rattle.neli_consts_rta.specs.IflaVlanQos.{ifla_vlan_qos_number, ifla_vlan_qos_of, ifla_vlan_qos_of-number, ifla_vlan_qos_is_unrecognized};
+ghost use Rattle.neli_consts_rta.specs.IflaInfo.{ifla_info_number, ifla_info_of, ifla_info_is_unrecognized};
+ghost use Rattle.neli_consts_rta.specs.IflaVlan.{ifla_vlan_number, ifla_vlan_of, ifla_vlan_is_unrecognized};
+ghost use Rattle.neli_consts_rta.specs.IflaVlanQos.{ifla_vlan_qos_number, ifla_vlan_qos_of, ifla_vlan_qos_is_unrecognized};
+ghost use Rattle.neli_wire.specs.laws.Constants.{first_with-number};
 
 use neli_wire::Constant;
 
@@ -86,7 +88,7 @@ impl Constant for IflaInfo {
         u16::from(self)
     }
 
-    ghost back_to_number = { λ n _. ifla_info_of-number n };
+    ghost back_to_number = { λ n _. Prim.search (first_with-number, rules) };
 }
 
 /// Attributes inside [`IflaInfo::Data`] of a virtual LAN: `IFLA_VLAN_*` of `linux/if_link.h`.
@@ -169,7 +171,7 @@ impl Constant for IflaVlan {
         u16::from(self)
     }
 
-    ghost back_to_number = { λ n _. ifla_vlan_of-number n };
+    ghost back_to_number = { λ n _. Prim.search (first_with-number, rules) };
 }
 
 /// Attributes inside [`IflaVlan::EgressQos`] and [`IflaVlan::IngressQos`]: `IFLA_VLAN_QOS_*` of
@@ -238,5 +240,5 @@ impl Constant for IflaVlanQos {
         u16::from(self)
     }
 
-    ghost back_to_number = { λ n _. ifla_vlan_qos_of-number n };
+    ghost back_to_number = { λ n _. Prim.search (first_with-number, rules) };
 }

@@ -1,7 +1,9 @@
 //! Attributes of links.
 
+ghost use Rattle.std.proofs.Common.{rules};
 ghost use Rattle.std.specs.Prelude.{◌≡◌};
-ghost use Rattle.neli_consts_rta.specs.Ifla.{ifla_number, ifla_of, ifla_of-number, ifla_is_unrecognized};
+ghost use Rattle.neli_consts_rta.specs.Ifla.{ifla_number, ifla_of, ifla_is_unrecognized};
+ghost use Rattle.neli_wire.specs.laws.Constants.{first_with-number};
 
 use neli_wire::Constant;
 
@@ -262,5 +264,5 @@ impl Constant for Ifla {
         u16::from(self)
     }
 
-    ghost back_to_number = { λ n _. ifla_of-number n };
+    ghost back_to_number = { λ n _. Prim.search (first_with-number, rules) };
 }

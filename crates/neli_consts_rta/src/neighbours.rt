@@ -1,7 +1,9 @@
 //! Attributes of neighbours.
 
+ghost use Rattle.std.proofs.Common.{rules};
 ghost use Rattle.std.specs.Prelude.{◌≡◌};
-ghost use Rattle.neli_consts_rta.specs.Nda.{nda_number, nda_of, nda_of-number, nda_is_unrecognized};
+ghost use Rattle.neli_consts_rta.specs.Nda.{nda_number, nda_of, nda_is_unrecognized};
+ghost use Rattle.neli_wire.specs.laws.Constants.{first_with-number};
 
 use neli_wire::Constant;
 
@@ -105,5 +107,5 @@ impl Constant for Nda {
         u16::from(self)
     }
 
-    ghost back_to_number = { λ n _. nda_of-number n };
+    ghost back_to_number = { λ n _. Prim.search (first_with-number, rules) };
 }

@@ -1,7 +1,9 @@
 //! Attributes of queueing disciplines.
 
+ghost use Rattle.std.proofs.Common.{rules};
 ghost use Rattle.std.specs.Prelude.{◌≡◌};
-ghost use Rattle.neli_consts_rta.specs.Tca.{tca_number, tca_of, tca_of-number, tca_is_unrecognized};
+ghost use Rattle.neli_consts_rta.specs.Tca.{tca_number, tca_of, tca_is_unrecognized};
+ghost use Rattle.neli_wire.specs.laws.Constants.{first_with-number};
 
 use neli_wire::Constant;
 
@@ -95,5 +97,5 @@ impl Constant for Tca {
         u16::from(self)
     }
 
-    ghost back_to_number = { λ n _. tca_of-number n };
+    ghost back_to_number = { λ n _. Prim.search (first_with-number, rules) };
 }

@@ -1,7 +1,9 @@
 //! Attributes of routes.
 
+ghost use Rattle.std.proofs.Common.{rules};
 ghost use Rattle.std.specs.Prelude.{◌≡◌};
-ghost use Rattle.neli_consts_rta.specs.Rta.{rta_number, rta_of, rta_of-number, rta_is_unrecognized};
+ghost use Rattle.neli_consts_rta.specs.Rta.{rta_number, rta_of, rta_is_unrecognized};
+ghost use Rattle.neli_wire.specs.laws.Constants.{first_with-number};
 
 use neli_wire::Constant;
 
@@ -159,5 +161,5 @@ impl Constant for Rta {
         u16::from(self)
     }
 
-    ghost back_to_number = { λ n _. rta_of-number n };
+    ghost back_to_number = { λ n _. Prim.search (first_with-number, rules) };
 }

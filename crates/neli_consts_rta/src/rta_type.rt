@@ -1,8 +1,10 @@
 //! What the number of an attribute in a routing message may be read as.
 
+ghost use Rattle.std.proofs.Common.{rules};
 ghost use Rattle.std.specs.Prelude.{◌≡◌};
 ghost use Rattle.neli_consts_rta.specs.declared.rta_type.RtaTypeWrapper.{RtaTypeWrapper};
-ghost use Rattle.neli_consts_rta.specs.RtaTypeWrapper.{rta_type_wrapper_number, rta_type_wrapper_of, rta_type_wrapper_of-number};
+ghost use Rattle.neli_consts_rta.specs.RtaTypeWrapper.{rta_type_wrapper_number, rta_type_wrapper_of};
+ghost use Rattle.neli_wire.specs.laws.Constants.{first_recognized-number, first_with-number};
 
 use crate::{Frattr, Ifa, Ifla, IflaInfo, IflaVlan, IflaVlanQos, Nda, Rta, Tca};
 use neli_wire::Constant;
@@ -222,5 +224,6 @@ impl Constant for RtaTypeWrapper {
         u16::from(self)
     }
 
-    ghost back_to_number = { λ n _. rta_type_wrapper_of-number n };
+    ghost back_to_number = { λ n _. Prim.search
+        (first_recognized-number, first_with-number, rules) };
 }

@@ -1,7 +1,9 @@
 //! Attributes of routing rules.
 
+ghost use Rattle.std.proofs.Common.{rules};
 ghost use Rattle.std.specs.Prelude.{◌≡◌};
-ghost use Rattle.neli_consts_rta.specs.Frattr.{frattr_number, frattr_of, frattr_of-number, frattr_is_unrecognized};
+ghost use Rattle.neli_consts_rta.specs.Frattr.{frattr_number, frattr_of, frattr_is_unrecognized};
+ghost use Rattle.neli_wire.specs.laws.Constants.{first_with-number};
 
 use neli_wire::Constant;
 
@@ -172,5 +174,5 @@ impl Constant for Frattr {
         u16::from(self)
     }
 
-    ghost back_to_number = { λ n _. frattr_of-number n };
+    ghost back_to_number = { λ n _. Prim.search (first_with-number, rules) };
 }

@@ -26,16 +26,13 @@ macro_rules! flag_list {
     };
 }
 
-#[cfg(test)]
-mod calls;
 mod frf;
 mod ifa_f;
 mod iff;
+pub mod laws;
 mod ntf;
 mod nud;
 mod rtm_f;
-#[cfg(test)]
-mod tests;
 mod vlan_flags;
 
 pub use frf::Frf;

@@ -137,7 +137,8 @@ impl SubAssign for VlanFlags {
 impl Not for VlanFlags {
     type Output = VlanFlags;
 
-    ghost not_gives = { λ a flags. flags.0 ≡ bit_and (2 ^ 8 - 1 - a.0) (known_bits vlan_flags_names) };
+    ghost not_gives = { λ a flags. flags.0 ≡ bit_and (2 ^ 8 - 1 - a.0)
+        (known_bits vlan_flags_names) };
 
     fn not(self) -> VlanFlags {
         self.complement()

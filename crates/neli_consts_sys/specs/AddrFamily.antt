@@ -1,6 +1,5 @@
 -- The numbers of `AddrFamily`.
-use Rattle.std.specs.Prelude.{◌≡◌, ℤ, pos, Bool, true, false, List, [], ◌∷◌, refl}
-use Rattle.neli_wire.specs.ConstantLaws.{first_with_int-number}
+use Rattle.std.specs.Prelude.{ℤ, pos, Bool, true, false, List, [], ◌∷◌}
 use Rattle.neli_wire.specs.Constants.{first_with_int}
 use Rattle.neli_consts_sys.specs.declared.socket.AddrFamily.{AddrFamily}
 use Rattle.neli_consts_sys.specs.declared.socket.AddrFamily.TheVariants.{UnixOrLocal, Inet, Inet6, Ipx, Netlink, X25, Ax25, Atmpvc, Appletalk, Packet, Alg, UnrecognizedConst}
@@ -33,7 +32,3 @@ addr_family_of = first_with_int addr_family_number addr_family_variants Unrecogn
 abbrev pub addr_family_is_unrecognized : AddrFamily → Bool
 addr_family_is_unrecognized (UnrecognizedConst n) = true
 addr_family_is_unrecognized v = false
-
--- what a number is read as has that number
-pub addr_family_of-number : (n : ℤ) → addr_family_number (addr_family_of n) ≡ n
-addr_family_of-number = first_with_int-number addr_family_number addr_family_variants UnrecognizedConst (λ _. refl)

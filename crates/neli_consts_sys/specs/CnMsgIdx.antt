@@ -1,6 +1,5 @@
 -- The numbers of `CnMsgIdx`.
-use Rattle.std.specs.Prelude.{◌≡◌, ℕ, Bool, true, false, List, [], ◌∷◌, refl}
-use Rattle.neli_wire.specs.ConstantLaws.{first_with-number}
+use Rattle.std.specs.Prelude.{ℕ, Bool, true, false, List, [], ◌∷◌}
 use Rattle.neli_wire.specs.Constants.{first_with}
 use Rattle.neli_consts_sys.specs.declared.connector.CnMsgIdx.{CnMsgIdx}
 use Rattle.neli_consts_sys.specs.declared.connector.CnMsgIdx.TheVariants.{Proc, Cifs, W1, V86d, Bb, Dst, Dm, Drbd, Kvp, Vss, UnrecognizedConst}
@@ -32,7 +31,3 @@ cn_msg_idx_of = first_with cn_msg_idx_number cn_msg_idx_variants UnrecognizedCon
 abbrev pub cn_msg_idx_is_unrecognized : CnMsgIdx → Bool
 cn_msg_idx_is_unrecognized (UnrecognizedConst n) = true
 cn_msg_idx_is_unrecognized v = false
-
--- what a number is read as has that number
-pub cn_msg_idx_of-number : (n : ℕ) → cn_msg_idx_number (cn_msg_idx_of n) ≡ n
-cn_msg_idx_of-number = first_with-number cn_msg_idx_number cn_msg_idx_variants UnrecognizedConst (λ _. refl)

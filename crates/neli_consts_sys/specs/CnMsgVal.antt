@@ -1,6 +1,5 @@
 -- The numbers of `CnMsgVal`.
-use Rattle.std.specs.Prelude.{◌≡◌, ℕ, Bool, true, false, List, [], ◌∷◌, refl}
-use Rattle.neli_wire.specs.ConstantLaws.{first_with-number}
+use Rattle.std.specs.Prelude.{ℕ, Bool, true, false, List, [], ◌∷◌}
 use Rattle.neli_wire.specs.Constants.{first_with}
 use Rattle.neli_consts_sys.specs.declared.connector.CnMsgVal.{CnMsgVal}
 use Rattle.neli_consts_sys.specs.declared.connector.CnMsgVal.TheVariants.{Proc, Cifs, W1, V86dUvesafb, Dst, DmUserspaceLog, Drbd, Kvp, Vss, UnrecognizedConst}
@@ -31,7 +30,3 @@ cn_msg_val_of = first_with cn_msg_val_number cn_msg_val_variants UnrecognizedCon
 abbrev pub cn_msg_val_is_unrecognized : CnMsgVal → Bool
 cn_msg_val_is_unrecognized (UnrecognizedConst n) = true
 cn_msg_val_is_unrecognized v = false
-
--- what a number is read as has that number
-pub cn_msg_val_of-number : (n : ℕ) → cn_msg_val_number (cn_msg_val_of n) ≡ n
-cn_msg_val_of-number = first_with-number cn_msg_val_number cn_msg_val_variants UnrecognizedConst (λ _. refl)

@@ -1,6 +1,5 @@
 -- The numbers of `LogCmd`.
-use Rattle.std.specs.Prelude.{◌≡◌, ℕ, Bool, true, false, List, [], ◌∷◌, refl}
-use Rattle.neli_wire.specs.ConstantLaws.{first_with-number}
+use Rattle.std.specs.Prelude.{ℕ, Bool, true, false, List, [], ◌∷◌}
 use Rattle.neli_wire.specs.Constants.{first_with}
 use Rattle.neli_consts_sys.specs.declared.netfilter.LogCmd.{LogCmd}
 use Rattle.neli_consts_sys.specs.declared.netfilter.LogCmd.TheVariants.{Bind, Unbind, PfBind, PfUnbind, UnrecognizedConst}
@@ -26,7 +25,3 @@ log_cmd_of = first_with log_cmd_number log_cmd_variants UnrecognizedConst
 abbrev pub log_cmd_is_unrecognized : LogCmd → Bool
 log_cmd_is_unrecognized (UnrecognizedConst n) = true
 log_cmd_is_unrecognized v = false
-
--- what a number is read as has that number
-pub log_cmd_of-number : (n : ℕ) → log_cmd_number (log_cmd_of n) ≡ n
-log_cmd_of-number = first_with-number log_cmd_number log_cmd_variants UnrecognizedConst (λ _. refl)

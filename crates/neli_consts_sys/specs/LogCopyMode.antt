@@ -1,6 +1,5 @@
 -- The numbers of `LogCopyMode`.
-use Rattle.std.specs.Prelude.{◌≡◌, ℕ, Bool, true, false, List, [], ◌∷◌, refl}
-use Rattle.neli_wire.specs.ConstantLaws.{first_with-number}
+use Rattle.std.specs.Prelude.{ℕ, Bool, true, false, List, [], ◌∷◌}
 use Rattle.neli_wire.specs.Constants.{first_with}
 use Rattle.neli_consts_sys.specs.declared.netfilter.LogCopyMode.{LogCopyMode}
 use Rattle.neli_consts_sys.specs.declared.netfilter.LogCopyMode.TheVariants.{None, Meta, Packet, UnrecognizedConst}
@@ -25,7 +24,3 @@ log_copy_mode_of = first_with log_copy_mode_number log_copy_mode_variants Unreco
 abbrev pub log_copy_mode_is_unrecognized : LogCopyMode → Bool
 log_copy_mode_is_unrecognized (UnrecognizedConst n) = true
 log_copy_mode_is_unrecognized v = false
-
--- what a number is read as has that number
-pub log_copy_mode_of-number : (n : ℕ) → log_copy_mode_number (log_copy_mode_of n) ≡ n
-log_copy_mode_of-number = first_with-number log_copy_mode_number log_copy_mode_variants UnrecognizedConst (λ _. refl)

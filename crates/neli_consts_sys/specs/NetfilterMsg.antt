@@ -1,6 +1,5 @@
 -- The numbers of `NetfilterMsg`.
-use Rattle.std.specs.Prelude.{◌≡◌, ℕ, Bool, true, false, List, [], ◌∷◌, refl}
-use Rattle.neli_wire.specs.ConstantLaws.{first_with-number}
+use Rattle.std.specs.Prelude.{ℕ, Bool, true, false, List, [], ◌∷◌}
 use Rattle.neli_wire.specs.Constants.{first_with}
 use Rattle.neli_consts_sys.specs.declared.netfilter.NetfilterMsg.{NetfilterMsg}
 use Rattle.neli_consts_sys.specs.declared.netfilter.NetfilterMsg.TheVariants.{LogPacket, LogConfig, UnrecognizedConst}
@@ -24,7 +23,3 @@ netfilter_msg_of = first_with netfilter_msg_number netfilter_msg_variants Unreco
 abbrev pub netfilter_msg_is_unrecognized : NetfilterMsg → Bool
 netfilter_msg_is_unrecognized (UnrecognizedConst n) = true
 netfilter_msg_is_unrecognized v = false
-
--- what a number is read as has that number
-pub netfilter_msg_of-number : (n : ℕ) → netfilter_msg_number (netfilter_msg_of n) ≡ n
-netfilter_msg_of-number = first_with-number netfilter_msg_number netfilter_msg_variants UnrecognizedConst (λ _. refl)

@@ -1,6 +1,5 @@
 -- The numbers of `NfLogAttr`.
-use Rattle.std.specs.Prelude.{◌≡◌, ℕ, Bool, true, false, List, [], ◌∷◌, refl}
-use Rattle.neli_wire.specs.ConstantLaws.{first_with-number}
+use Rattle.std.specs.Prelude.{ℕ, Bool, true, false, List, [], ◌∷◌}
 use Rattle.neli_wire.specs.Constants.{first_with}
 use Rattle.neli_consts_sys.specs.declared.netfilter.NfLogAttr.{NfLogAttr}
 use Rattle.neli_consts_sys.specs.declared.netfilter.NfLogAttr.TheVariants.{PacketHdr, Mark, Timestamp, IfindexIndev, IfindexOutdev, IfindexPhyindev, IfindexPhyoutdev, Hwaddr, Payload, Prefix, Uid, Seq, SeqGlobal, Gid, Hwtype, Hwheader, Hwlen, Ct, CtInfo, UnrecognizedConst}
@@ -43,7 +42,3 @@ nf_log_attr_of = first_with nf_log_attr_number nf_log_attr_variants Unrecognized
 abbrev pub nf_log_attr_is_unrecognized : NfLogAttr → Bool
 nf_log_attr_is_unrecognized (UnrecognizedConst n) = true
 nf_log_attr_is_unrecognized v = false
-
--- what a number is read as has that number
-pub nf_log_attr_of-number : (n : ℕ) → nf_log_attr_number (nf_log_attr_of n) ≡ n
-nf_log_attr_of-number = first_with-number nf_log_attr_number nf_log_attr_variants UnrecognizedConst (λ _. refl)

@@ -1,6 +1,5 @@
 -- The numbers of `NfLogCfg`.
-use Rattle.std.specs.Prelude.{◌≡◌, ℕ, Bool, true, false, List, [], ◌∷◌, refl}
-use Rattle.neli_wire.specs.ConstantLaws.{first_with-number}
+use Rattle.std.specs.Prelude.{ℕ, Bool, true, false, List, [], ◌∷◌}
 use Rattle.neli_wire.specs.Constants.{first_with}
 use Rattle.neli_consts_sys.specs.declared.netfilter.NfLogCfg.{NfLogCfg}
 use Rattle.neli_consts_sys.specs.declared.netfilter.NfLogCfg.TheVariants.{Cmd, Mode, NlBufSize, Timeout, QThresh, Flags, UnrecognizedConst}
@@ -28,7 +27,3 @@ nf_log_cfg_of = first_with nf_log_cfg_number nf_log_cfg_variants UnrecognizedCon
 abbrev pub nf_log_cfg_is_unrecognized : NfLogCfg → Bool
 nf_log_cfg_is_unrecognized (UnrecognizedConst n) = true
 nf_log_cfg_is_unrecognized v = false
-
--- what a number is read as has that number
-pub nf_log_cfg_of-number : (n : ℕ) → nf_log_cfg_number (nf_log_cfg_of n) ≡ n
-nf_log_cfg_of-number = first_with-number nf_log_cfg_number nf_log_cfg_variants UnrecognizedConst (λ _. refl)

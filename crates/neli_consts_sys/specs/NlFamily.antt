@@ -1,6 +1,5 @@
 -- The numbers of `NlFamily`.
-use Rattle.std.specs.Prelude.{◌≡◌, ℤ, pos, Bool, true, false, List, [], ◌∷◌, refl}
-use Rattle.neli_wire.specs.ConstantLaws.{first_with_int-number}
+use Rattle.std.specs.Prelude.{ℤ, pos, Bool, true, false, List, [], ◌∷◌}
 use Rattle.neli_wire.specs.Constants.{first_with_int}
 use Rattle.neli_consts_sys.specs.declared.socket.NlFamily.{NlFamily}
 use Rattle.neli_consts_sys.specs.declared.socket.NlFamily.TheVariants.{Route, Unused, Usersock, Firewall, SockOrInetDiag, Nflog, Xfrm, Selinux, Iscsi, Audit, FibLookup, Connector, Netfilter, Ip6Fw, Dnrtmsg, KobjectUevent, Generic, Scsitransport, Ecryptfs, Rdma, Crypto, UnrecognizedConst}
@@ -45,7 +44,3 @@ nl_family_of = first_with_int nl_family_number nl_family_variants UnrecognizedCo
 abbrev pub nl_family_is_unrecognized : NlFamily → Bool
 nl_family_is_unrecognized (UnrecognizedConst n) = true
 nl_family_is_unrecognized v = false
-
--- what a number is read as has that number
-pub nl_family_of-number : (n : ℤ) → nl_family_number (nl_family_of n) ≡ n
-nl_family_of-number = first_with_int-number nl_family_number nl_family_variants UnrecognizedConst (λ _. refl)

@@ -1,6 +1,5 @@
 -- The numbers of `ProcCnMcastOp`.
-use Rattle.std.specs.Prelude.{◌≡◌, ℕ, Bool, true, false, List, [], ◌∷◌, refl}
-use Rattle.neli_wire.specs.ConstantLaws.{first_with-number}
+use Rattle.std.specs.Prelude.{ℕ, Bool, true, false, List, [], ◌∷◌}
 use Rattle.neli_wire.specs.Constants.{first_with}
 use Rattle.neli_consts_sys.specs.declared.connector.ProcCnMcastOp.{ProcCnMcastOp}
 use Rattle.neli_consts_sys.specs.declared.connector.ProcCnMcastOp.TheVariants.{Listen, Ignore, UnrecognizedConst}
@@ -24,7 +23,3 @@ proc_cn_mcast_op_of = first_with proc_cn_mcast_op_number proc_cn_mcast_op_varian
 abbrev pub proc_cn_mcast_op_is_unrecognized : ProcCnMcastOp → Bool
 proc_cn_mcast_op_is_unrecognized (UnrecognizedConst n) = true
 proc_cn_mcast_op_is_unrecognized v = false
-
--- what a number is read as has that number
-pub proc_cn_mcast_op_of-number : (n : ℕ) → proc_cn_mcast_op_number (proc_cn_mcast_op_of n) ≡ n
-proc_cn_mcast_op_of-number = first_with-number proc_cn_mcast_op_number proc_cn_mcast_op_variants UnrecognizedConst (λ _. refl)

@@ -1,6 +1,5 @@
 -- The numbers of `ProcEventType`.
-use Rattle.std.specs.Prelude.{◌≡◌, ℕ, Bool, true, false, List, [], ◌∷◌, refl}
-use Rattle.neli_wire.specs.ConstantLaws.{first_with-number}
+use Rattle.std.specs.Prelude.{ℕ, Bool, true, false, List, [], ◌∷◌}
 use Rattle.neli_wire.specs.Constants.{first_with}
 use Rattle.neli_consts_sys.specs.declared.connector.ProcEventType.{ProcEventType}
 use Rattle.neli_consts_sys.specs.declared.connector.ProcEventType.TheVariants.{None, Fork, Exec, Uid, Gid, Sid, Ptrace, Comm, NonzeroExit, Coredump, Exit, UnrecognizedConst}
@@ -33,7 +32,3 @@ proc_event_type_of = first_with proc_event_type_number proc_event_type_variants 
 abbrev pub proc_event_type_is_unrecognized : ProcEventType → Bool
 proc_event_type_is_unrecognized (UnrecognizedConst n) = true
 proc_event_type_is_unrecognized v = false
-
--- what a number is read as has that number
-pub proc_event_type_of-number : (n : ℕ) → proc_event_type_number (proc_event_type_of n) ≡ n
-proc_event_type_of-number = first_with-number proc_event_type_number proc_event_type_variants UnrecognizedConst (λ _. refl)

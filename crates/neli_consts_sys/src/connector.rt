@@ -1,10 +1,12 @@
 //! Numbers of the connector.
 
+ghost use Rattle.std.proofs.Common.{rules};
 ghost use Rattle.std.specs.Prelude.{◌≡◌};
-ghost use Rattle.neli_consts_sys.specs.CnMsgIdx.{cn_msg_idx_number, cn_msg_idx_of, cn_msg_idx_of-number, cn_msg_idx_is_unrecognized};
-ghost use Rattle.neli_consts_sys.specs.CnMsgVal.{cn_msg_val_number, cn_msg_val_of, cn_msg_val_of-number, cn_msg_val_is_unrecognized};
-ghost use Rattle.neli_consts_sys.specs.ProcEventType.{proc_event_type_number, proc_event_type_of, proc_event_type_of-number, proc_event_type_is_unrecognized};
-ghost use Rattle.neli_consts_sys.specs.ProcCnMcastOp.{proc_cn_mcast_op_number, proc_cn_mcast_op_of, proc_cn_mcast_op_of-number, proc_cn_mcast_op_is_unrecognized};
+ghost use Rattle.neli_consts_sys.specs.CnMsgIdx.{cn_msg_idx_number, cn_msg_idx_of, cn_msg_idx_is_unrecognized};
+ghost use Rattle.neli_consts_sys.specs.CnMsgVal.{cn_msg_val_number, cn_msg_val_of, cn_msg_val_is_unrecognized};
+ghost use Rattle.neli_consts_sys.specs.ProcEventType.{proc_event_type_number, proc_event_type_of, proc_event_type_is_unrecognized};
+ghost use Rattle.neli_consts_sys.specs.ProcCnMcastOp.{proc_cn_mcast_op_number, proc_cn_mcast_op_of, proc_cn_mcast_op_is_unrecognized};
+ghost use Rattle.neli_wire.specs.laws.Constants.{first_with-number};
 
 use neli_wire::Constant;
 
@@ -105,7 +107,7 @@ impl Constant for CnMsgIdx {
         u32::from(self)
     }
 
-    ghost back_to_number = { λ n _. cn_msg_idx_of-number n };
+    ghost back_to_number = { λ n _. Prim.search (first_with-number, rules) };
 }
 
 /// The second half of who speaks through the connector: `CN_VAL_*`, `CN_W1_VAL` and the like of
@@ -187,7 +189,7 @@ impl Constant for CnMsgVal {
         u32::from(self)
     }
 
-    ghost back_to_number = { λ n _. cn_msg_val_of-number n };
+    ghost back_to_number = { λ n _. Prim.search (first_with-number, rules) };
 }
 
 /// What happened to a process: `PROC_EVENT_*` of `linux/cn_proc.h`. Each is a bit of its own, so
@@ -289,7 +291,7 @@ impl Constant for ProcEventType {
         u32::from(self)
     }
 
-    ghost back_to_number = { λ n _. proc_event_type_of-number n };
+    ghost back_to_number = { λ n _. Prim.search (first_with-number, rules) };
 }
 
 /// What a listener asks of the events of processes: `PROC_CN_MCAST_*` of `linux/cn_proc.h`.
@@ -358,5 +360,5 @@ impl Constant for ProcCnMcastOp {
         u32::from(self)
     }
 
-    ghost back_to_number = { λ n _. proc_cn_mcast_op_of-number n };
+    ghost back_to_number = { λ n _. Prim.search (first_with-number, rules) };
 }

@@ -27,14 +27,11 @@ macro_rules! flag_list {
     };
 }
 
-#[cfg(test)]
-mod calls;
 mod connector;
+pub mod laws;
 mod msg;
 mod netfilter;
 mod socket;
-#[cfg(test)]
-mod tests;
 
 pub use connector::{CnMsgIdx, CnMsgVal, ProcCnMcastOp, ProcEventType};
 pub use msg::Msg;

@@ -1,11 +1,13 @@
 //! Numbers of netfilter's logging.
 
+ghost use Rattle.std.proofs.Common.{rules};
 ghost use Rattle.std.specs.Prelude.{◌≡◌};
-ghost use Rattle.neli_consts_sys.specs.NfLogAttr.{nf_log_attr_number, nf_log_attr_of, nf_log_attr_of-number, nf_log_attr_is_unrecognized};
-ghost use Rattle.neli_consts_sys.specs.NfLogCfg.{nf_log_cfg_number, nf_log_cfg_of, nf_log_cfg_of-number, nf_log_cfg_is_unrecognized};
-ghost use Rattle.neli_consts_sys.specs.NetfilterMsg.{netfilter_msg_number, netfilter_msg_of, netfilter_msg_of-number, netfilter_msg_is_unrecognized};
-ghost use Rattle.neli_consts_sys.specs.LogCmd.{log_cmd_number, log_cmd_of, log_cmd_of-number, log_cmd_is_unrecognized};
-ghost use Rattle.neli_consts_sys.specs.LogCopyMode.{log_copy_mode_number, log_copy_mode_of, log_copy_mode_of-number, log_copy_mode_is_unrecognized};
+ghost use Rattle.neli_consts_sys.specs.NfLogAttr.{nf_log_attr_number, nf_log_attr_of, nf_log_attr_is_unrecognized};
+ghost use Rattle.neli_consts_sys.specs.NfLogCfg.{nf_log_cfg_number, nf_log_cfg_of, nf_log_cfg_is_unrecognized};
+ghost use Rattle.neli_consts_sys.specs.NetfilterMsg.{netfilter_msg_number, netfilter_msg_of, netfilter_msg_is_unrecognized};
+ghost use Rattle.neli_consts_sys.specs.LogCmd.{log_cmd_number, log_cmd_of, log_cmd_is_unrecognized};
+ghost use Rattle.neli_consts_sys.specs.LogCopyMode.{log_copy_mode_number, log_copy_mode_of, log_copy_mode_is_unrecognized};
+ghost use Rattle.neli_wire.specs.laws.Constants.{first_with-number};
 
 use neli_wire::Constant;
 
@@ -140,7 +142,7 @@ impl Constant for NfLogAttr {
         u16::from(self)
     }
 
-    ghost back_to_number = { λ n _. nf_log_attr_of-number n };
+    ghost back_to_number = { λ n _. Prim.search (first_with-number, rules) };
 }
 
 /// Attributes of a logging configuration: `NFULA_CFG_*` of `linux/netfilter/nfnetlink_log.h`.
@@ -224,7 +226,7 @@ impl Constant for NfLogCfg {
         u16::from(self)
     }
 
-    ghost back_to_number = { λ n _. nf_log_cfg_of-number n };
+    ghost back_to_number = { λ n _. Prim.search (first_with-number, rules) };
 }
 
 /// Types of logging messages: the subsystem `NFNL_SUBSYS_ULOG` (4) in the high byte and
@@ -294,7 +296,7 @@ impl Constant for NetfilterMsg {
         u16::from(self)
     }
 
-    ghost back_to_number = { λ n _. netfilter_msg_of-number n };
+    ghost back_to_number = { λ n _. Prim.search (first_with-number, rules) };
 }
 
 /// Commands of a logging configuration: `NFULNL_CFG_CMD_*` of `linux/netfilter/nfnetlink_log.h`.
@@ -369,7 +371,7 @@ impl Constant for LogCmd {
         u8::from(self)
     }
 
-    ghost back_to_number = { λ n _. log_cmd_of-number n };
+    ghost back_to_number = { λ n _. Prim.search (first_with-number, rules) };
 }
 
 /// How much of each packet is logged: `NFULNL_COPY_*` of `linux/netfilter/nfnetlink_log.h`.
@@ -441,5 +443,5 @@ impl Constant for LogCopyMode {
         u8::from(self)
     }
 
-    ghost back_to_number = { λ n _. log_copy_mode_of-number n };
+    ghost back_to_number = { λ n _. Prim.search (first_with-number, rules) };
 }

@@ -1,8 +1,10 @@
 //! Families of sockets.
 
+ghost use Rattle.std.proofs.Common.{rules};
 ghost use Rattle.std.specs.Prelude.{◌≡◌};
-ghost use Rattle.neli_consts_sys.specs.AddrFamily.{addr_family_number, addr_family_of, addr_family_of-number, addr_family_is_unrecognized};
-ghost use Rattle.neli_consts_sys.specs.NlFamily.{nl_family_number, nl_family_of, nl_family_of-number, nl_family_is_unrecognized};
+ghost use Rattle.neli_consts_sys.specs.AddrFamily.{addr_family_number, addr_family_of, addr_family_is_unrecognized};
+ghost use Rattle.neli_consts_sys.specs.NlFamily.{nl_family_number, nl_family_of, nl_family_is_unrecognized};
+ghost use Rattle.neli_wire.specs.laws.Constants.{first_with_int-number};
 
 use neli_wire::Constant;
 
@@ -102,7 +104,7 @@ impl Constant for AddrFamily {
         i32::from(self)
     }
 
-    ghost back_to_number = { λ n _. addr_family_of-number n };
+    ghost back_to_number = { λ n _. Prim.search (first_with_int-number, rules) };
 }
 
 /// Netlink's families, the protocols of its sockets: `NETLINK_*` of `linux/netlink.h`.
@@ -233,5 +235,5 @@ impl Constant for NlFamily {
         i32::from(self)
     }
 
-    ghost back_to_number = { λ n _. nl_family_of-number n };
+    ghost back_to_number = { λ n _. Prim.search (first_with_int-number, rules) };
 }

@@ -1,0 +1,37 @@
+//! Flags as sets.
+
+use bitflags::Flags;
+use neli_consts::NlmF;
+use neli_consts_rtf::Ntf;
+use neli_wire::{Cursor, FromBytes, ToBytes};
+use std::test::Fail;
+
+// 0x300 is two bits, and each of the two is a flag too.
+#[test]
+fn flags_of_two_bits(rt: HostRuntime) {
+    let rows = [
+        ("a difference", NlmF::DUMP - NlmF::ROOT, 0x200),
+        ("a complement", !NlmF::empty(), 0xf3f),
+        ("bits without a name", NlmF::from(0xf0c0), 0),
+        ("a union", NlmF::REQUEST | NlmF::DUMP, 0x301),
+    ];
+    for (name, flags, bits) in rows {
+        assert_eq!(rt; flags.bits(), bits, "{name}");
+    }
+    for (bits, dumps) in [(0x300, true), (0x100, false), (0x200, false), (0x704, true)] {
+        assert_eq!(rt; NlmF::from(bits).contains(NlmF::DUMP), dumps, "at {bits}");
+    }
+}
+
+// 0x40 has no name among the flags of neighbours.
+#[test]
+fn bits_without_a_name(rt: HostRuntime) -> Result<(), Fail> {
+    assert_eq!(rt; Ntf::from(0xff).bits(), 0xbf);
+    let mut cursor = Cursor::new(b"\xff");
+    let read = Ntf::from_bytes(rt.alloc(), &mut cursor)?;
+    assert_eq!(rt; read.bits(), 0xff);
+    let mut bytes = Vec::new(rt.alloc());
+    read.to_bytes(&mut bytes)?;
+    assert_eq!(rt; bytes.as_slice(), b"\xff".as_slice());
+    Ok(())
+}

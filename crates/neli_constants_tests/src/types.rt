@@ -1,0 +1,74 @@
+//! The traits over the tables: the number of a type, and the type of a number.
+
+use neli_consts::{
+    Cmd, CtrlCmd, GenlId, Index, LogCfgCmd, LogCfgCmdWrapper, MAX_NL_LENGTH, NlAttrType, NlType,
+    NlTypeWrapper,
+};
+use neli_consts_rt::Rtm;
+use neli_consts_rta::{Frattr, Ifla, RtaType, RtaTypeWrapper};
+use neli_consts_sys::{LogCmd, NfLogAttr};
+use std::process::Abort;
+
+/// The type has this number, and the number means this type.
+fn check_message<T: NlType>(rt: &impl Abort, value: T, number: u16) {
+    assert_eq!(rt; value.to_number(), number, "the number of {value:?}");
+    assert_eq!(rt; T::from_number(number), value, "the type of {number}");
+}
+
+/// The same for a type of attributes.
+fn check_attribute<T: NlAttrType>(rt: &impl Abort, value: T, number: u16) {
+    assert_eq!(rt; value.to_number(), number, "the number of {value:?}");
+    assert_eq!(rt; T::from_number(number), value, "the type of {number}");
+}
+
+/// The same for a type of attributes in routing messages.
+fn check_routing<T: RtaType>(rt: &impl Abort, value: T, number: u16) {
+    assert_eq!(rt; value.to_number(), number, "the number of {value:?}");
+    assert_eq!(rt; T::from_number(number), value, "the type of {number}");
+}
+
+/// The same for a command.
+fn check_command<T: Cmd>(rt: &impl Abort, value: T, number: u8) {
+    assert_eq!(rt; value.to_number(), number, "the number of {value:?}");
+    assert_eq!(rt; T::from_number(number), value, "the command of {number}");
+}
+
+/// The same for a command of the log.
+fn check_logging<T: LogCfgCmd>(rt: &impl Abort, value: T, number: u8) {
+    assert_eq!(rt; value.to_number(), number, "the number of {value:?}");
+    assert_eq!(rt; T::from_number(number), value, "the command of {number}");
+}
+
+#[test]
+fn types_of_messages(rt: HostRuntime) {
+    check_message(&rt, Rtm::Getlink, 18);
+    check_message(&rt, NlTypeWrapper::GenlId(GenlId::Ctrl), 16);
+    check_message(&rt, 65535u16, 65535);
+}
+
+#[test]
+fn types_of_attributes(rt: HostRuntime) {
+    check_attribute(&rt, NfLogAttr::Seq, 12);
+    check_attribute(&rt, Index::from(7), 7);
+    check_attribute(&rt, 7u16, 7);
+}
+
+#[test]
+fn types_in_routing_messages(rt: HostRuntime) {
+    check_routing(&rt, Frattr::Iifname, 3);
+    check_routing(&rt, RtaTypeWrapper::Ifla(Ifla::Ifname), 3);
+    check_routing(&rt, 9u16, 9);
+}
+
+#[test]
+fn commands(rt: HostRuntime) {
+    check_command(&rt, CtrlCmd::Getfamily, 3);
+    check_command(&rt, 255u8, 255);
+    check_logging(&rt, LogCfgCmdWrapper::LogCmd(LogCmd::PfBind), 3);
+    check_logging(&rt, 9u8, 9);
+}
+
+#[test]
+fn size_of_a_buffer(rt: HostRuntime) {
+    assert_eq!(rt; MAX_NL_LENGTH, 32 * 1024);
+}
