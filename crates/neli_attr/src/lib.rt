@@ -8,34 +8,18 @@
 //! - [`GenlAttrHandle`], [`RtAttrHandle`]: lists in which attributes are looked up.
 //! - [`laws`]: what holds of lists, of what is built, and of what is nested.
 //!
-//! [`Buffer`], [`AttrType`], [`Attribute`] and [`BuildError`] are those of `neli_attr_base`. What is read and
-//! written is stated in `specs/` of both crates: `Attributes`, `AttrType`, `Nlattr`, `Rtattr`, `Lookup`.
+//! What is read and written is stated in `specs/`: `Attributes`, `TypeField`, `Builders`, `Nlattr` and
+//! `Rtattr`, and for lists and handles `Handles`, `Lookup` and `Payloads`. Lists and handles are those
+//! of `neli_list`; [`Buffer`], [`AttrType`], [`Attribute`] and [`BuildError`] those of `neli_attr_base`.
 #![tactic(auto)]
 
-mod attr_handle;
-#[cfg(test)]
-mod calls;
-mod genl_buffer;
-mod genl_handle;
 pub mod laws;
-#[cfg(test)]
-mod memory;
 mod nlattr;
-#[cfg(test)]
-mod recorded;
-mod rt_buffer;
-mod rt_handle;
 mod rtattr;
-#[cfg(test)]
-mod tests;
 
-pub use attr_handle::{AttrHandle, AttrSlice};
-pub use genl_buffer::GenlBuffer;
-pub use genl_handle::GenlAttrHandle;
 pub use neli_attr_base::{
     AttrType, AttrTypeBuilder, AttrTypeBuilderError, Attribute, Buffer, BuildError, of,
 };
-pub use nlattr::{Nlattr, NlattrBuilder, NlattrBuilderError};
-pub use rt_buffer::RtBuffer;
-pub use rt_handle::RtAttrHandle;
-pub use rtattr::{Rtattr, RtattrBuilder, RtattrBuilderError};
+pub use neli_list::{AttrHandle, AttrSlice, FrameList, TryClone};
+pub use nlattr::{GenlAttrHandle, GenlBuffer, Nlattr, NlattrBuilder, NlattrBuilderError};
+pub use rtattr::{RtAttrHandle, RtBuffer, Rtattr, RtattrBuilder, RtattrBuilderError};

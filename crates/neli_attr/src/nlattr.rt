@@ -1,32 +1,43 @@
-//! Generic attributes.
+//! Generic attributes, lists of them, and handles in which they are looked up.
 
-ghost use Rattle.std.specs.Prelude.{◌≡◌, ◌+◌, ◌<◌, ℕ, List, Some, None, Ok, IfOk, IfErr, OnOk, OnErr, length, option_map, min};
-ghost use Rattle.neli_wire.specs.Frames.{framed, framed_takes};
-ghost use Rattle.neli_wire_base.specs.Bytes.{Refuses};
-ghost use Rattle.neli_wire.specs.SizeLaws.{padded-rounded};
+ghost use Rattle.std.specs.Prelude.{◌≡◌, ◌+◌, ◌<◌, ℕ, List, Some, None, Ok, IfOk, IfErr, length, map};
+ghost use Rattle.neli_wire.specs.Frames.{frame_at, frame_takes};
+ghost use Rattle.neli_wire.specs.Refusals.{Refuses};
 ghost use Rattle.neli_wire.specs.Sizes.{align};
-ghost use Rattle.neli_wire.specs.Writing.{IsRefused, appended};
-ghost use Rattle.neli_attr_base.specs.Attributes.{Attr, attr, attribute, attribute_payload, attribute_wire};
-ghost use Rattle.neli_attr_base.specs.AttributeLaws.{attribute-local, attribute-no_memory, attribute_wire-length, attribute_wire-no_memory};
-ghost use Rattle.neli_attr.specs.Lookup.{attrs_in};
-ghost use Rattle.neli_attr_base.specs.Builders.{IsWhyNot};
-ghost use Rattle.neli_attr_base.specs.AttrType.{number_of, type_of};
-ghost use Rattle.neli_attr_base.specs.declared.attr_type.AttrType.{AttrType as Field};
-ghost use Rattle.neli_attr.specs.NlattrLaws.{nlattr_equiv, nlattr_per};
-ghost use Rattle.neli_attr.specs.Nlattr.{nlattr_built, nlattr_list, nlattr_texts, with_bytes, nested_with, nlattr_eq, retyped};
+ghost use Rattle.neli_wire.specs.Writing.{RefusesWrite};
+ghost use Rattle.neli_wire.specs.laws.Sizes.{padded-rounded};
+ghost use Rattle.neli_attr.specs.Handles.{attrs_in};
+ghost use Rattle.neli_attr.specs.Payloads.{RefusesAs};
+ghost use Rattle.neli_attr.specs.TypeField.{number_of, type_of};
+ghost use Rattle.neli_attr.specs.AttrType.{AttrType as Field};
+ghost use Rattle.neli_attr.specs.Attributes.{Attr, attr, attribute, attributes_in, nested_payload};
+ghost use Rattle.neli_attr.specs.Builders.{IsWhyNot};
+ghost use Rattle.neli_attr.specs.laws.Attributes.{attribute-local, attribute-no_memory};
+ghost use Rattle.neli_attr.specs.Nlattr.{built_nlattr, nlattr_says, nlattr_wire, with_bytes, nested_with, nlattr_eq, typed_attribute};
+ghost use Rattle.neli_attr.specs.laws.Nlattr.{nlattr_wire-length, nlattr_wire-no_memory, nlattr_wire-zeros, nlattr_equiv, nlattr_per};
 
-use crate::{AttrHandle, AttrType, Attribute, Buffer, BuildError, GenlAttrHandle, GenlBuffer, of};
+use crate::{AttrType, Attribute, Buffer, BuildError, of};
 use neli_attr_base::frame::{
-    HEADER_SIZE, length_with, nested_text, payload_text, read_attribute, size_with,
+    HEADER_SIZE, length_with, nested_bytes, payload_bytes, read_attribute, size_with,
     write_attribute, written,
 };
-use neli_attr_base::read_borrowed;
 use neli_consts::NlAttrType;
+use neli_list::{
+    AttrHandle, FrameList, Retyped, ToTyped, TryClone, TypedPayload, handle_of_payload,
+    read_borrowed,
+};
+use neli_wire::implementing::padded_length;
 use neli_wire::{
     Cursor, DeError, FromBytes, FromBytesWithInput, FromBytesWithInputBorrowed, Header, NoMemory,
-    SerError, Size, ToBytes, UninitializedFieldError, padded_length,
+    SerError, Size, ToBytes, UninitializedFieldError,
 };
 use std::alloc::Global;
+
+/// A list of generic attributes, one after the other, each with its padding.
+pub type GenlBuffer<T, P> = FrameList<Nlattr<T, P>>;
+
+/// A list of generic attributes, owned or lent, in which attributes are looked up by their type.
+pub type GenlAttrHandle<'a, T> = AttrHandle<'a, GenlBuffer<T, Buffer>, Nlattr<T, Buffer>>;
 
 /// An attribute of generic netlink: two flags and a number are its type.
 ///
@@ -63,17 +74,19 @@ impl<T, P> Nlattr<T, P> {
 }
 
 impl<T: NlAttrType> Nlattr<T, Buffer> {
-    /// The attribute with another one behind what its payload holds, marked as nested, and the length computed anew.
+    /// The attribute with another one after what its payload holds, marked as nested, and the length computed anew.
     ///
     /// Refused first with the refusal of the nested attribute; then with a `SerError::Msg` where the
-    /// length passes its field. Want of memory may stand in place of either. A refusal gives the
+    /// length passes its field. Out of memory may stand in place of either. A refusal gives the
     /// attribute up.
     pub fn nest<S: NlAttrType, P: ToBytes>(self, attr: &Nlattr<S, P>) -> Result<Self, SerError>
-        ensures payload { IfOk result (λ a. attribute_payload (appended self.nla_payload (attribute_wire attr.now.nla_len (number_of S.wire_number attr.now.nla_type) (P.wire attr.now.nla_payload))) ≡ Ok a.nla_payload) }
+        ensures payload { let inner = nlattr_wire S.wire_number P.wire attr.now in
+            IfOk result (λ a. nested_payload self.nla_payload inner ≡ Ok a.nla_payload) }
         ensures nested { IfOk result (λ a. a ≡ nested_with self a.nla_payload) }
-        ensures refused { IfErr result (IsRefused (attribute_payload (appended self.nla_payload (attribute_wire attr.now.nla_len (number_of S.wire_number attr.now.nla_type) (P.wire attr.now.nla_payload))))) }
+        ensures refused { let inner = nlattr_wire S.wire_number P.wire attr.now in
+            IfErr result (RefusesWrite (nested_payload self.nla_payload inner)) }
     {
-        let (nla_len, nla_payload) = nested_text(self.nla_payload, attr)?;
+        let (nla_len, nla_payload) = nested_bytes(self.nla_payload, attr)?;
         Ok(Nlattr {
             nla_len,
             nla_type: self.nla_type.as_nested(),
@@ -88,29 +101,31 @@ impl<T: NlAttrType> Nlattr<T, Buffer> {
         &self,
         alloc: Global,
     ) -> Result<GenlAttrHandle<'_, R>, DeError>
-        ensures value { IfOk result (λ h. nlattr_list R.wire_value self.now.nla_payload ≡ Ok (nlattr_texts (attrs_in h))) }
-        ensures refused { IfErr result (Refuses (nlattr_list R.wire_value self.now.nla_payload) (0 < length self.now.nla_payload)) }
+        ensures value { let attrs = attributes_in (type_of R.wire_value) self.now.nla_payload in
+            IfOk result (λ h. attrs ≡ Ok (map nlattr_says (attrs_in h))) }
+        ensures refused { let attrs = attributes_in (type_of R.wire_value) self.now.nla_payload in
+            IfErr result (Refuses attrs (0 < length self.now.nla_payload)) }
     {
-        let attrs: GenlBuffer<R, Buffer> = self.get_payload_as_with_len(alloc)?;
-        Ok(AttrHandle::new(attrs))
+        handle_of_payload(alloc, self.nla_payload.as_ref())
     }
 
     /// The value that the whole payload spells, made of the payload's own bytes: it lives as long as the
-    /// attribute. It takes no memory.
+    /// attribute is lent for this call. It takes no memory.
     ///
     /// Refused as the type's own read refuses these bytes.
     pub fn get_payload_as_with_len_borrowed<'a, R>(&'a self) -> Result<R, R::Error>
     where
         R: FromBytesWithInputBorrowed<'a>,
         ensures value { IfOk result (λ v. R.read self.now.nla_payload ≡ Ok (R.view v)) }
-        ensures refused { IfErr result (λ e. (d : DeError) × R.Error.from_gives d e × Refuses (R.read self.now.nla_payload) ⊥ d) }
+        ensures refused { let reading = R.read self.now.nla_payload in
+            IfErr result (RefusesAs R.Error.from_gives reading) }
     {
-        read_borrowed(&self.nla_payload)
+        read_borrowed(self.nla_payload.as_ref())
     }
 
     /// An equal attribute.
     ///
-    /// Refused only for want of memory.
+    /// Refused only where memory runs out.
     pub fn try_clone(&self) -> Result<Self, NoMemory>
         ensures { IfOk result (λ a. a ≡ self.now) }
     {
@@ -122,14 +137,15 @@ impl<T: NlAttrType> Nlattr<T, Buffer> {
     }
 }
 
-impl Nlattr<u16, Buffer> {
-    /// The same attribute with what the number of its type means.
-    pub(crate) fn retyped<T: NlAttrType>(&self) -> Result<Nlattr<T, Buffer>, NoMemory>
-        ensures { IfOk result (λ a. a ≡ retyped T.wire_value self.now) }
-    {
+impl<T: NlAttrType> ToTyped<T> for Nlattr<u16, Buffer> {
+    type Typed = Nlattr<T, Buffer>;
+
+    ghost typed = { typed_attribute T.wire_value };
+
+    fn to_typed(&self) -> Result<Nlattr<T, Buffer>, NoMemory> {
         Ok(Nlattr {
             nla_len: self.nla_len,
-            nla_type: self.nla_type.retyped(),
+            nla_type: self.nla_type.to_typed(),
             nla_payload: self.nla_payload.try_clone()?,
         })
     }
@@ -151,6 +167,32 @@ impl<T: Eq, P: Eq> Eq for Nlattr<T, P> {
     ghost laws = { nlattr_equiv T.Eq.laws P.Eq.laws };
 }
 
+impl<T: NlAttrType> TryClone for Nlattr<T, Buffer> {
+    fn try_clone(&self) -> Result<Self, NoMemory> {
+        Nlattr::try_clone(self)
+    }
+}
+
+impl<T: NlAttrType> TypedPayload for Nlattr<T, Buffer> {
+    type Kind = T;
+
+    ghost type_of = { λ a. a.nla_type.nla_type };
+
+    ghost bytes_of = { λ a. a.nla_payload };
+
+    fn own_type(&self) -> &T {
+        self.nla_type.nla_type()
+    }
+
+    fn own_payload(&self) -> &[u8] {
+        self.nla_payload.as_ref()
+    }
+}
+
+impl<T: NlAttrType, S: NlAttrType> Retyped<S> for Nlattr<T, Buffer> {
+    type Attr = Nlattr<S, Buffer>;
+}
+
 impl<T: NlAttrType> Attribute<T> for Nlattr<T, Buffer> {
     ghost payload_of = { λ a. a.nla_payload };
 
@@ -161,7 +203,7 @@ impl<T: NlAttrType> Attribute<T> for Nlattr<T, Buffer> {
     }
 
     fn set_payload<P: ToBytes>(&mut self, alloc: Global, payload: &P) -> Result<(), SerError> {
-        let (nla_len, nla_payload) = payload_text(alloc, payload)?;
+        let (nla_len, nla_payload) = payload_bytes(alloc, payload)?;
         self.nla_len = nla_len;
         self.nla_payload = nla_payload;
         Ok(())
@@ -169,11 +211,11 @@ impl<T: NlAttrType> Attribute<T> for Nlattr<T, Buffer> {
 }
 
 impl<T: NlAttrType, P: Size> Size for Nlattr<T, P> {
-    ghost unpadded = { λ a. 4 + P.written a.nla_payload };
+    ghost unpadded_length = { λ a. 4 + P.wire_length a.nla_payload };
 
-    ghost written = { λ a. align (4 + P.written a.nla_payload) };
+    ghost wire_length = { λ a. align (4 + P.wire_length a.nla_payload) };
 
-    ghost rounded = { padded-rounded (λ a. 4 + P.written a.nla_payload) };
+    ghost rounded = { padded-rounded (λ a. 4 + P.wire_length a.nla_payload) };
 
     fn unpadded_size(&self) -> usize {
         size_with(&self.nla_payload)
@@ -185,11 +227,13 @@ impl<T: NlAttrType, P: Size> Size for Nlattr<T, P> {
 }
 
 impl<T: NlAttrType, P: ToBytes> ToBytes for Nlattr<T, P> {
-    ghost wire = { λ a. attribute_wire a.nla_len (number_of T.wire_number a.nla_type) (P.wire a.nla_payload) };
+    ghost wire = { nlattr_wire T.wire_number P.wire };
 
-    ghost length_is = { λ a. attribute_wire-length a.nla_len (number_of T.wire_number a.nla_type) (P.Size.written a.nla_payload) (P.wire a.nla_payload) (P.length_is a.nla_payload) };
+    ghost length_is = { nlattr_wire-length T.wire_number P.wire P.Size.wire_length P.length_is };
 
-    ghost no_memory = { λ a. attribute_wire-no_memory a.nla_len (number_of T.wire_number a.nla_type) (P.wire a.nla_payload) (P.no_memory a.nla_payload) };
+    ghost zeros_after = { nlattr_wire-zeros T.wire_number P.wire P.Size.wire_length P.length_is };
+
+    ghost no_memory = { nlattr_wire-no_memory T.wire_number P.wire P.no_memory };
 
     fn to_bytes(&self, buffer: &mut Vec<u8>) -> Result<(), SerError> {
         write_attribute(self.nla_len, &self.nla_type, &self.nla_payload, buffer)
@@ -201,9 +245,10 @@ impl<T: NlAttrType, P: FromBytesWithInput> FromBytes for Nlattr<T, P> {
 
     ghost view = { λ a. attr a.nla_len a.nla_type (P.view a.nla_payload) };
 
-    ghost read = { framed (attribute (type_of T.wire_value) P.read) };
+    ghost read = { frame_at (attribute (type_of T.wire_value) P.read) };
 
-    ghost takes_memory = { framed_takes (attribute (type_of T.wire_value) P.read) (λ _. P.takes_memory) };
+    ghost takes_memory = { frame_takes (attribute (type_of T.wire_value) P.read)
+        (λ _. P.takes_memory) };
 
     ghost local = { attribute-local (type_of T.wire_value) P.read };
 
@@ -230,7 +275,7 @@ impl<T: NlAttrType, P> Header for Nlattr<T, P> {
 /// Why no generic attribute was built.
 pub type NlattrBuilderError = BuildError<{ of::NLATTR }>;
 
-/// A builder of generic attributes. The payload's wire text becomes the attribute's payload.
+/// A builder of generic attributes. The payload's wire bytes become the attribute's payload.
 #[derive(Debug, Drop)]
 pub struct NlattrBuilder<T, P> {
     nla_type: Option<AttrType<T>>,
@@ -257,7 +302,7 @@ impl<T: NlAttrType, P: ToBytes + Drop> NlattrBuilder<T, P> {
         self
     }
 
-    /// What the payload is the wire text of.
+    /// What the payload is the wire bytes of.
     pub fn nla_payload(mut self, value: P) -> Self
         ensures { result ≡ record self { nla_payload = Some value } }
     {
@@ -267,10 +312,10 @@ impl<T: NlAttrType, P: ToBytes + Drop> NlattrBuilder<T, P> {
 
     /// The attribute of what was given, with the length of its header and payload.
     ///
-    /// Refused where a field is missing, the payload has no wire text, or the length passes 65535.
+    /// Refused where a field is missing, the payload has no wire bytes, or the length passes 65535.
     pub fn build(self, alloc: Global) -> Result<Nlattr<T, Buffer>, NlattrBuilderError>
-        ensures built { IfOk result (λ a. nlattr_built P.wire self ≡ Ok a) }
-        ensures refused { IfErr result (IsWhyNot (nlattr_built P.wire self)) }
+        ensures built { IfOk result (λ a. built_nlattr P.wire self ≡ Ok a) }
+        ensures refused { IfErr result (IsWhyNot (built_nlattr P.wire self)) }
     {
         let nla_type = self
             .nla_type

@@ -1,29 +1,40 @@
-//! Routing attributes.
+//! Routing attributes, lists of them, and handles in which they are looked up.
 
-ghost use Rattle.std.specs.Prelude.{◌≡◌, ◌+◌, ◌<◌, ℕ, List, Some, None, Ok, IfOk, IfErr, OnOk, OnErr, length, option_map, min};
-ghost use Rattle.neli_wire.specs.Frames.{framed, framed_takes};
-ghost use Rattle.neli_wire_base.specs.Bytes.{Refuses};
-ghost use Rattle.neli_wire.specs.SizeLaws.{padded-rounded};
+ghost use Rattle.std.specs.Prelude.{◌≡◌, ◌+◌, ◌<◌, ℕ, List, Some, None, Ok, IfOk, IfErr, length, map};
+ghost use Rattle.neli_wire.specs.Frames.{frame_at, frame_takes};
+ghost use Rattle.neli_wire.specs.Refusals.{Refuses};
 ghost use Rattle.neli_wire.specs.Sizes.{align};
-ghost use Rattle.neli_wire.specs.Writing.{IsRefused, appended};
-ghost use Rattle.neli_attr_base.specs.Attributes.{Attr, attr, attribute, attribute_payload, attribute_wire};
-ghost use Rattle.neli_attr_base.specs.AttributeLaws.{attribute-local, attribute-no_memory, attribute_wire-length, attribute_wire-no_memory};
-ghost use Rattle.neli_attr.specs.Lookup.{attrs_in};
-ghost use Rattle.neli_attr_base.specs.Builders.{IsWhyNot};
-ghost use Rattle.neli_attr.specs.Rtattr.{rtattr_built, rtattr_list, rtattr_texts, with_bytes};
+ghost use Rattle.neli_wire.specs.Writing.{RefusesWrite};
+ghost use Rattle.neli_wire.specs.laws.Sizes.{padded-rounded};
+ghost use Rattle.neli_attr.specs.Handles.{attrs_in};
+ghost use Rattle.neli_attr.specs.Payloads.{RefusesAs};
+ghost use Rattle.neli_attr.specs.Attributes.{Attr, attr, attribute, attributes_in, nested_payload};
+ghost use Rattle.neli_attr.specs.Builders.{IsWhyNot};
+ghost use Rattle.neli_attr.specs.laws.Attributes.{attribute-local, attribute-no_memory};
+ghost use Rattle.neli_attr.specs.Rtattr.{built_rtattr, rtattr_says, rtattr_wire, with_bytes};
+ghost use Rattle.neli_attr.specs.laws.Rtattr.{rtattr_wire-length, rtattr_wire-no_memory, rtattr_wire-zeros};
 
-use crate::{AttrHandle, Attribute, Buffer, BuildError, RtAttrHandle, RtBuffer, of};
+use crate::{Attribute, Buffer, BuildError, of};
 use neli_attr_base::frame::{
-    HEADER_SIZE, length_with, nested_text, payload_text, read_attribute, size_with,
+    HEADER_SIZE, length_with, nested_bytes, payload_bytes, read_attribute, size_with,
     write_attribute, written,
 };
-use neli_attr_base::read_borrowed;
 use neli_consts_rta::RtaType;
+use neli_list::{
+    AttrHandle, FrameList, Retyped, TryClone, TypedPayload, handle_of_payload, read_borrowed,
+};
+use neli_wire::implementing::padded_length;
 use neli_wire::{
     Cursor, DeError, FromBytes, FromBytesWithInput, FromBytesWithInputBorrowed, Header, NoMemory,
-    SerError, Size, ToBytes, UninitializedFieldError, padded_length,
+    SerError, Size, ToBytes, UninitializedFieldError,
 };
 use std::alloc::Global;
+
+/// A list of routing attributes, one after the other, each with its padding.
+pub type RtBuffer<T, P> = FrameList<Rtattr<T, P>>;
+
+/// A list of routing attributes, owned or lent, in which attributes are looked up by their type.
+pub type RtAttrHandle<'a, T> = AttrHandle<'a, RtBuffer<T, Buffer>, Rtattr<T, Buffer>>;
 
 /// An attribute of routing netlink: all 16 bits of its type are the number.
 ///
@@ -60,17 +71,19 @@ impl<T, P> Rtattr<T, P> {
 }
 
 impl<T: RtaType> Rtattr<T, Buffer> {
-    /// The attribute with another one behind what its payload holds, and the length computed anew.
+    /// The attribute with another one after what its payload holds, and the length computed anew.
     ///
     /// Refused first with the refusal of the nested attribute; then with a `SerError::Msg` where the
-    /// length passes its field. Want of memory may stand in place of either. A refusal gives the
+    /// length passes its field. Out of memory may stand in place of either. A refusal gives the
     /// attribute up.
     pub fn nest<S: RtaType, P: ToBytes>(self, attr: &Rtattr<S, P>) -> Result<Self, SerError>
-        ensures payload { IfOk result (λ a. attribute_payload (appended self.rta_payload (attribute_wire attr.now.rta_len (S.wire_number attr.now.rta_type) (P.wire attr.now.rta_payload))) ≡ Ok a.rta_payload) }
+        ensures payload { let inner = rtattr_wire S.wire_number P.wire attr.now in
+            IfOk result (λ a. nested_payload self.rta_payload inner ≡ Ok a.rta_payload) }
         ensures nested { IfOk result (λ a. a ≡ with_bytes self a.rta_payload) }
-        ensures refused { IfErr result (IsRefused (attribute_payload (appended self.rta_payload (attribute_wire attr.now.rta_len (S.wire_number attr.now.rta_type) (P.wire attr.now.rta_payload))))) }
+        ensures refused { let inner = rtattr_wire S.wire_number P.wire attr.now in
+            IfErr result (RefusesWrite (nested_payload self.rta_payload inner)) }
     {
-        let (rta_len, rta_payload) = nested_text(self.rta_payload, attr)?;
+        let (rta_len, rta_payload) = nested_bytes(self.rta_payload, attr)?;
         Ok(Rtattr {
             rta_len,
             rta_type: self.rta_type,
@@ -82,29 +95,31 @@ impl<T: RtaType> Rtattr<T, Buffer> {
     ///
     /// Refused as the payload is refused as a list of attributes.
     pub fn get_attr_handle<R: RtaType>(&self, alloc: Global) -> Result<RtAttrHandle<'_, R>, DeError>
-        ensures value { IfOk result (λ h. rtattr_list R.wire_value self.now.rta_payload ≡ Ok (rtattr_texts (attrs_in h))) }
-        ensures refused { IfErr result (Refuses (rtattr_list R.wire_value self.now.rta_payload) (0 < length self.now.rta_payload)) }
+        ensures value { let attrs = attributes_in R.wire_value self.now.rta_payload in
+            IfOk result (λ h. attrs ≡ Ok (map rtattr_says (attrs_in h))) }
+        ensures refused { let attrs = attributes_in R.wire_value self.now.rta_payload in
+            IfErr result (Refuses attrs (0 < length self.now.rta_payload)) }
     {
-        let attrs: RtBuffer<R, Buffer> = self.get_payload_as_with_len(alloc)?;
-        Ok(AttrHandle::new(attrs))
+        handle_of_payload(alloc, self.rta_payload.as_ref())
     }
 
     /// The value that the whole payload spells, made of the payload's own bytes: it lives as long as the
-    /// attribute. It takes no memory.
+    /// attribute is lent for this call. It takes no memory.
     ///
     /// Refused as the type's own read refuses these bytes.
     pub fn get_payload_as_with_len_borrowed<'a, R>(&'a self) -> Result<R, R::Error>
     where
         R: FromBytesWithInputBorrowed<'a>,
         ensures value { IfOk result (λ v. R.read self.now.rta_payload ≡ Ok (R.view v)) }
-        ensures refused { IfErr result (λ e. (d : DeError) × R.Error.from_gives d e × Refuses (R.read self.now.rta_payload) ⊥ d) }
+        ensures refused { let reading = R.read self.now.rta_payload in
+            IfErr result (RefusesAs R.Error.from_gives reading) }
     {
-        read_borrowed(&self.rta_payload)
+        read_borrowed(self.rta_payload.as_ref())
     }
 
     /// An equal attribute.
     ///
-    /// Refused only for want of memory.
+    /// Refused only where memory runs out.
     pub fn try_clone(&self) -> Result<Self, NoMemory>
         ensures { IfOk result (λ a. a ≡ self.now) }
     {
@@ -114,6 +129,32 @@ impl<T: RtaType> Rtattr<T, Buffer> {
             rta_payload: self.rta_payload.try_clone()?,
         })
     }
+}
+
+impl<T: RtaType> TryClone for Rtattr<T, Buffer> {
+    fn try_clone(&self) -> Result<Self, NoMemory> {
+        Rtattr::try_clone(self)
+    }
+}
+
+impl<T: RtaType> TypedPayload for Rtattr<T, Buffer> {
+    type Kind = T;
+
+    ghost type_of = { λ a. a.rta_type };
+
+    ghost bytes_of = { λ a. a.rta_payload };
+
+    fn own_type(&self) -> &T {
+        &self.rta_type
+    }
+
+    fn own_payload(&self) -> &[u8] {
+        self.rta_payload.as_ref()
+    }
+}
+
+impl<T: RtaType, S: RtaType> Retyped<S> for Rtattr<T, Buffer> {
+    type Attr = Rtattr<S, Buffer>;
 }
 
 impl<T: RtaType> Attribute<T> for Rtattr<T, Buffer> {
@@ -126,7 +167,7 @@ impl<T: RtaType> Attribute<T> for Rtattr<T, Buffer> {
     }
 
     fn set_payload<P: ToBytes>(&mut self, alloc: Global, payload: &P) -> Result<(), SerError> {
-        let (rta_len, rta_payload) = payload_text(alloc, payload)?;
+        let (rta_len, rta_payload) = payload_bytes(alloc, payload)?;
         self.rta_len = rta_len;
         self.rta_payload = rta_payload;
         Ok(())
@@ -134,11 +175,11 @@ impl<T: RtaType> Attribute<T> for Rtattr<T, Buffer> {
 }
 
 impl<T: RtaType, P: Size> Size for Rtattr<T, P> {
-    ghost unpadded = { λ a. 4 + P.written a.rta_payload };
+    ghost unpadded_length = { λ a. 4 + P.wire_length a.rta_payload };
 
-    ghost written = { λ a. align (4 + P.written a.rta_payload) };
+    ghost wire_length = { λ a. align (4 + P.wire_length a.rta_payload) };
 
-    ghost rounded = { padded-rounded (λ a. 4 + P.written a.rta_payload) };
+    ghost rounded = { padded-rounded (λ a. 4 + P.wire_length a.rta_payload) };
 
     fn unpadded_size(&self) -> usize {
         size_with(&self.rta_payload)
@@ -150,11 +191,13 @@ impl<T: RtaType, P: Size> Size for Rtattr<T, P> {
 }
 
 impl<T: RtaType, P: ToBytes> ToBytes for Rtattr<T, P> {
-    ghost wire = { λ a. attribute_wire a.rta_len (T.wire_number a.rta_type) (P.wire a.rta_payload) };
+    ghost wire = { rtattr_wire T.wire_number P.wire };
 
-    ghost length_is = { λ a. attribute_wire-length a.rta_len (T.wire_number a.rta_type) (P.Size.written a.rta_payload) (P.wire a.rta_payload) (P.length_is a.rta_payload) };
+    ghost length_is = { rtattr_wire-length T.wire_number P.wire P.Size.wire_length P.length_is };
 
-    ghost no_memory = { λ a. attribute_wire-no_memory a.rta_len (T.wire_number a.rta_type) (P.wire a.rta_payload) (P.no_memory a.rta_payload) };
+    ghost zeros_after = { rtattr_wire-zeros T.wire_number P.wire P.Size.wire_length P.length_is };
+
+    ghost no_memory = { rtattr_wire-no_memory T.wire_number P.wire P.no_memory };
 
     fn to_bytes(&self, buffer: &mut Vec<u8>) -> Result<(), SerError> {
         write_attribute(self.rta_len, &self.rta_type, &self.rta_payload, buffer)
@@ -166,9 +209,9 @@ impl<T: RtaType, P: FromBytesWithInput> FromBytes for Rtattr<T, P> {
 
     ghost view = { λ a. attr a.rta_len a.rta_type (P.view a.rta_payload) };
 
-    ghost read = { framed (attribute T.wire_value P.read) };
+    ghost read = { frame_at (attribute T.wire_value P.read) };
 
-    ghost takes_memory = { framed_takes (attribute T.wire_value P.read) (λ _. P.takes_memory) };
+    ghost takes_memory = { frame_takes (attribute T.wire_value P.read) (λ _. P.takes_memory) };
 
     ghost local = { attribute-local T.wire_value P.read };
 
@@ -195,7 +238,7 @@ impl<T: RtaType, P> Header for Rtattr<T, P> {
 /// Why no routing attribute was built.
 pub type RtattrBuilderError = BuildError<{ of::RTATTR }>;
 
-/// A builder of routing attributes. The payload's wire text becomes the attribute's payload.
+/// A builder of routing attributes. The payload's wire bytes become the attribute's payload.
 #[derive(Debug, Drop)]
 pub struct RtattrBuilder<T, P> {
     rta_type: Option<T>,
@@ -222,7 +265,7 @@ impl<T: RtaType, P: ToBytes + Drop> RtattrBuilder<T, P> {
         self
     }
 
-    /// What the payload is the wire text of.
+    /// What the payload is the wire bytes of.
     pub fn rta_payload(mut self, value: P) -> Self
         ensures { result ≡ record self { rta_payload = Some value } }
     {
@@ -232,10 +275,10 @@ impl<T: RtaType, P: ToBytes + Drop> RtattrBuilder<T, P> {
 
     /// The attribute of what was given, with the length of its header and payload.
     ///
-    /// Refused where a field is missing, the payload has no wire text, or the length passes 65535.
+    /// Refused where a field is missing, the payload has no wire bytes, or the length passes 65535.
     pub fn build(self, alloc: Global) -> Result<Rtattr<T, Buffer>, RtattrBuilderError>
-        ensures built { IfOk result (λ a. rtattr_built P.wire self ≡ Ok a) }
-        ensures refused { IfErr result (IsWhyNot (rtattr_built P.wire self)) }
+        ensures built { IfOk result (λ a. built_rtattr P.wire self ≡ Ok a) }
+        ensures refused { IfErr result (IsWhyNot (built_rtattr P.wire self)) }
     {
         let rta_type = self
             .rta_type

@@ -1,12 +1,11 @@
 -- Attributes: a header of four bytes, which are the length of the whole and the type, then a payload, and padding to four bytes.
 use Rattle.std.specs.Prelude.{ℕ, ◌+◌, List, codes, length, Result, Ok, Err, nat_lt, if◌then◌else◌}
 use Rattle.byteorder.specs.Endian.{little_bytes}
-use Rattle.neli_wire_base.specs.declared.errors.DeError.{DeError}
-use Rattle.neli_wire_base.specs.declared.errors.SerError.TheVariants.{Msg}
-use Rattle.neli_wire.specs.Frames.{Layout, number_in, header_then, header_then_takes}
-use Rattle.neli_wire_base.specs.Bytes.{Reading}
-use Rattle.neli_wire.specs.Reading.{◌>>=◌, number_at, number_as}
-use Rattle.neli_wire.specs.Writing.{Wire, ◌+++◌, padded}
+use Rattle.neli_wire.specs.DeError.{DeError}
+use Rattle.neli_wire.specs.SerError.TheVariants.{Msg}
+use Rattle.neli_wire.specs.Frames.{Layout, frame_at, number_in}
+use Rattle.neli_wire.specs.Writing.{Wire, ◌+++◌, append_wire, pad_wire}
+use Rattle.neli_wire.specs.laws.Elements.{elements}
 
 -- what a header says: the length of the attribute without its padding, and the type
 pub record Head (K : Type 0) : Type 0 where
@@ -30,30 +29,23 @@ attribute kind_of payload_of = record {
   payload_of = λ _. payload_of;
 }
 
--- the bytes of an attribute with its padding, by its length, the number of its type and the payload's text
+-- the bytes of an attribute with its padding, by its length, the number of its type and the payload's wire bytes
 abbrev pub attribute_wire : ℕ → ℕ → Wire → Wire
-attribute_wire len kind payload = padded ((Ok (little_bytes 2 len) +++ Ok (little_bytes 2 kind)) +++ payload)
-
--- ---- field by field
-
--- a header
-unfoldable pub head_at : {K : Type 0} → (ℕ → K) → List ℕ → Reading (Head K)
-head_at kind_of s = do
-  len ← number_at 2 s
-  kind ← number_as kind_of len.1
-  Ok (record { len = len.0; kind = kind.0 }, kind.1)
-
--- a header, and then what it states
-unfoldable pub attribute_at : {K V : Type 0} → (ℕ → K) → (List ℕ → Result V DeError) → List ℕ → Reading (Attr K V)
-attribute_at kind_of payload_of = header_then (head_at kind_of) (λ head. head.len) 4 (λ _. payload_of)
-
--- where the payload is there, and reading it takes memory
-unfoldable pub attribute_takes : {K : Type 0} → (ℕ → K) → (List ℕ → Type 0) → List ℕ → Type 0
-attribute_takes kind_of takes = header_then_takes (head_at kind_of) (λ head. head.len) 4 (λ _. takes)
+attribute_wire len kind payload = pad_wire ((Ok (little_bytes 2 len) +++ Ok (little_bytes 2 kind)) +++ payload)
 
 -- ---- payloads
 
--- the text of a payload, which leaves room for the header in a length of 16 bits
+-- the wire bytes of a payload, which leave room for the header in a length of 16 bits
 abbrev pub attribute_payload : Wire → Wire
 attribute_payload (Ok bytes) = if nat_lt 65535 (4 + length bytes) then Err (Msg (codes "Length does not fit its field")) else Ok bytes
 attribute_payload (Err e) = Err e
+
+-- the payload with an attribute's bytes after it, which leaves room for the header in the same way
+abbrev pub nested_payload : List ℕ → Wire → Wire
+nested_payload old inner = attribute_payload (append_wire old inner)
+
+-- ---- lists of attributes
+
+-- the attributes that bytes list, each with a payload of bytes
+abbrev pub attributes_in : {K : Type 0} → (ℕ → K) → List ℕ → Result (List (Attr K (List ℕ))) DeError
+attributes_in kind_of = elements (frame_at (attribute kind_of (λ bytes. Ok bytes)))

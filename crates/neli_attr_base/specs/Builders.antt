@@ -1,9 +1,9 @@
 -- Builders: what they make of the fields that they were given, or why they make nothing.
 use Rattle.std.specs.Prelude.{◌≡◌, ℕ, ◌+◌, List, codes, length, Option, Some, None, Result, Ok, Err, nat_lt, if◌then◌else◌}
-use Rattle.neli_wire_base.specs.Messages.{uninitialized}
+use Rattle.neli_wire.specs.Messages.{uninitialized}
 use Rattle.neli_wire.specs.Writing.{Wire}
-use Rattle.neli_wire_base.specs.declared.errors.SerError.{SerError}
-use Rattle.neli_wire_base.specs.declared.errors.SerError.TheVariants as ser
+use Rattle.neli_wire.specs.SerError.{SerError}
+use Rattle.neli_wire.specs.SerError.TheVariants as ser
 use Rattle.neli_attr_base.specs.declared.builders.BuildError.{BuildError}
 use Rattle.neli_attr_base.specs.declared.builders.BuildError.TheVariants.{UninitializedField, ValidationError, Memory}
 
@@ -23,9 +23,9 @@ abbrev pub Outcome : Type 0 → Type 0
 Outcome A = Result A Fault
 
 -- a field that was given goes on; one that was not is named
-abbrev pub given : {A B : Type 0} → List ℕ → Option A → (A → Outcome B) → Outcome B
-given name (Some x) next = next x
-given name None next = Err (Missing name)
+abbrev pub require_field : {A B : Type 0} → List ℕ → Option A → (A → Outcome B) → Outcome B
+require_field name (Some x) next = next x
+require_field name None next = Err (Missing name)
 
 -- what is done with a value that can be made
 infixl 10 ◌>>>◌
@@ -33,7 +33,7 @@ abbrev pub ◌>>>◌ : {A B : Type 0} → Outcome A → (A → Outcome B) → Ou
 (Ok x) >>> next = next x
 (Err fault) >>> next = Err fault
 
--- the bytes of a payload, which has a text that leaves room for a header in a length of 16 bits
+-- the bytes of a payload, which leave room for a header in a length of 16 bits
 abbrev pub payload_in : ℕ → Wire → Outcome (List ℕ)
 payload_in header (Ok bytes) = if nat_lt 65535 (header + length bytes) then Err (Invalid (codes "Length does not fit its field")) else Ok bytes
 payload_in header (Err e) = Err (Invalid (codes "Could not convert payload to binary representation"))
@@ -67,6 +67,6 @@ IsInvalid words (ValidationError text) = text.now ≡ words
 IsInvalid words e = ⊥
 
 -- a payload's refusal, passed on
-abbrev pub IsUnwritten : {of : ℕ} → SerError → BuildError of → Type 0
-IsUnwritten ser.Memory e = IsMemory e
-IsUnwritten refusal e = IsInvalid (codes "Could not convert payload to binary representation") e
+abbrev pub IsRefusedPayload : {of : ℕ} → SerError → BuildError of → Type 0
+IsRefusedPayload ser.Memory e = IsMemory e
+IsRefusedPayload refusal e = IsInvalid (codes "Could not convert payload to binary representation") e

@@ -1,6 +1,5 @@
-pub mod AttrType
-pub mod AttrTypeLaws
-pub mod AttributeLaws
+pub mod Builders
+pub mod TypeField
 pub mod Attributes
 pub mod Buffers
-pub mod Builders
+pub mod laws

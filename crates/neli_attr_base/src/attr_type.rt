@@ -1,9 +1,9 @@
 //! The type of a generic attribute, with its two flags.
 
 ghost use Rattle.std.specs.Prelude.{◌≡◌, Ok, IfOk, IfErr, None, Some, true};
-ghost use Rattle.neli_attr_base.specs.AttrType.{attr_type_built, attr_type_eq, number_of, type_of};
+ghost use Rattle.neli_attr_base.specs.TypeField.{built_attr_type, attr_type_eq, number_of, type_of, typed_field};
 ghost use Rattle.neli_attr_base.specs.Builders.{IsWhyNot};
-ghost use Rattle.neli_attr_base.specs.AttrTypeLaws.{attr_type_equiv, attr_type_per, number_of-type_of};
+ghost use Rattle.neli_attr_base.specs.laws.TypeField.{attr_type_equiv, attr_type_per, number_of-type_of};
 
 use crate::{BuildError, of};
 use neli_consts::NlAttrType;
@@ -65,8 +65,8 @@ impl<T> AttrType<T> {
 
 impl AttrType<u16> {
     /// The same flags with what the number means.
-    pub fn retyped<T: NlAttrType>(self) -> AttrType<T>
-        ensures { result ≡ record { nla_nested = self.nla_nested; nla_network_order = self.nla_network_order; nla_type = T.wire_value self.nla_type } }
+    pub fn to_typed<T: NlAttrType>(self) -> AttrType<T>
+        ensures { result ≡ typed_field T.wire_value self }
     {
         AttrType {
             nla_nested: self.nla_nested,
@@ -158,7 +158,11 @@ pub struct AttrTypeBuilder<T> {
 impl<T> Default for AttrTypeBuilder<T> {
     ghost use Rattle.std.specs.Prelude.{◌≡◌, None};
 
-    ghost is_default = { λ b. b ≡ record { nla_nested = None; nla_network_order = None; nla_type = None } };
+    ghost is_default = { λ b. b ≡ record {
+      nla_nested = None;
+      nla_network_order = None;
+      nla_type = None;
+    } };
 
     fn default() -> AttrTypeBuilder<T> {
         AttrTypeBuilder {
@@ -196,8 +200,9 @@ impl<T: Drop> AttrTypeBuilder<T> {
 
     /// The type field of what was given. Only the type itself can be missing, and it takes no memory.
     pub fn build(self) -> Result<AttrType<T>, AttrTypeBuilderError>
-        ensures built { IfOk result (λ t. attr_type_built self ≡ Ok t) }
-        ensures refused { IfErr result (λ e. (e ≡ BuildError.Memory → ⊥) × IsWhyNot (attr_type_built self) e) }
+        ensures built { IfOk result (λ t. built_attr_type self ≡ Ok t) }
+        ensures refused { IfErr result (IsWhyNot (built_attr_type self)) }
+        ensures no_memory { IfErr result (λ e. e ≡ BuildError.Memory → ⊥) }
     {
         Ok(AttrType {
             nla_nested: self.nla_nested.unwrap_or(false),

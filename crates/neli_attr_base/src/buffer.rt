@@ -5,9 +5,9 @@ ghost use Rattle.std.specs.Borrow.{sem};
 ghost use Rattle.std.specs.Cmp.{partial_equiv_from_equiv};
 ghost use Rattle.std.specs.Cmp.Lexicographic.{pointwise};
 ghost use Rattle.std.proofs.lemmas.Cmp.{nat_list_eq_equiv};
-ghost use Rattle.neli_wire.specs.ReadingLaws.{read-never_short};
-ghost use Rattle.neli_wire.specs.SizeLaws.{unpadded-rounded};
-ghost use Rattle.neli_wire.specs.WritingLaws.{written-length, written-no_memory};
+ghost use Rattle.neli_wire.specs.laws.Reading.{read-never_short};
+ghost use Rattle.neli_wire.specs.laws.Sizes.{unpadded-rounded, unpadded-zeros};
+ghost use Rattle.neli_wire.specs.laws.Writing.{written-length, written-no_memory};
 ghost use Rattle.neli_attr_base.specs.Buffers.{LendsBytes};
 
 use neli_wire::{Cursor, DeError, FromBytesWithInput, NoMemory, SerError, Size, ToBytes};
@@ -41,7 +41,7 @@ impl Buffer {
 
     /// A buffer that holds a copy of these bytes.
     ///
-    /// Refused only for want of memory.
+    /// Refused only where memory runs out.
     pub fn from_slice(alloc: Global, bytes: &[u8]) -> Result<Buffer, NoMemory>
         ensures { IfOk result (λ b. b ≡ bytes.now) }
     {
@@ -52,7 +52,7 @@ impl Buffer {
 
     /// Appends bytes.
     ///
-    /// Refused only for want of memory, and then the buffer is as it was.
+    /// Refused only where memory runs out, and then the buffer is as it was.
     pub fn extend_from_slice(&mut self, bytes: &[u8]) -> Result<(), NoMemory>
         ensures ok { OnOk result (self.new ≡ self.old ++ bytes.now) }
         ensures err { OnErr result (self.new ≡ self.old) }
@@ -92,7 +92,7 @@ impl Buffer {
 
     /// A buffer that holds the same bytes.
     ///
-    /// Refused only for want of memory.
+    /// Refused only where memory runs out.
     pub fn try_clone(&self) -> Result<Buffer, NoMemory>
         ensures { IfOk result (λ b. b ≡ self.now) }
     {
@@ -142,9 +142,9 @@ impl Eq for Buffer {
 }
 
 impl Size for Buffer {
-    ghost unpadded = { length };
+    ghost unpadded_length = { length };
 
-    ghost written = { length };
+    ghost wire_length = { length };
 
     ghost rounded = { unpadded-rounded length };
 
@@ -160,7 +160,10 @@ impl Size for Buffer {
 impl ToBytes for Buffer {
     ghost wire = { λ bytes. Ok bytes };
 
-    ghost length_is = { λ bytes text e. written-length bytes text (length bytes) refl e };
+    ghost length_is = { λ held bytes e. written-length held bytes (length held) refl e };
+
+    ghost zeros_after = { λ held bytes e. unpadded-zeros (length held) bytes
+        (written-length held bytes (length held) refl e) };
 
     ghost no_memory = { written-no_memory };
 

@@ -2,7 +2,7 @@
 //!
 //! A builder is a struct of the fields that were given so far. `default` gives none, takes no memory, and
 //! each setter gives one by value. `build` names the first field that is missing, in the order of the
-//! fields; then come the faults of the value that they would make; then want of memory, which may also
+//! fields; then come the faults of the value that they would make; then out of memory, which may also
 //! stand in place of such a fault.
 
 ghost use Rattle.std.specs.Prelude.{◌≡◌, Some, codes};
@@ -83,7 +83,7 @@ impl<const OF: u8> Error for BuildError<OF> {}
 
 impl<const OF: u8> From<UninitializedFieldError> for BuildError<OF> {
     ghost use Rattle.std.specs.Prelude.{◌≡◌};
-    ghost use Rattle.neli_wire_base.specs.Messages.{name_of};
+    ghost use Rattle.neli_wire.specs.Messages.{name_of};
     ghost use Rattle.neli_attr_base.specs.Builders.{IsMissing};
 
     ghost from_gives = { λ error e. IsMissing (name_of error) e };
@@ -94,11 +94,11 @@ impl<const OF: u8> From<UninitializedFieldError> for BuildError<OF> {
 }
 
 impl<const OF: u8> From<SerError> for BuildError<OF> {
-    ghost use Rattle.neli_attr_base.specs.Builders.{IsUnwritten};
+    ghost use Rattle.neli_attr_base.specs.Builders.{IsRefusedPayload};
 
-    ghost from_gives = { IsUnwritten };
+    ghost from_gives = { IsRefusedPayload };
 
-    /// A payload that was not written. Want of memory stays want of memory.
+    /// A payload that was not written. Memory that ran out stays so.
     fn from(error: SerError) -> BuildError<OF> {
         match error {
             SerError::Memory => BuildError::Memory,

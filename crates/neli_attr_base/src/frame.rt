@@ -1,16 +1,17 @@
 //! What both kinds of attributes share: how they are read and written, by the type of their type field.
 
 ghost use Rattle.std.specs.Prelude.{◌≡◌, ◌+◌, ◌<◌, Ok, IfOk, IfErr, OnOk, OnErr, MatchOption, codes, length, min, take};
-ghost use Rattle.neli_wire.specs.Frames.{framed, framed_takes};
-ghost use Rattle.neli_wire_base.specs.Place.{whole};
-ghost use Rattle.neli_wire_base.specs.Bytes.{Refuses};
-ghost use Rattle.neli_wire.specs.Writing.{IsRefused, appended};
-ghost use Rattle.neli_attr_base.specs.Attributes.{attr, attribute, attribute_at, attribute_payload, attribute_takes, attribute_wire};
+ghost use Rattle.neli_wire.specs.Frames.{frame_at, frame_takes};
+ghost use Rattle.neli_wire.specs.Place.{whole};
+ghost use Rattle.neli_wire.specs.Refusals.{Refuses};
+ghost use Rattle.neli_wire.specs.Writing.{RefusesWrite, append_wire};
+ghost use Rattle.neli_attr_base.specs.Attributes.{attr, attribute, attribute_payload, attribute_wire, nested_payload};
+ghost use Rattle.neli_attr_base.specs.laws.Steps.{attribute_at, attribute_takes};
 
 use crate::Buffer;
+use neli_wire::implementing::{pad_from, read_padded_payload, undo_on_refusal};
 use neli_wire::{
     Constant, Cursor, DeError, FromBytes, FromBytesWithInput, MsgError, SerError, Size, ToBytes,
-    pad_from, read_body, undone,
 };
 use std::alloc::Global;
 
@@ -21,20 +22,22 @@ pub const HEADER_SIZE: usize = 4;
 pub type Parts<K, P> = (u16, K, P);
 
 /// Reads an attribute, its header first.
-#[tactic(auto, using(neli_wire::specs::ReadingLaws::refused_first), unfolding(crate::specs::Attributes::head_at, crate::specs::Attributes::attribute_at, crate::specs::Attributes::attribute_takes))]
+#[tactic(auto, using(neli_wire::specs::laws::Reading::refused_first), unfolding(crate::specs::laws::Steps::head_at, crate::specs::laws::Steps::attribute_at, crate::specs::laws::Steps::attribute_takes))]
 fn read_fields<K: Constant<Number = u16>, P: FromBytesWithInput>(
     alloc: Global,
     cursor: &mut Cursor<'_>,
 ) -> Result<Parts<K, P>, DeError>
-    ensures value { IfOk result (λ a. attribute_at K.wire_value P.read cursor.old.rest ≡ Ok (attr a.0 a.1 (P.view a.2), cursor.new.rest)) }
+    ensures value { IfOk result (λ a. attribute_at K.wire_value P.read cursor.old.rest
+        ≡ Ok (attr a.0 a.1 (P.view a.2), cursor.new.rest)) }
     ensures moved { OnOk result (whole cursor.new ≡ whole cursor.old) }
-    ensures refused { IfErr result (Refuses (attribute_at K.wire_value P.read cursor.old.rest) (attribute_takes K.wire_value P.takes_memory cursor.old.rest)) }
+    ensures refused { IfErr result (Refuses (attribute_at K.wire_value P.read cursor.old.rest)
+        (attribute_takes K.wire_value P.takes_memory cursor.old.rest)) }
     ensures unchanged { OnErr result (cursor.new ≡ cursor.old) }
 {
     let mut ahead = cursor.ahead();
     let len = u16::from_bytes(alloc, &mut ahead)?;
     let kind = K::from_bytes(alloc, &mut ahead)?;
-    let payload = read_body(alloc, &mut ahead, HEADER_SIZE, len as usize)?;
+    let payload = read_padded_payload(alloc, &mut ahead, HEADER_SIZE, len as usize)?;
     *cursor = ahead;
     Ok((len, kind, payload))
 }
@@ -44,26 +47,32 @@ pub fn read_attribute<K: Constant<Number = u16>, P: FromBytesWithInput>(
     alloc: Global,
     cursor: &mut Cursor<'_>,
 ) -> Result<Parts<K, P>, DeError>
-    ensures value { IfOk result (λ a. framed (attribute K.wire_value P.read) cursor.old.rest ≡ Ok (attr a.0 a.1 (P.view a.2), cursor.new.rest)) }
+    ensures value { IfOk result (λ a. frame_at (attribute K.wire_value P.read) cursor.old.rest
+        ≡ Ok (attr a.0 a.1 (P.view a.2), cursor.new.rest)) }
     ensures moved { OnOk result (whole cursor.new ≡ whole cursor.old) }
-    ensures refused { IfErr result (Refuses (framed (attribute K.wire_value P.read) cursor.old.rest)
-        (framed_takes (attribute K.wire_value P.read) (λ _. P.takes_memory) cursor.old.rest)) }
+    ensures refused { let layout = attribute K.wire_value P.read in
+        IfErr result (Refuses (frame_at layout cursor.old.rest)
+        (frame_takes layout (λ _. P.takes_memory) cursor.old.rest)) }
     ensures unchanged { OnErr result (cursor.new ≡ cursor.old) }
 {
     read_fields(alloc, cursor)
 }
 
-/// Appends an attribute. A refusal leaves some of it behind what was there.
-#[tactic(auto, using(neli_wire::specs::WritingLaws::appended_both, neli_wire::specs::WritingLaws::appended_zeros))]
+/// Appends an attribute. A refusal leaves some of it after what was there.
+#[tactic(auto, using(neli_wire::specs::laws::Writing::append_wire_both, neli_wire::specs::laws::Writing::append_wire_zeros))]
 fn write_fields<K: Constant<Number = u16>, P: ToBytes>(
     len: u16,
     kind: &K,
     payload: &P,
     buffer: &mut Vec<u8>,
 ) -> Result<(), SerError>
-    ensures appended { OnOk result (appended buffer.old.items (attribute_wire len (K.wire_number kind.now) (P.wire payload.now)) ≡ Ok buffer.new.items) }
-    ensures refused { IfErr result (IsRefused (attribute_wire len (K.wire_number kind.now) (P.wire payload.now))) }
-    ensures front { OnErr result (take (length buffer.old.items) buffer.new.items ≡ buffer.old.items) }
+    ensures appended { let wire = attribute_wire len (K.wire_number kind.now)
+        (P.wire payload.now) in
+        OnOk result (append_wire buffer.old.items wire ≡ Ok buffer.new.items) }
+    ensures refused { let wire = attribute_wire len (K.wire_number kind.now) (P.wire payload.now) in
+        IfErr result (RefusesWrite wire) }
+    ensures front { OnErr result
+        (take (length buffer.old.items) buffer.new.items ≡ buffer.old.items) }
 {
     let start = buffer.len();
     len.to_bytes(buffer)?;
@@ -80,20 +89,23 @@ pub fn write_attribute<K: Constant<Number = u16>, P: ToBytes>(
     payload: &P,
     buffer: &mut Vec<u8>,
 ) -> Result<(), SerError>
-    ensures appended { OnOk result (appended buffer.old.items (attribute_wire len (K.wire_number kind.now) (P.wire payload.now)) ≡ Ok buffer.new.items) }
-    ensures refused { IfErr result (IsRefused (attribute_wire len (K.wire_number kind.now) (P.wire payload.now))) }
+    ensures appended { let wire = attribute_wire len (K.wire_number kind.now)
+        (P.wire payload.now) in
+        OnOk result (append_wire buffer.old.items wire ≡ Ok buffer.new.items) }
+    ensures refused { let wire = attribute_wire len (K.wire_number kind.now) (P.wire payload.now) in
+        IfErr result (RefusesWrite wire) }
     ensures unchanged { OnErr result (buffer.new.items ≡ buffer.old.items) }
 {
     let start = buffer.len();
     let outcome = write_fields(len, kind, payload, buffer);
-    undone(buffer, start, outcome)
+    undo_on_refusal(buffer, start, outcome)
 }
 
-/// The wire text of a payload.
-#[tactic(auto, using(crate::specs::AttributeLaws::behind_nothing))]
+/// The wire bytes of a payload.
+#[tactic(auto, using(crate::specs::laws::Attributes::after_nothing))]
 pub fn written<P: ToBytes>(alloc: Global, payload: &P) -> Result<Buffer, SerError>
-    ensures text { IfOk result (λ b. P.wire payload.now ≡ Ok b) }
-    ensures refused { IfErr result (IsRefused (P.wire payload.now)) }
+    ensures bytes { IfOk result (λ b. P.wire payload.now ≡ Ok b) }
+    ensures refused { IfErr result (RefusesWrite (P.wire payload.now)) }
 {
     let mut bytes = Vec::new(alloc);
     payload.to_bytes(&mut bytes)?;
@@ -102,7 +114,8 @@ pub fn written<P: ToBytes>(alloc: Global, payload: &P) -> Result<Buffer, SerErro
 
 /// The length of an attribute with this payload, where it fits its field.
 pub fn length_with(payload: &Buffer) -> Option<u16>
-    ensures { MatchOption result (65535 < 4 + length payload.now) (λ len. len ≡ 4 + length payload.now) }
+    ensures { let whole = 4 + length payload.now in
+        MatchOption result (65535 < whole) (λ len. len ≡ whole) }
 {
     u16::try_from(payload.len().saturating_add(HEADER_SIZE)).ok()
 }
@@ -114,31 +127,35 @@ fn too_long() -> SerError
     SerError::Msg(MsgError::from_static("Length does not fit its field"))
 }
 
-/// The wire text of a payload and the length of an attribute with it.
-pub fn payload_text<P: ToBytes>(alloc: Global, payload: &P) -> Result<(u16, Buffer), SerError>
-    ensures text { IfOk result (λ a. (attribute_payload (P.wire payload.now) ≡ Ok a.1) × (a.0 ≡ 4 + length a.1)) }
-    ensures refused { IfErr result (IsRefused (attribute_payload (P.wire payload.now))) }
+/// The wire bytes of a payload and the length of an attribute with it.
+#[tactic(auto, using(crate::specs::laws::Attributes::refused_payload))]
+pub fn payload_bytes<P: ToBytes>(alloc: Global, payload: &P) -> Result<(u16, Buffer), SerError>
+    ensures bytes { IfOk result (λ a. attribute_payload (P.wire payload.now) ≡ Ok a.1) }
+    ensures length { IfOk result (λ a. a.0 ≡ 4 + length a.1) }
+    ensures refused { IfErr result (RefusesWrite (attribute_payload (P.wire payload.now))) }
 {
-    let text = written(alloc, payload)?;
-    let len = length_with(&text).ok_or(too_long())?;
-    Ok((len, text))
+    let bytes = written(alloc, payload)?;
+    let len = length_with(&bytes).ok_or(too_long())?;
+    Ok((len, bytes))
 }
 
-/// The payload with the wire text of an attribute behind it, and the length of an attribute with that.
-pub fn nested_text<A: ToBytes>(payload: Buffer, attr: &A) -> Result<(u16, Buffer), SerError>
-    ensures text { IfOk result (λ a. (attribute_payload (appended payload (A.wire attr.now)) ≡ Ok a.1) × (a.0 ≡ 4 + length a.1)) }
-    ensures refused { IfErr result (IsRefused (attribute_payload (appended payload (A.wire attr.now)))) }
+/// The payload with the wire bytes of an attribute after it, and the length of an attribute with that.
+#[tactic(auto, using(crate::specs::laws::Attributes::refused_nested))]
+pub fn nested_bytes<A: ToBytes>(payload: Buffer, attr: &A) -> Result<(u16, Buffer), SerError>
+    ensures bytes { IfOk result (λ a. nested_payload payload (A.wire attr.now) ≡ Ok a.1) }
+    ensures length { IfOk result (λ a. a.0 ≡ 4 + length a.1) }
+    ensures refused { IfErr result (RefusesWrite (nested_payload payload (A.wire attr.now))) }
 {
     let mut bytes = Vec::from(payload);
     attr.to_bytes(&mut bytes)?;
-    let text = Buffer::from(bytes);
-    let len = length_with(&text).ok_or(too_long())?;
-    Ok((len, text))
+    let nested = Buffer::from(bytes);
+    let len = length_with(&nested).ok_or(too_long())?;
+    Ok((len, nested))
 }
 
 /// The size of an attribute with this payload, without padding; `usize::MAX` where it is larger.
 pub fn size_with<P: Size>(payload: &P) -> usize
-    ensures { result ≡ min (4 + P.written payload.now) usize.MAX }
+    ensures { result ≡ min (4 + P.wire_length payload.now) usize.MAX }
 {
     payload.written_size().saturating_add(HEADER_SIZE)
 }

@@ -11,13 +11,9 @@ mod attr_type;
 mod attribute;
 mod buffer;
 mod builders;
-#[cfg(test)]
-mod calls;
 pub mod frame;
-#[cfg(test)]
-mod tests;
 
 pub use attr_type::{AttrType, AttrTypeBuilder, AttrTypeBuilderError};
-pub use attribute::{Attribute, read_borrowed};
+pub use attribute::Attribute;
 pub use buffer::Buffer;
 pub use builders::{BuildError, of};

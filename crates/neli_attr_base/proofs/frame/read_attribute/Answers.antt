@@ -1,4 +1,5 @@
-use Rattle.neli_attr_base.specs.AttributeLaws.{attribute_at-is, attribute_takes-is, refuses-same}
+use Rattle.neli_list.specs.laws.Refusals.{refuses-same}
+use Rattle.neli_attr_base.specs.laws.Attributes.{attribute_at-is, attribute_takes-is}
 use Rattle.neli_attr_base.proofs.frame.read_attribute.Goals as goal
 
 pub returns-clause-value : goal.returns-clause-value

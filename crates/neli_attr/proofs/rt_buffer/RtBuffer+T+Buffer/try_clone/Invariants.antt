@@ -1,5 +1,0 @@
-use Rattle.std.proofs.Common.{◌≡◌, take}
-use Rattle.neli_attr.proofs.rt_buffer.RtBuffer+T+Buffer.try_clone.Given as goal
-
-abbrev pub invariant-loop-attr : goal.invariant-loop-attr
-invariant-loop-attr g l = l.attrs.items ≡ take l.attr-index l.attr-items

@@ -1,0 +1,33 @@
+//! Tests of attributes, `neli_attr` and what it re-exports, by its public calls.
+//!
+//! - [`attributes`], [`type_fields`], [`buffers`]: what single values are written as, and what is read.
+//! - [`builders`]: what builders answer. [`lists`], [`lookup`], [`nesting`]: lists of attributes.
+//! - [`recorded_routes`]: attributes of datagrams that were recorded, against what other libraries read there.
+//! - [`readme`]: the README's example. [`out_of_memory`]: each call where an allocation is refused.
+//! - [`support`]: what the tests share.
+//!
+//! Expected bytes are worked out by hand from the kernel's headers, unless a comment names another source.
+#![tactic(auto)]
+
+#[cfg(test)]
+mod attributes;
+#[cfg(test)]
+mod buffers;
+#[cfg(test)]
+mod builders;
+#[cfg(test)]
+mod lists;
+#[cfg(test)]
+mod lookup;
+#[cfg(test)]
+mod nesting;
+#[cfg(test)]
+mod out_of_memory;
+#[cfg(test)]
+mod readme;
+#[cfg(test)]
+mod recorded_routes;
+#[cfg(test)]
+mod support;
+#[cfg(test)]
+mod type_fields;

@@ -1,0 +1,178 @@
+//! Lists of attributes: their calls, and what they are written as and read from.
+
+use crate::support::{assert_written, generic, generic_list, routing, routing_list};
+use neli_attr::{
+    AttrHandle, AttrSlice, Attribute, Buffer, GenlAttrHandle, GenlBuffer, Nlattr, RtAttrHandle,
+    RtBuffer, Rtattr,
+};
+use neli_consts::{CtrlAttr, Index};
+use neli_consts_rta::{Ifa, Rta};
+use neli_wire::{Cursor, DeError, FromBytesWithInput, Size};
+use std::process::Abort;
+use std::test::Fail;
+
+/// An attribute of type 1 with the payload `07 01 09 09`, and one of type 4 with `05`.
+const BYTES: [u8; 16] = [8, 0, 1, 0, 7, 1, 9, 9, 5, 0, 4, 0, 5, 0, 0, 0];
+
+// Sizes of lists, as in neli's own tests of them.
+#[test]
+fn sizes_of_lists(rt: HostRuntime) -> Result<(), Fail> {
+    let alloc = rt.alloc();
+    let mut indexed = GenlBuffer::new(alloc);
+    let mut addresses = RtBuffer::new(alloc);
+    let rows = [(0u8, Ifa::Unspec), (1, Ifa::Address), (2, Ifa::Local)];
+    for (n, kind) in rows {
+        indexed.push(generic(alloc, Index::from(u16::from(n)), n)?)?;
+        addresses.push(routing(alloc, kind, n)?)?;
+    }
+    assert_eq!(rt; indexed.unpadded_size(), 24);
+    assert_eq!(rt; addresses.unpadded_size(), 24);
+    let bytes = [
+        5, 0, 0, 0, 0, 0, 0, 0, 5, 0, 1, 0, 1, 0, 0, 0, 5, 0, 2, 0, 2, 0, 0, 0,
+    ];
+    assert_written(&rt, alloc, &indexed, &bytes)?;
+    assert_written(&rt, alloc, &addresses, &bytes)?;
+    Ok(())
+}
+
+// The calls of a list.
+#[test]
+fn lists(rt: HostRuntime) -> Result<(), Fail> {
+    let alloc = rt.alloc();
+    let bytes = [5, 0, 1, 0, 9, 7, 7, 7, 4, 0, 2, 0];
+    let mut list = generic_list::<u16>(alloc, &bytes)?;
+    assert_eq!(rt; list.len(), 2);
+    assert!(rt; list.try_clone()? == list);
+    for attr in list.iter_mut() {
+        attr.set_payload(alloc, &3u8)?;
+    }
+    for attr in list.as_mut() {
+        attr.set_payload(alloc, &4u16)?;
+    }
+    let lengths: Vec<u16> = list.iter().map(|attr| *attr.nla_len()).collect(alloc)?;
+    assert_eq!(rt; lengths.as_slice(), [6, 6].as_slice());
+    assert_eq!(rt; list.as_ref().len(), 2);
+    let last = list.pop().ok_or("two attributes")?;
+    assert_eq!(rt; *last.nla_type().nla_type(), 2);
+    for attr in list {
+        assert_eq!(rt; *attr.nla_len(), 6);
+    }
+
+    let mut routes = routing_list::<Rta>(alloc, &bytes)?;
+    assert!(rt; !routes.is_empty());
+    for attr in routes.iter_mut() {
+        attr.set_payload(alloc, &5u8)?;
+    }
+    for attr in routes.as_mut() {
+        attr.set_payload(alloc, &6u8)?;
+    }
+    let copy = routes.try_clone()?;
+    assert_written(
+        &rt,
+        alloc,
+        &copy,
+        &[5, 0, 1, 0, 6, 0, 0, 0, 5, 0, 2, 0, 6, 0, 0, 0],
+    )?;
+    assert_eq!(rt; routes.iter().count(), 2);
+    let attrs = vec![in alloc; routing(alloc, Rta::Oif, 1u32)?]?;
+    assert_eq!(rt; RtBuffer::from_list(attrs).as_ref().len(), 1);
+    assert!(rt; routes.pop().is_some());
+    Ok(())
+}
+
+// Faults inside a list are faults of the whole list's bytes.
+#[test]
+fn faults_of_lists(rt: HostRuntime) -> Result<(), Fail> {
+    let rows: [(&[u8], usize); 4] = [
+        (&[8, 0], 2),
+        (&[3, 0, 1, 0], 3),
+        (&[8, 0, 1, 0, 0x61], 4),
+        (&[5, 0, 1, 0, 0x61], 5),
+    ];
+    for (bytes, want) in rows {
+        let read = generic_list::<u16>(rt.alloc(), bytes);
+        assert!(rt;
+            matches!(read, Err(DeError::InvalidInput(n)) if n == want),
+            "at {bytes:?}"
+        );
+    }
+    assert!(rt; generic_list::<u16>(rt.alloc(), &[])?.is_empty());
+    let one = generic_list::<u16>(rt.alloc(), &[5, 0, 1, 0, 0x61, 0xff, 0xff, 0xff])?;
+    assert_eq!(rt; one.len(), 1);
+    for attr in one.iter() {
+        assert_eq!(rt; attr.payload().as_ref(), b"a".as_slice());
+    }
+    Ok(())
+}
+
+/// Asserts that these are the attributes of [`BYTES`].
+fn assert_generic(rt: &impl Abort, attrs: &[Nlattr<CtrlAttr, Buffer>]) {
+    assert_eq!(rt; attrs.len(), 2);
+    assert_eq!(rt; *attrs[0].nla_type().nla_type(), CtrlAttr::FamilyId);
+    assert_eq!(rt; *attrs[1].nla_len(), 5);
+}
+
+/// Asserts that these are the attributes of [`BYTES`].
+fn assert_routing(rt: &impl Abort, attrs: &[Rtattr<Rta, Buffer>]) {
+    assert_eq!(rt; attrs.len(), 2);
+    assert_eq!(rt; *attrs[0].rta_type(), Rta::Dst);
+    assert_eq!(rt; *attrs[1].rta_len(), 5);
+}
+
+/// Asserts that this handle is of the attributes of [`BYTES`].
+fn assert_generic_handle(rt: &impl Abort, handle: &GenlAttrHandle<'_, CtrlAttr>) {
+    assert_generic(rt, handle.get_attrs());
+    assert_eq!(rt; handle.iter().count(), 2);
+}
+
+#[test]
+fn generic_lists_of_attributes(rt: HostRuntime) -> Result<(), Fail> {
+    let alloc = rt.alloc();
+    let read: Vec<Nlattr<CtrlAttr, Buffer>> = Vec::from_bytes_with_input(
+        alloc,
+        &mut Cursor::new(&BYTES),
+        16,
+    )?;
+    let list = GenlBuffer::from_list(read);
+    assert_generic(&rt, list.attr_slice());
+    assert_generic(&rt, list.as_ref());
+    assert_generic_handle(&rt, &AttrHandle::new_borrowed(list.as_ref()));
+    let mut attrs = Vec::new(alloc);
+    for attr in list {
+        attrs.push(attr).expect(&rt, "memory");
+    }
+    let again = GenlBuffer::from(Vec::from(GenlBuffer::from(attrs)));
+    assert_generic(&rt, again.as_ref());
+    assert_eq!(rt; (again.unpadded_size(), again.written_size()), (16, 16));
+    let owned: GenlAttrHandle<'_, CtrlAttr> = AttrHandle::new(again);
+    assert_generic(&rt, owned.get_attrs());
+    Ok(())
+}
+
+/// Asserts that this handle is of the attributes of [`BYTES`].
+fn assert_routing_handle(rt: &impl Abort, handle: &RtAttrHandle<'_, Rta>) {
+    assert_routing(rt, handle.get_attrs());
+    assert_eq!(rt; handle.iter().count(), 2);
+}
+
+#[test]
+fn routing_lists_of_attributes(rt: HostRuntime) -> Result<(), Fail> {
+    let alloc = rt.alloc();
+    let read: Vec<Rtattr<Rta, Buffer>> = Vec::from_bytes_with_input(
+        alloc,
+        &mut Cursor::new(&BYTES),
+        16,
+    )?;
+    let list = RtBuffer::from_list(read);
+    assert_routing(&rt, list.attr_slice());
+    assert_routing(&rt, list.as_ref());
+    assert_routing_handle(&rt, &AttrHandle::new_borrowed(list.as_ref()));
+    let mut attrs = Vec::new(alloc);
+    for attr in list {
+        attrs.push(attr).expect(&rt, "memory");
+    }
+    let again = RtBuffer::from(Vec::from(RtBuffer::from(attrs)));
+    assert_routing(&rt, again.as_ref());
+    assert_eq!(rt; (again.unpadded_size(), again.written_size()), (16, 16));
+    Ok(())
+}

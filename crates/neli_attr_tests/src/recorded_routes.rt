@@ -1,0 +1,381 @@
+//! The attributes of datagrams that were recorded from Linux 6.18, against what libmnl and pyroute2 read
+//! there. Each row is the part of a message after the header of its body.
+
+use neli_attr::{Buffer, GenlBuffer, Nlattr, RtBuffer};
+use neli_consts::{CtrlAttr, CtrlAttrMcastGrp, Index, NlAttrType};
+use neli_consts_rta::{Ifa, Ifla, Rta, RtaType};
+use neli_wire::{Cursor, DeError, FromBytesWithInput, ToBytes};
+use std::alloc::Global;
+use std::process::Abort;
+
+/// The bytes that lines of hexadecimal digits spell.
+fn decoded(rt: &impl Abort, alloc: Global, lines: &[&str]) -> Vec<u8> {
+    let mut bytes = Vec::new(alloc);
+    for line in lines {
+        for pair in line.as_bytes().chunks(2) {
+            if let [high, low] = pair {
+                let high = char::from(*high).to_digit(16).expect(rt, "a digit");
+                let low = char::from(*low).to_digit(16).expect(rt, "a digit");
+                bytes.push((high * 16 + low) as u8).expect(rt, "memory");
+            }
+        }
+    }
+    bytes
+}
+
+/// Attributes as they were recorded, and what libmnl reads: the type without its two upper bits, the
+/// length of the payload, and whether it is marked as nested.
+type Row = (
+    &'static str,
+    &'static [&'static str],
+    &'static [(u16, usize, bool)],
+);
+
+const R0004: Row = (
+    "loopback set up",
+    &[
+        "080001007f000001080002007f000001070003006c6f0000080008008000000014000600ffffffffffffffff86710300",
+        "86710300",
+    ],
+    &[
+        (1, 4, false),
+        (2, 4, false),
+        (3, 3, false),
+        (8, 4, false),
+        (6, 16, false),
+    ],
+);
+
+const R0005: Row = (
+    "loopback set up",
+    &["08000f00ff000000080001007f000000080007007f0000010800040001000000"],
+    &[(15, 4, false), (1, 4, false), (7, 4, false), (4, 4, false)],
+);
+
+const R0017: Row = (
+    "other veth end set up",
+    &[
+        "08000f00fe00000014000100fe8000000000000000000000000000000800060000010000080004000200000024000c00",
+        "00000000000000000000000000000000000000000000000000000000000000000500140000000000",
+    ],
+    &[
+        (15, 4, false),
+        (1, 16, false),
+        (6, 4, false),
+        (4, 4, false),
+        (12, 32, false),
+        (20, 1, false),
+    ],
+);
+
+const R0024: Row = (
+    "veth pair with one end in another namespace",
+    &["0800010000000000"],
+    &[(1, 4, false)],
+);
+
+const R0205: Row = (
+    "v4 lookup of loopback",
+    &[
+        "08000f00ff000000080001007f0000010800040001000000080007007f000001080019000000000024000c0002000000",
+        "00000000000000000000000000000000000000000000000000000000",
+    ],
+    &[
+        (15, 4, false),
+        (1, 4, false),
+        (4, 4, false),
+        (7, 4, false),
+        (25, 4, false),
+        (12, 32, false),
+    ],
+);
+
+const R0277: Row = (
+    "v6 lookup (ext, strict, buffer 8192)",
+    &[
+        "08000f00fe0000001400010020010db80010000000000000000000051400020000000000000000000000000000000000",
+        "1400070020010db800000000000000000000000108000600000400001400050020010db8000000000000000000000009",
+        "080004000300000024000c00020000000000000000000000000000000000000000000000000000000000000005001400",
+        "00000000",
+    ],
+    &[
+        (15, 4, false),
+        (1, 16, false),
+        (2, 16, false),
+        (7, 16, false),
+        (6, 4, false),
+        (5, 16, false),
+        (4, 4, false),
+        (12, 32, false),
+        (20, 1, false),
+    ],
+);
+
+const R0281: Row = (
+    "one neighbour (ext, strict, buffer 8192)",
+    &[
+        "08000100c00002090a000200020000000099000008000400000000001400030010040000100400001004000001000000",
+    ],
+    &[(1, 4, false), (2, 6, false), (4, 4, false), (3, 16, false)],
+);
+
+const R0396: Row = (
+    "route removed, told back",
+    &["08000f00fe000000080001000a32000008000500c00002090800040003000000"],
+    &[(15, 4, false), (1, 4, false), (5, 4, false), (4, 4, false)],
+);
+
+const R0402: Row = (
+    "rule removed, told back",
+    &["08000f00fe00000008000e00ffffffff05001500000000000800060009030000"],
+    &[
+        (15, 4, false),
+        (14, 4, false),
+        (21, 1, false),
+        (6, 4, false),
+    ],
+);
+
+const R0152: Row = (
+    "bridge ports (family 7)",
+    &[
+        "0a000300766574683100000008000a000500000008000400dc05000005001000060000000a0001000200000000020000",
+        "080005000300000050010c80050001000300000006000200200000000800030002000000050004000000000005000500",
+        "000000000500060000000000050007000000000005001c00000000000500080001000000050009000100000005001b00",
+        "0100000005001e000100000005000a000000000005000c00000000000c000d0080000200000000100c000e0080000200",
+        "0000001006000f0001800000060010000000000006001100018000000600120001000000050013000000000005001400",
+        "0000000005001d000000000006001f000000000005002000000000000500230000000000050024000000000005002100",
+        "000000000500270000000000050028000000000005002b00000000000c00150000000000000000000c00160000000000",
+        "000000000c00170000000000000000000500190001000000080025000002000008002600000000000800290005000000",
+        "08002a0000000000",
+    ],
+    &[
+        (3, 6, false),
+        (10, 4, false),
+        (4, 4, false),
+        (16, 1, false),
+        (1, 6, false),
+        (5, 4, false),
+        (12, 332, true),
+    ],
+);
+
+const R0821: Row = (
+    "family tcp_metrics",
+    &[
+        "100002007463705f6d65747269637300060001001b00000008000300010000000800040000000000080005000d000000",
+        "2c000600140001000800010001000000080002000e000000140002000800010002000000080002000b000000",
+    ],
+    &[
+        (2, 12, false),
+        (1, 2, false),
+        (3, 4, false),
+        (4, 4, false),
+        (5, 4, false),
+        (6, 40, false),
+    ],
+);
+
+const R0867: Row = (
+    "family IOAM6 (cap, ext)",
+    &[
+        "0a000200494f414d36000000060001001e00000008000300010000000800040000000000080005000000000090000600",
+        "140001000800010001000000080002000b000000140002000800010002000000080002000b0000001400030008000100",
+        "030000000800020005000000140004000800010004000000080002000b00000014000500080001000500000008000200",
+        "0b0000001400060008000100060000000800020005000000140007000800010007000000080002000b00000024000700",
+        "20000100080002000a00000011000100696f616d365f6576656e747300000000",
+    ],
+    &[
+        (2, 6, false),
+        (1, 2, false),
+        (3, 4, false),
+        (4, 4, false),
+        (5, 4, false),
+        (6, 140, false),
+        (7, 32, false),
+    ],
+);
+
+const R0869: Row = (
+    "family TASKSTATS (cap, ext)",
+    &[
+        "0e0002005441534b5354415453000000060001001f000000080003000100000008000400000000000800050000000000",
+        "2c000600140001000800010001000000080002000b000000140002000800010004000000080002000a000000",
+    ],
+    &[
+        (2, 10, false),
+        (1, 2, false),
+        (3, 4, false),
+        (4, 4, false),
+        (5, 4, false),
+        (6, 40, false),
+    ],
+);
+
+const ROWS: [Row; 13] = [
+    R0004, R0005, R0017, R0024, R0205, R0277, R0281, R0396, R0402, R0152, R0821, R0867, R0869,
+];
+
+/// The generic attributes of a row.
+fn family<T: NlAttrType>(rt: &impl Abort, alloc: Global, row: Row) -> GenlBuffer<T, Buffer> {
+    let bytes = decoded(rt, alloc, row.1);
+    let mut cursor = Cursor::new(bytes.as_slice());
+    GenlBuffer::from_bytes_with_input(alloc, &mut cursor, bytes.len()).expect(rt, "a list")
+}
+
+/// The routing attributes of a row.
+fn routes<T: RtaType>(rt: &impl Abort, alloc: Global, row: Row) -> RtBuffer<T, Buffer> {
+    let bytes = decoded(rt, alloc, row.1);
+    let mut cursor = Cursor::new(bytes.as_slice());
+    RtBuffer::from_bytes_with_input(alloc, &mut cursor, bytes.len()).expect(rt, "a list")
+}
+
+/// Asserts that the list is written as the row's bytes.
+fn assert_written<T: ToBytes>(rt: &impl Abort, alloc: Global, list: &T, row: Row) {
+    let mut again = Vec::new(alloc);
+    list.to_bytes(&mut again).expect(rt, "memory");
+    assert_eq!(rt;
+        again.as_slice(),
+        decoded(rt, alloc, row.1).as_slice(),
+        "{}",
+        row.0
+    );
+}
+
+// Every attribute of each row, as a generic and as a routing one, and written again.
+#[test]
+fn attributes_are_as_libmnl_reads_them(rt: HostRuntime) {
+    let alloc = rt.alloc();
+    for row in ROWS {
+        let (what, _, want) = row;
+        let list = family::<u16>(&rt, alloc, row);
+        let mut seen = Vec::new(alloc);
+        for attr in list.iter() {
+            let field = attr.nla_type();
+            seen.push((
+                *field.nla_type(),
+                attr.nla_payload().len(),
+                *field.nla_nested(),
+            ))
+            .expect(&rt, "memory");
+        }
+        assert_eq!(rt; seen.as_slice(), want, "{what}");
+        assert_written(&rt, alloc, &list, row);
+        let routing = routes::<u16>(&rt, alloc, row);
+        assert_eq!(rt; routing.len(), want.len(), "{what}");
+        assert_written(&rt, alloc, &routing, row);
+    }
+}
+
+// Values that pyroute2 reads in an address.
+#[test]
+fn values_of_an_address(rt: HostRuntime) {
+    let alloc = rt.alloc();
+    let address = routes::<Ifa>(&rt, alloc, R0004);
+    let handle = address.get_attr_handle();
+    let local: &[u8] = handle
+        .get_attr_payload_as_with_len_borrowed(Ifa::Local)
+        .expect(&rt, "an address");
+    assert_eq!(rt; local, [127, 0, 0, 1].as_slice());
+    let label: Result<String, DeError> = handle.get_attr_payload_as_with_len(alloc, Ifa::Label);
+    assert_eq!(rt; label.expect(&rt, "a label").as_str(), "lo");
+    let flags: Result<u32, DeError> = handle.get_attr_payload_as(alloc, Ifa::Flags);
+    assert_eq!(rt; flags.expect(&rt, "flags"), 128);
+}
+
+// Values that pyroute2 reads in a route.
+#[test]
+fn values_of_a_route(rt: HostRuntime) {
+    let alloc = rt.alloc();
+    let route = routes::<Rta>(&rt, alloc, R0277);
+    let handle = route.get_attr_handle();
+    for (kind, want) in [(Rta::Table, 254), (Rta::Priority, 1024), (Rta::Oif, 3)] {
+        let number: Result<u32, DeError> = handle.get_attr_payload_as(alloc, kind);
+        assert_eq!(rt; number.expect(&rt, "a number"), want, "at {kind:?}");
+    }
+    let gateway: &[u8] = handle
+        .get_attr_payload_as_with_len_borrowed(Rta::Gateway)
+        .expect(&rt, "a gateway");
+    assert_eq!(rt;
+        gateway,
+        b"\x20\x01\x0d\xb8\0\0\0\0\0\0\0\0\0\0\0\x09".as_slice()
+    );
+    assert!(rt; handle.get_attribute(Rta::Metrics).is_none());
+}
+
+// Values that pyroute2 reads in a link.
+#[test]
+fn values_of_a_link(rt: HostRuntime) {
+    let alloc = rt.alloc();
+    let port = routes::<Ifla>(&rt, alloc, R0152);
+    let handle = port.get_attr_handle();
+    let name: Result<String, DeError> = handle.get_attr_payload_as_with_len(alloc, Ifla::Ifname);
+    assert_eq!(rt; name.expect(&rt, "a name").as_str(), "veth1");
+    let mtu: Result<u32, DeError> = handle.get_attr_payload_as(alloc, Ifla::Mtu);
+    assert_eq!(rt; mtu.expect(&rt, "a number"), 1500);
+}
+
+// Values that pyroute2 reads in the family IOAM6.
+#[test]
+fn values_of_a_generic_family(rt: HostRuntime) {
+    let alloc = rt.alloc();
+    let family = family::<CtrlAttr>(&rt, alloc, R0867);
+    let handle = family.get_attr_handle();
+    let name: Result<String, DeError> = handle.get_attr_payload_as_with_len(
+        alloc,
+        CtrlAttr::FamilyName,
+    );
+    assert_eq!(rt; name.expect(&rt, "a name").as_str(), "IOAM6");
+    let id: Result<u16, DeError> = handle.get_attr_payload_as(alloc, CtrlAttr::FamilyId);
+    assert_eq!(rt; id.expect(&rt, "a number"), 30);
+}
+
+/// Two numbers of a nested attribute.
+fn numbers(rt: &impl Abort, alloc: Global, attr: &Nlattr<Index, Buffer>) -> (u32, u32) {
+    let fields = attr.get_attr_handle::<u16>(alloc).expect(rt, "a list");
+    let first: Result<u32, DeError> = fields.get_attr_payload_as(alloc, 1);
+    let second: Result<u32, DeError> = fields.get_attr_payload_as(alloc, 2);
+    (first.expect(rt, "a number"), second.expect(rt, "a number"))
+}
+
+// The operations of the family IOAM6, each a number and its flags.
+#[test]
+fn operations_of_a_generic_family(rt: HostRuntime) {
+    let alloc = rt.alloc();
+    let family = family::<CtrlAttr>(&rt, alloc, R0867);
+    let handle = family.get_attr_handle();
+    let operations = handle
+        .get_nested_attributes::<Index>(alloc, CtrlAttr::Ops)
+        .expect(&rt, "operations");
+    let mut seen = Vec::new(alloc);
+    for operation in operations.iter() {
+        seen.push(numbers(&rt, alloc, operation))
+            .expect(&rt, "memory");
+    }
+    let want: [(u32, u32); 7] = [(1, 11), (2, 11), (3, 5), (4, 11), (5, 11), (6, 5), (7, 11)];
+    assert_eq!(rt; seen.as_slice(), want.as_slice());
+}
+
+// The multicast group of the family IOAM6.
+#[test]
+fn groups_of_a_generic_family(rt: HostRuntime) {
+    let alloc = rt.alloc();
+    let family = family::<CtrlAttr>(&rt, alloc, R0867);
+    let handle = family.get_attr_handle();
+    let groups = handle
+        .get_nested_attributes::<Index>(alloc, CtrlAttr::McastGroups)
+        .expect(&rt, "groups");
+    assert_eq!(rt; groups.get_attrs().len(), 1);
+    for group in groups.iter() {
+        let fields = group
+            .get_attr_handle::<CtrlAttrMcastGrp>(alloc)
+            .expect(&rt, "a list");
+        let id: Result<u32, DeError> = fields.get_attr_payload_as(alloc, CtrlAttrMcastGrp::Id);
+        assert_eq!(rt; id.expect(&rt, "a number"), 10);
+        let name: Result<String, DeError> = fields.get_attr_payload_as_with_len(
+            alloc,
+            CtrlAttrMcastGrp::Name,
+        );
+        assert_eq!(rt; name.expect(&rt, "a name").as_str(), "ioam6_events");
+    }
+}
