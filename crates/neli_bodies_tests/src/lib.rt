@@ -1,0 +1,15 @@
+//! Tests of the bodies of all families: a file a family, and the worked examples with each cut of them.
+//!
+//! The recorded datagrams are from Linux 6.18 on x86-64, in network namespaces with virtual links.
+#![tactic(auto)]
+
+#[cfg(test)]
+mod builders;
+#[cfg(test)]
+mod cuts;
+#[cfg(test)]
+mod generic;
+#[cfg(test)]
+mod links;
+#[cfg(test)]
+mod routes;

@@ -1,0 +1,32 @@
+-- Lists of routing attributes with payloads of bytes, which most bodies of routing netlink end in.
+use Rattle.std.specs.Prelude.{ℕ, ◌+◌, List, length, map, sum_by, Result, Ok}
+use Rattle.neli_wire.specs.DeError.{DeError}
+use Rattle.neli_wire.specs.Writing.{Wire, wire_all}
+use Rattle.neli_wire.specs.Sizes.{align}
+use Rattle.neli_attr.specs.Attributes.{Attr, attributes_in}
+use Rattle.neli_attr.specs.declared.rtattr.Rtattr.{Rtattr}
+use Rattle.neli_attr.specs.Rtattr.{rtattr_says, rtattr_wire}
+
+-- a list of attributes as contracts see it
+abbrev pub Attrs : Type 0 → Type 0
+Attrs T = List (Rtattr T (List ℕ))
+
+-- their bytes, one after the other
+abbrev pub attrs_wire : {T : Type 0} → (T → ℕ) → Attrs T → Wire
+attrs_wire number_of = wire_all (rtattr_wire number_of (λ bytes. Ok bytes))
+
+-- how many bytes they are written as
+abbrev pub attrs_size : {T : Type 0} → Attrs T → ℕ
+attrs_size = sum_by (λ a. align (4 + length a.rta_payload))
+
+-- what each of them says
+abbrev pub Says : Type 0 → Type 0
+Says T = List (Attr T (List ℕ))
+
+-- what a list of attributes says
+abbrev pub attrs_say : {T : Type 0} → Attrs T → Says T
+attrs_say = map rtattr_says
+
+-- what a whole byte list lists
+abbrev pub attrs_of : {T : Type 0} → (ℕ → T) → List ℕ → Result (Says T) DeError
+attrs_of = attributes_in

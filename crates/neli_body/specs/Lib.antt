@@ -1,0 +1,5 @@
+pub mod Attributes
+pub mod Bodies
+pub mod Headers
+pub mod RoundTrips
+pub mod laws

@@ -1,0 +1,6 @@
+pub mod CnMsg
+pub mod Genlmsghdr
+pub mod ProcEventHeader
+pub mod ProcEvents
+pub mod View
+pub mod laws

@@ -1,0 +1,3 @@
+pub mod CnMsg
+pub mod Genlmsghdr
+pub mod ProcEvents

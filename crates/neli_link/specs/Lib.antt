@@ -1,0 +1,7 @@
+pub mod Ifaddrmsg
+pub mod Ifinfomsg
+pub mod IflaVlanFlags
+pub mod IflaVlanQosMapping
+pub mod NdaCacheinfo
+pub mod Ndmsg
+pub mod laws

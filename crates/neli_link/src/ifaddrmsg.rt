@@ -1,0 +1,310 @@
+//! Addresses of links.
+
+ghost use Rattle.std.specs.Prelude.{◌≡◌, ◌+◌, ◌<◌, Some, None, Ok, IfOk, IfErr, length};
+ghost use Rattle.neli_wire.specs.laws.Sizes.{unpadded-rounded};
+ghost use Rattle.neli_attr.specs.Builders.{IsWhyNot};
+ghost use Rattle.neli_body.specs.Attributes.{Says, attrs_of, attrs_say, attrs_size, attrs_wire};
+ghost use Rattle.neli_body.specs.Bodies.{body_of, body_takes, body_wire};
+ghost use Rattle.neli_body.specs.laws.Attributes.{with_attributes-length, with_attributes-zeros, with_attributes-no_memory, with_attributes_of-never_short, with_attributes_of-no_memory};
+ghost use Rattle.neli_consts_rta.specs.Ifa.{ifa_number, ifa_of};
+ghost use Rattle.neli_link.specs.Ifaddrmsg.{IsPlainIfaddrmsg, ifaddrmsg_built, ifaddrmsg_bytes, ifaddrmsg_header};
+ghost use Rattle.neli_link.specs.laws.Ifaddrmsg.{ifaddrmsg-reads_back, ifaddrmsg-width, ifaddrmsg-writes_back};
+
+use neli_attr::{Buffer, BuildError, RtBuffer, of};
+use neli_body::numbers::{u8_in, u32_in};
+use neli_body::{FixedHeader, HeaderBytes, read_body, size_of_body, write_body};
+use neli_consts_rt::{RtAddrFamily, RtScope};
+use neli_consts_rta::Ifa;
+use neli_consts_rtf::IfaF;
+use neli_wire::{
+    Constant, Cursor, DeError, FromBytesWithInput, Header, NoMemory, SerError, Size, ToBytes,
+    UninitializedFieldError,
+};
+use std::alloc::Global;
+
+/// The fields of an address before its attributes.
+#[derive(Clone, Copy, Debug)]
+struct IfaddrmsgHeader {
+    ifa_family: RtAddrFamily,
+    ifa_prefixlen: u8,
+    ifa_flags: IfaF,
+    ifa_scope: RtScope,
+    ifa_index: u32,
+}
+
+/// An address of a link: `struct ifaddrmsg` of `linux/if_addr.h`, 8 bytes, and the address's attributes.
+#[derive(Debug, Drop)]
+pub struct Ifaddrmsg {
+    header: IfaddrmsgHeader,
+    rtattrs: RtBuffer<Ifa, Buffer>,
+}
+
+impl Ifaddrmsg {
+    /// The family of the address.
+    pub fn ifa_family(&self) -> &RtAddrFamily
+        ensures { result.now ≡ self.now.header.ifa_family }
+    {
+        &self.header.ifa_family
+    }
+
+    /// How many bits of the address name the network.
+    pub fn ifa_prefixlen(&self) -> &u8
+        ensures { result.now ≡ self.now.header.ifa_prefixlen }
+    {
+        &self.header.ifa_prefixlen
+    }
+
+    /// The flags, with all the bits that were read. `Ifa::Flags` has those above 0x80.
+    pub fn ifa_flags(&self) -> &IfaF
+        ensures { result.now ≡ self.now.header.ifa_flags }
+    {
+        &self.header.ifa_flags
+    }
+
+    /// How far the address is known.
+    pub fn ifa_scope(&self) -> &RtScope
+        ensures { result.now ≡ self.now.header.ifa_scope }
+    {
+        &self.header.ifa_scope
+    }
+
+    /// The number of the link.
+    pub fn ifa_index(&self) -> &u32
+        ensures { result.now ≡ self.now.header.ifa_index }
+    {
+        &self.header.ifa_index
+    }
+
+    /// The attributes.
+    pub fn rtattrs(&self) -> &RtBuffer<Ifa, Buffer>
+        ensures { result.now ≡ self.now.rtattrs }
+    {
+        &self.rtattrs
+    }
+
+    /// An equal address.
+    ///
+    /// Refused only where memory runs out.
+    pub fn try_clone(&self) -> Result<Self, NoMemory>
+        ensures { IfOk result (λ m. m ≡ self.now) }
+    {
+        Ok(Ifaddrmsg {
+            header: self.header,
+            rtattrs: self.rtattrs.try_clone()?,
+        })
+    }
+}
+
+impl FixedHeader for IfaddrmsgHeader {
+    ghost width = { 8 };
+
+    ghost bytes_of = { ifaddrmsg_bytes };
+
+    ghost header_of = { ifaddrmsg_header };
+
+    ghost IsPlain = { IsPlainIfaddrmsg };
+
+    ghost width_is = { ifaddrmsg-width };
+
+    ghost reads_back = { ifaddrmsg-reads_back };
+
+    ghost writes_back = { ifaddrmsg-writes_back };
+
+    fn size() -> usize {
+        8
+    }
+
+    fn spell(&self) -> HeaderBytes {
+        HeaderBytes::new()
+            .u8(self.ifa_family.to_wire())
+            .u8(self.ifa_prefixlen)
+            .u8(self.ifa_flags.to_wire())
+            .u8(self.ifa_scope.to_wire())
+            .u32(self.ifa_index)
+    }
+
+    fn from_spelling(bytes: &[u8]) -> IfaddrmsgHeader {
+        IfaddrmsgHeader {
+            ifa_family: RtAddrFamily::from_wire(u8_in(bytes, 0)),
+            ifa_prefixlen: u8_in(bytes, 1),
+            ifa_flags: IfaF::from_wire(u8_in(bytes, 2)),
+            ifa_scope: RtScope::from_wire(u8_in(bytes, 3)),
+            ifa_index: u32_in(bytes, 4),
+        }
+    }
+}
+
+impl Header for Ifaddrmsg {
+    ghost header = { 8 };
+
+    fn header_size() -> usize {
+        IfaddrmsgHeader::size()
+    }
+}
+
+impl Size for Ifaddrmsg {
+    ghost unpadded_length = { λ m. 8 + attrs_size m.rtattrs };
+
+    ghost wire_length = { λ m. 8 + attrs_size m.rtattrs };
+
+    ghost rounded = { unpadded-rounded (λ m. 8 + attrs_size m.rtattrs) };
+
+    fn unpadded_size(&self) -> usize {
+        size_of_body::<IfaddrmsgHeader, RtBuffer<Ifa, Buffer>>(&self.rtattrs)
+    }
+
+    fn written_size(&self) -> usize {
+        self.unpadded_size()
+    }
+}
+
+impl ToBytes for Ifaddrmsg {
+    ghost wire = { λ m. body_wire (ifaddrmsg_bytes m.header) (attrs_wire ifa_number m.rtattrs) };
+
+    ghost length_is = { λ m. with_attributes-length 8 ifa_number (ifaddrmsg_bytes m.header) m.rtattrs (ifaddrmsg-width m.header) };
+
+    ghost zeros_after = { λ m. with_attributes-zeros 8 ifa_number (ifaddrmsg_bytes m.header) m.rtattrs (ifaddrmsg-width m.header) };
+
+    ghost no_memory = { λ m. with_attributes-no_memory 8 ifa_number (ifaddrmsg_bytes m.header) m.rtattrs };
+
+    fn to_bytes(&self, buffer: &mut Vec<u8>) -> Result<(), SerError> {
+        write_body(&self.header, &self.rtattrs, buffer)
+    }
+}
+
+impl FromBytesWithInput for Ifaddrmsg {
+    ghost use Rattle.neli_link.specs.declared.ifaddrmsg.IfaddrmsgHeader.{IfaddrmsgHeader as Fields};
+    ghost use Rattle.neli_consts_rta.specs.declared.addresses.Ifa.{Ifa as Kind};
+
+    ghost Value = { Fields × Says Kind };
+
+    ghost view = { λ m. (m.header, attrs_say m.rtattrs) };
+
+    ghost read = { body_of 8 ifaddrmsg_header (attrs_of ifa_of) };
+
+    ghost takes_memory = { body_takes 8 (λ s. 0 < length s) };
+
+    ghost no_memory = { with_attributes_of-no_memory 8 ifaddrmsg_header ifa_of };
+
+    ghost never_short = { with_attributes_of-never_short 8 ifaddrmsg_header ifa_of };
+
+    fn from_bytes_with_input(
+        alloc: Global,
+        cursor: &mut Cursor<'_>,
+        n: usize,
+    ) -> Result<Ifaddrmsg, DeError> {
+        let (header, rtattrs) = read_body(alloc, cursor, n)?;
+        Ok(Ifaddrmsg { header, rtattrs })
+    }
+}
+
+/// Why no address was built.
+pub type IfaddrmsgBuilderError = BuildError<{ of::IFADDRMSG }>;
+
+/// A builder of addresses.
+#[derive(Debug, Drop)]
+pub struct IfaddrmsgBuilder {
+    ifa_family: Option<RtAddrFamily>,
+    ifa_prefixlen: Option<u8>,
+    ifa_flags: Option<IfaF>,
+    ifa_scope: Option<RtScope>,
+    ifa_index: Option<u32>,
+    rtattrs: Option<RtBuffer<Ifa, Buffer>>,
+}
+
+impl Default for IfaddrmsgBuilder {
+    ghost is_default = { λ b. b ≡ record { ifa_family = None; ifa_prefixlen = None; ifa_flags = None; ifa_scope = None; ifa_index = None; rtattrs = None } };
+
+    fn default() -> Self {
+        IfaddrmsgBuilder {
+            ifa_family: None,
+            ifa_prefixlen: None,
+            ifa_flags: None,
+            ifa_scope: None,
+            ifa_index: None,
+            rtattrs: None,
+        }
+    }
+}
+
+impl IfaddrmsgBuilder {
+    /// The family of the address.
+    pub fn ifa_family(mut self, value: RtAddrFamily) -> Self
+        ensures { result ≡ record self { ifa_family = Some value } }
+    {
+        self.ifa_family = Some(value);
+        self
+    }
+
+    /// How many bits of the address name the network.
+    pub fn ifa_prefixlen(mut self, value: u8) -> Self
+        ensures { result ≡ record self { ifa_prefixlen = Some value } }
+    {
+        self.ifa_prefixlen = Some(value);
+        self
+    }
+
+    /// The flags, with all the bits that were read. `Ifa::Flags` has those above 0x80. None of them
+    /// by default.
+    pub fn ifa_flags(mut self, value: IfaF) -> Self
+        ensures { result ≡ record self { ifa_flags = Some value } }
+    {
+        self.ifa_flags = Some(value);
+        self
+    }
+
+    /// How far the address is known.
+    pub fn ifa_scope(mut self, value: RtScope) -> Self
+        ensures { result ≡ record self { ifa_scope = Some value } }
+    {
+        self.ifa_scope = Some(value);
+        self
+    }
+
+    /// The number of the link.
+    pub fn ifa_index(mut self, value: u32) -> Self
+        ensures { result ≡ record self { ifa_index = Some value } }
+    {
+        self.ifa_index = Some(value);
+        self
+    }
+
+    /// The attributes. None by default.
+    pub fn rtattrs(mut self, value: RtBuffer<Ifa, Buffer>) -> Self
+        ensures { result ≡ record self { rtattrs = Some value } }
+    {
+        self.rtattrs = Some(value);
+        self
+    }
+
+    /// The address of what was given. It takes no memory.
+    ///
+    /// Refused where a field without a default was not given: the first such field is named.
+    pub fn build(self, alloc: Global) -> Result<Ifaddrmsg, IfaddrmsgBuilderError>
+        ensures built { IfOk result (λ m. ifaddrmsg_built self ≡ Ok m) }
+        ensures refused { IfErr result (λ e. (e ≡ BuildError.Memory → ⊥)
+            × IsWhyNot (ifaddrmsg_built self) e) }
+    {
+        let ifa_family = self
+            .ifa_family
+            .ok_or(UninitializedFieldError::new("ifa_family"))?;
+        let ifa_prefixlen = self
+            .ifa_prefixlen
+            .ok_or(UninitializedFieldError::new("ifa_prefixlen"))?;
+        let ifa_scope = self
+            .ifa_scope
+            .ok_or(UninitializedFieldError::new("ifa_scope"))?;
+        let ifa_index = self
+            .ifa_index
+            .ok_or(UninitializedFieldError::new("ifa_index"))?;
+        let header = IfaddrmsgHeader {
+            ifa_family,
+            ifa_prefixlen,
+            ifa_flags: self.ifa_flags.unwrap_or(IfaF::empty()),
+            ifa_scope,
+            ifa_index,
+        };
+        let rtattrs = self.rtattrs.unwrap_or(RtBuffer::new(alloc));
+        Ok(Ifaddrmsg { header, rtattrs })
+    }
+}

@@ -1,0 +1,82 @@
+//! Laws over the definitions alone: what is written of a body is read again as what is equal to it. The
+//! functions do nothing: their contracts are the laws.
+
+ghost use Rattle.std.specs.Prelude.{◌≡◌, List, ℕ, length};
+ghost use Rattle.neli_wire.specs.Numbers.{AreBytes};
+ghost use Rattle.neli_body.specs.Attributes.{attrs_of, attrs_wire};
+ghost use Rattle.neli_body.specs.RoundTrips.{ReadsBack};
+ghost use Rattle.neli_consts_rta.specs.Ifa.{ifa_number, ifa_of};
+ghost use Rattle.neli_consts_rta.specs.Ifla.{ifla_number, ifla_of};
+ghost use Rattle.neli_consts_rta.specs.Nda.{nda_number, nda_of};
+ghost use Rattle.neli_link.specs.declared.ifaddrmsg.Ifaddrmsg.{Ifaddrmsg};
+ghost use Rattle.neli_link.specs.declared.ifinfomsg.Ifinfomsg.{Ifinfomsg};
+ghost use Rattle.neli_link.specs.declared.ifla_vlan_flags.IflaVlanFlags.{IflaVlanFlags};
+ghost use Rattle.neli_link.specs.declared.ifla_vlan_qos_mapping.IflaVlanQosMapping.{IflaVlanQosMapping};
+ghost use Rattle.neli_link.specs.declared.nda_cacheinfo.NdaCacheinfo.{NdaCacheinfo};
+ghost use Rattle.neli_link.specs.declared.ndmsg.Ndmsg.{Ndmsg};
+ghost use Rattle.neli_link.specs.Ifaddrmsg.{IsPlainIfaddrmsg, ifaddrmsg_bytes, ifaddrmsg_header};
+ghost use Rattle.neli_link.specs.Ifinfomsg.{IsPlainIfinfomsg, ifinfomsg_bytes, ifinfomsg_header};
+ghost use Rattle.neli_link.specs.IflaVlanFlags.{IsPlainIflaVlanFlags, ifla_vlan_flags_bytes, ifla_vlan_flags_header};
+ghost use Rattle.neli_link.specs.IflaVlanQosMapping.{IsPlainIflaVlanQosMapping, ifla_vlan_qos_mapping_bytes, ifla_vlan_qos_mapping_header};
+ghost use Rattle.neli_link.specs.NdaCacheinfo.{IsPlainNdaCacheinfo, nda_cacheinfo_bytes, nda_cacheinfo_header};
+ghost use Rattle.neli_link.specs.Ndmsg.{IsPlainNdmsg, ndmsg_bytes, ndmsg_header};
+
+/// A link is written as bytes that are read as its fields, and as what the attributes' own
+/// bytes are read as, where each field is what its number is read as. And bytes that are read
+/// as the fields are those that they are written as.
+pub fn ifinfomsg_is_read_back()
+    ensures back { (m : Ifinfomsg) → IsPlainIfinfomsg m.header
+        → ReadsBack 16 ifinfomsg_bytes ifinfomsg_header (attrs_of ifla_of) m.header
+        (attrs_wire ifla_number m.rtattrs) }
+    ensures bytes { (s : List ℕ) → length s ≡ 16 → AreBytes s
+        → ifinfomsg_bytes (ifinfomsg_header s) ≡ s }
+{}
+
+/// An address is written as bytes that are read as its fields, and as what the attributes' own
+/// bytes are read as, where each field is what its number is read as. And bytes that are read
+/// as the fields are those that they are written as.
+pub fn ifaddrmsg_is_read_back()
+    ensures back { (m : Ifaddrmsg) → IsPlainIfaddrmsg m.header
+        → ReadsBack 8 ifaddrmsg_bytes ifaddrmsg_header (attrs_of ifa_of) m.header
+        (attrs_wire ifa_number m.rtattrs) }
+    ensures bytes { (s : List ℕ) → length s ≡ 8 → AreBytes s
+        → ifaddrmsg_bytes (ifaddrmsg_header s) ≡ s }
+{}
+
+/// A neighbour is written as bytes that are read as its fields, and as what the attributes' own
+/// bytes are read as, where each field is what its number is read as. And bytes that are read
+/// as the fields are those that they are written as.
+pub fn ndmsg_is_read_back()
+    ensures back { (m : Ndmsg) → IsPlainNdmsg m.header
+        → ReadsBack 12 ndmsg_bytes ndmsg_header (attrs_of nda_of) m.header
+        (attrs_wire nda_number m.rtattrs) }
+    ensures bytes { (s : List ℕ) → length s ≡ 12 → AreBytes s → ndmsg_bytes (ndmsg_header s) ≡ s }
+{}
+
+/// A neighbour's cache entry is written as bytes that are read as the same, where each field is
+/// what its number is read as. And bytes that are read as one are those that it is written as.
+pub fn nda_cacheinfo_is_read_back()
+    ensures back { (v : NdaCacheinfo) → IsPlainNdaCacheinfo v
+        → nda_cacheinfo_header (nda_cacheinfo_bytes v) ≡ v }
+    ensures bytes { (s : List ℕ) → length s ≡ 16 → AreBytes s
+        → nda_cacheinfo_bytes (nda_cacheinfo_header s) ≡ s }
+{}
+
+/// A virtual network's pair of flags is written as bytes that are read as the same, where each
+/// field is what its number is read as. And bytes that are read as one are those that it is
+/// written as.
+pub fn ifla_vlan_flags_is_read_back()
+    ensures back { (v : IflaVlanFlags) → IsPlainIflaVlanFlags v
+        → ifla_vlan_flags_header (ifla_vlan_flags_bytes v) ≡ v }
+    ensures bytes { (s : List ℕ) → length s ≡ 2 → AreBytes s
+        → ifla_vlan_flags_bytes (ifla_vlan_flags_header s) ≡ s }
+{}
+
+/// A mapping of priorities is written as bytes that are read as the same, where each field is
+/// what its number is read as. And bytes that are read as one are those that it is written as.
+pub fn ifla_vlan_qos_mapping_is_read_back()
+    ensures back { (v : IflaVlanQosMapping) → IsPlainIflaVlanQosMapping v
+        → ifla_vlan_qos_mapping_header (ifla_vlan_qos_mapping_bytes v) ≡ v }
+    ensures bytes { (s : List ℕ) → length s ≡ 8 → AreBytes s
+        → ifla_vlan_qos_mapping_bytes (ifla_vlan_qos_mapping_header s) ≡ s }
+{}

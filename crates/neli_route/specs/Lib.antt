@@ -1,0 +1,5 @@
+pub mod Fibmsg
+pub mod Rtgenmsg
+pub mod Rtmsg
+pub mod Tcmsg
+pub mod laws

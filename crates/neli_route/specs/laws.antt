@@ -1,0 +1,4 @@
+pub mod Fibmsg
+pub mod Rtgenmsg
+pub mod Rtmsg
+pub mod Tcmsg
