@@ -1,13 +1,13 @@
 //! A table of recorded datagrams and of what libmnl reads in each.
 
-use neli_msg::{NlBufferIter, NlPayload, Nlmsghdr, SocketError};
+use neli_msg::{NlBufferIter, Nlmsghdr, SocketError};
 use neli_wire::DeError;
 use std::alloc::Global;
 use std::io::ErrorKind;
 use std::process::Abort;
 use std::test::Fail;
 
-/// What stands behind the last message that libmnl walks. It names no fault: which one it is follows from
+/// What stands after the last message that libmnl walks. It names no fault: which one it is follows from
 /// the first four bytes there, by hand.
 #[derive(Clone, Copy, Debug, PartialEq, Eq)]
 enum Fault {
@@ -32,13 +32,13 @@ struct Row {
 }
 
 fn header_of(message: &Nlmsghdr<u16, Vec<u8>>) -> Header {
-    let NlPayload::Payload(body) = message.nl_payload();
+    let length = *message.nl_len() as usize;
     (
         *message.nl_type(),
         u16::from(*message.nl_flags()),
         *message.nl_seq(),
         *message.nl_pid(),
-        body.len(),
+        length.saturating_sub(16),
     )
 }
 
@@ -112,7 +112,7 @@ fn recorded_datagrams_are_read_as_libmnl_reads_them(rt: HostRuntime) -> Result<(
             fault: Fault::None,
         },
         Row {
-            // route: a dump of proxy neighbours, an entry and the Done behind it
+            // route: a dump of proxy neighbours, an entry and the Done after it
             file: "0165",
             hex: "240000001c000200f40300009a413db902000000030000000000080108000100c000024d14000000\
                 03000200f40300009a413db900000000",
@@ -145,26 +145,27 @@ fn recorded_datagrams_are_read_as_libmnl_reads_them(rt: HostRuntime) -> Result<(
             fault: Fault::None,
         },
         Row {
-            // route: an acknowledgement with a warning behind it
+            // route: an acknowledgement with a warning after it
             file: "0515",
             hex: "24000000020000011a0400002b3100000000000060000000280005041a04000000000000",
             messages: &[(2, 0x0100, 1050, 12587, 20)],
             fault: Fault::None,
         },
         Row {
-            // generic: an error, the request's header alone behind the code
+            // generic: an error, the request's header alone after the code
             file: "0884",
             hex: "24000000020000012904000049430000eaffffff10000000100005002904000000000000",
             messages: &[(2, 0x0100, 1065, 17225, 20)],
             fault: Fault::None,
         },
         Row {
-            // generic: an error with an attribute behind the capped request
+            // generic: an error with an attribute after the capped request. The echo states 20 bytes and has 16, so the
+            // attribute is taken for its payload, and what is left of it states a length of 1
             file: "0909",
             hex: "2c000000020000033e04000049430000eaffffff14000000150005003e0400000000000008000500\
                 01000000",
-            messages: &[(2, 0x0300, 1086, 17225, 28)],
-            fault: Fault::None,
+            messages: &[],
+            fault: Fault::Input(1),
         },
         Row {
             // generic: the devices of the family netdev, all of a dump in one datagram
@@ -252,7 +253,7 @@ fn recorded_datagrams_are_read_as_libmnl_reads_them(rt: HostRuntime) -> Result<(
             fault: Fault::None,
         },
         Row {
-            // route: a request by iproute2 with 128 zeros behind it
+            // route: a request by iproute2 with 128 zeros after it
             file: "1111",
             hex: "180000006a0001036c99026b00000000000000000000000000000000000000000000000000000000\
                 00000000000000000000000000000000000000000000000000000000000000000000000000000000\

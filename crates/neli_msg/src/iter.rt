@@ -1,16 +1,19 @@
 //! The reader of a datagram.
 
-ghost use Rattle.std.specs.Prelude.{◌≡◌, ◌↔◌, ◌+◌, ◌≤◌, ℕ, List, [], Ok, Some, None, Result, IfOk, IfErr, IfSome, IsNone, OnOk, length, map};
-ghost use Rattle.neli_msg.specs.Payload.{payload_at, payload_takes};
-ghost use Rattle.neli_msg.specs.View.{message_of, item_of};
-ghost use Rattle.neli_msg.specs.Frames.{message_at, TakesMemory};
-ghost use Rattle.neli_msg.specs.Cuts.{cut_of, cut_with, Faults};
+ghost use Rattle.std.specs.Prelude.{◌≡◌, ◌+◌, ◌≤◌, ℕ, List, [], IfOk, IfSome, OnOk, length, map};
+ghost use Rattle.neli_wire.specs.Frames.{frame_takes};
+ghost use Rattle.neli_msg_base.specs.Messages.{message_layout, message_of, message_takes};
+ghost use Rattle.neli_msg.specs.Cuts.{IsNext, cut_of, cut_with, item_of};
 
-use crate::{Nlmsghdr, SocketError};
 use neli_consts::NlType;
+use neli_list::FrameList;
+use neli_msg_base::{Nlmsghdr, SocketError};
 use neli_wire::{Cursor, DeError, FromBytes, FromBytesWithInput, NoMemory};
 use std::alloc::Global;
 use std::marker::{Model, PhantomData};
+
+/// A list of messages, one after the other, each with its padding.
+pub type NlBuffer<T, P> = FrameList<Nlmsghdr<T, P>>;
 
 /// The messages of a datagram, one after the other, read as `Nlmsghdr<T, P>`.
 ///
@@ -38,19 +41,16 @@ impl<'b, T: NlType, P: FromBytesWithInput> NlBufferIter<'b, T, P> {
         }
     }
 
-    /// The next message, or the fault that the rest has. After a fault, as behind the last message, the
+    /// The next message, or the fault that the rest has. After a fault, as after the last message, the
     /// answer is None. Where memory runs out nothing is taken, and the same call can be made again.
     pub fn next(&mut self, alloc: Global) -> Option<Result<Nlmsghdr<T, P>, SocketError>>
-        ensures none { IsNone result ↔ (self.old ≡ []) }
-        ensures end { IsNone result → self.new ≡ [] }
-        ensures message { IfSome result (λ item. IfOk item
-            (λ m. message_at T.wire_value (payload_at P.read) self.old ≡ Ok (message_of P.view m, self.new))) }
-        ensures fault { IfSome result (λ item. IfErr item (Faults (message_at T.wire_value (payload_at P.read) self.old)
-            (TakesMemory T.wire_value (payload_at P.read) (payload_takes P.takes_memory) self.old) self.old self.new)) }
+        ensures next { IsNext (message_layout T.wire_value T.wire_number P.read)
+            (frame_takes (message_layout T.wire_value T.wire_number P.read)
+            (message_takes T.wire_number P.takes_memory) self.old) self.old self.new (item_of P.view result) }
         // A message takes at least the 16 bytes of its header.
         ensures shorter { IfSome result (λ item. OnOk item (length self.new + 16 ≤ length self.old)) }
-        ensures cut { cut_of T.wire_value (payload_at P.read) self.old
-            ≡ cut_with (item_of P.view result) (cut_of T.wire_value (payload_at P.read) self.new) }
+        ensures cut { cut_of (message_layout T.wire_value T.wire_number P.read) self.old
+            ≡ cut_with (item_of P.view result) (cut_of (message_layout T.wire_value T.wire_number P.read) self.new) }
     {
         self.next_typed(alloc)
     }
@@ -60,16 +60,13 @@ impl<'b, T: NlType, P: FromBytesWithInput> NlBufferIter<'b, T, P> {
         &mut self,
         alloc: Global,
     ) -> Option<Result<Nlmsghdr<T2, P2>, SocketError>>
-        ensures none { IsNone result ↔ (self.old ≡ []) }
-        ensures end { IsNone result → self.new ≡ [] }
-        ensures message { IfSome result (λ item. IfOk item
-            (λ m. message_at T2.wire_value (payload_at P2.read) self.old ≡ Ok (message_of P2.view m, self.new))) }
-        ensures fault { IfSome result (λ item. IfErr item (Faults (message_at T2.wire_value (payload_at P2.read) self.old)
-            (TakesMemory T2.wire_value (payload_at P2.read) (payload_takes P2.takes_memory) self.old) self.old self.new)) }
+        ensures next { IsNext (message_layout T2.wire_value T2.wire_number P2.read)
+            (frame_takes (message_layout T2.wire_value T2.wire_number P2.read)
+            (message_takes T2.wire_number P2.takes_memory) self.old) self.old self.new (item_of P2.view result) }
         // A message takes at least the 16 bytes of its header.
         ensures shorter { IfSome result (λ item. OnOk item (length self.new + 16 ≤ length self.old)) }
-        ensures cut { cut_of T2.wire_value (payload_at P2.read) self.old
-            ≡ cut_with (item_of P2.view result) (cut_of T2.wire_value (payload_at P2.read) self.new) }
+        ensures cut { cut_of (message_layout T2.wire_value T2.wire_number P2.read) self.old
+            ≡ cut_with (item_of P2.view result) (cut_of (message_layout T2.wire_value T2.wire_number P2.read) self.new) }
     {
         if self.cursor.rest().is_empty() {
             return None;
@@ -88,14 +85,15 @@ impl<'b, T: NlType, P: FromBytesWithInput> NlBufferIter<'b, T, P> {
     }
 }
 
-/// All the messages of a datagram, and the fault behind them, if there is one.
+/// All the messages of a datagram, and the fault after them, if there is one.
 ///
-/// Refused only for want of memory.
+/// Refused only where memory runs out.
 pub fn cut<T: NlType, P: FromBytesWithInput>(
     alloc: Global,
     bytes: &[u8],
 ) -> Result<(Vec<Nlmsghdr<T, P>>, Option<DeError>), NoMemory>
-    ensures { IfOk result (λ c. cut_of T.wire_value (payload_at P.read) bytes.now ≡ (map (message_of P.view) c.0.items, c.1)) }
+    ensures { IfOk result (λ c. cut_of (message_layout T.wire_value T.wire_number P.read) bytes.now
+        ≡ (map (message_of P.view) c.0.items, c.1)) }
 {
     let mut messages = Vec::new(alloc);
     let mut iter: NlBufferIter<'_, T, P> = NlBufferIter::new(bytes);

@@ -1,29 +1,45 @@
 //! Laws of datagrams, over the definitions alone. The calls do nothing: their contracts are the laws.
 
-ghost use Rattle.std.specs.Prelude.{◌≡◌, ◌*◌, ◌/◌, ◌≤◌, ℕ, List, Option, length};
-ghost use Rattle.neli_wire_base.specs.declared.errors.DeError.{DeError as Refusal};
-ghost use Rattle.neli_msg.specs.declared.payload.NlPayload.{NlPayload as Payload};
-ghost use Rattle.neli_msg.specs.Message.{Message};
-ghost use Rattle.neli_msg.specs.Payload.{payload_at};
+ghost use Rattle.std.specs.Prelude.{◌≡◌, ◌*◌, ◌/◌, ◌≤◌, ◌↔◌, ℕ, List, Option, Ok, Err, IsErr, IsOk, length};
+ghost use Rattle.neli_wire.specs.DeError.{DeError as Refusal};
+ghost use Rattle.neli_wire.specs.Frames.{frame_at};
+ghost use Rattle.neli_wire.specs.Numbers.{AreBytes};
+ghost use Rattle.neli_msg_base.specs.Messages.{Message, message_layout};
+ghost use Rattle.neli_msg_base.specs.Retyping.{typed_message};
 ghost use Rattle.neli_msg.specs.Cuts.{Cuts, cut_of};
+ghost use Rattle.neli_msg.specs.Agreement.{AreRead, typed_reading, untyped_layout};
 
 use neli_consts::NlType;
 use neli_wire::FromBytesWithInput;
 
 /// Each byte list is the frames of messages, one after the other, and then nothing or what has a fault.
 pub fn has_a_cut<T: NlType, P: FromBytesWithInput>()
-    ensures { (b : List ℕ) → Cuts T.wire_value (payload_at P.read) b
-        (cut_of T.wire_value (payload_at P.read) b).0 (cut_of T.wire_value (payload_at P.read) b).1 }
+    ensures { (b : List ℕ) → Cuts (message_layout T.wire_value T.wire_number P.read) b
+        (cut_of (message_layout T.wire_value T.wire_number P.read) b).0
+        (cut_of (message_layout T.wire_value T.wire_number P.read) b).1 }
 {}
 
 /// No byte list is that in two ways.
 pub fn has_one_cut<T: NlType, P: FromBytesWithInput>()
-    ensures { (b : List ℕ) (ms ns : List (Message T (Payload P.Value))) (f g : Option Refusal)
-        → Cuts T.wire_value (payload_at P.read) b ms f → Cuts T.wire_value (payload_at P.read) b ns g → (ms ≡ ns) × (f ≡ g) }
+    ensures { (b : List ℕ) (ms ns : List (Message T P.Value)) (f g : Option Refusal)
+        → Cuts (message_layout T.wire_value T.wire_number P.read) b ms f
+        → Cuts (message_layout T.wire_value T.wire_number P.read) b ns g → (ms ≡ ns) × (f ≡ g) }
 {}
 
 /// A message takes 16 bytes at least, so a datagram of n bytes has at most n / 16 of them.
 pub fn has_few_messages<T: NlType, P: FromBytesWithInput>()
-    ensures { (b : List ℕ) (ms : List (Message T (Payload P.Value))) (f : Option Refusal)
-        → Cuts T.wire_value (payload_at P.read) b ms f → length ms ≤ length b / 16 }
+    ensures { (b : List ℕ) (ms : List (Message T P.Value)) (f : Option Refusal)
+        → Cuts (message_layout T.wire_value T.wire_number P.read) b ms f → length ms ≤ length b / 16 }
+{}
+
+/// A message that is read untyped, wherever it stands in a datagram, is read as other types exactly as
+/// retyping says: with the same header but for its type, the same codes and attributes, and the body's or
+/// the echoed bytes as `P` reads them, with `P`'s refusal. Where it is refused untyped, it is refused.
+pub fn typed_reading_agrees<T: NlType, P: FromBytesWithInput>()
+    ensures typed { (s r : List ℕ) (m : Message ℕ (List ℕ)) → AreBytes s → frame_at untyped_layout s ≡ Ok (m, r)
+        → frame_at (message_layout T.wire_value T.wire_number P.read) s
+        ≡ typed_reading T.wire_value P.read m r }
+    ensures refused { (s : List ℕ) (e : Refusal) → AreBytes s → frame_at untyped_layout s ≡ Err e
+        → IsErr (frame_at (message_layout T.wire_value T.wire_number P.read) s) }
+    ensures exactly { (m : Message ℕ (List ℕ)) → IsOk (typed_message T.wire_value P.read m) ↔ AreRead P.read m }
 {}

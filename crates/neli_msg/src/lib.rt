@@ -10,29 +10,31 @@
 //!  +-------+-------+-------+-------+-------+----- - - - -+- - - - +
 //! ```
 //!
-//! The length counts the header and the payload, and not the padding, so L is the length less 16. A
-//! datagram is such messages, one after the other.
+//! The length counts the header and the payload, and not the padding, so L is the length less 16. The
+//! number is the sequence number. A datagram is such messages, one after the other.
 //!
-//! - [`Nlmsghdr`] is a message, and [`NlPayload`] what it carries.
-//! - [`NlBufferIter`] reads the messages of a datagram one by one, and [`cut`] reads all of them.
-//! - [`SocketError`] is what a reader, or a link below it, reports.
-//! - [`laws`] says that each byte list has one cut, and how many messages it can have.
+//! - [`Nlmsghdr`] is a message, [`NlPayload`] what it carries by its kind, and [`Nlmsgerr`] an error, an
+//!   acknowledgement or the end of a dump; [`NlmsghdrErr`] and [`NlmsghdrAck`] are what these answer.
+//! - [`NlBufferIter`] reads the messages of a datagram one by one, [`cut`] reads all of them, and
+//!   [`NlBuffer`] is a list of messages.
+//! - [`SocketError`] is what a reader, or a link below it, reports, [`RouterError`] what a router does, and
+//!   [`BuilderError`] why any builder made nothing.
+//! - [`laws`] says that each byte list has one cut, how many messages it can have, and that reading a
+//!   message as other types agrees with retyping it.
 //!
-//! `specs/Frames.antt` says how a message lies in bytes, and in which order its refusals come;
-//! `specs/Cuts.antt` says what a whole datagram means.
+//! `specs/Kinds.antt` of `neli_msg_base` says on one page which kind a payload is; `specs/Messages.antt` how
+//! a message lies in bytes; `specs/Cuts.antt` what a whole datagram means. What stands in `neli_msg_base`
+//! is re-exported here.
 #![tactic(auto)]
 
-#[cfg(test)]
-mod calls;
-mod errors;
+mod builder_error;
 mod iter;
 pub mod laws;
-mod message;
-mod payload;
-#[cfg(test)]
-mod tests;
 
-pub use errors::SocketError;
-pub use iter::{NlBufferIter, cut};
-pub use message::Nlmsghdr;
-pub use payload::NlPayload;
+pub use builder_error::BuilderError;
+pub use iter::{NlBuffer, NlBufferIter, cut};
+pub use neli_msg_base::{
+    NlPayload, Nlmsgerr, NlmsgerrBuilder, NlmsgerrBuilderError, Nlmsghdr, NlmsghdrAck,
+    NlmsghdrAckBuilder, NlmsghdrAckBuilderError, NlmsghdrBuilder, NlmsghdrBuilderError,
+    NlmsghdrErr, NlmsghdrErrBuilder, NlmsghdrErrBuilderError, RouterError, SocketError,
+};

@@ -1,0 +1,10 @@
+pub mod Answers
+pub mod Builders
+pub mod Headers
+pub mod Kinds
+pub mod laws
+pub mod Messages
+pub mod Retyping
+pub mod RouterErrors
+pub mod SocketErrors
+pub mod Wires

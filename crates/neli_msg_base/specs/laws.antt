@@ -1,0 +1,7 @@
+pub mod Answers
+pub mod Headers
+pub mod Kinds
+pub mod Messages
+pub mod Plain
+pub mod Retyping
+pub mod Wires

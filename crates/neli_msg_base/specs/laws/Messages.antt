@@ -1,0 +1,32 @@
+-- Laws of messages by their places.
+use Rattle.std.proofs.Common.{◌≢◌, ℕ, ◌+◌, ◌≤◌, List, Result, Err, refl, arith}
+use Rattle.neli_wire.specs.DeError.{DeError}
+use Rattle.neli_wire.specs.DeError.TheVariants.{Memory}
+use Rattle.neli_wire.specs.Frames.{frame_at}
+use Rattle.neli_wire.specs.laws.Frames.{IsPlaced, number_in-take, frame_at-local, frame_at-no_memory}
+use Rattle.neli_wire.specs.Reading.{IsLocal}
+use Rattle.neli_msg_base.specs.Headers.{Header}
+use Rattle.neli_msg_base.specs.Messages.{framed, message_layout}
+use Rattle.neli_msg_base.specs.laws.Kinds.{payload_in-no_memory}
+
+-- the header is in the first 16 bytes
+pub framed-placed : {K V : Type 0} (type_of : ℕ → K) (payload_of : Header K → List ℕ → Result V DeError) → IsPlaced (framed type_of payload_of)
+framed-placed type_of payload_of = record {
+  own = λ s le.
+      let at = λ (n : ℕ) (i : ℕ) (fits : i + n ≤ 16). number_in-take n i 16 s fits le in
+      let a = at 4 0 (omega arith) in
+      let b = at 2 4 (omega arith) in
+      let c = at 2 6 (omega arith) in
+      let d = at 4 8 (omega arith) in
+      let e = at 4 12 (omega arith) in
+      rw (a, b, c, d, e) refl;
+}
+
+pub framed-local : {K V : Type 0} (type_of : ℕ → K) (payload_of : Header K → List ℕ → Result V DeError) → IsLocal (frame_at (framed type_of payload_of))
+framed-local type_of payload_of = frame_at-local (framed type_of payload_of) (framed-placed type_of payload_of)
+
+pub framed-no_memory : {K V : Type 0} (type_of : ℕ → K) (payload_of : Header K → List ℕ → Result V DeError) → ((h : Header K) (s : List ℕ) → payload_of h s ≢ Err Memory) → (s : List ℕ) → frame_at (framed type_of payload_of) s ≢ Err Memory
+framed-no_memory type_of payload_of none = frame_at-no_memory (framed type_of payload_of) none
+
+pub message-no_memory : {K V : Type 0} (type_of : ℕ → K) (number_of : K → ℕ) (read : List ℕ → Result V DeError) → ((s : List ℕ) → read s ≢ Err Memory) → (s : List ℕ) → frame_at (message_layout type_of number_of read) s ≢ Err Memory
+message-no_memory type_of number_of read bodies = framed-no_memory type_of _ (λ h. payload_in-no_memory type_of read bodies (number_of h.message_type) h.flags)

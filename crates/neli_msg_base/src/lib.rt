@@ -1,0 +1,26 @@
+//! What messages are made of: their header, their payload by its kind, errors and acknowledgements.
+//!
+//! - [`NlmsghdrAck`]: the header that every message begins with, and that an acknowledgement answers.
+//! - [`NlmsghdrErr`]: the message that an error answers, as it is echoed.
+//! - [`Nlmsgerr`]: an answer, which is a code, what it answers, and attributes.
+//! - [`NlPayload`]: the payload of a message, by its kind.
+//!
+//! `specs/Kinds.antt` says on one page which kind a payload is and what its bytes say.
+#![tactic(auto)]
+
+mod answer;
+mod echo;
+mod header;
+mod message;
+mod parts;
+mod payload;
+mod router_error;
+mod socket_error;
+
+pub use answer::{Nlmsgerr, NlmsgerrBuilder, NlmsgerrBuilderError};
+pub use echo::{NlmsghdrErr, NlmsghdrErrBuilder, NlmsghdrErrBuilderError};
+pub use header::{NlmsghdrAck, NlmsghdrAckBuilder, NlmsghdrAckBuilderError};
+pub use message::{Nlmsghdr, NlmsghdrBuilder, NlmsghdrBuilderError};
+pub use payload::NlPayload;
+pub use router_error::RouterError;
+pub use socket_error::SocketError;

@@ -1,0 +1,24 @@
+//! Tests of messages by the public calls of `neli_msg`.
+//!
+//! - [`reading`]: one message and a whole datagram, and their refusals. [`kinds`]: the kinds of payload.
+//! - [`retyping`]: untyped messages as other types, and the calls that take a payload out or put one in.
+//! - [`builders`]: what builders make, and what is written. [`printed`]: what errors print, and their
+//!   causes.
+//! - [`lists`]: lists of messages. [`laws`]: the laws, called.
+//!
+//! The layout is that of RFC 3549 section 2.3.2 and of `struct nlmsghdr` and `struct nlmsgerr` of
+//! linux/netlink.h; expected values are worked out by hand from these.
+#![tactic(auto)]
+
+#[cfg(test)]
+mod builders;
+#[cfg(test)]
+mod kinds;
+#[cfg(test)]
+mod laws;
+#[cfg(test)]
+mod printed;
+#[cfg(test)]
+mod reading;
+#[cfg(test)]
+mod retyping;
