@@ -1,0 +1,4 @@
+pub mod BitLemmas
+pub mod GroupLemmas
+pub mod Lists
+pub mod MaskLemmas

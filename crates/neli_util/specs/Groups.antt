@@ -1,0 +1,28 @@
+-- Groups: lists of multicast groups, which are numbered from 1.
+use Rattle.std.specs.Prelude.{ℕ, ◌<◌, Bool, not, List, [], ◌∷◌, ◌++◌, ◌==◌, nat_lt}
+use Rattle.std.specs.List.{All, filter, list_any}
+
+-- no number of the list is 0
+abbrev pub HasNoZero : List ℕ → Type 0
+HasNoZero numbers = All (λ n. 0 < n) numbers
+
+-- whether the list has the number
+abbrev pub has : List ℕ → ℕ → Bool
+has numbers n = list_any (λ x. x == n) numbers
+
+-- the list but for its zeros
+abbrev pub without_zeros : List ℕ → List ℕ
+without_zeros numbers = filter (λ n. nat_lt 0 n) numbers
+
+-- the list but for the numbers that were removed
+abbrev pub without : List ℕ → List ℕ → List ℕ
+without removed numbers = filter (λ n. not (has removed n)) numbers
+
+-- each number of the list once, where it comes first
+abbrev pub firsts : List ℕ → List ℕ
+firsts [] = []
+firsts (n ∷ ns) = n ∷ filter (λ m. not (m == n)) (firsts ns)
+
+-- the groups, and then those of the added numbers that they lack
+abbrev pub with_added : List ℕ → List ℕ → List ℕ
+with_added added groups = groups ++ without groups (without_zeros (firsts added))

@@ -1,0 +1,3 @@
+pub mod BitArrays
+pub mod Groups
+pub mod Masks

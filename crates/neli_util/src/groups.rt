@@ -1,0 +1,162 @@
+//! Multicast groups.
+
+ghost use Rattle.std.specs.Prelude.{◌≡◌, ◌↔◌, ◌⊎◌, ◌<◌, [], IfOk, IfErr, IsErr, OnOk, OnErr, IsTrue, length, slice_index};
+ghost use Rattle.neli_util.specs.Groups.{HasNoZero, without_zeros, without, with_added};
+ghost use Rattle.neli_util.specs.Masks.{groups_of, IsMaskOf, past_mask, past_mask_text};
+
+use crate::masks::{PastMask, is_in_mask, mask_to_vec, slice_to_mask};
+use neli_wire::{NoMemory, SerError};
+use std::alloc::Global;
+use std::marker::Model;
+
+/// Multicast groups, a list without 0. Contracts see it as that list.
+///
+/// Groups are numbered from 1. A mask is the older form, `nl_groups` of `struct sockaddr_nl` in
+/// linux/netlink.h: 32 bits, of which group 1 has the lowest and group 32 the highest.
+#[derive(Drop)]
+pub struct Groups {
+    numbers: Vec<u32>,
+}
+
+impl Model for Groups {
+    ghost use Rattle.std.specs.Prelude.{ℕ, List};
+    ghost use Rattle.neli_util.specs.Groups.{HasNoZero};
+
+    ghost Value = { List ℕ };
+
+    ghost view = { λ g. g.numbers.items };
+
+    ghost invariant = { λ g. HasNoZero g.numbers.items };
+}
+
+impl Groups {
+    /// No groups. It takes no memory.
+    pub fn empty(alloc: Global) -> Groups
+        ensures { result ≡ [] }
+    {
+        Groups {
+            numbers: Vec::new(alloc),
+        }
+    }
+
+    /// The groups of a mask, lowest first.
+    ///
+    /// Refused only where memory runs out.
+    pub fn new_bitmask(alloc: Global, mask: u32) -> Result<Groups, NoMemory>
+        ensures value { IfOk result (λ groups. groups ≡ groups_of mask) }
+        ensures no_zero { IfOk result HasNoZero }
+    {
+        let numbers = mask_to_vec(alloc, mask)?;
+        Ok(Groups { numbers })
+    }
+
+    /// Adds those groups of a mask that are not there, lowest first.
+    ///
+    /// Refused only where memory runs out, and then the groups are as they were.
+    pub fn add_bitmask(&mut self, mask: u32) -> Result<(), NoMemory>
+        ensures ok { OnOk result (self.new ≡ with_added (groups_of mask) self.old) }
+        ensures no_zero { HasNoZero self.new }
+        ensures err { OnErr result (self.new ≡ self.old) }
+    {
+        let added = mask_to_vec(*self.numbers.allocator(), mask)?;
+        add_lacking(&mut self.numbers, &added)
+    }
+
+    /// Takes out the groups of a mask, each as often as it is there. It takes no memory.
+    pub fn remove_bitmask(&mut self, mask: u32)
+        ensures value { self.new ≡ without (groups_of mask) self.old }
+        ensures no_zero { HasNoZero self.new }
+    {
+        self.numbers.retain(|group| !is_in_mask(mask, *group));
+    }
+
+    /// These groups in their order, repeats too; zeros are left out.
+    ///
+    /// Refused only where memory runs out.
+    pub fn new_groups(alloc: Global, groups: &[u32]) -> Result<Groups, NoMemory>
+        ensures value { IfOk result (λ list. list ≡ without_zeros groups.now) }
+        ensures no_zero { IfOk result HasNoZero }
+    {
+        let mut numbers = Vec::from_slice(alloc, groups)?;
+        numbers.retain(|group| *group != 0);
+        Ok(Groups { numbers })
+    }
+
+    /// Adds those of these groups that are not there, in their order and each once; zeros are left out.
+    ///
+    /// Refused only where memory runs out, and then the groups are as they were.
+    pub fn add_groups(&mut self, groups: &[u32]) -> Result<(), NoMemory>
+        ensures ok { OnOk result (self.new ≡ with_added groups.now self.old) }
+        ensures no_zero { HasNoZero self.new }
+        ensures err { OnErr result (self.new ≡ self.old) }
+    {
+        add_lacking(&mut self.numbers, groups)
+    }
+
+    /// Takes out these groups, each as often as it is there. It takes no memory.
+    pub fn remove_groups(&mut self, groups: &[u32])
+        ensures value { self.new ≡ without groups.now self.old }
+        ensures no_zero { HasNoZero self.new }
+    {
+        self.numbers.retain(|group| !groups.contains(group));
+    }
+
+    /// The mask with the bits of these groups.
+    ///
+    /// Refused exactly where a group is above 32: in words that name the first such group, or as memory
+    /// ran out for these words.
+    pub fn as_bitmask(&self, alloc: Global) -> Result<u32, SerError>
+        ensures value { IfOk result (IsMaskOf self.now) }
+        ensures refused { IsErr result ↔ (0 < length (past_mask self.now)) }
+        ensures error { IfErr result (λ e. (e ≡ SerError.Memory)
+            ⊎ (e ≡ SerError.Msg (past_mask_text (slice_index (past_mask self.now) 0)))) }
+    {
+        match slice_to_mask(&self.numbers) {
+            Ok(mask) => Ok(mask),
+            Err(group) => Err(SerError::new(alloc, PastMask(group))?),
+        }
+    }
+
+    /// A copy of the list.
+    ///
+    /// Refused only where memory runs out.
+    pub fn as_groups(&self, alloc: Global) -> Result<Vec<u32>, NoMemory>
+        ensures value { IfOk result (λ list. list.items ≡ self.now) }
+        ensures no_zero { HasNoZero self.now }
+    {
+        Ok(Vec::from_slice(alloc, &self.numbers)?)
+    }
+
+    /// The list itself. It takes no memory.
+    pub fn into_groups(self) -> Vec<u32>
+        ensures value { result.items ≡ self }
+        ensures no_zero { HasNoZero self }
+    {
+        let Groups { numbers } = self;
+        numbers
+    }
+
+    /// Whether there is no group.
+    pub fn is_empty(&self) -> bool
+        ensures { IsTrue result ↔ (self.now ≡ []) }
+    {
+        self.numbers.is_empty()
+    }
+}
+
+// Adds those of the added numbers that are above 0 and not there, each once, or leaves the list as it was.
+fn add_lacking(list: &mut Vec<u32>, added: &[u32]) -> Result<(), NoMemory>
+    ensures ok { OnOk result (list.new.items ≡ with_added added.now list.old.items) }
+    ensures err { OnErr result (list.new.items ≡ list.old.items) }
+{
+    let before = list.len();
+    for number in added {
+        if *number != 0 && !list.contains(number) {
+            if let Err(_) = list.push(*number) {
+                list.truncate(before);
+                return Err(NoMemory);
+            }
+        }
+    }
+    Ok(())
+}
