@@ -1,4 +1,0 @@
-pub mod Hex
-pub mod Listings
-pub mod PlainBodies
-pub mod Streams

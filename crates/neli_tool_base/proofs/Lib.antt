@@ -1,0 +1,5 @@
+pub mod Listings
+pub mod PlainBodies
+pub mod Runs
+pub mod Streams
+pub mod Texts

@@ -1,0 +1,7 @@
+use Rattle.neli_tool_base.proofs.line.KindDisplay.fmt.Goals as goal
+
+pub returns-in-Error-clause-writes : goal.returns-in-Error-clause-writes
+returns-in-Error-clause-writes g c = rw c.in-Error.is c.write-in-Error.ensures.writes
+
+pub returns-in-Done-clause-writes : goal.returns-in-Done-clause-writes
+returns-in-Done-clause-writes g c = rw c.in-Done.is c.write-in-Done.ensures.writes

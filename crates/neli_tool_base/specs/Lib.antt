@@ -1,0 +1,4 @@
+pub mod Inputs
+pub mod Lines
+pub mod Listing
+pub mod Runs

@@ -1,0 +1,92 @@
+-- What a run of the program prints, and how it ends.
+use Rattle.std.specs.Prelude.{◌≡◌, ◌⊎◌, ℕ, List, [], ◌∷◌, ◌++◌, map, codes, string_bytes, Option, Result, IsOkAnd, IsErrAnd, ⊤}
+use Rattle.std.specs.IoError.{error_kind}
+use Rattle.std.specs.Io.KnownBytes.{Appends, Keeps}
+use Rattle.std.specs.declared.vec.Vec.{Vec}
+use Rattle.std.specs.declared.string.String.{String}
+use Rattle.std.specs.declared.alloc.Global.{Global}
+use Rattle.std.specs.declared.io.Error.{Error}
+use Rattle.std.specs.declared.io.ErrorKind.TheVariants.{OutOfMemory}
+use Rattle.neli_tool_base.specs.declared.line.Ending.{Ending}
+use Rattle.neli_tool_base.specs.declared.line.Ending.TheVariants.{Whole, Memory}
+use Rattle.neli_tool_base.specs.declared.run.Request.{Request}
+use Rattle.neli_tool_base.specs.declared.run.Request.TheVariants as request
+use Rattle.neli_tool_base.specs.declared.status.Status.{Status}
+use Rattle.neli_tool_base.specs.declared.status.Status.TheVariants as status
+use Rattle.neli_tool_base.specs.Inputs.{IsInput}
+use Rattle.neli_tool_base.specs.Lines.{ending}
+use Rattle.neli_tool_base.specs.Listing.{Lists}
+
+-- ---- what is asked for
+
+-- the words after the program's name, or why they were not read
+abbrev pub Words : Type 0
+Words = Result (Vec (String Global) Global) Error
+
+-- they are the one word `list`
+abbrev pub AskForList : Words → Type 0
+AskForList words = IsOkAnd words (λ w. map string_bytes w.items ≡ codes "list" ∷ [])
+
+-- memory ran out while they were read
+abbrev pub RanOutOfMemory : Words → Type 0
+RanOutOfMemory words = IsErrAnd words (λ e. error_kind e ≡ OutOfMemory)
+
+-- they ask for nothing that the program does
+abbrev pub AreWrong : Words → Type 0
+AreWrong words = (¬ AskForList words) × (¬ RanOutOfMemory words)
+
+-- what these words ask for
+abbrev pub Asks : Words → Request → Type 0
+Asks words request.List = AskForList words
+Asks words request.Memory = RanOutOfMemory words
+Asks words request.Usage = AreWrong words
+
+-- ---- how a run ends
+
+-- the exit status
+abbrev pub status_code : Status → ℕ
+status_code status.Whole = 0
+status_code status.Fault = 1
+status_code status.Memory = 1
+status_code status.NoInput = 1
+status_code status.NoOutput = 1
+status_code status.Usage = 2
+status_code status.NoUsage = 2
+
+-- the status of a run that wrote a listing with this ending
+abbrev pub status_by : Ending → Status
+status_by Whole = status.Whole
+status_by Memory = status.Memory
+status_by e = status.Fault
+
+-- ---- what is written
+
+-- the output gains a listing of the input, with this ending
+abbrev pub GainsListing : Option (List ℕ) → Option (List ℕ) → Option (List ℕ) → Ending → Type 0
+GainsListing known old new e =
+    (bytes : List ℕ) × (lines : List ℕ) × IsInput known bytes × Lists bytes lines e
+    × Appends old new (lines ++ ending e)
+
+-- the output gains the one line that memory ran out; of an output that fails nothing is known
+abbrev pub PrintsMemory : Option (List ℕ) → Option (List ℕ) → Status → Type 0
+PrintsMemory old new status.Memory = Appends old new (ending Memory)
+PrintsMemory old new status.NoOutput = ⊤
+PrintsMemory old new s = ⊥
+
+-- the output gains a listing of the input that ends as the status says, or nothing where the input fails; where
+-- memory runs out before the input is read, the line for that alone
+abbrev pub Prints : Option (List ℕ) → Option (List ℕ) → Option (List ℕ) → Status → Type 0
+Prints known old new status.Whole = GainsListing known old new Whole
+Prints known old new status.Fault =
+    (e : Ending) × (status_by e ≡ status.Fault) × GainsListing known old new e
+Prints known old new status.Memory =
+    Appends old new (ending Memory) ⊎ GainsListing known old new Memory
+Prints known old new status.NoInput = Keeps old new
+Prints known old new status.NoOutput = ⊤
+Prints known old new s = ⊥
+
+-- complaints gain the usage line; of complaints that fail nothing is known
+abbrev pub Complains : Option (List ℕ) → Option (List ℕ) → Status → Type 0
+Complains old new status.Usage = Appends old new (codes "usage: neli_tool list [zero] | replay\n")
+Complains old new status.NoUsage = ⊤
+Complains old new s = ⊥

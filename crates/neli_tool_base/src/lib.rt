@@ -1,0 +1,14 @@
+//! What the program `neli_tool` does, over words, a reader and writers of the caller's.
+//!
+//! - [`run`] looks at the words, does what they ask for, and answers how the run ends.
+//! - [`listing`] makes the listing of a datagram, and `list` reads one and writes it.
+//! - [`line`] is the text of one message, and of what ends a datagram.
+//! - [`input`] reads a whole input.
+//! - [`status`] is how a run ends.
+#![tactic(auto)]
+
+pub mod input;
+pub mod line;
+pub mod listing;
+pub mod run;
+pub mod status;

@@ -1,0 +1,155 @@
+//! The lines of a listing.
+
+ghost use Rattle.std.specs.Prelude.{◌≡◌, Some};
+ghost use Rattle.neli_msg.specs.Kinds.{payload_view};
+ghost use Rattle.neli_tool_base.specs.Listing.{heading_in, kind_in};
+ghost use Rattle.neli_tool_base.specs.Lines.{ending};
+
+use neli_attr::Buffer;
+use neli_msg::{NlPayload, Nlmsghdr};
+use std::fmt;
+
+/// A message as it was read: its type a number, its payload bytes.
+pub type RawMessage = Nlmsghdr<u16, Buffer>;
+
+/// A number as four lower-case hexadecimal digits.
+#[derive(Clone, Copy)]
+struct FourDigits(u16);
+
+impl fmt::Display for FourDigits {
+    ghost use Rattle.std.specs.Prelude.{Some};
+    ghost use Rattle.neli_tool_base.specs.Lines.{hex4};
+
+    ghost output = { λ n. Some (hex4 n.0) };
+
+    fn fmt<W: fmt::Write>(&self, f: &mut fmt::Formatter<W>) -> fmt::Result {
+        let number = self.0;
+        write!(f, "{number:04x}")
+    }
+}
+
+/// The kind of a payload, with its code and how many bytes or attributes it has.
+#[derive(Clone, Copy)]
+enum Kind {
+    Payload(usize),
+    Ack,
+    Error(i32, usize),
+    Done(i32, usize),
+    Empty,
+}
+
+impl fmt::Display for Kind {
+    ghost use Rattle.std.specs.Prelude.{Some};
+    ghost use Rattle.neli_tool_base.specs.Listing.{kind_text};
+
+    ghost output = { λ k. Some (kind_text k) };
+
+    fn fmt<W: fmt::Write>(&self, f: &mut fmt::Formatter<W>) -> fmt::Result {
+        match self {
+            Kind::Payload(count) => write!(f, "payload {count}"),
+            Kind::Ack => write!(f, "ack"),
+            Kind::Error(code, count) => write!(f, "error {code} attributes {count}"),
+            Kind::Done(code, count) => write!(f, "done {code} attributes {count}"),
+            Kind::Empty => write!(f, "empty"),
+        }
+    }
+}
+
+/// The kind of a payload that was read.
+fn kind_in(payload: &NlPayload<u16, Buffer>) -> Kind
+    ensures { result ≡ kind_in (payload_view (λ b. b) payload.now) }
+{
+    match payload {
+        NlPayload::Payload(bytes) => Kind::Payload(bytes.len()),
+        NlPayload::Ack(_) => Kind::Ack,
+        NlPayload::Err(answer) => Kind::Error(*answer.error(), answer.ext_ack().len()),
+        NlPayload::DumpExtAck(answer) => Kind::Done(*answer.error(), answer.ext_ack().len()),
+        NlPayload::Empty => Kind::Empty,
+    }
+}
+
+/// What is printed of a header: its type, flags, sequence number and port.
+#[derive(Clone, Copy)]
+struct Heading {
+    message_type: u16,
+    flags: u16,
+    number: u32,
+    port: u32,
+}
+
+impl fmt::Display for Heading {
+    ghost use Rattle.std.specs.Prelude.{Some};
+    ghost use Rattle.neli_tool_base.specs.Listing.{heading_text};
+
+    ghost output = { λ h. Some (heading_text h) };
+
+    fn fmt<W: fmt::Write>(&self, f: &mut fmt::Formatter<W>) -> fmt::Result {
+        let message_type = self.message_type;
+        let flags = FourDigits(self.flags);
+        let number = self.number;
+        let port = self.port;
+        write!(
+            f,
+            "type {message_type} flags 0x{flags} number {number} port {port}"
+        )
+    }
+}
+
+/// What is printed of a message's header.
+fn heading_in(message: &RawMessage) -> Heading
+    ensures { result ≡ heading_in message.now.header }
+{
+    Heading {
+        message_type: *message.nl_type(),
+        flags: u16::from(*message.nl_flags()),
+        number: *message.nl_seq(),
+        port: *message.nl_pid(),
+    }
+}
+
+/// A message, which prints its header and what it carries.
+#[derive(Drop)]
+pub struct Line<'m>(pub &'m RawMessage);
+
+impl fmt::Display for Line<'_> {
+    ghost use Rattle.std.specs.Prelude.{Some};
+    ghost use Rattle.neli_msg.specs.Messages.{message_of};
+    ghost use Rattle.neli_tool_base.specs.Listing.{line_of};
+
+    ghost output = { λ l. Some (line_of (message_of (λ b. b) l.0.now)) };
+
+    fn fmt<W: fmt::Write>(&self, f: &mut fmt::Formatter<W>) -> fmt::Result {
+        let heading = heading_in(self.0);
+        let kind = kind_in(self.0.nl_payload());
+        write!(f, "{heading} {kind}")
+    }
+}
+
+/// How a listing ends.
+#[derive(Clone, Copy, Debug, PartialEq, Eq)]
+pub enum Ending {
+    /// After the last message nothing is left.
+    Whole,
+    /// A length is wrong; it is the count of bytes that the fault names.
+    Input(usize),
+    /// Bytes are missing.
+    Short,
+    /// Another refusal to read, which no payload of plain bytes has.
+    Other,
+    /// Memory ran out.
+    Memory,
+}
+
+impl fmt::Display for Ending {
+    ghost output = { λ e. Some (ending e) };
+
+    fn fmt<W: fmt::Write>(&self, f: &mut fmt::Formatter<W>) -> fmt::Result {
+        match self {
+            Ending::Whole => Ok(()),
+            Ending::Input(n) => writeln!(f, "fault: input {n}"),
+            Ending::Short => writeln!(f, "fault: short"),
+            Ending::Other => writeln!(f, "fault: other"),
+            Ending::Memory => writeln!(f, "fault: memory"),
+        }
+    }
+}

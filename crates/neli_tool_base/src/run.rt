@@ -1,0 +1,100 @@
+//! A run of the program.
+
+ghost use Rattle.std.specs.Prelude.{◌≡◌, ◌↔◌, [], ◌∷◌, map, codes, string_bytes, IsTrue};
+ghost use Rattle.neli_tool_base.specs.declared.status.Status.TheVariants as status;
+ghost use Rattle.neli_tool_base.specs.Runs.{AreWrong, AskForList, Asks, Complains, Prints, PrintsMemory, RanOutOfMemory};
+
+use crate::listing::{list, out_of_memory};
+use crate::status::Status;
+use std::alloc::Global;
+use std::io;
+use std::io::{ErrorKind, Read, Write};
+
+/// What the arguments after the program's name ask for.
+#[derive(Clone, Copy, Debug, PartialEq, Eq)]
+pub enum Request {
+    /// To list a datagram: the one word `list`.
+    List,
+    /// Nothing that the program does.
+    Usage,
+    /// It is not known: memory ran out while they were read.
+    Memory,
+}
+
+/// These are the one word `list`.
+fn is_list(words: &[String]) -> bool
+    ensures { IsTrue result ↔ (map string_bytes words.now ≡ codes "list" ∷ []) }
+{
+    match words {
+        [word] if word.as_str() == "list" => true,
+        _ => false,
+    }
+}
+
+/// What these words ask for. Words that could not be read for another reason than memory, as one that is
+/// not UTF-8, ask for nothing that the program does.
+#[tactic(auto, using(crate::proofs::Runs::list_words, crate::proofs::Runs::memory_error, crate::proofs::Runs::other_words, crate::proofs::Runs::other_error))]
+pub fn requested(words: &io::Result<Vec<String>>) -> Request
+    ensures { Asks words.now result }
+{
+    match words {
+        Ok(words) => {
+            if is_list(words.as_slice()) {
+                Request::List
+            } else {
+                Request::Usage
+            }
+        }
+        Err(error) => {
+            if error.kind() == ErrorKind::OutOfMemory {
+                Request::Memory
+            } else {
+                Request::Usage
+            }
+        }
+    }
+}
+
+/// Writes the usage line.
+fn complain<C: Write>(complaints: &mut C) -> Status
+    ensures { Complains (C.contents complaints.old) (C.contents complaints.new) result }
+{
+    let written = match writeln!(complaints, "usage: neli_tool list [zero] | replay") {
+        Ok(()) => complaints.flush(),
+        Err(error) => Err(error),
+    };
+    match written {
+        Ok(()) => Status::Usage,
+        Err(_) => Status::NoUsage,
+    }
+}
+
+/// Does what these words ask for, and answers how the run ends; the exit status is its `code`.
+///
+/// The words are looked at first. Only where they ask for a listing is the input read, whole and before
+/// anything is written. Words that ask for nothing are answered by the usage line on `complaints`.
+#[tactic(auto, using(crate::proofs::Runs::not_both, crate::proofs::Runs::memory_no_input))]
+pub fn run<R: Read, W: Write, C: Write>(
+    alloc: Global,
+    words: &io::Result<Vec<String>>,
+    input: &mut R,
+    output: &mut W,
+    complaints: &mut C,
+) -> Status
+    ensures list { AskForList words.now
+        → Prints (R.remaining input.old) (W.contents output.old) (W.contents output.new) result }
+    ensures memory { RanOutOfMemory words.now
+        → PrintsMemory (W.contents output.old) (W.contents output.new) result }
+    ensures usage { AreWrong words.now
+        → Complains (C.contents complaints.old) (C.contents complaints.new) result }
+    ensures untouched { AreWrong words.now → output.new ≡ output.old }
+    ensures no_input { result ≡ status.NoInput → output.new ≡ output.old }
+    ensures unread { ¬ AskForList words.now → input.new ≡ input.old }
+    ensures silent { ¬ AreWrong words.now → complaints.new ≡ complaints.old }
+{
+    match requested(words) {
+        Request::List => list(alloc, input, output),
+        Request::Usage => complain(complaints),
+        Request::Memory => out_of_memory(output),
+    }
+}

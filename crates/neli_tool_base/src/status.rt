@@ -1,0 +1,36 @@
+//! How a run of the program ends.
+
+ghost use Rattle.std.specs.Prelude.{◌≡◌};
+ghost use Rattle.neli_tool_base.specs.Runs.{status_code};
+
+/// How a run of the program ends.
+#[derive(Clone, Copy, Debug, PartialEq, Eq)]
+pub enum Status {
+    /// The whole datagram is listed.
+    Whole,
+    /// The datagram is listed up to its fault, and the fault's line stands last.
+    Fault,
+    /// Memory ran out. The line that says so stands last.
+    Memory,
+    /// The input failed, or did not end in time. Nothing is written.
+    NoInput,
+    /// The output failed. A part of the text may be written.
+    NoOutput,
+    /// The arguments ask for nothing that the program does, and the usage line is written.
+    Usage,
+    /// The arguments ask for nothing that the program does, and the usage line could not be written.
+    NoUsage,
+}
+
+impl Status {
+    /// The exit status.
+    pub fn code(self) -> u8
+        ensures { result ≡ status_code self }
+    {
+        match self {
+            Status::Whole => 0,
+            Status::Fault | Status::Memory | Status::NoInput | Status::NoOutput => 1,
+            Status::Usage | Status::NoUsage => 2,
+        }
+    }
+}

@@ -1,0 +1,152 @@
+//! What the arguments ask for, and what is answered.
+
+use crate::output::Narrow;
+use neli_tool_base::run::{Request, requested, run};
+use neli_tool_base::status::Status;
+use std::alloc::Global;
+use std::io;
+use std::io::ErrorKind;
+use std::process::Abort;
+
+const USAGE: &str = "usage: neli_tool list [zero] | replay\n";
+
+/// A datagram of one byte.
+const SHORT: [u8; 1] = [0];
+
+/// The words of a command line.
+fn words(rt: &impl Abort, alloc: Global, given: &[&str]) -> io::Result<Vec<String>> {
+    let mut words = Vec::new(alloc);
+    for word in given {
+        let word = String::from_str(alloc, *word).expect(rt, "memory");
+        words.push(word).expect(rt, "memory");
+    }
+    Ok(words)
+}
+
+#[test]
+fn words_ask_for_a_listing_or_are_wrong_use(rt: HostRuntime) {
+    let alloc = rt.alloc();
+    let rows: [(&[&str], Request, Status, u8, &str, &str); 9] = [
+        (
+            &["list"],
+            Request::List,
+            Status::Fault,
+            1,
+            "fault: short\n",
+            "",
+        ),
+        (&[], Request::Usage, Status::Usage, 2, "", USAGE),
+        (&[""], Request::Usage, Status::Usage, 2, "", USAGE),
+        (&["lists"], Request::Usage, Status::Usage, 2, "", USAGE),
+        (&["List"], Request::Usage, Status::Usage, 2, "", USAGE),
+        (
+            &["list", "list"],
+            Request::Usage,
+            Status::Usage,
+            2,
+            "",
+            USAGE,
+        ),
+        (
+            &["list", "zero"],
+            Request::Usage,
+            Status::Usage,
+            2,
+            "",
+            USAGE,
+        ),
+        (&["replay"], Request::Usage, Status::Usage, 2, "", USAGE),
+        (
+            &["zero", "list"],
+            Request::Usage,
+            Status::Usage,
+            2,
+            "",
+            USAGE,
+        ),
+    ];
+    for (given, request, want, code, text, complaint) in rows {
+        let words = words(&rt, alloc, given);
+        assert_eq!(rt; requested(&words), request, "{given:?}");
+        let mut input = SHORT.as_slice();
+        let mut output = Vec::new(alloc);
+        let mut complaints = Vec::new(alloc);
+        let status = run(alloc, &words, &mut input, &mut output, &mut complaints);
+        assert_eq!(rt; status, want, "{given:?}");
+        assert_eq!(rt; status.code(), code, "{given:?}");
+        assert_eq!(rt; output.as_slice(), text.as_bytes(), "{given:?}");
+        assert_eq!(rt; complaints.as_slice(), complaint.as_bytes(), "{given:?}");
+        assert_eq!(rt; input.is_empty(), request == Request::List, "{given:?}");
+    }
+}
+
+#[test]
+fn words_that_are_not_read(rt: HostRuntime) {
+    let alloc = rt.alloc();
+    let rows = [
+        (
+            ErrorKind::OutOfMemory,
+            Request::Memory,
+            Status::Memory,
+            "fault: memory\n",
+            "",
+        ),
+        (
+            ErrorKind::InvalidData,
+            Request::Usage,
+            Status::Usage,
+            "",
+            USAGE,
+        ),
+    ];
+    for (kind, request, want, text, complaint) in rows {
+        let words: io::Result<Vec<String>> = Err(io::Error::from(kind));
+        assert_eq!(rt; requested(&words), request, "{kind:?}");
+        let mut input = SHORT.as_slice();
+        let mut output = Vec::new(alloc);
+        let mut complaints = Vec::new(alloc);
+        let status = run(alloc, &words, &mut input, &mut output, &mut complaints);
+        assert_eq!(rt; status, want, "{kind:?}");
+        assert_eq!(rt; output.as_slice(), text.as_bytes(), "{kind:?}");
+        assert_eq!(rt; complaints.as_slice(), complaint.as_bytes(), "{kind:?}");
+        assert_eq!(rt; input.len(), 1, "{kind:?}");
+    }
+}
+
+#[test]
+fn complaints_that_fail_are_still_wrong_use(rt: HostRuntime) {
+    let alloc = rt.alloc();
+    let words = words(&rt, alloc, &[]);
+    let whole = USAGE.len();
+    let rows = [
+        ("no room", 0, true, Status::NoUsage),
+        ("room for a part", whole - 1, true, Status::NoUsage),
+        ("a flush that fails", whole, false, Status::NoUsage),
+        ("room for all", whole, true, Status::Usage),
+    ];
+    for (row, room, flushes, want) in rows {
+        let mut input = SHORT.as_slice();
+        let mut output = Vec::new(alloc);
+        let mut complaints = Narrow { room, flushes };
+        let status = run(alloc, &words, &mut input, &mut output, &mut complaints);
+        assert_eq!(rt; status, want, "{row}");
+        assert_eq!(rt; status.code(), 2, "{row}");
+        assert!(rt; output.is_empty(), "{row}");
+    }
+}
+
+#[test]
+fn each_end_has_its_exit_status(rt: HostRuntime) {
+    let rows = [
+        (Status::Whole, 0),
+        (Status::Fault, 1),
+        (Status::Memory, 1),
+        (Status::NoInput, 1),
+        (Status::NoOutput, 1),
+        (Status::Usage, 2),
+        (Status::NoUsage, 2),
+    ];
+    for (status, code) in rows {
+        assert_eq!(rt; status.code(), code, "{status:?}");
+    }
+}

@@ -1,0 +1,97 @@
+//! The lines of datagrams.
+
+use neli_msg::NlBufferIter;
+use neli_tool_base::line::{Ending, Line, RawMessage};
+use neli_tool_base::listing::{list, listing_of};
+use neli_tool_base::status::Status;
+use std::test::Fail;
+
+/// A message of type 1024 with the payload `61`, and three padding bytes of any value.
+const ONE: &str = "1100000000040000000000000000000061ffffff";
+
+const ONE_LINE: &str = "type 1024 flags 0x0000 number 0 port 0 payload 1\n";
+
+#[test]
+fn datagrams_are_listed(rt: HostRuntime) -> Result<(), Fail> {
+    let rows = [
+        ("nothing", "", "", Status::Whole),
+        ("a payload of one byte", ONE, ONE_LINE, Status::Whole),
+        (
+            "flags without a name, and a second message",
+            "10000000100002f005000000070000001100000000040000000000000000000061ffffff",
+            "type 16 flags 0xf002 number 5 port 7 payload 0\ntype 1024 flags 0x0000 number 0 port 0 payload 1\n",
+            Status::Whole,
+        ),
+        (
+            "five zeros after a message",
+            "1100000000040000000000000000000061ffffff0000000000",
+            "type 1024 flags 0x0000 number 0 port 0 payload 1\nfault: short\n",
+            Status::Fault,
+        ),
+        (
+            "15 bytes",
+            "110000000004000000000000000000",
+            "fault: short\n",
+            Status::Fault,
+        ),
+        (
+            "a length below the header",
+            "0f000000000400000000000000000000",
+            "fault: input 15\n",
+            Status::Fault,
+        ),
+        (
+            "a length past the bytes",
+            "ffffffff000400000000000000000000000000ff",
+            "fault: input 4294967279\n",
+            Status::Fault,
+        ),
+        (
+            "padding missing",
+            "1100000000040000000000000000000061",
+            "fault: short\n",
+            Status::Fault,
+        ),
+    ];
+    for (row, datagram, text, want) in rows {
+        let bytes = hex::decode(rt.alloc(), datagram)?;
+        let mut output = Vec::new(rt.alloc());
+        let status = list(rt.alloc(), &mut bytes.as_slice(), &mut output);
+        assert_eq!(rt; output.as_slice(), text.as_bytes(), "{row}");
+        assert_eq!(rt; status, want, "{row}");
+    }
+    Ok(())
+}
+
+#[test]
+fn a_message_has_a_line(rt: HostRuntime) -> Result<(), Fail> {
+    let alloc = rt.alloc();
+    let line = "type 16 flags 0xf002 number 5 port 7 payload 0";
+    let bytes = hex::decode(alloc, "10000000100002f0050000000700000000")?;
+    let mut messages = NlBufferIter::new(&bytes);
+    let Some(Ok(message)) = messages.next(alloc) else {
+        return Err(Fail::new("the first message"));
+    };
+    let message: RawMessage = message;
+    assert_eq!(rt; Line(&message).to_string(alloc)?.as_str(), line);
+    let listing = listing_of(alloc, &bytes);
+    let text = format!(in alloc; "{line}\n")?;
+    assert_eq!(rt; listing.lines.as_slice(), text.as_bytes());
+    assert_eq!(rt; listing.ending, Ending::Short);
+    Ok(())
+}
+
+#[test]
+fn endings_have_lines(rt: HostRuntime) -> Result<(), Fail> {
+    let rows = [
+        (Ending::Whole, ""),
+        (Ending::Input(15), "fault: input 15\n"),
+        (Ending::Short, "fault: short\n"),
+        (Ending::Other, "fault: other\n"),
+        (Ending::Memory, "fault: memory\n"),
+    ];
+    for (ending, want) in rows {
+        assert_eq!(rt; ending.to_string(rt.alloc())?.as_str(), want);
+    }
+    Ok(())
+}

@@ -1,0 +1,85 @@
+//! Any one allocation may be refused in these tests (`rt try --test --fail-alloc N`). What is printed is then
+//! the whole text, or whole lines of it and the line for out of memory, and the status says which.
+
+use neli_tool_base::run::run;
+use neli_tool_base::status::Status;
+use std::io;
+use std::io::Write;
+
+/// Three messages: type 16 without a payload, type 1024 with the payload `61`, type 16 without a payload.
+const THREE: [u8; 52] = [
+    0x10, 0, 0, 0, 0x10, 0, 0x02, 0xf0, 5, 0, 0, 0, 7, 0, 0, 0, //
+    0x11, 0, 0, 0, 0, 4, 0, 0, 0, 0, 0, 0, 0, 0, 0, 0, 0x61, 0xff, 0xff, 0xff, //
+    0x10, 0, 0, 0, 0x10, 0, 0, 0, 6, 0, 0, 0, 7, 0, 0, 0,
+];
+
+/// A writer that keeps what it is given without taking memory.
+#[derive(Drop)]
+struct Kept {
+    bytes: [u8; 256],
+    count: usize,
+}
+
+impl Write for Kept {
+    fn write(&mut self, buf: &[u8]) -> io::Result<usize> {
+        let mut taken = 0;
+        for byte in buf {
+            if self.count >= 256 {
+                return Ok(taken);
+            }
+            self.bytes[self.count] = *byte;
+            self.count += 1;
+            taken += 1;
+        }
+        Ok(taken)
+    }
+
+    fn flush(&mut self) -> io::Result<()> {
+        Ok(())
+    }
+}
+
+#[test]
+fn listed_or_out_of_memory(rt: HostRuntime) {
+    let alloc = rt.alloc();
+    let whole = "type 16 flags 0xf002 number 5 port 7 payload 0\n\
+        type 1024 flags 0x0000 number 0 port 0 payload 1\n\
+        type 16 flags 0x0000 number 6 port 7 payload 0\n";
+    let parts = [
+        "fault: memory\n",
+        "type 16 flags 0xf002 number 5 port 7 payload 0\nfault: memory\n",
+        "type 16 flags 0xf002 number 5 port 7 payload 0\n\
+            type 1024 flags 0x0000 number 0 port 0 payload 1\nfault: memory\n",
+    ];
+    let mut words = Vec::new(alloc);
+    let Ok(word) = String::from_str(alloc, "list") else {
+        return;
+    };
+    let Ok(()) = words.push(word) else {
+        return;
+    };
+    let mut output = Kept {
+        bytes: [0; 256],
+        count: 0,
+    };
+    let mut complaints = Vec::new(alloc);
+    let status = run(
+        alloc,
+        &Ok(words),
+        &mut THREE.as_slice(),
+        &mut output,
+        &mut complaints,
+    );
+    assert!(rt; complaints.is_empty());
+    let count = output.count;
+    assert!(rt; count <= 256);
+    let text = &output.bytes[..count];
+    match status {
+        Status::Whole => assert_eq!(rt; text, whole.as_bytes()),
+        Status::Memory => assert!(rt;
+            parts.iter().any(|part| text == part.as_bytes()),
+            "{text:?}"
+        ),
+        _ => assert!(rt; false, "{status:?}"),
+    }
+}

@@ -1,0 +1,84 @@
+//! Outputs that fail.
+
+use neli_tool_base::listing::{list, out_of_memory};
+use neli_tool_base::status::Status;
+use std::io;
+use std::io::{ErrorKind, Write};
+use std::test::Fail;
+
+/// A writer that takes so many bytes and then fails, and of which a flush may fail.
+#[derive(Drop)]
+pub struct Narrow {
+    pub room: usize,
+    pub flushes: bool,
+}
+
+impl Write for Narrow {
+    fn write(&mut self, buf: &[u8]) -> io::Result<usize> {
+        if self.room == 0 {
+            return Err(io::Error::from(ErrorKind::StorageFull));
+        }
+        let count = buf.len().min(self.room);
+        self.room -= count;
+        Ok(count)
+    }
+
+    fn flush(&mut self) -> io::Result<()> {
+        if self.flushes {
+            Ok(())
+        } else {
+            Err(io::Error::from(ErrorKind::StorageFull))
+        }
+    }
+}
+
+#[test]
+fn a_listing_that_is_not_written_is_no_output(rt: HostRuntime) -> Result<(), Fail> {
+    let alloc = rt.alloc();
+    let line = "type 1024 flags 0x0000 number 0 port 0 payload 1\n".len();
+    let fault = "fault: short\n".len();
+    let rows = [
+        ("no room", 0, true, Status::NoOutput),
+        ("room for a byte", 1, true, Status::NoOutput),
+        ("room for the lines", line, true, Status::NoOutput),
+        (
+            "room for a part of the fault",
+            line + 1,
+            true,
+            Status::NoOutput,
+        ),
+        (
+            "room for all but a byte",
+            line + fault - 1,
+            true,
+            Status::NoOutput,
+        ),
+        ("a flush that fails", line + fault, false, Status::NoOutput),
+        ("room for all", line + fault, true, Status::Fault),
+    ];
+    // A message of type 1024 with the payload `61` and three padding bytes, and then one byte.
+    let datagram = hex::decode(alloc, "1100000000040000000000000000000061ffffff00")?;
+    for (row, room, flushes, want) in rows {
+        let mut output = Narrow { room, flushes };
+        let status = list(alloc, &mut datagram.as_slice(), &mut output);
+        assert_eq!(rt; status, want, "{row}");
+        assert_eq!(rt; output.room, 0, "{row}");
+    }
+    Ok(())
+}
+
+#[test]
+fn out_of_memory_that_is_not_written_is_no_output(rt: HostRuntime) {
+    let whole = "fault: memory\n".len();
+    let rows = [
+        ("no room", 0, true, Status::NoOutput),
+        ("room for all but a byte", whole - 1, true, Status::NoOutput),
+        ("a flush that fails", whole, false, Status::NoOutput),
+        ("room for all", whole, true, Status::Memory),
+    ];
+    for (row, room, flushes, want) in rows {
+        let mut output = Narrow { room, flushes };
+        assert_eq!(rt; out_of_memory(&mut output), want, "{row}");
+        assert_eq!(rt; output.room, 0, "{row}");
+    }
+}
