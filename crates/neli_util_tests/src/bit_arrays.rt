@@ -96,28 +96,28 @@ fn numbers_after_a_resize(rt: HostRuntime) -> Result<(), Fail> {
     Ok(())
 }
 
+// What a refusal prints.
+fn refusal<T: Drop>(alloc: Global, tried: Result<T, SerError>) -> Result<String, Fail> {
+    match tried {
+        Ok(_made) => Err(Fail::new("not refused")),
+        Err(error) => Ok(error.to_string(alloc)?),
+    }
+}
+
 // 134217727 words are 4294967264 bits, or 536870908 bytes.
 #[test]
 fn too_long(rt: HostRuntime) -> Result<(), Fail> {
+    let mut array = array_with(rt.alloc(), 32, &[5])?;
     for bits in [4294967265usize, 4294967296, usize::MAX] {
-        let refused = NetlinkBitArray::new(rt.alloc(), bits);
-        assert!(rt; matches!(&refused, Err(SerError::Msg(_))), "{bits} bits");
-        if let Err(error) = refused {
-            assert_eq!(rt; error.to_string(rt.alloc())?.as_str(), "bit array too long");
-        }
-        let mut array = array_with(rt.alloc(), 32, &[5])?;
-        assert!(rt;
-            matches!(array.resize_bits(bits), Err(SerError::Msg(_))),
-            "{bits} bits"
-        );
+        let text = refusal(rt.alloc(), NetlinkBitArray::new(rt.alloc(), bits))?;
+        assert_eq!(rt; text.as_str(), "bit array too long", "{bits} bits");
+        let text = refusal(rt.alloc(), array.resize_bits(bits))?;
+        assert_eq!(rt; text.as_str(), "bit array too long", "{bits} bits");
         assert_eq!(rt; array.to_vec(rt.alloc())?.as_slice(), [5u32].as_slice());
     }
     for bytes in [536870909usize, usize::MAX] {
-        let mut array = array_with(rt.alloc(), 32, &[5])?;
-        assert!(rt;
-            matches!(array.resize(bytes), Err(SerError::Msg(_))),
-            "{bytes} bytes"
-        );
+        let text = refusal(rt.alloc(), array.resize(bytes))?;
+        assert_eq!(rt; text.as_str(), "bit array too long", "{bytes} bytes");
         assert_eq!(rt; array.to_vec(rt.alloc())?.as_slice(), [5u32].as_slice());
     }
     Ok(())
