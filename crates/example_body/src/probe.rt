@@ -135,7 +135,8 @@ pub struct ProbeBuilder<P> {
 }
 
 impl<P> Default for ProbeBuilder<P> {
-    ghost is_default = { λ b. b ≡ record { hops = None; kind = None; port = None; payload = None } };
+    ghost is_default = { λ b.
+        b ≡ record { hops = None; kind = None; port = None; payload = None } };
 
     fn default() -> Self {
         ProbeBuilder {

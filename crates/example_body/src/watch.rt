@@ -59,7 +59,8 @@ impl ToBytes for Watch {
 
     ghost length_is = { watch_wire-length };
 
-    ghost zeros_after = { λ w bytes e. unpadded-zeros (watch_size w) bytes (watch_wire-length w bytes e) };
+    ghost zeros_after = { λ w bytes e.
+        unpadded-zeros (watch_size w) bytes (watch_wire-length w bytes e) };
 
     ghost no_memory = { watch_wire-no_memory };
 

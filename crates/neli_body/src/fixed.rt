@@ -44,7 +44,8 @@ pub trait FixedHeader: Debug + Drop {
     ghost reads_back: { (h : Self) → IsPlain h → header_of (bytes_of h) ≡ h };
 
     // Bytes that are read as a header are that header's bytes.
-    ghost writes_back: { (s : List ℕ) → length s ≡ width → AreBytes s → bytes_of (header_of s) ≡ s };
+    ghost writes_back: { (s : List ℕ) → length s ≡ width → AreBytes s
+        → bytes_of (header_of s) ≡ s };
 }
 
 /// Reads the header that the cursor's rest begins with, and moves past it. `Io(UnexpectedEof)` where the

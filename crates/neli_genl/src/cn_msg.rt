@@ -169,11 +169,14 @@ impl<P: Size> Size for CnMsg<P> {
 impl<P: ToBytes> ToBytes for CnMsg<P> {
     ghost wire = { λ m. body_wire (cn_msg_bytes m.header) (P.wire m.payload) };
 
-    ghost length_is = { λ m. body_wire-length 20 (cn_msg_bytes m.header) (cn_msg-width m.header) (P.wire m.payload) (P.Size.wire_length m.payload) (P.length_is m.payload) };
+    ghost length_is = { λ m. body_wire-length 20 (cn_msg_bytes m.header) (cn_msg-width m.header)
+        (P.wire m.payload) (P.Size.wire_length m.payload) (P.length_is m.payload) };
 
-    ghost zeros_after = { λ m. body_wire-zeros 20 (cn_msg_bytes m.header) (cn_msg-width m.header) (P.wire m.payload) (P.Size.wire_length m.payload) (P.length_is m.payload) };
+    ghost zeros_after = { λ m. body_wire-zeros 20 (cn_msg_bytes m.header) (cn_msg-width m.header)
+        (P.wire m.payload) (P.Size.wire_length m.payload) (P.length_is m.payload) };
 
-    ghost no_memory = { λ m. body_wire-no_memory (cn_msg_bytes m.header) (P.wire m.payload) (P.no_memory m.payload) };
+    ghost no_memory = { λ m. body_wire-no_memory (cn_msg_bytes m.header) (P.wire m.payload)
+        (P.no_memory m.payload) };
 
     fn to_bytes(&self, buffer: &mut Vec<u8>) -> Result<(), SerError> {
         write_body(&self.header, &self.payload, buffer)
@@ -221,7 +224,9 @@ pub struct CnMsgBuilder<P> {
 }
 
 impl<P> Default for CnMsgBuilder<P> {
-    ghost is_default = { λ b. b ≡ record { idx = None; val = None; seq = None; ack = None; flags = None; payload = None } };
+    ghost is_default = { λ b.
+        b ≡ record { idx = None; val = None; seq = None; ack = None; flags = None;
+        payload = None } };
 
     fn default() -> Self {
         CnMsgBuilder {

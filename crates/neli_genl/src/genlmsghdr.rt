@@ -156,9 +156,11 @@ fn append_head<C: Cmd>(
 impl<C: Cmd, T: NlAttrType, H: ToBytes> ToBytes for Genlmsghdr<C, T, H> {
     ghost wire = { genlmsghdr_wire C.wire_number T.wire_number H.wire };
 
-    ghost length_is = { genlmsghdr_wire-length C.wire_number T.wire_number H.wire H.Size.wire_length H.length_is };
+    ghost length_is = { genlmsghdr_wire-length C.wire_number T.wire_number
+        H.wire H.Size.wire_length H.length_is };
 
-    ghost zeros_after = { genlmsghdr_wire-zeros C.wire_number T.wire_number H.wire H.Size.wire_length H.length_is };
+    ghost zeros_after = { genlmsghdr_wire-zeros C.wire_number T.wire_number
+        H.wire H.Size.wire_length H.length_is };
 
     ghost no_memory = { genlmsghdr_wire-no_memory C.wire_number T.wire_number H.wire H.no_memory };
 
@@ -280,9 +282,11 @@ impl<C: Cmd, T: NlAttrType, H: TypeSize> FromBytesWithInput for Genlmsghdr<C, T,
 
     ghost takes_memory = { genlmsghdr_takes H.width H.FromBytes.read H.FromBytes.takes_memory };
 
-    ghost no_memory = { genlmsghdr_of-no_memory H.width C.wire_value T.wire_value H.FromBytes.read H.FromBytes.no_memory };
+    ghost no_memory = { genlmsghdr_of-no_memory H.width C.wire_value T.wire_value
+        H.FromBytes.read H.FromBytes.no_memory };
 
-    ghost never_short = { genlmsghdr_of-never_short H.width C.wire_value T.wire_value H.FromBytes.read };
+    ghost never_short = { genlmsghdr_of-never_short H.width C.wire_value T.wire_value
+        H.FromBytes.read };
 
     /// Reads a message. `InvalidInput(n)` too where the family's own header is no multiple of four long.
     fn from_bytes_with_input(
@@ -314,7 +318,8 @@ pub struct GenlmsghdrBuilder<C, T, H = NoUserHeader> {
 }
 
 impl<C, T, H> Default for GenlmsghdrBuilder<C, T, H> {
-    ghost is_default = { λ b. b ≡ record { cmd = None; version = None; header = None; attrs = None } };
+    ghost is_default = { λ b.
+        b ≡ record { cmd = None; version = None; header = None; attrs = None } };
 
     fn default() -> Self {
         GenlmsghdrBuilder {

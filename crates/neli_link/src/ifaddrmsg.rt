@@ -161,11 +161,14 @@ impl Size for Ifaddrmsg {
 impl ToBytes for Ifaddrmsg {
     ghost wire = { λ m. body_wire (ifaddrmsg_bytes m.header) (attrs_wire ifa_number m.rtattrs) };
 
-    ghost length_is = { λ m. with_attributes-length 8 ifa_number (ifaddrmsg_bytes m.header) m.rtattrs (ifaddrmsg-width m.header) };
+    ghost length_is = { λ m. with_attributes-length 8 ifa_number
+        (ifaddrmsg_bytes m.header) m.rtattrs (ifaddrmsg-width m.header) };
 
-    ghost zeros_after = { λ m. with_attributes-zeros 8 ifa_number (ifaddrmsg_bytes m.header) m.rtattrs (ifaddrmsg-width m.header) };
+    ghost zeros_after = { λ m. with_attributes-zeros 8 ifa_number
+        (ifaddrmsg_bytes m.header) m.rtattrs (ifaddrmsg-width m.header) };
 
-    ghost no_memory = { λ m. with_attributes-no_memory 8 ifa_number (ifaddrmsg_bytes m.header) m.rtattrs };
+    ghost no_memory = { λ m. with_attributes-no_memory 8 ifa_number
+        (ifaddrmsg_bytes m.header) m.rtattrs };
 
     fn to_bytes(&self, buffer: &mut Vec<u8>) -> Result<(), SerError> {
         write_body(&self.header, &self.rtattrs, buffer)
@@ -213,7 +216,9 @@ pub struct IfaddrmsgBuilder {
 }
 
 impl Default for IfaddrmsgBuilder {
-    ghost is_default = { λ b. b ≡ record { ifa_family = None; ifa_prefixlen = None; ifa_flags = None; ifa_scope = None; ifa_index = None; rtattrs = None } };
+    ghost is_default = { λ b.
+        b ≡ record { ifa_family = None; ifa_prefixlen = None; ifa_flags = None; ifa_scope = None;
+        ifa_index = None; rtattrs = None } };
 
     fn default() -> Self {
         IfaddrmsgBuilder {

@@ -164,11 +164,14 @@ impl Size for Ifinfomsg {
 impl ToBytes for Ifinfomsg {
     ghost wire = { λ m. body_wire (ifinfomsg_bytes m.header) (attrs_wire ifla_number m.rtattrs) };
 
-    ghost length_is = { λ m. with_attributes-length 16 ifla_number (ifinfomsg_bytes m.header) m.rtattrs (ifinfomsg-width m.header) };
+    ghost length_is = { λ m. with_attributes-length 16 ifla_number
+        (ifinfomsg_bytes m.header) m.rtattrs (ifinfomsg-width m.header) };
 
-    ghost zeros_after = { λ m. with_attributes-zeros 16 ifla_number (ifinfomsg_bytes m.header) m.rtattrs (ifinfomsg-width m.header) };
+    ghost zeros_after = { λ m. with_attributes-zeros 16 ifla_number
+        (ifinfomsg_bytes m.header) m.rtattrs (ifinfomsg-width m.header) };
 
-    ghost no_memory = { λ m. with_attributes-no_memory 16 ifla_number (ifinfomsg_bytes m.header) m.rtattrs };
+    ghost no_memory = { λ m. with_attributes-no_memory 16 ifla_number
+        (ifinfomsg_bytes m.header) m.rtattrs };
 
     fn to_bytes(&self, buffer: &mut Vec<u8>) -> Result<(), SerError> {
         write_body(&self.header, &self.rtattrs, buffer)
@@ -216,7 +219,9 @@ pub struct IfinfomsgBuilder {
 }
 
 impl Default for IfinfomsgBuilder {
-    ghost is_default = { λ b. b ≡ record { ifi_family = None; ifi_type = None; ifi_index = None; ifi_flags = None; ifi_change = None; rtattrs = None } };
+    ghost is_default = { λ b.
+        b ≡ record { ifi_family = None; ifi_type = None; ifi_index = None; ifi_flags = None;
+        ifi_change = None; rtattrs = None } };
 
     fn default() -> Self {
         IfinfomsgBuilder {

@@ -94,7 +94,8 @@ impl Size for IflaVlanFlags {
 impl ToBytes for IflaVlanFlags {
     ghost wire = { λ v. Ok (ifla_vlan_flags_bytes v) };
 
-    ghost length_is = { λ v bytes e. written-length (ifla_vlan_flags_bytes v) bytes 2 (ifla_vlan_flags-width v) e };
+    ghost length_is = { λ v bytes e.
+        written-length (ifla_vlan_flags_bytes v) bytes 2 (ifla_vlan_flags-width v) e };
 
     ghost zeros_after = { λ v bytes e. unpadded-zeros 2 bytes
         (written-length (ifla_vlan_flags_bytes v) bytes 2 (ifla_vlan_flags-width v) e) };

@@ -89,10 +89,12 @@ impl Size for IflaVlanQosMapping {
 impl ToBytes for IflaVlanQosMapping {
     ghost wire = { λ v. Ok (ifla_vlan_qos_mapping_bytes v) };
 
-    ghost length_is = { λ v bytes e. written-length (ifla_vlan_qos_mapping_bytes v) bytes 8 (ifla_vlan_qos_mapping-width v) e };
+    ghost length_is = { λ v bytes e.
+        written-length (ifla_vlan_qos_mapping_bytes v) bytes 8 (ifla_vlan_qos_mapping-width v) e };
 
     ghost zeros_after = { λ v bytes e. unpadded-zeros 8 bytes
-        (written-length (ifla_vlan_qos_mapping_bytes v) bytes 8 (ifla_vlan_qos_mapping-width v) e) };
+        (written-length (ifla_vlan_qos_mapping_bytes v) bytes 8
+            (ifla_vlan_qos_mapping-width v) e) };
 
     ghost no_memory = { λ v. written-no_memory (ifla_vlan_qos_mapping_bytes v) };
 

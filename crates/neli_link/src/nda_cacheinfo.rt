@@ -111,7 +111,8 @@ impl Size for NdaCacheinfo {
 impl ToBytes for NdaCacheinfo {
     ghost wire = { λ v. Ok (nda_cacheinfo_bytes v) };
 
-    ghost length_is = { λ v bytes e. written-length (nda_cacheinfo_bytes v) bytes 16 (nda_cacheinfo-width v) e };
+    ghost length_is = { λ v bytes e.
+        written-length (nda_cacheinfo_bytes v) bytes 16 (nda_cacheinfo-width v) e };
 
     ghost zeros_after = { λ v bytes e. unpadded-zeros 16 bytes
         (written-length (nda_cacheinfo_bytes v) bytes 16 (nda_cacheinfo-width v) e) };
@@ -156,7 +157,9 @@ pub struct NdaCacheinfoBuilder {
 }
 
 impl Default for NdaCacheinfoBuilder {
-    ghost is_default = { λ b. b ≡ record { ndm_confirmed = None; ndm_used = None; ndm_updated = None; ndm_refcnt = None } };
+    ghost is_default = { λ b.
+        b ≡ record { ndm_confirmed = None; ndm_used = None; ndm_updated = None;
+        ndm_refcnt = None } };
 
     fn default() -> Self {
         NdaCacheinfoBuilder {

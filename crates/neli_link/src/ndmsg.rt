@@ -155,11 +155,14 @@ impl Size for Ndmsg {
 impl ToBytes for Ndmsg {
     ghost wire = { λ m. body_wire (ndmsg_bytes m.header) (attrs_wire nda_number m.rtattrs) };
 
-    ghost length_is = { λ m. with_attributes-length 12 nda_number (ndmsg_bytes m.header) m.rtattrs (ndmsg-width m.header) };
+    ghost length_is = { λ m. with_attributes-length 12 nda_number (ndmsg_bytes m.header) m.rtattrs
+        (ndmsg-width m.header) };
 
-    ghost zeros_after = { λ m. with_attributes-zeros 12 nda_number (ndmsg_bytes m.header) m.rtattrs (ndmsg-width m.header) };
+    ghost zeros_after = { λ m. with_attributes-zeros 12 nda_number (ndmsg_bytes m.header) m.rtattrs
+        (ndmsg-width m.header) };
 
-    ghost no_memory = { λ m. with_attributes-no_memory 12 nda_number (ndmsg_bytes m.header) m.rtattrs };
+    ghost no_memory = { λ m. with_attributes-no_memory 12 nda_number
+        (ndmsg_bytes m.header) m.rtattrs };
 
     fn to_bytes(&self, buffer: &mut Vec<u8>) -> Result<(), SerError> {
         write_body(&self.header, &self.rtattrs, buffer)
@@ -207,7 +210,9 @@ pub struct NdmsgBuilder {
 }
 
 impl Default for NdmsgBuilder {
-    ghost is_default = { λ b. b ≡ record { ndm_family = None; ndm_index = None; ndm_state = None; ndm_flags = None; ndm_type = None; rtattrs = None } };
+    ghost is_default = { λ b.
+        b ≡ record { ndm_family = None; ndm_index = None; ndm_state = None; ndm_flags = None;
+        ndm_type = None; rtattrs = None } };
 
     fn default() -> Self {
         NdmsgBuilder {

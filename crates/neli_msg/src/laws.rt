@@ -29,17 +29,20 @@ pub fn has_one_cut<T: NlType, P: FromBytesWithInput>()
 /// A message takes 16 bytes at least, so a datagram of n bytes has at most n / 16 of them.
 pub fn has_few_messages<T: NlType, P: FromBytesWithInput>()
     ensures { (b : List ℕ) (ms : List (Message T P.Value)) (f : Option Refusal)
-        → Cuts (message_layout T.wire_value T.wire_number P.read) b ms f → length ms ≤ length b / 16 }
+        → Cuts (message_layout T.wire_value T.wire_number P.read) b ms f
+            → length ms ≤ length b / 16 }
 {}
 
 /// A message that is read untyped, wherever it stands in a datagram, is read as other types exactly as
 /// retyping says: with the same header but for its type, the same codes and attributes, and the body's or
 /// the echoed bytes as `P` reads them, with `P`'s refusal. Where it is refused untyped, it is refused.
 pub fn typed_reading_agrees<T: NlType, P: FromBytesWithInput>()
-    ensures typed { (s r : List ℕ) (m : Message ℕ (List ℕ)) → AreBytes s → frame_at untyped_layout s ≡ Ok (m, r)
+    ensures typed { (s r : List ℕ) (m : Message ℕ (List ℕ)) → AreBytes s
+        → frame_at untyped_layout s ≡ Ok (m, r)
         → frame_at (message_layout T.wire_value T.wire_number P.read) s
         ≡ typed_reading T.wire_value P.read m r }
     ensures refused { (s : List ℕ) (e : Refusal) → AreBytes s → frame_at untyped_layout s ≡ Err e
         → IsErr (frame_at (message_layout T.wire_value T.wire_number P.read) s) }
-    ensures exactly { (m : Message ℕ (List ℕ)) → IsOk (typed_message T.wire_value P.read m) ↔ AreRead P.read m }
+    ensures exactly { (m : Message ℕ (List ℕ))
+        → IsOk (typed_message T.wire_value P.read m) ↔ AreRead P.read m }
 {}

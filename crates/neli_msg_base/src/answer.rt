@@ -92,7 +92,8 @@ fn answer_of<M>(bytes: &[u8], nlmsg: M, ext_ack: GenlBuffer<NlmsgerrAttr, Buffer
 #[tactic(auto, using(neli_wire::specs::laws::Reading::refused_first))]
 pub(crate) fn read_dump_end(alloc: Global, bytes: &[u8]) -> Result<Nlmsgerr<()>, DeError>
     ensures value { IfOk result (λ e. dump_end_in bytes.now ≡ Ok e) }
-    ensures refused { IfErr result (Refuses (dump_end_in bytes.now) (0 < length (drop 4 bytes.now))) }
+    ensures refused { IfErr result
+        (Refuses (dump_end_in bytes.now) (0 < length (drop 4 bytes.now))) }
 {
     let rest = after(bytes, 4)?;
     let ext_ack = read_attributes(alloc, rest)?;
@@ -154,8 +155,11 @@ pub(crate) fn read_failure<T: Constant<Number = u16>, P: FromBytesWithInput>(
     alloc: Global,
     bytes: &[u8],
 ) -> Result<Nlmsgerr<NlmsghdrErr<T, P>>, DeError>
-    ensures value { IfOk result (λ e. failure_in T.wire_value P.read bytes.now ≡ Ok (failure_view P.view e)) }
-    ensures refused { IfErr result (Refuses (failure_in T.wire_value P.read bytes.now) (failure_takes P.takes_memory bytes.now)) }
+    ensures value { IfOk result
+        (λ e. failure_in T.wire_value P.read bytes.now ≡ Ok (failure_view P.view e)) }
+    ensures refused { IfErr result
+        (Refuses (failure_in T.wire_value P.read bytes.now)
+        (failure_takes P.takes_memory bytes.now)) }
 {
     after(bytes, ANSWER_SIZE)?;
     let body = echoed(bytes)?;
@@ -348,7 +352,8 @@ impl<M: Drop> NlmsgerrBuilder<M> {
     /// allocator is that of an empty list of attributes.
     pub fn build(self, alloc: Global) -> Result<Nlmsgerr<M>, NlmsgerrBuilderError>
         ensures built { IfOk result (λ e. built_answer self ≡ Ok e) }
-        ensures refused { IfErr result (λ e. (e ≡ BuildError.Memory → ⊥) × IsWhyNot (built_answer self) e) }
+        ensures refused { IfErr result
+            (λ e. (e ≡ BuildError.Memory → ⊥) × IsWhyNot (built_answer self) e) }
     {
         Ok(Nlmsgerr {
             error: self.error.unwrap_or(0),
@@ -426,7 +431,9 @@ impl Nlmsgerr<NlmsghdrErr<u16, Buffer>> {
         &self,
         alloc: Global,
     ) -> Result<Nlmsgerr<NlmsghdrErr<T, P>>, RouterError<T, P>>
-        ensures value { IfOk result (λ e. typed_failure T.wire_value P.read self.now ≡ Ok (failure_stating self.now.nlmsg.header.len P.view e)) }
+        ensures value { IfOk result
+            (λ e. typed_failure T.wire_value P.read self.now
+            ≡ Ok (failure_stating self.now.nlmsg.header.len P.view e)) }
         ensures length { IfOk result (λ e. HasOwnLength P.wire_length e.nlmsg) }
         ensures refused { IfErr result (RefusesTyping (typed_failure T.wire_value P.read self.now)
             (IsTooLong P.view P.wire_length P.read self.now.nlmsg.payload)) }

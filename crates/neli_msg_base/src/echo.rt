@@ -171,7 +171,9 @@ pub struct NlmsghdrErrBuilder<T, P> {
 impl<T, P> Default for NlmsghdrErrBuilder<T, P> {
     ghost use Rattle.std.specs.Prelude.{◌≡◌, None};
 
-    ghost is_default = { λ b. b ≡ record { nl_type = None; nl_flags = None; nl_seq = None; nl_pid = None; nl_payload = None } };
+    ghost is_default = { λ b.
+        b ≡ record { nl_type = None; nl_flags = None; nl_seq = None; nl_pid = None;
+        nl_payload = None } };
 
     fn default() -> Self {
         NlmsghdrErrBuilder {
@@ -233,7 +235,8 @@ impl<T: NlType + Drop, P: Size + Drop> NlmsghdrErrBuilder<T, P> {
     /// Refused where a field is missing, or the length passes 32 bits.
     pub fn build(self) -> Result<NlmsghdrErr<T, P>, NlmsghdrErrBuilderError>
         ensures built { IfOk result (λ m. built_echo P.wire_length self ≡ Ok m) }
-        ensures refused { IfErr result (λ e. (e ≡ BuildError.Memory → ⊥) × IsWhyNot (built_echo P.wire_length self) e) }
+        ensures refused { IfErr result
+            (λ e. (e ≡ BuildError.Memory → ⊥) × IsWhyNot (built_echo P.wire_length self) e) }
     {
         let message_type = self.nl_type.ok_or(UninitializedFieldError::new("nl_type"))?;
         let payload = self
@@ -278,7 +281,9 @@ impl NlmsghdrErr<u16, Buffer> {
         &self,
         alloc: Global,
     ) -> Result<NlmsghdrErr<T, P>, RouterError<T, P>>
-        ensures value { IfOk result (λ m. typed_echo T.wire_value P.read self.now ≡ Ok (echo_stating self.now.header.len P.view m)) }
+        ensures value { IfOk result
+            (λ m. typed_echo T.wire_value P.read self.now
+            ≡ Ok (echo_stating self.now.header.len P.view m)) }
         ensures length { IfOk result (HasOwnLength P.wire_length) }
         ensures refused { IfErr result (RefusesTyping (typed_echo T.wire_value P.read self.now)
             (IsTooLong P.view P.wire_length P.read self.now.payload)) }

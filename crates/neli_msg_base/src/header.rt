@@ -127,9 +127,12 @@ fn write_fields<T: Constant<Number = u16>>(
     header: &NlmsghdrAck<T>,
     buffer: &mut Vec<u8>,
 ) -> Result<(), SerError>
-    ensures appended { OnOk result (append_wire buffer.old.items (header_wire T.wire_number header.now) ≡ Ok buffer.new.items) }
+    ensures appended { OnOk result
+        (append_wire buffer.old.items (header_wire T.wire_number header.now)
+        ≡ Ok buffer.new.items) }
     ensures refused { IfErr result (RefusesWrite (header_wire T.wire_number header.now)) }
-    ensures front { OnErr result (take (length buffer.old.items) buffer.new.items ≡ buffer.old.items) }
+    ensures front { OnErr result
+        (take (length buffer.old.items) buffer.new.items ≡ buffer.old.items) }
 {
     header.len.to_bytes(buffer)?;
     header.message_type.to_bytes(buffer)?;
@@ -171,7 +174,9 @@ pub struct NlmsghdrAckBuilder<T> {
 impl<T> Default for NlmsghdrAckBuilder<T> {
     ghost use Rattle.std.specs.Prelude.{◌≡◌, None};
 
-    ghost is_default = { λ b. b ≡ record { nl_len = None; nl_type = None; nl_flags = None; nl_seq = None; nl_pid = None } };
+    ghost is_default = { λ b.
+        b ≡ record { nl_len = None; nl_type = None; nl_flags = None; nl_seq = None;
+        nl_pid = None } };
 
     fn default() -> Self {
         NlmsghdrAckBuilder {
@@ -232,7 +237,8 @@ impl<T: Drop> NlmsghdrAckBuilder<T> {
     /// Refused where a field is missing; the first one is named.
     pub fn build(self) -> Result<NlmsghdrAck<T>, NlmsghdrAckBuilderError>
         ensures built { IfOk result (λ h. built_header self ≡ Ok h) }
-        ensures refused { IfErr result (λ e. (e ≡ BuildError.Memory → ⊥) × IsWhyNot (built_header self) e) }
+        ensures refused { IfErr result
+            (λ e. (e ≡ BuildError.Memory → ⊥) × IsWhyNot (built_header self) e) }
     {
         let len = self.nl_len.ok_or(UninitializedFieldError::new("nl_len"))?;
         let message_type = self.nl_type.ok_or(UninitializedFieldError::new("nl_type"))?;

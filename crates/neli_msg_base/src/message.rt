@@ -127,9 +127,11 @@ impl<T: NlType, P: FromBytesWithInput> FromBytes for Nlmsghdr<T, P> {
 
     ghost read = { frame_at (message_layout T.wire_value T.wire_number P.read) };
 
-    ghost takes_memory = { frame_takes (message_layout T.wire_value T.wire_number P.read) (message_takes T.wire_number P.takes_memory) };
+    ghost takes_memory = { frame_takes (message_layout T.wire_value T.wire_number P.read)
+        (message_takes T.wire_number P.takes_memory) };
 
-    ghost local = { framed-local T.wire_value (λ h. payload_in T.wire_value P.read (T.wire_number h.message_type) h.flags) };
+    ghost local = { framed-local T.wire_value
+        (λ h. payload_in T.wire_value P.read (T.wire_number h.message_type) h.flags) };
 
     ghost no_memory = { message-no_memory T.wire_value T.wire_number P.read P.no_memory };
 
@@ -179,7 +181,9 @@ pub struct NlmsghdrBuilder<T, P> {
 impl<T, P> Default for NlmsghdrBuilder<T, P> {
     ghost use Rattle.std.specs.Prelude.{◌≡◌, None};
 
-    ghost is_default = { λ b. b ≡ record { nl_type = None; nl_flags = None; nl_seq = None; nl_pid = None; nl_payload = None } };
+    ghost is_default = { λ b.
+        b ≡ record { nl_type = None; nl_flags = None; nl_seq = None; nl_pid = None;
+        nl_payload = None } };
 
     fn default() -> Self {
         NlmsghdrBuilder {
@@ -241,7 +245,8 @@ impl<T: NlType + Drop, P: Size + Drop> NlmsghdrBuilder<T, P> {
     /// Refused where a field is missing, or the length passes 32 bits.
     pub fn build(self) -> Result<Nlmsghdr<T, P>, NlmsghdrBuilderError>
         ensures built { IfOk result (λ m. built_message P.wire_length self ≡ Ok m) }
-        ensures refused { IfErr result (λ e. (e ≡ BuildError.Memory → ⊥) × IsWhyNot (built_message P.wire_length self) e) }
+        ensures refused { IfErr result
+            (λ e. (e ≡ BuildError.Memory → ⊥) × IsWhyNot (built_message P.wire_length self) e) }
     {
         let message_type = self.nl_type.ok_or(UninitializedFieldError::new("nl_type"))?;
         let flags = self
@@ -299,10 +304,13 @@ impl<T: NlType, P: Size + Drop> Nlmsghdr<T, P> {
     ///
     /// Refused as `SerError::Msg` where the length passes 32 bits, and then the message is as it was.
     pub fn set_payload(&mut self, payload: NlPayload<T, P>) -> Result<(), SerError>
-        ensures set { OnOk result (own_length (payload_size P.wire_length payload) ≡ Ok self.new.header.len) }
+        ensures set { OnOk result
+            (own_length (payload_size P.wire_length payload) ≡ Ok self.new.header.len) }
         ensures ok { OnOk result (self.new ≡ with_payload self.old self.new.header.len payload) }
-        ensures refused { IfErr result (λ e. (e ≡ SerError.Msg (codes "Length does not fit its field"))
-            × (own_length (payload_size P.wire_length payload) ≡ Err (Invalid (codes "Length does not fit its field")))) }
+        ensures refused { IfErr result
+            (λ e. (e ≡ SerError.Msg (codes "Length does not fit its field"))
+            × (own_length (payload_size P.wire_length payload)
+                ≡ Err (Invalid (codes "Length does not fit its field")))) }
         ensures unchanged { OnErr result (self.new ≡ self.old) }
     {
         let Some(len) = length_with(&payload) else {
@@ -339,10 +347,15 @@ impl Nlmsghdr<u16, Buffer> {
         &self,
         alloc: Global,
     ) -> Result<Nlmsghdr<T, P>, RouterError<T, P>>
-        ensures value { IfOk result (λ m. typed_payload T.wire_value P.read self.now.payload ≡ Ok (payload_stating (stated_echo self.now.payload) P.view m.payload)) }
-        ensures header { IfOk result (λ m. m.header ≡ with_len (typed_header T.wire_value self.now.header) (align (message_size P.wire_length m))) }
+        ensures value { IfOk result
+            (λ m. typed_payload T.wire_value P.read self.now.payload
+            ≡ Ok (payload_stating (stated_echo self.now.payload) P.view m.payload)) }
+        ensures header { IfOk result
+            (λ m. m.header ≡ with_len (typed_header T.wire_value self.now.header)
+            (align (message_size P.wire_length m))) }
         ensures length { IfOk result (λ m. HasOwnEcho P.wire_length m.payload) }
-        ensures refused { IfErr result (RefusesTyping (typed_payload T.wire_value P.read self.now.payload)
+        ensures refused { IfErr result
+            (RefusesTyping (typed_payload T.wire_value P.read self.now.payload)
             (IsMessageTooLong P.view P.wire_length P.read T.wire_value self.now.payload)) }
     {
         let payload: NlPayload<T, P> = self.payload.to_typed(alloc, self.payload.body_len())?;

@@ -38,9 +38,12 @@ fn write_both<A: ToBytes, B: ToBytes>(
     second: &B,
     buffer: &mut Vec<u8>,
 ) -> Result<(), SerError>
-    ensures appended { OnOk result (append_wire buffer.old.items (A.wire first.now +++ B.wire second.now) ≡ Ok buffer.new.items) }
+    ensures appended { OnOk result
+        (append_wire buffer.old.items (A.wire first.now +++ B.wire second.now)
+        ≡ Ok buffer.new.items) }
     ensures refused { IfErr result (RefusesWrite (A.wire first.now +++ B.wire second.now)) }
-    ensures front { OnErr result (take (length buffer.old.items) buffer.new.items ≡ buffer.old.items) }
+    ensures front { OnErr result
+        (take (length buffer.old.items) buffer.new.items ≡ buffer.old.items) }
 {
     first.to_bytes(buffer)?;
     second.to_bytes(buffer)?;
@@ -54,9 +57,13 @@ fn write_both_padded<A: ToBytes, B: ToBytes>(
     second: &B,
     buffer: &mut Vec<u8>,
 ) -> Result<(), SerError>
-    ensures appended { OnOk result (append_wire buffer.old.items (pad_wire (A.wire first.now +++ B.wire second.now)) ≡ Ok buffer.new.items) }
-    ensures refused { IfErr result (RefusesWrite (pad_wire (A.wire first.now +++ B.wire second.now))) }
-    ensures front { OnErr result (take (length buffer.old.items) buffer.new.items ≡ buffer.old.items) }
+    ensures appended { OnOk result
+        (append_wire buffer.old.items (pad_wire (A.wire first.now +++ B.wire second.now))
+        ≡ Ok buffer.new.items) }
+    ensures refused { IfErr result
+        (RefusesWrite (pad_wire (A.wire first.now +++ B.wire second.now))) }
+    ensures front { OnErr result
+        (take (length buffer.old.items) buffer.new.items ≡ buffer.old.items) }
 {
     let start = buffer.len();
     write_both(first, second, buffer)?;
@@ -70,8 +77,11 @@ pub(crate) fn write_framed<A: ToBytes, B: ToBytes>(
     payload: &B,
     buffer: &mut Vec<u8>,
 ) -> Result<(), SerError>
-    ensures appended { OnOk result (append_wire buffer.old.items (pad_wire (A.wire header.now +++ B.wire payload.now)) ≡ Ok buffer.new.items) }
-    ensures refused { IfErr result (RefusesWrite (pad_wire (A.wire header.now +++ B.wire payload.now))) }
+    ensures appended { OnOk result
+        (append_wire buffer.old.items (pad_wire (A.wire header.now +++ B.wire payload.now))
+        ≡ Ok buffer.new.items) }
+    ensures refused { IfErr result
+        (RefusesWrite (pad_wire (A.wire header.now +++ B.wire payload.now))) }
     ensures unchanged { OnErr result (buffer.new.items ≡ buffer.old.items) }
 {
     let start = buffer.len();
@@ -87,9 +97,13 @@ fn write_each<A: ToBytes, B: ToBytes, C: ToBytes>(
     third: &C,
     buffer: &mut Vec<u8>,
 ) -> Result<(), SerError>
-    ensures appended { OnOk result (append_wire buffer.old.items ((A.wire first.now +++ B.wire second.now) +++ C.wire third.now) ≡ Ok buffer.new.items) }
-    ensures refused { IfErr result (RefusesWrite ((A.wire first.now +++ B.wire second.now) +++ C.wire third.now)) }
-    ensures front { OnErr result (take (length buffer.old.items) buffer.new.items ≡ buffer.old.items) }
+    ensures appended { OnOk result
+        (append_wire buffer.old.items
+        ((A.wire first.now +++ B.wire second.now) +++ C.wire third.now) ≡ Ok buffer.new.items) }
+    ensures refused { IfErr result
+        (RefusesWrite ((A.wire first.now +++ B.wire second.now) +++ C.wire third.now)) }
+    ensures front { OnErr result
+        (take (length buffer.old.items) buffer.new.items ≡ buffer.old.items) }
 {
     write_both(first, second, buffer)?;
     third.to_bytes(buffer)?;
@@ -103,8 +117,11 @@ pub(crate) fn write_three<A: ToBytes, B: ToBytes, C: ToBytes>(
     third: &C,
     buffer: &mut Vec<u8>,
 ) -> Result<(), SerError>
-    ensures appended { OnOk result (append_wire buffer.old.items ((A.wire first.now +++ B.wire second.now) +++ C.wire third.now) ≡ Ok buffer.new.items) }
-    ensures refused { IfErr result (RefusesWrite ((A.wire first.now +++ B.wire second.now) +++ C.wire third.now)) }
+    ensures appended { OnOk result
+        (append_wire buffer.old.items
+        ((A.wire first.now +++ B.wire second.now) +++ C.wire third.now) ≡ Ok buffer.new.items) }
+    ensures refused { IfErr result
+        (RefusesWrite ((A.wire first.now +++ B.wire second.now) +++ C.wire third.now)) }
     ensures unchanged { OnErr result (buffer.new.items ≡ buffer.old.items) }
 {
     let start = buffer.len();
@@ -115,7 +132,8 @@ pub(crate) fn write_three<A: ToBytes, B: ToBytes, C: ToBytes>(
 /// The length of a message with this payload, where it fits its field: the header's 16 bytes and the
 /// payload, rounded up to four.
 pub(crate) fn length_with<P: Size>(payload: &P) -> Option<u32>
-    ensures { MatchOption result (4294967295 < align (16 + P.wire_length payload.now)) (λ len. len ≡ align (16 + P.wire_length payload.now)) }
+    ensures { MatchOption result (4294967295 < align (16 + P.wire_length payload.now))
+        (λ len. len ≡ align (16 + P.wire_length payload.now)) }
 {
     let size = payload.written_size().saturating_add(16);
     u32::try_from(padded_length(size)).ok()

@@ -84,8 +84,11 @@ fn read_as<T: Constant<Number = u16>, P: FromBytesWithInput>(
     kind: Kind,
     bytes: &[u8],
 ) -> Result<NlPayload<T, P>, DeError>
-    ensures value { IfOk result (λ p. payload_as T.wire_value P.read kind bytes.now ≡ Ok (payload_view P.view p)) }
-    ensures refused { IfErr result (Refuses (payload_as T.wire_value P.read kind bytes.now) (kind_takes P.takes_memory kind bytes.now)) }
+    ensures value { IfOk result
+        (λ p. payload_as T.wire_value P.read kind bytes.now ≡ Ok (payload_view P.view p)) }
+    ensures refused { IfErr result
+        (Refuses (payload_as T.wire_value P.read kind bytes.now)
+        (kind_takes P.takes_memory kind bytes.now)) }
 {
     match kind {
         Kind::Body => Ok(NlPayload::Payload(read_whole(alloc, bytes)?)),
@@ -103,8 +106,11 @@ pub(crate) fn read_payload<T: Constant<Number = u16>, P: FromBytesWithInput>(
     flags: NlmF,
     bytes: &[u8],
 ) -> Result<NlPayload<T, P>, DeError>
-    ensures value { IfOk result (λ p. payload_in T.wire_value P.read number flags bytes.now ≡ Ok (payload_view P.view p)) }
-    ensures refused { IfErr result (Refuses (payload_in T.wire_value P.read number flags bytes.now) (payload_takes P.takes_memory number flags bytes.now)) }
+    ensures value { IfOk result
+        (λ p. payload_in T.wire_value P.read number flags bytes.now ≡ Ok (payload_view P.view p)) }
+    ensures refused { IfErr result
+        (Refuses (payload_in T.wire_value P.read number flags bytes.now)
+        (payload_takes P.takes_memory number flags bytes.now)) }
 {
     read_as(alloc, kind_of(number, flags, bytes), bytes)
 }
@@ -121,9 +127,13 @@ impl<T: Constant<Number = u16>, P: FromBytesWithInput> NlPayload<T, P> {
         nl_flags: NlmF,
         n: usize,
     ) -> Result<Self, DeError>
-        ensures value { IfOk result (λ p. exact_reading (payload_in T.wire_value P.read nl_type nl_flags) n cursor.old.rest ≡ Ok (payload_view P.view p, cursor.new.rest)) }
+        ensures value { IfOk result
+            (λ p. exact_reading (payload_in T.wire_value P.read nl_type nl_flags) n cursor.old.rest
+            ≡ Ok (payload_view P.view p, cursor.new.rest)) }
         ensures moved { OnOk result (whole cursor.new ≡ whole cursor.old) }
-        ensures refused { IfErr result (Refuses (exact_reading (payload_in T.wire_value P.read nl_type nl_flags) n cursor.old.rest)
+        ensures refused { IfErr result
+            (Refuses (exact_reading
+            (payload_in T.wire_value P.read nl_type nl_flags) n cursor.old.rest)
             (exact_takes (payload_takes P.takes_memory nl_type nl_flags) n cursor.old.rest)) }
         ensures unchanged { OnErr result (cursor.new ≡ cursor.old) }
     {
@@ -214,7 +224,9 @@ impl NlPayload<u16, Buffer> {
         alloc: Global,
         n: usize,
     ) -> Result<NlPayload<T, P>, RouterError<T, P>>
-        ensures value { IfOk result (λ p. typed_first T.wire_value P.read n self.now ≡ Ok (payload_stating (stated_echo self.now) P.view p)) }
+        ensures value { IfOk result
+            (λ p. typed_first T.wire_value P.read n self.now
+            ≡ Ok (payload_stating (stated_echo self.now) P.view p)) }
         ensures length { IfOk result (HasOwnEcho P.wire_length) }
         ensures refused { IfErr result (RefusesTyping (typed_first T.wire_value P.read n self.now)
             (IsEchoTooLong P.view P.wire_length P.read self.now)) }

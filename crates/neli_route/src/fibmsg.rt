@@ -175,11 +175,14 @@ impl Size for Fibmsg {
 impl ToBytes for Fibmsg {
     ghost wire = { λ m. body_wire (fibmsg_bytes m.header) (attrs_wire frattr_number m.rtattrs) };
 
-    ghost length_is = { λ m. with_attributes-length 12 frattr_number (fibmsg_bytes m.header) m.rtattrs (fibmsg-width m.header) };
+    ghost length_is = { λ m. with_attributes-length 12 frattr_number
+        (fibmsg_bytes m.header) m.rtattrs (fibmsg-width m.header) };
 
-    ghost zeros_after = { λ m. with_attributes-zeros 12 frattr_number (fibmsg_bytes m.header) m.rtattrs (fibmsg-width m.header) };
+    ghost zeros_after = { λ m. with_attributes-zeros 12 frattr_number
+        (fibmsg_bytes m.header) m.rtattrs (fibmsg-width m.header) };
 
-    ghost no_memory = { λ m. with_attributes-no_memory 12 frattr_number (fibmsg_bytes m.header) m.rtattrs };
+    ghost no_memory = { λ m. with_attributes-no_memory 12 frattr_number
+        (fibmsg_bytes m.header) m.rtattrs };
 
     fn to_bytes(&self, buffer: &mut Vec<u8>) -> Result<(), SerError> {
         write_body(&self.header, &self.rtattrs, buffer)
@@ -229,7 +232,9 @@ pub struct FibmsgBuilder {
 }
 
 impl Default for FibmsgBuilder {
-    ghost is_default = { λ b. b ≡ record { fib_family = None; fib_dst_len = None; fib_src_len = None; fib_tos = None; fib_table = None; fib_action = None; fib_flags = None; rtattrs = None } };
+    ghost is_default = { λ b.
+        b ≡ record { fib_family = None; fib_dst_len = None; fib_src_len = None; fib_tos = None;
+        fib_table = None; fib_action = None; fib_flags = None; rtattrs = None } };
 
     fn default() -> Self {
         FibmsgBuilder {

@@ -115,11 +115,14 @@ impl Size for Rtgenmsg {
 impl ToBytes for Rtgenmsg {
     ghost wire = { λ m. body_wire (rtgenmsg_bytes m.header) (attrs_wire ifa_number m.rtattrs) };
 
-    ghost length_is = { λ m. with_attributes-length 4 ifa_number (rtgenmsg_bytes m.header) m.rtattrs (rtgenmsg-width m.header) };
+    ghost length_is = { λ m. with_attributes-length 4 ifa_number (rtgenmsg_bytes m.header) m.rtattrs
+        (rtgenmsg-width m.header) };
 
-    ghost zeros_after = { λ m. with_attributes-zeros 4 ifa_number (rtgenmsg_bytes m.header) m.rtattrs (rtgenmsg-width m.header) };
+    ghost zeros_after = { λ m. with_attributes-zeros 4 ifa_number
+        (rtgenmsg_bytes m.header) m.rtattrs (rtgenmsg-width m.header) };
 
-    ghost no_memory = { λ m. with_attributes-no_memory 4 ifa_number (rtgenmsg_bytes m.header) m.rtattrs };
+    ghost no_memory = { λ m. with_attributes-no_memory 4 ifa_number
+        (rtgenmsg_bytes m.header) m.rtattrs };
 
     fn to_bytes(&self, buffer: &mut Vec<u8>) -> Result<(), SerError> {
         write_body(&self.header, &self.rtattrs, buffer)

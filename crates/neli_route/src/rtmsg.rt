@@ -201,11 +201,14 @@ impl Size for Rtmsg {
 impl ToBytes for Rtmsg {
     ghost wire = { λ m. body_wire (rtmsg_bytes m.header) (attrs_wire rta_number m.rtattrs) };
 
-    ghost length_is = { λ m. with_attributes-length 12 rta_number (rtmsg_bytes m.header) m.rtattrs (rtmsg-width m.header) };
+    ghost length_is = { λ m. with_attributes-length 12 rta_number (rtmsg_bytes m.header) m.rtattrs
+        (rtmsg-width m.header) };
 
-    ghost zeros_after = { λ m. with_attributes-zeros 12 rta_number (rtmsg_bytes m.header) m.rtattrs (rtmsg-width m.header) };
+    ghost zeros_after = { λ m. with_attributes-zeros 12 rta_number (rtmsg_bytes m.header) m.rtattrs
+        (rtmsg-width m.header) };
 
-    ghost no_memory = { λ m. with_attributes-no_memory 12 rta_number (rtmsg_bytes m.header) m.rtattrs };
+    ghost no_memory = { λ m. with_attributes-no_memory 12 rta_number
+        (rtmsg_bytes m.header) m.rtattrs };
 
     fn to_bytes(&self, buffer: &mut Vec<u8>) -> Result<(), SerError> {
         write_body(&self.header, &self.rtattrs, buffer)
@@ -257,7 +260,10 @@ pub struct RtmsgBuilder {
 }
 
 impl Default for RtmsgBuilder {
-    ghost is_default = { λ b. b ≡ record { rtm_family = None; rtm_dst_len = None; rtm_src_len = None; rtm_tos = None; rtm_table = None; rtm_protocol = None; rtm_scope = None; rtm_type = None; rtm_flags = None; rtattrs = None } };
+    ghost is_default = { λ b.
+        b ≡ record { rtm_family = None; rtm_dst_len = None; rtm_src_len = None; rtm_tos = None;
+        rtm_table = None; rtm_protocol = None; rtm_scope = None; rtm_type = None; rtm_flags = None;
+        rtattrs = None } };
 
     fn default() -> Self {
         RtmsgBuilder {

@@ -166,11 +166,14 @@ impl Size for Tcmsg {
 impl ToBytes for Tcmsg {
     ghost wire = { λ m. body_wire (tcmsg_bytes m.header) (attrs_wire tca_number m.rtattrs) };
 
-    ghost length_is = { λ m. with_attributes-length 20 tca_number (tcmsg_bytes m.header) m.rtattrs (tcmsg-width m.header) };
+    ghost length_is = { λ m. with_attributes-length 20 tca_number (tcmsg_bytes m.header) m.rtattrs
+        (tcmsg-width m.header) };
 
-    ghost zeros_after = { λ m. with_attributes-zeros 20 tca_number (tcmsg_bytes m.header) m.rtattrs (tcmsg-width m.header) };
+    ghost zeros_after = { λ m. with_attributes-zeros 20 tca_number (tcmsg_bytes m.header) m.rtattrs
+        (tcmsg-width m.header) };
 
-    ghost no_memory = { λ m. with_attributes-no_memory 20 tca_number (tcmsg_bytes m.header) m.rtattrs };
+    ghost no_memory = { λ m. with_attributes-no_memory 20 tca_number
+        (tcmsg_bytes m.header) m.rtattrs };
 
     fn to_bytes(&self, buffer: &mut Vec<u8>) -> Result<(), SerError> {
         write_body(&self.header, &self.rtattrs, buffer)
@@ -218,7 +221,9 @@ pub struct TcmsgBuilder {
 }
 
 impl Default for TcmsgBuilder {
-    ghost is_default = { λ b. b ≡ record { tcm_family = None; tcm_ifindex = None; tcm_handle = None; tcm_parent = None; tcm_info = None; rtattrs = None } };
+    ghost is_default = { λ b.
+        b ≡ record { tcm_family = None; tcm_ifindex = None; tcm_handle = None; tcm_parent = None;
+        tcm_info = None; rtattrs = None } };
 
     fn default() -> Self {
         TcmsgBuilder {

@@ -91,7 +91,8 @@ impl<T: Size> Size for Vec<T> {
 impl<T: ToBytes> ToBytes for Vec<T> {
     ghost wire = { λ v. wire_all T.wire v.items };
 
-    ghost length_is = { λ v bytes e. wire_all-length T.wire T.Size.wire_length T.length_is v.items bytes e };
+    ghost length_is = { λ v bytes e.
+        wire_all-length T.wire T.Size.wire_length T.length_is v.items bytes e };
 
     ghost zeros_after = { λ v bytes e. unpadded-zeros (sum_by T.Size.wire_length v.items) bytes
         (wire_all-length T.wire T.Size.wire_length T.length_is v.items bytes e) };
