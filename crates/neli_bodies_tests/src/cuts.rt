@@ -61,6 +61,9 @@ fn cut<B: FromBytesWithInput>(
     k: usize,
     want: usize,
 ) -> Result<(), Fail> {
+    if k >= bytes.len() {
+        return Err(Fail::new("nothing is cut off"));
+    }
     let mut cursor = Cursor::new(&bytes[..k]);
     let refused = B::from_bytes_with_input(alloc, &mut cursor, k);
     assert!(rt;
@@ -78,7 +81,8 @@ fn cut<B: FromBytesWithInput>(
 }
 
 // A header of `size` bytes and an attribute of 8: cut in the header, after it, and in the attribute.
-fn cuts<B: FromBytesWithInput>(rt: &impl Abort, alloc: Global, size: usize) -> Result<(), Fail> {
+fn cuts<B: FromBytesWithInput>(rt: &impl Abort, alloc: Global, size: u8) -> Result<(), Fail> {
+    let size = usize::from(size);
     let mut bytes = Vec::new(alloc);
     for _ in 0..size {
         bytes.push(0x77u8)?;
@@ -196,7 +200,7 @@ fn an_event_without_a_name(rt: HostRuntime) -> Result<(), Fail> {
 fn events_past_their_input(rt: HostRuntime) -> Result<(), Fail> {
     let alloc = rt.alloc();
     for (kind, size) in [
-        (0u32, 4),
+        (0u32, 4u8),
         (1, 16),
         (2, 8),
         (4, 16),
@@ -208,9 +212,10 @@ fn events_past_their_input(rt: HostRuntime) -> Result<(), Fail> {
         (0x8000_0000, 24),
         (0x2000_0000, 24),
     ] {
+        let end = 16 + usize::from(size);
         let mut bytes = [0u8; 40];
         bytes[..4].copy_from_slice(&kind.to_le_bytes());
-        for n in 0..16 + size {
+        for n in 0..end {
             let mut cursor = Cursor::new(&bytes);
             let short = ProcEventHeader::from_bytes_with_input(alloc, &mut cursor, n);
             assert!(rt;
@@ -222,7 +227,7 @@ fn events_past_their_input(rt: HostRuntime) -> Result<(), Fail> {
         let mut cursor = Cursor::new(&bytes);
         let event = ProcEventHeader::from_bytes_with_input(alloc, &mut cursor, 40)?;
         assert_eq!(rt; cursor.position(), 40, "{kind}");
-        assert_eq!(rt; neli_wire::Size::written_size(&event), 16 + size, "{kind}");
+        assert_eq!(rt; neli_wire::Size::written_size(&event), end, "{kind}");
     }
     Ok(())
 }

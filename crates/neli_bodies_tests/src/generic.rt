@@ -114,130 +114,58 @@ const EVENTS: [(&str, &str, u32, u32, u64); 7] = [
     ),
 ];
 
-// The parts of an event, by the layout of `struct proc_event`: the type that it is written with, and its numbers.
-fn parts(event: &ProcEvent) -> (u32, [i64; 6]) {
-    let numbers = match *event {
-        ProcEvent::Ack { err } => [err as i64, 0, 0, 0, 0, 0],
-        ProcEvent::Fork {
-            parent_pid,
-            parent_tgid,
-            child_pid,
-            child_tgid,
-        } => [
-            parent_pid as i64,
-            parent_tgid as i64,
-            child_pid as i64,
-            child_tgid as i64,
-            0,
-            0,
-        ],
-        ProcEvent::Exec {
-            process_pid,
-            process_tgid,
-        }
-        | ProcEvent::Sid {
-            process_pid,
-            process_tgid,
-        } => { [process_pid as i64, process_tgid as i64, 0, 0, 0, 0] }
-        ProcEvent::Uid {
-            process_pid,
-            process_tgid,
-            ruid,
-            euid,
-        } => [
-            process_pid as i64,
-            process_tgid as i64,
-            ruid as i64,
-            euid as i64,
-            0,
-            0,
-        ],
-        ProcEvent::Gid {
-            process_pid,
-            process_tgid,
-            rgid,
-            egid,
-        } => [
-            process_pid as i64,
-            process_tgid as i64,
-            rgid as i64,
-            egid as i64,
-            0,
-            0,
-        ],
-        ProcEvent::Ptrace {
-            process_pid,
-            process_tgid,
-            tracer_pid,
-            tracer_tgid,
-        } => [
-            process_pid as i64,
-            process_tgid as i64,
-            tracer_pid as i64,
-            tracer_tgid as i64,
-            0,
-            0,
-        ],
-        ProcEvent::Comm {
-            process_pid,
-            process_tgid,
-            comm,
-        } => [
-            process_pid as i64,
-            process_tgid as i64,
-            comm[0] as i64,
-            comm[1] as i64,
-            comm[14] as i64,
-            comm[15] as i64,
-        ],
-        ProcEvent::Coredump {
-            process_pid,
-            process_tgid,
-            parent_pid,
-            parent_tgid,
-        } => [
-            process_pid as i64,
-            process_tgid as i64,
-            parent_pid as i64,
-            parent_tgid as i64,
-            0,
-            0,
-        ],
-        ProcEvent::Exit {
-            process_pid,
-            process_tgid,
-            exit_code,
-            exit_signal,
-            parent_pid,
-            parent_tgid,
-        } => [
-            process_pid as i64,
-            process_tgid as i64,
-            exit_code as i64,
-            exit_signal as i64,
-            parent_pid as i64,
-            parent_tgid as i64,
-        ],
-    };
-    (ProcEventType::from(event).to_wire(), numbers)
-}
-
 // What the events hold, by the layout of the kernel's struct: the type that they are written with, their
-// numbers, and how many bytes a header and the event take.
-const PARTS: [(u32, [i64; 6], usize); 7] = [
-    (0x1, [17227, 17227, 17248, 17248, 0, 0], 32),
-    (0x80000000, [17288, 17288, 0, 17, 17227, 17227], 40),
-    (0x20000000, [17289, 17289, 768, 17, 17227, 17227], 40),
-    (0x80, [17290, 17290, 0, 0, 0, 0], 24),
-    (0x4, [17292, 17292, 65534, 65534, 0, 0], 32),
-    (0x40000000, [17298, 17298, 17227, 17227, 0, 0], 32),
-    (0x100, [17301, 17301, 17300, 17300, 0, 0], 32),
+// fields, and how many bytes the event takes.
+const HELD: [(u32, &str, u8); 7] = [
+    (
+        0x1,
+        "Fork { parent_pid: 17227, parent_tgid: 17227, child_pid: 17248, child_tgid: 17248 }",
+        16,
+    ),
+    (
+        0x80000000,
+        "Exit { process_pid: 17288, process_tgid: 17288, exit_code: 0, exit_signal: 17, \
+        parent_pid: 17227, parent_tgid: 17227 }",
+        24,
+    ),
+    (
+        0x20000000,
+        "Exit { process_pid: 17289, process_tgid: 17289, exit_code: 768, exit_signal: 17, \
+        parent_pid: 17227, parent_tgid: 17227 }",
+        24,
+    ),
+    (0x80, "Sid { process_pid: 17290, process_tgid: 17290 }", 8),
+    (
+        0x4,
+        "Uid { process_pid: 17292, process_tgid: 17292, ruid: 65534, euid: 65534 }",
+        16,
+    ),
+    (
+        0x40000000,
+        "Coredump { process_pid: 17298, process_tgid: 17298, parent_pid: 17227, parent_tgid: 17227 }",
+        16,
+    ),
+    (
+        0x100,
+        "Ptrace { process_pid: 17301, process_tgid: 17301, tracer_pid: 17300, tracer_tgid: 17300 }",
+        16,
+    ),
 ];
+
+// The bytes from one place to another.
+fn part(bytes: &[u8], from: usize, to: usize) -> Result<&[u8], Fail> {
+    if from <= to && to <= bytes.len() {
+        Ok(&bytes[from..to])
+    } else {
+        Err(Fail::new("bytes are missing"))
+    }
+}
 
 #[test]
 fn events(rt: HostRuntime) -> Result<(), Fail> {
     let alloc = rt.alloc();
-    for ((label, hex, seq, cpu, time), (kind, numbers, size)) in EVENTS.iter().zip(PARTS.iter()) {
+    for ((label, hex, seq, cpu, time), (kind, fields, size)) in EVENTS.iter().zip(HELD.iter()) {
+        let end = 20 + 16 + usize::from(*size);
         let bytes = hex::decode(alloc, hex)?;
         let mut cursor = Cursor::new(&bytes);
         let m: CnMsg<ProcEventHeader> = CnMsg::from_bytes_with_input(
@@ -257,15 +185,18 @@ fn events(rt: HostRuntime) -> Result<(), Fail> {
         );
         let event = m.payload();
         assert_eq!(rt; (event.cpu, event.timestamp_ns), (*cpu, *time), "{label}");
-        assert_eq!(rt; parts(&event.event), (*kind, *numbers), "{label}");
-        assert_eq!(rt; event.written_size(), *size, "{label}");
+        let text = format!(in alloc; "{:?}", event.event)?;
+        assert_eq!(rt; text.as_str(), *fields, "{label}");
+        assert_eq!(rt; ProcEventType::from(&event.event).to_wire(), *kind, "{label}");
+        assert_eq!(rt; 20 + event.written_size(), end, "{label}");
         assert_eq!(rt; cursor.position(), bytes.len(), "{label}");
         // What the kernel sends is 40 bytes long whatever the event: what follows the event is not kept.
         let mut written = Vec::new(alloc);
         m.to_bytes(&mut written)?;
-        assert_eq!(rt; written[..20], bytes[..20], "{label}");
-        assert_eq!(rt; written[24..], bytes[24..20 + *size], "{label}");
-        assert_eq!(rt; &written[20..24], kind.to_le_bytes().as_slice(), "{label}");
+        assert_eq!(rt; written.len(), end, "{label}");
+        assert_eq!(rt; part(&written, 0, 20)?, part(&bytes, 0, 20)?, "{label}");
+        assert_eq!(rt; part(&written, 20, 24)?, kind.to_le_bytes().as_slice(), "{label}");
+        assert_eq!(rt; part(&written, 24, end)?, part(&bytes, 24, end)?, "{label}");
     }
     Ok(())
 }
