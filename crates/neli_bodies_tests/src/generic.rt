@@ -187,7 +187,11 @@ fn events(rt: HostRuntime) -> Result<(), Fail> {
         assert_eq!(rt; (event.cpu, event.timestamp_ns), (*cpu, *time), "{label}");
         let text = format!(in alloc; "{:?}", event.event)?;
         assert_eq!(rt; text.as_str(), *fields, "{label}");
-        assert_eq!(rt; ProcEventType::from(&event.event).to_wire(), *kind, "{label}");
+        assert_eq!(rt;
+            ProcEventType::from(&event.event).to_wire(),
+            *kind,
+            "{label}"
+        );
         assert_eq!(rt; 20 + event.written_size(), end, "{label}");
         assert_eq!(rt; cursor.position(), bytes.len(), "{label}");
         // What the kernel sends is 40 bytes long whatever the event: what follows the event is not kept.
@@ -195,7 +199,11 @@ fn events(rt: HostRuntime) -> Result<(), Fail> {
         m.to_bytes(&mut written)?;
         assert_eq!(rt; written.len(), end, "{label}");
         assert_eq!(rt; part(&written, 0, 20)?, part(&bytes, 0, 20)?, "{label}");
-        assert_eq!(rt; part(&written, 20, 24)?, kind.to_le_bytes().as_slice(), "{label}");
+        assert_eq!(rt;
+            part(&written, 20, 24)?,
+            kind.to_le_bytes().as_slice(),
+            "{label}"
+        );
         assert_eq!(rt; part(&written, 24, end)?, part(&bytes, 24, end)?, "{label}");
     }
     Ok(())

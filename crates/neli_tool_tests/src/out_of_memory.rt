@@ -13,7 +13,7 @@ const THREE: [u8; 52] = [
     0x10, 0, 0, 0, 0x10, 0, 0, 0, 6, 0, 0, 0, 7, 0, 0, 0,
 ];
 
-/// A writer that keeps what it is given without taking memory.
+/// A writer that keeps a byte at each call, without taking memory.
 #[derive(Drop)]
 struct Kept {
     bytes: [u8; 256],
@@ -22,16 +22,12 @@ struct Kept {
 
 impl Write for Kept {
     fn write(&mut self, buf: &[u8]) -> io::Result<usize> {
-        let mut taken = 0;
-        for byte in buf {
-            if self.count >= 256 {
-                return Ok(taken);
-            }
-            self.bytes[self.count] = *byte;
-            self.count += 1;
-            taken += 1;
+        if buf.is_empty() || self.count >= 256 {
+            return Ok(0);
         }
-        Ok(taken)
+        self.bytes[self.count] = buf[0];
+        self.count += 1;
+        Ok(1)
     }
 
     fn flush(&mut self) -> io::Result<()> {
