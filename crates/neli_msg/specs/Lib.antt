@@ -14,6 +14,7 @@ pub use Rattle.neli_msg_base.specs.Retyping
 pub use Rattle.neli_msg_base.specs.RouterErrors
 pub use Rattle.neli_msg_base.specs.SocketErrors
 pub use Rattle.neli_msg_base.specs.Wires
+pub use Rattle.neli_msg_base.specs.Zeroed
 pub mod Agreement
 pub mod BuilderErrors
 pub mod Cuts

@@ -47,13 +47,13 @@ impl<'b, T: NlType, P: FromBytesWithInput> NlBufferIter<'b, T, P> {
         ensures next { IsNext (message_layout T.wire_value T.wire_number P.read)
             (frame_takes (message_layout T.wire_value T.wire_number P.read)
             (message_takes T.wire_number P.takes_memory) self.old) self.old self.new
-                (item_of P.view result) }
+            (item_of P.view result) }
         // A message takes at least the 16 bytes of its header.
         ensures shorter { IfSome result
             (λ item. OnOk item (length self.new + 16 ≤ length self.old)) }
         ensures cut { cut_of (message_layout T.wire_value T.wire_number P.read) self.old
             ≡ cut_with (item_of P.view result)
-                (cut_of (message_layout T.wire_value T.wire_number P.read) self.new) }
+            (cut_of (message_layout T.wire_value T.wire_number P.read) self.new) }
     {
         self.next_typed(alloc)
     }
@@ -66,13 +66,13 @@ impl<'b, T: NlType, P: FromBytesWithInput> NlBufferIter<'b, T, P> {
         ensures next { IsNext (message_layout T2.wire_value T2.wire_number P2.read)
             (frame_takes (message_layout T2.wire_value T2.wire_number P2.read)
             (message_takes T2.wire_number P2.takes_memory) self.old) self.old self.new
-                (item_of P2.view result) }
+            (item_of P2.view result) }
         // A message takes at least the 16 bytes of its header.
         ensures shorter { IfSome result
             (λ item. OnOk item (length self.new + 16 ≤ length self.old)) }
         ensures cut { cut_of (message_layout T2.wire_value T2.wire_number P2.read) self.old
             ≡ cut_with (item_of P2.view result)
-                (cut_of (message_layout T2.wire_value T2.wire_number P2.read) self.new) }
+            (cut_of (message_layout T2.wire_value T2.wire_number P2.read) self.new) }
     {
         if self.cursor.rest().is_empty() {
             return None;

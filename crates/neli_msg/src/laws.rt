@@ -1,6 +1,7 @@
 //! Laws of datagrams, over the definitions alone. The calls do nothing: their contracts are the laws.
 
-ghost use Rattle.std.specs.Prelude.{◌≡◌, ◌*◌, ◌/◌, ◌≤◌, ◌↔◌, ℕ, List, Option, Ok, Err, IsErr, IsOk, length};
+ghost use Rattle.std.specs.Prelude.{◌≡◌, ◌*◌, ◌/◌, ◌≤◌, ◌↔◌, ℕ, List, None, Option, Ok, Err, IsErr, IsOk, length};
+ghost use Rattle.std.specs.List.{All};
 ghost use Rattle.neli_wire.specs.DeError.{DeError as Refusal};
 ghost use Rattle.neli_wire.specs.Frames.{frame_at};
 ghost use Rattle.neli_wire.specs.Numbers.{AreBytes};
@@ -8,6 +9,7 @@ ghost use Rattle.neli_msg_base.specs.Messages.{Message, message_layout};
 ghost use Rattle.neli_msg_base.specs.Retyping.{typed_message};
 ghost use Rattle.neli_msg.specs.Cuts.{Cuts, cut_of};
 ghost use Rattle.neli_msg.specs.Agreement.{AreRead, typed_reading, untyped_layout};
+ghost use Rattle.neli_msg_base.specs.Zeroed.{HasNoTail, untyped_wires, zeroed};
 
 use neli_consts::NlType;
 use neli_wire::FromBytesWithInput;
@@ -30,7 +32,7 @@ pub fn has_one_cut<T: NlType, P: FromBytesWithInput>()
 pub fn has_few_messages<T: NlType, P: FromBytesWithInput>()
     ensures { (b : List ℕ) (ms : List (Message T P.Value)) (f : Option Refusal)
         → Cuts (message_layout T.wire_value T.wire_number P.read) b ms f
-            → length ms ≤ length b / 16 }
+        → length ms ≤ length b / 16 }
 {}
 
 /// A message that is read untyped, wherever it stands in a datagram, is read as other types exactly as
@@ -45,4 +47,17 @@ pub fn typed_reading_agrees<T: NlType, P: FromBytesWithInput>()
         → IsErr (frame_at (message_layout T.wire_value T.wire_number P.read) s) }
     ensures exactly { (m : Message ℕ (List ℕ))
         → IsOk (typed_message T.wire_value P.read m) ↔ AreRead P.read m }
+{}
+
+/// Where a datagram has no fault, and no acknowledgement in it has bytes after the header that it
+/// answers, its messages are written as the same bytes, with zeros for the padding: after each message,
+/// after each attribute of an error or of the end of a dump, and after an echoed payload. So written, it
+/// is as long as it was, and is read as the same messages.
+pub fn rewritten_datagram_is_zeroed()
+    ensures written { (b : List ℕ) (ms : List (Message ℕ (List ℕ))) → AreBytes b
+        → Cuts untyped_layout b ms None → All HasNoTail ms → untyped_wires ms ≡ Ok (zeroed b) }
+    ensures read_again { (b : List ℕ) (ms : List (Message ℕ (List ℕ)))
+        → Cuts untyped_layout b ms None → Cuts untyped_layout (zeroed b) ms None }
+    ensures as_long { (b : List ℕ) (ms : List (Message ℕ (List ℕ)))
+        → Cuts untyped_layout b ms None → length (zeroed b) ≡ length b }
 {}

@@ -61,9 +61,13 @@ echoed_in s =
     else (if nat_lt (length s - 20) (echoed_count s) then Err (InvalidInput (echoed_count s))
     else Ok (take (echoed_count s) (drop 20 s)))
 
--- what follows that payload and its padding: the attributes
+-- where the attributes of an error begin: after that payload and its padding
+abbrev pub echo_end : List ℕ → ℕ
+echo_end s = 20 + align (echoed_count s)
+
+-- the attributes' bytes
 abbrev pub after_echo : List ℕ → List ℕ
-after_echo s = drop (20 + align (echoed_count s)) s
+after_echo s = drop (echo_end s) s
 
 -- the echoed message with this payload
 abbrev pub echo_with : {K V : Type 0} → (ℕ → K) → List ℕ → V → NlmsghdrErr K V

@@ -8,3 +8,4 @@ pub mod Retyping
 pub mod RouterErrors
 pub mod SocketErrors
 pub mod Wires
+pub mod Zeroed

@@ -27,6 +27,10 @@ message_layout type_of number_of read = framed type_of (λ h. payload_in type_of
 abbrev pub message_takes : {K : Type 0} → (K → ℕ) → (List ℕ → Type 0) → Header K → List ℕ → Type 0
 message_takes number_of takes h = payload_takes takes (number_of h.message_type) h.flags
 
+-- a message that says this
+abbrev pub message_from : {K V : Type 0} → Message K V → Nlmsghdr K V
+message_from m = record { header = m.0; payload = m.1 }
+
 -- what contracts see of a message, over what they see of a body
 abbrev pub message_of : {K P V : Type 0} → (P → V) → Nlmsghdr K P → Message K V
 message_of view m = (m.header, payload_view view m.payload)

@@ -5,3 +5,6 @@ pub mod Messages
 pub mod Plain
 pub mod Retyping
 pub mod Wires
+pub mod Zeroed
+pub mod ZeroedFrames
+pub mod ZeroedAgain

@@ -172,8 +172,13 @@ impl<T, P> Default for NlmsghdrErrBuilder<T, P> {
     ghost use Rattle.std.specs.Prelude.{◌≡◌, None};
 
     ghost is_default = { λ b.
-        b ≡ record { nl_type = None; nl_flags = None; nl_seq = None; nl_pid = None;
-        nl_payload = None } };
+        b ≡ record {
+          nl_type = None;
+          nl_flags = None;
+          nl_seq = None;
+          nl_pid = None;
+          nl_payload = None;
+        } };
 
     fn default() -> Self {
         NlmsghdrErrBuilder {

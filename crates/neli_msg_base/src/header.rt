@@ -175,8 +175,13 @@ impl<T> Default for NlmsghdrAckBuilder<T> {
     ghost use Rattle.std.specs.Prelude.{◌≡◌, None};
 
     ghost is_default = { λ b.
-        b ≡ record { nl_len = None; nl_type = None; nl_flags = None; nl_seq = None;
-        nl_pid = None } };
+        b ≡ record {
+          nl_len = None;
+          nl_type = None;
+          nl_flags = None;
+          nl_seq = None;
+          nl_pid = None;
+        } };
 
     fn default() -> Self {
         NlmsghdrAckBuilder {

@@ -182,8 +182,13 @@ impl<T, P> Default for NlmsghdrBuilder<T, P> {
     ghost use Rattle.std.specs.Prelude.{◌≡◌, None};
 
     ghost is_default = { λ b.
-        b ≡ record { nl_type = None; nl_flags = None; nl_seq = None; nl_pid = None;
-        nl_payload = None } };
+        b ≡ record {
+          nl_type = None;
+          nl_flags = None;
+          nl_seq = None;
+          nl_pid = None;
+          nl_payload = None;
+        } };
 
     fn default() -> Self {
         NlmsghdrBuilder {
@@ -310,7 +315,7 @@ impl<T: NlType, P: Size + Drop> Nlmsghdr<T, P> {
         ensures refused { IfErr result
             (λ e. (e ≡ SerError.Msg (codes "Length does not fit its field"))
             × (own_length (payload_size P.wire_length payload)
-                ≡ Err (Invalid (codes "Length does not fit its field")))) }
+            ≡ Err (Invalid (codes "Length does not fit its field")))) }
         ensures unchanged { OnErr result (self.new ≡ self.old) }
     {
         let Some(len) = length_with(&payload) else {

@@ -1,6 +1,8 @@
 //! The laws, called: they do nothing when they run.
 
-use neli_msg::laws::{has_a_cut, has_few_messages, has_one_cut, typed_reading_agrees};
+use neli_msg::laws::{
+    has_a_cut, has_few_messages, has_one_cut, rewritten_datagram_is_zeroed, typed_reading_agrees,
+};
 
 #[test]
 fn laws_are_called() {
@@ -8,4 +10,5 @@ fn laws_are_called() {
     has_one_cut::<u16, Vec<u8>>();
     has_few_messages::<u16, Vec<u8>>();
     typed_reading_agrees::<u16, Vec<u8>>();
+    rewritten_datagram_is_zeroed();
 }

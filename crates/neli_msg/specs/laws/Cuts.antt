@@ -153,3 +153,9 @@ refused_is outcome memory (Io k) h r = r
 refused_is outcome memory (Utf8 u) h r = r
 refused_is outcome memory (InvalidInput k) h r = r
 refused_is outcome memory Memory h r = absurd (h refl)
+
+-- bytes without a fault are frames alone
+pub whole_frames : {H V : Type 0} (layout : Layout H V) (b : List ℕ) (ms : List (H × V)) → Cuts layout b ms None → AreFrames layout b ms
+whole_frames layout b ms cuts =
+    let whole : b ≡ cuts.0 = cuts.2 ∙ ap (λ (x : List ℕ). cuts.0 ++ x) cuts.4 ∙ append-nil cuts.0 in
+    subst (λ (x : List ℕ). AreFrames layout x ms) (sym whole) cuts.3
