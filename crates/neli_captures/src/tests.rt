@@ -10,7 +10,7 @@ use std::test::Fail;
 /// What stands after the last message that libmnl walks. It names no fault: which one it is follows from
 /// the first four bytes there, by hand.
 #[derive(Clone, Copy, Debug, PartialEq, Eq)]
-enum Fault {
+pub enum Fault {
     /// Nothing.
     None,
     /// The length that stands there is wrong, and this is the count that the fault names.
@@ -20,15 +20,15 @@ enum Fault {
 }
 
 /// A message as libmnl reads it: type, flags, number, port, and the payload's length.
-type Header = (u16, u16, u32, u32, usize);
+pub type Header = (u16, u16, u32, u32, usize);
 
 #[derive(Clone, Copy, Debug)]
-struct Row {
+pub struct Row {
     /// A label: the recordings were numbered as they were made.
-    file: &'static str,
-    hex: &'static str,
-    messages: &'static [Header],
-    fault: Fault,
+    pub file: &'static str,
+    pub hex: &'static str,
+    pub messages: &'static [Header],
+    pub fault: Fault,
 }
 
 fn header_of(message: &Nlmsghdr<u16, Vec<u8>>) -> Header {
@@ -68,210 +68,211 @@ fn check_row(rt: &impl Abort, alloc: Global, row: &Row) -> Result<(), Fail> {
 
 #[test]
 fn recorded_datagrams_are_read_as_libmnl_reads_them(rt: HostRuntime) -> Result<(), Fail> {
-    let rows = [
-        Row {
-            // route: IPv4 settings of a link, told to a group when loopback was set up
-            file: "0001",
-            hex: "240000005000000000000000000000000200000008000100feffffff0800020001000000",
-            messages: &[(80, 0x0000, 0, 0, 20)],
-            fault: Fault::None,
-        },
-        Row {
-            // kobject_uevent: a bridge made; the datagram is a text and no message
-            file: "0035",
-            hex: "616464402f646576696365732f7669727475616c2f6e65742f6272302f7175657565732f74782d30\
-                00414354494f4e3d61646400444556504154483d2f646576696365732f7669727475616c2f6e6574\
-                2f6272302f7175657565732f74782d300053554253595354454d3d717565756573005345514e554d\
-                3d3130323300",
-            messages: &[],
-            fault: Fault::Input(1080321105),
-        },
-        Row {
-            // route: a dump of IPv4 addresses, its first datagram
-            file: "0155",
-            hex: "4c00000014000200ed030000ed1c08fa020880fe01000000080001007f000001080002007f000001\
-                070003006c6f0000080008008000000014000600ffffffffffffffff867103008671030058000000\
-                14000200ed030000ed1c08fa021880000300000008000100c000020108000200c000020108000400\
-                c00002ff0a0003007665746830000000080008008000000014000600ffffffffffffffff44730300\
-                447303005000000014000200ed030000ed1c08fa021881000300000008000100c000020208000200\
-                c00002020c00030076657468303a7800080008008100000014000600ffffffffffffffff5d730300\
-                5d7303005000000014000200ed030000ed1c08fa021800000400000008000100c633640108000200\
-                c63364010a0003007665746832000000080008000000000014000600dc030000ac0b000076730300\
-                767303005000000014000200ed030000ed1c08fa022080000400000008000100cb00710208000200\
-                cb0071010a0003007665746832000000080008008000000014000600ffffffffffffffff8e730300\
-                8e7303004c00000014000200ed030000ed1c08fa0210800005000000080001000a09000108000200\
-                0a0900010800030062723000080008008000000014000600fffffffffffffffff4730300f4730300",
-            messages: &[
-                (20, 0x0002, 1005, 4194835693, 60),
-                (20, 0x0002, 1005, 4194835693, 72),
-                (20, 0x0002, 1005, 4194835693, 64),
-                (20, 0x0002, 1005, 4194835693, 64),
-                (20, 0x0002, 1005, 4194835693, 64),
-                (20, 0x0002, 1005, 4194835693, 60),
-            ],
-            fault: Fault::None,
-        },
-        Row {
-            // route: a dump of proxy neighbours, an entry and the Done after it
-            file: "0165",
-            hex: "240000001c000200f40300009a413db902000000030000000000080108000100c000024d14000000\
-                03000200f40300009a413db900000000",
-            messages: &[
-                (28, 0x0002, 1012, 3107799450, 20),
-                (3, 0x0002, 1012, 3107799450, 4),
-            ],
-            fault: Fault::None,
-        },
-        Row {
-            // route: the addresses of one link, a filtered dump
-            file: "0358",
-            hex: "58000000140022009b04000085958cf6021880000300000008000100c000020108000200c0000201\
-                08000400c00002ff0a0003007665746830000000080008008000000014000600ffffffffffffffff\
-                447303004473030050000000140022009b04000085958cf6021881000300000008000100c0000202\
-                08000200c00002020c00030076657468303a7800080008008100000014000600ffffffffffffffff\
-                5d7303005d730300",
-            messages: &[
-                (20, 0x0022, 1179, 4136408453, 72),
-                (20, 0x0022, 1179, 4136408453, 64),
-            ],
-            fault: Fault::None,
-        },
-        Row {
-            // route: a Done with a code and a text, the answer to a dump of no such table
-            file: "0372",
-            hex: "3800000003002202a7040000ebd2b981feffffff23000100697076343a20464942207461626c6520\
-                646f6573206e6f742065786973740000",
-            messages: &[(3, 0x0222, 1191, 2176439019, 40)],
-            fault: Fault::None,
-        },
-        Row {
-            // route: an acknowledgement with a warning after it
-            file: "0515",
-            hex: "24000000020000011a0400002b3100000000000060000000280005041a04000000000000",
-            messages: &[(2, 0x0100, 1050, 12587, 20)],
-            fault: Fault::None,
-        },
-        Row {
-            // generic: an error, the request's header alone after the code
-            file: "0884",
-            hex: "24000000020000012904000049430000eaffffff10000000100005002904000000000000",
-            messages: &[(2, 0x0100, 1065, 17225, 20)],
-            fault: Fault::None,
-        },
-        Row {
-            // generic: an error with an attribute after the capped request. The echo states 20 bytes and has 16, so the
-            // attribute is taken for its payload, and what is left of it states a length of 1
-            file: "0909",
-            hex: "2c000000020000033e04000049430000eaffffff14000000150005003e0400000000000008000500\
-                01000000",
-            messages: &[],
-            fault: Fault::Input(1),
-        },
-        Row {
-            // generic: the devices of the family netdev, all of a dump in one datagram
-            file: "0970",
-            hex: "400000001400000075040000494300000101000008000100010000000c0003000000000000000000\
-                0c00050000000000000000000c000600000000000000000040000000140000007504000049430000\
-                0101000008000100020000000c00030023000000000000000c00050007000000000000000c000600\
-                0000000000000000400000001400000075040000494300000101000008000100030000000c000300\
-                23000000000000000c00050007000000000000000c00060000000000000000001400000003000200\
-                750400004943000000000000",
-            messages: &[
-                (20, 0x0000, 1141, 17225, 48),
-                (20, 0x0000, 1141, 17225, 48),
-                (20, 0x0000, 1141, 17225, 48),
-                (3, 0x0002, 1141, 17225, 4),
-            ],
-            fault: Fault::None,
-        },
-        Row {
-            // netfilter: a request whose length is no multiple of four
-            file: "0998",
-            hex: "1100000001010500fb0300000000000002000000",
-            messages: &[(257, 0x0005, 1019, 0, 1)],
-            fault: Fault::None,
-        },
-        Row {
-            // netfilter: a batch of three requests
-            file: "1004",
-            hex: "140000001000010015000000000000000000000a1c000000020a0500160000000000000001000000\
-                0700010074330000140000001100010017000000000000000000000a",
-            messages: &[
-                (16, 0x0001, 21, 0, 4),
-                (2562, 0x0005, 22, 0, 12),
-                (17, 0x0001, 23, 0, 4),
-            ],
-            fault: Fault::None,
-        },
-        Row {
-            // netfilter: two notifications in one datagram
-            file: "1029",
-            hex: "30000000050a00001600000013c75ec30100000b070001007433000006000300630000000c000200\
-                000000000000000130000000020a00001600000013c75ec30100000b070001007433000008000300\
-                000000000c0004000000000000000003",
-            messages: &[
-                (2565, 0x0000, 22, 3277768467, 32),
-                (2562, 0x0000, 22, 3277768467, 32),
-            ],
-            fault: Fault::None,
-        },
-        Row {
-            // sock_diag: a dump of unix sockets
-            file: "1036",
-            hex: "64000000140002000f0400004a430000010101008f4f010006000000000000000800020000000000\
-                0c000400000000000000000028000500000000000040030000000000004003000000000000000000\
-                000000000000000000000000050006000000000078000000140002000f0400004a43000001010a00\
-                8e4f01000700000000000000120000000061627374726163742d6e616d650000080003008f4f0100\
-                0c000400010000000100000028000500000000000040030000000000004003000000000000000000\
-                0000000000000000000000000500060000000000",
-            messages: &[
-                (20, 0x0002, 1039, 17226, 84),
-                (20, 0x0002, 1039, 17226, 104),
-            ],
-            fault: Fault::None,
-        },
-        Row {
-            // xfrm: all policies removed, told to a group
-            file: "1065",
-            hex: "1c0000001d000000af98026b000000000a0010000000000000000000",
-            messages: &[(29, 0x0000, 1795332271, 0, 12)],
-            fault: Fault::None,
-        },
-        Row {
-            // usersock: a text of five bytes from one program to another
-            file: "1066",
-            hex: "68656c6c6f",
-            messages: &[],
-            fault: Fault::Short,
-        },
-        Row {
-            // connector: a process event
-            file: "1067",
-            hex: "4c000000030000001000000000000000010000000100000010000000000000002800000001000000\
-                010000003863689e370200004b4300004b43000060430000604300000000000000000000",
-            messages: &[(3, 0x0000, 16, 0, 60)],
-            fault: Fault::None,
-        },
-        Row {
-            // route: a request by iproute2 with 128 zeros after it
-            file: "1111",
-            hex: "180000006a0001036c99026b00000000000000000000000000000000000000000000000000000000\
-                00000000000000000000000000000000000000000000000000000000000000000000000000000000\
-                00000000000000000000000000000000000000000000000000000000000000000000000000000000\
-                0000000000000000000000000000000000000000000000000000000000000000",
-            messages: &[(106, 0x0301, 1795332460, 0, 8)],
-            fault: Fault::Input(0),
-        },
-        Row {
-            // fib_lookup: a request by libnl
-            file: "1196",
-            hex: "24000000000005006f99026bb913c0557f00000100000000000000000000000000000000",
-            messages: &[(0, 0x0005, 1795332463, 1438651321, 20)],
-            fault: Fault::None,
-        },
-    ];
-    for row in &rows {
+    for row in &ROWS {
         check_row(&rt, rt.alloc(), row)?;
     }
     Ok(())
 }
+
+pub const ROWS: [Row; 19] = [
+    Row {
+        // route: IPv4 settings of a link, told to a group when loopback was set up
+        file: "0001",
+        hex: "240000005000000000000000000000000200000008000100feffffff0800020001000000",
+        messages: &[(80, 0x0000, 0, 0, 20)],
+        fault: Fault::None,
+    },
+    Row {
+        // kobject_uevent: a bridge made; the datagram is a text and no message
+        file: "0035",
+        hex: "616464402f646576696365732f7669727475616c2f6e65742f6272302f7175657565732f74782d30\
+            00414354494f4e3d61646400444556504154483d2f646576696365732f7669727475616c2f6e6574\
+            2f6272302f7175657565732f74782d300053554253595354454d3d717565756573005345514e554d\
+            3d3130323300",
+        messages: &[],
+        fault: Fault::Input(1080321105),
+    },
+    Row {
+        // route: a dump of IPv4 addresses, its first datagram
+        file: "0155",
+        hex: "4c00000014000200ed030000ed1c08fa020880fe01000000080001007f000001080002007f000001\
+            070003006c6f0000080008008000000014000600ffffffffffffffff867103008671030058000000\
+            14000200ed030000ed1c08fa021880000300000008000100c000020108000200c000020108000400\
+            c00002ff0a0003007665746830000000080008008000000014000600ffffffffffffffff44730300\
+            447303005000000014000200ed030000ed1c08fa021881000300000008000100c000020208000200\
+            c00002020c00030076657468303a7800080008008100000014000600ffffffffffffffff5d730300\
+            5d7303005000000014000200ed030000ed1c08fa021800000400000008000100c633640108000200\
+            c63364010a0003007665746832000000080008000000000014000600dc030000ac0b000076730300\
+            767303005000000014000200ed030000ed1c08fa022080000400000008000100cb00710208000200\
+            cb0071010a0003007665746832000000080008008000000014000600ffffffffffffffff8e730300\
+            8e7303004c00000014000200ed030000ed1c08fa0210800005000000080001000a09000108000200\
+            0a0900010800030062723000080008008000000014000600fffffffffffffffff4730300f4730300",
+        messages: &[
+            (20, 0x0002, 1005, 4194835693, 60),
+            (20, 0x0002, 1005, 4194835693, 72),
+            (20, 0x0002, 1005, 4194835693, 64),
+            (20, 0x0002, 1005, 4194835693, 64),
+            (20, 0x0002, 1005, 4194835693, 64),
+            (20, 0x0002, 1005, 4194835693, 60),
+        ],
+        fault: Fault::None,
+    },
+    Row {
+        // route: a dump of proxy neighbours, an entry and the Done after it
+        file: "0165",
+        hex: "240000001c000200f40300009a413db902000000030000000000080108000100c000024d14000000\
+            03000200f40300009a413db900000000",
+        messages: &[
+            (28, 0x0002, 1012, 3107799450, 20),
+            (3, 0x0002, 1012, 3107799450, 4),
+        ],
+        fault: Fault::None,
+    },
+    Row {
+        // route: the addresses of one link, a filtered dump
+        file: "0358",
+        hex: "58000000140022009b04000085958cf6021880000300000008000100c000020108000200c0000201\
+            08000400c00002ff0a0003007665746830000000080008008000000014000600ffffffffffffffff\
+            447303004473030050000000140022009b04000085958cf6021881000300000008000100c0000202\
+            08000200c00002020c00030076657468303a7800080008008100000014000600ffffffffffffffff\
+            5d7303005d730300",
+        messages: &[
+            (20, 0x0022, 1179, 4136408453, 72),
+            (20, 0x0022, 1179, 4136408453, 64),
+        ],
+        fault: Fault::None,
+    },
+    Row {
+        // route: a Done with a code and a text, the answer to a dump of no such table
+        file: "0372",
+        hex: "3800000003002202a7040000ebd2b981feffffff23000100697076343a20464942207461626c6520\
+            646f6573206e6f742065786973740000",
+        messages: &[(3, 0x0222, 1191, 2176439019, 40)],
+        fault: Fault::None,
+    },
+    Row {
+        // route: an acknowledgement with a warning after it
+        file: "0515",
+        hex: "24000000020000011a0400002b3100000000000060000000280005041a04000000000000",
+        messages: &[(2, 0x0100, 1050, 12587, 20)],
+        fault: Fault::None,
+    },
+    Row {
+        // generic: an error, the request's header alone after the code
+        file: "0884",
+        hex: "24000000020000012904000049430000eaffffff10000000100005002904000000000000",
+        messages: &[(2, 0x0100, 1065, 17225, 20)],
+        fault: Fault::None,
+    },
+    Row {
+        // generic: an error with an attribute after the capped request. The echo states 20 bytes and has 16, so the
+        // attribute is taken for its payload, and what is left of it states a length of 1
+        file: "0909",
+        hex: "2c000000020000033e04000049430000eaffffff14000000150005003e0400000000000008000500\
+            01000000",
+        messages: &[],
+        fault: Fault::Input(1),
+    },
+    Row {
+        // generic: the devices of the family netdev, all of a dump in one datagram
+        file: "0970",
+        hex: "400000001400000075040000494300000101000008000100010000000c0003000000000000000000\
+            0c00050000000000000000000c000600000000000000000040000000140000007504000049430000\
+            0101000008000100020000000c00030023000000000000000c00050007000000000000000c000600\
+            0000000000000000400000001400000075040000494300000101000008000100030000000c000300\
+            23000000000000000c00050007000000000000000c00060000000000000000001400000003000200\
+            750400004943000000000000",
+        messages: &[
+            (20, 0x0000, 1141, 17225, 48),
+            (20, 0x0000, 1141, 17225, 48),
+            (20, 0x0000, 1141, 17225, 48),
+            (3, 0x0002, 1141, 17225, 4),
+        ],
+        fault: Fault::None,
+    },
+    Row {
+        // netfilter: a request whose length is no multiple of four
+        file: "0998",
+        hex: "1100000001010500fb0300000000000002000000",
+        messages: &[(257, 0x0005, 1019, 0, 1)],
+        fault: Fault::None,
+    },
+    Row {
+        // netfilter: a batch of three requests
+        file: "1004",
+        hex: "140000001000010015000000000000000000000a1c000000020a0500160000000000000001000000\
+            0700010074330000140000001100010017000000000000000000000a",
+        messages: &[
+            (16, 0x0001, 21, 0, 4),
+            (2562, 0x0005, 22, 0, 12),
+            (17, 0x0001, 23, 0, 4),
+        ],
+        fault: Fault::None,
+    },
+    Row {
+        // netfilter: two notifications in one datagram
+        file: "1029",
+        hex: "30000000050a00001600000013c75ec30100000b070001007433000006000300630000000c000200\
+            000000000000000130000000020a00001600000013c75ec30100000b070001007433000008000300\
+            000000000c0004000000000000000003",
+        messages: &[
+            (2565, 0x0000, 22, 3277768467, 32),
+            (2562, 0x0000, 22, 3277768467, 32),
+        ],
+        fault: Fault::None,
+    },
+    Row {
+        // sock_diag: a dump of unix sockets
+        file: "1036",
+        hex: "64000000140002000f0400004a430000010101008f4f010006000000000000000800020000000000\
+            0c000400000000000000000028000500000000000040030000000000004003000000000000000000\
+            000000000000000000000000050006000000000078000000140002000f0400004a43000001010a00\
+            8e4f01000700000000000000120000000061627374726163742d6e616d650000080003008f4f0100\
+            0c000400010000000100000028000500000000000040030000000000004003000000000000000000\
+            0000000000000000000000000500060000000000",
+        messages: &[
+            (20, 0x0002, 1039, 17226, 84),
+            (20, 0x0002, 1039, 17226, 104),
+        ],
+        fault: Fault::None,
+    },
+    Row {
+        // xfrm: all policies removed, told to a group
+        file: "1065",
+        hex: "1c0000001d000000af98026b000000000a0010000000000000000000",
+        messages: &[(29, 0x0000, 1795332271, 0, 12)],
+        fault: Fault::None,
+    },
+    Row {
+        // usersock: a text of five bytes from one program to another
+        file: "1066",
+        hex: "68656c6c6f",
+        messages: &[],
+        fault: Fault::Short,
+    },
+    Row {
+        // connector: a process event
+        file: "1067",
+        hex: "4c000000030000001000000000000000010000000100000010000000000000002800000001000000\
+            010000003863689e370200004b4300004b43000060430000604300000000000000000000",
+        messages: &[(3, 0x0000, 16, 0, 60)],
+        fault: Fault::None,
+    },
+    Row {
+        // route: a request by iproute2 with 128 zeros after it
+        file: "1111",
+        hex: "180000006a0001036c99026b00000000000000000000000000000000000000000000000000000000\
+            00000000000000000000000000000000000000000000000000000000000000000000000000000000\
+            00000000000000000000000000000000000000000000000000000000000000000000000000000000\
+            0000000000000000000000000000000000000000000000000000000000000000",
+        messages: &[(106, 0x0301, 1795332460, 0, 8)],
+        fault: Fault::Input(0),
+    },
+    Row {
+        // fib_lookup: a request by libnl
+        file: "1196",
+        hex: "24000000000005006f99026bb913c0557f00000100000000000000000000000000000000",
+        messages: &[(0, 0x0005, 1795332463, 1438651321, 20)],
+        fault: Fault::None,
+    },
+];

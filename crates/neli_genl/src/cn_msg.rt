@@ -225,8 +225,14 @@ pub struct CnMsgBuilder<P> {
 
 impl<P> Default for CnMsgBuilder<P> {
     ghost is_default = { λ b.
-        b ≡ record { idx = None; val = None; seq = None; ack = None; flags = None;
-        payload = None } };
+        b ≡ record {
+          idx = None;
+          val = None;
+          seq = None;
+          ack = None;
+          flags = None;
+          payload = None;
+        } };
 
     fn default() -> Self {
         CnMsgBuilder {

@@ -217,8 +217,14 @@ pub struct IfaddrmsgBuilder {
 
 impl Default for IfaddrmsgBuilder {
     ghost is_default = { λ b.
-        b ≡ record { ifa_family = None; ifa_prefixlen = None; ifa_flags = None; ifa_scope = None;
-        ifa_index = None; rtattrs = None } };
+        b ≡ record {
+          ifa_family = None;
+          ifa_prefixlen = None;
+          ifa_flags = None;
+          ifa_scope = None;
+          ifa_index = None;
+          rtattrs = None;
+        } };
 
     fn default() -> Self {
         IfaddrmsgBuilder {

@@ -220,8 +220,14 @@ pub struct IfinfomsgBuilder {
 
 impl Default for IfinfomsgBuilder {
     ghost is_default = { λ b.
-        b ≡ record { ifi_family = None; ifi_type = None; ifi_index = None; ifi_flags = None;
-        ifi_change = None; rtattrs = None } };
+        b ≡ record {
+          ifi_family = None;
+          ifi_type = None;
+          ifi_index = None;
+          ifi_flags = None;
+          ifi_change = None;
+          rtattrs = None;
+        } };
 
     fn default() -> Self {
         IfinfomsgBuilder {

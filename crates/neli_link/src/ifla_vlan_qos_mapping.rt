@@ -94,7 +94,7 @@ impl ToBytes for IflaVlanQosMapping {
 
     ghost zeros_after = { λ v bytes e. unpadded-zeros 8 bytes
         (written-length (ifla_vlan_qos_mapping_bytes v) bytes 8
-            (ifla_vlan_qos_mapping-width v) e) };
+        (ifla_vlan_qos_mapping-width v) e) };
 
     ghost no_memory = { λ v. written-no_memory (ifla_vlan_qos_mapping_bytes v) };
 

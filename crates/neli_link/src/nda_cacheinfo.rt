@@ -158,8 +158,12 @@ pub struct NdaCacheinfoBuilder {
 
 impl Default for NdaCacheinfoBuilder {
     ghost is_default = { λ b.
-        b ≡ record { ndm_confirmed = None; ndm_used = None; ndm_updated = None;
-        ndm_refcnt = None } };
+        b ≡ record {
+          ndm_confirmed = None;
+          ndm_used = None;
+          ndm_updated = None;
+          ndm_refcnt = None;
+        } };
 
     fn default() -> Self {
         NdaCacheinfoBuilder {

@@ -211,8 +211,14 @@ pub struct NdmsgBuilder {
 
 impl Default for NdmsgBuilder {
     ghost is_default = { λ b.
-        b ≡ record { ndm_family = None; ndm_index = None; ndm_state = None; ndm_flags = None;
-        ndm_type = None; rtattrs = None } };
+        b ≡ record {
+          ndm_family = None;
+          ndm_index = None;
+          ndm_state = None;
+          ndm_flags = None;
+          ndm_type = None;
+          rtattrs = None;
+        } };
 
     fn default() -> Self {
         NdmsgBuilder {

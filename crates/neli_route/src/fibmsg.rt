@@ -233,8 +233,16 @@ pub struct FibmsgBuilder {
 
 impl Default for FibmsgBuilder {
     ghost is_default = { λ b.
-        b ≡ record { fib_family = None; fib_dst_len = None; fib_src_len = None; fib_tos = None;
-        fib_table = None; fib_action = None; fib_flags = None; rtattrs = None } };
+        b ≡ record {
+          fib_family = None;
+          fib_dst_len = None;
+          fib_src_len = None;
+          fib_tos = None;
+          fib_table = None;
+          fib_action = None;
+          fib_flags = None;
+          rtattrs = None;
+        } };
 
     fn default() -> Self {
         FibmsgBuilder {

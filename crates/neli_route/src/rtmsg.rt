@@ -261,9 +261,18 @@ pub struct RtmsgBuilder {
 
 impl Default for RtmsgBuilder {
     ghost is_default = { λ b.
-        b ≡ record { rtm_family = None; rtm_dst_len = None; rtm_src_len = None; rtm_tos = None;
-        rtm_table = None; rtm_protocol = None; rtm_scope = None; rtm_type = None; rtm_flags = None;
-        rtattrs = None } };
+        b ≡ record {
+          rtm_family = None;
+          rtm_dst_len = None;
+          rtm_src_len = None;
+          rtm_tos = None;
+          rtm_table = None;
+          rtm_protocol = None;
+          rtm_scope = None;
+          rtm_type = None;
+          rtm_flags = None;
+          rtattrs = None;
+        } };
 
     fn default() -> Self {
         RtmsgBuilder {

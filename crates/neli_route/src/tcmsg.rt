@@ -222,8 +222,14 @@ pub struct TcmsgBuilder {
 
 impl Default for TcmsgBuilder {
     ghost is_default = { λ b.
-        b ≡ record { tcm_family = None; tcm_ifindex = None; tcm_handle = None; tcm_parent = None;
-        tcm_info = None; rtattrs = None } };
+        b ≡ record {
+          tcm_family = None;
+          tcm_ifindex = None;
+          tcm_handle = None;
+          tcm_parent = None;
+          tcm_info = None;
+          rtattrs = None;
+        } };
 
     fn default() -> Self {
         TcmsgBuilder {

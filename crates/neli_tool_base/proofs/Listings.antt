@@ -13,7 +13,7 @@ use Rattle.neli_msg.specs.Cuts.{Cut, Cuts, IsNext, cut_with, message_before, mes
 use Rattle.neli_msg.specs.laws.Messages.{framed-placed}
 use Rattle.neli_msg.specs.laws.Cuts.{cut_of-Cuts}
 use Rattle.neli_tool_base.specs.declared.line.Ending.{Ending}
-use Rattle.neli_tool_base.specs.declared.line.Ending.TheVariants.{Whole, Input, Short, Other, Memory}
+use Rattle.neli_tool_base.specs.declared.line.Ending.TheVariants.{Whole, Input, Short, Other, Tail, Memory}
 use Rattle.neli_tool_base.specs.Listing.{Raw, raw_cut, line_of, lines_of, ending_of, ending_by, GoesOnAfter, Lists}
 
 -- the datagram is messages whose lines are made, and then what is left
@@ -52,6 +52,7 @@ lists bytes lines Whole other h = h
 lists bytes lines (Input n) other h = h
 lists bytes lines Short other h = h
 lists bytes lines Other other h = h
+lists bytes lines Tail other h = h
 lists bytes lines Memory other h = absurd (other refl)
 
 pub listed_end : (bytes lines left : List ℕ) → IsListed bytes lines left → raw_cut left ≡ ([], None) → Lists bytes lines Whole

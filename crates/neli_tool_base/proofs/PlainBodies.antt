@@ -8,7 +8,7 @@ use Rattle.neli_msg.specs.laws.Cuts.{cut_of-Cuts}
 use Rattle.neli_msg.specs.laws.Messages.{framed-placed}
 use Rattle.neli_msg.specs.laws.Plain.{only-message}
 use Rattle.neli_tool_base.specs.declared.line.Ending.{Ending}
-use Rattle.neli_tool_base.specs.declared.line.Ending.TheVariants.{Whole, Input, Short, Other, Memory}
+use Rattle.neli_tool_base.specs.declared.line.Ending.TheVariants.{Whole, Input, Short, Other, Tail, Memory}
 use Rattle.neli_tool_base.specs.Listing.{Raw, raw_cut, ending_of, Lists}
 
 -- a refusal that has a line of its own
@@ -28,4 +28,5 @@ listed-named bytes lines Other l h = ending-named bytes (raw_cut bytes).0 (raw_c
 listed-named bytes lines Whole l h = cc
 listed-named bytes lines (Input n) l h = cc
 listed-named bytes lines Short l h = cc
+listed-named bytes lines Tail l h = cc
 listed-named bytes lines Memory l h = cc

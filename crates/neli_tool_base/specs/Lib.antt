@@ -1,4 +1,5 @@
 pub mod Inputs
 pub mod Lines
 pub mod Listing
+pub mod Rewriting
 pub mod Runs

@@ -2,7 +2,7 @@
 use Rattle.std.specs.Prelude.{ℕ, ◌-◌, List, [], ◌++◌, length, codes, replicate, false}
 use Rattle.std.specs.Fmt.{decimal, digits}
 use Rattle.neli_tool_base.specs.declared.line.Ending.{Ending}
-use Rattle.neli_tool_base.specs.declared.line.Ending.TheVariants.{Whole, Input, Short, Other, Memory}
+use Rattle.neli_tool_base.specs.declared.line.Ending.TheVariants.{Whole, Input, Short, Other, Tail, Memory}
 
 -- four lower-case hexadecimal digits: as many zeros as the number's own digits leave, and these
 unfoldable pub hex4 : ℕ → List ℕ
@@ -14,4 +14,5 @@ ending Whole = []
 ending (Input n) = codes "fault: input " ++ decimal n ++ codes "\n"
 ending Short = codes "fault: short\n"
 ending Other = codes "fault: other\n"
+ending Tail = codes "fault: tail\n"
 ending Memory = codes "fault: memory\n"

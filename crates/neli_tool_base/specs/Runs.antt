@@ -15,7 +15,6 @@ use Rattle.neli_tool_base.specs.declared.status.Status.{Status}
 use Rattle.neli_tool_base.specs.declared.status.Status.TheVariants as status
 use Rattle.neli_tool_base.specs.Inputs.{IsInput}
 use Rattle.neli_tool_base.specs.Lines.{ending}
-use Rattle.neli_tool_base.specs.Listing.{Lists}
 
 -- ---- what is asked for
 
@@ -27,17 +26,22 @@ Words = Result (Vec (String Global) Global) Error
 abbrev pub AskForList : Words → Type 0
 AskForList words = IsOkAnd words (λ w. map string_bytes w.items ≡ codes "list" ∷ [])
 
+-- they are the words `list` and `zero`
+abbrev pub AskForZero : Words → Type 0
+AskForZero words = IsOkAnd words (λ w. map string_bytes w.items ≡ codes "list" ∷ codes "zero" ∷ [])
+
 -- memory ran out while they were read
 abbrev pub RanOutOfMemory : Words → Type 0
 RanOutOfMemory words = IsErrAnd words (λ e. error_kind e ≡ OutOfMemory)
 
 -- they ask for nothing that the program does
 abbrev pub AreWrong : Words → Type 0
-AreWrong words = (¬ AskForList words) × (¬ RanOutOfMemory words)
+AreWrong words = (¬ AskForList words) × (¬ AskForZero words) × (¬ RanOutOfMemory words)
 
 -- what these words ask for
 abbrev pub Asks : Words → Request → Type 0
 Asks words request.List = AskForList words
+Asks words request.Zero = AskForZero words
 Asks words request.Memory = RanOutOfMemory words
 Asks words request.Usage = AreWrong words
 
@@ -61,11 +65,15 @@ status_by e = status.Fault
 
 -- ---- what is written
 
--- the output gains a listing of the input, with this ending
-abbrev pub GainsListing : Option (List ℕ) → Option (List ℕ) → Option (List ℕ) → Ending → Type 0
-GainsListing known old new e =
-    (bytes : List ℕ) × (lines : List ℕ) × IsInput known bytes × Lists bytes lines e
-    × Appends old new (lines ++ ending e)
+-- what is made of a datagram: its bytes, the text, and how that ends
+abbrev pub Makes : Type 1
+Makes = List ℕ → List ℕ → Ending → Type 0
+
+-- the output gains the text that is made of the input, with this ending
+abbrev pub GainsText : Makes → Option (List ℕ) → Option (List ℕ) → Option (List ℕ) → Ending → Type 0
+GainsText makes known old new e =
+    (bytes : List ℕ) × (text : List ℕ) × IsInput known bytes × makes bytes text e
+    × Appends old new (text ++ ending e)
 
 -- the output gains the one line that memory ran out; of an output that fails nothing is known
 abbrev pub PrintsMemory : Option (List ℕ) → Option (List ℕ) → Status → Type 0
@@ -73,17 +81,17 @@ PrintsMemory old new status.Memory = Appends old new (ending Memory)
 PrintsMemory old new status.NoOutput = ⊤
 PrintsMemory old new s = ⊥
 
--- the output gains a listing of the input that ends as the status says, or nothing where the input fails; where
--- memory runs out before the input is read, the line for that alone
-abbrev pub Prints : Option (List ℕ) → Option (List ℕ) → Option (List ℕ) → Status → Type 0
-Prints known old new status.Whole = GainsListing known old new Whole
-Prints known old new status.Fault =
-    (e : Ending) × (status_by e ≡ status.Fault) × GainsListing known old new e
-Prints known old new status.Memory =
-    Appends old new (ending Memory) ⊎ GainsListing known old new Memory
-Prints known old new status.NoInput = Keeps old new
-Prints known old new status.NoOutput = ⊤
-Prints known old new s = ⊥
+-- the output gains the text that is made of the input, which ends as the status says, or nothing where the input
+-- fails; where memory runs out before the input is read, the line for that alone
+abbrev pub Prints : Makes → Option (List ℕ) → Option (List ℕ) → Option (List ℕ) → Status → Type 0
+Prints makes known old new status.Whole = GainsText makes known old new Whole
+Prints makes known old new status.Fault =
+    (e : Ending) × (status_by e ≡ status.Fault) × GainsText makes known old new e
+Prints makes known old new status.Memory =
+    Appends old new (ending Memory) ⊎ GainsText makes known old new Memory
+Prints makes known old new status.NoInput = Keeps old new
+Prints makes known old new status.NoOutput = ⊤
+Prints makes known old new s = ⊥
 
 -- complaints gain the usage line; of complaints that fail nothing is known
 abbrev pub Complains : Option (List ℕ) → Option (List ℕ) → Status → Type 0

@@ -2,6 +2,7 @@
 //!
 //! - [`run`] looks at the words, does what they ask for, and answers how the run ends.
 //! - [`listing`] makes the listing of a datagram, and `list` reads one and writes it.
+//! - [`rewriting`] writes a datagram again, with zeros for its padding, and `list_zero` does so of an input.
 //! - [`line`] is the text of one message, and of what ends a datagram.
 //! - [`input`] reads a whole input.
 //! - [`status`] is how a run ends.
@@ -10,5 +11,6 @@
 pub mod input;
 pub mod line;
 pub mod listing;
+pub mod rewriting;
 pub mod run;
 pub mod status;

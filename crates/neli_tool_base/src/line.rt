@@ -136,6 +136,8 @@ pub enum Ending {
     Short,
     /// Another refusal to read, which no payload of plain bytes has.
     Other,
+    /// An acknowledgement has bytes after the header that it answers.
+    Tail,
     /// Memory ran out.
     Memory,
 }
@@ -149,6 +151,7 @@ impl fmt::Display for Ending {
             Ending::Input(n) => writeln!(f, "fault: input {n}"),
             Ending::Short => writeln!(f, "fault: short"),
             Ending::Other => writeln!(f, "fault: other"),
+            Ending::Tail => writeln!(f, "fault: tail"),
             Ending::Memory => writeln!(f, "fault: memory"),
         }
     }

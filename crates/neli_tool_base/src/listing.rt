@@ -1,12 +1,12 @@
 //! The listing of a datagram.
 
-ghost use Rattle.std.specs.Prelude.{◌≡◌, ◌≢◌, ◌++◌, codes, OnOk, OnErr};
+ghost use Rattle.std.specs.Prelude.{◌≡◌, ◌≢◌, ◌++◌, Some, codes, OnOk, OnErr};
 ghost use Rattle.std.specs.Io.KnownBytes.{Appends};
 ghost use Rattle.neli_msg.specs.Messages.{message_of};
 ghost use Rattle.neli_tool_base.specs.declared.line.Ending.TheVariants as line;
 ghost use Rattle.neli_tool_base.specs.declared.status.Status.TheVariants as status;
-ghost use Rattle.neli_tool_base.specs.Lines.{ending};
-ghost use Rattle.neli_tool_base.specs.Listing.{Lists, ending_by, line_of};
+ghost use Rattle.neli_tool_base.specs.Lines.{ending as ending_text};
+ghost use Rattle.neli_tool_base.specs.Listing.{Lists, ending_by, ending_of, line_of};
 ghost use Rattle.neli_tool_base.specs.Runs.{Prints, PrintsMemory, status_by};
 
 use crate::input::{InputError, read_whole};
@@ -38,13 +38,23 @@ fn append_line(alloc: Global, message: &RawMessage, lines: &mut Vec<u8>) -> Resu
     lines.extend_from_slice(text.as_bytes())
 }
 
+/// The ending for a datagram that has this fault.
+pub fn fault_ending(fault: &DeError) -> Ending
+    ensures { result ≡ ending_of (Some fault.now) }
+{
+    match fault {
+        DeError::InvalidInput(n) => Ending::Input(*n),
+        DeError::Io(ErrorKind::UnexpectedEof) => Ending::Short,
+        _ => Ending::Other,
+    }
+}
+
 /// The ending of a listing whose reader answers this error.
 fn ending_at(error: &SocketError) -> Ending
     ensures { result ≡ ending_by error.now }
 {
     match error {
-        SocketError::De(DeError::InvalidInput(n)) => Ending::Input(*n),
-        SocketError::De(DeError::Io(ErrorKind::UnexpectedEof)) => Ending::Short,
+        SocketError::De(fault) => fault_ending(fault),
         SocketError::Memory => Ending::Memory,
         _ => Ending::Other,
     }
@@ -78,19 +88,18 @@ pub fn listing_of(alloc: Global, bytes: &[u8]) -> Listing
     Listing { lines, ending }
 }
 
-/// Writes a listing.
-fn write_listing<W: Write>(listing: &Listing, output: &mut W) -> io::Result<()>
+/// Writes a text and its ending.
+pub fn write_text<W: Write>(text: &[u8], ending: Ending, output: &mut W) -> io::Result<()>
     ensures { OnOk result (Appends (W.contents output.old) (W.contents output.new)
-        (listing.now.lines.items ++ ending listing.now.ending)) }
+        (text.now ++ ending_text ending)) }
 {
-    output.write_all(&listing.lines)?;
-    let ending = listing.ending;
+    output.write_all(text)?;
     write!(output, "{ending}")?;
     output.flush()
 }
 
-/// How a run ends that wrote a listing with this ending.
-fn status_of(ending: Ending) -> Status
+/// How a run ends that wrote a text with this ending.
+pub fn status_of(ending: Ending) -> Status
     ensures { result ≡ status_by ending }
 {
     match ending {
@@ -118,9 +127,9 @@ pub fn out_of_memory<W: Write>(output: &mut W) -> Status
 /// Lists the datagram that the input is: a line for each message, then the line of its fault.
 ///
 /// Nothing is written where the input fails or does not end.
-#[tactic(auto, using(crate::proofs::Runs::listing_prints, crate::proofs::Runs::memory_prints))]
+#[tactic(auto, using(crate::proofs::Runs::text_prints, crate::proofs::Runs::memory_prints))]
 pub fn list<R: Read, W: Write>(alloc: Global, input: &mut R, output: &mut W) -> Status
-    ensures text { Prints (R.remaining input.old)
+    ensures text { Prints Lists (R.remaining input.old)
         (W.contents output.old) (W.contents output.new) result }
     ensures untouched { result ≡ status.NoInput → output.new ≡ output.old }
 {
@@ -130,7 +139,7 @@ pub fn list<R: Read, W: Write>(alloc: Global, input: &mut R, output: &mut W) -> 
         Err(InputError::Failed | InputError::Endless) => return Status::NoInput,
     };
     let listing = listing_of(alloc, &bytes);
-    match write_listing(&listing, output) {
+    match write_text(&listing.lines, listing.ending, output) {
         Ok(()) => status_of(listing.ending),
         Err(_) => Status::NoOutput,
     }

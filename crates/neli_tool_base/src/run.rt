@@ -2,9 +2,12 @@
 
 ghost use Rattle.std.specs.Prelude.{◌≡◌, ◌↔◌, [], ◌∷◌, map, codes, string_bytes, IsTrue};
 ghost use Rattle.neli_tool_base.specs.declared.status.Status.TheVariants as status;
-ghost use Rattle.neli_tool_base.specs.Runs.{AreWrong, AskForList, Asks, Complains, Prints, PrintsMemory, RanOutOfMemory};
+ghost use Rattle.neli_tool_base.specs.Runs.{AreWrong, AskForList, AskForZero, Asks, Complains, Prints, PrintsMemory, RanOutOfMemory};
+ghost use Rattle.neli_tool_base.specs.Listing.{Lists};
+ghost use Rattle.neli_tool_base.specs.Rewriting.{Rewrites};
 
 use crate::listing::{list, out_of_memory};
+use crate::rewriting::list_zero;
 use crate::status::Status;
 use std::alloc::Global;
 use std::io;
@@ -15,6 +18,8 @@ use std::io::{ErrorKind, Read, Write};
 pub enum Request {
     /// To list a datagram: the one word `list`.
     List,
+    /// To write a datagram with zeros for its padding: the words `list` and `zero`.
+    Zero,
     /// Nothing that the program does.
     Usage,
     /// It is not known: memory ran out while they were read.
@@ -31,9 +36,19 @@ fn is_list(words: &[String]) -> bool
     }
 }
 
+/// These are the words `list` and `zero`.
+fn is_list_zero(words: &[String]) -> bool
+    ensures { IsTrue result ↔ (map string_bytes words.now ≡ codes "list" ∷ codes "zero" ∷ []) }
+{
+    match words {
+        [first, second] if first.as_str() == "list" && second.as_str() == "zero" => true,
+        _ => false,
+    }
+}
+
 /// What these words ask for. Words that could not be read for another reason than memory, as one that is
 /// not UTF-8, ask for nothing that the program does.
-#[tactic(auto, using(crate::proofs::Runs::list_words, crate::proofs::Runs::memory_error, crate::proofs::Runs::other_words, crate::proofs::Runs::other_error))]
+#[tactic(auto, using(crate::proofs::Runs::list_words, crate::proofs::Runs::zero_words, crate::proofs::Runs::memory_error, crate::proofs::Runs::other_words, crate::proofs::Runs::other_error))]
 pub fn requested(words: &io::Result<Vec<String>>) -> Request
     ensures { Asks words.now result }
 {
@@ -41,6 +56,8 @@ pub fn requested(words: &io::Result<Vec<String>>) -> Request
         Ok(words) => {
             if is_list(words.as_slice()) {
                 Request::List
+            } else if is_list_zero(words.as_slice()) {
+                Request::Zero
             } else {
                 Request::Usage
             }
@@ -71,9 +88,9 @@ fn complain<C: Write>(complaints: &mut C) -> Status
 
 /// Does what these words ask for, and answers how the run ends; the exit status is its `code`.
 ///
-/// The words are looked at first. Only where they ask for a listing is the input read, whole and before
+/// The words are looked at first. Only where they ask for a datagram is the input read, whole and before
 /// anything is written. Words that ask for nothing are answered by the usage line on `complaints`.
-#[tactic(auto, using(crate::proofs::Runs::not_both, crate::proofs::Runs::memory_no_input))]
+#[tactic(auto, using(crate::proofs::Runs::not_both, crate::proofs::Runs::not_zero_too, crate::proofs::Runs::list_or_zero, crate::proofs::Runs::memory_no_input))]
 pub fn run<R: Read, W: Write, C: Write>(
     alloc: Global,
     words: &io::Result<Vec<String>>,
@@ -82,18 +99,23 @@ pub fn run<R: Read, W: Write, C: Write>(
     complaints: &mut C,
 ) -> Status
     ensures list { AskForList words.now
-        → Prints (R.remaining input.old) (W.contents output.old) (W.contents output.new) result }
+        → Prints Lists (R.remaining input.old)
+        (W.contents output.old) (W.contents output.new) result }
+    ensures zero { AskForZero words.now
+        → Prints Rewrites (R.remaining input.old)
+        (W.contents output.old) (W.contents output.new) result }
     ensures memory { RanOutOfMemory words.now
         → PrintsMemory (W.contents output.old) (W.contents output.new) result }
     ensures usage { AreWrong words.now
         → Complains (C.contents complaints.old) (C.contents complaints.new) result }
     ensures untouched { AreWrong words.now → output.new ≡ output.old }
     ensures no_input { result ≡ status.NoInput → output.new ≡ output.old }
-    ensures unread { ¬ AskForList words.now → input.new ≡ input.old }
+    ensures unread { ¬ AskForList words.now → ¬ AskForZero words.now → input.new ≡ input.old }
     ensures silent { ¬ AreWrong words.now → complaints.new ≡ complaints.old }
 {
     match requested(words) {
         Request::List => list(alloc, input, output),
+        Request::Zero => list_zero(alloc, input, output),
         Request::Usage => complain(complaints),
         Request::Memory => out_of_memory(output),
     }

@@ -26,7 +26,7 @@ fn words(rt: &impl Abort, alloc: Global, given: &[&str]) -> io::Result<Vec<Strin
 #[test]
 fn words_ask_for_a_listing_or_are_wrong_use(rt: HostRuntime) {
     let alloc = rt.alloc();
-    let rows: [(&[&str], Request, Status, u8, &str, &str); 9] = [
+    let rows: [(&[&str], Request, Status, u8, &str, &str); 11] = [
         (
             &["list"],
             Request::List,
@@ -49,6 +49,22 @@ fn words_ask_for_a_listing_or_are_wrong_use(rt: HostRuntime) {
         ),
         (
             &["list", "zero"],
+            Request::Zero,
+            Status::Fault,
+            1,
+            "fault: short\n",
+            "",
+        ),
+        (
+            &["list", "zeros"],
+            Request::Usage,
+            Status::Usage,
+            2,
+            "",
+            USAGE,
+        ),
+        (
+            &["list", "zero", "zero"],
             Request::Usage,
             Status::Usage,
             2,
@@ -76,7 +92,7 @@ fn words_ask_for_a_listing_or_are_wrong_use(rt: HostRuntime) {
         assert_eq!(rt; status.code(), code, "{given:?}");
         assert_eq!(rt; output.as_slice(), text.as_bytes(), "{given:?}");
         assert_eq!(rt; complaints.as_slice(), complaint.as_bytes(), "{given:?}");
-        assert_eq!(rt; input.is_empty(), request == Request::List, "{given:?}");
+        assert_eq!(rt; input.is_empty(), request != Request::Usage, "{given:?}");
     }
 }
 

@@ -15,3 +15,5 @@ mod listing;
 mod out_of_memory;
 #[cfg(test)]
 mod output;
+#[cfg(test)]
+mod rewriting;

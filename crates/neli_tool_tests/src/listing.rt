@@ -88,6 +88,7 @@ fn endings_have_lines(rt: HostRuntime) -> Result<(), Fail> {
         (Ending::Input(15), "fault: input 15\n"),
         (Ending::Short, "fault: short\n"),
         (Ending::Other, "fault: other\n"),
+        (Ending::Tail, "fault: tail\n"),
         (Ending::Memory, "fault: memory\n"),
     ];
     for (ending, want) in rows {
