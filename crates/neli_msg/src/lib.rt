@@ -19,8 +19,8 @@
 //!   [`NlBuffer`] is a list of messages.
 //! - [`SocketError`] is what a reader, or a link below it, reports, [`RouterError`] what a router does, and
 //!   [`BuilderError`] why any builder made nothing.
-//! - [`laws`] says that each byte list has one cut, how many messages it can have, and that reading a
-//!   message as other types agrees with retyping it.
+//! - [`laws`] says that each byte list has one cut, how many messages it can have, that reading a
+//!   message as other types agrees with retyping it, and what of a datagram is written again.
 //!
 //! `specs/Kinds.antt` of `neli_msg_base` says on one page which kind a payload is; `specs/Messages.antt` how
 //! a message lies in bytes; `specs/Cuts.antt` what a whole datagram means. What stands in `neli_msg_base`
