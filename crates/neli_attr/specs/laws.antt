@@ -2,3 +2,4 @@ pub use Rattle.neli_attr_base.specs.laws.Attributes
 pub use Rattle.neli_attr_base.specs.laws.TypeField
 pub mod Nlattr
 pub mod Rtattr
+pub mod RoundTrips

@@ -10,6 +10,8 @@ mod cuts;
 #[cfg(test)]
 mod generic;
 #[cfg(test)]
+mod laws;
+#[cfg(test)]
 mod links;
 #[cfg(test)]
 mod routes;

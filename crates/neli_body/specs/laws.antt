@@ -1,3 +1,4 @@
 pub mod Attributes
 pub mod Bodies
 pub mod Headers
+pub mod RoundTrips

@@ -2,9 +2,11 @@
 
 ghost use Rattle.std.specs.Prelude.{◌≡◌, List, ℕ, length};
 ghost use Rattle.neli_wire.specs.Numbers.{AreBytes};
-ghost use Rattle.neli_body.specs.RoundTrips.{ReadsBack};
+ghost use Rattle.neli_body.specs.Attributes.{Attrs};
+ghost use Rattle.neli_body.specs.RoundTrips.{ArePlainAttrs, AreReadBack, ReadsBack, ReadsBackWhole};
 
 use crate::FixedHeader;
+use neli_consts_rta::RtaType;
 use neli_wire::{FromBytesWithInput, ToBytes};
 
 /// A body is written as bytes that are read as its header and as what the bytes after the header are
@@ -15,4 +17,16 @@ pub fn body_is_read_back<H: FixedHeader, R: ToBytes + FromBytesWithInput>()
         → ReadsBack H.width H.bytes_of H.header_of R.read h (R.wire rest) }
     ensures bytes { (s : List ℕ) → length s ≡ H.width → AreBytes s
         → H.bytes_of (H.header_of s) ≡ s }
+{}
+
+/// A list of routing attributes is written as bytes that are read as the same attributes, where
+/// each attribute's length is that of its header and payload, as it is for each one that was built,
+/// and its type is what its number is read as. So is a header with such a list after it, where each
+/// field of the header is what its number is read as.
+pub fn attributes_are_read_back<H: FixedHeader, T: RtaType>()
+    ensures back { (attrs : Attrs T) → ArePlainAttrs T.wire_number T.wire_value attrs
+        → AreReadBack T.wire_number T.wire_value attrs }
+    ensures whole { (h : H) (attrs : Attrs T) → H.IsPlain h
+        → ArePlainAttrs T.wire_number T.wire_value attrs
+        → ReadsBackWhole H.width H.bytes_of H.header_of T.wire_number T.wire_value h attrs }
 {}

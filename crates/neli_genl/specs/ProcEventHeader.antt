@@ -1,12 +1,12 @@
 -- A process event with its header: `struct proc_event` of linux/cn_proc.h.
 use Rattle.std.specs.Prelude.{ℕ, ◌+◌, ◌≤◌, List, ◌++◌, length, nat_lt, Result, Ok, Err, if◌then◌else◌}
 use Rattle.neli_consts_sys.specs.ProcEventType.{proc_event_type_number, proc_event_type_of}
-use Rattle.neli_genl.specs.ProcEvents.{IsUnknown, event_bytes, event_kind, event_of, event_size}
+use Rattle.neli_genl.specs.ProcEvents.{IsPlainEvent, IsUnknown, event_bytes, event_kind, event_of, event_size}
 use Rattle.neli_genl.specs.declared.proc_event_header.ProcEventHeader.{ProcEventHeader}
 use Rattle.neli_wire.specs.DeError.{DeError}
 use Rattle.neli_wire.specs.DeError.TheVariants.{InvalidInput}
 use Rattle.neli_wire.specs.Frames.{number_in}
-use Rattle.neli_wire.specs.Numbers.{little_bytes}
+use Rattle.neli_wire.specs.Numbers.{FitsBytes, little_bytes}
 use Rattle.neli_wire.specs.Reading.{◌>>=◌}
 
 -- what bytes say: the type at place 0, the processor at 4, the time at 8, and the event from 16 on; what follows is skipped
@@ -29,3 +29,9 @@ proc_event_bytes h =
 -- how many bytes it takes
 abbrev pub proc_event_size : ProcEventHeader → ℕ
 proc_event_size h = 16 + event_size h.event
+
+-- each number fits its field
+pub record IsPlainProcEvent (h : ProcEventHeader) : Type 0 where
+  pub cpu : FitsBytes 4 h.cpu
+  pub timestamp_ns : FitsBytes 8 h.timestamp_ns
+  pub event : IsPlainEvent h.event

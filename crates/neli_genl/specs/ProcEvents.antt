@@ -1,5 +1,5 @@
 -- Process events: `struct proc_event` of linux/cn_proc.h, whose union follows a header of 16 bytes.
-use Rattle.std.specs.Prelude.{ℕ, ℤ, ◌+◌, List, ◌++◌, codes, drop, length, nat_eq, nat_lt, take, Result, Ok, Err, if◌then◌else◌}
+use Rattle.std.specs.Prelude.{◌≡◌, ℕ, ℤ, ◌+◌, List, ◌++◌, codes, drop, length, nat_eq, nat_lt, take, FitsSigned, Result, Ok, Err, if◌then◌else◌}
 use Rattle.std.specs.Fmt.{decimal}
 use Rattle.std.specs.Int.{w32}
 use Rattle.neli_consts_sys.specs.declared.connector.ProcEventType.{ProcEventType}
@@ -9,7 +9,7 @@ use Rattle.neli_genl.specs.declared.proc_event.ProcEvent.TheVariants.{Ack, Fork,
 use Rattle.neli_wire.specs.DeError.{DeError}
 use Rattle.neli_wire.specs.DeError.TheVariants.{InvalidInput, Msg}
 use Rattle.neli_wire.specs.Frames.{number_in}
-use Rattle.neli_wire.specs.Numbers.{little_bytes, signed_bytes, signed_number}
+use Rattle.neli_wire.specs.Numbers.{FitsBytes, little_bytes, signed_bytes, signed_number}
 
 -- the signed number in the four bytes from place i
 abbrev pub signed_in : ℕ → List ℕ → ℤ
@@ -133,3 +133,22 @@ event_size (Ptrace a b c d) = 16
 event_size (Comm a b c) = 8 + length c
 event_size (Coredump a b c d) = 16
 event_size (Exit a b c d e f) = 24
+
+-- ---- fields
+
+-- two signed numbers fit four bytes each
+abbrev pub TwoFit : ℤ → ℤ → Type 0
+TwoFit a b = FitsSigned w32 a × FitsSigned w32 b
+
+-- each number of the event fits its field, and a name has 16 bytes
+abbrev pub IsPlainEvent : ProcEvent → Type 0
+IsPlainEvent (Ack a) = FitsBytes 4 a
+IsPlainEvent (Fork a b c d) = TwoFit a b × TwoFit c d
+IsPlainEvent (Exec a b) = TwoFit a b
+IsPlainEvent (Uid a b c d) = TwoFit a b × FitsBytes 4 c × FitsBytes 4 d
+IsPlainEvent (Gid a b c d) = TwoFit a b × FitsBytes 4 c × FitsBytes 4 d
+IsPlainEvent (Sid a b) = TwoFit a b
+IsPlainEvent (Ptrace a b c d) = TwoFit a b × TwoFit c d
+IsPlainEvent (Comm a b c) = TwoFit a b × (length c ≡ 16)
+IsPlainEvent (Coredump a b c d) = TwoFit a b × TwoFit c d
+IsPlainEvent (Exit a b c d e f) = TwoFit a b × FitsBytes 4 c × FitsBytes 4 d × TwoFit e f

@@ -1,13 +1,18 @@
 //! Laws over the definitions alone: what is written of a body is read again as what is equal to it. The
 //! functions do nothing: their contracts are the laws.
 
-ghost use Rattle.std.specs.Prelude.{◌≡◌, List, ℕ, length};
+ghost use Rattle.std.specs.Prelude.{◌≡◌, ◌++◌, List, Ok, ℕ, length};
 ghost use Rattle.neli_wire.specs.Numbers.{AreBytes};
 ghost use Rattle.neli_body.specs.RoundTrips.{ReadsBack};
 ghost use Rattle.neli_genl.specs.CnMsg.{IsPlainCnMsg, cn_msg_bytes, cn_msg_header};
+ghost use Rattle.neli_genl.specs.ProcEventHeader.{IsPlainProcEvent, proc_event_bytes, proc_event_of};
+ghost use Rattle.neli_genl.specs.RoundTrips.{ArePlainNlattrs, GenlReadsBack, GenlReadsBackWhole, IsPlainGenlmsghdr};
 ghost use Rattle.neli_genl.specs.declared.cn_msg.CnMsg.{CnMsg};
+ghost use Rattle.neli_genl.specs.declared.genlmsghdr.Genlmsghdr.{Genlmsghdr};
+ghost use Rattle.neli_genl.specs.declared.proc_event_header.ProcEventHeader.{ProcEventHeader};
 
-use neli_wire::{FromBytesWithInput, ToBytes};
+use neli_consts::{Cmd, NlAttrType};
+use neli_wire::{FromBytesWithInput, ToBytes, TypeSize};
 
 /// A connector message is written as bytes that are read as its fields, and as what the payload's own
 /// bytes are read as, where each field is what its number is read as. And bytes that are read as the
@@ -16,4 +21,29 @@ pub fn cn_msg_is_read_back<P: ToBytes + FromBytesWithInput>()
     ensures back { (m : CnMsg P) → IsPlainCnMsg m.header
         → ReadsBack 20 cn_msg_bytes cn_msg_header P.read m.header (P.wire m.payload) }
     ensures bytes { (s : List ℕ) → length s ≡ 20 → AreBytes s → cn_msg_bytes (cn_msg_header s) ≡ s }
+{}
+
+/// A message of generic netlink is written as bytes that are read as its fields, and as what the
+/// family's header's own bytes and the attributes' own bytes are read as, where the command is what
+/// its number is read as, the other fields fit theirs, and the family's header has a multiple of
+/// four bytes. The two bytes without a meaning stay as they are. Where that header is read back
+/// from its own bytes too, each attribute's length is that of its header and payload, and each type
+/// is what its number of 14 bits is read as, the whole is read as it was.
+pub fn genlmsghdr_is_read_back<C: Cmd, T: NlAttrType, H: TypeSize>()
+    ensures back { (m : Genlmsghdr C T H) → IsPlainGenlmsghdr H.width C.wire_number C.wire_value m
+        → GenlReadsBack H.width C.wire_number C.wire_value T.wire_number T.wire_value
+        H.ToBytes.wire H.FromBytes.read m }
+    ensures whole { (m : Genlmsghdr C T H) → IsPlainGenlmsghdr H.width C.wire_number C.wire_value m
+        → ArePlainNlattrs T.wire_number T.wire_value m.attrs
+        → GenlReadsBackWhole H.width C.wire_number C.wire_value T.wire_number T.wire_value
+        H.ToBytes.wire H.FromBytes.read H.FromBytes.view m }
+{}
+
+/// A process event with its header is written as bytes that are read as the same, where each number
+/// fits its field. What follows those bytes is skipped.
+pub fn proc_event_is_read_back()
+    ensures back { (h : ProcEventHeader) → IsPlainProcEvent h
+        → proc_event_of (proc_event_bytes h) ≡ Ok h }
+    ensures skipped { (h : ProcEventHeader) (rest : List ℕ) → IsPlainProcEvent h
+        → proc_event_of (proc_event_bytes h ++ rest) ≡ Ok h }
 {}

@@ -4,7 +4,7 @@
 ghost use Rattle.std.specs.Prelude.{◌≡◌, List, ℕ, length};
 ghost use Rattle.neli_wire.specs.Numbers.{AreBytes};
 ghost use Rattle.neli_body.specs.Attributes.{attrs_of, attrs_wire};
-ghost use Rattle.neli_body.specs.RoundTrips.{ReadsBack};
+ghost use Rattle.neli_body.specs.RoundTrips.{ArePlainAttrs, ReadsBack, ReadsBackWhole};
 ghost use Rattle.neli_consts_rta.specs.Ifa.{ifa_number, ifa_of};
 ghost use Rattle.neli_consts_rta.specs.Ifla.{ifla_number, ifla_of};
 ghost use Rattle.neli_consts_rta.specs.Nda.{nda_number, nda_of};
@@ -23,33 +23,48 @@ ghost use Rattle.neli_link.specs.Ndmsg.{IsPlainNdmsg, ndmsg_bytes, ndmsg_header}
 
 /// A link is written as bytes that are read as its fields, and as what the attributes' own
 /// bytes are read as, where each field is what its number is read as. And bytes that are read
-/// as the fields are those that they are written as.
+/// as the fields are those that they are written as. Where each attribute's length is that of its
+/// header and payload, and its type is what its number is read as, the whole is read as it was.
 pub fn ifinfomsg_is_read_back()
     ensures back { (m : Ifinfomsg) → IsPlainIfinfomsg m.header
         → ReadsBack 16 ifinfomsg_bytes ifinfomsg_header (attrs_of ifla_of) m.header
         (attrs_wire ifla_number m.rtattrs) }
+    ensures whole { (m : Ifinfomsg) → IsPlainIfinfomsg m.header
+        → ArePlainAttrs ifla_number ifla_of m.rtattrs
+        → ReadsBackWhole 16 ifinfomsg_bytes ifinfomsg_header ifla_number ifla_of
+        m.header m.rtattrs }
     ensures bytes { (s : List ℕ) → length s ≡ 16 → AreBytes s
         → ifinfomsg_bytes (ifinfomsg_header s) ≡ s }
 {}
 
 /// An address is written as bytes that are read as its fields, and as what the attributes' own
 /// bytes are read as, where each field is what its number is read as. And bytes that are read
-/// as the fields are those that they are written as.
+/// as the fields are those that they are written as. Where each attribute's length is that of its
+/// header and payload, and its type is what its number is read as, the whole is read as it was.
 pub fn ifaddrmsg_is_read_back()
     ensures back { (m : Ifaddrmsg) → IsPlainIfaddrmsg m.header
         → ReadsBack 8 ifaddrmsg_bytes ifaddrmsg_header (attrs_of ifa_of) m.header
         (attrs_wire ifa_number m.rtattrs) }
+    ensures whole { (m : Ifaddrmsg) → IsPlainIfaddrmsg m.header
+        → ArePlainAttrs ifa_number ifa_of m.rtattrs
+        → ReadsBackWhole 8 ifaddrmsg_bytes ifaddrmsg_header ifa_number ifa_of
+        m.header m.rtattrs }
     ensures bytes { (s : List ℕ) → length s ≡ 8 → AreBytes s
         → ifaddrmsg_bytes (ifaddrmsg_header s) ≡ s }
 {}
 
 /// A neighbour is written as bytes that are read as its fields, and as what the attributes' own
 /// bytes are read as, where each field is what its number is read as. And bytes that are read
-/// as the fields are those that they are written as.
+/// as the fields are those that they are written as. Where each attribute's length is that of its
+/// header and payload, and its type is what its number is read as, the whole is read as it was.
 pub fn ndmsg_is_read_back()
     ensures back { (m : Ndmsg) → IsPlainNdmsg m.header
         → ReadsBack 12 ndmsg_bytes ndmsg_header (attrs_of nda_of) m.header
         (attrs_wire nda_number m.rtattrs) }
+    ensures whole { (m : Ndmsg) → IsPlainNdmsg m.header
+        → ArePlainAttrs nda_number nda_of m.rtattrs
+        → ReadsBackWhole 12 ndmsg_bytes ndmsg_header nda_number nda_of
+        m.header m.rtattrs }
     ensures bytes { (s : List ℕ) → length s ≡ 12 → AreBytes s → ndmsg_bytes (ndmsg_header s) ≡ s }
 {}
 

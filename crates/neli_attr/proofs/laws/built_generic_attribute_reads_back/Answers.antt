@@ -1,5 +1,6 @@
 use Rattle.neli_attr.specs.TypeField.{number_of, type_of}
-use Rattle.neli_attr.proofs.RoundTrips.{attribute-reads_back, built_nlattr-length, number_of-small, type_of-number_of}
+use Rattle.neli_attr.specs.laws.RoundTrips.{attribute-reads_back, number_of-small, type_of-number_of}
+use Rattle.neli_attr.proofs.RoundTrips.{built_nlattr-length}
 use Rattle.neli_attr.proofs.laws.built_generic_attribute_reads_back.Goals as goal
 
 pub returns-clause-read : goal.returns-clause-read

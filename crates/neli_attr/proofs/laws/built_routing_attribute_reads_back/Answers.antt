@@ -1,4 +1,5 @@
-use Rattle.neli_attr.proofs.RoundTrips.{attribute-reads_back, built_rtattr-length}
+use Rattle.neli_attr.specs.laws.RoundTrips.{attribute-reads_back}
+use Rattle.neli_attr.proofs.RoundTrips.{built_rtattr-length}
 use Rattle.neli_attr.proofs.laws.built_routing_attribute_reads_back.Goals as goal
 
 pub returns-clause-read : goal.returns-clause-read

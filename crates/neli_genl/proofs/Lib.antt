@@ -1,0 +1,2 @@
+pub mod GenlMessages
+pub mod ProcEvents
