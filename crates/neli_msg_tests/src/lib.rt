@@ -4,7 +4,7 @@
 //! - [`retyping`]: untyped messages as other types, and the calls that take a payload out or put one in.
 //! - [`builders`]: what builders make, and what is written. [`printed`]: what errors print, and their
 //!   causes.
-//! - [`lists`]: lists of messages. [`laws`]: the laws, called.
+//! - [`out_of_memory`]: what calls answer where an allocation is refused. [`laws`]: the laws, called.
 //!
 //! The layout is that of RFC 3549 section 2.3.2 and of `struct nlmsghdr` and `struct nlmsgerr` of
 //! linux/netlink.h; expected values are worked out by hand from these.
@@ -16,6 +16,8 @@ mod builders;
 mod kinds;
 #[cfg(test)]
 mod laws;
+#[cfg(test)]
+mod out_of_memory;
 #[cfg(test)]
 mod printed;
 #[cfg(test)]

@@ -1,0 +1,65 @@
+//! Each allocation may be refused in these tests: then the answer is that memory ran out, and nothing has
+//! changed. They are run with each allocation refused in turn.
+
+use crate::kinds::ERROR;
+use neli_attr::Buffer;
+use neli_msg::{NlBufferIter, NlPayload, Nlmsghdr, RouterError, SocketError};
+use neli_wire::{Cursor, DeError, FromBytes, SerError, ToBytes};
+
+type Raw = Nlmsghdr<u16, Buffer>;
+
+#[test]
+fn a_message_or_out_of_memory_and_then_the_message(rt: HostRuntime) {
+    let alloc = rt.alloc();
+    let mut messages: NlBufferIter<'_, u16, Buffer> = NlBufferIter::new(&ERROR);
+    let mut item = messages.next(alloc);
+    if let Some(Err(SocketError::Memory)) = &item {
+        item = messages.next(alloc);
+    }
+    match item {
+        Some(Ok(message)) => {
+            let code = match message.nl_payload() {
+                NlPayload::Err(answer) => *answer.error(),
+                _ => 0,
+            };
+            assert_eq!(rt; code, -22);
+        }
+        _ => assert!(rt; false, "no message"),
+    }
+    assert!(rt; messages.next(alloc).is_none());
+}
+
+#[test]
+fn a_typed_message_or_out_of_memory(rt: HostRuntime) {
+    let alloc = rt.alloc();
+    let mut cursor = Cursor::new(&ERROR);
+    let raw: Raw = match Nlmsghdr::from_bytes(alloc, &mut cursor) {
+        Ok(raw) => raw,
+        Err(error) => {
+            assert!(rt; matches!(error, DeError::Memory));
+            assert_eq!(rt; cursor.position(), 0);
+            return;
+        }
+    };
+    assert_eq!(rt; cursor.position(), ERROR.len());
+    match raw.to_typed::<u16, Vec<u8>>(alloc) {
+        Ok(typed) => assert_eq!(rt; *typed.nl_len(), 52),
+        Err(error) => assert!(rt; matches!(error, RouterError::Memory)),
+    }
+}
+
+#[test]
+fn a_message_is_written_or_out_of_memory(rt: HostRuntime) {
+    let alloc = rt.alloc();
+    let Ok(raw) = Raw::from_bytes(alloc, &mut Cursor::new(&ERROR)) else {
+        return;
+    };
+    let mut bytes = Vec::new(alloc);
+    match raw.to_bytes(&mut bytes) {
+        Ok(()) => assert_eq!(rt; bytes.as_slice(), ERROR.as_slice()),
+        Err(error) => {
+            assert!(rt; matches!(error, SerError::Memory));
+            assert!(rt; bytes.is_empty());
+        }
+    }
+}
