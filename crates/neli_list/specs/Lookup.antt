@@ -1,5 +1,5 @@
 -- Looking attributes up by their type, and reading what was found.
-use Rattle.std.specs.Prelude.{ℕ, ◌<◌, List, Bool, Option, Some, None, Result, Ok, Err, IsSomeAnd, codes, find, length, option_map}
+use Rattle.std.specs.Prelude.{ℕ, ◌<◌, List, Bool, Option, Some, None, Result, Err, IsSomeAnd, codes, find, length, option_map}
 use Rattle.neli_wire.specs.DeError.{DeError}
 use Rattle.neli_wire.specs.DeError.TheVariants.{Msg}
 use Rattle.neli_wire.specs.Bytes.{Reading}

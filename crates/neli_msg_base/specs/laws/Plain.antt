@@ -1,20 +1,19 @@
 -- Messages with payloads of plain bytes are refused for a length, or for bytes that are missing, and for nothing else.
-use Rattle.std.proofs.Common.{◌≡◌, ℕ, zero, suc, ◌-◌, Bool, true, false, cond, ltb, List, [], ◌∷◌, length, take, drop, Result, Ok, Err, refl, ap, subst}
+use Rattle.std.proofs.Common.{◌≡◌, ℕ, zero, suc, ◌-◌, Bool, true, false, cond, ltb, List, [], ◌∷◌, length, take, drop, Result, Ok, Err, refl, subst}
 use Rattle.neli_wire.specs.Bytes.{Reading, short}
 use Rattle.neli_wire.specs.DeError.{DeError}
 use Rattle.neli_wire.specs.DeError.TheVariants.{InvalidInput}
-use Rattle.neli_wire.specs.Frames.{Layout, frame_at, number_in}
+use Rattle.neli_wire.specs.Frames.{Layout, frame_at}
 use Rattle.neli_wire.specs.Reading.{◌>>=◌, is_short, map_refusal, refusal_within}
 use Rattle.neli_wire.specs.Sizes.{align}
 use Rattle.neli_wire.specs.laws.Elements.{elements_by}
-use Rattle.neli_consts.specs.declared.nlm_f.NlmF.{NlmF}
 use Rattle.neli_consts.specs.NlmsgerrAttr.{nlmsgerr_attr_of}
 use Rattle.neli_attr.specs.Attributes.{attribute, attributes_in}
 use Rattle.neli_attr.specs.TypeField.{type_of}
 use Rattle.neli_msg_base.specs.declared.payload.Kind.{Kind}
 use Rattle.neli_msg_base.specs.declared.payload.Kind.TheVariants.{Body, Nothing, DumpEnd, Acknowledgement, Failure}
 use Rattle.neli_msg_base.specs.Answers.{acknowledgement_in, after, after_echo, dump_end_in, echoed_count, echoed_in, echoed_length, ext_ack_in, failure_in}
-use Rattle.neli_msg_base.specs.Kinds.{kind_of, payload_as, payload_in}
+use Rattle.neli_msg_base.specs.Kinds.{kind_of, payload_as}
 use Rattle.neli_msg_base.specs.Messages.{message_layout}
 
 module _ (Q : DeError → Type 0) (missing : Q short) (lengths : (n : ℕ) → Q (InvalidInput n)) where

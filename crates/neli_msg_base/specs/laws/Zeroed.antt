@@ -1,5 +1,5 @@
 -- A datagram that is read and written again is itself, with zeros for its padding.
-use Rattle.std.proofs.Common.{◌≡◌, ℕ, ◌+◌, ◌-◌, ◌<◌, ◌≤◌, Bool, true, false, cond, ltb, List, [], ◌∷◌, ◌++◌, length, map, take, drop, Result, Ok, Err, inl, inr, refl, sym, ap, subst, ◌∙◌, append_assoc, arith, length-append, length-drop}
+use Rattle.std.proofs.Common.{◌≡◌, ℕ, ◌+◌, ◌-◌, ◌<◌, ◌≤◌, Bool, true, false, cond, ltb, List, [], ◌∷◌, ◌++◌, length, map, take, drop, Result, Ok, inl, inr, refl, sym, ap, subst, ◌∙◌, append_assoc, arith, length-append, length-drop}
 use Rattle.std.specs.Prelude.{◌^◌, ⊤, nat_eq, replicate}
 use Rattle.std.specs.Int.{cast_signed, w32}
 use Rattle.std.specs.List.{All}
@@ -33,11 +33,11 @@ use Rattle.neli_msg_base.specs.declared.payload.Kind.TheVariants.{Body, Nothing,
 use Rattle.neli_msg_base.specs.declared.payload.NlPayload.{NlPayload}
 use Rattle.neli_msg_base.specs.declared.payload.NlPayload.TheVariants as payload
 use Rattle.neli_msg_base.specs.Answers.{Attributes, acknowledgement_in, after, after_echo, answer, attribute_of, code_in, dump_end_in, echo_end, echo_with, echoed_count, echoed_in, echoed_length, ext_ack_in, failure_in}
-use Rattle.neli_msg_base.specs.Headers.{Header, flags_of, header_in, header_wire}
+use Rattle.neli_msg_base.specs.Headers.{Header, flags_of, header_in}
 use Rattle.neli_msg_base.specs.Kinds.{is_acknowledged, is_multi, kind_of, payload_as, payload_in}
-use Rattle.neli_msg_base.specs.Wires.{attributes_wire, answer_wire, echo_wire, payload_wire}
+use Rattle.neli_msg_base.specs.Wires.{attributes_wire, payload_wire}
 use Rattle.neli_msg_base.specs.Messages.{Message, message_layout}
-use Rattle.neli_msg_base.specs.Zeroed.{HasNoTail, attribute_length, attribute_zeroed, attributes_zeroed, frames_by, message_length, message_zeroed, HasNoTailIn, payload_zeroed, untyped_wire, untyped_wires, zeroed, zeros_from}
+use Rattle.neli_msg_base.specs.Zeroed.{HasNoTail, attribute_length, attribute_zeroed, attributes_zeroed, message_length, message_zeroed, HasNoTailIn, payload_zeroed, untyped_wire, untyped_wires, zeroed, zeros_from}
 use Rattle.neli_msg_base.specs.laws.ZeroedFrames.{States, all-true, bytes-drop, bytes-take, frames-aligned, frames-length, frames-wire, frames_by-nil, last_place, place, wire_all-map}
 
 -- ---- untyped

@@ -1,5 +1,5 @@
 -- A datagram with zeros for its padding is read as the same messages.
-use Rattle.std.proofs.Common.{◌≡◌, ℕ, ◌+◌, ◌-◌, ◌<◌, ◌≤◌, Bool, ltb, List, [], ◌++◌, length, map, take, drop, Result, Ok, Err, inl, inr, refl, sym, ap, subst, ◌∙◌, append_assoc, arith, length-append, length-drop}
+use Rattle.std.proofs.Common.{◌≡◌, ℕ, ◌+◌, ◌-◌, ◌≤◌, ltb, List, ◌++◌, length, map, take, drop, Result, Ok, inl, inr, refl, sym, ap, subst, ◌∙◌, append_assoc, arith, length-append, length-drop}
 use Rattle.std.specs.Prelude.{ℤ, replicate}
 use Rattle.std.specs.Int.{cast_signed, w32}
 use Rattle.std.proofs.lemmas.Bool.{cases_lt, le-ltb, ltb-false}
@@ -24,7 +24,6 @@ use Rattle.neli_msg_base.specs.declared.echo.NlmsghdrErr.{NlmsghdrErr}
 use Rattle.neli_msg_base.specs.declared.payload.Kind.{Kind}
 use Rattle.neli_msg_base.specs.declared.payload.Kind.TheVariants.{Body, Nothing, DumpEnd, Acknowledgement, Failure}
 use Rattle.neli_msg_base.specs.declared.payload.NlPayload.{NlPayload}
-use Rattle.neli_msg_base.specs.declared.payload.NlPayload.TheVariants as payload
 use Rattle.neli_msg_base.specs.Answers.{Attributes, after, after_echo, answer, attribute_of, code_in, dump_end_in, echo_end, echo_with, echoed_count, echoed_in, echoed_length, ext_ack_in, failure_in}
 use Rattle.neli_msg_base.specs.Headers.{Header, flags_of, header_in}
 use Rattle.neli_msg_base.specs.Kinds.{kind_of, payload_as, payload_in}

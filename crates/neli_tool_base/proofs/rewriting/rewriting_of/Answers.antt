@@ -1,10 +1,8 @@
-use Rattle.std.proofs.Common.{◌≡◌, ℕ, List, [], map, Option, Some, None, refl, sym, ap, subst, ◌∙◌}
+use Rattle.std.proofs.Common.{sym, subst}
 use Rattle.std.specs.Prelude.{IsTrue}
 use Rattle.std.specs.List.{All}
-use Rattle.neli_wire.specs.DeError.{DeError}
 use Rattle.neli_msg.specs.Messages.{message_of}
 use Rattle.neli_msg.specs.Zeroed.{HasNoTail}
-use Rattle.neli_tool_base.specs.Listing.{raw_cut}
 use Rattle.neli_tool_base.proofs.Rewritings.{has_tail, no_fault, rewritten}
 use Rattle.neli_tool_base.proofs.rewriting.rewriting_of.Goals as goal
 

@@ -1,4 +1,4 @@
-use Rattle.std.proofs.Common.{true, false, not, cond, ltb, List, ℕ, ◌∷◌, ◌++◌, [], get_or, take, sym, ap, ◌∙◌, arith}
+use Rattle.std.proofs.Common.{not, cond, ltb, List, ℕ, ◌∷◌, ◌++◌, [], get_or, take, sym, ap, ◌∙◌, arith}
 use Rattle.std.proofs.lemmas.Bool.{lt-ltb, le-ltb, and_from, and_left, and_right, not_from_true, not_from_false}
 use Rattle.std.proofs.lemmas.List.{take_more, append-nil}
 use Rattle.neli_util.proofs.Lists.{with_added-push}
