@@ -5,28 +5,47 @@ use crate::kinds::ERROR;
 use neli_attr::Buffer;
 use neli_msg::{NlBufferIter, NlPayload, Nlmsghdr, RouterError, SocketError};
 use neli_wire::{Cursor, DeError, FromBytes, SerError, ToBytes};
+use std::alloc::Global;
+use std::test::Fail;
 
 type Raw = Nlmsghdr<u16, Buffer>;
 
+// The next message, or why there is none.
+fn taken(
+    alloc: Global,
+    messages: &mut NlBufferIter<'_, u16, Buffer>,
+) -> Result<Option<Raw>, SocketError> {
+    match messages.next(alloc) {
+        Some(item) => Ok(Some(item?)),
+        None => Ok(None),
+    }
+}
+
+// The code of an error.
+fn code_of(message: &Raw) -> i32 {
+    match message.nl_payload() {
+        NlPayload::Err(answer) => *answer.error(),
+        _ => 0,
+    }
+}
+
 #[test]
-fn a_message_or_out_of_memory_and_then_the_message(rt: HostRuntime) {
+fn a_message_or_out_of_memory_and_then_the_message(rt: HostRuntime) -> Result<(), Fail> {
     let alloc = rt.alloc();
     let mut messages: NlBufferIter<'_, u16, Buffer> = NlBufferIter::new(&ERROR);
-    let mut item = messages.next(alloc);
-    if let Some(Err(SocketError::Memory)) = &item {
-        item = messages.next(alloc);
-    }
-    match item {
-        Some(Ok(message)) => {
-            let code = match message.nl_payload() {
-                NlPayload::Err(answer) => *answer.error(),
-                _ => 0,
-            };
-            assert_eq!(rt; code, -22);
+    let message = match taken(alloc, &mut messages) {
+        Ok(message) => message,
+        Err(error) => {
+            assert!(rt; matches!(error, SocketError::Memory));
+            taken(alloc, &mut messages).map_err(|_| Fail::new("refused again"))?
         }
-        _ => assert!(rt; false, "no message"),
+    };
+    match message {
+        Some(message) => assert_eq!(rt; code_of(&message), -22),
+        None => return Err(Fail::new("no message")),
     }
     assert!(rt; messages.next(alloc).is_none());
+    Ok(())
 }
 
 #[test]
