@@ -13,44 +13,63 @@ use std::error::Error;
 use std::fmt;
 
 /// The builders, by the type that they make. A number tells a builder's errors from those of the
-/// others; a builder outside these crates takes one from 128 on.
+/// others; a builder outside these crates takes one from 128 on. 5 is not used.
 pub mod of {
+    /// Of `AttrType`.
     pub const ATTR_TYPE: u8 = 0;
 
+    /// Of `Nlattr`.
     pub const NLATTR: u8 = 1;
 
+    /// Of `Rtattr`.
     pub const RTATTR: u8 = 2;
 
+    /// Of `Genlmsghdr`.
     pub const GENLMSGHDR: u8 = 3;
 
+    /// Of `CnMsg`.
     pub const CN_MSG: u8 = 4;
 
+    /// Of `Ifinfomsg`.
     pub const IFINFOMSG: u8 = 6;
 
+    /// Of `Ifaddrmsg`.
     pub const IFADDRMSG: u8 = 7;
 
+    /// Of `Ndmsg`.
     pub const NDMSG: u8 = 8;
 
+    /// Of `NdaCacheinfo`.
     pub const NDA_CACHEINFO: u8 = 9;
 
+    /// Of `IflaVlanFlags`.
     pub const IFLA_VLAN_FLAGS: u8 = 10;
 
+    /// Of `IflaVlanQosMapping`.
     pub const IFLA_VLAN_QOS_MAPPING: u8 = 11;
 
+    /// Of `Rtgenmsg`.
     pub const RTGENMSG: u8 = 12;
 
+    /// Of `Rtmsg`.
     pub const RTMSG: u8 = 13;
 
+    /// Of `Tcmsg`.
     pub const TCMSG: u8 = 14;
 
+    /// Of `Fibmsg`.
     pub const FIBMSG: u8 = 15;
 
+    /// Of `NlmsghdrAck`.
     pub const NLMSGHDR_ACK: u8 = 16;
 
+    /// Of `NlmsghdrErr`.
     pub const NLMSGHDR_ERR: u8 = 17;
 
+    /// Of `Nlmsgerr`.
     pub const NLMSGERR: u8 = 18;
 
+    /// Of `Nlmsghdr`.
     pub const NLMSGHDR: u8 = 19;
 }
 

@@ -43,6 +43,8 @@ fn read_fields<K: Constant<Number = u16>, P: FromBytesWithInput>(
 }
 
 /// Reads the attribute that the cursor's rest begins with. A refusal leaves the cursor where it was.
+///
+/// Refused as a frame with a header of four bytes is.
 pub fn read_attribute<K: Constant<Number = u16>, P: FromBytesWithInput>(
     alloc: Global,
     cursor: &mut Cursor<'_>,
@@ -102,6 +104,8 @@ pub fn write_attribute<K: Constant<Number = u16>, P: ToBytes>(
 }
 
 /// The wire bytes of a payload.
+///
+/// Refused as the payload's write is.
 #[tactic(auto, using(crate::specs::laws::Attributes::after_nothing))]
 pub fn written<P: ToBytes>(alloc: Global, payload: &P) -> Result<Buffer, SerError>
     ensures bytes { IfOk result (λ b. P.wire payload.now ≡ Ok b) }
@@ -128,6 +132,8 @@ fn too_long() -> SerError
 }
 
 /// The wire bytes of a payload and the length of an attribute with it.
+///
+/// Refused first as the payload's write is; then with a `SerError::Msg` where the length passes 65535.
 #[tactic(auto, using(crate::specs::laws::Attributes::refused_payload))]
 pub fn payload_bytes<P: ToBytes>(alloc: Global, payload: &P) -> Result<(u16, Buffer), SerError>
     ensures bytes { IfOk result (λ a. attribute_payload (P.wire payload.now) ≡ Ok a.1) }
@@ -140,6 +146,9 @@ pub fn payload_bytes<P: ToBytes>(alloc: Global, payload: &P) -> Result<(u16, Buf
 }
 
 /// The payload with the wire bytes of an attribute after it, and the length of an attribute with that.
+///
+/// Refused first as the attribute's write is; then with a `SerError::Msg` where the length passes 65535.
+/// A refusal gives the payload up.
 #[tactic(auto, using(crate::specs::laws::Attributes::refused_nested))]
 pub fn nested_bytes<A: ToBytes>(payload: Buffer, attr: &A) -> Result<(u16, Buffer), SerError>
     ensures bytes { IfOk result (λ a. nested_payload payload (A.wire attr.now) ≡ Ok a.1) }

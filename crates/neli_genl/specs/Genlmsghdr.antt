@@ -20,10 +20,11 @@ use Rattle.neli_wire.specs.Writing.{Wire, ◌+++◌, wire_all}
 
 -- ---- the attributes: generic ones with payloads of bytes
 
--- a list of attributes as contracts see it, and what it says
+-- a list of attributes as contracts see it
 abbrev pub Attrs : Type 0 → Type 0
 Attrs T = List (Nlattr T (List ℕ))
 
+-- what each of them says
 abbrev pub Says : Type 0 → Type 0
 Says T = List (Attr (AttrType T) (List ℕ))
 

@@ -51,14 +51,14 @@ impl<P> CnMsg<P> {
         &self.header.val
     }
 
-    /// The number of the message.
+    /// The sequence number of the message.
     pub fn seq(&self) -> &u32
         ensures { result.now ≡ self.now.header.seq }
     {
         &self.header.seq
     }
 
-    /// The number that is acknowledged.
+    /// The sequence number that is acknowledged.
     pub fn ack(&self) -> &u32
         ensures { result.now ≡ self.now.header.ack }
     {
@@ -263,7 +263,7 @@ impl<P: Size + Drop> CnMsgBuilder<P> {
         self
     }
 
-    /// The number of the message. 0 by default.
+    /// The sequence number of the message. 0 by default.
     pub fn seq(mut self, value: u32) -> Self
         ensures { result ≡ record self { seq = Some value } }
     {
@@ -271,7 +271,7 @@ impl<P: Size + Drop> CnMsgBuilder<P> {
         self
     }
 
-    /// The number that is acknowledged. 0 by default.
+    /// The sequence number that is acknowledged. 0 by default.
     pub fn ack(mut self, value: u32) -> Self
         ensures { result ≡ record self { ack = Some value } }
     {

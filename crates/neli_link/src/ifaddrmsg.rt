@@ -255,8 +255,7 @@ impl IfaddrmsgBuilder {
         self
     }
 
-    /// The flags, with all the bits that were read. `Ifa::Flags` has those above 0x80. None of them
-    /// by default.
+    /// The flags. `Ifa::Flags` has those above 0x80. None of them by default.
     pub fn ifa_flags(mut self, value: IfaF) -> Self
         ensures { result ≡ record self { ifa_flags = Some value } }
     {

@@ -266,7 +266,7 @@ impl IfinfomsgBuilder {
         self
     }
 
-    /// The flags of the device, with all the bits that were read. None of them by default.
+    /// The flags of the device. None of them by default.
     pub fn ifi_flags(mut self, value: Iff) -> Self
         ensures { result ≡ record self { ifi_flags = Some value } }
     {

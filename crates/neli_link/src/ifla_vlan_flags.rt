@@ -149,7 +149,7 @@ impl Default for IflaVlanFlagsBuilder {
 }
 
 impl IflaVlanFlagsBuilder {
-    /// The flags, with all the bits that were read.
+    /// The flags.
     pub fn flags(mut self, value: VlanFlags) -> Self
         ensures { result ≡ record self { flags = Some value } }
     {

@@ -249,7 +249,7 @@ impl NdmsgBuilder {
         self
     }
 
-    /// How well the neighbour is known, with all the bits that were read.
+    /// How well the neighbour is known.
     pub fn ndm_state(mut self, value: Nud) -> Self
         ensures { result ≡ record self { ndm_state = Some value } }
     {
@@ -257,7 +257,7 @@ impl NdmsgBuilder {
         self
     }
 
-    /// The flags, with all the bits that were read. None of them by default.
+    /// The flags. None of them by default.
     pub fn ndm_flags(mut self, value: Ntf) -> Self
         ensures { result ≡ record self { ndm_flags = Some value } }
     {

@@ -1,4 +1,5 @@
-//! Why any of the builders made nothing, as one type.
+//! Why a builder made nothing, as one type for fifteen of the builders; those of `CnMsg`, `Fibmsg`,
+//! `IflaVlanFlags` and `IflaVlanQosMapping` have their own error alone.
 
 ghost use Rattle.std.specs.Prelude.{◌≡◌, Some};
 ghost use Rattle.neli_msg.specs.declared.builder_error.BuilderError.TheVariants as builder;
@@ -33,7 +34,7 @@ pub enum BuilderError {
     Ifinfomsg(BuildError<{ of::IFINFOMSG }>),
     /// That of address bodies.
     Ifaddrmsg(BuildError<{ of::IFADDRMSG }>),
-    /// That of bodies of any family.
+    /// That of requests by family alone.
     Rtgenmsg(BuildError<{ of::RTGENMSG }>),
     /// That of route bodies.
     Rtmsg(BuildError<{ of::RTMSG }>),
@@ -41,7 +42,7 @@ pub enum BuilderError {
     Ndmsg(BuildError<{ of::NDMSG }>),
     /// That of cache information of neighbours.
     NdaCacheinfo(BuildError<{ of::NDA_CACHEINFO }>),
-    /// That of queue bodies.
+    /// That of queueing disciplines, classes and filters.
     Tcmsg(BuildError<{ of::TCMSG }>),
 }
 

@@ -18,7 +18,7 @@
 //! - [`NlBufferIter`] reads the messages of a datagram one by one, [`cut`] reads all of them, and
 //!   [`NlBuffer`] is a list of messages.
 //! - [`SocketError`] is what a reader, or a link below it, reports, [`RouterError`] what a router does, and
-//!   [`BuilderError`] why any builder made nothing.
+//!   [`BuilderError`] why a builder made nothing, for most builders.
 //! - [`laws`] says that each byte list has one cut, how many messages it can have, that reading a
 //!   message as other types agrees with retyping it, and what of a datagram is written again.
 //!

@@ -161,5 +161,6 @@ abbrev pub left_of : {K P : Type 0} → Nlmsghdr K P → NlPayload K P → Nlmsg
 left_of m (payload.Err e) = with_payload m 16 payload.Empty
 left_of m p = m
 
+-- what is left of a message where its error is taken out
 abbrev pub without_failure : {K P : Type 0} → Nlmsghdr K P → Nlmsghdr K P
 without_failure m = left_of m m.payload

@@ -41,6 +41,7 @@ attribute_length s = number_in 2 0 s
 abbrev pub attribute_zeroed : List ℕ → List ℕ
 attribute_zeroed frame = zeros_from (attribute_length frame) frame
 
+-- a list of attributes, each with zeros for its padding
 abbrev pub attributes_zeroed : List ℕ → List ℕ
 attributes_zeroed = frames_zeroed attribute_length attribute_zeroed
 

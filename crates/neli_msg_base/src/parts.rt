@@ -89,7 +89,7 @@ pub(crate) fn write_framed<A: ToBytes, B: ToBytes>(
     undo_on_refusal(buffer, start, outcome)
 }
 
-/// Appends three values.  A refusal leaves some of them after what was there.
+/// Appends three values. A refusal leaves some of them after what was there.
 #[tactic(auto, using(neli_wire::specs::laws::Writing::append_wire_both))]
 fn write_each<A: ToBytes, B: ToBytes, C: ToBytes>(
     first: &A,

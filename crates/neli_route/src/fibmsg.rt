@@ -307,7 +307,7 @@ impl FibmsgBuilder {
         self
     }
 
-    /// The flags, with all the bits that were read. None of them by default.
+    /// The flags. None of them by default.
     pub fn fib_flags(mut self, value: Frf) -> Self
         ensures { result ≡ record self { fib_flags = Some value } }
     {

@@ -355,7 +355,7 @@ impl RtmsgBuilder {
         self
     }
 
-    /// The flags, with all the bits that were read. None of them by default.
+    /// The flags. None of them by default.
     pub fn rtm_flags(mut self, value: RtmF) -> Self
         ensures { result ≡ record self { rtm_flags = Some value } }
     {

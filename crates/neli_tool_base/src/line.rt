@@ -125,7 +125,7 @@ impl fmt::Display for Line<'_> {
     }
 }
 
-/// How a listing ends.
+/// How a listing or a rewriting ends.
 #[derive(Clone, Copy, Debug, PartialEq, Eq)]
 pub enum Ending {
     /// After the last message nothing is left.

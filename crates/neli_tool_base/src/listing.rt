@@ -24,6 +24,7 @@ use std::io::{ErrorKind, Read, Write};
 pub struct Listing {
     /// A line for each message, all of them ended.
     pub lines: Vec<u8>,
+    /// How they end.
     pub ending: Ending,
 }
 

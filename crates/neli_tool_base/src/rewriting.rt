@@ -24,6 +24,7 @@ use std::io::{Read, Write};
 pub struct Rewriting {
     /// All the bytes of the datagram, with zeros for its padding; none where it has a fault.
     pub bytes: Vec<u8>,
+    /// How that ends.
     pub ending: Ending,
 }
 

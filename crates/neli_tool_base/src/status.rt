@@ -6,9 +6,9 @@ ghost use Rattle.neli_tool_base.specs.Runs.{status_code};
 /// How a run of the program ends.
 #[derive(Clone, Copy, Debug, PartialEq, Eq)]
 pub enum Status {
-    /// The whole datagram is listed.
+    /// The whole datagram is listed, or written again.
     Whole,
-    /// The datagram is listed up to its fault, and the fault's line stands last.
+    /// The text ends with the line of a fault, or of an unread tail.
     Fault,
     /// Memory ran out. The line that says so stands last.
     Memory,

@@ -26,8 +26,8 @@ pub fn constant_is_read_back<T: Constant>()
         ≡ Ok (T.wire_value (T.wire_number v), rest) }
 {}
 
-/// A list that is read is the texts of its elements, one after the other, and every such byte list is
-/// read as that list. Behind elements that can be read, the first refusal is that of the whole list, and
+/// A list that is read is the bytes of its elements, one after the other, and every such byte list is
+/// read as that list. After elements that can be read, the first refusal is that of the whole list, and
 /// an element that takes no byte refuses it with `InvalidInput`.
 pub fn list_is_its_elements<T: FromBytes>()
     ensures read { (s : List ℕ) (vs : List T.Value) → elements T.read s ≡ Ok vs

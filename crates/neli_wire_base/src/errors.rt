@@ -92,6 +92,8 @@ impl SerError {
     }
 
     /// An equal error.
+    ///
+    /// Refused only where memory runs out.
     pub fn try_clone(&self) -> Result<SerError, NoMemory>
         ensures { IfOk result (λ e. e ≡ self.now) }
     {
@@ -186,6 +188,8 @@ impl DeError {
     }
 
     /// An equal error.
+    ///
+    /// Refused only where memory runs out.
     pub fn try_clone(&self) -> Result<DeError, NoMemory>
         ensures { IfOk result (λ e. e ≡ self.now) }
     {

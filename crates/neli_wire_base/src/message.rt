@@ -61,6 +61,8 @@ impl MsgError {
     }
 
     /// A message with the same text.
+    ///
+    /// Refused only where memory runs out.
     pub fn try_clone(&self) -> Result<MsgError, NoMemory>
         ensures { IfOk result (λ m. m ≡ self.now) }
     {
