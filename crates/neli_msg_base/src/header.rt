@@ -1,6 +1,6 @@
 //! The header of a message.
 
-ghost use Rattle.std.specs.Prelude.{◌≡◌, ◌≤◌, Ok, Some, None, IfOk, OnOk, OnErr, IfErr, length, take};
+ghost use Rattle.std.specs.Prelude.{◌≡◌, ◌≤◌, ◌<◌, MatchOption, Ok, Some, None, IfOk, OnOk, OnErr, IfErr, length, take};
 ghost use Rattle.neli_attr.specs.Builders.{IsWhyNot};
 ghost use Rattle.neli_msg_base.specs.Builders.{built_header};
 ghost use Rattle.neli_msg_base.specs.Retyping.{typed_header, with_len};
@@ -83,6 +83,19 @@ pub(crate) fn header_of<T: Constant<Number = u16>>(bytes: &[u8]) -> NlmsghdrAck<
         flags: NlmF::from_wire(LittleEndian::read_u16(&bytes[6..])),
         sequence_number: LittleEndian::read_u32(&bytes[8..]),
         port: LittleEndian::read_u32(&bytes[12..]),
+    }
+}
+
+impl<T: NlType> NlmsghdrAck<T> {
+    /// The header that these bytes begin with; none where there are fewer than 16. It takes no memory.
+    pub fn of_bytes(bytes: &[u8]) -> Option<Self>
+        ensures { MatchOption result (length bytes.now < 16)
+            (λ h. (16 ≤ length bytes.now) × (h ≡ header_in T.wire_value bytes.now)) }
+    {
+        if bytes.len() < HEADER_SIZE {
+            return None;
+        }
+        Some(header_of(bytes))
     }
 }
 

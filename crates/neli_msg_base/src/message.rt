@@ -275,6 +275,14 @@ impl<T: NlType + Drop, P: Size + Drop> NlmsghdrBuilder<T, P> {
 }
 
 impl<T, P> Nlmsghdr<T, P> {
+    /// The message of a header and a payload as they are: its length is the one that the header states.
+    pub fn from_header(header: NlmsghdrAck<T>, payload: NlPayload<T, P>) -> Self
+        ensures header { result.header ≡ header }
+        ensures payload { result.payload ≡ payload }
+    {
+        Nlmsghdr { header, payload }
+    }
+
     /// The body, where the message carries one.
     pub fn get_payload(&self) -> Option<&P>
         ensures { option_map (λ p. p.now) result ≡ body_of self.now.payload }

@@ -1,0 +1,13 @@
+use Rattle.std.proofs.Common.{rules, refl, sym, ap, length, ◌∙◌}
+use Rattle.neli_msg.specs.Kinds.{payload_in}
+use Rattle.neli_lent.proofs.Owned.{whole-value}
+use Rattle.neli_lent.proofs.message.LentMessage.to_nlmsghdr.Goals as goal
+
+pub returns-clause-value : goal.returns-clause-value
+returns-clause-value g c =
+    let bytes = c.args.self.now.payload.now in
+    let read = payload_in g.T.Constant.wire_value g.P.FromBytesWithInput.read c.to_number-number.result c.nl_flags-flags.result.now in
+    let value = whole-value read (length bytes) c.new-cursor.result.rest bytes _ _ c.new-cursor.ensures.rest refl c.in_ok-payload.ensures.value in
+    let number = c.to_number-number.ensures ∙ ap g.T.Constant.wire_number c.nl_type.ensures in
+    let stated = rw (number, c.nl_flags-flags.ensures) at value in
+    rw (stated, c.from_header.ensures.header, c.from_header.ensures.payload) refl

@@ -1,0 +1,41 @@
+-- Messages whose payloads are lent: the bytes that they were read from.
+use Rattle.std.specs.Prelude.{ℕ, List, Result, Ok}
+use Rattle.neli_wire.specs.Bytes.{Reading}
+use Rattle.neli_wire.specs.DeError.{DeError}
+use Rattle.neli_wire.specs.Frames.{Layout}
+use Rattle.neli_wire.specs.Reading.{◌>>=◌}
+use Rattle.neli_msg.specs.Cuts.{Cut, cut_of}
+use Rattle.neli_msg.specs.Headers.{Header}
+use Rattle.neli_msg.specs.Kinds.{payload_in, payload_takes}
+use Rattle.neli_msg.specs.Messages.{Message, framed}
+use Rattle.neli_lent.specs.declared.message.LentMessage.{LentMessage}
+
+-- what one says: its header and its payload's bytes
+abbrev pub Lent : Type 0 → Type 0
+Lent K = Header K × List ℕ
+
+abbrev pub message_said : {K : Type 0} → LentMessage K → Lent K
+message_said m = (m.header, m.payload.now)
+
+-- how they lie: as messages do, each with its payload's bytes whatever its kind
+abbrev pub lent_message : {K : Type 0} → (ℕ → K) → Layout (Header K) (List ℕ)
+lent_message type_of = framed type_of (λ _ bytes. Ok bytes)
+
+-- what is left of a datagram: messages, and the fault after them
+unfoldable pub messages_in : {K : Type 0} → (ℕ → K) → List ℕ → Cut (Lent K)
+messages_in type_of s = cut_of (lent_message type_of) s
+
+-- ---- as an owned message
+
+-- what one says as an owned message, its payload read by its kind and a body as `read` does; or that refusal
+abbrev pub as_owned : {K V : Type 0} → (ℕ → K) → (K → ℕ) → (List ℕ → Result V DeError) → Lent K → Result (Message K V) DeError
+as_owned type_of number_of read m =
+    payload_in type_of read (number_of m.0.message_type) m.0.flags m.1 >>= λ p. Ok (m.0, p)
+
+-- the same as a reading, where r follows the message
+abbrev pub owned_reading : {K V : Type 0} → (ℕ → K) → (K → ℕ) → (List ℕ → Result V DeError) → Lent K → List ℕ → Reading (Message K V)
+owned_reading type_of number_of read m r = as_owned type_of number_of read m >>= λ owned. Ok (owned, r)
+
+-- where reading that payload takes memory
+abbrev pub as_owned_takes : {K : Type 0} → (K → ℕ) → (List ℕ → Type 0) → Lent K → Type 0
+as_owned_takes number_of takes m = payload_takes takes (number_of m.0.message_type) m.0.flags m.1

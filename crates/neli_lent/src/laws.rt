@@ -1,0 +1,33 @@
+//! Laws of what is lent, over the definitions alone. The calls do nothing: their contracts are the laws.
+
+ghost use Rattle.std.specs.Prelude.{◌≡◌, ℕ, List, [], None, Some, Ok, Err, IsErr, length};
+ghost use Rattle.neli_wire.specs.DeError.{DeError as Refusal};
+ghost use Rattle.neli_wire.specs.Frames.{frame_at};
+ghost use Rattle.neli_attr.specs.Attributes.{Attr, attributes_in};
+ghost use Rattle.neli_msg.specs.Messages.{message_layout};
+ghost use Rattle.neli_lent.specs.Attributes.{attributes_at};
+ghost use Rattle.neli_lent.specs.Messages.{Lent, lent_message, owned_reading};
+
+use neli_consts::NlType;
+use neli_wire::{Constant, FromBytesWithInput};
+
+/// Where a message is lent, reading the same bytes as an owned message gives what the lent one becomes, or
+/// its refusal, and leaves the same bytes. Where lending is refused, so is reading.
+pub fn lent_message_becomes_what_is_read<T: NlType, P: FromBytesWithInput>()
+    ensures read { (s r : List ℕ) (m : Lent T) → frame_at (lent_message T.wire_value) s ≡ Ok (m, r)
+        → frame_at (message_layout T.wire_value T.wire_number P.read) s
+        ≡ owned_reading T.wire_value T.wire_number P.read m r }
+    ensures refused { (s : List ℕ) (e : Refusal) → frame_at (lent_message T.wire_value) s ≡ Err e
+        → IsErr (frame_at (message_layout T.wire_value T.wire_number P.read) s) }
+{}
+
+/// The attributes that are lent one by one are those of the owned list of the same bytes; where a fault comes
+/// after them, the list is refused with that fault.
+pub fn lent_attributes_are_the_list<K: Constant<Number = u16>>()
+    ensures read { (s : List ℕ) (attrs : List (Attr K (List ℕ)))
+        → attributes_at K.wire_value (record { before = []; rest = s }) ≡ (attrs, None)
+        → attributes_in K.wire_value s ≡ Ok attrs }
+    ensures refused { (s : List ℕ) (attrs : List (Attr K (List ℕ))) (e : Refusal)
+        → attributes_at K.wire_value (record { before = []; rest = s }) ≡ (attrs, Some e)
+        → attributes_in K.wire_value s ≡ Err e }
+{}

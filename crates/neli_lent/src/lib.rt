@@ -1,0 +1,27 @@
+//! Messages and attributes that are read without a copy: their payloads are the bytes that they were read from.
+//!
+//! - [`LentMessages`] walks the messages of a datagram, and [`LentMessage`] is one: its header, and its
+//!   payload's bytes. It becomes an owned, typed message by `to_owned`.
+//! - [`LentAttrs`] walks attributes, generic or routing ones by the type of their type field, and
+//!   [`LentAttr`] is one. [`LentNlattrs`] and [`LentRtattrs`] are names for the two.
+//! - [`AttrSelector`]: what an attribute is looked up by.
+//! - [`laws`]: what is lent is what is read as owned values, or refused with it.
+//!
+//! Both walks are iterators over results. They take no allocator, and memory never runs out: an error is the
+//! first fault of the bytes, comes once, and nothing comes after it.
+//!
+//! What a walk gives is stated in `specs/`, by the same frames and cuts as the owned reads.
+#![tactic(auto)]
+
+mod attribute;
+mod attributes;
+pub mod laws;
+mod message;
+mod messages;
+mod selector;
+
+pub use attribute::{LentAttr, LentNlattr, LentRtattr};
+pub use attributes::{LentAttrs, LentNlattrs, LentRtattrs};
+pub use message::LentMessage;
+pub use messages::LentMessages;
+pub use selector::AttrSelector;

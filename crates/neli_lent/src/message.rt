@@ -1,0 +1,163 @@
+//! A message whose payload is lent.
+
+ghost use Rattle.std.specs.Prelude.{◌≡◌, [], Ok, Err, IfOk, IfErr, OnOk, OnErr};
+ghost use Rattle.neli_wire.specs.Frames.{frame_at};
+ghost use Rattle.neli_wire.specs.Place.{whole};
+ghost use Rattle.neli_wire.specs.Refusals.{Refuses};
+ghost use Rattle.neli_msg.specs.Answers.{after};
+ghost use Rattle.neli_msg.specs.Messages.{message_of};
+ghost use Rattle.neli_msg.specs.Retyping.{typed_header};
+ghost use Rattle.neli_lent.specs.Messages.{as_owned, as_owned_takes, lent_message, message_said};
+
+use crate::LentAttrs;
+use neli_consts::{NlType, NlmF};
+use neli_msg::{NlPayload, Nlmsghdr, NlmsghdrAck};
+use neli_wire::{Constant, Cursor, DeError, FromBytesWithInput, Header, alignto};
+use std::alloc::Global;
+use std::io::ErrorKind;
+
+/// The size of a message's header, in bytes (`NLMSG_HDRLEN` of `linux/netlink.h`).
+const HEADER_SIZE: usize = 16;
+
+/// A message whose payload is the bytes that it was read from, whatever its kind.
+#[derive(Clone, Copy, Debug)]
+pub struct LentMessage<'b, T> {
+    header: NlmsghdrAck<T>,
+    payload: &'b [u8],
+}
+
+impl<'b, T> LentMessage<'b, T> {
+    /// The length that the message states, in bytes: header and payload, without padding.
+    pub fn nl_len(&self) -> &u32
+        ensures { result.now ≡ self.now.header.len }
+    {
+        self.header.nl_len()
+    }
+
+    /// The type of the message, which says what its payload means.
+    pub fn nl_type(&self) -> &T
+        ensures { result.now ≡ self.now.header.message_type }
+    {
+        self.header.nl_type()
+    }
+
+    /// The flags, with all the bits that were read, also those without a name.
+    pub fn nl_flags(&self) -> &NlmF
+        ensures { result.now ≡ self.now.header.flags }
+    {
+        self.header.nl_flags()
+    }
+
+    /// The sequence number: a reply has that of its request.
+    pub fn nl_seq(&self) -> &u32
+        ensures { result.now ≡ self.now.header.sequence_number }
+    {
+        self.header.nl_seq()
+    }
+
+    /// The port of the socket that the message belongs to; 0 is the kernel's.
+    pub fn nl_pid(&self) -> &u32
+        ensures { result.now ≡ self.now.header.port }
+    {
+        self.header.nl_pid()
+    }
+
+    /// The payload, whatever its kind. It lives as long as the bytes that it was read from.
+    pub fn nl_payload(&self) -> &'b [u8]
+        ensures { result.now ≡ self.now.payload.now }
+    {
+        self.payload
+    }
+
+    /// The attributes after a body's fixed header, as those of a link after its `Ifinfomsg`: `B` is the
+    /// body, of which the size of the header counts.
+    ///
+    /// Refused as `InvalidInput` of the payload's length where that is shorter than the header.
+    pub fn get_attrs<B: Header, K: Constant<Number = u16>>(
+        &self,
+    ) -> Result<LentAttrs<'b, K>, DeError>
+        ensures value { IfOk result (λ attrs. (attrs.before ≡ [])
+            × (after B.header self.now.payload.now ≡ Ok attrs.rest)) }
+        ensures refused { IfErr result (λ e. after B.header self.now.payload.now ≡ Err e) }
+    {
+        let size = B::header_size();
+        if self.payload.len() < size {
+            return Err(DeError::InvalidInput(self.payload.len()));
+        }
+        Ok(LentAttrs::new(&self.payload[size..]))
+    }
+}
+
+impl<'b, T: NlType> LentMessage<'b, T> {
+    /// Reads the message that the cursor's rest begins with; its payload stays where it lies. It takes no
+    /// memory.
+    ///
+    /// The first fault that holds refuses it: `Io(UnexpectedEof)` where the header is not there,
+    /// `InvalidInput(length)` where the stated length is below 16, `InvalidInput(length - 16)` where it
+    /// passes the bytes; then `Io(UnexpectedEof)` where padding is missing. A refusal leaves the cursor
+    /// where it was.
+    #[inline]
+    #[tactic(auto, unfolding(neli_wire::specs::Frames::frame_at))]
+    pub fn lend(cursor: &mut Cursor<'b>) -> Result<Self, DeError>
+        ensures value { IfOk result (λ m. frame_at (lent_message T.wire_value) cursor.old.rest
+            ≡ Ok (message_said m, cursor.new.rest)) }
+        ensures moved { OnOk result (whole cursor.new ≡ whole cursor.old) }
+        ensures refused { IfErr result
+            (λ e. frame_at (lent_message T.wire_value) cursor.old.rest ≡ Err e) }
+        ensures unchanged { OnErr result (cursor.new ≡ cursor.old) }
+    {
+        let rest = cursor.rest();
+        let Some(header) = NlmsghdrAck::of_bytes(rest) else {
+            return Err(DeError::Io(ErrorKind::UnexpectedEof));
+        };
+        let len = *header.nl_len() as usize;
+        if len < HEADER_SIZE {
+            return Err(DeError::InvalidInput(len));
+        }
+        if rest.len() < len {
+            return Err(DeError::InvalidInput(len - HEADER_SIZE));
+        }
+        let end = alignto(len);
+        if rest.len() < end {
+            return Err(DeError::Io(ErrorKind::UnexpectedEof));
+        }
+        cursor.advance(end);
+        let payload = &rest[HEADER_SIZE..len];
+        Ok(LentMessage { header, payload })
+    }
+
+    /// The message as an owned one, its payload read by its kind: the same as reading it as a
+    /// `Nlmsghdr<T, P>` at once.
+    ///
+    /// Refused as that payload is refused.
+    pub fn to_nlmsghdr<P: FromBytesWithInput>(
+        &self,
+        alloc: Global,
+    ) -> Result<Nlmsghdr<T, P>, DeError>
+        ensures value { IfOk result
+            (λ m. as_owned T.wire_value T.wire_number P.read (message_said self.now)
+            ≡ Ok (message_of P.view m)) }
+        ensures refused { IfErr result
+            (Refuses (as_owned T.wire_value T.wire_number P.read (message_said self.now))
+            (as_owned_takes T.wire_number P.takes_memory (message_said self.now))) }
+    {
+        let number = self.header.nl_type().to_number();
+        let flags = *self.header.nl_flags();
+        let mut cursor = Cursor::new(self.payload);
+        let payload = NlPayload::from_parts(alloc, &mut cursor, number, flags, self.payload.len())?;
+        Ok(Nlmsghdr::from_header(self.header, payload))
+    }
+}
+
+impl<'b> LentMessage<'b, u16> {
+    /// The same message with the type that its number means. It takes no memory.
+    pub fn to_typed<T: NlType>(&self) -> LentMessage<'b, T>
+        ensures header { result.header ≡ typed_header T.wire_value self.now.header }
+        ensures payload { result.payload.now ≡ self.now.payload.now }
+    {
+        LentMessage {
+            header: self.header.to_typed(),
+            payload: self.payload,
+        }
+    }
+}
