@@ -192,11 +192,11 @@ impl FromBytesWithInput for Buffer {
         cursor: &mut Cursor<'_>,
         n: usize,
     ) -> Result<Buffer, DeError> {
-        let mut bytes = Vec::new(alloc);
-        if n > 0 {
-            bytes.extend_from_slice(cursor.input(n)?)?;
-            cursor.advance(n);
+        if n == 0 {
+            return Ok(Buffer::new(alloc));
         }
+        let bytes = Vec::from_slice(alloc, cursor.input(n)?)?;
+        cursor.advance(n);
         Ok(Buffer { bytes })
     }
 }

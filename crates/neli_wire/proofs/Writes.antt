@@ -1,5 +1,5 @@
 -- Writing values one after the other.
-use Rattle.std.proofs.Common.{◌≡◌, ℕ, ◌+◌, ◌<◌, ◌≤◌, List, ◌++◌, length, take, drop, get_or, Ok, Err, sym, ap, ◌∙◌, arith, length-append}
+use Rattle.std.proofs.Common.{◌≡◌, ℕ, ◌+◌, ◌<◌, ◌≤◌, List, ◌++◌, length, take, drop, get_or, Ok, Err, refl, sym, ap, ◌∙◌, arith, length-append}
 use Rattle.std.proofs.lemmas.List.{drop_more, length-take}
 use Rattle.neli_wire.specs.SerError.{SerError}
 use Rattle.neli_wire.specs.SerError.TheVariants.{Msg, Io, Utf8, Memory}
@@ -38,3 +38,8 @@ module _ {A : Type 0} (wire : A → Wire) (old : List ℕ) (xs : List A) (i : �
   Writes-refused x e lt is h =
       let same : wire x +++ wire_all wire (drop (i + 1) xs) ≡ wire_all wire (drop i xs) = ap (wire_all wire) (sym (rw (← is) at (drop_more xs i x lt))) in
       refused_rest old now (wire x +++ wire_all wire (drop (i + 1) xs)) (wire_all wire xs) e (omega (arith, length-take (length old) now, ap length so_far.front)) (ap (append_wire now) same ∙ so_far.others) (refused_part_first (wire x) (wire_all wire (drop (i + 1) xs)) e h)
+
+-- values that take a byte by their sizes take memory to be written
+pub takes-room : (w : Wire) (n : ℕ) → 0 < n → ((bytes : List ℕ) → w ≡ Ok bytes → length bytes ≡ n) → TakesRoom w
+takes-room (Ok bytes) n some sized = omega (arith, some, sized bytes refl)
+takes-room (Err e) n some sized = tt

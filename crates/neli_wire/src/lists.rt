@@ -45,6 +45,10 @@ pub fn write_all<T: ToBytes>(items: &[T], buffer: &mut Vec<u8>) -> Result<(), Se
     ensures unchanged { OnErr result (buffer.new.items ≡ buffer.old.items) }
 {
     let start = buffer.len();
+    let room = size_of_all(items);
+    if room > 0 {
+        buffer.reserve(room)?;
+    }
     let outcome = write_each(items, buffer);
     undo_on_refusal(buffer, start, outcome)
 }
