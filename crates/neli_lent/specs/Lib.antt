@@ -1,3 +1,4 @@
 pub mod Walks
 pub mod Attributes
 pub mod Messages
+pub mod laws

@@ -1,7 +1,7 @@
 //! Messages and attributes that are read without a copy: their payloads are the bytes that they were read from.
 //!
 //! - [`LentMessages`] walks the messages of a datagram, and [`LentMessage`] is one: its header, and its
-//!   payload's bytes. It becomes an owned, typed message by `to_owned`.
+//!   payload's bytes. It becomes an owned, typed message by `to_nlmsghdr`.
 //! - [`LentAttrs`] walks attributes, generic or routing ones by the type of their type field, and
 //!   [`LentAttr`] is one. [`LentNlattrs`] and [`LentRtattrs`] are names for the two.
 //! - [`AttrSelector`]: what an attribute is looked up by.

@@ -21,6 +21,10 @@ consumes_all (Some x) None c xs p q end = absurd p
 consumes_all (Some x) (Some y) None xs p q end = absurd q
 consumes_all (Some x) (Some y) (Some z) xs p q end = sym (p ∙ rw (q, end) (append-nil xs))
 
+pub appends_none : (a : Option (List ℕ)) → Appends a a []
+appends_none None = tt
+appends_none (Some x) = sym (append-nil x)
+
 pub appends_more : (a b c : Option (List ℕ)) (xs ys : List ℕ) → Appends a b xs → Appends b c ys → Appends a c (xs ++ ys)
 appends_more None b c xs ys p q = tt
 appends_more (Some x) None c xs ys p q = absurd p

@@ -1,12 +1,11 @@
 -- What is printed of a datagram.
-use Rattle.std.specs.Prelude.{◌≡◌, ◌≢◌, ◌⊎◌, ◌<◌, ℕ, ℤ, List, ◌++◌, length, take, codes, Option, Some, None}
+use Rattle.std.specs.Prelude.{◌≡◌, ◌≢◌, ◌⊎◌, ◌<◌, ℕ, ℤ, List, ◌++◌, length, take, codes, Option, Some, None, Result, Ok}
 use Rattle.std.specs.List.{flat_map}
 use Rattle.std.specs.Fmt.{decimal, signed_decimal}
 use Rattle.neli_wire.specs.DeError.{DeError}
 use Rattle.neli_wire.specs.DeError.TheVariants as de
+use Rattle.neli_wire.specs.Frames.{frame_at}
 use Rattle.std.specs.declared.io.ErrorKind.TheVariants.{UnexpectedEof}
-use Rattle.neli_msg.specs.SocketError.{SocketError}
-use Rattle.neli_msg.specs.SocketError.TheVariants as socket
 use Rattle.neli_msg.specs.NlPayload.{NlPayload}
 use Rattle.neli_msg.specs.NlPayload.TheVariants as payload
 use Rattle.neli_msg.specs.Agreement.{untyped_layout}
@@ -15,6 +14,7 @@ use Rattle.neli_msg.specs.Messages.{Message}
 use Rattle.neli_msg.specs.Cuts.{Cut, cut_of}
 use Rattle.neli_tool_base.specs.declared.line.Heading.{Heading}
 use Rattle.neli_tool_base.specs.declared.line.Kind.{Kind}
+use Rattle.neli_tool_base.specs.declared.line.Line.{Line}
 use Rattle.neli_tool_base.specs.declared.line.Kind.TheVariants as kind
 use Rattle.neli_tool_base.specs.declared.line.Ending.{Ending}
 use Rattle.neli_tool_base.specs.declared.line.Ending.TheVariants.{Whole, Input, Short, Other, Memory}
@@ -60,9 +60,15 @@ heading_text h =
 abbrev pub heading_in : Header ℕ → Heading
 heading_in h = record { message_type = h.message_type; flags = h.flags.0; number = h.sequence_number; port = h.port }
 
--- what is printed of a message
+-- the line of a message, and what is printed of it
+abbrev pub line_in : Raw → Line
+line_in m = record { heading = heading_in m.0; kind = kind_in m.1 }
+
+abbrev pub line_text : Line → List ℕ
+line_text l = heading_text l.heading ++ (codes " " ++ kind_text l.kind)
+
 abbrev pub line_of : Raw → List ℕ
-line_of m = heading_text (heading_in m.0) ++ (codes " " ++ kind_text (kind_in m.1))
+line_of m = line_text (line_in m)
 
 -- a line for each message
 abbrev pub lines_of : List Raw → List ℕ
@@ -79,11 +85,18 @@ ending_of (Some (de.InvalidInput n)) = Input n
 ending_of (Some (de.Io UnexpectedEof)) = Short
 ending_of (Some e) = Other
 
--- how it ends, by the error that the reader answers
-abbrev pub ending_by : SocketError → Ending
-ending_by (socket.De e) = ending_of (Some e)
-ending_by socket.Memory = Memory
-ending_by e = Other
+-- how it ends where the next line is refused with e
+abbrev pub ending_by : DeError → Ending
+ending_by de.Memory = Memory
+ending_by e = ending_of (Some e)
+
+-- this is the line of the message that is read
+abbrev pub IsLineOf : Result Raw DeError → Line → Type 0
+IsLineOf reading line = (m : Raw) × (reading ≡ Ok m) × (line ≡ line_in m)
+
+-- the bytes begin with a message of this line, and then stand those
+abbrev pub BeginsWith : List ℕ → Line → List ℕ → Type 0
+BeginsWith bytes line later = (m : Raw) × (frame_at untyped_layout bytes ≡ Ok (m, later)) × (line ≡ line_in m)
 
 -- after the first k messages of a cut stands another, or a fault
 abbrev pub GoesOnAfter : ℕ → Cut Raw → Type 0

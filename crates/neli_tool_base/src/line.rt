@@ -2,10 +2,13 @@
 
 ghost use Rattle.std.specs.Prelude.{◌≡◌, Some};
 ghost use Rattle.neli_msg.specs.Kinds.{payload_view};
-ghost use Rattle.neli_tool_base.specs.Listing.{heading_in, kind_in};
+ghost use Rattle.neli_msg.specs.Messages.{message_of};
+ghost use Rattle.neli_msg.specs.NlPayload.TheVariants as payload;
+ghost use Rattle.neli_tool_base.specs.Listing.{kind_in, line_in};
 ghost use Rattle.neli_tool_base.specs.Lines.{ending};
 
 use neli_attr::Buffer;
+use neli_lent::LentMessage;
 use neli_msg::{NlPayload, Nlmsghdr};
 use std::fmt;
 
@@ -95,32 +98,54 @@ impl fmt::Display for Heading {
     }
 }
 
-/// What is printed of a message's header.
-fn heading_in(message: &RawMessage) -> Heading
-    ensures { result ≡ heading_in message.now.header }
-{
-    Heading {
-        message_type: *message.nl_type(),
-        flags: u16::from(*message.nl_flags()),
-        number: *message.nl_seq(),
-        port: *message.nl_pid(),
+/// The line of a message: its header and what it carries.
+#[derive(Clone, Copy)]
+pub struct Line {
+    heading: Heading,
+    kind: Kind,
+}
+
+impl Line {
+    /// The line of a message that was read.
+    pub fn of(message: &RawMessage) -> Line
+        ensures { result ≡ line_in (message_of (λ b. b) message.now) }
+    {
+        Line {
+            heading: Heading {
+                message_type: *message.nl_type(),
+                flags: u16::from(*message.nl_flags()),
+                number: *message.nl_seq(),
+                port: *message.nl_pid(),
+            },
+            kind: kind_in(message.nl_payload()),
+        }
+    }
+
+    /// The line of a message that is lent, and carries a body.
+    pub fn of_body(message: &LentMessage<'_, u16>) -> Line
+        ensures { result ≡ line_in (message.now.header, payload.Payload message.now.payload.now) }
+    {
+        Line {
+            heading: Heading {
+                message_type: *message.nl_type(),
+                flags: u16::from(*message.nl_flags()),
+                number: *message.nl_seq(),
+                port: *message.nl_pid(),
+            },
+            kind: Kind::Payload(message.nl_payload().len()),
+        }
     }
 }
 
-/// A message, which prints its header and what it carries.
-#[derive(Drop)]
-pub struct Line<'m>(pub &'m RawMessage);
-
-impl fmt::Display for Line<'_> {
+impl fmt::Display for Line {
     ghost use Rattle.std.specs.Prelude.{Some};
-    ghost use Rattle.neli_msg.specs.Messages.{message_of};
-    ghost use Rattle.neli_tool_base.specs.Listing.{line_of};
+    ghost use Rattle.neli_tool_base.specs.Listing.{line_text};
 
-    ghost output = { λ l. Some (line_of (message_of (λ b. b) l.0.now)) };
+    ghost output = { λ l. Some (line_text l) };
 
     fn fmt<W: fmt::Write>(&self, f: &mut fmt::Formatter<W>) -> fmt::Result {
-        let heading = heading_in(self.0);
-        let kind = kind_in(self.0.nl_payload());
+        let heading = self.heading;
+        let kind = self.kind;
         write!(f, "{heading} {kind}")
     }
 }

@@ -1,9 +1,11 @@
 //! The lines of datagrams.
 
+use neli_lent::LentMessages;
 use neli_msg::NlBufferIter;
 use neli_tool_base::line::{Ending, Line, RawMessage};
-use neli_tool_base::listing::{list, listing_of};
+use neli_tool_base::listing::{list, read_line, write_ending, write_lines};
 use neli_tool_base::status::Status;
+use neli_wire::Cursor;
 use std::test::Fail;
 
 /// A message of type 1024 with the payload `61`, and three padding bytes of any value.
@@ -47,6 +49,12 @@ fn datagrams_are_listed(rt: HostRuntime) -> Result<(), Fail> {
             Status::Fault,
         ),
         (
+            "an end of a dump whose attribute has a length of 3, and no padding",
+            "19000000030002000000000000000000000000000300010000",
+            "fault: input 3\n",
+            Status::Fault,
+        ),
+        (
             "padding missing",
             "1100000000040000000000000000000061",
             "fault: short\n",
@@ -73,11 +81,30 @@ fn a_message_has_a_line(rt: HostRuntime) -> Result<(), Fail> {
         return Err(Fail::new("the first message"));
     };
     let message: RawMessage = message;
-    assert_eq!(rt; Line(&message).to_string(alloc)?.as_str(), line);
-    let listing = listing_of(alloc, &bytes);
-    let text = format!(in alloc; "{line}\n")?;
-    assert_eq!(rt; listing.lines.as_slice(), text.as_bytes());
-    assert_eq!(rt; listing.ending, Ending::Short);
+    assert_eq!(rt; Line::of(&message).to_string(alloc)?.as_str(), line);
+    let Some(Ok(lent)) = LentMessages::new(&bytes).next() else {
+        return Err(Fail::new("the first message, lent"));
+    };
+    assert_eq!(rt; Line::of_body(&lent).to_string(alloc)?.as_str(), line);
+    let mut cursor = Cursor::new(&bytes);
+    let read = read_line(alloc, &mut cursor)?;
+    assert_eq!(rt; read.to_string(alloc)?.as_str(), line);
+    assert_eq!(rt; cursor.position(), 16);
+    Ok(())
+}
+
+#[test]
+fn lines_are_written_and_then_their_ending(rt: HostRuntime) -> Result<(), Fail> {
+    let alloc = rt.alloc();
+    let bytes = hex::decode(alloc, "10000000100002f0050000000700000000")?;
+    let mut output = Vec::new(alloc);
+    let ending = write_lines(alloc, &bytes, &mut output)?;
+    assert_eq!(rt; ending, Ending::Short);
+    let line = "type 16 flags 0xf002 number 5 port 7 payload 0\n";
+    assert_eq!(rt; output.as_slice(), line.as_bytes());
+    write_ending(ending, &mut output)?;
+    let whole = "type 16 flags 0xf002 number 5 port 7 payload 0\nfault: short\n";
+    assert_eq!(rt; output.as_slice(), whole.as_bytes());
     Ok(())
 }
 

@@ -1,4 +1,4 @@
-use Rattle.neli_lent.proofs.Owned.{owned-read, owned-refused}
+use Rattle.neli_lent.specs.laws.Messages.{owned-read, owned-refused}
 use Rattle.neli_lent.proofs.laws.lent_message_becomes_what_is_read.Goals as goal
 
 pub returns-clause-read : goal.returns-clause-read
