@@ -1,12 +1,13 @@
 //! The kinds of payload, by type, flags, code and length.
 
 use crate::reading::{Refusal, refusal_of};
+use crate::support::{RawError, error_in, read_error};
 use neli_attr::Buffer;
 use neli_consts::{NlmF, NlmsgerrAttr};
 use neli_msg::{NlPayload, Nlmsgerr, NlmsghdrAck, NlmsghdrErr, cut};
 use neli_wire::{Cursor, DeError, FromBytes, FromBytesWithInput};
 use std::alloc::Global;
-use std::test::Fail;
+use std::process::Abort;
 
 /// The kind of a payload with its code, and how many attributes or bytes it has.
 #[derive(Clone, Copy, Debug, PartialEq, Eq)]
@@ -39,15 +40,13 @@ fn kind_of(payload: &NlPayload<u16, Buffer>) -> Kind {
 }
 
 /// The first message's kind, or the fault that is there in its place.
-fn first_kind(alloc: Global, bytes: &[u8]) -> Result<Result<Kind, Refusal>, Fail> {
-    let (messages, fault) = cut::<u16, Buffer>(alloc, bytes)?;
+fn first_kind(rt: &impl Abort, alloc: Global, bytes: &[u8]) -> Result<Kind, Refusal> {
+    let (messages, fault) = cut::<u16, Buffer>(alloc, bytes).expect(rt, "memory");
     if let Some(error) = &fault {
-        return Ok(Err(refusal_of(error)));
+        return Err(refusal_of(error));
     }
-    let Some(message) = messages.first() else {
-        return Err(Fail::new("no message"));
-    };
-    Ok(Ok(kind_of(message.nl_payload())))
+    let first = messages.first().expect(rt, "a message");
+    Ok(kind_of(first.nl_payload()))
 }
 
 /// An error of code -22 that echoes a message of 21 bytes and says `bad`.
@@ -57,158 +56,169 @@ pub const ERROR: [u8; 52] = [
     0x64, 0,
 ];
 
+/// Messages, each with the kind of its payload or why it is refused.
+const PAYLOADS: [(&str, &[u8], Result<Kind, Refusal>); 11] = [
+    (
+        "an acknowledgement",
+        &[
+            0x24, 0, 0, 0, 2, 0, 0, 1, 0, 0, 0, 0, 0, 0, 0, 0, 0, 0, 0, 0, 0x20, 0, 0, 0, 16, 0, 5,
+            0, 0, 0, 0, 0, 0, 0, 0, 0,
+        ],
+        Ok(Kind::Ack(32, 16)),
+    ),
+    (
+        "one with a tail of any bytes",
+        &[
+            0x28, 0, 0, 0, 2, 0, 0, 3, 0, 0, 0, 0, 0, 0, 0, 0, 0, 0, 0, 0, 0x20, 0, 0, 0, 16, 0, 5,
+            0, 0, 0, 0, 0, 0, 0, 0, 0, 3, 0, 1, 0,
+        ],
+        Ok(Kind::Ack(32, 16)),
+    ),
+    (
+        "the end of a dump",
+        &[
+            0x14, 0, 0, 0, 3, 0, 2, 0, 0, 0, 0, 0, 0, 0, 0, 0, 0, 0, 0, 0,
+        ],
+        Ok(Kind::Done(0, 0)),
+    ),
+    (
+        "an end with a code and an attribute",
+        &[
+            0x1c, 0, 0, 0, 3, 0, 2, 0, 0, 0, 0, 0, 0, 0, 0, 0, 0xea, 0xff, 0xff, 0xff, 8, 0, 1, 0,
+            0x62, 0x61, 0x64, 0,
+        ],
+        Ok(Kind::Done(-22, 1)),
+    ),
+    (
+        "an end without bytes",
+        &[0x10, 0, 0, 0, 3, 0, 0, 0, 0, 0, 0, 0, 0, 0, 0, 0],
+        Ok(Kind::Empty),
+    ),
+    (
+        "type 3 without MULTI",
+        &[
+            0x14, 0, 0, 0, 3, 0, 0, 0, 0, 0, 0, 0, 0, 0, 0, 0, 0, 0, 0, 0,
+        ],
+        Ok(Kind::Body(4)),
+    ),
+    (
+        "an end of two bytes",
+        &[
+            0x12, 0, 0, 0, 3, 0, 2, 0, 0, 0, 0, 0, 0, 0, 0, 0, 0, 0, 0, 0,
+        ],
+        Err(Refusal::Input(2)),
+    ),
+    (
+        "an error of four bytes",
+        &[
+            0x14, 0, 0, 0, 2, 0, 0, 0, 0, 0, 0, 0, 0, 0, 0, 0, 0, 0, 0, 0,
+        ],
+        Err(Refusal::Input(4)),
+    ),
+    (
+        "an error with an attribute",
+        &ERROR,
+        Ok(Kind::Error(-22, 5, 1)),
+    ),
+    (
+        "an error that echoes less than it states",
+        &[
+            0x24, 0, 0, 0, 2, 0, 0, 1, 0, 0, 0, 0, 0, 0, 0, 0, 0xea, 0xff, 0xff, 0xff, 0x20, 0, 0,
+            0, 16, 0, 5, 0, 0, 0, 0, 0, 0, 0, 0, 0,
+        ],
+        Err(Refusal::Input(16)),
+    ),
+    (
+        "an error that echoes a length below a header's",
+        &[
+            0x24, 0, 0, 0, 2, 0, 0, 0, 0, 0, 0, 0, 0, 0, 0, 0, 0xea, 0xff, 0xff, 0xff, 15, 0, 0, 0,
+            16, 0, 5, 0, 0, 0, 0, 0, 0, 0, 0, 0,
+        ],
+        Err(Refusal::Input(15)),
+    ),
+];
+
 #[test]
-fn a_payload_is_of_its_kind(rt: HostRuntime) -> Result<(), Fail> {
-    let rows: [(&str, &[u8], Result<Kind, Refusal>); 11] = [
-        (
-            "an acknowledgement",
-            &[
-                0x24, 0, 0, 0, 2, 0, 0, 1, 0, 0, 0, 0, 0, 0, 0, 0, 0, 0, 0, 0, 0x20, 0, 0, 0, 16,
-                0, 5, 0, 0, 0, 0, 0, 0, 0, 0, 0,
-            ],
-            Ok(Kind::Ack(32, 16)),
-        ),
-        (
-            "one with a tail of any bytes",
-            &[
-                0x28, 0, 0, 0, 2, 0, 0, 3, 0, 0, 0, 0, 0, 0, 0, 0, 0, 0, 0, 0, 0x20, 0, 0, 0, 16,
-                0, 5, 0, 0, 0, 0, 0, 0, 0, 0, 0, 3, 0, 1, 0,
-            ],
-            Ok(Kind::Ack(32, 16)),
-        ),
-        (
-            "the end of a dump",
-            &[
-                0x14, 0, 0, 0, 3, 0, 2, 0, 0, 0, 0, 0, 0, 0, 0, 0, 0, 0, 0, 0,
-            ],
-            Ok(Kind::Done(0, 0)),
-        ),
-        (
-            "an end with a code and an attribute",
-            &[
-                0x1c, 0, 0, 0, 3, 0, 2, 0, 0, 0, 0, 0, 0, 0, 0, 0, 0xea, 0xff, 0xff, 0xff, 8, 0, 1,
-                0, 0x62, 0x61, 0x64, 0,
-            ],
-            Ok(Kind::Done(-22, 1)),
-        ),
-        (
-            "an end without bytes",
-            &[0x10, 0, 0, 0, 3, 0, 0, 0, 0, 0, 0, 0, 0, 0, 0, 0],
-            Ok(Kind::Empty),
-        ),
-        (
-            "type 3 without MULTI",
-            &[
-                0x14, 0, 0, 0, 3, 0, 0, 0, 0, 0, 0, 0, 0, 0, 0, 0, 0, 0, 0, 0,
-            ],
-            Ok(Kind::Body(4)),
-        ),
-        (
-            "an end of two bytes",
-            &[
-                0x12, 0, 0, 0, 3, 0, 2, 0, 0, 0, 0, 0, 0, 0, 0, 0, 0, 0, 0, 0,
-            ],
-            Err(Refusal::Input(2)),
-        ),
-        (
-            "an error of four bytes",
-            &[
-                0x14, 0, 0, 0, 2, 0, 0, 0, 0, 0, 0, 0, 0, 0, 0, 0, 0, 0, 0, 0,
-            ],
-            Err(Refusal::Input(4)),
-        ),
-        (
-            "an error with an attribute",
-            &ERROR,
-            Ok(Kind::Error(-22, 5, 1)),
-        ),
-        (
-            "an error that echoes less than it states",
-            &[
-                0x24, 0, 0, 0, 2, 0, 0, 1, 0, 0, 0, 0, 0, 0, 0, 0, 0xea, 0xff, 0xff, 0xff, 0x20, 0,
-                0, 0, 16, 0, 5, 0, 0, 0, 0, 0, 0, 0, 0, 0,
-            ],
-            Err(Refusal::Input(16)),
-        ),
-        (
-            "an error that echoes a length below a header's",
-            &[
-                0x24, 0, 0, 0, 2, 0, 0, 0, 0, 0, 0, 0, 0, 0, 0, 0, 0xea, 0xff, 0xff, 0xff, 15, 0,
-                0, 0, 16, 0, 5, 0, 0, 0, 0, 0, 0, 0, 0, 0,
-            ],
-            Err(Refusal::Input(15)),
-        ),
-    ];
-    for (row, bytes, want) in rows {
-        assert_eq!(rt; first_kind(rt.alloc(), bytes)?, want, "{row}");
+fn a_payload_is_of_its_kind(rt: HostRuntime) {
+    for (row, bytes, want) in PAYLOADS {
+        assert_eq!(rt; first_kind(&rt, rt.alloc(), bytes), want, "{row}");
     }
-    Ok(())
 }
 
 #[test]
-fn an_error_has_its_echo_and_attributes(rt: HostRuntime) -> Result<(), Fail> {
-    let alloc = rt.alloc();
-    let (messages, _) = cut::<u16, Buffer>(alloc, &ERROR)?;
-    let Some(message) = messages.first() else {
-        return Err(Fail::new("no message"));
-    };
-    let NlPayload::Err(answer) = message.nl_payload() else {
-        return Err(Fail::new("no error"));
-    };
-    let echo = answer.nlmsg();
-    assert_eq!(rt; (*echo.nl_len(), *echo.nl_type()), (21, 1024));
-    assert_eq!(rt; u16::from(*echo.nl_flags()), 5);
+fn an_error_has_its_echo(rt: HostRuntime) {
+    let message = read_error(&rt, rt.alloc());
+    let echo = error_in(&rt, &message).nlmsg();
+    let fields = (*echo.nl_len(), *echo.nl_type(), u16::from(*echo.nl_flags()));
+    assert_eq!(rt; fields, (21, 1024, 5));
     assert_eq!(rt; (*echo.nl_seq(), *echo.nl_pid()), (0, 0));
     assert_eq!(rt; echo.nl_payload().as_ref(), b"abcde".as_slice());
-    let text: Vec<u8> = answer
-        .ext_ack()
-        .get_attr_handle()
-        .get_attr_payload_as_with_len(alloc, NlmsgerrAttr::Msg)?;
+}
+
+#[test]
+fn an_error_has_its_attributes(rt: HostRuntime) {
+    let message = read_error(&rt, rt.alloc());
+    let handle = error_in(&rt, &message).ext_ack().get_attr_handle();
+    let text: Vec<u8> = handle
+        .get_attr_payload_as_with_len(rt.alloc(), NlmsgerrAttr::Msg)
+        .expect(&rt, "words");
     assert_eq!(rt; text.as_slice(), b"bad\0".as_slice());
-    Ok(())
+}
+
+/// The bytes of [`ERROR`] from this place on.
+fn error_from(rt: &impl Abort, place: usize) -> Cursor<'static> {
+    let mut cursor = Cursor::new(&ERROR);
+    assert!(rt; place <= ERROR.len());
+    cursor.set_position(place);
+    cursor
 }
 
 // What follows the place of each part: the payload of `ERROR` by itself, its first 20 bytes, and its echo.
 #[test]
-fn parts_are_read_by_themselves(rt: HostRuntime) -> Result<(), Fail> {
+fn payloads_are_read_by_themselves(rt: HostRuntime) {
+    let mut cursor = error_from(&rt, 16);
+    let read = NlPayload::from_parts(rt.alloc(), &mut cursor, 2, NlmF::empty(), 36);
+    let payload: NlPayload<u16, Buffer> = read.expect(&rt, "a payload");
+    assert_eq!(rt;
+        (kind_of(&payload), cursor.position()),
+        (Kind::Error(-22, 5, 1), 52)
+    );
+}
+
+#[test]
+fn errors_are_read_by_themselves(rt: HostRuntime) {
     let alloc = rt.alloc();
-    let mut cursor = Cursor::new(&ERROR);
-    cursor.set_position(16);
-    let payload: NlPayload<u16, Buffer> = NlPayload::from_parts(
-        alloc,
-        &mut cursor,
-        2,
-        NlmF::empty(),
-        36,
-    )?;
-    assert_eq!(rt; kind_of(&payload), Kind::Error(-22, 5, 1));
-    assert_eq!(rt; cursor.position(), 52);
-    cursor.set_position(16);
-    let error: Nlmsgerr<NlmsghdrErr<u16, Buffer>> = Nlmsgerr::from_bytes_with_input(
-        alloc,
-        &mut cursor,
-        36,
-    )?;
+    let read = Nlmsgerr::from_bytes_with_input(alloc, &mut error_from(&rt, 16), 36);
+    let error: RawError = read.expect(&rt, "an error");
     assert_eq!(rt; (*error.error(), error.ext_ack().len()), (-22, 1));
-    cursor.set_position(16);
-    let ack: Nlmsgerr<NlmsghdrAck<u16>> = Nlmsgerr::from_bytes_with_input(alloc, &mut cursor, 36)?;
+    let read = Nlmsgerr::from_bytes_with_input(alloc, &mut error_from(&rt, 16), 36);
+    let ack: Nlmsgerr<NlmsghdrAck<u16>> = read.expect(&rt, "an acknowledgement");
     assert_eq!(rt; (*ack.nlmsg().nl_len(), ack.ext_ack().len()), (21, 0));
-    cursor.set_position(40);
-    let end: Nlmsgerr<()> = Nlmsgerr::from_bytes_with_input(alloc, &mut cursor, 12)?;
+    let read = Nlmsgerr::from_bytes_with_input(alloc, &mut error_from(&rt, 40), 12);
+    let end: Nlmsgerr<()> = read.expect(&rt, "an end");
     assert_eq!(rt; (*end.error(), end.ext_ack().len()), (0x65, 1));
-    cursor.set_position(20);
-    let header = NlmsghdrAck::<u16>::from_bytes(alloc, &mut cursor)?;
+}
+
+#[test]
+fn echoes_are_read_by_themselves(rt: HostRuntime) {
+    let alloc = rt.alloc();
+    let read = NlmsghdrAck::<u16>::from_bytes(alloc, &mut error_from(&rt, 20));
+    let header = read.expect(&rt, "a header");
     assert_eq!(rt; (*header.nl_len(), *header.nl_type()), (21, 1024));
-    cursor.set_position(20);
-    let echo = NlmsghdrErr::<u16, Buffer>::from_bytes(alloc, &mut cursor)?;
+    let mut cursor = error_from(&rt, 20);
+    let read = NlmsghdrErr::<u16, Buffer>::from_bytes(alloc, &mut cursor);
+    let echo = read.expect(&rt, "an echo");
     assert_eq!(rt; (echo.nl_payload().len(), cursor.position()), (5, 44));
+}
+
+#[test]
+fn a_payload_past_the_bytes_is_refused(rt: HostRuntime) {
     let short: Result<NlPayload<u16, Buffer>, DeError> = NlPayload::from_parts(
-        alloc,
-        &mut cursor,
+        rt.alloc(),
+        &mut error_from(&rt, 44),
         16,
         NlmF::empty(),
         9,
     );
     assert!(rt; matches!(short, Err(DeError::InvalidInput(9))));
-    Ok(())
 }

@@ -5,6 +5,7 @@
 //! - [`builders`]: what builders make, and what is written. [`printed`]: what errors print, and their
 //!   causes.
 //! - [`out_of_memory`]: what calls answer where an allocation is refused. [`laws`]: the laws, called.
+//! - [`support`]: what the tests share.
 //!
 //! The layout is that of RFC 3549 section 2.3.2 and of `struct nlmsghdr` and `struct nlmsgerr` of
 //! linux/netlink.h; expected values are worked out by hand from these.
@@ -24,3 +25,5 @@ mod printed;
 mod reading;
 #[cfg(test)]
 mod retyping;
+#[cfg(test)]
+mod support;

@@ -2,13 +2,12 @@
 //! changed. They are run with each allocation refused in turn.
 
 use crate::kinds::ERROR;
+use crate::support::{Cause, Raw, cause_of};
 use neli_attr::Buffer;
-use neli_msg::{NlBufferIter, NlPayload, Nlmsghdr, RouterError, SocketError};
+use neli_msg::{NlBufferIter, NlPayload, SocketError};
 use neli_wire::{Cursor, DeError, FromBytes, SerError, ToBytes};
 use std::alloc::Global;
-use std::test::Fail;
-
-type Raw = Nlmsghdr<u16, Buffer>;
+use std::process::Abort;
 
 // The next message, or why there is none.
 fn taken(
@@ -30,47 +29,51 @@ fn code_of(message: &Raw) -> i32 {
 }
 
 #[test]
-fn a_message_or_out_of_memory_and_then_the_message(rt: HostRuntime) -> Result<(), Fail> {
+fn a_message_or_out_of_memory_and_then_the_message(rt: HostRuntime) {
     let alloc = rt.alloc();
     let mut messages: NlBufferIter<'_, u16, Buffer> = NlBufferIter::new(&ERROR);
     let message = match taken(alloc, &mut messages) {
         Ok(message) => message,
         Err(error) => {
             assert!(rt; matches!(error, SocketError::Memory));
-            taken(alloc, &mut messages).map_err(|_| Fail::new("refused again"))?
+            taken(alloc, &mut messages).expect(&rt, "refused again")
         }
     };
-    match message {
-        Some(message) => assert_eq!(rt; code_of(&message), -22),
-        None => return Err(Fail::new("no message")),
-    }
+    assert_eq!(rt; code_of(&message.expect(&rt, "a message")), -22);
     assert!(rt; messages.next(alloc).is_none());
-    Ok(())
+}
+
+/// The message of [`ERROR`], or None where memory ran out.
+fn read_error(rt: &impl Abort, alloc: Global) -> Option<Raw> {
+    let mut cursor = Cursor::new(&ERROR);
+    match Raw::from_bytes(alloc, &mut cursor) {
+        Ok(raw) => {
+            assert_eq!(rt; cursor.position(), ERROR.len());
+            Some(raw)
+        }
+        Err(error) => {
+            assert!(rt; matches!(error, DeError::Memory));
+            assert_eq!(rt; cursor.position(), 0);
+            None
+        }
+    }
 }
 
 #[test]
 fn a_typed_message_or_out_of_memory(rt: HostRuntime) {
-    let alloc = rt.alloc();
-    let mut cursor = Cursor::new(&ERROR);
-    let raw: Raw = match Nlmsghdr::from_bytes(alloc, &mut cursor) {
-        Ok(raw) => raw,
-        Err(error) => {
-            assert!(rt; matches!(error, DeError::Memory));
-            assert_eq!(rt; cursor.position(), 0);
-            return;
-        }
+    let Some(raw) = read_error(&rt, rt.alloc()) else {
+        return;
     };
-    assert_eq!(rt; cursor.position(), ERROR.len());
-    match raw.to_typed::<u16, Vec<u8>>(alloc) {
+    match raw.to_typed::<u16, Vec<u8>>(rt.alloc()) {
         Ok(typed) => assert_eq!(rt; *typed.nl_len(), 52),
-        Err(error) => assert!(rt; matches!(error, RouterError::Memory)),
+        Err(error) => assert_eq!(rt; cause_of(error), Cause::Memory),
     }
 }
 
 #[test]
 fn a_message_is_written_or_out_of_memory(rt: HostRuntime) {
     let alloc = rt.alloc();
-    let Ok(raw) = Raw::from_bytes(alloc, &mut Cursor::new(&ERROR)) else {
+    let Some(raw) = read_error(&rt, alloc) else {
         return;
     };
     let mut bytes = Vec::new(alloc);

@@ -1,13 +1,10 @@
 //! One message, and a whole datagram.
 
-use neli_attr::Buffer;
+use crate::support::Raw;
 use neli_consts::{NlmF, Nlmsg};
 use neli_msg::{NlBufferIter, NlPayload, Nlmsghdr, SocketError, cut};
 use neli_wire::{Cursor, DeError, FromBytes, Header};
 use std::io::ErrorKind;
-use std::test::Fail;
-
-type Raw = Nlmsghdr<u16, Buffer>;
 
 /// What reading answers where it refuses.
 #[derive(Clone, Copy, Debug, PartialEq, Eq)]
@@ -31,85 +28,148 @@ const ONE: [u8; 20] = [
     17, 0, 0, 0, 0, 4, 0, 0, 0, 0, 0, 0, 0, 0, 0, 0, 0x61, 0xff, 0xff, 0xff,
 ];
 
-#[test]
-fn one_message_is_read_or_refused(rt: HostRuntime) -> Result<(), Fail> {
-    let rows: [(&str, &[u8], Result<&[u8], Refusal>); 8] = [
-        ("no header", &ONE[..15], Err(Refusal::Short)),
-        (
-            "a length below the header",
-            &[15, 0, 0, 0, 0, 4, 0, 0, 0, 0, 0, 0, 0, 0, 0, 0],
-            Err(Refusal::Input(15)),
-        ),
-        ("length 0", &[0; 16], Err(Refusal::Input(0))),
-        (
-            "an empty payload",
-            &[16, 0, 0, 0, 16, 0, 0, 0, 0, 0, 0, 0, 0, 0, 0, 0],
-            Ok(&[]),
-        ),
-        (
-            "the largest length",
-            &[
-                255, 255, 255, 255, 16, 0, 0, 0, 0, 0, 0, 0, 0, 0, 0, 0, 0, 0, 0, 0,
-            ],
-            Err(Refusal::Input(4294967279)),
-        ),
-        ("a byte missing", &ONE[..16], Err(Refusal::Input(1))),
-        ("padding missing", &ONE[..17], Err(Refusal::Short)),
-        ("padding of any value", &ONE, Ok(&[0x61])),
-    ];
-    for (row, bytes, want) in rows {
-        let mut cursor = Cursor::new(bytes);
-        let found: Result<Raw, DeError> = Nlmsghdr::from_bytes(rt.alloc(), &mut cursor);
-        match &found {
-            Ok(message) => {
-                let body = message.get_payload().map(|body| body.as_ref());
-                assert_eq!(rt; body.ok_or(Refusal::Other), want, "{row}");
-                assert_eq!(rt; cursor.position(), bytes.len(), "{row}");
-            }
-            Err(error) => {
-                assert_eq!(rt; Err(refusal_of(error)), want, "{row}");
-                assert_eq!(rt; cursor.position(), 0, "{row}");
-            }
-        }
-    }
-    Ok(())
-}
+/// Bytes of a message, and its payload or why it is refused.
+const MESSAGES: [(&str, &[u8], Result<&[u8], Refusal>); 8] = [
+    (
+        "no header",
+        &[17, 0, 0, 0, 0, 4, 0, 0, 0, 0, 0, 0, 0, 0, 0],
+        Err(Refusal::Short),
+    ),
+    (
+        "a length below the header",
+        &[15, 0, 0, 0, 0, 4, 0, 0, 0, 0, 0, 0, 0, 0, 0, 0],
+        Err(Refusal::Input(15)),
+    ),
+    ("length 0", &[0; 16], Err(Refusal::Input(0))),
+    (
+        "an empty payload",
+        &[16, 0, 0, 0, 16, 0, 0, 0, 0, 0, 0, 0, 0, 0, 0, 0],
+        Ok(&[]),
+    ),
+    (
+        "the largest length",
+        &[
+            255, 255, 255, 255, 16, 0, 0, 0, 0, 0, 0, 0, 0, 0, 0, 0, 0, 0, 0, 0,
+        ],
+        Err(Refusal::Input(4294967279)),
+    ),
+    (
+        "a byte missing",
+        &[17, 0, 0, 0, 0, 4, 0, 0, 0, 0, 0, 0, 0, 0, 0, 0],
+        Err(Refusal::Input(1)),
+    ),
+    (
+        "padding missing",
+        &[17, 0, 0, 0, 0, 4, 0, 0, 0, 0, 0, 0, 0, 0, 0, 0, 0x61],
+        Err(Refusal::Short),
+    ),
+    ("padding of any value", &ONE, Ok(&[0x61])),
+];
 
 #[test]
-fn a_datagram_ends_or_has_one_fault(rt: HostRuntime) -> Result<(), Fail> {
+fn one_message_is_read_or_refused(rt: HostRuntime) {
+    for (row, bytes, want) in MESSAGES {
+        let mut cursor = Cursor::new(bytes);
+        let found: Result<Raw, DeError> = Nlmsghdr::from_bytes(rt.alloc(), &mut cursor);
+        let place = cursor.position();
+        let (got, end) = match &found {
+            Ok(message) => {
+                let body = message.get_payload().map(|body| body.as_ref());
+                (body.ok_or(Refusal::Other), bytes.len())
+            }
+            Err(error) => (Err(refusal_of(error)), 0),
+        };
+        assert_eq!(rt; (got, place), (want, end), "{row}");
+    }
+}
+
+/// A datagram of the end of a dump, the message [`ONE`], and nine zeros.
+fn datagram() -> [u8; 45] {
     let mut bytes = [0; 45];
     bytes[..16].copy_from_slice(&[16, 0, 0, 0, 3, 0, 2, 0xf0, 5, 0, 0, 0, 7, 0, 0, 0]);
     bytes[16..36].copy_from_slice(&ONE);
-    for (row, end, fault) in [
-        ("nothing after it", 36, false),
-        ("zeros after it", 45, true),
-    ] {
-        let mut messages: NlBufferIter<'_, u16, Vec<u8>> = NlBufferIter::new(&bytes[..end]);
-        let Some(Ok(first)) = messages.next_typed::<Nlmsg, Vec<u16>>(rt.alloc()) else {
-            return Err(Fail::new("the first message"));
-        };
-        assert_eq!(rt; *first.nl_len(), 16, "{row}");
-        assert_eq!(rt; *first.nl_type(), Nlmsg::Done, "{row}");
-        assert_eq!(rt; u16::from(*first.nl_flags()), 0xf002, "{row}");
-        assert_eq!(rt; (*first.nl_seq(), *first.nl_pid()), (5, 7), "{row}");
+    bytes
+}
+
+/// The ends of a datagram, and whether there is a fault before them.
+const ENDS: [(&str, usize, bool); 2] = [
+    ("nothing after it", 36, false),
+    ("zeros after it", 45, true),
+];
+
+#[test]
+fn the_first_message_of_a_datagram_is_typed(rt: HostRuntime) {
+    let bytes = datagram();
+    for (row, end, _) in ENDS {
+        let end = bytes.get(..end).expect(&rt, row);
+        let mut messages: NlBufferIter<'_, u16, Vec<u8>> = NlBufferIter::new(end);
+        let first = messages
+            .next_typed::<Nlmsg, Vec<u16>>(rt.alloc())
+            .expect(&rt, "a message")
+            .expect(&rt, row);
+        let header = (
+            *first.nl_len(),
+            *first.nl_type(),
+            u16::from(*first.nl_flags()),
+            *first.nl_seq(),
+            *first.nl_pid(),
+        );
+        assert_eq!(rt; header, (16, Nlmsg::Done, 0xf002, 5, 7), "{row}");
         assert!(rt; matches!(first.nl_payload(), NlPayload::Empty), "{row}");
-        let Some(Ok(second)) = messages.next(rt.alloc()) else {
-            return Err(Fail::new("the second message"));
-        };
-        assert_eq!(rt; *second.nl_flags(), NlmF::empty(), "{row}");
-        let third = messages.next(rt.alloc());
-        let is_short = matches!(
-            third,
-            Some(Err(SocketError::De(DeError::Io(ErrorKind::UnexpectedEof))))
-        );
-        assert_eq!(rt; is_short, fault, "{row}");
-        assert!(rt; messages.next(rt.alloc()).is_none(), "{row}");
-        assert!(rt;
-            messages.next_typed::<Nlmsg, Vec<u8>>(rt.alloc()).is_none(),
-            "{row}"
-        );
     }
-    Ok(())
+}
+
+/// What the next item of a datagram is.
+#[derive(Clone, Copy, Debug, PartialEq, Eq)]
+enum Item {
+    Message,
+    Short,
+    Other,
+    End,
+}
+
+fn item_of<M: Drop>(item: Option<Result<M, SocketError>>) -> Item {
+    match item {
+        None => Item::End,
+        Some(Ok(_)) => Item::Message,
+        Some(Err(SocketError::De(DeError::Io(ErrorKind::UnexpectedEof)))) => Item::Short,
+        Some(Err(_)) => Item::Other,
+    }
+}
+
+#[test]
+fn a_datagram_ends_or_has_one_fault(rt: HostRuntime) {
+    let alloc = rt.alloc();
+    let bytes = datagram();
+    for (row, end, fault) in ENDS {
+        let end = bytes.get(..end).expect(&rt, row);
+        let mut messages: NlBufferIter<'_, u16, Vec<u8>> = NlBufferIter::new(end);
+        let first = item_of(messages.next_typed::<Nlmsg, Vec<u16>>(alloc));
+        let second = item_of(messages.next(alloc));
+        assert_eq!(rt; (first, second), (Item::Message, Item::Message), "{row}");
+        let third = item_of(messages.next(alloc));
+        let want = if fault { Item::Short } else { Item::End };
+        assert_eq!(rt; third, want, "{row}");
+        let rest = item_of(messages.next(alloc));
+        let typed = item_of(messages.next_typed::<Nlmsg, Vec<u8>>(alloc));
+        assert_eq!(rt; (rest, typed), (Item::End, Item::End), "{row}");
+    }
+}
+
+#[test]
+fn the_second_message_of_a_datagram_has_no_flags(rt: HostRuntime) {
+    let bytes = datagram();
+    for (row, end, _) in ENDS {
+        let end = bytes.get(..end).expect(&rt, row);
+        let mut messages: NlBufferIter<'_, u16, Vec<u8>> = NlBufferIter::new(end);
+        let first = item_of(messages.next(rt.alloc()));
+        assert_eq!(rt; first, Item::Message, "{row}");
+        let second = messages
+            .next(rt.alloc())
+            .expect(&rt, "a second message")
+            .expect(&rt, row);
+        assert_eq!(rt; *second.nl_flags(), NlmF::empty(), "{row}");
+    }
 }
 
 // A body of two numbers has no room in one byte; its padding is missed after that.
@@ -121,17 +181,17 @@ fn a_payload_is_refused_before_its_padding_is_missed(rt: HostRuntime) {
 }
 
 #[test]
-fn a_datagram_is_cut(rt: HostRuntime) -> Result<(), Fail> {
+fn a_datagram_is_cut(rt: HostRuntime) {
     for (row, end, count, fault) in [
         ("nothing", 0, 0, false),
         ("15 bytes", 15, 0, true),
         ("all", 20, 1, false),
     ] {
-        let (messages, found): (Vec<Raw>, Option<DeError>) = cut(rt.alloc(), &ONE[..end])?;
-        assert_eq!(rt; messages.len(), count, "{row}");
-        assert_eq!(rt; found.is_some(), fault, "{row}");
+        let (messages, found): (Vec<Raw>, Option<DeError>) = cut(rt.alloc(), &ONE[..end]).expect(
+            &rt, "messages",
+        );
+        assert_eq!(rt; (messages.len(), found.is_some()), (count, fault), "{row}");
     }
-    Ok(())
 }
 
 #[test]
