@@ -2,48 +2,72 @@
 
 use neli_attr::Buffer;
 use neli_wire::{Cursor, FromBytesWithInput, Size, ToBytes};
-use std::test::Fail;
+use std::alloc::Global;
+use std::process::Abort;
 
 /// Bytes to read.
 const BYTES: [u8; 8] = [8, 0, 1, 0, 7, 1, 9, 9];
 
-// The bytes of a buffer.
-#[test]
-fn buffers(rt: HostRuntime) -> Result<(), Fail> {
-    let alloc = rt.alloc();
+/// The bytes `xxx`, made of `abc`.
+fn three_bytes(rt: &impl Abort, alloc: Global) -> Buffer {
     let mut buffer = Buffer::new(alloc);
     assert!(rt; buffer.is_empty());
-    buffer.extend_from_slice(b"abc")?;
+    buffer.extend_from_slice(b"abc").expect(rt, "memory");
     for byte in buffer.as_mut() {
         *byte = b'x';
     }
+    buffer
+}
+
+// The bytes of a buffer.
+#[test]
+fn buffers(rt: HostRuntime) {
+    let alloc = rt.alloc();
+    let buffer = three_bytes(&rt, alloc);
     assert_eq!(rt; buffer.as_ref(), b"xxx".as_slice());
-    assert_eq!(rt; buffer.len(), 3);
-    assert!(rt; buffer.try_clone()? == buffer);
-    assert!(rt; Buffer::from_slice(alloc, b"xx")? != buffer);
-    assert_eq!(rt; format!(in alloc; "{buffer:?}")?.as_str(), "Buffer");
-    let mut written = Vec::from_slice(alloc, b"..")?;
-    buffer.to_bytes(&mut written)?;
-    assert_eq!(rt; written.as_slice(), b"..xxx".as_slice());
-    assert_eq!(rt; buffer.written_size(), 3);
+    assert_eq!(rt; (buffer.len(), buffer.written_size()), (3, 3));
+    let text = format!(in alloc; "{buffer:?}").expect(&rt, "memory");
+    assert_eq!(rt; text.as_str(), "Buffer");
     let bytes: Vec<u8> = buffer.into();
     assert_eq!(rt; bytes.as_slice(), b"xxx".as_slice());
-    Ok(())
 }
 
 #[test]
-fn bytes_of_a_buffer(rt: HostRuntime) -> Result<(), Fail> {
+fn copies_of_buffers(rt: HostRuntime) {
+    let alloc = rt.alloc();
+    let buffer = three_bytes(&rt, alloc);
+    assert!(rt; buffer.try_clone().expect(&rt, "memory") == buffer);
+    assert!(rt; Buffer::from_slice(alloc, b"xx").expect(&rt, "memory") != buffer);
+}
+
+#[test]
+fn buffers_written(rt: HostRuntime) {
+    let alloc = rt.alloc();
+    let mut written = Vec::from_slice(alloc, b"..").expect(&rt, "memory");
+    three_bytes(&rt, alloc)
+        .to_bytes(&mut written)
+        .expect(&rt, "memory");
+    assert_eq!(rt; written.as_slice(), b"..xxx".as_slice());
+}
+
+#[test]
+fn bytes_of_a_buffer(rt: HostRuntime) {
     let alloc = rt.alloc();
     let mut cursor = Cursor::new(&BYTES);
-    let buffer = Buffer::from_bytes_with_input(alloc, &mut cursor, 4)?;
+    let buffer = Buffer::from_bytes_with_input(alloc, &mut cursor, 4).expect(&rt, "bytes");
     assert_eq!(rt; buffer.as_ref(), [8u8, 0, 1, 0].as_slice());
-    assert_eq!(rt; cursor.position(), 4);
-    assert_eq!(rt; (buffer.unpadded_size(), buffer.written_size()), (4, 4));
-    let copy = Buffer::from_slice(alloc, &BYTES[..4])?;
-    assert!(rt; copy == buffer);
-    assert_eq!(rt;
-        Buffer::from(Vec::from_slice(alloc, b"ab")?).as_ref(),
-        b"ab".as_slice()
+    let sizes = (
+        buffer.unpadded_size(),
+        buffer.written_size(),
+        cursor.position(),
     );
-    Ok(())
+    assert_eq!(rt; sizes, (4, 4, 4));
+    let copy = Buffer::from_slice(alloc, &BYTES[..4]).expect(&rt, "memory");
+    assert!(rt; copy == buffer);
+}
+
+#[test]
+fn a_buffer_of_a_list(rt: HostRuntime) {
+    let bytes = Vec::from_slice(rt.alloc(), b"ab").expect(&rt, "memory");
+    assert_eq!(rt; Buffer::from(bytes).as_ref(), b"ab".as_slice());
 }

@@ -1,67 +1,53 @@
 //! What builders answer where they make nothing.
 
-use crate::support::{generic, zeros};
+use crate::support::assert_prints;
 use neli_attr::{
-    AttrType, AttrTypeBuilder, AttrTypeBuilderError, BuildError, NlattrBuilder, NlattrBuilderError,
-    RtattrBuilder, RtattrBuilderError, of,
+    AttrTypeBuilder, BuildError, NlattrBuilder, NlattrBuilderError, RtattrBuilder, of,
 };
 use neli_wire::{NoMemory, SerError, UninitializedFieldError};
 use std::alloc::{AllocError, AllocFailed};
 use std::io::ErrorKind;
-use std::test::Fail;
+
+/// The field that a builder names as missing.
+fn missing_of<T: Drop, const OF: u8>(built: Result<T, BuildError<OF>>) -> &'static str {
+    match built {
+        Err(BuildError::UninitializedField(name)) => name,
+        _ => "no field",
+    }
+}
 
 // The names of missing fields, the first in the order of the fields.
 #[test]
-fn missing_fields(rt: HostRuntime) -> Result<(), Fail> {
+fn missing_fields(rt: HostRuntime) {
     let alloc = rt.alloc();
-    let field = AttrTypeBuilder::<u16>::default().build();
-    assert!(rt;
-        matches!(
-            field,
-            Err(AttrTypeBuilderError::UninitializedField("nla_type"))
-        )
-    );
-    let neither = NlattrBuilder::<u16, u8>::default().build(alloc);
-    assert!(rt;
-        matches!(
-            neither,
-            Err(NlattrBuilderError::UninitializedField("nla_type"))
-        )
-    );
-    let untyped = NlattrBuilder::<u16, u8>::default()
-        .nla_payload(1)
-        .build(alloc);
-    assert!(rt;
-        matches!(
-            untyped,
-            Err(NlattrBuilderError::UninitializedField("nla_type"))
-        )
-    );
-    let bare = RtattrBuilder::<u16, u8>::default().rta_type(1).build(alloc);
-    match bare {
-        Err(error) => {
-            assert_eq!(rt;
-                error.to_string(alloc)?.as_str(),
-                "`rta_payload` must be initialized"
-            );
-            assert!(rt; matches!(error, RtattrBuilderError::UninitializedField("rta_payload")));
-        }
-        Ok(_) => assert!(rt; false),
+    let field = AttrTypeBuilder::<u16>::default();
+    let neither = NlattrBuilder::<u16, u8>::default();
+    let untyped = NlattrBuilder::<u16, u8>::default().nla_payload(1);
+    let bare = RtattrBuilder::<u16, u8>::default().rta_type(1);
+    let rows = [
+        (missing_of(field.build()), "nla_type"),
+        (missing_of(neither.build(alloc)), "nla_type"),
+        (missing_of(untyped.build(alloc)), "nla_type"),
+        (missing_of(bare.build(alloc)), "rta_payload"),
+    ];
+    for (missing, want) in rows {
+        assert_eq!(rt; missing, want);
     }
-    let error = NlattrBuilderError::from(UninitializedFieldError::new("nla_payload"));
-    assert_eq!(rt;
-        error.to_string(alloc)?.as_str(),
-        "`nla_payload` must be initialized"
-    );
-    assert_eq!(rt;
-        NlattrBuilderError::Memory.to_string(alloc)?.as_str(),
-        "Out of memory"
-    );
-    Ok(())
 }
 
 #[test]
-fn causes_of_build_errors(rt: HostRuntime) -> Result<(), Fail> {
+fn errors_print_the_missing_field(rt: HostRuntime) {
+    let alloc = rt.alloc();
+    let bare = RtattrBuilder::<u16, u8>::default().rta_type(1).build(alloc);
+    let error = bare.err().expect(&rt, "a field is missing");
+    assert_prints(&rt, alloc, &error, "`rta_payload` must be initialized");
+    let error = NlattrBuilderError::from(UninitializedFieldError::new("nla_payload"));
+    assert_prints(&rt, alloc, &error, "`nla_payload` must be initialized");
+    assert_prints(&rt, alloc, &NlattrBuilderError::Memory, "Out of memory");
+}
+
+#[test]
+fn causes_of_build_errors(rt: HostRuntime) {
     let unwritten = NlattrBuilderError::from(SerError::Io(ErrorKind::Other));
     assert!(rt;
         matches!(
@@ -91,7 +77,6 @@ fn causes_of_build_errors(rt: HostRuntime) -> Result<(), Fail> {
     );
     let refused = NlattrBuilderError::from(AllocFailed { value: 7u8 });
     assert!(rt; matches!(refused, NlattrBuilderError::Memory));
-    Ok(())
 }
 
 /// The numbers that tell the errors of one builder from those of another.
@@ -119,11 +104,10 @@ const BUILDERS: [(&str, u8); 19] = [
 
 // Two builders with one number would share one type of errors.
 #[test]
-fn numbers_of_builders_differ(rt: HostRuntime) -> Result<(), Fail> {
+fn numbers_of_builders_differ(rt: HostRuntime) {
     for (name, number) in BUILDERS {
         let same = BUILDERS.iter().filter(|row| row.1 == number).count();
         assert_eq!(rt; same, 1, "at {name}");
         assert!(rt; number < 128, "at {name}");
     }
-    Ok(())
 }

@@ -1,108 +1,150 @@
 //! Lists of attributes: their calls, and what they are written as and read from.
 
-use crate::support::{assert_written, generic, generic_list, routing, routing_list};
+use crate::support::{
+    Refusal, assert_written, generic, generic_list, refusal_of, routing, routing_list,
+};
 use neli_attr::{
     AttrHandle, AttrSlice, Attribute, Buffer, GenlAttrHandle, GenlBuffer, Nlattr, RtAttrHandle,
     RtBuffer, Rtattr,
 };
 use neli_consts::{CtrlAttr, Index};
 use neli_consts_rta::{Ifa, Rta};
-use neli_wire::{Cursor, DeError, FromBytesWithInput, Size};
+use neli_wire::{Cursor, FromBytesWithInput, Size};
+use std::alloc::Global;
 use std::process::Abort;
-use std::test::Fail;
 
 /// An attribute of type 1 with the payload `07 01 09 09`, and one of type 4 with `05`.
 const BYTES: [u8; 16] = [8, 0, 1, 0, 7, 1, 9, 9, 5, 0, 4, 0, 5, 0, 0, 0];
 
+/// Three attributes of a byte each, of the types 0, 1 and 2.
+const THREE: [u8; 24] = [
+    5, 0, 0, 0, 0, 0, 0, 0, 5, 0, 1, 0, 1, 0, 0, 0, 5, 0, 2, 0, 2, 0, 0, 0,
+];
+
 // Sizes of lists, as in neli's own tests of them.
 #[test]
-fn sizes_of_lists(rt: HostRuntime) -> Result<(), Fail> {
+fn sizes_of_generic_lists(rt: HostRuntime) {
     let alloc = rt.alloc();
     let mut indexed = GenlBuffer::new(alloc);
-    let mut addresses = RtBuffer::new(alloc);
-    let rows = [(0u8, Ifa::Unspec), (1, Ifa::Address), (2, Ifa::Local)];
-    for (n, kind) in rows {
-        indexed.push(generic(alloc, Index::from(u16::from(n)), n)?)?;
-        addresses.push(routing(alloc, kind, n)?)?;
+    for n in [0u8, 1, 2] {
+        let attr = generic(&rt, alloc, Index::from(u16::from(n)), n);
+        indexed.push(attr).expect(&rt, "memory");
     }
     assert_eq!(rt; indexed.unpadded_size(), 24);
-    assert_eq!(rt; addresses.unpadded_size(), 24);
-    let bytes = [
-        5, 0, 0, 0, 0, 0, 0, 0, 5, 0, 1, 0, 1, 0, 0, 0, 5, 0, 2, 0, 2, 0, 0, 0,
-    ];
-    assert_written(&rt, alloc, &indexed, &bytes)?;
-    assert_written(&rt, alloc, &addresses, &bytes)?;
-    Ok(())
+    assert_written(&rt, alloc, &indexed, &THREE);
 }
 
-// The calls of a list.
 #[test]
-fn lists(rt: HostRuntime) -> Result<(), Fail> {
+fn sizes_of_routing_lists(rt: HostRuntime) {
     let alloc = rt.alloc();
-    let bytes = [5, 0, 1, 0, 9, 7, 7, 7, 4, 0, 2, 0];
-    let mut list = generic_list::<u16>(alloc, &bytes)?;
-    assert_eq!(rt; list.len(), 2);
-    assert!(rt; list.try_clone()? == list);
+    let mut addresses = RtBuffer::new(alloc);
+    for (n, kind) in [(0u8, Ifa::Unspec), (1, Ifa::Address), (2, Ifa::Local)] {
+        let attr = routing(&rt, alloc, kind, n);
+        addresses.push(attr).expect(&rt, "memory");
+    }
+    assert_eq!(rt; addresses.unpadded_size(), 24);
+    assert_written(&rt, alloc, &addresses, &THREE);
+}
+
+/// An attribute of type 1 with the payload `09`, and an empty one of type 2.
+const TWO: [u8; 12] = [5, 0, 1, 0, 9, 7, 7, 7, 4, 0, 2, 0];
+
+/// The list of [`TWO`] with other payloads, of two bytes each.
+fn changed(rt: &impl Abort, alloc: Global) -> GenlBuffer<u16, Buffer> {
+    let mut list = generic_list::<u16>(alloc, &TWO).expect(rt, "a list");
     for attr in list.iter_mut() {
-        attr.set_payload(alloc, &3u8)?;
+        attr.set_payload(alloc, &3u8)
+            .expect(rt, "a payload that fits");
     }
     for attr in list.as_mut() {
-        attr.set_payload(alloc, &4u16)?;
+        attr.set_payload(alloc, &4u16)
+            .expect(rt, "a payload that fits");
     }
-    let lengths: Vec<u16> = list.iter().map(|attr| *attr.nla_len()).collect(alloc)?;
+    list
+}
+
+#[test]
+fn generic_lists_that_are_changed(rt: HostRuntime) {
+    let lengths: Vec<u16> = changed(&rt, rt.alloc())
+        .iter()
+        .map(|attr| *attr.nla_len())
+        .collect(rt.alloc())
+        .expect(&rt, "memory");
     assert_eq!(rt; lengths.as_slice(), [6, 6].as_slice());
-    assert_eq!(rt; list.as_ref().len(), 2);
-    let last = list.pop().ok_or("two attributes")?;
+}
+
+#[test]
+fn generic_lists_that_are_emptied(rt: HostRuntime) {
+    let mut list = changed(&rt, rt.alloc());
+    assert_eq!(rt; (list.len(), list.as_ref().len()), (2, 2));
+    let last = list.pop().expect(&rt, "two attributes");
     assert_eq!(rt; *last.nla_type().nla_type(), 2);
     for attr in list {
         assert_eq!(rt; *attr.nla_len(), 6);
     }
+}
 
-    let mut routes = routing_list::<Rta>(alloc, &bytes)?;
-    assert!(rt; !routes.is_empty());
+#[test]
+fn copies_of_generic_lists(rt: HostRuntime) {
+    let list = generic_list::<u16>(rt.alloc(), &TWO).expect(&rt, "a list");
+    assert_eq!(rt; list.len(), 2);
+    assert!(rt; list.try_clone().expect(&rt, "memory") == list);
+}
+
+#[test]
+fn routing_lists_that_are_changed(rt: HostRuntime) {
+    let alloc = rt.alloc();
+    let mut routes = routing_list::<Rta>(alloc, &TWO).expect(&rt, "a list");
     for attr in routes.iter_mut() {
-        attr.set_payload(alloc, &5u8)?;
+        attr.set_payload(alloc, &5u8)
+            .expect(&rt, "a payload that fits");
     }
     for attr in routes.as_mut() {
-        attr.set_payload(alloc, &6u8)?;
+        attr.set_payload(alloc, &6u8)
+            .expect(&rt, "a payload that fits");
     }
-    let copy = routes.try_clone()?;
-    assert_written(
-        &rt,
-        alloc,
-        &copy,
-        &[5, 0, 1, 0, 6, 0, 0, 0, 5, 0, 2, 0, 6, 0, 0, 0],
-    )?;
+    let copy = routes.try_clone().expect(&rt, "memory");
+    let bytes = [5, 0, 1, 0, 6, 0, 0, 0, 5, 0, 2, 0, 6, 0, 0, 0];
+    assert_written(&rt, alloc, &copy, &bytes);
+}
+
+#[test]
+fn routing_lists_that_are_emptied(rt: HostRuntime) {
+    let alloc = rt.alloc();
+    let mut routes = routing_list::<Rta>(alloc, &TWO).expect(&rt, "a list");
+    assert!(rt; !routes.is_empty());
     assert_eq!(rt; routes.iter().count(), 2);
-    let attrs = vec![in alloc; routing(alloc, Rta::Oif, 1u32)?]?;
-    assert_eq!(rt; RtBuffer::from_list(attrs).as_ref().len(), 1);
     assert!(rt; routes.pop().is_some());
-    Ok(())
+    let attrs = vec![in alloc; routing(&rt, alloc, Rta::Oif, 1u32)].expect(&rt, "memory");
+    assert_eq!(rt; RtBuffer::from_list(attrs).as_ref().len(), 1);
 }
 
 // Faults inside a list are faults of the whole list's bytes.
+const FAULTS: [(&[u8], usize); 4] = [
+    (&[8, 0], 2),
+    (&[3, 0, 1, 0], 3),
+    (&[8, 0, 1, 0, 0x61], 4),
+    (&[5, 0, 1, 0, 0x61], 5),
+];
+
 #[test]
-fn faults_of_lists(rt: HostRuntime) -> Result<(), Fail> {
-    let rows: [(&[u8], usize); 4] = [
-        (&[8, 0], 2),
-        (&[3, 0, 1, 0], 3),
-        (&[8, 0, 1, 0, 0x61], 4),
-        (&[5, 0, 1, 0, 0x61], 5),
-    ];
-    for (bytes, want) in rows {
-        let read = generic_list::<u16>(rt.alloc(), bytes);
-        assert!(rt;
-            matches!(read, Err(DeError::InvalidInput(n)) if n == want),
-            "at {bytes:?}"
-        );
+fn faults_of_lists(rt: HostRuntime) {
+    for (bytes, want) in FAULTS {
+        let refused = refusal_of(generic_list::<u16>(rt.alloc(), bytes));
+        assert_eq!(rt; refused, Some(Refusal::Input(want)), "at {bytes:?}");
     }
-    assert!(rt; generic_list::<u16>(rt.alloc(), &[])?.is_empty());
-    let one = generic_list::<u16>(rt.alloc(), &[5, 0, 1, 0, 0x61, 0xff, 0xff, 0xff])?;
+}
+
+#[test]
+fn lists_of_none_and_of_one(rt: HostRuntime) {
+    let none = generic_list::<u16>(rt.alloc(), &[]).expect(&rt, "a list");
+    assert!(rt; none.is_empty());
+    let bytes = [5, 0, 1, 0, 0x61, 0xff, 0xff, 0xff];
+    let one = generic_list::<u16>(rt.alloc(), &bytes).expect(&rt, "a list");
     assert_eq!(rt; one.len(), 1);
     for attr in one.iter() {
         assert_eq!(rt; attr.payload().as_ref(), b"a".as_slice());
     }
-    Ok(())
 }
 
 /// Asserts that these are the attributes of [`BYTES`].
@@ -126,13 +168,13 @@ fn assert_generic_handle(rt: &impl Abort, handle: &GenlAttrHandle<'_, CtrlAttr>)
 }
 
 #[test]
-fn generic_lists_of_attributes(rt: HostRuntime) -> Result<(), Fail> {
+fn generic_lists_of_attributes(rt: HostRuntime) {
     let alloc = rt.alloc();
     let read: Vec<Nlattr<CtrlAttr, Buffer>> = Vec::from_bytes_with_input(
         alloc,
         &mut Cursor::new(&BYTES),
         16,
-    )?;
+    ).expect(&rt, "a value");
     let list = GenlBuffer::from_list(read);
     assert_generic(&rt, list.attr_slice());
     assert_generic(&rt, list.as_ref());
@@ -146,7 +188,6 @@ fn generic_lists_of_attributes(rt: HostRuntime) -> Result<(), Fail> {
     assert_eq!(rt; (again.unpadded_size(), again.written_size()), (16, 16));
     let owned: GenlAttrHandle<'_, CtrlAttr> = AttrHandle::new(again);
     assert_generic(&rt, owned.get_attrs());
-    Ok(())
 }
 
 /// Asserts that this handle is of the attributes of [`BYTES`].
@@ -156,13 +197,13 @@ fn assert_routing_handle(rt: &impl Abort, handle: &RtAttrHandle<'_, Rta>) {
 }
 
 #[test]
-fn routing_lists_of_attributes(rt: HostRuntime) -> Result<(), Fail> {
+fn routing_lists_of_attributes(rt: HostRuntime) {
     let alloc = rt.alloc();
     let read: Vec<Rtattr<Rta, Buffer>> = Vec::from_bytes_with_input(
         alloc,
         &mut Cursor::new(&BYTES),
         16,
-    )?;
+    ).expect(&rt, "a value");
     let list = RtBuffer::from_list(read);
     assert_routing(&rt, list.attr_slice());
     assert_routing(&rt, list.as_ref());
@@ -174,5 +215,4 @@ fn routing_lists_of_attributes(rt: HostRuntime) -> Result<(), Fail> {
     let again = RtBuffer::from(Vec::from(RtBuffer::from(attrs)));
     assert_routing(&rt, again.as_ref());
     assert_eq!(rt; (again.unpadded_size(), again.written_size()), (16, 16));
-    Ok(())
 }

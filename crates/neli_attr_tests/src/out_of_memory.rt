@@ -65,29 +65,40 @@ fn payload_set_or_out_of_memory(rt: HostRuntime) {
     }
 }
 
-#[test]
-fn list_read_or_out_of_memory(rt: HostRuntime) {
-    let alloc = rt.alloc();
+/// A list of the number 7 and of one byte, or None where memory ran out.
+fn read_list(rt: &impl Abort, alloc: Global) -> Option<RtBuffer<Rta, Buffer>> {
     let bytes = [8u8, 0, 1, 0, 7, 0, 0, 0, 5, 0, 2, 0, 9, 0, 0, 0];
     let mut cursor = Cursor::new(&bytes);
-    let read: Result<RtBuffer<Rta, Buffer>, DeError> = FromBytesWithInput::from_bytes_with_input(
-        alloc,
-        &mut cursor,
-        16,
-    );
-    let attrs = match read {
-        Ok(attrs) => attrs,
+    match RtBuffer::from_bytes_with_input(alloc, &mut cursor, 16) {
+        Ok(attrs) => Some(attrs),
         Err(error) => {
             assert!(rt; matches!(error, DeError::Memory));
             assert_eq!(rt; cursor.position(), 0);
-            return;
+            None
         }
+    }
+}
+
+#[test]
+fn list_read_or_out_of_memory(rt: HostRuntime) {
+    let Some(attrs) = read_list(&rt, rt.alloc()) else {
+        return;
     };
     assert_eq!(rt; attrs.len(), 2);
-    let handle = attrs.get_attr_handle();
-    let number: Result<u32, DeError> = handle.get_attr_payload_as(alloc, Rta::Dst);
+    let number: Result<u32, DeError> = attrs
+        .get_attr_handle()
+        .get_attr_payload_as(rt.alloc(), Rta::Dst);
     assert!(rt; matches!(number, Ok(7)), "a number takes no memory");
-    let list: Result<Vec<u8>, DeError> = handle.get_attr_payload_as_with_len(alloc, Rta::Src);
+}
+
+#[test]
+fn payload_read_or_out_of_memory(rt: HostRuntime) {
+    let Some(attrs) = read_list(&rt, rt.alloc()) else {
+        return;
+    };
+    let list: Result<Vec<u8>, DeError> = attrs
+        .get_attr_handle()
+        .get_attr_payload_as_with_len(rt.alloc(), Rta::Src);
     match list {
         Ok(list) => assert_eq!(rt; list.as_slice(), [9u8].as_slice()),
         Err(error) => assert!(rt; matches!(error, DeError::Memory)),

@@ -23,13 +23,12 @@ fn decoded(rt: &impl Abort, alloc: Global, lines: &[&str]) -> Vec<u8> {
     bytes
 }
 
-/// Attributes as they were recorded, and what libmnl reads: the type without its two upper bits, the
-/// length of the payload, and whether it is marked as nested.
-type Row = (
-    &'static str,
-    &'static [&'static str],
-    &'static [(u16, usize, bool)],
-);
+/// What libmnl reads of an attribute: the type without its two upper bits, the length of the payload, and
+/// whether it is marked as nested.
+type Seen = (u16, usize, bool);
+
+/// Attributes as they were recorded, and what libmnl reads.
+type Row = (&'static str, &'static [&'static str], &'static [Seen]);
 
 const R0004: Row = (
     "loopback set up",
@@ -242,57 +241,74 @@ fn assert_written<T: ToBytes>(rt: &impl Abort, alloc: Global, list: &T, row: Row
     );
 }
 
-// Every attribute of each row, as a generic and as a routing one, and written again.
+/// What the rows compare of attributes.
+fn seen_in(rt: &impl Abort, alloc: Global, list: &GenlBuffer<u16, Buffer>) -> Vec<Seen> {
+    let mut seen = Vec::new(alloc);
+    for attr in list.iter() {
+        let field = attr.nla_type();
+        let length = attr.nla_payload().len();
+        seen.push((*field.nla_type(), length, *field.nla_nested()))
+            .expect(rt, "memory");
+    }
+    seen
+}
+
+// Every attribute of each row, as a generic one, and written again.
 #[test]
 fn attributes_are_as_libmnl_reads_them(rt: HostRuntime) {
     let alloc = rt.alloc();
     for row in ROWS {
-        let (what, _, want) = row;
         let list = family::<u16>(&rt, alloc, row);
-        let mut seen = Vec::new(alloc);
-        for attr in list.iter() {
-            let field = attr.nla_type();
-            seen.push((
-                *field.nla_type(),
-                attr.nla_payload().len(),
-                *field.nla_nested(),
-            ))
-            .expect(&rt, "memory");
-        }
-        assert_eq!(rt; seen.as_slice(), want, "{what}");
+        let seen = seen_in(&rt, alloc, &list);
+        assert_eq!(rt; seen.as_slice(), row.2, "{}", row.0);
         assert_written(&rt, alloc, &list, row);
-        let routing = routes::<u16>(&rt, alloc, row);
-        assert_eq!(rt; routing.len(), want.len(), "{what}");
-        assert_written(&rt, alloc, &routing, row);
+    }
+}
+
+// The same as routing ones.
+#[test]
+fn attributes_are_as_many_as_libmnl_reads(rt: HostRuntime) {
+    let alloc = rt.alloc();
+    for row in ROWS {
+        let list = routes::<u16>(&rt, alloc, row);
+        assert_eq!(rt; list.len(), row.2.len(), "{}", row.0);
+        assert_written(&rt, alloc, &list, row);
     }
 }
 
 // Values that pyroute2 reads in an address.
 #[test]
 fn values_of_an_address(rt: HostRuntime) {
-    let alloc = rt.alloc();
-    let address = routes::<Ifa>(&rt, alloc, R0004);
+    let address = routes::<Ifa>(&rt, rt.alloc(), R0004);
     let handle = address.get_attr_handle();
     let local: &[u8] = handle
         .get_attr_payload_as_with_len_borrowed(Ifa::Local)
         .expect(&rt, "an address");
     assert_eq!(rt; local, [127, 0, 0, 1].as_slice());
-    let label: Result<String, DeError> = handle.get_attr_payload_as_with_len(alloc, Ifa::Label);
-    assert_eq!(rt; label.expect(&rt, "a label").as_str(), "lo");
-    let flags: Result<u32, DeError> = handle.get_attr_payload_as(alloc, Ifa::Flags);
-    assert_eq!(rt; flags.expect(&rt, "flags"), 128);
+    let label: String = handle
+        .get_attr_payload_as_with_len(rt.alloc(), Ifa::Label)
+        .expect(&rt, "a label");
+    let flags: u32 = handle
+        .get_attr_payload_as(rt.alloc(), Ifa::Flags)
+        .expect(&rt, "flags");
+    assert_eq!(rt; (label.as_str(), flags), ("lo", 128));
 }
 
 // Values that pyroute2 reads in a route.
 #[test]
-fn values_of_a_route(rt: HostRuntime) {
-    let alloc = rt.alloc();
-    let route = routes::<Rta>(&rt, alloc, R0277);
+fn numbers_of_a_route(rt: HostRuntime) {
+    let route = routes::<Rta>(&rt, rt.alloc(), R0277);
     let handle = route.get_attr_handle();
     for (kind, want) in [(Rta::Table, 254), (Rta::Priority, 1024), (Rta::Oif, 3)] {
-        let number: Result<u32, DeError> = handle.get_attr_payload_as(alloc, kind);
+        let number: Result<u32, DeError> = handle.get_attr_payload_as(rt.alloc(), kind);
         assert_eq!(rt; number.expect(&rt, "a number"), want, "at {kind:?}");
     }
+}
+
+#[test]
+fn a_gateway_of_a_route(rt: HostRuntime) {
+    let route = routes::<Rta>(&rt, rt.alloc(), R0277);
+    let handle = route.get_attr_handle();
     let gateway: &[u8] = handle
         .get_attr_payload_as_with_len_borrowed(Rta::Gateway)
         .expect(&rt, "a gateway");
@@ -306,28 +322,29 @@ fn values_of_a_route(rt: HostRuntime) {
 // Values that pyroute2 reads in a link.
 #[test]
 fn values_of_a_link(rt: HostRuntime) {
-    let alloc = rt.alloc();
-    let port = routes::<Ifla>(&rt, alloc, R0152);
+    let port = routes::<Ifla>(&rt, rt.alloc(), R0152);
     let handle = port.get_attr_handle();
-    let name: Result<String, DeError> = handle.get_attr_payload_as_with_len(alloc, Ifla::Ifname);
-    assert_eq!(rt; name.expect(&rt, "a name").as_str(), "veth1");
-    let mtu: Result<u32, DeError> = handle.get_attr_payload_as(alloc, Ifla::Mtu);
-    assert_eq!(rt; mtu.expect(&rt, "a number"), 1500);
+    let name: String = handle
+        .get_attr_payload_as_with_len(rt.alloc(), Ifla::Ifname)
+        .expect(&rt, "a name");
+    let mtu: u32 = handle
+        .get_attr_payload_as(rt.alloc(), Ifla::Mtu)
+        .expect(&rt, "a number");
+    assert_eq!(rt; (name.as_str(), mtu), ("veth1", 1500));
 }
 
 // Values that pyroute2 reads in the family IOAM6.
 #[test]
 fn values_of_a_generic_family(rt: HostRuntime) {
-    let alloc = rt.alloc();
-    let family = family::<CtrlAttr>(&rt, alloc, R0867);
+    let family = family::<CtrlAttr>(&rt, rt.alloc(), R0867);
     let handle = family.get_attr_handle();
-    let name: Result<String, DeError> = handle.get_attr_payload_as_with_len(
-        alloc,
-        CtrlAttr::FamilyName,
-    );
-    assert_eq!(rt; name.expect(&rt, "a name").as_str(), "IOAM6");
-    let id: Result<u16, DeError> = handle.get_attr_payload_as(alloc, CtrlAttr::FamilyId);
-    assert_eq!(rt; id.expect(&rt, "a number"), 30);
+    let name: String = handle
+        .get_attr_payload_as_with_len(rt.alloc(), CtrlAttr::FamilyName)
+        .expect(&rt, "a name");
+    let id: u16 = handle
+        .get_attr_payload_as(rt.alloc(), CtrlAttr::FamilyId)
+        .expect(&rt, "a number");
+    assert_eq!(rt; (name.as_str(), id), ("IOAM6", 30));
 }
 
 /// Two numbers of a nested attribute.
@@ -356,26 +373,30 @@ fn operations_of_a_generic_family(rt: HostRuntime) {
     assert_eq!(rt; seen.as_slice(), want.as_slice());
 }
 
+/// Asserts the number and the name of the group `ioam6_events`.
+fn assert_group(rt: &impl Abort, alloc: Global, group: &Nlattr<Index, Buffer>) {
+    let fields = group
+        .get_attr_handle::<CtrlAttrMcastGrp>(alloc)
+        .expect(rt, "a list");
+    let id: u32 = fields
+        .get_attr_payload_as(alloc, CtrlAttrMcastGrp::Id)
+        .expect(rt, "a number");
+    let name: String = fields
+        .get_attr_payload_as_with_len(alloc, CtrlAttrMcastGrp::Name)
+        .expect(rt, "a name");
+    assert_eq!(rt; (id, name.as_str()), (10, "ioam6_events"));
+}
+
 // The multicast group of the family IOAM6.
 #[test]
 fn groups_of_a_generic_family(rt: HostRuntime) {
-    let alloc = rt.alloc();
-    let family = family::<CtrlAttr>(&rt, alloc, R0867);
+    let family = family::<CtrlAttr>(&rt, rt.alloc(), R0867);
     let handle = family.get_attr_handle();
     let groups = handle
-        .get_nested_attributes::<Index>(alloc, CtrlAttr::McastGroups)
+        .get_nested_attributes::<Index>(rt.alloc(), CtrlAttr::McastGroups)
         .expect(&rt, "groups");
     assert_eq!(rt; groups.get_attrs().len(), 1);
     for group in groups.iter() {
-        let fields = group
-            .get_attr_handle::<CtrlAttrMcastGrp>(alloc)
-            .expect(&rt, "a list");
-        let id: Result<u32, DeError> = fields.get_attr_payload_as(alloc, CtrlAttrMcastGrp::Id);
-        assert_eq!(rt; id.expect(&rt, "a number"), 10);
-        let name: Result<String, DeError> = fields.get_attr_payload_as_with_len(
-            alloc,
-            CtrlAttrMcastGrp::Name,
-        );
-        assert_eq!(rt; name.expect(&rt, "a name").as_str(), "ioam6_events");
+        assert_group(&rt, rt.alloc(), group);
     }
 }

@@ -1,52 +1,56 @@
 //! What the tests share: attributes that are built, lists that are read, and values that are written.
 
 use neli_attr::{
-    AttrType, Buffer, GenlBuffer, Nlattr, NlattrBuilder, NlattrBuilderError, RtBuffer, Rtattr,
-    RtattrBuilder, RtattrBuilderError,
+    AttrType, Buffer, GenlBuffer, Nlattr, NlattrBuilder, RtBuffer, Rtattr, RtattrBuilder,
 };
 use neli_consts::NlAttrType;
 use neli_consts_rta::RtaType;
 use neli_wire::{Cursor, DeError, FromBytesWithInput, ToBytes};
 use std::alloc::Global;
+use std::fmt::Display;
+use std::io::ErrorKind;
 use std::process::Abort;
-use std::test::Fail;
 
 /// A generic attribute without flags.
 pub fn generic<T: NlAttrType, P: ToBytes + Drop>(
+    rt: &impl Abort,
     alloc: Global,
     kind: T,
     payload: P,
-) -> Result<Nlattr<T, Buffer>, NlattrBuilderError> {
+) -> Nlattr<T, Buffer> {
     NlattrBuilder::default()
         .nla_type(AttrType::from(kind.to_number()))
         .nla_payload(payload)
         .build(alloc)
+        .expect(rt, "a generic attribute")
 }
 
 /// A routing attribute.
 pub fn routing<T: RtaType, P: ToBytes + Drop>(
+    rt: &impl Abort,
     alloc: Global,
     kind: T,
     payload: P,
-) -> Result<Rtattr<T, Buffer>, RtattrBuilderError> {
+) -> Rtattr<T, Buffer> {
     RtattrBuilder::default()
         .rta_type(kind)
         .rta_payload(payload)
         .build(alloc)
+        .expect(rt, "a routing attribute")
 }
 
 /// Asserts that the value is written as these bytes.
-pub fn assert_written<T: ToBytes>(
-    rt: &impl Abort,
-    alloc: Global,
-    value: &T,
-    bytes: &[u8],
-) -> Result<(), Fail> {
-    let mut buffer = Vec::from_slice(alloc, b"..")?;
-    value.to_bytes(&mut buffer)?;
+pub fn assert_written<T: ToBytes>(rt: &impl Abort, alloc: Global, value: &T, bytes: &[u8]) {
+    let mut buffer = Vec::from_slice(alloc, b"..").expect(rt, "memory");
+    value.to_bytes(&mut buffer).expect(rt, "memory");
     assert_eq!(rt; buffer.get(2..), Some(bytes));
     assert_eq!(rt; value.written_size(), bytes.len());
-    Ok(())
+}
+
+/// Asserts that the value prints this text.
+pub fn assert_prints<D: Display>(rt: &impl Abort, alloc: Global, value: &D, text: &str) {
+    let printed = value.to_string(alloc).expect(rt, "memory");
+    assert_eq!(rt; printed.as_str(), text);
 }
 
 /// The list of generic attributes that all of the bytes spell.
@@ -65,7 +69,28 @@ pub fn routing_list<T: RtaType>(
     RtBuffer::from_bytes_with_input(alloc, &mut Cursor::new(bytes), bytes.len())
 }
 
+/// Why a value is not read, by what the tables compare of it.
+#[derive(Clone, Copy, Debug, PartialEq, Eq)]
+pub enum Refusal {
+    /// The bytes end too early.
+    Short,
+    /// A count of bytes that does not fit.
+    Input(usize),
+    /// Any other, which no row expects.
+    Other,
+}
+
+/// The refusal of a read, or None where there is a value.
+pub fn refusal_of<T: Drop>(read: Result<T, DeError>) -> Option<Refusal> {
+    match read {
+        Ok(_) => None,
+        Err(DeError::InvalidInput(count)) => Some(Refusal::Input(count)),
+        Err(DeError::Io(ErrorKind::UnexpectedEof)) => Some(Refusal::Short),
+        Err(_) => Some(Refusal::Other),
+    }
+}
+
 /// Zeros, as many as this.
-pub fn zeros(alloc: Global, count: usize) -> Result<Buffer, Fail> {
-    Ok(Buffer::from(vec![in alloc; 0u8; count]?))
+pub fn zeros(rt: &impl Abort, alloc: Global, count: usize) -> Buffer {
+    Buffer::from(vec![in alloc; 0u8; count].expect(rt, "memory"))
 }

@@ -4,11 +4,10 @@
 use neli_attr::{AttrType, AttrTypeBuilder};
 use neli_consts::CtrlAttr;
 use neli_wire::Constant;
-use std::test::Fail;
 
 // The flags of the type field, `NLA_F_NESTED` and `NLA_F_NET_BYTEORDER` (the kernel's linux/netlink.h).
 #[test]
-fn type_fields(rt: HostRuntime) -> Result<(), Fail> {
+fn type_fields(rt: HostRuntime) {
     let rows: [(u16, bool, bool, CtrlAttr); 5] = [
         (0x0002, false, false, CtrlAttr::FamilyName),
         (0x8002, true, false, CtrlAttr::FamilyName),
@@ -18,24 +17,26 @@ fn type_fields(rt: HostRuntime) -> Result<(), Fail> {
     ];
     for (number, nested, network_order, kind) in rows {
         let field = AttrType::<CtrlAttr>::from(number);
-        assert_eq!(rt; *field.nla_nested(), nested, "at {number}");
-        assert_eq!(rt; *field.nla_network_order(), network_order, "at {number}");
-        assert_eq!(rt; *field.nla_type(), kind, "at {number}");
-        assert_eq!(rt; u16::from(&field), number);
-        assert_eq!(rt; u16::from(field), number);
+        let parts = (
+            *field.nla_nested(),
+            *field.nla_network_order(),
+            *field.nla_type(),
+        );
+        assert_eq!(rt; parts, (nested, network_order, kind), "at {number}");
+        assert_eq!(rt; (u16::from(&field), u16::from(field)), (number, number));
         let built = AttrTypeBuilder::default()
             .nla_nested(nested)
             .nla_network_order(network_order)
             .nla_type(kind)
-            .build()?;
+            .build()
+            .expect(&rt, "all fields");
         assert_eq!(rt; built, field, "at {number}");
     }
-    Ok(())
 }
 
 // 0x8000 is `NLA_F_NESTED`, 0x4000 `NLA_F_NET_BYTEORDER`.
 #[test]
-fn type_fields_on_the_wire(rt: HostRuntime) -> Result<(), Fail> {
+fn type_fields_on_the_wire(rt: HostRuntime) {
     let field = AttrType::<CtrlAttr>::from_wire(0xc002);
     assert_eq!(rt;
         (*field.nla_nested(), *field.nla_network_order()),
@@ -45,19 +46,18 @@ fn type_fields_on_the_wire(rt: HostRuntime) -> Result<(), Fail> {
     assert_eq!(rt; field.to_wire(), 0xc002);
     let bare = AttrTypeBuilder::default()
         .nla_type(CtrlAttr::Version)
-        .build()?;
+        .build()
+        .expect(&rt, "all fields");
     assert_eq!(rt; u16::from(bare), 3);
     assert!(rt; bare != AttrType::from(0x8003));
-    Ok(())
 }
 
 // 0x8000 is `NLA_F_NESTED`, 0x4000 `NLA_F_NET_BYTEORDER`.
 #[test]
-fn type_fields_that_are_changed(rt: HostRuntime) -> Result<(), Fail> {
+fn type_fields_that_are_changed(rt: HostRuntime) {
     let nested = AttrType::<CtrlAttr>::from(0x4002).as_nested();
     assert_eq!(rt; u16::from(nested), 0xc002);
     let typed = AttrType::<u16>::from(0x4002).to_typed::<CtrlAttr>();
     assert_eq!(rt; *typed.nla_type(), CtrlAttr::FamilyName);
     assert_eq!(rt; u16::from(typed), 0x4002);
-    Ok(())
 }
