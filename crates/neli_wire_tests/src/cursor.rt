@@ -12,8 +12,11 @@ fn places(rt: HostRuntime) {
         assert_eq!(rt; cursor.position(), 0);
         cursor.set_position(position);
         assert_eq!(rt; cursor.position(), position);
-        assert_eq!(rt; cursor.rest(), &BYTES[position..], "at {position}");
-        assert_eq!(rt; cursor.get_ref(), BYTES.as_slice(), "at {position}");
+        assert_eq!(rt;
+            (cursor.rest(), cursor.get_ref()),
+            (&BYTES[position..], BYTES.as_slice()),
+            "at {position}"
+        );
     }
 }
 
@@ -30,11 +33,9 @@ fn next_bytes(rt: HostRuntime) {
         let mut cursor = Cursor::new(&BYTES);
         cursor.set_position(2);
         let input = cursor.input(n).map_err(|error| refusal_of(&error));
-        assert_eq!(rt; input, shown, "of {n}");
-        assert_eq!(rt; cursor.position(), 2, "of {n}");
+        assert_eq!(rt; (input, cursor.position()), (shown, 2), "of {n}");
         let bytes = cursor.bytes(n).map_err(|error| refusal_of(&error));
-        assert_eq!(rt; bytes, read, "of {n}");
-        assert_eq!(rt; cursor.position(), place, "of {n}");
+        assert_eq!(rt; (bytes, cursor.position()), (read, place), "of {n}");
     }
 }
 

@@ -6,7 +6,6 @@ use std::io;
 use std::io::ErrorKind;
 use std::process::Abort;
 use std::string::FromUtf8Error;
-use std::test::Fail;
 
 /// The cause of a refusal.
 #[derive(Clone, Copy, Debug, PartialEq, Eq)]
@@ -46,31 +45,34 @@ fn cause_to_read(error: &DeError) -> Cause {
 }
 
 // The refusal of the byte ff, which is in no text (RFC 3629 section 3).
-fn no_text(alloc: Global) -> Result<FromUtf8Error, Fail> {
-    match String::from_utf8(Vec::from_slice(alloc, &[0xffu8])?) {
-        Ok(_) => Err(Fail::new("the byte ff is no text")),
-        Err(error) => Ok(error),
-    }
+fn no_text(rt: &impl Abort, alloc: Global) -> FromUtf8Error {
+    let bytes = Vec::from_slice(alloc, &[0xffu8]).expect(rt, "memory");
+    String::from_utf8(bytes)
+        .err()
+        .expect(rt, "the byte ff is no text")
 }
 
 // The refusal has this cause, and so has its copy.
-fn check_to_write(rt: &impl Abort, error: &SerError, want: Cause) -> Result<(), Fail> {
-    assert_eq!(rt; cause_to_write(error), want);
-    assert_eq!(rt; cause_to_write(&error.try_clone()?), want, "of a copy");
-    Ok(())
+fn check_to_write(rt: &impl Abort, error: &SerError, want: Cause) {
+    let copy = error.try_clone().expect(rt, "memory");
+    let causes = (cause_to_write(error), cause_to_write(&copy));
+    assert_eq!(rt; causes, (want, want));
 }
 
-fn check_to_read(rt: &impl Abort, error: &DeError, want: Cause) -> Result<(), Fail> {
-    assert_eq!(rt; cause_to_read(error), want);
-    assert_eq!(rt; cause_to_read(&error.try_clone()?), want, "of a copy");
-    Ok(())
+fn check_to_read(rt: &impl Abort, error: &DeError, want: Cause) {
+    let copy = error.try_clone().expect(rt, "memory");
+    let causes = (cause_to_read(error), cause_to_read(&copy));
+    assert_eq!(rt; causes, (want, want));
 }
 
 #[test]
-fn refusals_to_write(rt: HostRuntime) -> Result<(), Fail> {
-    let owned = no_text(rt.alloc())?;
+fn refusals_to_write(rt: HostRuntime) {
+    let owned = no_text(&rt, rt.alloc());
     let rows = [
-        (SerError::new(rt.alloc(), 7u8)?, Cause::Words),
+        (
+            SerError::new(rt.alloc(), 7u8).expect(&rt, "memory"),
+            Cause::Words,
+        ),
         (SerError::from(MsgError::from_static("7")), Cause::Words),
         (
             SerError::from(io::Error::from(ErrorKind::BrokenPipe)),
@@ -83,16 +85,18 @@ fn refusals_to_write(rt: HostRuntime) -> Result<(), Fail> {
         (SerError::from(AllocFailed { value: 7u8 }), Cause::Memory),
     ];
     for (error, want) in &rows {
-        check_to_write(&rt, error, *want)?;
+        check_to_write(&rt, error, *want);
     }
-    Ok(())
 }
 
 #[test]
-fn refusals_to_read(rt: HostRuntime) -> Result<(), Fail> {
-    let owned = no_text(rt.alloc())?;
+fn refusals_to_read(rt: HostRuntime) {
+    let owned = no_text(&rt, rt.alloc());
     let rows = [
-        (DeError::new(rt.alloc(), 7u8)?, Cause::Words),
+        (
+            DeError::new(rt.alloc(), 7u8).expect(&rt, "memory"),
+            Cause::Words,
+        ),
         (DeError::from(MsgError::from_static("7")), Cause::Words),
         (
             DeError::from(io::Error::from(ErrorKind::BrokenPipe)),
@@ -106,9 +110,8 @@ fn refusals_to_read(rt: HostRuntime) -> Result<(), Fail> {
         (DeError::from(AllocFailed { value: 7u8 }), Cause::Memory),
     ];
     for (error, want) in &rows {
-        check_to_read(&rt, error, *want)?;
+        check_to_read(&rt, error, *want);
     }
-    Ok(())
 }
 
 #[test]

@@ -23,8 +23,11 @@ fn payloads_of_frames(rt: HostRuntime) {
             Ok(payload) => Ok(payload.as_slice()),
             Err(error) => Err(refusal_of(error)),
         };
-        assert_eq!(rt; got, want, "of {bytes:?} with length {len}");
-        assert_eq!(rt; cursor.position(), place, "of {bytes:?} with length {len}");
+        assert_eq!(rt;
+            (got, cursor.position()),
+            (want, place),
+            "of {bytes:?} with length {len}"
+        );
     }
 }
 

@@ -3,7 +3,6 @@
 use crate::refusal::{Refusal, refusal_of};
 use neli_wire::implementing::{read_all, size_of_all, write_all};
 use neli_wire::{Cursor, DeError, FromBytesWithInput, Size, ToBytes};
-use std::test::Fail;
 
 /// The numbers 1 and 2, and half of another.
 const BYTES: [u8; 5] = [1, 0, 2, 0, 3];
@@ -28,9 +27,8 @@ fn lists_with_an_input(rt: HostRuntime) {
             Ok(list) => Ok(list.as_slice()),
             Err(error) => Err(refusal_of(error)),
         };
-        assert_eq!(rt; got, want, "with input {n}");
         let moved = if want.is_ok() { n } else { 0 };
-        assert_eq!(rt; cursor.position(), moved, "with input {n}");
+        assert_eq!(rt; (got, cursor.position()), (want, moved), "with input {n}");
     }
 }
 
@@ -66,10 +64,10 @@ fn elements_of_no_bytes(rt: HostRuntime) {
 
 // The nine bytes are a list of neli's own tests.
 #[test]
-fn written_lists(rt: HostRuntime) -> Result<(), Fail> {
-    let list = vec![in rt.alloc(); 1u8, 2, 3, 4, 5, 6, 7, 8, 9]?;
+fn written_lists(rt: HostRuntime) {
+    let list = vec![in rt.alloc(); 1u8, 2, 3, 4, 5, 6, 7, 8, 9].expect(&rt, "memory");
     let mut buffer = Vec::new(rt.alloc());
-    list.to_bytes(&mut buffer)?;
+    list.to_bytes(&mut buffer).expect(&rt, "memory");
     assert_eq!(rt; buffer.as_slice(), [1u8, 2, 3, 4, 5, 6, 7, 8, 9].as_slice());
     let sizes = (
         list.unpadded_size(),
@@ -77,11 +75,10 @@ fn written_lists(rt: HostRuntime) -> Result<(), Fail> {
         list.written_size(),
     );
     assert_eq!(rt; sizes, (9, 12, 9));
-    Ok(())
 }
 
 #[test]
-fn written_slices_of_values(rt: HostRuntime) -> Result<(), Fail> {
+fn written_slices_of_values(rt: HostRuntime) {
     let rows: [(&[u16], &[u8]); 3] = [
         (&[], b".."),
         (&[0x0102], b"..\x02\x01"),
@@ -89,9 +86,8 @@ fn written_slices_of_values(rt: HostRuntime) -> Result<(), Fail> {
     ];
     for (items, want) in rows {
         assert_eq!(rt; size_of_all(items) + 2, want.len(), "of {items:?}");
-        let mut buffer = Vec::from_slice(rt.alloc(), b"..")?;
-        write_all(items, &mut buffer)?;
+        let mut buffer = Vec::from_slice(rt.alloc(), b"..").expect(&rt, "memory");
+        write_all(items, &mut buffer).expect(&rt, "memory");
         assert_eq!(rt; buffer.as_slice(), want, "of {items:?}");
     }
-    Ok(())
 }

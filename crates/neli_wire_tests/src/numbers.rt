@@ -4,7 +4,6 @@ use crate::refusal::{Refusal, refusal_of};
 use neli_wire::{BeU64, Constant, Cursor, DeError, FromBytes, Size, ToBytes, TypeSize, WireNumber};
 use std::alloc::Global;
 use std::process::Abort;
-use std::test::Fail;
 
 /// A number of one of the types.
 #[derive(Clone, Copy, Debug)]
@@ -23,51 +22,33 @@ enum Number {
 }
 
 // The number by the calls of the wire traits: its sizes, its bytes after others, and what is read.
-fn by_traits<T: Constant + PartialEq>(
-    rt: &impl Abort,
-    alloc: Global,
-    value: T,
-    bytes: &[u8],
-) -> Result<(), Fail> {
+fn by_traits<T: Constant + PartialEq>(rt: &impl Abort, alloc: Global, value: T, bytes: &[u8]) {
     let sizes = (value.unpadded_size(), value.written_size(), T::type_size());
     let n = bytes.len();
     assert_eq!(rt; sizes, (n, n, n), "of {value:?}");
-    let mut buffer = Vec::from_slice(alloc, b"...")?;
-    value.to_bytes(&mut buffer)?;
-    assert_eq!(rt; &buffer.as_slice()[3..], bytes, "of {value:?}");
+    let mut buffer = Vec::from_slice(alloc, b"...").expect(rt, "memory");
+    value.to_bytes(&mut buffer).expect(rt, "memory");
+    assert_eq!(rt; buffer.get(3..), Some(bytes), "of {value:?}");
     let mut cursor = Cursor::new(bytes);
-    let read: T = T::from_bytes(alloc, &mut cursor)?;
-    assert_eq!(rt; read, value);
-    assert_eq!(rt; cursor.position(), n, "of {value:?}");
-    Ok(())
+    let read: T = T::from_bytes(alloc, &mut cursor).expect(rt, "a number");
+    assert_eq!(rt; (read, cursor.position()), (value, n));
 }
 
 // The number by the calls of its own type.
-fn by_its_type<N: WireNumber + PartialEq>(
-    rt: &impl Abort,
-    alloc: Global,
-    value: N,
-    bytes: &[u8],
-) -> Result<(), Fail> {
+fn by_its_type<N: WireNumber + PartialEq>(rt: &impl Abort, alloc: Global, value: N, bytes: &[u8]) {
     assert_eq!(rt; N::count(), bytes.len(), "of {value:?}");
     assert_eq!(rt; N::number(bytes), value);
     let mut buffer = Vec::new(alloc);
-    value.append(&mut buffer)?;
+    value.append(&mut buffer).expect(rt, "memory");
     assert_eq!(rt; buffer.as_slice(), bytes, "of {value:?}");
-    Ok(())
 }
 
-fn both<N: WireNumber + PartialEq>(
-    rt: &impl Abort,
-    alloc: Global,
-    value: N,
-    bytes: &[u8],
-) -> Result<(), Fail> {
-    by_its_type(rt, alloc, value, bytes)?;
-    by_traits(rt, alloc, value, bytes)
+fn both<N: WireNumber + PartialEq>(rt: &impl Abort, alloc: Global, value: N, bytes: &[u8]) {
+    by_its_type(rt, alloc, value, bytes);
+    by_traits(rt, alloc, value, bytes);
 }
 
-fn check_row(rt: &impl Abort, alloc: Global, number: Number, bytes: &[u8]) -> Result<(), Fail> {
+fn check_row(rt: &impl Abort, alloc: Global, number: Number, bytes: &[u8]) {
     match number {
         Number::U8(n) => both(rt, alloc, n, bytes),
         Number::U16(n) => both(rt, alloc, n, bytes),
@@ -120,24 +101,22 @@ const BY_HAND: [(Number, &[u8]); 10] = [
 ];
 
 #[test]
-fn numbers_of_neli(rt: HostRuntime) -> Result<(), Fail> {
+fn numbers_of_neli(rt: HostRuntime) {
     for (number, bytes) in FROM_NELI {
-        check_row(&rt, rt.alloc(), number, bytes)?;
+        check_row(&rt, rt.alloc(), number, bytes);
     }
-    Ok(())
 }
 
 #[test]
-fn numbers_by_hand(rt: HostRuntime) -> Result<(), Fail> {
+fn numbers_by_hand(rt: HostRuntime) {
     for (number, bytes) in BY_HAND {
-        check_row(&rt, rt.alloc(), number, bytes)?;
+        check_row(&rt, rt.alloc(), number, bytes);
     }
-    Ok(())
 }
 
 // The first number is of neli's own tests, with its bytes; the second by hand.
 #[test]
-fn the_highest_byte_first(rt: HostRuntime) -> Result<(), Fail> {
+fn the_highest_byte_first(rt: HostRuntime) {
     let rows: [(u64, &[u8]); 2] = [
         (571_987_654, &[0, 0, 0, 0, 0x22, 0x17, 0xd6, 0xc6]),
         (0x81, &[0, 0, 0, 0, 0, 0, 0, 0x81]),
@@ -145,17 +124,16 @@ fn the_highest_byte_first(rt: HostRuntime) -> Result<(), Fail> {
     for (number, bytes) in rows {
         let big = BeU64::new(number);
         assert_eq!(rt; big.as_ne_u64(), number);
-        check_row(&rt, rt.alloc(), Number::Be(big), bytes)?;
+        check_row(&rt, rt.alloc(), Number::Be(big), bytes);
     }
-    Ok(())
 }
 
 // A number is a constant that means itself.
 #[test]
 fn numbers_mean_themselves(rt: HostRuntime) {
     for number in [0u16, 1, 0x0102, u16::MAX] {
-        assert_eq!(rt; u16::from_wire(number), number);
-        assert_eq!(rt; number.to_wire(), number);
+        let both_ways = (u16::from_wire(number), number.to_wire());
+        assert_eq!(rt; both_ways, (number, number));
     }
 }
 
@@ -165,7 +143,10 @@ fn missing_bytes(rt: HostRuntime) {
         let mut cursor = Cursor::new(&[1u8, 2, 3][..n]);
         let read: Result<u32, DeError> = u32::from_bytes(rt.alloc(), &mut cursor);
         let refused = read.map_err(|error| refusal_of(&error));
-        assert_eq!(rt; refused, Err(Refusal::Short), "of {n} bytes");
-        assert_eq!(rt; cursor.position(), 0, "of {n} bytes");
+        assert_eq!(rt;
+            (refused, cursor.position()),
+            (Err(Refusal::Short), 0),
+            "of {n} bytes"
+        );
     }
 }

@@ -4,22 +4,20 @@ use crate::refusal::{Refusal, refusal_of};
 use example_body::{Probe, ProbeBuilder, ProbeBuilderError, Watch};
 use neli_attr::BuildError;
 use neli_wire::{Cursor, FromBytesWithInput, Header, Size, ToBytes};
-use std::test::Fail;
 
 /// The port 1337 and the levels 1 and 2.
 const WATCH: [u8; 10] = [0x39, 5, 1, 0, 0, 0, 2, 0, 0, 0];
 
 #[test]
-fn a_watch_both_ways(rt: HostRuntime) -> Result<(), Fail> {
+fn a_watch_both_ways(rt: HostRuntime) {
     let mut cursor = Cursor::new(&WATCH);
-    let watch = Watch::from_bytes_with_input(rt.alloc(), &mut cursor, 10)?;
+    let watch = Watch::from_bytes_with_input(rt.alloc(), &mut cursor, 10).expect(&rt, "a value");
     assert_eq!(rt; watch.port, 1337);
     assert_eq!(rt; watch.levels.as_slice(), [1u32, 2].as_slice());
     assert_eq!(rt; (watch.unpadded_size(), watch.written_size()), (10, 10));
     let mut buffer = Vec::new(rt.alloc());
-    watch.to_bytes(&mut buffer)?;
+    watch.to_bytes(&mut buffer).expect(&rt, "memory");
     assert_eq!(rt; buffer.as_slice(), WATCH.as_slice());
-    Ok(())
 }
 
 #[test]
@@ -35,41 +33,40 @@ fn a_watch_refused(rt: HostRuntime) {
             Ok(_) => Refusal::Other,
             Err(error) => refusal_of(error),
         };
-        assert_eq!(rt; refused, want, "with input {n}");
-        assert_eq!(rt; cursor.position(), 0, "with input {n}");
+        assert_eq!(rt; (refused, cursor.position()), (want, 0), "with input {n}");
     }
 }
 
 // Port 1337 is 0x0539.
 #[test]
-fn a_probe_of_all_fields(rt: HostRuntime) -> Result<(), Fail> {
+fn a_probe_of_all_fields(rt: HostRuntime) {
     let probe = ProbeBuilder::default()
         .hops(3)
         .kind(7)
         .port(1337)
         .payload("up")
-        .build()?;
+        .build()
+        .expect(&rt, "all fields");
     assert_eq!(rt; (*probe.hops(), *probe.kind(), *probe.port()), (3, 7, 1337));
     assert_eq!(rt; *probe.payload(), "up");
     assert_eq!(rt; (probe.unpadded_size(), probe.written_size()), (7, 7));
     assert_eq!(rt; Probe::<&str>::header_size(), 4);
     let mut buffer = Vec::new(rt.alloc());
-    probe.to_bytes(&mut buffer)?;
+    probe.to_bytes(&mut buffer).expect(&rt, "memory");
     assert_eq!(rt; buffer.as_slice(), b"\x03\x07\x39\x05up\0".as_slice());
-    Ok(())
 }
 
 #[test]
-fn a_probe_of_default_hops(rt: HostRuntime) -> Result<(), Fail> {
+fn a_probe_of_default_hops(rt: HostRuntime) {
     let probe = ProbeBuilder::default()
         .kind(7)
         .port(1337)
         .payload(())
-        .build()?;
+        .build()
+        .expect(&rt, "all fields");
     let mut buffer = Vec::new(rt.alloc());
-    probe.to_bytes(&mut buffer)?;
+    probe.to_bytes(&mut buffer).expect(&rt, "memory");
     assert_eq!(rt; buffer.as_slice(), [64u8, 7, 0x39, 5].as_slice());
-    Ok(())
 }
 
 // The field that the error names.

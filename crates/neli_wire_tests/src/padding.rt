@@ -7,7 +7,6 @@ use neli_wire::{
     alignto,
 };
 use std::process::Abort;
-use std::test::Fail;
 
 #[test]
 fn alignment(rt: HostRuntime) {
@@ -40,25 +39,24 @@ fn padded_lengths(rt: HostRuntime) {
 }
 
 #[test]
-fn zeros_after_a_buffer(rt: HostRuntime) -> Result<(), Fail> {
+fn zeros_after_a_buffer(rt: HostRuntime) {
     for (text, want) in [
         (b"".as_slice(), b"".as_slice()),
         (b"1", b"1\0\0\0"),
         (b"1234", b"1234"),
         (b"12345", b"12345\0\0\0"),
     ] {
-        let mut buffer = Vec::from_slice(rt.alloc(), text)?;
-        7u16.pad(&mut buffer)?;
+        let mut buffer = Vec::from_slice(rt.alloc(), text).expect(&rt, "memory");
+        7u16.pad(&mut buffer).expect(&rt, "memory");
         assert_eq!(rt; buffer.as_slice(), want, "after {text:?}");
-        let mut buffer = Vec::from_slice(rt.alloc(), text)?;
-        [9u8; 3].pad(&mut buffer)?;
+        let mut buffer = Vec::from_slice(rt.alloc(), text).expect(&rt, "memory");
+        [9u8; 3].pad(&mut buffer).expect(&rt, "memory");
         assert_eq!(rt; buffer.as_slice(), want, "after {text:?}, by an array");
     }
-    Ok(())
 }
 
 #[test]
-fn zeros_from_a_place_on(rt: HostRuntime) -> Result<(), Fail> {
+fn zeros_from_a_place_on(rt: HostRuntime) {
     for (start, want) in [
         (0usize, b"12345\0\0\0".as_slice()),
         (1, b"12345"),
@@ -66,24 +64,22 @@ fn zeros_from_a_place_on(rt: HostRuntime) -> Result<(), Fail> {
         (4, b"12345\0\0\0"),
         (5, b"12345"),
     ] {
-        let mut buffer = Vec::from_slice(rt.alloc(), b"12345")?;
+        let mut buffer = Vec::from_slice(rt.alloc(), b"12345").expect(&rt, "memory");
         assert!(rt; start <= buffer.len());
-        pad_from(&mut buffer, start)?;
+        pad_from(&mut buffer, start).expect(&rt, "memory");
         assert_eq!(rt; buffer.as_slice(), want, "from {start} on");
     }
-    Ok(())
 }
 
 // The number 6000, the text `lo`, and zeros: 6000 is 0x1770.
 #[test]
-fn a_number_a_text_and_zeros(rt: HostRuntime) -> Result<(), Fail> {
+fn a_number_a_text_and_zeros(rt: HostRuntime) {
     let mut buffer = Vec::new(rt.alloc());
-    6000u16.to_bytes(&mut buffer)?;
-    "lo".to_bytes(&mut buffer)?;
-    "lo".pad(&mut buffer)?;
+    6000u16.to_bytes(&mut buffer).expect(&rt, "memory");
+    "lo".to_bytes(&mut buffer).expect(&rt, "memory");
+    "lo".pad(&mut buffer).expect(&rt, "memory");
     let want = [0x70u8, 0x17, 0x6c, 0x6f, 0, 0, 0, 0];
     assert_eq!(rt; buffer.as_slice(), want.as_slice());
-    Ok(())
 }
 
 /// What bytes are passed over for.
@@ -129,8 +125,11 @@ fn check_strip(rt: &impl Abort, kind: Kind) {
         let mut cursor = Cursor::new(b"12345");
         cursor.set_position(start);
         let got = strip(kind, &mut cursor).map_err(|error| refusal_of(&error));
-        assert_eq!(rt; got, want, "{kind:?} from {start}");
-        assert_eq!(rt; cursor.position(), place, "{kind:?} from {start}");
+        assert_eq!(rt;
+            (got, cursor.position()),
+            (want, place),
+            "{kind:?} from {start}"
+        );
     }
 }
 
@@ -142,12 +141,11 @@ fn strips(rt: HostRuntime) {
 }
 
 #[test]
-fn writes_taken_back(rt: HostRuntime) -> Result<(), Fail> {
-    let mut buffer = Vec::from_slice(rt.alloc(), b"12345")?;
+fn writes_taken_back(rt: HostRuntime) {
+    let mut buffer = Vec::from_slice(rt.alloc(), b"12345").expect(&rt, "memory");
     assert!(rt; undo_on_refusal(&mut buffer, 2, Ok(())).is_ok());
     assert_eq!(rt; buffer.as_slice(), b"12345".as_slice());
     let refused = undo_on_refusal(&mut buffer, 2, Err(SerError::Memory));
     assert!(rt; matches!(refused, Err(SerError::Memory)));
     assert_eq!(rt; buffer.as_slice(), b"12".as_slice());
-    Ok(())
 }

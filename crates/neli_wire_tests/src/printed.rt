@@ -11,7 +11,6 @@ use std::fmt::Display;
 use std::io::ErrorKind;
 use std::process::Abort;
 use std::str::Utf8Error;
-use std::test::Fail;
 
 // Asserts that the value prints the prefix and then what its cause prints.
 fn check<D: Display, C: Display>(
@@ -20,15 +19,14 @@ fn check<D: Display, C: Display>(
     value: &D,
     prefix: &str,
     cause: &C,
-) -> Result<(), Fail> {
-    let text = value.to_string(alloc)?;
-    let cause = cause.to_string(alloc)?;
+) {
+    let text = value.to_string(alloc).expect(rt, "memory");
+    let cause = cause.to_string(alloc).expect(rt, "memory");
     assert_eq!(rt;
         text.strip_prefix(prefix),
         Some(cause.as_str()),
         "after {prefix}"
     );
-    Ok(())
 }
 
 /// Kinds of failures of a link or of a file.
@@ -41,18 +39,17 @@ const KINDS: [ErrorKind; 5] = [
 ];
 
 #[test]
-fn failures_of_what_lies_below(rt: HostRuntime) -> Result<(), Fail> {
+fn failures_of_what_lies_below(rt: HostRuntime) {
     let alloc = rt.alloc();
     for kind in &KINDS {
-        check(&rt, alloc, &SerError::Io(*kind), "IO error: ", kind)?;
-        check(&rt, alloc, &DeError::Io(*kind), "IO error: ", kind)?;
-        check(&rt, alloc, &SocketError::Io(*kind), "IO error: ", kind)?;
+        check(&rt, alloc, &SerError::Io(*kind), "IO error: ", kind);
+        check(&rt, alloc, &DeError::Io(*kind), "IO error: ", kind);
+        check(&rt, alloc, &SocketError::Io(*kind), "IO error: ", kind);
     }
-    Ok(())
 }
 
 #[test]
-fn failures_below_a_reader_or_a_writer(rt: HostRuntime) -> Result<(), Fail> {
+fn failures_below_a_reader_or_a_writer(rt: HostRuntime) {
     let alloc = rt.alloc();
     for kind in &KINDS {
         let written = SocketError::Ser(SerError::Io(*kind));
@@ -62,25 +59,21 @@ fn failures_below_a_reader_or_a_writer(rt: HostRuntime) -> Result<(), Fail> {
             &written,
             "Serialization error: IO error: ",
             kind,
-        )?;
+        );
         let read = SocketError::De(DeError::Io(*kind));
-        check(&rt, alloc, &read, "Deserialization error: IO error: ", kind)?;
+        check(&rt, alloc, &read, "Deserialization error: IO error: ", kind);
     }
-    Ok(())
 }
 
 // A place where bytes stop being a text: the byte ff is in none (RFC 3629 section 3).
-fn no_text(bytes: &[u8]) -> Result<Utf8Error, Fail> {
-    match str::from_utf8(bytes) {
-        Ok(_) => Err(Fail::new("the bytes are a text")),
-        Err(error) => Ok(error),
-    }
+fn no_text(rt: &impl Abort, bytes: &[u8]) -> Utf8Error {
+    str::from_utf8(bytes).err().expect(rt, "bytes of no text")
 }
 
-fn check_texts(rt: &impl Abort, alloc: Global, text: Utf8, cause: Utf8Error) -> Result<(), Fail> {
-    check(rt, alloc, &text, "", &cause)?;
-    check(rt, alloc, &SerError::Utf8(text), "UTF error: ", &cause)?;
-    check(rt, alloc, &DeError::Utf8(text), "UTF8 error: ", &cause)?;
+fn check_texts(rt: &impl Abort, alloc: Global, text: Utf8, cause: Utf8Error) {
+    check(rt, alloc, &text, "", &cause);
+    check(rt, alloc, &SerError::Utf8(text), "UTF error: ", &cause);
+    check(rt, alloc, &DeError::Utf8(text), "UTF8 error: ", &cause);
     let written = SocketError::Ser(SerError::Utf8(text));
     check(
         rt,
@@ -88,7 +81,7 @@ fn check_texts(rt: &impl Abort, alloc: Global, text: Utf8, cause: Utf8Error) -> 
         &written,
         "Serialization error: UTF error: ",
         &cause,
-    )?;
+    );
     let read = SocketError::De(DeError::Utf8(text));
     check(
         rt,
@@ -96,96 +89,109 @@ fn check_texts(rt: &impl Abort, alloc: Global, text: Utf8, cause: Utf8Error) -> 
         &read,
         "Deserialization error: UTF8 error: ",
         &cause,
-    )
+    );
 }
 
 #[test]
-fn texts_that_are_no_text(rt: HostRuntime) -> Result<(), Fail> {
+fn texts_that_are_no_text(rt: HostRuntime) {
     for bytes in [b"\xff".as_slice(), b"abc\xff", b"ab\xc3"] {
-        let cause = no_text(bytes)?;
-        check_texts(&rt, rt.alloc(), Utf8::Str(cause), cause)?;
-        check_texts(&rt, rt.alloc(), Utf8::String(cause), cause)?;
+        let cause = no_text(&rt, bytes);
+        check_texts(&rt, rt.alloc(), Utf8::Str(cause), cause);
+        check_texts(&rt, rt.alloc(), Utf8::String(cause), cause);
     }
-    Ok(())
 }
 
 // The words of a `MsgError`, alone and in each refusal that can hold it.
-fn check_words(rt: &impl Abort, alloc: Global, words: &MsgError, want: &str) -> Result<(), Fail> {
-    check(rt, alloc, words, "", &want)?;
-    let copy = words.try_clone()?;
-    check(rt, alloc, &SerError::Msg(copy), "", &want)?;
-    let copy = words.try_clone()?;
-    check(rt, alloc, &DeError::Msg(copy), "", &want)?;
-    let copy = words.try_clone()?;
-    check(rt, alloc, &SocketError::Msg(copy), "", &want)
+fn check_words(rt: &impl Abort, alloc: Global, words: &MsgError, want: &str) {
+    check(rt, alloc, words, "", &want);
+    let copy = words.try_clone().expect(rt, "memory");
+    check(rt, alloc, &SerError::Msg(copy), "", &want);
+    let copy = words.try_clone().expect(rt, "memory");
+    check(rt, alloc, &DeError::Msg(copy), "", &want);
+    let copy = words.try_clone().expect(rt, "memory");
+    check(rt, alloc, &SocketError::Msg(copy), "", &want);
 }
 
-fn check_words_within(
-    rt: &impl Abort,
-    alloc: Global,
-    words: &MsgError,
-    want: &str,
-) -> Result<(), Fail> {
-    let written = SocketError::Ser(SerError::Msg(words.try_clone()?));
-    check(rt, alloc, &written, "Serialization error: ", &want)?;
-    let read = SocketError::De(DeError::Msg(words.try_clone()?));
-    check(rt, alloc, &read, "Deserialization error: ", &want)
+fn check_words_within(rt: &impl Abort, alloc: Global, words: &MsgError, want: &str) {
+    let written = SocketError::Ser(SerError::Msg(words.try_clone().expect(rt, "memory")));
+    check(rt, alloc, &written, "Serialization error: ", &want);
+    let read = SocketError::De(DeError::Msg(words.try_clone().expect(rt, "memory")));
+    check(rt, alloc, &read, "Deserialization error: ", &want);
 }
 
 // Fixed words, words that were made, and those that name a missing field.
 #[test]
-fn words(rt: HostRuntime) -> Result<(), Fail> {
+fn words(rt: HostRuntime) {
     let alloc = rt.alloc();
     let rows = [
         (MsgError::from_static("too long"), "too long"),
-        (MsgError::new(alloc, "no such family")?, "no such family"),
-        (MsgError::new(alloc, 7u8)?, "7"),
+        (
+            MsgError::new(alloc, "no such family").expect(&rt, "memory"),
+            "no such family",
+        ),
+        (MsgError::new(alloc, 7u8).expect(&rt, "memory"), "7"),
         (
             MsgError::from(UninitializedFieldError::new("nla_type")),
             "`nla_type` must be initialized",
         ),
     ];
     for (words, want) in &rows {
-        check_words(&rt, alloc, words, want)?;
-        check_words_within(&rt, alloc, words, want)?;
+        check_words(&rt, alloc, words, want);
+        check_words_within(&rt, alloc, words, want);
     }
-    Ok(())
 }
 
 #[test]
-fn words_of_each_refusal(rt: HostRuntime) -> Result<(), Fail> {
+fn words_of_each_refusal(rt: HostRuntime) {
     let alloc = rt.alloc();
-    check(&rt, alloc, &SerError::new(alloc, 7u8)?, "", &"7")?;
-    check(&rt, alloc, &DeError::new(alloc, 7u8)?, "", &"7")?;
-    check(&rt, alloc, &SocketError::new(alloc, 7u8)?, "", &"7")
+    check(
+        &rt,
+        alloc,
+        &SerError::new(alloc, 7u8).expect(&rt, "memory"),
+        "",
+        &"7",
+    );
+    check(
+        &rt,
+        alloc,
+        &DeError::new(alloc, 7u8).expect(&rt, "memory"),
+        "",
+        &"7",
+    );
+    check(
+        &rt,
+        alloc,
+        &SocketError::new(alloc, 7u8).expect(&rt, "memory"),
+        "",
+        &"7",
+    );
 }
 
 #[test]
-fn counts_that_do_not_fit(rt: HostRuntime) -> Result<(), Fail> {
+fn counts_that_do_not_fit(rt: HostRuntime) {
     let alloc = rt.alloc();
     for count in [0usize, 20, usize::MAX] {
         let prefix = "Invalid input was provided: ";
-        check(&rt, alloc, &DeError::InvalidInput(count), prefix, &count)?;
+        check(&rt, alloc, &DeError::InvalidInput(count), prefix, &count);
         let read = SocketError::De(DeError::InvalidInput(count));
         let prefix = "Deserialization error: Invalid input was provided: ";
-        check(&rt, alloc, &read, prefix, &count)?;
+        check(&rt, alloc, &read, prefix, &count);
     }
-    Ok(())
 }
 
 #[test]
-fn memory_that_ran_out(rt: HostRuntime) -> Result<(), Fail> {
+fn memory_that_ran_out(rt: HostRuntime) {
     let alloc = rt.alloc();
-    check(&rt, alloc, &NoMemory, "Out of memory", &"")?;
-    check(&rt, alloc, &SerError::Memory, "Out of memory", &"")?;
-    check(&rt, alloc, &DeError::Memory, "Out of memory", &"")?;
-    check(&rt, alloc, &SocketError::Memory, "Out of memory", &"")?;
+    check(&rt, alloc, &NoMemory, "Out of memory", &"");
+    check(&rt, alloc, &SerError::Memory, "Out of memory", &"");
+    check(&rt, alloc, &DeError::Memory, "Out of memory", &"");
+    check(&rt, alloc, &SocketError::Memory, "Out of memory", &"");
     let builder: BuildError<1> = BuildError::Memory;
-    check(&rt, alloc, &builder, "Out of memory", &"")
+    check(&rt, alloc, &builder, "Out of memory", &"");
 }
 
 #[test]
-fn errors_of_builders(rt: HostRuntime) -> Result<(), Fail> {
+fn errors_of_builders(rt: HostRuntime) {
     let alloc = rt.alloc();
     let rows: [(BuildError<1>, &str); 2] = [
         (
@@ -198,8 +204,8 @@ fn errors_of_builders(rt: HostRuntime) -> Result<(), Fail> {
         ),
     ];
     for (error, want) in &rows {
-        check(&rt, alloc, error, "", want)?;
+        check(&rt, alloc, error, "", want);
     }
     let missing = UninitializedFieldError::new("nla_type");
-    check(&rt, alloc, &missing, "", &"`nla_type` must be initialized")
+    check(&rt, alloc, &missing, "", &"`nla_type` must be initialized");
 }

@@ -2,7 +2,6 @@
 
 use crate::refusal::{Refusal, refusal_of};
 use neli_wire::{Cursor, DeError, FromBytesWithInput, FromBytesWithInputBorrowed, Size, ToBytes};
-use std::test::Fail;
 
 // Five letters and a zero, as neli's own test has them. The byte ff is in no text (RFC 3629 section 3).
 #[test]
@@ -26,9 +25,12 @@ fn owned_texts(rt: HostRuntime) {
             Ok(text) => Ok(text.as_str()),
             Err(error) => Err(refusal_of(error)),
         };
-        assert_eq!(rt; got, want, "of {bytes:?} with input {n}");
         let moved = if want.is_ok() { n } else { 0 };
-        assert_eq!(rt; cursor.position(), moved, "of {bytes:?} with input {n}");
+        assert_eq!(rt;
+            (got, cursor.position()),
+            (want, moved),
+            "of {bytes:?} with input {n}"
+        );
     }
 }
 
@@ -46,26 +48,31 @@ fn lent_texts(rt: HostRuntime) {
         let mut cursor = Cursor::new(bytes);
         let read: Result<&str, DeError> = <&str>::from_bytes_with_input(&mut cursor, n);
         let got = read.map_err(|error| refusal_of(&error));
-        assert_eq!(rt; got, want, "of {bytes:?} with input {n}");
-        assert_eq!(rt; cursor.position(), 0, "of {bytes:?} with input {n}");
+        assert_eq!(rt;
+            (got, cursor.position()),
+            (want, 0),
+            "of {bytes:?} with input {n}"
+        );
     }
 }
 
 #[test]
-fn written_texts(rt: HostRuntime) -> Result<(), Fail> {
+fn written_texts(rt: HostRuntime) {
     for (text, want) in [("", b"..\0".as_slice()), ("AAAAA", b"..AAAAA\0")] {
-        let mut buffer = Vec::from_slice(rt.alloc(), b"..")?;
-        text.to_bytes(&mut buffer)?;
+        let mut buffer = Vec::from_slice(rt.alloc(), b"..").expect(&rt, "memory");
+        text.to_bytes(&mut buffer).expect(&rt, "memory");
         assert_eq!(rt; buffer.as_slice(), want, "of {text}");
-        let mut buffer = Vec::from_slice(rt.alloc(), b"..")?;
-        String::from_str(rt.alloc(), text)?.to_bytes(&mut buffer)?;
+        let mut buffer = Vec::from_slice(rt.alloc(), b"..").expect(&rt, "memory");
+        String::from_str(rt.alloc(), text)
+            .expect(&rt, "memory")
+            .to_bytes(&mut buffer)
+            .expect(&rt, "memory");
         assert_eq!(rt; buffer.as_slice(), want, "of {text}, owned");
     }
-    Ok(())
 }
 
 #[test]
-fn sizes(rt: HostRuntime) -> Result<(), Fail> {
+fn sizes(rt: HostRuntime) {
     let text = "AAAA";
     let sizes = (
         text.unpadded_size(),
@@ -73,12 +80,11 @@ fn sizes(rt: HostRuntime) -> Result<(), Fail> {
         text.written_size(),
     );
     assert_eq!(rt; sizes, (5, 8, 5));
-    let owned = String::from_str(rt.alloc(), text)?;
+    let owned = String::from_str(rt.alloc(), text).expect(&rt, "memory");
     let sizes = (
         owned.unpadded_size(),
         owned.padded_size(),
         owned.written_size(),
     );
     assert_eq!(rt; sizes, (5, 8, 5));
-    Ok(())
 }
