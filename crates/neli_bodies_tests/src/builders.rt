@@ -1,12 +1,18 @@
 //! Builders: what they make of their fields, and what is missing.
 
-use neli_attr::{Buffer, BuildError, GenlBuffer, NlattrBuilder, RtBuffer, RtattrBuilder};
+use crate::support::assert_written;
+use neli_attr::{
+    AttrTypeBuilder, Buffer, BuildError, GenlBuffer, NlattrBuilder, RtBuffer, RtattrBuilder,
+};
 use neli_consts::{CtrlAttr, CtrlCmd};
 use neli_consts_rt::{FrAct, RtAddrFamily, RtScope, RtTable, Rtn, Rtprot};
-use neli_consts_rta::{Ifa, Ifla, Nda, Rta, Tca};
+use neli_consts_rta::{Ifla, Rta, RtaType};
 use neli_consts_rtf::{Frf, IfaF, Iff, Ntf, Nud, RtmF, VlanFlags};
 use neli_consts_sys::{CnMsgIdx, CnMsgVal, ProcEventType};
-use neli_genl::{CnMsg, CnMsgBuilder, Genlmsghdr, GenlmsghdrBuilder, ProcEvent, ProcEventHeader};
+use neli_genl::{
+    CnMsg, CnMsgBuilder, CnMsgBuilderError, Genlmsghdr, GenlmsghdrBuilder, ProcEvent,
+    ProcEventHeader,
+};
 use neli_link::{
     IfaddrmsgBuilder, IfinfomsgBuilder, IflaVlanFlags, IflaVlanFlagsBuilder, IflaVlanQosMapping,
     IflaVlanQosMappingBuilder, NdaCacheinfo, NdaCacheinfoBuilder, NdmsgBuilder,
@@ -15,80 +21,73 @@ use neli_route::{FibmsgBuilder, RtgenmsgBuilder, RtmsgBuilder, TcmsgBuilder};
 use neli_wire::{Cursor, FromBytes, FromBytesWithInput, Header, Size, ToBytes};
 use std::alloc::Global;
 use std::process::Abort;
-use std::test::Fail;
-
-fn written<V: ToBytes>(rt: &impl Abort, alloc: Global, value: &V, want: &[u8]) -> Result<(), Fail> {
-    let mut bytes = Vec::new(alloc);
-    value.to_bytes(&mut bytes)?;
-    assert_eq!(rt; bytes.as_slice(), want);
-    assert_eq!(rt; value.written_size(), want.len());
-    Ok(())
-}
 
 #[test]
-fn a_link_set_up(rt: HostRuntime) -> Result<(), Fail> {
+fn a_link_set_up(rt: HostRuntime) {
     let alloc = rt.alloc();
     let up = IfinfomsgBuilder::default()
         .ifi_family(RtAddrFamily::Unspecified)
         .ifi_index(3)
         .up()
-        .build(alloc)?;
-    written(
-        &rt,
-        alloc,
-        &up,
-        &[0, 0, 0, 0, 3, 0, 0, 0, 1, 0, 0, 0, 1, 0, 0, 0],
-    )?;
-    written(
-        &rt,
-        alloc,
-        &up.try_clone()?,
-        &[0, 0, 0, 0, 3, 0, 0, 0, 1, 0, 0, 0, 1, 0, 0, 0],
-    )
+        .build(alloc)
+        .expect(&rt, "a link");
+    let bytes = [0, 0, 0, 0, 3, 0, 0, 0, 1, 0, 0, 0, 1, 0, 0, 0];
+    assert_written(&rt, alloc, "a link", &up, &bytes);
+    let copy = up.try_clone().expect(&rt, "memory");
+    assert_written(&rt, alloc, "its copy", &copy, &bytes);
 }
 
 #[test]
-fn a_link_set_down(rt: HostRuntime) -> Result<(), Fail> {
+fn a_link_set_down(rt: HostRuntime) {
     let alloc = rt.alloc();
     let down = IfinfomsgBuilder::default()
         .ifi_family(RtAddrFamily::Unspecified)
         .ifi_index(3)
         .ifi_flags(Iff::UP | Iff::MULTICAST)
         .down()
-        .build(alloc)?;
-    written(
-        &rt,
-        alloc,
-        &down,
-        &[0, 0, 0, 0, 3, 0, 0, 0, 0, 0x10, 0, 0, 1, 0, 0, 0],
-    )?;
+        .build(alloc)
+        .expect(&rt, "a link");
+    let bytes = [0, 0, 0, 0, 3, 0, 0, 0, 0, 0x10, 0, 0, 1, 0, 0, 0];
+    assert_written(&rt, alloc, "a link", &down, &bytes);
     assert_eq!(rt; *down.ifi_flags(), Iff::MULTICAST);
     assert_eq!(rt; *down.ifi_change(), Iff::UP);
-    Ok(())
+}
+
+/// A list of one routing attribute.
+fn one_attribute<T: RtaType>(
+    rt: &impl Abort,
+    alloc: Global,
+    kind: T,
+    number: u32,
+) -> RtBuffer<T, Buffer> {
+    let attr = RtattrBuilder::default()
+        .rta_type(kind)
+        .rta_payload(number)
+        .build(alloc)
+        .expect(rt, "an attribute");
+    let mut attrs = RtBuffer::new(alloc);
+    attrs.push(attr).expect(rt, "memory");
+    attrs
 }
 
 #[test]
-fn a_link_with_attributes(rt: HostRuntime) -> Result<(), Fail> {
+fn a_link_with_attributes(rt: HostRuntime) {
     let alloc = rt.alloc();
-    let mut attrs = RtBuffer::new(alloc);
-    attrs.push(
-        RtattrBuilder::default()
-            .rta_type(Ifla::Mtu)
-            .rta_payload(1500u32)
-            .build(alloc)?,
-    )?;
     let link = IfinfomsgBuilder::default()
         .ifi_family(RtAddrFamily::Inet)
-        .rtattrs(attrs)
-        .build(alloc)?;
-    let mut want = Vec::from_slice(alloc, &[2u8, 0, 0, 0, 0, 0, 0, 0, 0, 0, 0, 0, 0, 0, 0, 0])?;
-    want.extend_from_slice(&[8, 0, 4, 0, 0xdc, 5, 0, 0])?;
-    written(&rt, alloc, &link, &want)?;
-    written(&rt, alloc, &link.try_clone()?, &want)
+        .rtattrs(one_attribute(&rt, alloc, Ifla::Mtu, 1500))
+        .build(alloc)
+        .expect(&rt, "a link");
+    let bytes = [
+        2u8, 0, 0, 0, 0, 0, 0, 0, 0, 0, 0, 0, 0, 0, 0, 0, 8, 0, 4, 0, 0xdc, 5, 0, 0,
+    ];
+    assert_written(&rt, alloc, "a link", &link, &bytes);
+    let copy = link.try_clone().expect(&rt, "memory");
+    assert_written(&rt, alloc, "its copy", &copy, &bytes);
 }
 
 #[test]
-fn addresses_and_neighbours(rt: HostRuntime) -> Result<(), Fail> {
+fn an_address(rt: HostRuntime) {
     let alloc = rt.alloc();
     let address = IfaddrmsgBuilder::default()
         .ifa_family(RtAddrFamily::Inet6)
@@ -96,77 +95,83 @@ fn addresses_and_neighbours(rt: HostRuntime) -> Result<(), Fail> {
         .ifa_flags(IfaF::PERMANENT)
         .ifa_scope(RtScope::Link)
         .ifa_index(0x0102_0304)
-        .build(alloc)?;
-    written(&rt, alloc, &address, &[10, 64, 0x80, 253, 4, 3, 2, 1])?;
-    written(
-        &rt,
-        alloc,
-        &address.try_clone()?,
-        &[10, 64, 0x80, 253, 4, 3, 2, 1],
-    )?;
+        .build(alloc)
+        .expect(&rt, "an address");
+    let bytes = [10, 64, 0x80, 253, 4, 3, 2, 1];
+    assert_written(&rt, alloc, "an address", &address, &bytes);
+    let copy = address.try_clone().expect(&rt, "memory");
+    assert_written(&rt, alloc, "its copy", &copy, &bytes);
+}
+
+#[test]
+fn a_neighbour(rt: HostRuntime) {
+    let alloc = rt.alloc();
     let neighbour = NdmsgBuilder::default()
         .ndm_family(RtAddrFamily::Inet)
         .ndm_index(-2)
         .ndm_state(Nud::STALE)
         .ndm_flags(Ntf::SELF)
         .ndm_type(Rtn::Unicast)
-        .build(alloc)?;
-    written(
-        &rt,
-        alloc,
-        &neighbour,
-        &[2, 0, 0, 0, 0xfe, 0xff, 0xff, 0xff, 4, 0, 2, 1],
-    )
+        .build(alloc)
+        .expect(&rt, "a neighbour");
+    let bytes = [2, 0, 0, 0, 0xfe, 0xff, 0xff, 0xff, 4, 0, 2, 1];
+    assert_written(&rt, alloc, "a neighbour", &neighbour, &bytes);
 }
 
 #[test]
-fn payloads_of_fixed_size(rt: HostRuntime) -> Result<(), Fail> {
+fn a_cache_entry(rt: HostRuntime) {
     let alloc = rt.alloc();
     let entry = NdaCacheinfoBuilder::default()
         .ndm_confirmed(1)
         .ndm_used(2)
         .ndm_updated(3)
         .ndm_refcnt(4)
-        .build()?;
+        .build()
+        .expect(&rt, "an entry");
     let bytes = [1, 0, 0, 0, 2, 0, 0, 0, 3, 0, 0, 0, 4, 0, 0, 0];
-    written(&rt, alloc, &entry, &bytes)?;
+    assert_written(&rt, alloc, "an entry", &entry, &bytes);
     let mut cursor = Cursor::new(&bytes);
-    let entry = NdaCacheinfo::from_bytes(alloc, &mut cursor)?;
-    assert_eq!(rt;
-        (
-            *entry.ndm_confirmed(),
-            *entry.ndm_refcnt(),
-            cursor.position()
-        ),
-        (1, 4, 16)
+    let entry = NdaCacheinfo::from_bytes(alloc, &mut cursor).expect(&rt, "an entry");
+    let read = (
+        *entry.ndm_confirmed(),
+        *entry.ndm_refcnt(),
+        cursor.position(),
     );
-    let flags = IflaVlanFlagsBuilder::default()
-        .flags(VlanFlags::GVRP)
-        .mask(VlanFlags::GVRP | VlanFlags::MVRP)
-        .build()?;
-    written(&rt, alloc, &flags, &[2, 10])?;
-    let flags = IflaVlanFlags::from_bytes(alloc, &mut Cursor::new(&[0xffu8, 1]))?;
-    written(&rt, alloc, &flags, &[0xff, 1])?;
-    let mapping = IflaVlanQosMappingBuilder::default().from(7).to(3).build()?;
-    written(&rt, alloc, &mapping, &[7, 0, 0, 0, 3, 0, 0, 0])?;
-    let mapping = IflaVlanQosMapping::from_bytes(
-        alloc,
-        &mut Cursor::new(&[1u8, 0, 0, 0, 2, 0, 0, 0, 9]),
-    )?;
-    assert_eq!(rt; (*mapping.from(), *mapping.to()), (1, 2));
-    Ok(())
+    assert_eq!(rt; read, (1, 4, 16));
 }
 
 #[test]
-fn routes_and_rules(rt: HostRuntime) -> Result<(), Fail> {
+fn flags_of_a_vlan(rt: HostRuntime) {
     let alloc = rt.alloc();
-    let mut attrs = RtBuffer::new(alloc);
-    attrs.push(
-        RtattrBuilder::default()
-            .rta_type(Rta::Oif)
-            .rta_payload(3u32)
-            .build(alloc)?,
-    )?;
+    let flags = IflaVlanFlagsBuilder::default()
+        .flags(VlanFlags::GVRP)
+        .mask(VlanFlags::GVRP | VlanFlags::MVRP)
+        .build()
+        .expect(&rt, "flags");
+    assert_written(&rt, alloc, "what is built", &flags, &[2, 10]);
+    let read = IflaVlanFlags::from_bytes(alloc, &mut Cursor::new(&[0xffu8, 1]));
+    let flags = read.expect(&rt, "flags");
+    assert_written(&rt, alloc, "what is read", &flags, &[0xff, 1]);
+}
+
+#[test]
+fn a_priority_of_a_vlan(rt: HostRuntime) {
+    let alloc = rt.alloc();
+    let mapping = IflaVlanQosMappingBuilder::default()
+        .from(7)
+        .to(3)
+        .build()
+        .expect(&rt, "a mapping");
+    let bytes = [7, 0, 0, 0, 3, 0, 0, 0];
+    assert_written(&rt, alloc, "a mapping", &mapping, &bytes);
+    let mut cursor = Cursor::new(&[1u8, 0, 0, 0, 2, 0, 0, 0, 9]);
+    let mapping = IflaVlanQosMapping::from_bytes(alloc, &mut cursor).expect(&rt, "a mapping");
+    assert_eq!(rt; (*mapping.from(), *mapping.to()), (1, 2));
+}
+
+#[test]
+fn a_route(rt: HostRuntime) {
+    let alloc = rt.alloc();
     let route = RtmsgBuilder::default()
         .rtm_family(RtAddrFamily::Inet)
         .rtm_dst_len(24)
@@ -177,13 +182,20 @@ fn routes_and_rules(rt: HostRuntime) -> Result<(), Fail> {
         .rtm_scope(RtScope::Universe)
         .rtm_type(Rtn::Unicast)
         .rtm_flags(RtmF::NOTIFY)
-        .rtattrs(attrs)
-        .build(alloc)?;
+        .rtattrs(one_attribute(&rt, alloc, Rta::Oif, 3))
+        .build(alloc)
+        .expect(&rt, "a route");
     let bytes = [
         2u8, 24, 1, 2, 254, 4, 0, 1, 0, 1, 0, 0, 8, 0, 4, 0, 3, 0, 0, 0,
     ];
-    written(&rt, alloc, &route, &bytes)?;
-    written(&rt, alloc, &route.try_clone()?, &bytes)?;
+    assert_written(&rt, alloc, "a route", &route, &bytes);
+    let copy = route.try_clone().expect(&rt, "memory");
+    assert_written(&rt, alloc, "its copy", &copy, &bytes);
+}
+
+#[test]
+fn a_rule(rt: HostRuntime) {
+    let alloc = rt.alloc();
     let rule = FibmsgBuilder::default()
         .fib_family(RtAddrFamily::Inet)
         .fib_dst_len(8)
@@ -192,16 +204,24 @@ fn routes_and_rules(rt: HostRuntime) -> Result<(), Fail> {
         .fib_table(RtTable::Local)
         .fib_action(FrAct::FrActToTbl)
         .fib_flags(Frf::INVERT)
-        .build(alloc)?;
-    written(&rt, alloc, &rule, &[2, 8, 16, 0, 255, 0, 0, 1, 2, 0, 0, 0])?;
-    let request = RtgenmsgBuilder::default()
-        .rtgen_family(RtAddrFamily::Inet)
-        .build(alloc)?;
-    written(&rt, alloc, &request, &[2, 0, 0, 0])
+        .build(alloc)
+        .expect(&rt, "a rule");
+    let bytes = [2, 8, 16, 0, 255, 0, 0, 1, 2, 0, 0, 0];
+    assert_written(&rt, alloc, "a rule", &rule, &bytes);
 }
 
 #[test]
-fn a_queueing_discipline(rt: HostRuntime) -> Result<(), Fail> {
+fn a_request_by_family(rt: HostRuntime) {
+    let alloc = rt.alloc();
+    let request = RtgenmsgBuilder::default()
+        .rtgen_family(RtAddrFamily::Inet)
+        .build(alloc)
+        .expect(&rt, "a request");
+    assert_written(&rt, alloc, "a request", &request, &[2, 0, 0, 0]);
+}
+
+#[test]
+fn a_queueing_discipline(rt: HostRuntime) {
     let alloc = rt.alloc();
     let queue = TcmsgBuilder::default()
         .tcm_family(0)
@@ -209,138 +229,173 @@ fn a_queueing_discipline(rt: HostRuntime) -> Result<(), Fail> {
         .tcm_handle(0x10000)
         .tcm_parent(0xffff_ffff)
         .tcm_info(2)
-        .build(alloc)?;
+        .build(alloc)
+        .expect(&rt, "a discipline");
     let bytes = [
         0, 0, 0, 0, 0xff, 0xff, 0xff, 0xff, 0, 0, 1, 0, 0xff, 0xff, 0xff, 0xff, 2, 0, 0, 0,
     ];
-    written(&rt, alloc, &queue, &bytes)?;
-    written(&rt, alloc, &queue.try_clone()?, &bytes)
+    assert_written(&rt, alloc, "a discipline", &queue, &bytes);
+    let copy = queue.try_clone().expect(&rt, "memory");
+    assert_written(&rt, alloc, "its copy", &copy, &bytes);
+}
+
+/// The field that a builder names as missing.
+fn missing_of<T: Drop, const OF: u8>(built: Result<T, BuildError<OF>>) -> &'static str {
+    match built {
+        Err(BuildError::UninitializedField(name)) => name,
+        _ => "no field",
+    }
 }
 
 #[test]
-fn missing_fields_are_named_in_order(rt: HostRuntime) -> Result<(), Fail> {
+fn missing_fields_are_named_in_order(rt: HostRuntime) {
     let alloc = rt.alloc();
-    let named = |missing: &str, field: &str| missing == field;
-    let link = IfinfomsgBuilder::default().build(alloc);
-    assert!(rt;
-        matches!(link, Err(BuildError::UninitializedField(name)) if named(name, "ifi_family"))
-    );
-    let address = IfaddrmsgBuilder::default()
-        .ifa_family(RtAddrFamily::Inet)
-        .build(alloc);
-    assert!(rt;
-        matches!(address, Err(BuildError::UninitializedField(name)) if named(name, "ifa_prefixlen"))
-    );
-    let route = RtmsgBuilder::default().rtm_type(Rtn::Unicast).build(alloc);
-    assert!(rt;
-        matches!(route, Err(BuildError::UninitializedField(name)) if named(name, "rtm_family"))
-    );
-    let queue = TcmsgBuilder::default()
-        .tcm_family(0)
-        .tcm_ifindex(1)
-        .build(alloc);
-    assert!(rt;
-        matches!(queue, Err(BuildError::UninitializedField(name)) if named(name, "tcm_handle"))
-    );
-    let entry = NdaCacheinfoBuilder::default().ndm_confirmed(1).build();
-    assert!(rt;
-        matches!(entry, Err(BuildError::UninitializedField(name)) if named(name, "ndm_used"))
-    );
-    let command: Result<Genlmsghdr<u8, u16>, _> = GenlmsghdrBuilder::default().cmd(1).build(alloc);
-    assert!(rt;
-        matches!(command, Err(BuildError::UninitializedField(name)) if named(name, "version"))
-    );
-    let message: Result<CnMsg<Buffer>, _> = CnMsgBuilder::default().val(CnMsgVal::Proc).build();
-    assert!(rt; matches!(message, Err(BuildError::UninitializedField(name)) if named(name, "idx")));
-    Ok(())
+    let link = IfinfomsgBuilder::default();
+    let address = IfaddrmsgBuilder::default().ifa_family(RtAddrFamily::Inet);
+    let route = RtmsgBuilder::default().rtm_type(Rtn::Unicast);
+    let queue = TcmsgBuilder::default().tcm_family(0).tcm_ifindex(1);
+    let rows = [
+        (missing_of(link.build(alloc)), "ifi_family"),
+        (missing_of(address.build(alloc)), "ifa_prefixlen"),
+        (missing_of(route.build(alloc)), "rtm_family"),
+        (missing_of(queue.build(alloc)), "tcm_handle"),
+    ];
+    for (missing, want) in rows {
+        assert_eq!(rt; missing, want);
+    }
 }
 
 #[test]
-fn generic_messages(rt: HostRuntime) -> Result<(), Fail> {
+fn missing_fields_of_generic_messages_are_named(rt: HostRuntime) {
+    let alloc = rt.alloc();
+    let entry = NdaCacheinfoBuilder::default().ndm_confirmed(1);
+    let command: GenlmsghdrBuilder<u8, u16> = GenlmsghdrBuilder::default().cmd(1);
+    let message: CnMsgBuilder<Buffer> = CnMsgBuilder::default().val(CnMsgVal::Proc);
+    let rows = [
+        (missing_of(entry.build()), "ndm_used"),
+        (missing_of(command.build(alloc)), "version"),
+        (missing_of(message.build()), "idx"),
+    ];
+    for (missing, want) in rows {
+        assert_eq!(rt; missing, want);
+    }
+}
+
+#[test]
+fn a_generic_message_with_a_header(rt: HostRuntime) {
     let alloc = rt.alloc();
     let message: Genlmsghdr<CtrlCmd, u16, u32> = GenlmsghdrBuilder::default()
         .cmd(CtrlCmd::Newfamily)
         .version(1)
         .header(7)
-        .build_with_header(alloc)?;
-    written(&rt, alloc, &message, &[1, 1, 0, 0, 7, 0, 0, 0])?;
-    written(&rt, alloc, &message.try_clone()?, &[1, 1, 0, 0, 7, 0, 0, 0])?;
+        .build_with_header(alloc)
+        .expect(&rt, "a message");
+    let bytes = [1, 1, 0, 0, 7, 0, 0, 0];
+    assert_written(&rt, alloc, "a message", &message, &bytes);
+    let copy = message.try_clone().expect(&rt, "memory");
+    assert_written(&rt, alloc, "its copy", &copy, &bytes);
     assert_eq!(rt; <Genlmsghdr<CtrlCmd, u16, u32> as Header>::header_size(), 8);
+}
+
+#[test]
+fn a_generic_message_with_a_header_of_two_bytes(rt: HostRuntime) {
     let short: Result<Genlmsghdr<CtrlCmd, u16, u16>, _> = GenlmsghdrBuilder::default()
         .cmd(CtrlCmd::Newfamily)
         .version(1)
         .header(7)
-        .build_with_header(alloc);
+        .build_with_header(rt.alloc());
     assert!(rt;
         matches!(
             short,
             Err(BuildError::ValidationError("Header size is not a multiple of four"))
         )
     );
+}
+
+/// A list of the name `nlctrl`.
+fn name_of_a_family(rt: &impl Abort, alloc: Global) -> GenlBuffer<CtrlAttr, Buffer> {
+    let kind = AttrTypeBuilder::default()
+        .nla_type(CtrlAttr::FamilyName)
+        .build()
+        .expect(rt, "a type");
+    let name = NlattrBuilder::default()
+        .nla_type(kind)
+        .nla_payload("nlctrl")
+        .build(alloc)
+        .expect(rt, "a name");
     let mut attrs = GenlBuffer::new(alloc);
-    attrs.push(
-        NlattrBuilder::default()
-            .nla_type(
-                neli_attr::AttrTypeBuilder::default()
-                    .nla_type(CtrlAttr::FamilyName)
-                    .build()?,
-            )
-            .nla_payload("nlctrl")
-            .build(alloc)?,
-    )?;
-    let request: Genlmsghdr<CtrlCmd, CtrlAttr> = GenlmsghdrBuilder::default()
-        .cmd(CtrlCmd::Getfamily)
-        .version(2)
-        .attrs(attrs)
-        .build(alloc)?;
-    let bytes = [
-        3u8, 2, 0, 0, 0x0b, 0, 2, 0, 0x6e, 0x6c, 0x63, 0x74, 0x72, 0x6c, 0, 0,
-    ];
-    written(&rt, alloc, &request, &bytes)?;
-    let again: Genlmsghdr<CtrlCmd, CtrlAttr> = Genlmsghdr::from_bytes_with_input(
-        alloc,
-        &mut Cursor::new(&bytes),
-        16,
-    )?;
-    assert_eq!(rt; again, request);
-    Ok(())
+    attrs.push(name).expect(rt, "memory");
+    attrs
 }
 
 #[test]
-fn lengths_of_connector_messages(rt: HostRuntime) -> Result<(), Fail> {
+fn a_generic_message_with_attributes(rt: HostRuntime) {
     let alloc = rt.alloc();
-    let mut bytes = Vec::new(alloc);
-    for _ in 0..65535 {
-        bytes.push(0x5au8)?;
-    }
-    let message = CnMsgBuilder::default()
+    let request: Genlmsghdr<CtrlCmd, CtrlAttr> = GenlmsghdrBuilder::default()
+        .cmd(CtrlCmd::Getfamily)
+        .version(2)
+        .attrs(name_of_a_family(&rt, alloc))
+        .build(alloc)
+        .expect(&rt, "a request");
+    let bytes = [
+        3u8, 2, 0, 0, 0x0b, 0, 2, 0, 0x6e, 0x6c, 0x63, 0x74, 0x72, 0x6c, 0, 0,
+    ];
+    assert_written(&rt, alloc, "a request", &request, &bytes);
+    let read = Genlmsghdr::from_bytes_with_input(alloc, &mut Cursor::new(&bytes), 16);
+    let again: Genlmsghdr<CtrlCmd, CtrlAttr> = read.expect(&rt, "a request");
+    assert_eq!(rt; again, request);
+}
+
+/// A connector message of so many bytes, or why there is none.
+fn connector(
+    rt: &impl Abort,
+    alloc: Global,
+    count: usize,
+) -> Result<CnMsg<Buffer>, CnMsgBuilderError> {
+    let bytes = vec![in alloc; 0x5au8; count].expect(rt, "memory");
+    CnMsgBuilder::default()
         .idx(CnMsgIdx::Proc)
         .val(CnMsgVal::Proc)
-        .payload(Buffer::from_slice(alloc, &bytes)?)
-        .build()?;
+        .payload(Buffer::from(bytes))
+        .build()
+}
+
+#[test]
+fn lengths_of_connector_messages(rt: HostRuntime) {
+    let message = connector(&rt, rt.alloc(), 65535).expect(&rt, "a message");
     assert_eq!(rt; (*message.len(), message.written_size()), (65535, 65555));
-    bytes.push(0)?;
-    let long = CnMsgBuilder::default()
-        .idx(CnMsgIdx::Proc)
-        .val(CnMsgVal::Proc)
-        .payload(Buffer::from_slice(alloc, &bytes)?)
-        .build();
+    let long = connector(&rt, rt.alloc(), 65536);
     assert!(rt;
         matches!(
             long,
             Err(BuildError::ValidationError("Length does not fit its field"))
         )
     );
-    Ok(())
 }
 
+/// The bytes of a process event.
+fn bytes_of(rt: &impl Abort, alloc: Global, event: &ProcEventHeader) -> Vec<u8> {
+    let mut bytes = Vec::new(alloc);
+    event.to_bytes(&mut bytes).expect(rt, "memory");
+    bytes
+}
+
+/// The process event that 40 bytes spell.
+fn event_of(rt: &impl Abort, alloc: Global, bytes: &[u8]) -> ProcEventHeader {
+    ProcEventHeader::from_bytes_with_input(alloc, &mut Cursor::new(bytes), 40).expect(
+        rt, "an event",
+    )
+}
+
+/// Exits, each by its code, with the type that it has and the four bytes that it starts with.
+const EXITS: [(u32, ProcEventType, [u8; 4]); 2] = [
+    (256, ProcEventType::NonzeroExit, [0, 0, 0, 0x20]),
+    (0, ProcEventType::Exit, [0, 0, 0, 0x80]),
+];
+
 #[test]
-fn exits_by_their_codes(rt: HostRuntime) -> Result<(), Fail> {
-    let alloc = rt.alloc();
-    for (exit_code, kind, first) in [
-        (256, ProcEventType::NonzeroExit, [0u8, 0, 0, 0x20]),
-        (0, ProcEventType::Exit, [0, 0, 0, 0x80]),
-    ] {
+fn exits_by_their_codes(rt: HostRuntime) {
+    for (exit_code, kind, first) in EXITS {
         let event = ProcEvent::Exit {
             process_pid: 1,
             process_tgid: 1,
@@ -350,27 +405,29 @@ fn exits_by_their_codes(rt: HostRuntime) -> Result<(), Fail> {
             parent_tgid: 2,
         };
         assert_eq!(rt; ProcEventType::from(&event), kind);
-        assert_eq!(rt; event.unpadded_size(), 24);
+        assert_eq!(rt; event.unpadded_size(), 24, "code {exit_code}");
         let header = ProcEventHeader {
             cpu: 0,
             timestamp_ns: 1,
             event,
         };
-        let mut bytes = Vec::new(alloc);
-        header.to_bytes(&mut bytes)?;
-        assert_eq!(rt; &bytes[..4], first.as_slice());
-        assert_eq!(rt; (bytes.len(), header.written_size()), (40, 40));
-        let again = ProcEventHeader::from_bytes_with_input(alloc, &mut Cursor::new(&bytes), 40)?;
+        let bytes = bytes_of(&rt, rt.alloc(), &header);
+        assert_eq!(rt; bytes.get(..4), Some(first.as_slice()), "code {exit_code}");
+        assert_eq!(rt;
+            (bytes.len(), header.written_size()),
+            (40, 40),
+            "code {exit_code}"
+        );
+        let again = event_of(&rt, rt.alloc(), &bytes);
         assert!(rt;
-            matches!(again.event, ProcEvent::Exit { exit_code: code, .. } if code == exit_code)
+            matches!(again.event, ProcEvent::Exit { exit_code: code, .. } if code == exit_code),
+            "code {exit_code}"
         );
     }
-    Ok(())
 }
 
 #[test]
-fn a_name_of_a_thread(rt: HostRuntime) -> Result<(), Fail> {
-    let alloc = rt.alloc();
+fn a_name_of_a_thread(rt: HostRuntime) {
     let comm = *b"0123456789abcde\0";
     let header = ProcEventHeader {
         cpu: 2,
@@ -381,13 +438,11 @@ fn a_name_of_a_thread(rt: HostRuntime) -> Result<(), Fail> {
             comm,
         },
     };
-    let mut bytes = Vec::new(alloc);
-    header.to_bytes(&mut bytes)?;
+    let bytes = bytes_of(&rt, rt.alloc(), &header);
     assert_eq!(rt; bytes.len(), 40);
-    assert_eq!(rt; &bytes[24..], comm.as_slice());
-    let again = ProcEventHeader::from_bytes_with_input(alloc, &mut Cursor::new(&bytes), 40)?;
+    assert_eq!(rt; bytes.get(24..), Some(comm.as_slice()));
+    let again = event_of(&rt, rt.alloc(), &bytes);
     assert!(rt;
         matches!(again.event, ProcEvent::Comm { process_tgid: 6, comm: name, .. } if name == comm)
     );
-    Ok(())
 }

@@ -1,164 +1,194 @@
 //! Bodies that are cut: each worked example at each length, with the refusal that it has there and the
 //! cursor where it was.
 
+use crate::support::recorded;
 use neli_attr::Buffer;
 use neli_consts_sys::{CnMsgIdx, CnMsgVal};
 use neli_genl::{CnMsg, Genlmsghdr, ProcEvent, ProcEventHeader};
 use neli_link::{Ifaddrmsg, Ifinfomsg, NdaCacheinfo, Ndmsg};
 use neli_route::{Fibmsg, Rtgenmsg, Rtmsg, Tcmsg};
-use neli_wire::{Cursor, DeError, FromBytes, FromBytesWithInput, ToBytes};
+use neli_wire::{Cursor, DeError, FromBytes, FromBytesWithInput, Size, ToBytes};
 use std::alloc::Global;
 use std::io::ErrorKind;
 use std::process::Abort;
-use std::test::Fail;
 
 const EXEC: [u8; 44] = [
     1, 0, 0, 0, 1, 0, 0, 0, 0x83, 2, 0, 0, 0, 0, 0, 0, 0x28, 0, 0, 0, 2, 0, 0, 0, 1, 0, 0, 0, 0xb8,
     0x34, 0x54, 0x19, 0x47, 2, 0, 0, 0x7f, 0x16, 0, 0, 0x7f, 0x16, 0, 0,
 ];
 
-// A process event, and what is read of it cut to `k` bytes.
+/// Asserts that a read with input `n` is refused with `InvalidInput` of `want`, and that the cursor stays.
+fn assert_refused<B: FromBytesWithInput>(
+    rt: &impl Abort,
+    alloc: Global,
+    what: &str,
+    bytes: &[u8],
+    n: usize,
+    want: usize,
+) {
+    let mut cursor = Cursor::new(bytes);
+    let refused = B::from_bytes_with_input(alloc, &mut cursor, n);
+    assert!(rt;
+        matches!(refused, Err(DeError::InvalidInput(k)) if k == want),
+        "{what} of {} bytes with input {n}",
+        bytes.len()
+    );
+    assert_eq!(rt;
+        cursor.position(),
+        0,
+        "{what} of {} bytes with input {n}",
+        bytes.len()
+    );
+}
+
+/// Asserts that the first k bytes, read with input k, are refused with `InvalidInput` of `want`; and with
+/// that number where the input is k + 1.
+fn cut<B: FromBytesWithInput>(
+    rt: &impl Abort,
+    alloc: Global,
+    what: &str,
+    bytes: &[u8],
+    k: usize,
+    want: usize,
+) {
+    assert!(rt; k < bytes.len(), "nothing is cut off of {what} at {k}");
+    assert_refused::<B>(rt, alloc, what, &bytes[..k], k, want);
+    assert_refused::<B>(rt, alloc, what, &bytes[..k], k + 1, k + 1);
+}
+
 #[test]
-fn a_process_event(rt: HostRuntime) -> Result<(), Fail> {
+fn a_process_event(rt: HostRuntime) {
     let alloc = rt.alloc();
     let mut cursor = Cursor::new(&EXEC);
-    let m: CnMsg<ProcEventHeader> = CnMsg::from_bytes_with_input(alloc, &mut cursor, 44)?;
+    let read = CnMsg::from_bytes_with_input(alloc, &mut cursor, 44);
+    let m: CnMsg<ProcEventHeader> = read.expect(&rt, "a message");
     assert_eq!(rt;
         (*m.idx(), *m.val(), *m.seq(), *m.len()),
         (CnMsgIdx::Proc, CnMsgVal::Proc, 643, 40)
     );
-    assert_eq!(rt;
-        (m.payload().cpu, m.payload().timestamp_ns),
-        (1, 2504390882488)
-    );
+    let event = m.payload();
+    assert_eq!(rt; (event.cpu, event.timestamp_ns), (1, 2504390882488));
     assert!(rt;
         matches!(
-            m.payload().event,
+            event.event,
             ProcEvent::Exec {
                 process_pid: 5759,
                 process_tgid: 5759
             }
         )
     );
-    let mut written = Vec::new(alloc);
-    m.to_bytes(&mut written)?;
-    assert_eq!(rt; written.as_slice(), EXEC.as_slice());
-    for k in 0..44 {
-        let want = if k < 20 { k } else { k - 20 };
-        cut::<CnMsg<ProcEventHeader>>(&rt, alloc, &EXEC, k, want)?;
-    }
-    let m: CnMsg<Buffer> = CnMsg::from_bytes_with_input(alloc, &mut Cursor::new(&EXEC), 44)?;
-    assert_eq!(rt; m.payload().len(), 24);
-    Ok(())
-}
-
-// The first k bytes, read with input k, are refused with `InvalidInput` of `want`; so they are where the
-// input is k + 1, with that number.
-fn cut<B: FromBytesWithInput>(
-    rt: &impl Abort,
-    alloc: Global,
-    bytes: &[u8],
-    k: usize,
-    want: usize,
-) -> Result<(), Fail> {
-    if k >= bytes.len() {
-        return Err(Fail::new("nothing is cut off"));
-    }
-    let mut cursor = Cursor::new(&bytes[..k]);
-    let refused = B::from_bytes_with_input(alloc, &mut cursor, k);
-    assert!(rt;
-        matches!(refused, Err(DeError::InvalidInput(n)) if n == want),
-        "cut to {k}"
-    );
-    assert_eq!(rt; cursor.position(), 0, "cut to {k}");
-    let past = B::from_bytes_with_input(alloc, &mut cursor, k + 1);
-    assert!(rt;
-        matches!(past, Err(DeError::InvalidInput(n)) if n == k + 1),
-        "cut to {k}"
-    );
-    assert_eq!(rt; cursor.position(), 0, "cut to {k}");
-    Ok(())
-}
-
-// A header of `size` bytes and an attribute of 8: cut in the header, after it, and in the attribute.
-fn cuts<B: FromBytesWithInput>(rt: &impl Abort, alloc: Global, size: u8) -> Result<(), Fail> {
-    let size = usize::from(size);
-    let mut bytes = Vec::new(alloc);
-    for _ in 0..size {
-        bytes.push(0x77u8)?;
-    }
-    bytes.extend_from_slice(&[8, 0, 1, 0, 1, 2, 3, 4])?;
-    for k in 0..size {
-        cut::<B>(rt, alloc, &bytes, k, k)?;
-    }
-    for k in size + 1..size + 4 {
-        cut::<B>(rt, alloc, &bytes, k, k - size)?;
-    }
-    // The attribute states 4 bytes of payload that are not there.
-    for k in size + 4..size + 8 {
-        cut::<B>(rt, alloc, &bytes, k, 4)?;
-    }
-    for k in [size, size + 8] {
-        let mut cursor = Cursor::new(&bytes);
-        let read = B::from_bytes_with_input(alloc, &mut cursor, k);
-        assert!(rt; read.is_ok(), "cut to {k}");
-        assert_eq!(rt; cursor.position(), k, "cut to {k}");
-    }
-    Ok(())
 }
 
 #[test]
-fn bodies_with_attributes(rt: HostRuntime) -> Result<(), Fail> {
+fn a_process_event_written_again(rt: HostRuntime) {
     let alloc = rt.alloc();
-    cuts::<Ifinfomsg>(&rt, alloc, 16)?;
-    cuts::<Ifaddrmsg>(&rt, alloc, 8)?;
-    cuts::<Ndmsg>(&rt, alloc, 12)?;
-    cuts::<Rtmsg>(&rt, alloc, 12)?;
-    cuts::<Tcmsg>(&rt, alloc, 20)?;
-    cuts::<Fibmsg>(&rt, alloc, 12)?;
-    cuts::<Rtgenmsg>(&rt, alloc, 4)?;
-    cuts::<Genlmsghdr<u8, u16>>(&rt, alloc, 4)?;
-    cuts::<Genlmsghdr<u8, u16, u32>>(&rt, alloc, 8)
+    let mut cursor = Cursor::new(&EXEC);
+    let read = CnMsg::from_bytes_with_input(alloc, &mut cursor, 44);
+    let m: CnMsg<ProcEventHeader> = read.expect(&rt, "a message");
+    let mut written = Vec::new(alloc);
+    m.to_bytes(&mut written).expect(&rt, "memory");
+    assert_eq!(rt; written.as_slice(), EXEC.as_slice());
+}
+
+// What is read of a process event that is cut to `k` bytes.
+#[test]
+fn a_process_event_that_is_cut(rt: HostRuntime) {
+    for k in 0..44 {
+        let want = if k < 20 { k } else { k - 20 };
+        cut::<CnMsg<ProcEventHeader>>(&rt, rt.alloc(), "an event", &EXEC, k, want);
+    }
+}
+
+// The payload is what the input leaves of it, whatever the header states.
+#[test]
+fn a_process_event_as_bytes(rt: HostRuntime) {
+    let read = CnMsg::from_bytes_with_input(rt.alloc(), &mut Cursor::new(&EXEC), 44);
+    let m: CnMsg<Buffer> = read.expect(&rt, "a message");
+    assert_eq!(rt; m.payload().len(), 24);
+}
+
+/// A header of `size` bytes and an attribute of 8.
+fn header_and_attribute(rt: &impl Abort, alloc: Global, size: u8) -> Vec<u8> {
+    let mut bytes = Vec::new(alloc);
+    for _ in 0..size {
+        bytes.push(0x77u8).expect(rt, "memory");
+    }
+    bytes
+        .extend_from_slice(&[8, 0, 1, 0, 1, 2, 3, 4])
+        .expect(rt, "memory");
+    bytes
+}
+
+/// Asserts that `k` bytes are read, and that the cursor moves past them.
+fn assert_read<B: FromBytesWithInput>(
+    rt: &impl Abort,
+    alloc: Global,
+    what: &str,
+    bytes: &[u8],
+    k: usize,
+) {
+    let mut cursor = Cursor::new(bytes);
+    let is_read = B::from_bytes_with_input(alloc, &mut cursor, k).is_ok();
+    assert_eq!(rt;
+        (is_read, cursor.position()),
+        (true, k),
+        "{what} cut to {k}"
+    );
+}
+
+/// A header of `size` bytes and an attribute of 8: cut in the header, after it, and in the attribute.
+fn cuts<B: FromBytesWithInput>(rt: &impl Abort, alloc: Global, what: &str, size: u8) {
+    let bytes = header_and_attribute(rt, alloc, size);
+    let size = usize::from(size);
+    for k in 0..size {
+        cut::<B>(rt, alloc, what, &bytes, k, k);
+    }
+    for k in size + 1..size + 4 {
+        cut::<B>(rt, alloc, what, &bytes, k, k - size);
+    }
+    // The attribute states 4 bytes of payload that are not there.
+    for k in size + 4..size + 8 {
+        cut::<B>(rt, alloc, what, &bytes, k, 4);
+    }
+    assert_read::<B>(rt, alloc, what, &bytes, size);
+    assert_read::<B>(rt, alloc, what, &bytes, size + 8);
+}
+
+#[test]
+fn bodies_with_attributes(rt: HostRuntime) {
+    let alloc = rt.alloc();
+    cuts::<Ifinfomsg>(&rt, alloc, "Ifinfomsg", 16);
+    cuts::<Ifaddrmsg>(&rt, alloc, "Ifaddrmsg", 8);
+    cuts::<Ndmsg>(&rt, alloc, "Ndmsg", 12);
+    cuts::<Rtmsg>(&rt, alloc, "Rtmsg", 12);
+    cuts::<Tcmsg>(&rt, alloc, "Tcmsg", 20);
+    cuts::<Fibmsg>(&rt, alloc, "Fibmsg", 12);
+    cuts::<Rtgenmsg>(&rt, alloc, "Rtgenmsg", 4);
+    cuts::<Genlmsghdr<u8, u16>>(&rt, alloc, "Genlmsghdr", 4);
+    cuts::<Genlmsghdr<u8, u16, u32>>(&rt, alloc, "Genlmsghdr of a family", 8);
 }
 
 // Bytes without a meaning are kept.
 #[test]
-fn skipped_bytes_are_written_as_they_were(rt: HostRuntime) -> Result<(), Fail> {
+fn skipped_bytes_are_written_as_they_were(rt: HostRuntime) {
     let alloc = rt.alloc();
-    let bytes = [9u8, 8, 7, 6];
-    let m = Rtgenmsg::from_bytes_with_input(alloc, &mut Cursor::new(&bytes), 4)?;
-    let mut written = Vec::new(alloc);
-    m.to_bytes(&mut written)?;
-    assert_eq!(rt; written.as_slice(), bytes.as_slice());
-    let m: Genlmsghdr<u8, u16> = Genlmsghdr::from_bytes_with_input(
-        alloc,
-        &mut Cursor::new(&bytes),
-        4,
-    )?;
-    m.to_bytes(&mut written)?;
-    assert_eq!(rt; &written[4..], bytes.as_slice());
-    Ok(())
+    let _request: Rtgenmsg = recorded(&rt, alloc, "Rtgenmsg", "09080706");
+    let _command: Genlmsghdr<u8, u16> = recorded(&rt, alloc, "Genlmsghdr", "09080706");
 }
 
 // A family's own header that is no multiple of four is refused whatever the bytes are.
 #[test]
-fn a_header_of_two_bytes(rt: HostRuntime) -> Result<(), Fail> {
-    let alloc = rt.alloc();
-    let bytes = [1u8, 1, 0, 0, 7, 0];
-    for k in 0..7 {
-        let mut cursor = Cursor::new(&bytes);
-        let read: Result<Genlmsghdr<u8, u16, u16>, DeError> = Genlmsghdr::from_bytes_with_input(
-            alloc,
-            &mut cursor,
-            k,
+fn a_header_of_two_bytes(rt: HostRuntime) {
+    for n in 0..7 {
+        assert_refused::<Genlmsghdr<u8, u16, u16>>(
+            &rt,
+            rt.alloc(),
+            "Genlmsghdr",
+            &[1, 1, 0, 0, 7, 0],
+            n,
+            n,
         );
-        assert!(rt;
-            matches!(read, Err(DeError::InvalidInput(n)) if n == k),
-            "input {k}"
-        );
-        assert_eq!(rt; cursor.position(), 0, "input {k}");
     }
-    Ok(())
 }
 
 #[test]
@@ -177,57 +207,52 @@ fn payloads_of_fixed_size(rt: HostRuntime) {
 }
 
 #[test]
-fn an_event_without_a_name(rt: HostRuntime) -> Result<(), Fail> {
+fn an_event_without_a_name(rt: HostRuntime) {
     let alloc = rt.alloc();
     let bytes = [3u8, 0, 0, 0, 0, 0, 0, 0, 0, 0, 0, 0, 0, 0, 0, 0];
     let mut cursor = Cursor::new(&bytes);
-    match ProcEventHeader::from_bytes_with_input(alloc, &mut cursor, 16) {
+    let read = ProcEventHeader::from_bytes_with_input(alloc, &mut cursor, 16);
+    match read {
         Err(DeError::Msg(text)) => assert_eq!(rt;
-            text.to_string(alloc)?.as_str(),
+            text.to_string(alloc).expect(&rt, "memory").as_str(),
             "Unrecognized Proc event type: 3 (raw value: 3)"
         ),
-        _ => return Err(Fail::new("an event without a name is read")),
+        _ => assert!(rt; false, "an event without a name is read"),
     }
     assert_eq!(rt; cursor.position(), 0);
     // Before the event's header is there, its type is not looked at.
-    let short = ProcEventHeader::from_bytes_with_input(alloc, &mut cursor, 15);
-    assert!(rt; matches!(short, Err(DeError::InvalidInput(15))));
-    Ok(())
+    assert_refused::<ProcEventHeader>(&rt, alloc, "an event", &bytes, 15, 15);
 }
+
+/// The events of the kernel's linux/cn_proc.h: the name, the number, and how many bytes each has.
+const EVENTS: [(&str, u32, u8); 11] = [
+    ("PROC_EVENT_NONE", 0, 4),
+    ("PROC_EVENT_FORK", 1, 16),
+    ("PROC_EVENT_EXEC", 2, 8),
+    ("PROC_EVENT_UID", 4, 16),
+    ("PROC_EVENT_GID", 0x40, 16),
+    ("PROC_EVENT_SID", 0x80, 8),
+    ("PROC_EVENT_PTRACE", 0x100, 16),
+    ("PROC_EVENT_COMM", 0x200, 24),
+    ("PROC_EVENT_COREDUMP", 0x4000_0000, 16),
+    ("PROC_EVENT_EXIT", 0x8000_0000, 24),
+    ("PROC_EVENT_NONZERO_EXIT", 0x2000_0000, 24),
+];
 
 // Each event past its input: 16 bytes of header, and all but the last byte of the event.
 #[test]
-fn events_past_their_input(rt: HostRuntime) -> Result<(), Fail> {
+fn events_past_their_input(rt: HostRuntime) {
     let alloc = rt.alloc();
-    for (kind, size) in [
-        (0u32, 4u8),
-        (1, 16),
-        (2, 8),
-        (4, 16),
-        (0x40, 16),
-        (0x80, 8),
-        (0x100, 16),
-        (0x200, 24),
-        (0x4000_0000, 16),
-        (0x8000_0000, 24),
-        (0x2000_0000, 24),
-    ] {
+    for (name, kind, size) in EVENTS {
         let end = 16 + usize::from(size);
         let mut bytes = [0u8; 40];
         bytes[..4].copy_from_slice(&kind.to_le_bytes());
         for n in 0..end {
-            let mut cursor = Cursor::new(&bytes);
-            let short = ProcEventHeader::from_bytes_with_input(alloc, &mut cursor, n);
-            assert!(rt;
-                matches!(short, Err(DeError::InvalidInput(k)) if k == n),
-                "{kind} cut to {n}"
-            );
-            assert_eq!(rt; cursor.position(), 0, "{kind} cut to {n}");
+            assert_refused::<ProcEventHeader>(&rt, alloc, name, &bytes, n, n);
         }
         let mut cursor = Cursor::new(&bytes);
-        let event = ProcEventHeader::from_bytes_with_input(alloc, &mut cursor, 40)?;
-        assert_eq!(rt; cursor.position(), 40, "{kind}");
-        assert_eq!(rt; neli_wire::Size::written_size(&event), end, "{kind}");
+        let read = ProcEventHeader::from_bytes_with_input(alloc, &mut cursor, 40);
+        assert_eq!(rt; cursor.position(), 40, "{name}");
+        assert_eq!(rt; read.expect(&rt, name).written_size(), end, "{name}");
     }
-    Ok(())
 }

@@ -1,61 +1,56 @@
 //! Recorded messages of generic netlink's controller and of the connector: the fields that other readers
 //! find in each, and the same bytes when they are written again.
 
+use crate::support::{Row, assert_written, recorded};
 use neli_attr::Buffer;
 use neli_consts::{CtrlAttr, CtrlCmd};
 use neli_consts_sys::{CnMsgIdx, CnMsgVal, ProcEventType};
 use neli_genl::{CnMsg, Genlmsghdr, ProcEvent, ProcEventHeader};
-use neli_wire::{Constant, Cursor, FromBytesWithInput, Size, ToBytes};
-use std::test::Fail;
+use neli_wire::{Constant, Cursor, FromBytesWithInput, Size};
+use std::alloc::Global;
+use std::process::Abort;
 
-// The fields are those that pyroute2 reads.
+/// Messages of the controller, with the fields that pyroute2 reads.
+const CONTROLLER: [Row<(u8, u8)>; 3] = [
+    (
+        "0888 message 1",
+        "0a0200000600010010000000100009800c0000800800020001000000",
+        (10, 2),
+        2,
+    ),
+    (
+        "0821",
+        "01020000100002007463705f6d65747269637300060001001b000000080003000100000008000400\
+        00000000080005000d0000002c000600140001000800010001000000080002000e00000014000200\
+        0800010002000000080002000b000000",
+        (1, 2),
+        6,
+    ),
+    (
+        "0830",
+        "010200000b0002006e6c6374726c0000060001001000000008000300020000000800040000000000\
+        08000500000000002c000600140001000800010003000000080002000e0000001400020008000100\
+        0a000000080002000c0000001c0007001800010008000200100000000b0001006e6f746966790000",
+        (1, 2),
+        7,
+    ),
+];
+
 #[test]
-fn controller(rt: HostRuntime) -> Result<(), Fail> {
-    let alloc = rt.alloc();
-    for (label, hex, fields, attributes) in [
-        (
-            "0888 message 1",
-            "0a0200000600010010000000100009800c0000800800020001000000",
-            (10, 2),
-            2,
-        ),
-        (
-            "0821",
-            "01020000100002007463705f6d65747269637300060001001b000000080003000100000008000400\
-            00000000080005000d0000002c000600140001000800010001000000080002000e00000014000200\
-            0800010002000000080002000b000000",
-            (1, 2),
-            6,
-        ),
-        (
-            "0830",
-            "010200000b0002006e6c6374726c0000060001001000000008000300020000000800040000000000\
-            08000500000000002c000600140001000800010003000000080002000e0000001400020008000100\
-            0a000000080002000c0000001c0007001800010008000200100000000b0001006e6f746966790000",
-            (1, 2),
-            7,
-        ),
-    ] {
-        let bytes = hex::decode(alloc, hex)?;
-        let mut cursor = Cursor::new(&bytes);
-        let m: Genlmsghdr<CtrlCmd, CtrlAttr> = Genlmsghdr::from_bytes_with_input(
-            alloc,
-            &mut cursor,
-            bytes.len(),
-        )?;
+fn controller(rt: HostRuntime) {
+    for (label, digits, fields, attributes) in CONTROLLER {
+        let m: Genlmsghdr<CtrlCmd, CtrlAttr> = recorded(&rt, rt.alloc(), label, digits);
         assert_eq!(rt; (m.cmd().to_wire(), *m.version()), fields, "{label}");
         assert_eq!(rt; m.attrs().len(), attributes, "{label}");
-        assert_eq!(rt; cursor.position(), bytes.len(), "{label}");
-        assert_eq!(rt; m.written_size(), bytes.len(), "{label}");
-        let mut written = Vec::new(alloc);
-        m.to_bytes(&mut written)?;
-        assert_eq!(rt; written.as_slice(), bytes.as_slice(), "{label}");
     }
-    Ok(())
 }
 
-// Connector messages as they came after the message's header: the number of each and the bytes of its event.
-const EVENTS: [(&str, &str, u32, u32, u64); 7] = [
+/// A message of the connector: where it stands, its bytes as hexadecimal digits, its sequence number, and the
+/// processor and the time of its event.
+type Event = (&'static str, &'static str, u32, u32, u64);
+
+// Connector messages as they came after the message's header.
+const EVENTS: [Event; 7] = [
     (
         "1067, child that ends",
         "010000000100000010000000000000002800000001000000010000003863689e370200004b430000\
@@ -114,9 +109,11 @@ const EVENTS: [(&str, &str, u32, u32, u64); 7] = [
     ),
 ];
 
-// What the events hold, by the layout of the kernel's struct: the type that they are written with, their
-// fields, and how many bytes the event takes.
-const HELD: [(u32, &str, u8); 7] = [
+/// What an event holds: the type that it is written with, its fields, and how many bytes it takes.
+type Held = (u32, &'static str, u8);
+
+// What the events hold, by the layout of the kernel's struct.
+const HELD: [Held; 7] = [
     (
         0x1,
         "Fork { parent_pid: 17227, parent_tgid: 17227, child_pid: 17248, child_tgid: 17248 }",
@@ -152,78 +149,87 @@ const HELD: [(u32, &str, u8); 7] = [
     ),
 ];
 
-// The bytes from one place to another.
-fn part(bytes: &[u8], from: usize, to: usize) -> Result<&[u8], Fail> {
-    if from <= to && to <= bytes.len() {
-        Ok(&bytes[from..to])
-    } else {
-        Err(Fail::new("bytes are missing"))
-    }
+/// The message that all of the bytes spell.
+fn message_of(rt: &impl Abort, alloc: Global, label: &str, bytes: &[u8]) -> CnMsg<ProcEventHeader> {
+    let mut cursor = Cursor::new(bytes);
+    let read = CnMsg::from_bytes_with_input(alloc, &mut cursor, bytes.len());
+    assert_eq!(rt; cursor.position(), bytes.len(), "{label}");
+    read.expect(rt, label)
 }
 
+/// Asserts the fields of the message and of its event's header.
+fn assert_fields(rt: &impl Abort, m: &CnMsg<ProcEventHeader>, row: Event) {
+    let (label, _, seq, cpu, time) = row;
+    let to = (*m.idx(), *m.val());
+    assert_eq!(rt; to, (CnMsgIdx::Proc, CnMsgVal::Proc), "{label}");
+    let fields = (*m.seq(), *m.ack(), *m.len(), *m.flags());
+    assert_eq!(rt; fields, (seq, 0, 40, 0), "{label}");
+    let event = m.payload();
+    assert_eq!(rt; (event.cpu, event.timestamp_ns), (cpu, time), "{label}");
+}
+
+/// Asserts what the event holds.
+fn assert_held(rt: &impl Abort, alloc: Global, label: &str, event: &ProcEventHeader, held: Held) {
+    let (kind, fields, size) = held;
+    let text = format!(in alloc; "{:?}", event.event).expect(rt, "memory");
+    assert_eq!(rt; text.as_str(), fields, "{label}");
+    assert_eq!(rt;
+        ProcEventType::from(&event.event).to_wire(),
+        kind,
+        "{label}"
+    );
+    assert_eq!(rt; event.written_size(), 16 + usize::from(size), "{label}");
+}
+
+/// The bytes without what follows the event, and with its type.
+fn bytes_again(rt: &impl Abort, alloc: Global, bytes: &[u8], held: Held) -> Vec<u8> {
+    let (kind, _, size) = held;
+    let message = bytes.get(..20).expect(rt, "a message");
+    let event = bytes
+        .get(24..20 + 16 + usize::from(size))
+        .expect(rt, "an event");
+    let mut again = Vec::from_slice(alloc, message).expect(rt, "memory");
+    again
+        .extend_from_slice(&kind.to_le_bytes())
+        .expect(rt, "memory");
+    again.extend_from_slice(event).expect(rt, "memory");
+    again
+}
+
+// What the kernel sends is 40 bytes long whatever the event: what follows the event is not kept.
 #[test]
-fn events(rt: HostRuntime) -> Result<(), Fail> {
+fn events(rt: HostRuntime) {
     let alloc = rt.alloc();
-    for ((label, hex, seq, cpu, time), (kind, fields, size)) in EVENTS.iter().zip(HELD.iter()) {
-        let end = 20 + 16 + usize::from(*size);
-        let bytes = hex::decode(alloc, hex)?;
-        let mut cursor = Cursor::new(&bytes);
-        let m: CnMsg<ProcEventHeader> = CnMsg::from_bytes_with_input(
+    for (row, held) in EVENTS.iter().zip(HELD.iter()) {
+        let (label, digits, ..) = *row;
+        let bytes = hex::decode(alloc, digits).expect(&rt, label);
+        let m = message_of(&rt, alloc, label, &bytes);
+        assert_fields(&rt, &m, *row);
+        assert_held(&rt, alloc, label, m.payload(), *held);
+        assert_written(
+            &rt,
             alloc,
-            &mut cursor,
-            bytes.len(),
-        )?;
-        assert_eq!(rt;
-            (*m.idx(), *m.val()),
-            (CnMsgIdx::Proc, CnMsgVal::Proc),
-            "{label}"
+            label,
+            &m,
+            &bytes_again(&rt, alloc, &bytes, *held),
         );
-        assert_eq!(rt;
-            (*m.seq(), *m.ack(), *m.len(), *m.flags()),
-            (*seq, 0, 40, 0),
-            "{label}"
-        );
-        let event = m.payload();
-        assert_eq!(rt; (event.cpu, event.timestamp_ns), (*cpu, *time), "{label}");
-        let text = format!(in alloc; "{:?}", event.event)?;
-        assert_eq!(rt; text.as_str(), *fields, "{label}");
-        assert_eq!(rt;
-            ProcEventType::from(&event.event).to_wire(),
-            *kind,
-            "{label}"
-        );
-        assert_eq!(rt; 20 + event.written_size(), end, "{label}");
-        assert_eq!(rt; cursor.position(), bytes.len(), "{label}");
-        // What the kernel sends is 40 bytes long whatever the event: what follows the event is not kept.
-        let mut written = Vec::new(alloc);
-        m.to_bytes(&mut written)?;
-        assert_eq!(rt; written.len(), end, "{label}");
-        assert_eq!(rt; part(&written, 0, 20)?, part(&bytes, 0, 20)?, "{label}");
-        assert_eq!(rt;
-            part(&written, 20, 24)?,
-            kind.to_le_bytes().as_slice(),
-            "{label}"
-        );
-        assert_eq!(rt; part(&written, 24, end)?, part(&bytes, 24, end)?, "{label}");
     }
-    Ok(())
 }
 
 // The same messages with bytes for a payload, which are written again as they were.
 #[test]
-fn events_as_bytes(rt: HostRuntime) -> Result<(), Fail> {
+fn events_as_bytes(rt: HostRuntime) {
     let alloc = rt.alloc();
-    for (label, hex, ..) in EVENTS {
-        let bytes = hex::decode(alloc, hex)?;
-        let m: CnMsg<Buffer> = CnMsg::from_bytes_with_input(
-            alloc,
-            &mut Cursor::new(&bytes),
-            bytes.len(),
-        )?;
+    for (label, digits, ..) in EVENTS {
+        let m: CnMsg<Buffer> = recorded(&rt, alloc, label, digits);
         assert_eq!(rt; m.payload().len(), 40, "{label}");
-        let mut written = Vec::new(alloc);
-        m.try_clone()?.to_bytes(&mut written)?;
-        assert_eq!(rt; written.as_slice(), bytes.as_slice(), "{label}");
+        let bytes = hex::decode(alloc, digits).expect(&rt, label);
+        assert_written(
+            &rt,
+            alloc,
+            label,
+            &m.try_clone().expect(&rt, "memory"),
+            &bytes,
+        );
     }
-    Ok(())
 }

@@ -1,4 +1,5 @@
-//! Tests of the bodies of all families: a file a family, and the worked examples with each cut of them.
+//! Tests of the bodies of all families: a file a family, the worked examples with each cut of them, and [`support`],
+//! which is what the tests share.
 //!
 //! The recorded datagrams are from Linux 6.18 on x86-64, in network namespaces with virtual links.
 #![tactic(auto)]
@@ -15,3 +16,5 @@ mod laws;
 mod links;
 #[cfg(test)]
 mod routes;
+#[cfg(test)]
+mod support;
