@@ -93,11 +93,16 @@ fn link(message_length: u8) -> [u8; 40] {
     bytes
 }
 
+/// A link without an index, and its MTU of 1500.
+const LINK_WITH_MTU: [u8; 40] = [
+    40, 0, 0, 0, 16, 0, 0, 0, 0, 0, 0, 0, 0, 0, 0, 0, //
+    0, 0, 0, 0, 0, 0, 0, 0, 0, 0, 0, 0, 0, 0, 0, 0, //
+    8, 0, 4, 0, 0xdc, 5, 0, 0,
+];
+
 #[test]
 fn attributes_follow_the_header_of_a_body(rt: HostRuntime) -> Result<(), Fail> {
-    let mut bytes = link(40);
-    bytes[32..].copy_from_slice(&[8, 0, 4, 0, 0xdc, 5, 0, 0]);
-    let message = LentMessage::<'_, u16>::lend(&mut Cursor::new(&bytes))?;
+    let message = LentMessage::<'_, u16>::lend(&mut Cursor::new(&LINK_WITH_MTU))?;
     let mut attrs = message.get_attrs::<Ifinfomsg, Ifla>()?;
     let mtu = attrs.next().ok_or("an attribute")??;
     assert_eq!(rt; *mtu.attr_type(), Ifla::Mtu);

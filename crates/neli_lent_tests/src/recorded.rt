@@ -44,7 +44,7 @@ fn a_link_has_a_name(rt: HostRuntime) -> Result<(), Fail> {
     );
     assert_eq!(rt; u16::from(*message.nl_flags()), 2);
     assert_eq!(rt; (*message.nl_seq(), *message.nl_pid()), (1003, 2696569102));
-    assert_eq!(rt; message.nl_payload(), &datagram[16..]);
+    assert_eq!(rt; Some(message.nl_payload()), datagram.as_slice().get(16..));
     let attrs = message.get_attrs::<Ifinfomsg, Ifla>()?;
     assert_eq!(rt; attrs.try_count()?, 7);
     let name = attrs.get_attribute(Ifla::Ifname)?.ok_or("a name")?;

@@ -1,0 +1,294 @@
+/*
+ * Times reading netlink dumps by this library and by libmnl.
+ *
+ * Each dump is repeated in memory up to 1, 4 and 16 MB. Each reader walks the same bytes and adds up the
+ * same numbers: the lengths that the messages state, or the types of the attributes and the lengths of their
+ * payloads. A reader that finds a fault, or another sum than libmnl, ends the run with status 1.
+ */
+#include <libmnl/libmnl.h>
+#include <linux/rtnetlink.h>
+#include <stdbool.h>
+#include <stdint.h>
+#include <stdio.h>
+#include <stdlib.h>
+#include <string.h>
+#include <time.h>
+
+#define MEGABYTE (1u << 20)
+#define LARGEST (16 * MEGABYTE)
+#define SIZES 3
+#define READERS 3
+#ifndef ROUNDS
+#define ROUNDS 40
+#endif
+
+/* The exports of crates/neli_bench. Each answers whether it read all the bytes without a fault. */
+bool neli_bench_owned_headers(const uint8_t *bytes, size_t length, uint64_t *total);
+bool neli_bench_owned_link_attributes(const uint8_t *bytes, size_t length, uint64_t *total);
+bool neli_bench_owned_route_attributes(const uint8_t *bytes, size_t length, uint64_t *total);
+bool neli_bench_lent_headers(const uint8_t *bytes, size_t length, uint64_t *total);
+bool neli_bench_lent_link_attributes(const uint8_t *bytes, size_t length, uint64_t *total);
+bool neli_bench_lent_route_attributes(const uint8_t *bytes, size_t length, uint64_t *total);
+
+typedef bool walk(const uint8_t *bytes, size_t length, uint64_t *total);
+
+struct reader {
+	const char *name;
+	walk *run;
+	double nanoseconds[SIZES]; /* for one message, in the best round */
+};
+
+struct subject {
+	const char *what;
+	struct reader readers[READERS]; /* libmnl is the first */
+};
+
+struct bytes {
+	uint8_t *data;
+	size_t length;
+};
+
+static const size_t sizes[SIZES] = { MEGABYTE, 4 * MEGABYTE, LARGEST };
+
+static void fail(const char *what, const char *name)
+{
+	fprintf(stderr, "bench: %s: %s\n", name, what);
+	exit(1);
+}
+
+/* ---- libmnl */
+
+static bool mnl_headers(const uint8_t *bytes, size_t length, uint64_t *total)
+{
+	const struct nlmsghdr *message = (const struct nlmsghdr *)bytes;
+	int left = (int)length;
+	uint64_t sum = 0;
+
+	while (mnl_nlmsg_ok(message, left)) {
+		sum += message->nlmsg_len;
+		message = mnl_nlmsg_next(message, &left);
+	}
+	*total = sum;
+	return left == 0;
+}
+
+/* `header` is the size of what stands before the attributes. */
+static inline bool mnl_attributes(const uint8_t *bytes, size_t length, unsigned int header, uint64_t *total)
+{
+	const struct nlmsghdr *message = (const struct nlmsghdr *)bytes;
+	int left = (int)length;
+	uint64_t sum = 0;
+
+	while (mnl_nlmsg_ok(message, left)) {
+		const struct nlattr *attribute;
+
+		mnl_attr_for_each(attribute, message, header) {
+			sum += mnl_attr_get_type(attribute);
+			sum += mnl_attr_get_payload_len(attribute);
+		}
+		message = mnl_nlmsg_next(message, &left);
+	}
+	*total = sum;
+	return left == 0;
+}
+
+static bool mnl_link_attributes(const uint8_t *bytes, size_t length, uint64_t *total)
+{
+	return mnl_attributes(bytes, length, sizeof(struct ifinfomsg), total);
+}
+
+static bool mnl_route_attributes(const uint8_t *bytes, size_t length, uint64_t *total)
+{
+	return mnl_attributes(bytes, length, sizeof(struct rtmsg), total);
+}
+
+/* ---- the bytes */
+
+static struct bytes read_file(const char *path)
+{
+	static uint8_t room[MEGABYTE];
+	FILE *file = fopen(path, "rb");
+	struct bytes dump = { room, 0 };
+
+	if (!file)
+		fail("cannot be opened", path);
+	dump.length = fread(room, 1, sizeof(room), file);
+	if (ferror(file) || dump.length == 0 || dump.length == sizeof(room))
+		fail("is empty, too large or not readable", path);
+	fclose(file);
+	return dump;
+}
+
+/* Whole copies of the dump, of at least `size` bytes. */
+static struct bytes repeat(struct bytes dump, size_t size)
+{
+	size_t copies = (size + dump.length - 1) / dump.length;
+	struct bytes all = { malloc(copies * dump.length), copies * dump.length };
+
+	if (!all.data)
+		fail("out of memory", "repeat");
+	for (size_t i = 0; i < copies; i++)
+		memcpy(all.data + i * dump.length, dump.data, dump.length);
+	return all;
+}
+
+static size_t count_messages(struct bytes all)
+{
+	const struct nlmsghdr *message = (const struct nlmsghdr *)all.data;
+	int left = (int)all.length;
+	size_t count = 0;
+
+	for (; mnl_nlmsg_ok(message, left); message = mnl_nlmsg_next(message, &left))
+		count++;
+	return count;
+}
+
+static size_t count_attributes(struct bytes all, unsigned int header)
+{
+	const struct nlmsghdr *message = (const struct nlmsghdr *)all.data;
+	int left = (int)all.length;
+	size_t count = 0;
+
+	for (; mnl_nlmsg_ok(message, left); message = mnl_nlmsg_next(message, &left)) {
+		const struct nlattr *attribute;
+
+		mnl_attr_for_each(attribute, message, header)
+			count++;
+	}
+	return count;
+}
+
+/* ---- the clock */
+
+/* The processor time of this process, in nanoseconds: other processes do not count. */
+static double now(void)
+{
+	struct timespec time;
+
+	clock_gettime(CLOCK_PROCESS_CPUTIME_ID, &time);
+	return (double)time.tv_sec * 1e9 + (double)time.tv_nsec;
+}
+
+/* The sum that a reader finds. It ends the run where the reader finds a fault. */
+static uint64_t sum_of(const struct reader *reader, struct bytes all)
+{
+	uint64_t total = 0;
+
+	if (!reader->run(all.data, all.length, &total))
+		fail("did not read all the bytes", reader->name);
+	return total;
+}
+
+static void check_sums(const struct subject *subject, struct bytes all)
+{
+	const struct reader *readers = subject->readers;
+	uint64_t wanted = sum_of(&readers[0], all);
+
+	for (int i = 1; i < READERS; i++)
+		if (sum_of(&readers[i], all) != wanted)
+			fail("found another sum than libmnl", readers[i].name);
+}
+
+/* One round walks as many bytes at each size, after a walk that is not timed: it meets its own caches. */
+static double time_round(const struct reader *reader, struct bytes all)
+{
+	size_t passes = (LARGEST + all.length - 1) / all.length;
+	double start;
+
+	sum_of(reader, all);
+	start = now();
+	for (size_t i = 0; i < passes; i++)
+		sum_of(reader, all);
+	return (now() - start) / (double)passes;
+}
+
+/* The readers take turns, so that a busy moment of the machine meets each of them. */
+static void time_readers(struct subject *subject, struct bytes all, int size)
+{
+	double messages = (double)count_messages(all);
+
+	check_sums(subject, all);
+	for (int round = 0; round < ROUNDS; round++)
+		for (int i = 0; i < READERS; i++) {
+			double *best = &subject->readers[i].nanoseconds[size];
+			double taken = time_round(&subject->readers[i], all) / messages;
+
+			if (round == 0 || taken < *best)
+				*best = taken;
+		}
+}
+
+/* ---- the table */
+
+static void print_reader(const char *what, const struct reader *reader, const struct reader *mnl)
+{
+	printf("%-11s %-8s", what, reader->name);
+	for (int i = 0; i < SIZES; i++)
+		printf(" %8.1f", reader->nanoseconds[i]);
+	printf("   ");
+	for (int i = 0; i < SIZES; i++)
+		printf(" %7.2f", reader->nanoseconds[i] / mnl->nanoseconds[i]);
+	printf("    %7.2f\n", reader->nanoseconds[SIZES - 1] / reader->nanoseconds[0]);
+}
+
+static void print_subject(const struct subject *subject)
+{
+	for (int i = 0; i < READERS; i++)
+		print_reader(i == 0 ? subject->what : "", &subject->readers[i], &subject->readers[0]);
+}
+
+static void print_heading(void)
+{
+	printf("%-20s %26s    %23s\n", "", "ns per message", "times libmnl");
+	printf("%-20s %8s %8s %8s    %7s %7s %7s    %7s\n", "",
+	       "1 MB", "4 MB", "16 MB", "1 MB", "4 MB", "16 MB", "16:1 MB");
+}
+
+static void bench(const char *path, unsigned int header, struct subject *subjects, int count)
+{
+	struct bytes dump = read_file(path);
+
+	printf("%s: %zu messages, %zu attributes, %zu bytes\n\n", path,
+	       count_messages(dump), count_attributes(dump, header), dump.length);
+	for (int size = 0; size < SIZES; size++) {
+		struct bytes all = repeat(dump, sizes[size]);
+
+		for (int i = 0; i < count; i++)
+			time_readers(&subjects[i], all, size);
+		free(all.data);
+	}
+	print_heading();
+	for (int i = 0; i < count; i++)
+		print_subject(&subjects[i]);
+	printf("\n");
+}
+
+int main(int argc, char **argv)
+{
+	struct subject links[] = {
+		{ "headers",
+		  { { .name = "libmnl", .run = mnl_headers },
+		    { .name = "lent", .run = neli_bench_lent_headers },
+		    { .name = "owned", .run = neli_bench_owned_headers } } },
+		{ "attributes",
+		  { { .name = "libmnl", .run = mnl_link_attributes },
+		    { .name = "lent", .run = neli_bench_lent_link_attributes },
+		    { .name = "owned", .run = neli_bench_owned_link_attributes } } },
+	};
+	struct subject routes[] = {
+		{ "headers",
+		  { { .name = "libmnl", .run = mnl_headers },
+		    { .name = "lent", .run = neli_bench_lent_headers },
+		    { .name = "owned", .run = neli_bench_owned_headers } } },
+		{ "attributes",
+		  { { .name = "libmnl", .run = mnl_route_attributes },
+		    { .name = "lent", .run = neli_bench_lent_route_attributes },
+		    { .name = "owned", .run = neli_bench_owned_route_attributes } } },
+	};
+
+	if (argc != 3)
+		fail("wants the dumps of links and of routes", argv[0]);
+	bench(argv[1], sizeof(struct ifinfomsg), links, 2);
+	bench(argv[2], sizeof(struct rtmsg), routes, 2);
+	return 0;
+}

@@ -1,0 +1,10 @@
+use Rattle.std.proofs.Common.{length}
+use Rattle.neli_bench.specs.Walks.{route_cut, route_adds}
+use Rattle.neli_bench.proofs.Sums.{IsSumSoFar}
+use Rattle.neli_bench.proofs.owned.neli_bench_owned_route_attributes.Given as goal
+
+abbrev pub invariant-loop-item : goal.invariant-loop-item
+invariant-loop-item l = IsSumSoFar route_adds (route_cut l.fn.bytes) (route_cut l.messages) l.sum
+
+abbrev pub decreases-loop-item : goal.decreases-loop-item
+decreases-loop-item l = length l.messages

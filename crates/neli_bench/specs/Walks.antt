@@ -1,0 +1,79 @@
+-- What the walks over a dump add up.
+use Rattle.std.specs.Prelude.{◌≡◌, ℕ, ◌+◌, ◌-◌, ◌^◌, List, [], bit_and, drop, length, min, sum_by, Option, Some, None}
+use Rattle.neli_body.specs.Attributes.{Says, attrs_of}
+use Rattle.neli_body.specs.Bodies.{body_of as header_then}
+use Rattle.neli_consts_rta.specs.Ifla.{ifla_number, ifla_of}
+use Rattle.neli_consts_rta.specs.Rta.{rta_number, rta_of}
+use Rattle.neli_consts_rta.specs.declared.links.Ifla.{Ifla}
+use Rattle.neli_consts_rta.specs.declared.routes.Rta.{Rta}
+use Rattle.neli_lent.specs.Attributes.{attributes_at}
+use Rattle.neli_lent.specs.Messages.{Lent, messages_in}
+use Rattle.neli_link.specs.Ifinfomsg.{ifinfomsg_header}
+use Rattle.neli_link.specs.declared.ifinfomsg.IfinfomsgHeader.{IfinfomsgHeader}
+use Rattle.neli_msg.specs.Agreement.{untyped_layout}
+use Rattle.neli_msg.specs.Cuts.{Cut, cut_of}
+use Rattle.neli_msg.specs.Messages.{Message, message_layout}
+use Rattle.neli_msg.specs.Retyping.{body_of}
+use Rattle.neli_route.specs.Rtmsg.{rtmsg_header}
+use Rattle.neli_route.specs.declared.rtmsg.RtmsgHeader.{RtmsgHeader}
+
+-- a sum as the walks answer it: the largest number of 64 bits stands for those above it
+abbrev pub capped : ℕ → ℕ
+capped n = min n (2 ^ 64 - 1)
+
+-- the bytes have no fault, and this is the sum of what their messages add
+abbrev pub IsSum : {A : Type 0} → (A → ℕ) → Cut A → ℕ → Type 0
+IsSum adds cut total = (cut.1 ≡ None) × (total ≡ capped (sum_by adds cut.0))
+
+-- what an attribute adds: the number of its type, without the two upper bits, and how long its payload is
+abbrev pub type_and_length : ℕ → List ℕ → ℕ
+type_and_length number payload = bit_and number 16383 + length payload
+
+-- what attributes add together
+abbrev pub attributes_add : {K : Type 0} → (K → ℕ) → Says K → ℕ
+attributes_add number_of attributes = sum_by (λ a. type_and_length (number_of a.0.kind) a.1) attributes
+
+-- ---- messages that are read into memory
+
+-- a datagram of messages that are bytes
+abbrev pub raw_cut : List ℕ → Cut (Message ℕ (List ℕ))
+raw_cut = cut_of untyped_layout
+
+-- a datagram of links
+abbrev pub link_cut : List ℕ → Cut (Message ℕ (IfinfomsgHeader × Says Ifla))
+link_cut = cut_of (message_layout (λ n. n) (λ n. n) (header_then 16 ifinfomsg_header (attrs_of ifla_of)))
+
+-- a datagram of routes
+abbrev pub route_cut : List ℕ → Cut (Message ℕ (RtmsgHeader × Says Rta))
+route_cut = cut_of (message_layout (λ n. n) (λ n. n) (header_then 12 rtmsg_header (attrs_of rta_of)))
+
+-- the length that a message states
+abbrev pub stated_length : {V : Type 0} → Message ℕ V → ℕ
+stated_length m = m.0.len
+
+-- what the attributes of a body add, if there is one
+abbrev pub body_adds : {H K : Type 0} → (K → ℕ) → Option (H × Says K) → ℕ
+body_adds number_of None = 0
+body_adds number_of (Some body) = attributes_add number_of body.1
+
+-- what the attributes of a link add
+abbrev pub link_adds : Message ℕ (IfinfomsgHeader × Says Ifla) → ℕ
+link_adds m = body_adds ifla_number (body_of m.1)
+
+-- what the attributes of a route add
+abbrev pub route_adds : Message ℕ (RtmsgHeader × Says Rta) → ℕ
+route_adds m = body_adds rta_number (body_of m.1)
+
+-- ---- messages that are lent
+
+-- a datagram of messages that are lent
+abbrev pub lent_cut : List ℕ → Cut (Lent ℕ)
+lent_cut = messages_in (λ n. n)
+
+-- the length that one states
+abbrev pub lent_stated_length : Lent ℕ → ℕ
+lent_stated_length m = m.0.len
+
+-- what the attributes after the first n bytes of its payload add, up to their fault
+abbrev pub lent_adds : ℕ → Lent ℕ → ℕ
+lent_adds n m = attributes_add (λ k. k) (attributes_at (λ k. k) (record { before = []; rest = drop n m.1 })).0

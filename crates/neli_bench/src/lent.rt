@@ -1,0 +1,100 @@
+//! Walks that read each message where it lies. They take no memory.
+//!
+//! Each answers false, and leaves `total` as it was, where the bytes have a fault.
+
+ghost use Rattle.std.specs.Prelude.{◌≡◌, IfSome, IsSome, IsTrue, false};
+ghost use Rattle.neli_lent.specs.Attributes.{attributes_at};
+ghost use Rattle.neli_lent.specs.Messages.{message_said};
+ghost use Rattle.neli_bench.specs.Walks.{IsSum, capped, lent_adds, lent_cut, lent_stated_length, type_and_length};
+
+use crate::plus;
+use neli_lent::{LentAttrs, LentMessage, LentMessages};
+use neli_link::Ifinfomsg;
+use neli_route::Rtmsg;
+use neli_wire::Header;
+
+/// What the attributes add together; none where they have a fault.
+fn attributes_add(mut attributes: LentAttrs<'_, u16>) -> Option<u64>
+    ensures { IfSome result (IsSum (λ a. type_and_length a.0.kind a.1)
+        (attributes_at (λ n. n) attributes.entry)) }
+{
+    let mut total: u64 = 0;
+    while let Some(item) = attributes.next() {
+        let Ok(attribute) = item else {
+            return None;
+        };
+        total = plus(total, *attribute.attr_type(), attribute.attr_payload());
+    }
+    Some(total)
+}
+
+/// What the attributes after a message's body `B` add.
+fn message_adds<'b, B: Header>(message: &LentMessage<'b, u16>) -> Option<u64>
+    ensures { IfSome result
+        (λ n. n ≡ capped (lent_adds B.header (message_said message.now))) }
+{
+    let Ok(attributes) = message.get_attrs::<B, u16>() else {
+        return None;
+    };
+    attributes_add(attributes)
+}
+
+/// What the attributes of all messages add.
+fn messages_add<B: Header>(bytes: &[u8]) -> Option<u64>
+    ensures { IfSome result (IsSum (lent_adds B.header) (lent_cut bytes.now)) }
+{
+    let mut sum: u64 = 0;
+    let mut messages: LentMessages<'_, u16> = LentMessages::new(bytes);
+    while let Some(item) = messages.next() {
+        let Ok(message) = item else {
+            return None;
+        };
+        sum = sum.saturating_add(message_adds::<B>(&message)?);
+    }
+    Some(sum)
+}
+
+/// The sum of the lengths that the messages state.
+#[unsafe(no_mangle)]
+pub extern "C" fn neli_bench_lent_headers(bytes: &[u8], total: &mut u64) -> bool
+    ensures sum { IsTrue result → IsSum lent_stated_length (lent_cut bytes.now) total.new }
+    ensures fault { result ≡ false → IsSome (lent_cut bytes.now).1 }
+    ensures unchanged { result ≡ false → total.new ≡ total.old }
+{
+    let mut sum: u64 = 0;
+    let mut messages: LentMessages<'_, u16> = LentMessages::new(bytes);
+    while let Some(item) = messages.next() {
+        let Ok(message) = item else {
+            return false;
+        };
+        sum = sum.saturating_add(u64::from(*message.nl_len()));
+    }
+    *total = sum;
+    true
+}
+
+/// The sum of what the attributes add, each message taken for a link.
+#[unsafe(no_mangle)]
+pub extern "C" fn neli_bench_lent_link_attributes(bytes: &[u8], total: &mut u64) -> bool
+    ensures sum { IsTrue result → IsSum (lent_adds 16) (lent_cut bytes.now) total.new }
+    ensures unchanged { result ≡ false → total.new ≡ total.old }
+{
+    let Some(sum) = messages_add::<Ifinfomsg>(bytes) else {
+        return false;
+    };
+    *total = sum;
+    true
+}
+
+/// The sum of what the attributes add, each message taken for a route.
+#[unsafe(no_mangle)]
+pub extern "C" fn neli_bench_lent_route_attributes(bytes: &[u8], total: &mut u64) -> bool
+    ensures sum { IsTrue result → IsSum (lent_adds 12) (lent_cut bytes.now) total.new }
+    ensures unchanged { result ≡ false → total.new ≡ total.old }
+{
+    let Some(sum) = messages_add::<Rtmsg>(bytes) else {
+        return false;
+    };
+    *total = sum;
+    true
+}

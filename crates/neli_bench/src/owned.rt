@@ -1,0 +1,113 @@
+//! Walks that read each message into memory of its own.
+//!
+//! Each answers false, and leaves `total` as it was, where the bytes have a fault or memory runs out.
+
+ghost use Rattle.std.specs.Prelude.{◌≡◌, IsTrue, false, sum_by};
+ghost use Rattle.neli_body.specs.Attributes.{attrs_say};
+ghost use Rattle.neli_msg.specs.Messages.{message_of};
+ghost use Rattle.neli_bench.specs.Walks.{IsSum, capped, link_adds, link_cut, raw_cut, route_adds, route_cut, stated_length, type_and_length};
+
+use crate::plus;
+use neli_attr::{Buffer, RtBuffer};
+use neli_consts_rta::RtaType;
+use neli_link::Ifinfomsg;
+use neli_msg::{NlBufferIter, Nlmsghdr};
+use neli_route::Rtmsg;
+use std::alloc::Global;
+
+/// What the attributes add together.
+fn attributes_add<T: RtaType>(attributes: &RtBuffer<T, Buffer>) -> u64
+    ensures { result ≡ capped (sum_by
+        (λ a. type_and_length (T.wire_number a.rta_type) a.rta_payload) attributes.now) }
+{
+    let mut total: u64 = 0;
+    for attribute in attributes.as_ref() {
+        let number = attribute.rta_type().to_number();
+        total = plus(total, number, attribute.rta_payload().as_ref());
+    }
+    total
+}
+
+/// What the attributes of a link add.
+fn link_adds(message: &Nlmsghdr<u16, Ifinfomsg>) -> u64
+    ensures { result ≡ capped (link_adds
+        (message_of (λ link. (link.header, attrs_say link.rtattrs)) message.now)) }
+{
+    match message.get_payload() {
+        Some(link) => attributes_add(link.rtattrs()),
+        None => 0,
+    }
+}
+
+/// What the attributes of a route add.
+fn route_adds(message: &Nlmsghdr<u16, Rtmsg>) -> u64
+    ensures { result ≡ capped (route_adds
+        (message_of (λ route. (route.header, attrs_say route.rtattrs)) message.now)) }
+{
+    match message.get_payload() {
+        Some(route) => attributes_add(route.rtattrs()),
+        None => 0,
+    }
+}
+
+/// The sum of the lengths that the messages state, each message read with its payload as bytes.
+#[unsafe(no_mangle)]
+pub extern "C" fn neli_bench_owned_headers(alloc: Global, bytes: &[u8], total: &mut u64) -> bool
+    ensures sum { IsTrue result → IsSum stated_length (raw_cut bytes.now) total.new }
+    ensures unchanged { result ≡ false → total.new ≡ total.old }
+{
+    let mut sum: u64 = 0;
+    let mut messages: NlBufferIter<'_, u16, Buffer> = NlBufferIter::new(bytes);
+    while let Some(item) = messages.next(alloc) {
+        let Ok(message) = item else {
+            return false;
+        };
+        sum = sum.saturating_add(u64::from(*message.nl_len()));
+    }
+    *total = sum;
+    true
+}
+
+/// The sum of what the attributes add, each message read as a link.
+#[unsafe(no_mangle)]
+pub extern "C" fn neli_bench_owned_link_attributes(
+    alloc: Global,
+    bytes: &[u8],
+    total: &mut u64,
+) -> bool
+    ensures sum { IsTrue result → IsSum link_adds (link_cut bytes.now) total.new }
+    ensures unchanged { result ≡ false → total.new ≡ total.old }
+{
+    let mut sum: u64 = 0;
+    let mut messages: NlBufferIter<'_, u16, Ifinfomsg> = NlBufferIter::new(bytes);
+    while let Some(item) = messages.next(alloc) {
+        let Ok(message) = item else {
+            return false;
+        };
+        sum = sum.saturating_add(link_adds(&message));
+    }
+    *total = sum;
+    true
+}
+
+/// The sum of what the attributes add, each message read as a route.
+#[unsafe(no_mangle)]
+pub extern "C" fn neli_bench_owned_route_attributes(
+    alloc: Global,
+    bytes: &[u8],
+    total: &mut u64,
+) -> bool
+    ensures sum { IsTrue result → IsSum route_adds (route_cut bytes.now) total.new }
+    ensures unchanged { result ≡ false → total.new ≡ total.old }
+{
+    let mut sum: u64 = 0;
+    let mut messages: NlBufferIter<'_, u16, Rtmsg> = NlBufferIter::new(bytes);
+    while let Some(item) = messages.next(alloc) {
+        let Ok(message) = item else {
+            return false;
+        };
+        sum = sum.saturating_add(route_adds(&message));
+    }
+    *total = sum;
+    true
+}
