@@ -280,7 +280,7 @@ impl<T, P> Nlmsghdr<T, P> {
         ensures header { result.header ≡ header }
         ensures payload { result.payload ≡ payload }
     {
-        Nlmsghdr { header, payload }
+        Self { header, payload }
     }
 
     /// The body, where the message carries one.
