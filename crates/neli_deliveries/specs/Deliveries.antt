@@ -1,0 +1,70 @@
+-- Who gets what: to which handles a datagram and a fault of the link go.
+use Rattle.std.specs.Prelude.{ℕ, Bool, true, false, ◌&&◌, ◌==◌, if◌then◌else◌, List, [], ◌∷◌, ◌++◌, map, Option, Some, None}
+use Rattle.std.specs.List.{flat_map}
+use Rattle.std.specs.declared.io.ErrorKind.TheVariants.{WouldBlock}
+use Rattle.neli_wire.specs.DeError.{DeError}
+use Rattle.neli_msg.specs.Cuts.{Cut}
+use Rattle.neli_msg.specs.Messages.{Message, message_from}
+use Rattle.neli_msg.specs.Nlmsghdr.{Nlmsghdr}
+use Rattle.neli_msg.specs.SocketError.{SocketError}
+use Rattle.neli_msg.specs.SocketError.TheVariants as socket
+use Rattle.neli_deliveries.specs.declared.delivery.Delivery.{Delivery}
+use Rattle.neli_deliveries.specs.declared.delivery.Delivery.TheVariants as delivery
+
+-- a message as it is kept: its type is its number, its body its bytes
+abbrev pub Untyped : Type 0
+Untyped = Message ℕ (List ℕ)
+
+abbrev pub message : Untyped → Delivery
+message m = delivery.Message (message_from m)
+
+abbrev pub stray : Untyped → Delivery
+stray m = delivery.Stray (message_from m)
+
+-- ---- a datagram
+
+-- the message answers a request: it has the router's port and a number that is open
+abbrev pub is_reply : ℕ → (ℕ → Bool) → Untyped → Bool
+is_reply port is_open m = (m.0.port == port) && is_open m.0.sequence_number
+
+-- a message, for the handle with the number q: a reply to it, a reply to another handle, or a stray
+abbrev pub message_to : ℕ → (ℕ → Bool) → ℕ → Untyped → List Delivery
+message_to port is_open q m =
+    if is_reply port is_open m then (if m.0.sequence_number == q then message m ∷ [] else [])
+    else stray m ∷ []
+
+-- messages, in their order
+abbrev pub messages_to : ℕ → (ℕ → Bool) → ℕ → List Untyped → List Delivery
+messages_to port is_open q ms = flat_map (message_to port is_open q) ms
+
+-- the fault at which a datagram ends, if there is one
+abbrev pub reader_fault : Option DeError → List Delivery
+reader_fault None = []
+reader_fault (Some e) = delivery.Fault (socket.De e) ∷ []
+
+-- what the handle with the number q, or the one for multicast, gets of a datagram. One that came to groups is for
+-- multicast, message by message; else its messages are for the handles with numbers. Its fault is for these anyway.
+abbrev pub received : ℕ → (ℕ → Bool) → Option ℕ → Cut Untyped → List ℕ → List Delivery
+received port is_open None cut [] = []
+received port is_open None cut (g ∷ groups) = map message cut.0
+received port is_open (Some q) cut [] = messages_to port is_open q cut.0 ++ reader_fault cut.1
+received port is_open (Some q) cut (g ∷ groups) = reader_fault cut.1
+
+-- ---- a fault of the link
+
+abbrev pub is_would_block : SocketError → Bool
+is_would_block (socket.Io WouldBlock) = true
+is_would_block e = false
+
+-- what the handle with a number, or the one for multicast, gets of a fault
+abbrev pub broken : Option ℕ → SocketError → List Delivery
+broken None e = []
+broken (Some q) e = if is_would_block e then [] else delivery.Fault e ∷ []
+
+-- ---- a list
+
+-- what waits first, where there is a list and it is not empty
+abbrev pub head_of : Option (List Delivery) → Option Delivery
+head_of None = None
+head_of (Some []) = None
+head_of (Some (d ∷ ds)) = Some d

@@ -1,0 +1,104 @@
+//! What a store of deliveries has to keep.
+
+ghost use Rattle.std.specs.Prelude.{true, ◌≡◌, ◌≢◌, ℕ, List, [], ◌∷◌, ◌++◌, Option, None, Some, IsOk, IfOk, OnOk, OnErr, is_some, option_map};
+ghost use Rattle.neli_msg.specs.Cuts.{cut_of};
+ghost use Rattle.neli_msg.specs.Agreement.{untyped_layout};
+ghost use Rattle.neli_deliveries.specs.declared.delivery.Delivery.{Delivery as Waiting};
+ghost use Rattle.neli_deliveries.specs.Deliveries.{broken, head_of, is_would_block, received};
+ghost use Rattle.neli_deliveries.specs.Readings.{IsFirst};
+
+use neli_consts::NlType;
+use neli_msg::{Nlmsghdr, RouterError, SocketError};
+use neli_util::Groups;
+use neli_wire::{FromBytesWithInput, NoMemory, Size};
+use std::alloc::Global;
+
+/// A list of deliveries for each open sequence number, and one for multicast until that is closed.
+///
+/// Contracts see a store as its port and, for each number and for multicast (`None`), the list of
+/// what waits there, or that it is not open. How it is kept is the store's own matter.
+pub trait Deliveries: Sized {
+    /// The port of the router: a message with another port is a stray.
+    ghost port_of: { Self → ℕ };
+
+    /// What waits for a number, or for multicast; `None` where it is not open.
+    ghost pending: { Self → Option ℕ → Option (List Waiting) };
+
+    /// A store with no open number and an empty list for multicast. It takes no memory.
+    fn new(alloc: Global, port: u32) -> Self
+        ensures port { port_of result ≡ port }
+        ensures multicast { pending result None ≡ Some [] }
+        ensures numbers { (q : ℕ) → pending result (Some q) ≡ None };
+
+    /// The port of the router.
+    fn port(&self) -> u32
+        ensures { result ≡ port_of self.now };
+
+    /// Whether there is a list for this number, or for multicast.
+    fn is_open(&self, whose: Option<u32>) -> bool
+        ensures { result ≡ is_some (pending self.now whose) };
+
+    /// Opens an empty list for a number that is not open.
+    ///
+    /// Refused only where memory runs out, and then all lists are as they were.
+    fn open(&mut self, number: u32) -> Result<(), NoMemory>
+        requires { pending self.old (Some number) ≡ None }
+        ensures port { port_of self.new ≡ port_of self.old }
+        ensures opened { OnOk result (pending self.new (Some number) ≡ Some []) }
+        ensures others { OnOk result ((w : Option ℕ) → w ≢ Some number
+            → pending self.new w ≡ pending self.old w) }
+        ensures err { OnErr result ((w : Option ℕ) → pending self.new w ≡ pending self.old w) };
+
+    /// Takes a list away, with what waits there. It takes no memory.
+    fn close(&mut self, whose: Option<u32>)
+        ensures port { port_of self.new ≡ port_of self.old }
+        ensures closed { pending self.new whose ≡ None }
+        ensures others { (w : Option ℕ) → w ≢ whose
+            → pending self.new w ≡ pending self.old w };
+
+    /// Hands over what a datagram holds, that came to these groups.
+    ///
+    /// Refused only where memory runs out, and then all lists are as they were; an empty datagram
+    /// never is.
+    fn datagram(&mut self, bytes: &[u8], groups: &Groups) -> Result<(), NoMemory>
+        ensures port { port_of self.new ≡ port_of self.old }
+        ensures ok { OnOk result ((w : Option ℕ) → pending self.new w
+            ≡ option_map (λ ds. ds ++ received (port_of self.old)
+            (λ q. is_some (pending self.old (Some q))) w
+            (cut_of untyped_layout bytes.now) groups.now) (pending self.old w)) }
+        ensures err { OnErr result ((w : Option ℕ) → pending self.new w ≡ pending self.old w) }
+        ensures empty { bytes.now ≡ [] → IsOk result };
+
+    /// Hands a fault of the link to each open number, unless it is that the link would block.
+    ///
+    /// Refused only where memory runs out, and then all lists are as they were; that the link would
+    /// block never is.
+    fn fault(&mut self, error: SocketError) -> Result<(), NoMemory>
+        ensures port { port_of self.new ≡ port_of self.old }
+        ensures ok { OnOk result ((w : Option ℕ) → pending self.new w
+            ≡ option_map (λ ds. ds ++ broken w error) (pending self.old w)) }
+        ensures err { OnErr result ((w : Option ℕ) → pending self.new w ≡ pending self.old w) }
+        ensures would_block { is_would_block error ≡ true → IsOk result };
+
+    /// What waits first, read as the caller's types, or that nothing waits: a message, or why there
+    /// is none.
+    ///
+    /// Refused only where memory runs out, and never where nothing waits.
+    fn first<T: NlType, P: FromBytesWithInput + Size>(
+        &self,
+        alloc: Global,
+        whose: Option<u32>,
+    ) -> Result<Option<Result<Nlmsghdr<T, P>, RouterError<T, P>>>, NoMemory>
+        ensures first { IfOk result
+            (IsFirst T.wire_value P.view P.wire_length P.read (head_of (pending self.now whose))) }
+        ensures nothing { head_of (pending self.now whose) ≡ None → IsOk result };
+
+    /// Takes away what waits first. It takes no memory.
+    fn drop_first(&mut self, whose: Option<u32>)
+        requires { (d : Waiting) × (ds : List Waiting) × (pending self.old whose ≡ Some (d ∷ ds)) }
+        ensures port { port_of self.new ≡ port_of self.old }
+        ensures taken { (d : Waiting) (ds : List Waiting) → pending self.old whose ≡ Some (d ∷ ds)
+            → pending self.new whose ≡ Some ds }
+        ensures others { (w : Option ℕ) → w ≢ whose
+            → pending self.new w ≡ pending self.old w };
+}
