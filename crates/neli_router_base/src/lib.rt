@@ -1,0 +1,20 @@
+//! The router, call by call: requests go out with a sequence number each, and each reply comes to
+//! the handle that asked for it.
+//!
+//! - [`NlRouter`]: sends, takes datagrams and faults of the link in, gives a handle its next item.
+//! - [`NlRouterReceiverHandle`]: who asked; by its sequence number, or none for multicast.
+//! - [`Reply`]: what a read answers: an item, the end, or a wait.
+//!
+//! `specs/Rule.antt` says where a handle's answers end and what each of them is; `specs/Sends.antt`
+//! what a request is as bytes, and for which three causes it is refused.
+#![tactic(auto)]
+
+mod handle;
+mod reply;
+mod router;
+mod rule;
+
+pub use handle::{HandleState, NlRouterReceiverHandle};
+pub use neli_deliveries::{Deliveries, Delivery};
+pub use reply::Reply;
+pub use router::NlRouter;
