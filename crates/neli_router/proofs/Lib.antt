@@ -1,0 +1,6 @@
+mod Lists
+mod Places
+mod Readings
+mod Steps
+mod Walks
+mod Runs

@@ -1,0 +1,141 @@
+-- A history: commands with what came of them, the latest first. What stands behind an event is the history before it.
+use Rattle.std.specs.Prelude.{ℕ, zero, suc, ◌+◌, ◌%◌, ◌^◌, Bool, true, false, not, ◌&&◌, ◌||◌, ◌==◌, nat_le, if◌then◌else◌, List, [], ◌∷◌, ◌++◌, Option, Some, None}
+use Rattle.neli_deliveries.specs.Readings.{Item}
+use Rattle.neli_router_base.specs.Rule.{needs_ack}
+use Rattle.neli_router.specs.declared.command.Command.{Command}
+use Rattle.neli_router.specs.declared.command.Command.TheVariants as command
+use Rattle.neli_router.specs.declared.command.Outcome.{Outcome}
+use Rattle.neli_router.specs.declared.command.Outcome.TheVariants as outcome
+
+-- a command, and what came of it
+abbrev pub Event : Type 0 → Type 0 → Type 0 → Type 0 → Type 0
+Event ST SP RT RP = Command ST SP × Outcome ST SP RT RP
+
+abbrev pub History : Type 0 → Type 0 → Type 0 → Type 0 → Type 0
+History ST SP RT RP = List (Event ST SP RT RP)
+
+-- ---- what commands and outcomes say
+
+module _ {ST SP : Type 0} where
+  -- the number that is set, or the one before
+  abbrev pub set_by : Command ST SP → ℕ → ℕ
+  set_by (command.SetNextSeq n) before = n
+  set_by (command.Send t f p) before = before
+  set_by (command.Datagram b g) before = before
+  set_by (command.Fault e) before = before
+  set_by (command.Read k) before = before
+  set_by (command.Close k) before = before
+
+  -- a count, which begins anew where a number is set
+  abbrev pub counted_by : Command ST SP → ℕ → ℕ
+  counted_by (command.SetNextSeq n) count = 0
+  counted_by (command.Send t f p) count = count
+  counted_by (command.Datagram b g) count = count
+  counted_by (command.Fault e) count = count
+  counted_by (command.Read k) count = count
+  counted_by (command.Close k) count = count
+
+  -- a request that asks for an acknowledgement
+  abbrev pub asks_ack : Command ST SP → Bool
+  asks_ack (command.Send t f p) = needs_ack f
+  asks_ack (command.SetNextSeq n) = false
+  asks_ack (command.Datagram b g) = false
+  asks_ack (command.Fault e) = false
+  asks_ack (command.Read k) = false
+  asks_ack (command.Close k) = false
+
+  abbrev pub closes : ℕ → Command ST SP → Bool
+  closes k (command.Close j) = j == k
+  closes k (command.SetNextSeq n) = false
+  closes k (command.Send t f p) = false
+  closes k (command.Datagram b g) = false
+  closes k (command.Fault e) = false
+  closes k (command.Read j) = false
+
+  abbrev pub reads : ℕ → Command ST SP → Bool
+  reads k (command.Read j) = j == k
+  reads k (command.SetNextSeq n) = false
+  reads k (command.Send t f p) = false
+  reads k (command.Datagram b g) = false
+  reads k (command.Fault e) = false
+  reads k (command.Close j) = false
+
+module _ {ST SP RT RP : Type 0} where
+  abbrev pub is_sent : Outcome ST SP RT RP → Bool
+  is_sent (outcome.Sent bytes) = true
+  is_sent _ = false
+
+  abbrev pub is_done : Outcome ST SP RT RP → Bool
+  is_done outcome.Done = true
+  is_done _ = false
+
+  -- the items after an outcome: one more, where one was given to a read of theirs
+  abbrev pub with_item : Outcome ST SP RT RP → Bool → List (Item RT RP) → List (Item RT RP)
+  with_item (outcome.Item item) theirs before = if theirs then before ++ item ∷ [] else before
+  with_item outcome.Done theirs before = before
+  with_item (outcome.Sent bytes) theirs before = before
+  with_item (outcome.NotSent e) theirs before = before
+  with_item outcome.End theirs before = before
+  with_item outcome.Waits theirs before = before
+  with_item outcome.NoHandle theirs before = before
+
+  -- ---- sequence numbers
+
+  -- how many requests were sent
+  abbrev pub sends : History ST SP RT RP → ℕ
+  sends [] = 0
+  sends (e ∷ h) = if is_sent e.1 then suc (sends h) else sends h
+
+  -- the number that was set last; 0 where none was
+  abbrev pub base : History ST SP RT RP → ℕ
+  base [] = 0
+  base (e ∷ h) = set_by e.0 (base h)
+
+  -- how many requests were sent since then
+  abbrev pub since : History ST SP RT RP → ℕ
+  since [] = 0
+  since (e ∷ h) = counted_by e.0 (if is_sent e.1 then suc (since h) else since h)
+
+  -- the sequence number of a request that is sent now
+  abbrev pub next_number : History ST SP RT RP → ℕ
+  next_number h = (base h + since h) % 2 ^ 32
+
+  -- ---- handles: 0 is that for multicast, k that of the k-th request that was sent
+
+  -- the sequence number of handle k
+  abbrev pub number_of : ℕ → History ST SP RT RP → ℕ
+  number_of k [] = 0
+  number_of k (e ∷ h) = if is_sent e.1 && (k == suc (sends h)) then next_number h else number_of k h
+
+  -- whether its request asks for an acknowledgement
+  abbrev pub needs_of : ℕ → History ST SP RT RP → Bool
+  needs_of k [] = false
+  needs_of k (e ∷ h) = if is_sent e.1 && (k == suc (sends h)) then asks_ack e.0 else needs_of k h
+
+  -- whose deliveries it gets
+  abbrev pub whose : ℕ → History ST SP RT RP → Option ℕ
+  whose zero h = None
+  whose (suc k) h = Some (number_of (suc k) h)
+
+  -- it was closed
+  abbrev pub is_closed : ℕ → History ST SP RT RP → Bool
+  is_closed k [] = false
+  is_closed k (e ∷ h) = (closes k e.0 && is_done e.1) || is_closed k h
+
+  -- it was given, and not closed
+  abbrev pub is_live : ℕ → History ST SP RT RP → Bool
+  is_live k h = nat_le k (sends h) && not (is_closed k h)
+
+  -- the items that it was given, in order
+  abbrev pub items_of : ℕ → History ST SP RT RP → List (Item RT RP)
+  items_of k [] = []
+  items_of k (e ∷ h) = with_item e.1 (reads k e.0) (items_of k h)
+
+-- one of the numbers from 1 to n passes
+abbrev pub any_upto : ℕ → (ℕ → Bool) → Bool
+any_upto zero p = false
+any_upto (suc n) p = p (suc n) || any_upto n p
+
+-- a sequence number is open: a request with it was sent, and its handle is not closed
+abbrev pub is_open : {ST SP RT RP : Type 0} → ℕ → History ST SP RT RP → Bool
+is_open q h = any_upto (sends h) (λ k. is_live k h && (number_of k h == q))

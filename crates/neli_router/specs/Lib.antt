@@ -1,0 +1,4 @@
+pub mod Deliveries
+pub mod History
+pub mod Outcomes
+pub mod laws
