@@ -2,6 +2,7 @@
 use Rattle.std.proofs.Common.{ℕ, zero, suc, ◌≡◌, ◌≤◌, Bool, true, false, not, ◌||◌, min, List, [], ◌∷◌, ◌++◌, length, Option, Some, None, refl, sym, ap, ◌∙◌, inl, inr, ◌⊎◌, arith}
 use Rattle.std.specs.Prelude.{nat_lt, ◌==◌, if◌then◌else◌}
 use Rattle.std.specs.List.{slice_get}
+use Rattle.std.proofs.lemmas.Grind.{common_steps}
 use Rattle.std.proofs.lemmas.Bool.Decides.{nat_tests}
 use Rattle.neli_deliveries.specs.Readings.{Item}
 use Rattle.neli_router_base.specs.declared.reply.Reply.TheVariants as reply
@@ -33,6 +34,9 @@ eq_from_suc e i h = grind (arith, nat_tests)
 over_place : (i e : ℕ) → nat_lt e i ≡ true → (nat_lt i e ≡ false) × ((i == e) ≡ false)
 over_place i e p = (grind (arith, nat_tests), grind (arith, nat_tests))
 
+lt_longer : (e i n : ℕ) → i ≤ n → nat_lt e i ≡ true → nat_lt e n ≡ true
+lt_longer e i n h p = grind (arith, nat_tests)
+
 pub true_or_false : (b : Bool) → (b ≡ true) ⊎ (b ≡ false)
 true_or_false true = inl refl
 true_or_false false = inr refl
@@ -49,6 +53,14 @@ module _ {A : Type 0} where
   within_front [] i x e = cc
   within_front (y ∷ xs) zero x e = omega arith
   within_front (y ∷ xs) (suc i) x e = let h : suc i ≤ length xs = within_front xs i x e in omega arith
+
+  none_past : (xs : List A) (i : ℕ) → slice_get xs i ≡ None → length xs ≤ i
+  none_past [] i e = omega arith
+  none_past (x ∷ xs) zero e = cc
+  none_past (x ∷ xs) (suc i) e = let h : length xs ≤ i = none_past xs i e in omega arith
+
+  longer-front : (xs more : List A) → length xs ≤ length (xs ++ more)
+  longer-front xs more = grind (arith, common_steps)
 
   -- ---- the first that passes
 
@@ -132,3 +144,32 @@ module _ {K P : Type 0} (number_of : K → ℕ) (numbered : Bool) where
     -- an item stays
     pub answer_grows : (items more : List (Item K P)) (i : ℕ) (x : Item K P) → answer number_of needs numbered items i ≡ reply.Item x → answer number_of needs numbered (items ++ more) i ≡ reply.Item x
     answer_grows items more i x g = answer_front items more i x (slice_get items i) refl g
+
+    -- past the last place is the end, with or without an item there
+    end_past : (items : List (Item K P)) (i : ℕ) (at : Option (Item K P)) → nat_lt (last_place number_of needs numbered items) i ≡ true → nat_lt (last_place number_of needs numbered items) (length items) ≡ true → answer_at number_of needs numbered items i at ≡ reply.End
+    end_past items i None over within = rw within refl
+    end_past items i (Some item) over within = rw ((over_place i (last_place number_of needs numbered items) over).0, (over_place i (last_place number_of needs numbered items) over).1) refl
+
+    end_front : (items more : List (Item K P)) (i : ℕ) (at : Option (Item K P)) → slice_get items i ≡ at → answer_at number_of needs numbered items i at ≡ reply.End → answer number_of needs numbered (items ++ more) i ≡ reply.End
+    end_front items more i None e g = elim (true_or_false (nat_lt (last_place number_of needs numbered items) (length items))) [
+        inl over ↦
+          (let later : nat_lt (last_place number_of needs numbered (items ++ more)) (length items) ≡ true = last_append needs items more (length items) (omega arith) ∙ over in
+          end_past (items ++ more) i (slice_get (items ++ more) i) (lt_longer _ (length items) i (none_past items i e) later) (lt_longer _ (length items) (length (items ++ more)) (longer-front items more) later))
+      | inr still ↦ (let bad = rw still at g in cc)
+      ]
+    end_front items more i (Some item) e g =
+        let inside : suc i ≤ length items = within_front items i item e in
+        let inside_i : i ≤ length items = omega arith in
+        elim (true_or_false (nat_lt (last_place number_of needs numbered items) i)) [
+          inl over ↦
+            (let later : nat_lt (last_place number_of needs numbered (items ++ more)) i ≡ true = last_append needs items more i inside_i ∙ over in
+            let longer : length items ≤ length (items ++ more) = longer-front items more in
+            end_past (items ++ more) i (slice_get (items ++ more) i) later (lt_longer _ i (length (items ++ more)) (omega arith) later))
+        | inr still ↦
+            (let gave : reply.Item (item_of number_of needs numbered (nat_lt (single_place number_of numbered items) i) item) ≡ reply.End = sym (answer_gives items i item e still) ∙ (ap (answer_at number_of needs numbered items i) e ∙ g) in
+            absurd cc)
+        ]
+
+    -- so does the end
+    pub end_stays : (items more : List (Item K P)) (i : ℕ) → answer number_of needs numbered items i ≡ reply.End → answer number_of needs numbered (items ++ more) i ≡ reply.End
+    end_stays items more i g = end_front items more i (slice_get items i) refl g

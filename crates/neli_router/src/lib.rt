@@ -9,6 +9,7 @@
 #![tactic(auto)]
 
 mod command;
+pub mod laws;
 mod session;
 mod whole_run;
 

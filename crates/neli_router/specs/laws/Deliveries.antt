@@ -9,7 +9,7 @@ use Rattle.neli_deliveries.specs.Deliveries.{broken, received}
 use Rattle.neli_deliveries.specs.declared.delivery.Delivery.{Delivery}
 use Rattle.neli_router.specs.declared.command.Command.{Command}
 use Rattle.neli_router.specs.declared.command.Command.TheVariants as command
-use Rattle.neli_router.specs.History.{History, is_live, is_open, whose}
+use Rattle.neli_router.specs.History.{Event, History, is_live, is_open, whose}
 use Rattle.neli_router.specs.Deliveries.{Moment, deliveries, gained, moments}
 
 flat_map-append : {X A : Type 0} (f : X → List A) (xs ys : List X) → flat_map f (xs ++ ys) ≡ flat_map f xs ++ flat_map f ys
@@ -62,6 +62,11 @@ module _ {ST SP RT RP : Type 0} where
   gain-is port k h (command.Send t f p) before = gain-nothing (is_live k h) before
   gain-is port k h (command.Read j) before = gain-nothing (is_live k h) before
   gain-is port k h (command.Close j) before = gain-nothing (is_live k h) before
+
+  -- a command more adds what it hands over
+  pub deliveries-more : (port k : ℕ) (e : Event ST SP RT RP) (h : History ST SP RT RP) → deliveries port k (e ∷ h) ≡ deliveries port k h ++ (if is_live k h then gained port k e.0 h else [])
+  unfolding by_moment live_at
+  deliveries-more port k e h = one-more port k (moments h) e.0 h
 
   -- the two are the same
   pub deliveries-delivered : (port k : ℕ) (h : History ST SP RT RP) → deliveries port k h ≡ delivered port k h
