@@ -1,0 +1,25 @@
+-- The lists that Queues keeps, by number, and what they get.
+use Rattle.std.specs.Prelude.{◌≡◌, ℕ, true, List, Option, Some, None, is_some, nat_eq}
+use Rattle.std.specs.HashMap.{get}
+use Rattle.neli_deliveries.specs.declared.delivery.Delivery.{Delivery}
+use Rattle.neli_queues.specs.declared.piece.Piece.{Piece}
+use Rattle.neli_queues.specs.declared.queues.Queues.{Queues}
+use Rattle.neli_queues.specs.Pieces.{gained}
+
+-- the port of the router
+abbrev pub kept_port : Queues → ℕ
+kept_port s = s.port
+
+-- what waits for a number, or for multicast, where it is open
+abbrev pub pending_of : Queues → Option ℕ → Option (List Delivery)
+pending_of s None = s.multicast
+pending_of s (Some q) = get nat_eq s.numbers q
+
+-- what a list gets of deliveries for multicast and of pieces
+abbrev pub added : List Delivery → List Piece → Option ℕ → List Delivery
+added news ps None = news
+added news ps (Some q) = gained q ps
+
+-- each open list gets of them what it is due
+abbrev pub AreDue : Queues → (Option ℕ → List Delivery) → List Delivery → List Piece → Type 0
+AreDue s due news ps = (w : Option ℕ) → is_some (pending_of s w) ≡ true → added news ps w ≡ due w

@@ -1,0 +1,182 @@
+//! A list of deliveries for each open number.
+
+ghost use Rattle.std.specs.Prelude.{◌≡◌, ◌++◌, ℕ, Option, IfOk, OnOk, OnErr, option_map};
+ghost use Rattle.neli_msg.specs.Agreement.{untyped_layout};
+ghost use Rattle.neli_msg.specs.Cuts.{cut_of};
+ghost use Rattle.neli_deliveries.specs.Deliveries.{is_would_block, received};
+ghost use Rattle.neli_queues.specs.Pieces.{is_open};
+ghost use Rattle.neli_queues.specs.Queues.{AreDue, added, kept_port, pending_of};
+
+use crate::hanging::{Numbers, hang_all, have_room};
+use crate::piece::Piece;
+use crate::reading::read;
+use crate::staging::{listed, stage_each, stage_fault, stage_messages};
+use neli_consts::NlType;
+use neli_deliveries::{Deliveries, Delivery};
+use neli_msg::{Nlmsghdr, RouterError, SocketError, cut};
+use neli_util::Groups;
+use neli_wire::{FromBytesWithInput, NoMemory, Size};
+use std::alloc::Global;
+use std::collections::{HashMap, LinkedList};
+use std::io::ErrorKind;
+
+/// A list of deliveries for each open number, found by a hash of the number, and one for multicast.
+#[derive(Drop)]
+pub struct Queues {
+    port: u32,
+    alloc: Global,
+    multicast: Option<LinkedList<Delivery>>,
+    numbers: Numbers,
+}
+
+/// Whether the error is that the link would block.
+fn would_block(error: &SocketError) -> bool
+    ensures { result ≡ is_would_block error.now }
+{
+    matches!(error, SocketError::Io(ErrorKind::WouldBlock))
+}
+
+impl Queues {
+    /// The list for a number, or for multicast, where it is open.
+    fn list(&self, whose: Option<u32>) -> Option<&LinkedList<Delivery>>
+        ensures { option_map (λ ds. ds.now) result ≡ pending_of self.now whose }
+    {
+        match whose {
+            None => self.multicast.as_ref(),
+            Some(number) => self.numbers.get(&number),
+        }
+    }
+
+    /// What a datagram that came to these groups brings: deliveries for multicast, and pieces for
+    /// numbers.
+    fn staged(
+        &self,
+        bytes: &[u8],
+        groups: &Groups,
+    ) -> Result<(LinkedList<Delivery>, Vec<Piece>), NoMemory>
+        ensures { IfOk result (λ r. AreDue self.now (λ w. received (kept_port self.now)
+            (is_open self.now.numbers) w (cut_of untyped_layout bytes.now) groups.now) r.0 r.1.items) }
+    {
+        let (messages, fault) = cut(self.alloc, bytes)?;
+        let mut pieces = Vec::new(self.alloc);
+        if groups.is_empty() {
+            stage_messages(self.alloc, self.port, &self.numbers, messages, &mut pieces)?;
+            stage_fault(self.alloc, &self.numbers, fault, &mut pieces)?;
+            Ok((LinkedList::new(self.alloc), pieces))
+        } else {
+            let news = listed(self.alloc, messages)?;
+            stage_fault(self.alloc, &self.numbers, fault, &mut pieces)?;
+            Ok((news, pieces))
+        }
+    }
+
+    /// Appends these deliveries to multicast's list, if it is open, and the pieces to those of
+    /// their numbers.
+    fn hand_over(
+        &mut self,
+        mut news: LinkedList<Delivery>,
+        pieces: Vec<Piece>,
+    ) -> Result<(), NoMemory>
+        ensures port { kept_port self.new ≡ kept_port self.old }
+        ensures ok { OnOk result ((w : Option ℕ) → pending_of self.new w
+            ≡ option_map (λ ds. ds ++ added news pieces.items w) (pending_of self.old w)) }
+        ensures err { OnErr result (self.new ≡ self.old) }
+    {
+        if !have_room(&self.numbers, &pieces) {
+            return Err(NoMemory);
+        }
+        if let Some(waiting) = &mut self.multicast {
+            waiting.append(&mut news)?;
+        }
+        hang_all(&mut self.numbers, pieces);
+        Ok(())
+    }
+}
+
+impl Deliveries for Queues {
+    ghost port_of = { kept_port };
+
+    ghost pending = { pending_of };
+
+    fn new(alloc: Global, port: u32) -> Self {
+        Queues {
+            port,
+            alloc,
+            multicast: Some(LinkedList::new(alloc)),
+            numbers: HashMap::new(alloc),
+        }
+    }
+
+    fn port(&self) -> u32 {
+        self.port
+    }
+
+    fn is_open(&self, whose: Option<u32>) -> bool {
+        self.list(whose).is_some()
+    }
+
+    fn open(&mut self, number: u32) -> Result<(), NoMemory> {
+        self.numbers.insert(number, LinkedList::new(self.alloc))?;
+        Ok(())
+    }
+
+    fn close(&mut self, whose: Option<u32>) {
+        match whose {
+            None => self.multicast = None,
+            Some(number) => {
+                let _ = self.numbers.remove(&number);
+            }
+        }
+    }
+
+    fn datagram(&mut self, bytes: &[u8], groups: &Groups) -> Result<(), NoMemory> {
+        if bytes.is_empty() {
+            return Ok(());
+        }
+        let (news, pieces) = self.staged(bytes, groups)?;
+        self.hand_over(news, pieces)
+    }
+
+    fn fault(&mut self, error: SocketError) -> Result<(), NoMemory> {
+        if would_block(&error) {
+            return Ok(());
+        }
+        let mut pieces = Vec::new(self.alloc);
+        stage_each(
+            self.alloc,
+            &self.numbers,
+            &Delivery::Fault(error),
+            &mut pieces,
+        )?;
+        self.hand_over(LinkedList::new(self.alloc), pieces)
+    }
+
+    fn first<T: NlType, P: FromBytesWithInput + Size>(
+        &self,
+        alloc: Global,
+        whose: Option<u32>,
+    ) -> Result<Option<Result<Nlmsghdr<T, P>, RouterError<T, P>>>, NoMemory> {
+        let Some(list) = self.list(whose) else {
+            return Ok(None);
+        };
+        match list.front() {
+            None => Ok(None),
+            Some(delivery) => Ok(Some(read(alloc, delivery)?)),
+        }
+    }
+
+    fn drop_first(&mut self, whose: Option<u32>) {
+        match whose {
+            None => {
+                if let Some(list) = &mut self.multicast {
+                    let _ = list.pop_front();
+                }
+            }
+            Some(number) => {
+                if let Some(list) = self.numbers.get_mut(&number) {
+                    let _ = list.pop_front();
+                }
+            }
+        }
+    }
+}

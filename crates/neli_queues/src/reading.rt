@@ -1,0 +1,44 @@
+//! A delivery as a caller's types.
+
+ghost use Rattle.std.specs.Prelude.{IfOk};
+ghost use Rattle.neli_deliveries.specs.declared.delivery.Delivery.TheVariants as delivery;
+ghost use Rattle.neli_deliveries.specs.Readings.{IsReading};
+
+use neli_attr::Buffer;
+use neli_consts::NlType;
+use neli_deliveries::Delivery;
+use neli_msg::{Nlmsghdr, RouterError};
+use neli_wire::{FromBytesWithInput, NoMemory, Size};
+use std::alloc::Global;
+
+/// A message as these types, or why it can't be read as them.
+fn typed<T: NlType, P: FromBytesWithInput + Size>(
+    alloc: Global,
+    message: &Nlmsghdr<u16, Buffer>,
+) -> Result<Result<Nlmsghdr<T, P>, RouterError<T, P>>, NoMemory>
+    ensures { IfOk result
+        (IsReading T.wire_value P.view P.wire_length P.read (delivery.Message message.now)) }
+{
+    match message.to_typed::<T, P>(alloc) {
+        Ok(message) => Ok(Ok(message)),
+        Err(RouterError::Memory) => Err(NoMemory),
+        Err(error) => Ok(Err(error)),
+    }
+}
+
+/// A delivery as these types: a message, or why there is none.
+pub(crate) fn read<T: NlType, P: FromBytesWithInput + Size>(
+    alloc: Global,
+    delivery: &Delivery,
+) -> Result<Result<Nlmsghdr<T, P>, RouterError<T, P>>, NoMemory>
+    ensures { IfOk result (IsReading T.wire_value P.view P.wire_length P.read delivery.now) }
+{
+    match delivery {
+        Delivery::Message(message) => typed(alloc, message),
+        Delivery::Stray(message) => match typed(alloc, message)? {
+            Ok(message) => Ok(Err(RouterError::BadSeqOrPid(message))),
+            Err(error) => Ok(Err(error)),
+        },
+        Delivery::Fault(error) => Ok(Err(RouterError::Socket(error.try_clone()?))),
+    }
+}
