@@ -15,6 +15,7 @@ use crate::{Deliveries, HandleState, NlRouterReceiverHandle, Reply};
 use neli_consts::{NlType, NlmF};
 use neli_genl::Genlmsghdr;
 use neli_msg::{NlPayload, NlmsghdrBuilder, RouterError, SocketError};
+use neli_queues::Queues;
 use neli_util::Groups;
 use neli_wire::{FromBytesWithInput, MsgError, NoMemory, Size, ToBytes};
 use std::alloc::Global;
@@ -22,9 +23,10 @@ use std::alloc::Global;
 /// A router: gives each request a sequence number, and each reply to the handle that asked.
 ///
 /// It has no link: requests come out as bytes, and the caller hands in the datagrams that arrive
-/// and the faults of the link. What waits for a handle is kept in a `D`.
+/// and the faults of the link. What waits for a handle is kept in a `D`, plain lists where nothing
+/// else is said.
 #[derive(Drop)]
-pub struct NlRouter<D> {
+pub struct NlRouter<D = Queues> {
     deliveries: D,
     next_seq: u32,
 }
@@ -157,7 +159,8 @@ impl<D: Deliveries> NlRouter<D> {
     }
 
     /// The handle's next item, read as these types whatever the handle's own are; or the end, or
-    /// that it waits. A handle that is not open here is given `ClosedChannel`, and then the end.
+    /// that it waits. A handle that is not open here is given `ClosedChannel`, and is ended then:
+    /// it gives the end everywhere.
     ///
     /// Refused only where memory runs out, and then the router and the handle are as they were.
     pub fn next_typed<T: NlType, P: FromBytesWithInput + Size + Drop, RT, RP>(
@@ -215,8 +218,11 @@ impl<D: Deliveries> NlRouter<D> {
         }
     }
 
-    /// Closes a handle: what waits for it is given up, and its number may be used again. Where it
-    /// is not open here nothing changes. It takes no memory.
+    /// Closes a handle: what waits for it is given up, and its number may be used again. It takes
+    /// no memory.
+    ///
+    /// A handle is known by its number. Where that is not open here nothing changes; a handle of
+    /// another router closes the one that has the same number here.
     pub fn close<RT, RP>(&mut self, handle: NlRouterReceiverHandle<RT, RP>)
         ensures port { D.port_of self.new.deliveries ≡ D.port_of self.old.deliveries }
         ensures next_seq { self.new.next_seq ≡ self.old.next_seq }

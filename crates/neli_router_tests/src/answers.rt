@@ -1,0 +1,143 @@
+//! Where the answers of a handle end, and what the last of them is.
+
+use crate::script::Step::{Come, Read, Send};
+use crate::script::Told::{
+    Ack, Done, DumpEnd, End, Message, NoAck, Refused, Sent, UnexpectedAck, Waits,
+};
+use crate::script::{Step, Told, play};
+
+/// A reply to number 0.
+const REPLY: &str = "10000000100000000000000000000000";
+
+/// Two messages of a dump for number 0.
+const TWO: &str = "1000000010000200000000000000000010000000100002000000000000000000";
+
+/// An acknowledgement of number 0.
+const ACK: &str = "240000000200000100000000000000000000000010000000100005000000000000000000";
+
+/// The error -22 to number 0, with the header of the request.
+const ERROR: &str = "24000000020000010000000000000000eaffffff10000000100005000000000000000000";
+
+/// Flags, datagrams and reads of one request.
+const SCRIPTS: [(&str, &[(Step, Told)]); 11] = [
+    (
+        "a dump",
+        &[
+            (Send(16, 0x300, ""), Sent(0, 0)),
+            (Come(TWO, 0), Done),
+            (Come("1400000003000200000000000000000000000000", 0), Done),
+            (Read(1), Message(16, 0, 0)),
+            (Read(1), Message(16, 0, 0)),
+            (Read(1), DumpEnd(0)),
+            (Read(1), End),
+        ],
+    ),
+    (
+        "a dump that ends with a code",
+        &[
+            (Send(16, 0x300, ""), Sent(0, 0)),
+            (Come(TWO, 0), Done),
+            (Come("14000000030002000000000000000000eaffffff", 0), Done),
+            (Read(1), Message(16, 0, 0)),
+            (Read(1), Message(16, 0, 0)),
+            (Read(1), DumpEnd(-22)),
+            (Read(1), End),
+        ],
+    ),
+    (
+        "a dump that has not ended",
+        &[
+            (Send(16, 0x300, ""), Sent(0, 0)),
+            (Come(TWO, 0), Done),
+            (Read(1), Message(16, 0, 0)),
+            (Read(1), Message(16, 0, 0)),
+            (Read(1), Waits),
+        ],
+    ),
+    (
+        "one reply, and no acknowledgement asked for",
+        &[
+            (Send(16, 0, ""), Sent(0, 0)),
+            (Come(REPLY, 0), Done),
+            (Read(1), Message(16, 0, 0)),
+            (Read(1), End),
+        ],
+    ),
+    (
+        "a reply in place of the acknowledgement",
+        &[
+            (Send(16, 4, ""), Sent(0, 0)),
+            (Come(REPLY, 0), Done),
+            (Come(REPLY, 0), Done),
+            (Read(1), Message(16, 0, 0)),
+            (Read(1), NoAck),
+            (Read(1), End),
+        ],
+    ),
+    (
+        "a reply and the acknowledgement",
+        &[
+            (Send(16, 4, ""), Sent(0, 0)),
+            (Come(REPLY, 0), Done),
+            (Read(1), Message(16, 0, 0)),
+            (Read(1), Waits),
+            (Come(ACK, 0), Done),
+            (Read(1), Ack(0)),
+            (Read(1), End),
+        ],
+    ),
+    (
+        "the acknowledgement alone",
+        &[
+            (Send(16, 4, ""), Sent(0, 0)),
+            (Come(ACK, 0), Done),
+            (Read(1), Ack(0)),
+            (Read(1), End),
+        ],
+    ),
+    (
+        "an error",
+        &[
+            (Send(16, 0, ""), Sent(0, 0)),
+            (Come(ERROR, 0), Done),
+            (Read(1), Refused(-22, 16)),
+            (Read(1), End),
+        ],
+    ),
+    (
+        "an error in place of the acknowledgement",
+        &[
+            (Send(16, 4, ""), Sent(0, 0)),
+            (Come(ERROR, 0), Done),
+            (Read(1), Refused(-22, 16)),
+            (Read(1), End),
+        ],
+    ),
+    (
+        "an error after a reply",
+        &[
+            (Send(16, 4, ""), Sent(0, 0)),
+            (Come(REPLY, 0), Done),
+            (Come(ERROR, 0), Done),
+            (Read(1), Message(16, 0, 0)),
+            (Read(1), NoAck),
+            (Read(1), End),
+        ],
+    ),
+    (
+        "an acknowledgement of a dump",
+        &[
+            (Send(16, 0x304, ""), Sent(0, 0)),
+            (Come(ACK, 0), Done),
+            (Read(1), UnexpectedAck),
+            (Read(1), End),
+        ],
+    ),
+];
+
+#[test]
+fn answers_end_as_flags_and_messages_say(rt: HostRuntime) {
+    for (row, steps) in SCRIPTS {
+        play(&rt, rt.alloc(), row, 0, steps);
+    }
+}

@@ -1,0 +1,29 @@
+//! Tests of the router by the public calls of `neli_router`, over the lists of `neli_queues`.
+//!
+//! - [`script`]: a list of steps with what each of them answers, played by one run. The other files are
+//!   tables of scripts.
+//! - [`numbers`]: requests as bytes, and which number each has. [`answers`]: where a handle's answers end.
+//! - [`datagrams`]: who gets what of a datagram. [`faults`]: faults of the link.
+//! - [`handles`]: handles that another router made, and closed ones. [`many`]: thousands of requests.
+//! - [`recorded`]: conversations with a kernel.
+//!
+//! Expected values are worked out by hand from RFC 3549 section 2.3.2 and the headers of Linux; those of
+//! the recorded conversations are what libmnl reads in them.
+#![tactic(auto)]
+
+#[cfg(test)]
+mod answers;
+#[cfg(test)]
+mod datagrams;
+#[cfg(test)]
+mod faults;
+#[cfg(test)]
+mod handles;
+#[cfg(test)]
+mod many;
+#[cfg(test)]
+mod numbers;
+#[cfg(test)]
+mod recorded;
+#[cfg(test)]
+mod script;

@@ -1,0 +1,92 @@
+//! Many requests at once: each reply in a datagram of its own, and each handle reads its own.
+
+use crate::script::{Raw, Refusal};
+use neli_attr::Buffer;
+use neli_consts::NlmF;
+use neli_msg::NlPayload;
+use neli_queues::Queues;
+use neli_router::{NlRouter, NlRouterReceiverHandle, Reply};
+use neli_util::Groups;
+use std::alloc::Global;
+use std::process::Abort;
+
+/// A handle of these tests.
+type Handle = NlRouterReceiverHandle<u16, Buffer>;
+
+/// A message of type 16 with this number, to port 0: its 16 bytes.
+fn reply(number: u32) -> [u8; 16] {
+    let [a, b, c, d] = number.to_le_bytes();
+    [16, 0, 0, 0, 16, 0, 0, 0, a, b, c, d, 0, 0, 0, 0]
+}
+
+/// Sends so many requests.
+fn send_all(
+    rt: &impl Abort,
+    alloc: Global,
+    router: &mut NlRouter<Queues>,
+    count: u32,
+) -> Vec<Handle> {
+    let mut handles = Vec::new(alloc);
+    for _ in 0..count {
+        let sent: Result<(Vec<u8>, Handle), Refusal> = router.send(
+            alloc,
+            16u16,
+            NlmF::empty(),
+            NlPayload::Payload(Buffer::new(alloc)),
+        );
+        let (_bytes, handle) = sent.expect(rt, "bytes to be sent");
+        handles.push(handle).expect(rt, "memory");
+    }
+    handles
+}
+
+/// Hands in a reply to each of so many requests, a datagram each.
+fn reply_all(rt: &impl Abort, alloc: Global, router: &mut NlRouter<Queues>, count: u32) {
+    let no_groups = Groups::empty(alloc);
+    for number in 0..count {
+        router
+            .processing_loop(&reply(number), &no_groups)
+            .expect(rt, "memory");
+    }
+}
+
+/// The number of the message that a reply gives; none where it gives no message.
+fn number_in(reply: &Reply<u16, Buffer>) -> Option<u32> {
+    match reply {
+        Reply::Item(Ok(message)) => Some(number_of(message)),
+        _ => None,
+    }
+}
+
+/// The number of a message.
+fn number_of(message: &Raw) -> u32 {
+    *message.nl_seq()
+}
+
+/// Sends so many requests, hands in their replies, and reads each from its handle.
+fn round(rt: &impl Abort, alloc: Global, count: u32) {
+    let (mut router, _) = NlRouter::<Queues>::new(alloc, 0);
+    let mut handles = send_all(rt, alloc, &mut router, count);
+    reply_all(rt, alloc, &mut router, count);
+    let mut number = 0u32;
+    for handle in handles.iter_mut() {
+        let read = router
+            .next_typed::<u16, Buffer, _, _>(alloc, handle)
+            .expect(rt, "memory");
+        assert_eq!(rt; number_in(&read), Some(number));
+        number = number.wrapping_add(1);
+    }
+    assert_eq!(rt; number, count);
+}
+
+#[test]
+fn five_thousand_requests_have_their_replies(rt: HostRuntime) {
+    let alloc = rt.alloc();
+    round(&rt, alloc, 5000);
+}
+
+#[test]
+fn twenty_thousand_requests_have_their_replies(rt: HostRuntime) {
+    let alloc = rt.alloc();
+    round(&rt, alloc, 20000);
+}

@@ -1,0 +1,182 @@
+//! Scripts: steps and what each of them answers.
+
+use neli_attr::Buffer;
+use neli_consts::NlmF;
+use neli_msg::{NlPayload, Nlmsghdr, RouterError, SocketError};
+use neli_queues::Queues;
+use neli_router::{Command, Outcome, run};
+use neli_util::Groups;
+use neli_wire::DeError;
+use std::alloc::Global;
+use std::io::ErrorKind;
+use std::process::Abort;
+
+/// What is done.
+#[derive(Clone, Copy, Debug)]
+pub enum Step {
+    /// The number of the next request is set.
+    Next(u32),
+    /// A request of this type, with these flags and this body in hexadecimal, is sent.
+    Send(u16, u16, &'static str),
+    /// A datagram, in hexadecimal, comes to the groups of this mask.
+    Come(&'static str, u32),
+    /// The link fails.
+    Fail(ErrorKind),
+    /// The next item of a handle is read: of multicast, or of the k-th request that was sent.
+    Read(usize),
+    /// A handle is closed.
+    Close(usize),
+}
+
+/// What a step answers, by what the tests compare of it.
+#[derive(Clone, Copy, Debug, PartialEq, Eq)]
+pub enum Told {
+    Done,
+    /// A request with this number and this port.
+    Sent(u32, u32),
+    /// The number is in use.
+    InUse(u32),
+    /// A message: its type, its number, and how many bytes its payload has.
+    Message(u16, u32, usize),
+    /// An acknowledgement of a request with this number.
+    Ack(u32),
+    /// The end of a dump, with this code.
+    DumpEnd(i32),
+    /// A stray message: its number and its port.
+    Stray(u32, u32),
+    /// An error with this code, and the type of the request that it echoes.
+    Refused(i32, u16),
+    NoAck,
+    UnexpectedAck,
+    Closed,
+    /// A datagram ends inside a header.
+    Short,
+    /// The link failed.
+    Failed(ErrorKind),
+    End,
+    Waits,
+    NoHandle,
+    /// None of these.
+    Other,
+}
+
+/// A message that no type is given to.
+pub type Raw = Nlmsghdr<u16, Buffer>;
+
+/// Why a router refuses.
+pub type Refusal = RouterError<u16, Buffer>;
+
+/// An outcome of these tests' runs.
+pub type Came = Outcome<u16, Buffer, u16, Buffer>;
+
+/// What a message is.
+fn message(message: &Raw) -> Told {
+    match message.nl_payload() {
+        NlPayload::Payload(body) => Told::Message(
+            *message.nl_type(),
+            *message.nl_seq(),
+            body.len(),
+        ),
+        NlPayload::Ack(answer) => Told::Ack(*answer.nlmsg().nl_seq()),
+        NlPayload::DumpExtAck(answer) => Told::DumpEnd(*answer.error()),
+        _ => Told::Other,
+    }
+}
+
+/// Why there is no message.
+fn refusal(error: &Refusal) -> Told {
+    match error {
+        RouterError::Socket(SocketError::De(DeError::Io(ErrorKind::UnexpectedEof))) => Told::Short,
+        RouterError::Socket(SocketError::Io(kind)) => Told::Failed(*kind),
+        RouterError::Nlmsgerr(answer) => Told::Refused(*answer.error(), *answer.nlmsg().nl_type()),
+        RouterError::BadSeqOrPid(stray) => Told::Stray(*stray.nl_seq(), *stray.nl_pid()),
+        RouterError::NoAck => Told::NoAck,
+        RouterError::UnexpectedAck => Told::UnexpectedAck,
+        RouterError::ClosedChannel => Told::Closed,
+        RouterError::SeqInUse(number) => Told::InUse(*number),
+        _ => Told::Other,
+    }
+}
+
+/// What an item is.
+pub fn item(item: &Result<Raw, Refusal>) -> Told {
+    match item {
+        Ok(found) => message(found),
+        Err(error) => refusal(error),
+    }
+}
+
+/// Four bytes from a place on as a number, the lowest first; 0 where they are not all there.
+fn long(bytes: &[u8], at: usize) -> u32 {
+    let Some(rest) = bytes.get(at..) else {
+        return 0;
+    };
+    match rest {
+        [a, b, c, d, ..] => u32::from_le_bytes([*a, *b, *c, *d]),
+        _ => 0,
+    }
+}
+
+/// What an outcome is.
+fn kind_of(outcome: &Came) -> Told {
+    match outcome {
+        Outcome::Done => Told::Done,
+        Outcome::Sent(bytes) => Told::Sent(long(bytes, 8), long(bytes, 12)),
+        Outcome::NotSent(error) => refusal(error),
+        Outcome::Item(found) => item(found),
+        Outcome::End => Told::End,
+        Outcome::Waits => Told::Waits,
+        Outcome::NoHandle => Told::NoHandle,
+    }
+}
+
+/// The bytes that are to be sent by the outcome at a place; none where it is another one.
+pub fn sent_at(came: &[Came], at: usize) -> &[u8] {
+    match came.get(at) {
+        Some(Outcome::Sent(bytes)) => bytes.as_slice(),
+        _ => &[],
+    }
+}
+
+/// The bytes of a hexadecimal text.
+pub fn bytes_of(rt: &impl Abort, alloc: Global, text: &str) -> Vec<u8> {
+    hex::decode(alloc, text).expect(rt, "hexadecimal text")
+}
+
+/// The command of a step.
+fn command(rt: &impl Abort, alloc: Global, step: Step) -> Command<u16, Buffer> {
+    match step {
+        Step::Next(number) => Command::SetNextSeq(number),
+        Step::Send(nl_type, flags, body) => {
+            let body = Buffer::from(bytes_of(rt, alloc, body));
+            Command::Send(nl_type, NlmF::from(flags), NlPayload::Payload(body))
+        }
+        Step::Come(text, mask) => {
+            let groups = Groups::new_bitmask(alloc, mask).expect(rt, "memory");
+            Command::Datagram(bytes_of(rt, alloc, text), groups)
+        }
+        Step::Fail(kind) => Command::Fault(SocketError::Io(kind)),
+        Step::Read(k) => Command::Read(k),
+        Step::Close(k) => Command::Close(k),
+    }
+}
+
+/// Does these steps in their order with a new router of this port.
+pub fn outcomes(rt: &impl Abort, alloc: Global, port: u32, steps: &[(Step, Told)]) -> Vec<Came> {
+    let mut commands = Vec::new(alloc);
+    for (step, _) in steps {
+        commands
+            .push(command(rt, alloc, *step))
+            .expect(rt, "memory");
+    }
+    run::<Queues, u16, Buffer, u16, Buffer>(alloc, port, commands).expect(rt, "memory")
+}
+
+/// Does these steps with a new router of this port, and asserts that each answers what stands beside it.
+pub fn play(rt: &impl Abort, alloc: Global, row: &str, port: u32, steps: &[(Step, Told)]) {
+    let came = outcomes(rt, alloc, port, steps);
+    assert_eq!(rt; came.len(), steps.len(), "{row}");
+    for (outcome, (step, want)) in came.iter().zip(steps) {
+        assert_eq!(rt; kind_of(outcome), *want, "{row}, at {step:?}");
+    }
+}
