@@ -1,49 +1,12 @@
 -- What a run of the program prints, and how it ends.
-use Rattle.std.specs.Prelude.{◌≡◌, ◌⊎◌, ℕ, List, [], ◌∷◌, ◌++◌, map, codes, string_bytes, Option, Result, IsOkAnd, IsErrAnd, ⊤}
-use Rattle.std.specs.IoError.{error_kind}
+use Rattle.std.specs.Prelude.{◌≡◌, ◌⊎◌, ℕ, List, ◌++◌, Option, ⊤}
 use Rattle.std.specs.Io.KnownBytes.{Appends, Keeps}
-use Rattle.std.specs.declared.vec.Vec.{Vec}
-use Rattle.std.specs.declared.string.String.{String}
-use Rattle.std.specs.declared.alloc.Global.{Global}
-use Rattle.std.specs.declared.io.Error.{Error}
-use Rattle.std.specs.declared.io.ErrorKind.TheVariants.{OutOfMemory}
 use Rattle.neli_tool_base.specs.declared.line.Ending.{Ending}
 use Rattle.neli_tool_base.specs.declared.line.Ending.TheVariants.{Whole, Memory}
-use Rattle.neli_tool_base.specs.declared.run.Request.{Request}
-use Rattle.neli_tool_base.specs.declared.run.Request.TheVariants as request
 use Rattle.neli_tool_base.specs.declared.status.Status.{Status}
 use Rattle.neli_tool_base.specs.declared.status.Status.TheVariants as status
 use Rattle.neli_tool_base.specs.Inputs.{IsInput}
 use Rattle.neli_tool_base.specs.Lines.{ending}
-
--- ---- what is asked for
-
--- the words after the program's name, or why they were not read
-abbrev pub Words : Type 0
-Words = Result (Vec (String Global) Global) Error
-
--- they are the one word `list`
-abbrev pub AskForList : Words → Type 0
-AskForList words = IsOkAnd words (λ w. map string_bytes w.items ≡ codes "list" ∷ [])
-
--- they are the words `list` and `zero`
-abbrev pub AskForZero : Words → Type 0
-AskForZero words = IsOkAnd words (λ w. map string_bytes w.items ≡ codes "list" ∷ codes "zero" ∷ [])
-
--- memory ran out while they were read
-abbrev pub RanOutOfMemory : Words → Type 0
-RanOutOfMemory words = IsErrAnd words (λ e. error_kind e ≡ OutOfMemory)
-
--- they ask for nothing that the program does
-abbrev pub AreWrong : Words → Type 0
-AreWrong words = (¬ AskForList words) × (¬ AskForZero words) × (¬ RanOutOfMemory words)
-
--- what these words ask for
-abbrev pub Asks : Words → Request → Type 0
-Asks words request.List = AskForList words
-Asks words request.Zero = AskForZero words
-Asks words request.Memory = RanOutOfMemory words
-Asks words request.Usage = AreWrong words
 
 -- ---- how a run ends
 
@@ -54,6 +17,7 @@ status_code status.Fault = 1
 status_code status.Memory = 1
 status_code status.NoInput = 1
 status_code status.NoOutput = 1
+status_code status.BadLine = 2
 status_code status.Usage = 2
 status_code status.NoUsage = 2
 
@@ -92,9 +56,3 @@ Prints makes known old new status.Memory =
 Prints makes known old new status.NoInput = Keeps old new
 Prints makes known old new status.NoOutput = ⊤
 Prints makes known old new s = ⊥
-
--- complaints gain the usage line; of complaints that fail nothing is known
-abbrev pub Complains : Option (List ℕ) → Option (List ℕ) → Status → Type 0
-Complains old new status.Usage = Appends old new (codes "usage: neli_tool list [zero] | replay\n")
-Complains old new status.NoUsage = ⊤
-Complains old new s = ⊥

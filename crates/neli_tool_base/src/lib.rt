@@ -1,6 +1,5 @@
-//! What the program `neli_tool` does, over words, a reader and writers of the caller's.
+//! What the program `neli_tool` does with a datagram, over a reader and a writer of the caller's.
 //!
-//! - [`run`] looks at the words, does what they ask for, and answers how the run ends.
 //! - [`listing`] makes the listing of a datagram, and `list` reads one and writes it.
 //! - [`rewriting`] writes a datagram again, with zeros for its padding, and `list_zero` does so of an input.
 //! - [`line`] is the text of one message, and of what ends a datagram.
@@ -12,5 +11,4 @@ pub mod input;
 pub mod line;
 pub mod listing;
 pub mod rewriting;
-pub mod run;
 pub mod status;

@@ -6,7 +6,7 @@ ghost use Rattle.neli_tool_base.specs.Runs.{status_code};
 /// How a run of the program ends.
 #[derive(Clone, Copy, Debug, PartialEq, Eq)]
 pub enum Status {
-    /// The whole datagram is listed, or written again.
+    /// The whole datagram is listed or written again, or the whole script is answered.
     Whole,
     /// The text ends with the line of a fault, or of an unread tail.
     Fault,
@@ -16,6 +16,8 @@ pub enum Status {
     NoInput,
     /// The output failed. A part of the text may be written.
     NoOutput,
+    /// The script has a bad line, which the one line that is written names.
+    BadLine,
     /// The arguments ask for nothing that the program does, and the usage line is written.
     Usage,
     /// The arguments ask for nothing that the program does, and the usage line could not be written.
@@ -30,7 +32,7 @@ impl Status {
         match self {
             Status::Whole => 0,
             Status::Fault | Status::Memory | Status::NoInput | Status::NoOutput => 1,
-            Status::Usage | Status::NoUsage => 2,
+            Status::BadLine | Status::Usage | Status::NoUsage => 2,
         }
     }
 }

@@ -1,8 +1,9 @@
 //! What the arguments ask for, and what is answered.
 
 use crate::output::Narrow;
-use neli_tool_base::run::{Request, requested, run};
+use neli_queues::Queues;
 use neli_tool_base::status::Status;
+use neli_tool_run::run::{Request, requested, run};
 use std::alloc::Global;
 use std::io;
 use std::io::ErrorKind;
@@ -10,7 +11,7 @@ use std::process::Abort;
 
 const USAGE: &str = "usage: neli_tool list [zero] | replay\n";
 
-/// A datagram of one byte.
+/// A datagram, or a script, of one byte.
 const SHORT: [u8; 1] = [0];
 
 /// The words of a command line.
@@ -24,9 +25,9 @@ fn words(rt: &impl Abort, alloc: Global, given: &[&str]) -> io::Result<Vec<Strin
 }
 
 #[test]
-fn words_ask_for_a_listing_or_are_wrong_use(rt: HostRuntime) {
+fn words_ask_for_a_listing_or_a_script_or_are_wrong_use(rt: HostRuntime) {
     let alloc = rt.alloc();
-    let rows: [(&[&str], Request, Status, u8, &str, &str); 11] = [
+    let rows: [(&[&str], Request, Status, u8, &str, &str); 14] = [
         (
             &["list"],
             Request::List,
@@ -71,7 +72,31 @@ fn words_ask_for_a_listing_or_are_wrong_use(rt: HostRuntime) {
             "",
             USAGE,
         ),
-        (&["replay"], Request::Usage, Status::Usage, 2, "", USAGE),
+        (
+            &["replay"],
+            Request::Replay,
+            Status::BadLine,
+            2,
+            "bad line 1\n",
+            "",
+        ),
+        (&["replays"], Request::Usage, Status::Usage, 2, "", USAGE),
+        (
+            &["replay", "zero"],
+            Request::Usage,
+            Status::Usage,
+            2,
+            "",
+            USAGE,
+        ),
+        (
+            &["list", "replay"],
+            Request::Usage,
+            Status::Usage,
+            2,
+            "",
+            USAGE,
+        ),
         (
             &["zero", "list"],
             Request::Usage,
@@ -87,7 +112,13 @@ fn words_ask_for_a_listing_or_are_wrong_use(rt: HostRuntime) {
         let mut input = SHORT.as_slice();
         let mut output = Vec::new(alloc);
         let mut complaints = Vec::new(alloc);
-        let status = run(alloc, &words, &mut input, &mut output, &mut complaints);
+        let status = run::<Queues, _, _, _>(
+            alloc,
+            &words,
+            &mut input,
+            &mut output,
+            &mut complaints,
+        );
         assert_eq!(rt; status, want, "{given:?}");
         assert_eq!(rt; status.code(), code, "{given:?}");
         assert_eq!(rt; output.as_slice(), text.as_bytes(), "{given:?}");
@@ -121,7 +152,13 @@ fn words_that_are_not_read(rt: HostRuntime) {
         let mut input = SHORT.as_slice();
         let mut output = Vec::new(alloc);
         let mut complaints = Vec::new(alloc);
-        let status = run(alloc, &words, &mut input, &mut output, &mut complaints);
+        let status = run::<Queues, _, _, _>(
+            alloc,
+            &words,
+            &mut input,
+            &mut output,
+            &mut complaints,
+        );
         assert_eq!(rt; status, want, "{kind:?}");
         assert_eq!(rt; output.as_slice(), text.as_bytes(), "{kind:?}");
         assert_eq!(rt; complaints.as_slice(), complaint.as_bytes(), "{kind:?}");
@@ -144,7 +181,13 @@ fn complaints_that_fail_are_still_wrong_use(rt: HostRuntime) {
         let mut input = SHORT.as_slice();
         let mut output = Vec::new(alloc);
         let mut complaints = Narrow { room, flushes };
-        let status = run(alloc, &words, &mut input, &mut output, &mut complaints);
+        let status = run::<Queues, _, _, _>(
+            alloc,
+            &words,
+            &mut input,
+            &mut output,
+            &mut complaints,
+        );
         assert_eq!(rt; status, want, "{row}");
         assert_eq!(rt; status.code(), 2, "{row}");
         assert!(rt; output.is_empty(), "{row}");
@@ -159,6 +202,7 @@ fn each_end_has_its_exit_status(rt: HostRuntime) {
         (Status::Memory, 1),
         (Status::NoInput, 1),
         (Status::NoOutput, 1),
+        (Status::BadLine, 2),
         (Status::Usage, 2),
         (Status::NoUsage, 2),
     ];

@@ -1,8 +1,9 @@
 //! Any one allocation may be refused in these tests (`rt try --test --fail-alloc N`). What is printed is then
 //! the whole text, or whole lines of it and the line for out of memory, and the status says which.
 
-use neli_tool_base::run::run;
+use neli_queues::Queues;
 use neli_tool_base::status::Status;
+use neli_tool_run::run::run;
 use std::io;
 use std::io::Write;
 
@@ -59,7 +60,7 @@ fn listed_or_out_of_memory(rt: HostRuntime) {
         count: 0,
     };
     let mut complaints = Vec::new(alloc);
-    let status = run(
+    let status = run::<Queues, _, _, _>(
         alloc,
         &Ok(words),
         &mut THREE.as_slice(),

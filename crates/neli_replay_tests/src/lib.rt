@@ -1,0 +1,14 @@
+//! Tests of `neli_replay`, a file a subject. They call `replay` over readers and writers of their own.
+//!
+//! RFC 3549 section 2.3.2 and `struct nlmsghdr` of linux/netlink.h give the layout of what is sent and comes;
+//! the lines are the program's own, written out by hand.
+#![tactic(auto)]
+
+#[cfg(test)]
+mod answers;
+#[cfg(test)]
+mod bad_lines;
+#[cfg(test)]
+mod out_of_memory;
+#[cfg(test)]
+mod output;

@@ -1,0 +1,61 @@
+//! Any one allocation may be refused in this test (`rt try --test --fail-alloc N`). What is printed is then
+//! the whole report or that memory ran out, and the status says which.
+
+use crate::answers::ACKNOWLEDGED;
+use neli_queues::Queues;
+use neli_replay::replay::replay;
+use neli_tool_base::status::Status;
+use std::io;
+use std::io::Write;
+
+/// A writer that keeps a byte at each call, without taking memory.
+#[derive(Drop)]
+struct Kept {
+    bytes: [u8; 256],
+    count: usize,
+}
+
+impl Write for Kept {
+    fn write(&mut self, buf: &[u8]) -> io::Result<usize> {
+        if buf.is_empty() || self.count >= 256 {
+            return Ok(0);
+        }
+        self.bytes[self.count] = buf[0];
+        self.count += 1;
+        Ok(1)
+    }
+
+    fn flush(&mut self) -> io::Result<()> {
+        Ok(())
+    }
+}
+
+#[test]
+fn answered_or_out_of_memory(rt: HostRuntime) {
+    let alloc = rt.alloc();
+    let whole = "sent 1 10000000100005000000000000000000\n\
+        waits\n\
+        ok\n\
+        item type 16 flags 0x0000 number 0 port 0 payload 0\n\
+        error noack\n\
+        end\n\
+        ok\n\
+        no handle\n\
+        ok\n\
+        item type 16 flags 0x0000 number 0 port 0 payload 0\n\
+        waits\n";
+    let mut output = Kept {
+        bytes: [0; 256],
+        count: 0,
+    };
+    let status = replay::<Queues, _, _>(alloc, &mut ACKNOWLEDGED.as_bytes(), &mut output);
+    let want = if status == Status::Memory {
+        "memory\n"
+    } else {
+        assert_eq!(rt; status, Status::Whole);
+        whole
+    };
+    let count = output.count;
+    assert!(rt; count <= 256);
+    assert_eq!(rt; &output.bytes[..count], want.as_bytes());
+}
