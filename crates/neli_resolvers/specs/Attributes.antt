@@ -1,0 +1,84 @@
+-- What attributes say of a family and its multicast groups. Of two with one type the first counts.
+use Rattle.std.specs.Prelude.{ℕ, Bool, true, false, List, Option, Result, Ok, find, option_map}
+use Rattle.neli_wire.specs.DeError.{DeError}
+use Rattle.neli_wire.specs.Frames.{frame_at}
+use Rattle.neli_wire.specs.Reading.{◌>>=◌, number_at}
+use Rattle.neli_wire.specs.Strings.{owned_text}
+use Rattle.neli_consts.specs.CtrlAttrMcastGrp.{ctrl_attr_mcast_grp_of}
+use Rattle.neli_consts.specs.Index.{index_of}
+use Rattle.neli_consts.specs.declared.genl.CtrlAttr.{CtrlAttr}
+use Rattle.neli_consts.specs.declared.genl.CtrlAttr.TheVariants.{FamilyId, FamilyName, McastGroups}
+use Rattle.neli_consts.specs.declared.genl.CtrlAttrMcastGrp.{CtrlAttrMcastGrp}
+use Rattle.neli_consts.specs.declared.genl.CtrlAttrMcastGrp.TheVariants.{Name, Id}
+use Rattle.neli_consts.specs.declared.index.Index.{Index}
+use Rattle.neli_attr.specs.AttrType.{AttrType}
+use Rattle.neli_attr.specs.Attributes.{Attr, attribute, attributes_in}
+use Rattle.neli_attr.specs.Lookup.{list_found, read_found}
+use Rattle.neli_attr.specs.TypeField.{type_of}
+use Rattle.neli_genl.specs.Genlmsghdr.{Says}
+
+-- ---- whether an attribute's type is this
+
+abbrev pub is_family_id : CtrlAttr → Bool
+is_family_id FamilyId = true
+is_family_id kind = false
+
+abbrev pub is_family_name : CtrlAttr → Bool
+is_family_name FamilyName = true
+is_family_name kind = false
+
+abbrev pub is_mcast_groups : CtrlAttr → Bool
+is_mcast_groups McastGroups = true
+is_mcast_groups kind = false
+
+abbrev pub is_name : CtrlAttrMcastGrp → Bool
+is_name Name = true
+is_name kind = false
+
+abbrev pub is_id : CtrlAttrMcastGrp → Bool
+is_id Id = true
+is_id kind = false
+
+-- ---- payloads
+
+-- the payload of the first attribute of a type
+abbrev pub payload_where : {K : Type 0} → (K → Bool) → Says K → Option (List ℕ)
+payload_where is attrs = option_map (λ a. a.1) (find (λ a. is a.0.kind.nla_type) attrs)
+
+-- the number in the first n bytes of a payload, whatever follows
+abbrev pub first_number : ℕ → List ℕ → Result ℕ DeError
+first_number n payload = number_at n payload >>= λ p. Ok p.0
+
+-- ---- what a message of the controller says
+
+-- the number of its family, in two bytes
+abbrev pub family_id : Says CtrlAttr → Result ℕ DeError
+family_id attrs = read_found (payload_where is_family_id attrs) (first_number 2)
+
+-- the name of its family
+abbrev pub family_name : Says CtrlAttr → Result (List ℕ) DeError
+family_name attrs = read_found (payload_where is_family_name attrs) owned_text
+
+-- a group as it is listed: its place, and the bytes that say what it is
+abbrev pub Group : Type 0
+Group = Attr (AttrType Index) (List ℕ)
+
+-- the groups of its family
+abbrev pub groups : Says CtrlAttr → Result (List Group) DeError
+groups attrs =
+    list_found (payload_where is_mcast_groups attrs)
+    (frame_at (attribute (type_of index_of) (λ bytes. Ok bytes)))
+
+-- ---- what a group says
+
+-- its attributes
+abbrev pub group_attrs : Group → Result (Says CtrlAttrMcastGrp) DeError
+group_attrs group = attributes_in (type_of ctrl_attr_mcast_grp_of) group.1
+
+-- its name
+abbrev pub group_name : Says CtrlAttrMcastGrp → Result (List ℕ) DeError
+group_name attrs = read_found (payload_where is_name attrs) owned_text
+
+-- its number, in four bytes
+abbrev pub group_id : Says CtrlAttrMcastGrp → Result ℕ DeError
+group_id attrs = read_found (payload_where is_id attrs) (first_number 4)

@@ -1,0 +1,122 @@
+-- What the resolvers answer, by the whole list of items.
+use Rattle.std.specs.Prelude.{ℕ, ◌==◌, Bool, false, ◌≡◌, List, [], ◌++◌, codes, if◌then◌else◌, nat_eq, filter_map, Option, Some, None, Result, Ok, Err, IsSome, ok_or, option_and_then, option_map, unwrap_or}
+use Rattle.std.specs.Cmp.Lexicographic.{pointwise}
+use Rattle.std.specs.List.{last_or}
+use Rattle.std.specs.Option.{option_map_or}
+use Rattle.std.specs.Result.{result_map_both, result_ok}
+use Rattle.neli_wire.specs.DeError.{DeError}
+use Rattle.neli_consts.specs.declared.genl.CtrlAttr.{CtrlAttr}
+use Rattle.neli_consts.specs.declared.genl.CtrlAttrMcastGrp.{CtrlAttrMcastGrp}
+use Rattle.neli_genl.specs.Genlmsghdr.{Says}
+use Rattle.neli_msg.specs.RouterError.TheVariants.{Msg}
+use Rattle.neli_msg.specs.RouterErrors.{de_of}
+use Rattle.neli_resolvers.specs.Attributes.{Group, family_id, family_name, group_attrs, group_id, group_name, groups}
+use Rattle.neli_resolvers.specs.Items.{Error, Item, Message, after, first_error, first_found, last_found, messages, said}
+
+-- ---- texts, where nothing was found
+
+abbrev pub no_family : List ℕ → List ℕ
+no_family family = codes "Generic netlink family " ++ family ++ codes " was not found"
+
+abbrev pub no_group : List ℕ → List ℕ → List ℕ
+no_group family name =
+    codes "Failed to resolve multicast group ID for family name " ++ family
+    ++ codes ", multicast group name " ++ name
+
+abbrev pub no_number : List ℕ
+no_number = codes "ID does not correspond to a multicast group"
+
+-- ---- answers
+
+-- the first error among the items, or else this
+abbrev pub unless_error : {A : Type 0} → List Item → Result A Error → Result A Error
+unless_error items answer = option_map_or (λ e. Err e) (first_error items) answer
+
+-- what was found; a text where that is nothing
+abbrev pub or_text : {A : Type 0} → List ℕ → Option A → Result A Error
+or_text text found = ok_or found (Msg text)
+
+-- a refusal to read is that of the resolver
+abbrev pub as_error : {A : Type 0} → Result A DeError → Result A Error
+as_error reading = result_map_both (λ x. x) de_of reading
+
+-- ---- the number of a family
+
+-- the number of a family that a message tells
+abbrev pub number_told : Message → Option ℕ
+number_told m = option_and_then (λ attrs. result_ok (family_id attrs)) (said m)
+
+-- the last number that is told
+abbrev pub family_answer : List ℕ → List Item → Result ℕ Error
+family_answer family items =
+    unless_error items
+    (or_text (no_family family) (last_or None (filter_map number_told (messages items))))
+
+-- memory is asked for the text alone
+abbrev pub family_takes : List ℕ → List Item → Type 0
+family_takes family items = family_answer family items ≡ Err (Msg (no_family family))
+
+-- ---- the number of a group
+
+-- the group has this name
+abbrev pub is_named : List ℕ → Says CtrlAttrMcastGrp → Bool
+is_named name attrs =
+    option_map_or (λ own. pointwise nat_eq own name) (result_ok (group_name attrs)) false
+
+-- the number of the group, if it is a match: it has this name and a number
+abbrev pub match_number : List ℕ → Group → Option ℕ
+match_number name group =
+    option_and_then (λ attrs. if is_named name attrs then result_ok (group_id attrs) else None)
+    (result_ok (group_attrs group))
+
+-- the number of the first match in a message; refused where a payload has no readable groups
+abbrev pub match_in : List ℕ → Message → Result (Option ℕ) DeError
+match_in name m =
+    option_map_or (λ attrs. after (λ all. Ok (first_found (match_number name) all)) (groups attrs))
+    (said m) (Ok None)
+
+-- that of the last message with a match
+abbrev pub group_answer : List ℕ → List ℕ → List Item → Result ℕ Error
+group_answer family name items =
+    unless_error items
+    (after (or_text (no_group family name))
+    (as_error (last_found (match_in name) (messages items))))
+
+-- memory is asked for where no item is an error
+abbrev pub group_takes : List Item → Type 0
+group_takes items = first_error items ≡ None
+
+-- ---- the names of a group
+
+-- the group has this number
+abbrev pub has_number : ℕ → Says CtrlAttrMcastGrp → Bool
+has_number id attrs = option_map_or (λ own. own == id) (result_ok (group_id attrs)) false
+
+-- the name of the group, if it has this number
+abbrev pub name_if : ℕ → Group → Result (Option (List ℕ)) DeError
+name_if id group =
+    after (λ attrs. if has_number id attrs
+    then after (λ name. Ok (Some name)) (group_name attrs)
+    else Ok None) (group_attrs group)
+
+-- the names of a family and of its last group with this number; no groups where they can't be read
+abbrev pub names_said : ℕ → Says CtrlAttr → Result (Option (List ℕ × List ℕ)) DeError
+names_said id attrs =
+    after (λ family. after (λ found. Ok (option_map (λ name. (family, name)) found))
+    (last_found (name_if id) (unwrap_or (result_ok (groups attrs)) []))) (family_name attrs)
+
+-- those that a message tells
+abbrev pub names_in : ℕ → Message → Result (Option (List ℕ × List ℕ)) DeError
+names_in id m = option_map_or (names_said id) (said m) (Ok None)
+
+-- those that an item tells
+abbrev pub names_told : ℕ → Item → Result (Option (List ℕ × List ℕ)) Error
+names_told id item = after (λ m. as_error (names_in id m)) item
+
+-- the last that are told
+abbrev pub names_answer : ℕ → List Item → Result (List ℕ × List ℕ) Error
+names_answer id items = after (or_text no_number) (last_found (names_told id) items)
+
+-- memory is asked for where a message has a payload
+abbrev pub names_take : List Item → Type 0
+names_take items = IsSome (first_found said (messages items))

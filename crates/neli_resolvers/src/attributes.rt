@@ -1,0 +1,78 @@
+//! What is read of attributes.
+
+ghost use Rattle.std.specs.Prelude.{◌≡◌, Ok, IfErr, IfOk, map, string_bytes};
+ghost use Rattle.std.specs.Result.{result_ok};
+ghost use Rattle.neli_attr.specs.Handles.{attrs_in};
+ghost use Rattle.neli_attr.specs.Nlattr.{nlattr_says};
+ghost use Rattle.neli_resolvers.specs.Attributes.{family_id, family_name, group_attrs, group_id, group_name, groups};
+ghost use Rattle.neli_resolvers.specs.Items.{IsReadRefusal};
+
+use neli_attr::{Buffer, GenlAttrHandle, Nlattr};
+use neli_consts::{CtrlAttr, CtrlAttrMcastGrp, Index};
+use neli_wire::DeError;
+use std::alloc::Global;
+
+/// The number of a family.
+pub(crate) fn family_id(alloc: Global, attrs: &GenlAttrHandle<'_, CtrlAttr>) -> Option<u16>
+    ensures { result ≡ result_ok (family_id (map nlattr_says (attrs_in attrs.now))) }
+{
+    attrs.get_attr_payload_as(alloc, CtrlAttr::FamilyId).ok()
+}
+
+/// The name of a family.
+pub(crate) fn family_name(
+    alloc: Global,
+    attrs: &GenlAttrHandle<'_, CtrlAttr>,
+) -> Result<String, DeError>
+    ensures value { IfOk result
+        (λ name. family_name (map nlattr_says (attrs_in attrs.now)) ≡ Ok (string_bytes name)) }
+    ensures refused { IfErr result
+        (IsReadRefusal (family_name (map nlattr_says (attrs_in attrs.now)))) }
+{
+    attrs.get_attr_payload_as_with_len(alloc, CtrlAttr::FamilyName)
+}
+
+/// The groups of a family.
+pub(crate) fn groups<'a>(
+    alloc: Global,
+    attrs: &'a GenlAttrHandle<'_, CtrlAttr>,
+) -> Result<GenlAttrHandle<'a, Index>, DeError>
+    ensures value { IfOk result (λ all.
+        groups (map nlattr_says (attrs_in attrs.now)) ≡ Ok (map nlattr_says (attrs_in all))) }
+    ensures refused { IfErr result
+        (IsReadRefusal (groups (map nlattr_says (attrs_in attrs.now)))) }
+{
+    attrs.get_nested_attributes::<Index>(alloc, CtrlAttr::McastGroups)
+}
+
+/// The attributes of a group.
+pub(crate) fn group_attrs(
+    alloc: Global,
+    group: &Nlattr<Index, Buffer>,
+) -> Result<GenlAttrHandle<'_, CtrlAttrMcastGrp>, DeError>
+    ensures value { IfOk result
+        (λ attrs. group_attrs (nlattr_says group.now) ≡ Ok (map nlattr_says (attrs_in attrs))) }
+    ensures refused { IfErr result (IsReadRefusal (group_attrs (nlattr_says group.now))) }
+{
+    group.get_attr_handle(alloc)
+}
+
+/// The name of a group.
+pub(crate) fn group_name(
+    alloc: Global,
+    attrs: &GenlAttrHandle<'_, CtrlAttrMcastGrp>,
+) -> Result<String, DeError>
+    ensures value { IfOk result
+        (λ name. group_name (map nlattr_says (attrs_in attrs.now)) ≡ Ok (string_bytes name)) }
+    ensures refused { IfErr result
+        (IsReadRefusal (group_name (map nlattr_says (attrs_in attrs.now)))) }
+{
+    attrs.get_attr_payload_as_with_len(alloc, CtrlAttrMcastGrp::Name)
+}
+
+/// The number of a group.
+pub(crate) fn group_id(alloc: Global, attrs: &GenlAttrHandle<'_, CtrlAttrMcastGrp>) -> Option<u32>
+    ensures { result ≡ result_ok (group_id (map nlattr_says (attrs_in attrs.now))) }
+{
+    attrs.get_attr_payload_as(alloc, CtrlAttrMcastGrp::Id).ok()
+}

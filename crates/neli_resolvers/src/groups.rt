@@ -1,0 +1,83 @@
+//! What groups say of a name or a number.
+
+ghost use Rattle.std.specs.Prelude.{◌≡◌, Err, IfErr, IfOk, Ok, None, map, option_map, string_bytes};
+ghost use Rattle.neli_attr.specs.Nlattr.{nlattr_says};
+ghost use Rattle.neli_resolvers.specs.Items.{IsReadRefusal, first_found, last_found};
+ghost use Rattle.neli_resolvers.specs.Resolvers.{match_number, name_if};
+
+use crate::attributes::{group_attrs, group_id, group_name};
+use crate::items::readable;
+use neli_attr::{Buffer, Nlattr};
+use neli_consts::Index;
+use neli_wire::{DeError, NoMemory};
+use std::alloc::Global;
+
+/// The number of a group that has this name. One that can't be read is passed over.
+fn match_number(
+    alloc: Global,
+    group: &Nlattr<Index, Buffer>,
+    name: &str,
+) -> Result<Option<u32>, NoMemory>
+    ensures { IfOk result (λ n. n ≡ match_number name.now (nlattr_says group.now)) }
+{
+    let Some(attrs) = readable(group_attrs(alloc, group))? else {
+        return Ok(None);
+    };
+    let Some(own) = readable(group_name(alloc, &attrs))? else {
+        return Ok(None);
+    };
+    if own.as_str() != name {
+        return Ok(None);
+    }
+    Ok(group_id(alloc, &attrs))
+}
+
+/// The number of the first of these groups that has this name and a number.
+pub(crate) fn first_match(
+    alloc: Global,
+    groups: &[Nlattr<Index, Buffer>],
+    name: &str,
+) -> Result<Option<u32>, NoMemory>
+    ensures { IfOk result
+        (λ n. n ≡ first_found (match_number name.now) (map nlattr_says groups.now)) }
+{
+    for candidate in groups {
+        let found = match_number(alloc, candidate, name)?;
+        if found.is_some() {
+            return Ok(found);
+        }
+    }
+    Ok(None)
+}
+
+/// The name of a group that has this number.
+fn name_if(alloc: Global, group: &Nlattr<Index, Buffer>, id: u32) -> Result<Option<String>, DeError>
+    ensures value { IfOk result
+        (λ name. name_if id (nlattr_says group.now) ≡ Ok (option_map string_bytes name)) }
+    ensures refused { IfErr result (IsReadRefusal (name_if id (nlattr_says group.now))) }
+{
+    let attrs = group_attrs(alloc, group)?;
+    if group_id(alloc, &attrs) != Some(id) {
+        return Ok(None);
+    }
+    Ok(Some(group_name(alloc, &attrs)?))
+}
+
+/// The name of the last of these groups that has this number.
+pub(crate) fn last_name(
+    alloc: Global,
+    groups: &[Nlattr<Index, Buffer>],
+    id: u32,
+) -> Result<Option<String>, DeError>
+    ensures value { IfOk result
+        (λ name. last_found (name_if id) (map nlattr_says groups.now)
+        ≡ Ok (option_map string_bytes name)) }
+    ensures refused { IfErr result
+        (IsReadRefusal (last_found (name_if id) (map nlattr_says groups.now))) }
+{
+    let mut found = None;
+    for group in groups {
+        found = name_if(alloc, group, id)?.or(found);
+    }
+    Ok(found)
+}

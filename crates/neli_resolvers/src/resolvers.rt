@@ -1,0 +1,152 @@
+//! The resolvers.
+
+ghost use Rattle.std.specs.Prelude.{◌≡◌, Err, IfErr, IfOk, IsSome, Ok, OnErr, None, map, option_map, string_bytes};
+ghost use Rattle.neli_attr.specs.Handles.{attrs_in};
+ghost use Rattle.neli_attr.specs.Nlattr.{nlattr_says};
+ghost use Rattle.neli_resolvers.specs.Items.{IsReadRefusal, IsRefusal, said};
+ghost use Rattle.neli_resolvers.specs.Resolvers.{family_answer, family_takes, group_answer, group_takes, match_in, names_answer, names_in, names_said, names_take, number_told};
+
+use crate::attributes::{family_id, family_name, groups};
+use crate::groups::{first_match, last_name};
+use crate::items::{CtrlMessage, readable, without_errors};
+use crate::texts::{NoFamily, NoGroup};
+use crate::{CtrlError, CtrlItem};
+use neli_attr::GenlAttrHandle;
+use neli_consts::CtrlAttr;
+use neli_msg::RouterError;
+use neli_wire::{DeError, MsgError};
+use std::alloc::Global;
+
+/// The number of a family that a message tells.
+fn number_told(alloc: Global, message: &CtrlMessage) -> Option<u16>
+    ensures { result ≡ number_told message.now }
+{
+    let body = message.get_payload()?;
+    family_id(alloc, &body.attrs().get_attr_handle())
+}
+
+/// The number of the family that was asked for: the last that a message of the controller tells.
+///
+/// Refused with the first error among the items; else, where no number is told, with a text that
+/// names the family. Memory is asked for that text alone.
+pub fn resolve_genl_family(
+    alloc: Global,
+    family: &str,
+    items: Vec<CtrlItem>,
+) -> Result<u16, CtrlError>
+    ensures value { IfOk result (λ n. family_answer family.now items.items ≡ Ok n) }
+    ensures refused { IfErr result (IsRefusal (family_answer family.now items.items)
+        (family_takes family.now items.items)) }
+{
+    let mut found = None;
+    for item in items {
+        found = number_told(alloc, &item?).or(found);
+    }
+    match found {
+        Some(number) => Ok(number),
+        None => Err(RouterError::new(alloc, NoFamily { family })?),
+    }
+}
+
+/// The number of the first group of this name in a message.
+fn match_in(alloc: Global, message: &CtrlMessage, name: &str) -> Result<Option<u32>, DeError>
+    ensures value { IfOk result (λ n. match_in name.now message.now ≡ Ok n) }
+    ensures refused { IfErr result (IsReadRefusal (match_in name.now message.now)) }
+{
+    let Some(body) = message.get_payload() else {
+        return Ok(None);
+    };
+    let attrs = body.attrs().get_attr_handle();
+    let all = groups(alloc, &attrs)?;
+    Ok(first_match(alloc, all.get_attrs(), name)?)
+}
+
+/// The number of the group of this name: that of the last message with such a group, and the first
+/// in that message. A group without a readable name and number is passed over.
+///
+/// Refused with the first error among the items; else with the refusal of the first payload of
+/// which the groups can't be read; else, where no group has the name, with a text that names both.
+pub fn resolve_nl_mcast_group(
+    alloc: Global,
+    family: &str,
+    group: &str,
+    items: Vec<CtrlItem>,
+) -> Result<u32, CtrlError>
+    ensures value { IfOk result (λ n. group_answer family.now group.now items.items ≡ Ok n) }
+    ensures refused { IfErr result (IsRefusal (group_answer family.now group.now items.items)
+        (group_takes items.items)) }
+{
+    let mut found = None;
+    for item in without_errors(items)? {
+        found = match_in(alloc, &item?, group)?.or(found);
+    }
+    match found {
+        Some(number) => Ok(number),
+        None => Err(RouterError::new(alloc, NoGroup { family, group })?),
+    }
+}
+
+/// The names of the family and of its last group with this number. Groups that can't be read as a
+/// list are passed over.
+fn names_said(
+    alloc: Global,
+    attrs: &GenlAttrHandle<'_, CtrlAttr>,
+    id: u32,
+) -> Result<Option<(String, String)>, DeError>
+    ensures value { IfOk result (λ names. names_said id (map nlattr_says (attrs_in attrs.now))
+        ≡ Ok (option_map (λ p. (string_bytes p.0, string_bytes p.1)) names)) }
+    ensures refused { IfErr result
+        (IsReadRefusal (names_said id (map nlattr_says (attrs_in attrs.now)))) }
+{
+    let family = family_name(alloc, attrs)?;
+    let Some(all) = readable(groups(alloc, attrs))? else {
+        return Ok(None);
+    };
+    match last_name(alloc, all.get_attrs(), id)? {
+        Some(name) => Ok(Some((family, name))),
+        None => Ok(None),
+    }
+}
+
+/// The names of the family and of its last group with this number, which a message tells.
+fn names_in(
+    alloc: Global,
+    message: &CtrlMessage,
+    id: u32,
+) -> Result<Option<(String, String)>, DeError>
+    ensures value { IfOk result (λ names. names_in id message.now
+        ≡ Ok (option_map (λ p. (string_bytes p.0, string_bytes p.1)) names)) }
+    ensures refused { IfErr result (IsReadRefusal (names_in id message.now)) }
+    ensures payload { OnErr result (IsSome (said message.now)) }
+{
+    let Some(body) = message.get_payload() else {
+        return Ok(None);
+    };
+    names_said(alloc, &body.attrs().get_attr_handle(), id)
+}
+
+/// The names of the family and the group with this number, as the last message with such a group
+/// tells them.
+///
+/// Refused with the first failure, item by item, and in an item first the family's name, then group
+/// by group: an item that is an error; a payload without a readable name of the family; a group
+/// that can't be read, where the list of groups can; the group with the number, where its name
+/// can't be read. Where the number isn't found, refused with a text.
+pub fn lookup_id(
+    alloc: Global,
+    id: u32,
+    items: Vec<CtrlItem>,
+) -> Result<(String, String), CtrlError>
+    ensures value { IfOk result
+        (λ names. names_answer id items.items ≡ Ok (string_bytes names.0, string_bytes names.1)) }
+    ensures refused { IfErr result
+        (IsRefusal (names_answer id items.items) (names_take items.items)) }
+{
+    let mut found = None;
+    for item in items {
+        found = names_in(alloc, &item?, id)?.or(found);
+    }
+    found.ok_or(RouterError::Msg(MsgError::from_static(
+        "ID does not correspond to a multicast group",
+    )))
+}

@@ -1,0 +1,18 @@
+//! Tests of the resolvers, `neli_resolvers`, by their public calls.
+//!
+//! - [`worked`]: the controller's answer for `nlctrl`, and each call's answer to it. [`lists`]: lists
+//!   of several items. [`out_of_memory`]: what the calls answer where an allocation is refused.
+//!   [`support`]: what the tests share.
+//!
+//! The messages lie as `struct nlmsghdr` and `struct nlattr` of linux/netlink.h and
+//! `struct genlmsghdr` of linux/genetlink.h say. Expected values are worked out by hand from these.
+#![tactic(auto)]
+
+#[cfg(test)]
+mod lists;
+#[cfg(test)]
+mod out_of_memory;
+#[cfg(test)]
+mod support;
+#[cfg(test)]
+mod worked;
