@@ -9,6 +9,8 @@ mod answers;
 #[cfg(test)]
 mod bad_lines;
 #[cfg(test)]
+mod conversations;
+#[cfg(test)]
 mod out_of_memory;
 #[cfg(test)]
 mod output;
