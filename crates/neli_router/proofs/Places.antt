@@ -152,22 +152,22 @@ module _ {K P : Type 0} (number_of : K → ℕ) (numbered : Bool) where
 
     end_front : (items more : List (Item K P)) (i : ℕ) (at : Option (Item K P)) → slice_get items i ≡ at → answer_at number_of needs numbered items i at ≡ reply.End → answer number_of needs numbered (items ++ more) i ≡ reply.End
     end_front items more i None e g = elim (true_or_false (nat_lt (last_place number_of needs numbered items) (length items))) [
-        inl over ↦
+      | inl over ↦
           (let later : nat_lt (last_place number_of needs numbered (items ++ more)) (length items) ≡ true = last_append needs items more (length items) (omega arith) ∙ over in
           end_past (items ++ more) i (slice_get (items ++ more) i) (lt_longer _ (length items) i (none_past items i e) later) (lt_longer _ (length items) (length (items ++ more)) (longer-front items more) later))
       | inr still ↦ (let bad = rw still at g in cc)
-      ]
+    ]
     end_front items more i (Some item) e g =
         let inside : suc i ≤ length items = within_front items i item e in
         let inside_i : i ≤ length items = omega arith in
         elim (true_or_false (nat_lt (last_place number_of needs numbered items) i)) [
-          inl over ↦
-            (let later : nat_lt (last_place number_of needs numbered (items ++ more)) i ≡ true = last_append needs items more i inside_i ∙ over in
-            let longer : length items ≤ length (items ++ more) = longer-front items more in
-            end_past (items ++ more) i (slice_get (items ++ more) i) later (lt_longer _ i (length (items ++ more)) (omega arith) later))
-        | inr still ↦
-            (let gave : reply.Item (item_of number_of needs numbered (nat_lt (single_place number_of numbered items) i) item) ≡ reply.End = sym (answer_gives items i item e still) ∙ (ap (answer_at number_of needs numbered items i) e ∙ g) in
-            absurd cc)
+          | inl over ↦
+              (let later : nat_lt (last_place number_of needs numbered (items ++ more)) i ≡ true = last_append needs items more i inside_i ∙ over in
+              let longer : length items ≤ length (items ++ more) = longer-front items more in
+              end_past (items ++ more) i (slice_get (items ++ more) i) later (lt_longer _ i (length (items ++ more)) (omega arith) later))
+          | inr still ↦
+              (let gave : reply.Item (item_of number_of needs numbered (nat_lt (single_place number_of numbered items) i) item) ≡ reply.End = sym (answer_gives items i item e still) ∙ (ap (answer_at number_of needs numbered items i) e ∙ g) in
+              absurd cc)
         ]
 
     -- so does the end
