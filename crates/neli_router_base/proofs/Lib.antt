@@ -1,1 +1,2 @@
+mod Families
 mod Sends

@@ -1,2 +1,3 @@
+pub mod Requests
 pub mod Rule
 pub mod Sends

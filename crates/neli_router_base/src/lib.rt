@@ -6,11 +6,13 @@
 //! - [`Reply`]: what a read answers: an item, the end, or a wait.
 //!
 //! `specs/Rule.antt` says where a handle's answers end and what each of them is; `specs/Sends.antt`
-//! what a request is as bytes, and for which three causes it is refused.
+//! what a request is as bytes, and for which three causes it is refused; `specs/Requests.antt` what
+//! the two requests to the controller of generic netlink are.
 #![tactic(auto)]
 
 mod handle;
 mod reply;
+mod requests;
 mod router;
 mod rule;
 

@@ -27,8 +27,8 @@ use std::alloc::Global;
 /// else is said.
 #[derive(Drop)]
 pub struct NlRouter<D = Queues> {
-    deliveries: D,
-    next_seq: u32,
+    pub(crate) deliveries: D,
+    pub(crate) next_seq: u32,
 }
 
 impl<D: Deliveries> NlRouter<D> {
