@@ -3,7 +3,6 @@ use Rattle.std.proofs.Common.{◌≡◌, ℕ, ◌+◌, ◌*◌, ◌/◌, ◌≤�
 use Rattle.std.specs.Prelude.{nat_lt, replicate}
 use Rattle.std.proofs.lemmas.Bool.{le-ltb}
 use Rattle.std.proofs.lemmas.List.{append-nil, length-replicate}
-use Rattle.neli_wire.specs.Numbers.{little_bytes}
 use Rattle.neli_wire.specs.Sizes.{align, gap}
 use Rattle.neli_wire.specs.Writing.{zeros_for}
 use Rattle.neli_consts.specs.CtrlAttr.{ctrl_attr_number}
@@ -11,7 +10,7 @@ use Rattle.neli_consts.specs.declared.genl.CtrlAttr.{CtrlAttr}
 use Rattle.neli_consts.specs.declared.nlm_f.NlmF.{NlmF}
 use Rattle.neli_genl.specs.Genlmsghdr.{Attrs, attrs_size, attrs_wire}
 use Rattle.neli_msg.specs.Headers.{flags_of}
-use Rattle.neli_router_base.specs.Requests.{family_frame, family_request, family_sent, getfamily, getfamily_frame, name_attribute, name_bytes, sent_to_controller}
+use Rattle.neli_router_base.specs.Requests.{family_frame, family_request, family_sent, getfamily, getfamily_frame, name_attribute, name_bytes, name_text, sent_to_controller}
 use Rattle.neli_router_base.specs.Sends.{with_request}
 
 -- a multiple of four wants no zeros
@@ -29,21 +28,17 @@ sent-frame port number flags attrs bytes k wire size whole fits =
     let none : zeros_for (length frame) ≡ [] = no-zeros frame (k + 5) (omega (arith, whole)) in
     rw (small, wire, none, append-nil bytes, stated) refl
 
--- the attribute's header, and the name with its zero byte
-abbrev text : List ℕ → List ℕ
-text name = little_bytes 2 (5 + length name) ++ little_bytes 2 2 ++ (name ++ 0 ∷ [])
-
 -- the attribute is written as the bytes that are said outright
 name-wire : (name : List ℕ) → attrs_wire ctrl_attr_number (name_attribute name ∷ []) ≡ Ok (name_bytes name)
 name-wire name =
     let long : 4 + length (name ++ 0 ∷ []) ≡ 5 + length name = omega (arith, length-append name (0 ∷ [])) in
-    rw (append-nil (name ++ 0 ∷ [] ++ zeros_for (length (text name))), long) refl
+    rw (append-nil (name ++ 0 ∷ [] ++ zeros_for (length (name_text name))), long) refl
 
 -- their length
 length-name : (name : List ℕ) → length (name_bytes name) ≡ align (5 + length name)
 length-name name =
-    let long : length (text name) ≡ 5 + length name = omega (arith, length-append name (0 ∷ [])) in
-    omega (arith, long, length-append (text name) (zeros_for (length (text name))), length-replicate {A = ℕ} (gap (length (text name))) 0)
+    let long : length (name_text name) ≡ 5 + length name = omega (arith, length-append name (0 ∷ [])) in
+    omega (arith, long, length-append (name_text name) (zeros_for (length (name_text name))), length-replicate {A = ℕ} (gap (length (name_text name))) 0)
 
 family-frame : (port number : ℕ) (name : List ℕ) → length name ≤ 65530 → sent_to_controller port number false (flags_of 4) (family_request name) ≡ Ok (family_frame port number name)
 family-frame port number name fits =

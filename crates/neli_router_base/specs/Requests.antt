@@ -63,13 +63,13 @@ getfamily_frame flags port number attrs =
     little_bytes 4 (20 + length attrs) ++ little_bytes 2 16 ++ little_bytes 2 flags
     ++ little_bytes 4 number ++ little_bytes 4 port ++ 3 ∷ 2 ∷ 0 ∷ 0 ∷ attrs
 
--- bytes, and zeros up to a multiple of four
-abbrev pub padded : List ℕ → List ℕ
-padded bytes = bytes ++ zeros_for (length bytes)
+-- the attribute without its padding: a length that counts all of these bytes, type 2, the name and a zero byte
+abbrev pub name_text : List ℕ → List ℕ
+name_text name = little_bytes 2 (5 + length name) ++ little_bytes 2 2 ++ (name ++ 0 ∷ [])
 
--- an attribute of type 2: its length, which counts the header of four bytes, the name and the zero byte; its type; these
+-- the attribute, with zeros up to a multiple of four
 abbrev pub name_bytes : List ℕ → List ℕ
-name_bytes name = padded (little_bytes 2 (5 + length name) ++ little_bytes 2 2 ++ (name ++ 0 ∷ []))
+name_bytes name = name_text name ++ zeros_for (length (name_text name))
 
 -- REQUEST (1) and ACK (4) are set
 abbrev pub family_frame : ℕ → ℕ → List ℕ → List ℕ
