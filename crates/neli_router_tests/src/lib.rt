@@ -5,6 +5,7 @@
 //! - [`numbers`]: requests as bytes, and which number each has. [`answers`]: where a handle's answers end.
 //! - [`datagrams`]: who gets what of a datagram. [`faults`]: faults of the link.
 //! - [`handles`]: handles that another router made, and closed ones. [`many`]: thousands of requests.
+//! - [`requests`]: requests to the controller of generic netlink, and what comes of its answers.
 //! - [`recorded`]: conversations with a kernel.
 //!
 //! Expected values are worked out by hand from RFC 3549 section 2.3.2 and the headers of Linux; those of
@@ -25,5 +26,7 @@ mod many;
 mod numbers;
 #[cfg(test)]
 mod recorded;
+#[cfg(test)]
+mod requests;
 #[cfg(test)]
 mod script;
