@@ -41,7 +41,7 @@ told_start = ([], tt, refl)
 
 -- ---- lines
 
--- what these lines say stands behind what was said before
+-- what these lines say stands after what was said before
 abbrev pub after : List Entry → Result (List Entry) ℕ → Result (List Entry) ℕ
 after said (Ok entries) = Ok (said ++ entries)
 after said (Err k) = Err k

@@ -12,8 +12,8 @@
 #![tactic(auto)]
 
 pub mod laws;
-pub mod line;
+mod line;
 pub mod replay;
-pub mod report;
-pub mod script;
-pub mod words;
+mod report;
+mod script;
+mod words;

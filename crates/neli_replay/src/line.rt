@@ -125,7 +125,7 @@ fn read_words(alloc: Global, words: &[&[u8]]) -> Result<Entry, LineError>
 }
 
 /// What a line says that isn't empty. Only the first such line may set the port.
-pub fn read_line(alloc: Global, line: &[u8], first: bool) -> Result<Entry, LineError>
+pub(crate) fn read_line(alloc: Global, line: &[u8], first: bool) -> Result<Entry, LineError>
     ensures { Reads (allowed first (entry_in (words_in line.now))) result }
 {
     let words = parts_of(alloc, line, b' ')?;

@@ -45,7 +45,7 @@ fn write_bad_line<W: Write>(line: usize, output: &mut W) -> Status
 /// Lets a new router do what a script says, and answers what came of each command.
 ///
 /// Refused where memory runs out.
-pub fn outcomes_of<D: Deliveries + Drop>(
+fn outcomes_of<D: Deliveries + Drop>(
     alloc: Global,
     script: Script,
 ) -> Result<Vec<RawOutcome>, NoMemory>

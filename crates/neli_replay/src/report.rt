@@ -127,7 +127,7 @@ fn count_sent(outcome: &RawOutcome) -> usize
 /// Writes a line for each outcome, and passes all on that was written.
 ///
 /// Handles are numbered: k is that of the k-th request that was sent.
-pub fn write_report<W: Write>(outcomes: &[RawOutcome], output: &mut W) -> io::Result<()>
+pub(crate) fn write_report<W: Write>(outcomes: &[RawOutcome], output: &mut W) -> io::Result<()>
     ensures { OnOk result (Appends (W.contents output.old) (W.contents output.new)
         (report 0 outcomes.now)) }
 {

@@ -16,7 +16,7 @@ use std::alloc::{AllocError, AllocFailed, Global};
 
 /// Why a script is not read.
 #[derive(Clone, Copy, Debug, PartialEq, Eq)]
-pub enum ScriptError {
+pub(crate) enum ScriptError {
     /// The line of this number is the first bad one. Lines are counted from 1.
     BadLine(usize),
     /// Memory ran out.
@@ -25,7 +25,7 @@ pub enum ScriptError {
 
 /// What a script says to a router.
 #[derive(Drop)]
-pub struct Script {
+pub(crate) struct Script {
     /// The router's port.
     pub pid: u32,
     /// What it is told, in this order.
@@ -122,7 +122,7 @@ fn commands_of(alloc: Global, entries: Vec<Entry>) -> Result<Vec<Command<u16, Bu
 /// What a script says.
 ///
 /// Refused where a line is bad, by the number of the first such line, and where memory runs out.
-pub fn read_script(alloc: Global, text: &[u8]) -> Result<Script, ScriptError>
+pub(crate) fn read_script(alloc: Global, text: &[u8]) -> Result<Script, ScriptError>
     ensures value { IfOk result (λ script. IsScript text.now script.pid script.commands.items) }
     ensures bad { IfErr result (BadLineOf text.now) }
 {

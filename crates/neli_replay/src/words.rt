@@ -12,7 +12,7 @@ use std::str;
 
 /// Why a line is not read.
 #[derive(Clone, Copy, Debug, PartialEq, Eq)]
-pub enum LineError {
+pub(crate) enum LineError {
     /// It says nothing that a script can say.
     Bad,
     /// Memory ran out.
@@ -31,7 +31,7 @@ impl From<AllocError> for LineError {
 }
 
 /// What stands between the bytes of this value. The parts are lent.
-pub fn parts_of<'t>(alloc: Global, text: &'t [u8], mark: u8) -> Result<Vec<&'t [u8]>, AllocError>
+pub(crate) fn parts_of<'t>(alloc: Global, text: &'t [u8], mark: u8) -> Result<Vec<&'t [u8]>, AllocError>
     ensures { IfOk result (λ parts. map (λ part. part.now) parts.items
         ≡ slice_split (λ b. b == mark) text.now) }
 {
@@ -57,28 +57,28 @@ fn numeral(word: &[u8]) -> Option<&str>
 }
 
 /// The number of a word, where it has 16 bits at most.
-pub fn number_u16(word: &[u8]) -> Option<u16>
+pub(crate) fn number_u16(word: &[u8]) -> Option<u16>
     ensures { result ≡ number 16 word.now }
 {
     numeral(word)?.parse().ok()
 }
 
 /// The number of a word, where it has 32 bits at most.
-pub fn number_u32(word: &[u8]) -> Option<u32>
+pub(crate) fn number_u32(word: &[u8]) -> Option<u32>
     ensures { result ≡ number 32 word.now }
 {
     numeral(word)?.parse().ok()
 }
 
 /// The number of a word, where it has 64 bits at most.
-pub fn number_usize(word: &[u8]) -> Option<usize>
+pub(crate) fn number_usize(word: &[u8]) -> Option<usize>
     ensures { result ≡ number 64 word.now }
 {
     numeral(word)?.parse().ok()
 }
 
 /// The bytes of a word: pairs of hexadecimal digits, or `-` for no byte.
-pub fn read_bytes(alloc: Global, word: &[u8]) -> Result<Buffer, LineError>
+pub(crate) fn read_bytes(alloc: Global, word: &[u8]) -> Result<Buffer, LineError>
     ensures { Reads (bytes_of word.now) result }
 {
     if word == b"-".as_slice() {

@@ -1,4 +1,4 @@
--- A history: commands with what came of them, the latest first. What stands behind an event is the history before it.
+-- A history: commands with what came of them, the latest first. What follows an event in the list is the history before it.
 use Rattle.std.specs.Prelude.{ℕ, zero, suc, ◌+◌, ◌%◌, ◌^◌, Bool, true, false, not, ◌&&◌, ◌||◌, ◌==◌, nat_le, if◌then◌else◌, List, [], ◌∷◌, ◌++◌, Option, Some, None}
 use Rattle.neli_deliveries.specs.Readings.{Item}
 use Rattle.neli_router_base.specs.Rule.{needs_ack}

@@ -12,10 +12,6 @@ use Rattle.neli_router.specs.declared.command.Command.TheVariants as command
 use Rattle.neli_router.specs.History.{Event, History, is_live, is_open, whose}
 use Rattle.neli_router.specs.Deliveries.{Moment, deliveries, gained, moments}
 
-flat_map-append : {X A : Type 0} (f : X → List A) (xs ys : List X) → flat_map f (xs ++ ys) ≡ flat_map f xs ++ flat_map f ys
-flat_map-append f [] ys = refl
-flat_map-append f (x ∷ xs) ys = ap (λ zs. f x ++ zs) (flat_map-append f xs ys) ∙ sym (append_assoc (f x) (flat_map f xs) (flat_map f ys))
-
 gain-nothing : (b : Bool) (xs : List Delivery) → xs ++ (if b then [] else []) ≡ xs
 gain-nothing true xs = append-nil xs
 gain-nothing false xs = append-nil xs

@@ -3,7 +3,7 @@ use Rattle.neli_replay.specs.Script.{entries_from}
 use Rattle.neli_replay.proofs.Scripts.{after}
 use Rattle.neli_replay.proofs.script.read_entries.Given as goal
 
--- what the lines left say stands behind what those passed said
+-- what the lines left say stands after what those passed said
 abbrev pub invariant-loop-index : goal.invariant-loop-index
 invariant-loop-index l =
     let lines = map (λ line. line.now) l.line-items in
