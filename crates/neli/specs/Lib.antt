@@ -1,0 +1,21 @@
+pub use Rattle.neli_wire.specs as wire
+pub use Rattle.neli_list.specs as list
+pub use Rattle.neli_attr.specs as attr
+pub use Rattle.neli_body.specs as body
+pub use Rattle.neli_consts.specs as consts
+pub use Rattle.neli_consts_rt.specs as consts_rt
+pub use Rattle.neli_consts_rta.specs as consts_rta
+pub use Rattle.neli_consts_rtf.specs as consts_rtf
+pub use Rattle.neli_consts_sys.specs as consts_sys
+pub use Rattle.neli_route.specs as route
+pub use Rattle.neli_link.specs as link
+pub use Rattle.neli_genl.specs as genl
+pub use Rattle.neli_msg.specs as msg
+pub use Rattle.neli_lent.specs as lent
+pub use Rattle.neli_util.specs as util
+pub use Rattle.neli_deliveries.specs as deliveries
+pub use Rattle.neli_queues.specs as queues
+pub use Rattle.neli_router_base.specs as router_base
+pub use Rattle.neli_router.specs as router
+pub use Rattle.neli_resolvers.specs as resolvers
+pub mod laws

@@ -1,0 +1,8 @@
+//! Messages of the connector, and the process events that they carry.
+
+pub use neli_genl::{CnMsg, CnMsgBuilder, CnMsgBuilderError, ProcEvent, ProcEventHeader};
+
+/// What was built and written is read back.
+pub mod laws {
+    pub use neli_genl::laws::{cn_msg_is_read_back, proc_event_is_read_back};
+}

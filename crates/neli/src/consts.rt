@@ -1,0 +1,16 @@
+//! The numbers and flags of the kernel's headers, a module for each family of them.
+//!
+//! An enum keeps a number without a name, a flag set every bit that it read. An enum of a caller's own is a
+//! [`Constant`]; its flags are seen through [`Flags`].
+
+pub mod connector;
+pub mod genl;
+pub mod laws;
+pub mod netfilter;
+pub mod nl;
+pub mod rtnl;
+pub mod socket;
+
+pub use bitflags::Flags;
+pub use neli_consts::MAX_NL_LENGTH;
+pub use neli_wire::{Constant, WireNumber, alignto};

@@ -1,0 +1,3 @@
+//! The connector.
+
+pub use neli_consts_sys::{CnMsgIdx, CnMsgVal, ProcCnMcastOp, ProcEventType};

@@ -1,0 +1,4 @@
+//! Netfilter's logging.
+
+pub use neli_consts::{LogCfgCmd, LogCfgCmdWrapper};
+pub use neli_consts_sys::{LogCmd, LogCopyMode, NetfilterMsg, NfLogAttr, NfLogCfg};

@@ -1,0 +1,13 @@
+//! Who gets which reply.
+
+/// The router, its stores of what waits, whole runs of it, and the resolvers of generic netlink's names.
+pub mod synchronous {
+    pub use neli_queues::Queues;
+    pub use neli_resolvers::{
+        CtrlError, CtrlItem, lookup_id, resolve_genl_family, resolve_nl_mcast_group,
+    };
+    pub use neli_router::{
+        Command, Deliveries, Delivery, HandleState, NlRouter, NlRouterReceiverHandle, Outcome,
+        Reply, laws, run,
+    };
+}

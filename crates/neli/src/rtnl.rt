@@ -1,0 +1,24 @@
+//! Routing netlink: the bodies of links, addresses, neighbours, routes, queues and rules, and their attributes.
+
+pub use neli_attr::{RtAttrHandle, Rtattr, RtattrBuilder, RtattrBuilderError};
+pub use neli_link::{
+    Ifaddrmsg, IfaddrmsgBuilder, IfaddrmsgBuilderError, Ifinfomsg, IfinfomsgBuilder,
+    IfinfomsgBuilderError, IflaVlanFlags, IflaVlanFlagsBuilder, IflaVlanFlagsBuilderError,
+    IflaVlanQosMapping, IflaVlanQosMappingBuilder, IflaVlanQosMappingBuilderError, NdaCacheinfo,
+    NdaCacheinfoBuilder, NdaCacheinfoBuilderError, Ndmsg, NdmsgBuilder, NdmsgBuilderError,
+};
+pub use neli_route::{
+    Fibmsg, FibmsgBuilder, FibmsgBuilderError, Rtgenmsg, RtgenmsgBuilder, RtgenmsgBuilderError,
+    Rtmsg, RtmsgBuilder, RtmsgBuilderError, Tcmsg, TcmsgBuilder, TcmsgBuilderError,
+};
+
+/// What was built and written is read back.
+pub mod laws {
+    pub use neli_link::laws::{
+        ifaddrmsg_is_read_back, ifinfomsg_is_read_back, ifla_vlan_flags_is_read_back,
+        ifla_vlan_qos_mapping_is_read_back, nda_cacheinfo_is_read_back, ndmsg_is_read_back,
+    };
+    pub use neli_route::laws::{
+        fibmsg_is_read_back, rtgenmsg_is_read_back, rtmsg_is_read_back, tcmsg_is_read_back,
+    };
+}

@@ -1,0 +1,3 @@
+//! Multicast groups, and arrays of bits.
+
+pub use neli_util::{Groups, NetlinkBitArray};
