@@ -44,7 +44,13 @@ fn routing_attributes(rt: HostRuntime) {
         .rta_payload(0u8)
         .build(alloc)
         .expect(&rt, "an attribute");
-    assert_written(&rt, alloc, "one byte and padding", &zero, "0500000000000000");
+    assert_written(
+        &rt,
+        alloc,
+        "one byte and padding",
+        &zero,
+        "0500000000000000",
+    );
 }
 
 /// An attribute whose payload is so many zeros, or why there is none.
@@ -63,7 +69,12 @@ fn lengths_of_sixteen_bits(rt: HostRuntime) {
     let longest = zeros(&rt, alloc, 65531).expect(&rt, "an attribute");
     assert_eq!(rt; *longest.nla_len(), 65535);
     let refused = zeros(&rt, alloc, 65532);
-    assert!(rt; matches!(refused, Err(BuildError::ValidationError("Length does not fit its field"))));
+    assert!(rt;
+        matches!(
+            refused,
+            Err(BuildError::ValidationError("Length does not fit its field"))
+        )
+    );
     let inner = generic(alloc, 2u16, 7u32).expect(&rt, "an attribute");
     let nested = zeros(&rt, alloc, 65528)
         .expect(&rt, "an attribute")
@@ -83,7 +94,9 @@ fn a_type_field_has_two_flags(rt: HostRuntime) {
 #[test]
 fn the_first_name_of_a_number_is_found(rt: HostRuntime) {
     let alloc = rt.alloc();
-    let list: RtBuffer<Frattr, Buffer> = read_whole(alloc, b"\x07\0\x03\0lo\0\0").expect(&rt, "a list");
+    let list: RtBuffer<Frattr, Buffer> = read_whole(alloc, b"\x07\0\x03\0lo\0\0").expect(
+        &rt, "a list",
+    );
     let handle = list.get_attr_handle();
     assert!(rt; handle.get_attribute(Frattr::Iifname).is_some());
     assert!(rt; handle.get_attribute(Frattr::Ifname).is_none());
@@ -115,9 +128,21 @@ fn three_attributes_have_24_bytes(rt: HostRuntime) {
 const LISTS: [(&str, &[u8], Result<usize, Fault>); 6] = [
     ("no bytes", b"", Ok(0)),
     ("half a header", b"\x08\0", Err(Fault::Input(2))),
-    ("a length below a header's", b"\x03\0\x01\0", Err(Fault::Input(3))),
-    ("a length past the bytes", b"\x08\0\x01\0a", Err(Fault::Input(4))),
-    ("padding that is missing", b"\x05\0\x01\0a", Err(Fault::Input(5))),
+    (
+        "a length below a header's",
+        b"\x03\0\x01\0",
+        Err(Fault::Input(3)),
+    ),
+    (
+        "a length past the bytes",
+        b"\x08\0\x01\0a",
+        Err(Fault::Input(4)),
+    ),
+    (
+        "padding that is missing",
+        b"\x05\0\x01\0a",
+        Err(Fault::Input(5)),
+    ),
     ("padding of any bytes", b"\x05\0\x01\0a\xff\xff\xff", Ok(1)),
 ];
 

@@ -34,7 +34,13 @@ fn a_link_is_set_down(rt: HostRuntime) {
         .down()
         .build(alloc)
         .expect(&rt, "a link");
-    assert_written(&rt, alloc, "down", &down, "00000000030000000010000001000000");
+    assert_written(
+        &rt,
+        alloc,
+        "down",
+        &down,
+        "00000000030000000010000001000000",
+    );
 }
 
 #[test]
@@ -58,7 +64,13 @@ fn a_family_has_a_header_of_its_own(rt: HostRuntime) {
         .header(7)
         .build_with_header(alloc)
         .expect(&rt, "a message");
-    assert_written(&rt, alloc, "a header of four bytes", &message, "0101000007000000");
+    assert_written(
+        &rt,
+        alloc,
+        "a header of four bytes",
+        &message,
+        "0101000007000000",
+    );
 }
 
 #[test]
@@ -75,7 +87,10 @@ fn a_header_is_a_multiple_of_four_bytes(rt: HostRuntime) {
             Err(BuildError::ValidationError("Header size is not a multiple of four"))
         )
     );
-    let read: Result<Genlmsghdr<CtrlCmd, u16, u16>, Fault> = read_whole(alloc, b"\x01\x01\0\0\x07\0");
+    let read: Result<Genlmsghdr<CtrlCmd, u16, u16>, Fault> = read_whole(
+        alloc,
+        b"\x01\x01\0\0\x07\0",
+    );
     assert_eq!(rt; read.err(), Some(Fault::Input(6)));
 }
 
@@ -97,7 +112,12 @@ fn connector(
 fn a_connector_message_has_65535_bytes_at_most(rt: HostRuntime) {
     assert!(rt; connector(&rt, rt.alloc(), 65535).is_ok());
     let refused = connector(&rt, rt.alloc(), 65536);
-    assert!(rt; matches!(refused, Err(BuildError::ValidationError("Length does not fit its field"))));
+    assert!(rt;
+        matches!(
+            refused,
+            Err(BuildError::ValidationError("Length does not fit its field"))
+        )
+    );
 }
 
 /// A process begins to run a program, as the connector tells it.
@@ -109,7 +129,12 @@ fn a_process_event(rt: HostRuntime) {
     let alloc = rt.alloc();
     let bytes = bytes_of(&rt, alloc, EXEC);
     let message: CnMsg<ProcEventHeader> = read_whole(alloc, &bytes).expect(&rt, "an event");
-    let to = (*message.idx(), *message.val(), *message.seq(), *message.len());
+    let to = (
+        *message.idx(),
+        *message.val(),
+        *message.seq(),
+        *message.len(),
+    );
     assert_eq!(rt; to, (CnMsgIdx::Proc, CnMsgVal::Proc, 643, 40));
     let event = message.payload();
     assert_eq!(rt; (event.cpu, event.timestamp_ns), (1, 2504390882488));
@@ -117,7 +142,10 @@ fn a_process_event(rt: HostRuntime) {
         process_pid: 5759,
         process_tgid: 5759,
     };
-    assert_eq!(rt; ProcEventType::from(&event.event), ProcEventType::from(&exec));
+    assert_eq!(rt;
+        ProcEventType::from(&event.event),
+        ProcEventType::from(&exec)
+    );
     let printed = format!(in alloc; "{:?}", event.event).expect(&rt, "memory");
     let want = format!(in alloc; "{exec:?}").expect(&rt, "memory");
     assert_eq!(rt; printed.as_str(), want.as_str());
@@ -137,7 +165,11 @@ fn an_event_cut_short(rt: HostRuntime) {
     for count in 0..44usize {
         let part = bytes.get(..count).expect(&rt, "a part");
         let read: Result<CnMsg<ProcEventHeader>, Fault> = read_whole(rt.alloc(), part);
-        let want = if count < 20 { count } else { count.saturating_sub(20) };
+        let want = if count < 20 {
+            count
+        } else {
+            count.saturating_sub(20)
+        };
         assert_eq!(rt; read.err(), Some(Fault::Input(want)), "{count} bytes");
     }
 }
@@ -150,7 +182,10 @@ fn an_event_without_a_name(rt: HostRuntime) {
     let error = read.err().expect(&rt, "a refusal");
     assert!(rt; matches!(&error, DeError::Msg(_)));
     let text = error.to_string(alloc).expect(&rt, "memory");
-    assert_eq!(rt; text.as_str(), "Unrecognized Proc event type: 3 (raw value: 3)");
+    assert_eq!(rt;
+        text.as_str(),
+        "Unrecognized Proc event type: 3 (raw value: 3)"
+    );
 }
 
 #[test]

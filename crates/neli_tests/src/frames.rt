@@ -82,12 +82,7 @@ fn check(
 }
 
 /// A datagram: what it shows, its bytes, the messages in it, and what stands after them.
-type Row = (
-    &'static str,
-    &'static str,
-    &'static [Line],
-    Option<Fault>,
-);
+type Row = (&'static str, &'static str, &'static [Line], Option<Fault>);
 
 // Headers, lengths and padding.
 const HEADERS: [Row; 9] = [
@@ -198,7 +193,8 @@ const KINDS: [Row; 8] = [
 ];
 
 /// An error of code -22 that echoes five bytes of type 1024 and says `bad`.
-const ERROR: &str = "34000000020000020000000000000000eaffffff150000000004050000000000000000006162636465000000080001006261\
+const ERROR: &str =
+    "34000000020000020000000000000000eaffffff150000000004050000000000000000006162636465000000080001006261\
     6400";
 
 // Lengths inside an error that lie.
@@ -326,6 +322,10 @@ fn padding_is_written_as_zeros(rt: HostRuntime) {
         for message in messages.iter() {
             message.to_bytes(&mut again).expect(&rt, row);
         }
-        assert_eq!(rt; again.as_slice(), bytes_of(&rt, alloc, want).as_slice(), "{row}");
+        assert_eq!(rt;
+            again.as_slice(),
+            bytes_of(&rt, alloc, want).as_slice(),
+            "{row}"
+        );
     }
 }

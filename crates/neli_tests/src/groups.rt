@@ -21,7 +21,10 @@ fn group_33_has_no_mask(rt: HostRuntime) {
     let refused = past.as_bitmask(alloc).err().expect(&rt, "a refusal");
     assert!(rt; matches!(&refused, SerError::Msg(_)));
     let text = refused.to_string(alloc).expect(&rt, "memory");
-    assert_eq!(rt; text.as_str(), "Group 33 cannot be represented with a bit width of 32");
+    assert_eq!(rt;
+        text.as_str(),
+        "Group 33 cannot be represented with a bit width of 32"
+    );
 }
 
 #[test]

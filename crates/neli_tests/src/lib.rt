@@ -8,6 +8,8 @@ mod bodies;
 #[cfg(test)]
 mod constants;
 #[cfg(test)]
+mod conversation;
+#[cfg(test)]
 mod frames;
 #[cfg(test)]
 mod groups;
@@ -15,6 +17,10 @@ mod groups;
 mod messages;
 #[cfg(test)]
 mod readme;
+#[cfg(test)]
+mod recorded;
+#[cfg(test)]
+mod resolvers;
 #[cfg(test)]
 mod router;
 #[cfg(test)]

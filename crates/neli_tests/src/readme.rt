@@ -42,7 +42,10 @@ fn first_address(
 #[test]
 fn the_first_address_of_a_link(rt: HostRuntime) -> Result<(), Fail> {
     let alloc = rt.alloc();
-    let datagram = hex::decode(alloc, "58000000140022000000000085958cf6021880000300000008000100c000020108000200c000020108000400c00002ff0a0003007665746830000000080008008000000014000600ffffffffffffffff4473030044730300")?;
+    let datagram = hex::decode(
+        alloc,
+        "58000000140022000000000085958cf6021880000300000008000100c000020108000200c000020108000400c00002ff0a0003007665746830000000080008008000000014000600ffffffffffffffff4473030044730300",
+    )?;
     let (request, address) = first_address(alloc, 4136408453, &datagram)?;
     assert_eq!(rt; request.len(), 24);
     assert_eq!(rt; address, Some([192, 0, 2, 1]));

@@ -89,13 +89,7 @@ fn ask(rt: &impl Abort, alloc: Global, router: &mut NlRouter<Queues>, flags: u16
 }
 
 /// Hands in a datagram that came to the groups of this mask.
-fn hand_in(
-    rt: &impl Abort,
-    alloc: Global,
-    router: &mut NlRouter<Queues>,
-    digits: &str,
-    mask: u32,
-) {
+fn hand_in(rt: &impl Abort, alloc: Global, router: &mut NlRouter<Queues>, digits: &str, mask: u32) {
     let groups = Groups::new_bitmask(alloc, mask).expect(rt, "memory");
     let bytes = bytes_of(rt, alloc, digits);
     router.processing_loop(&bytes, &groups).expect(rt, "memory");
@@ -148,12 +142,7 @@ const ANSWERS: [(&str, u16, &[&str], &[Told]); 6] = [
         "a dump",
         0x300,
         &[PARTS, "1400000003000200000000000000000000000000"],
-        &[
-            Told::Message(0),
-            Told::Message(0),
-            Told::Done(0),
-            Told::End,
-        ],
+        &[Told::Message(0), Told::Message(0), Told::Done(0), Told::End],
     ),
     (
         "a dump that ends with a code",
@@ -315,7 +304,11 @@ fn a_request_is_padded(rt: HostRuntime) {
     let (bytes, _handle): (Vec<u8>, Handle) = router
         .send(alloc, 1024u16, NlmF::empty(), NlPayload::Payload(body))
         .expect(&rt, "a request");
-    let want = bytes_of(&rt, alloc, "180000000004010000000000000000006162636465000000");
+    let want = bytes_of(
+        &rt,
+        alloc,
+        "180000000004010000000000000000006162636465000000",
+    );
     assert_eq!(rt; bytes.as_slice(), want.as_slice());
     let message = Raw::from_bytes(alloc, &mut Cursor::new(&bytes)).expect(&rt, "a message");
     assert_eq!(rt; message_told(&message), Told::Message(8));
@@ -353,7 +346,13 @@ fn a_number_that_is_used_again_gets_what_comes_from_then_on(rt: HostRuntime) {
     let mut third = ask(&rt, alloc, &mut router, 0);
     assert_eq!(rt; read(&rt, alloc, &mut router, &mut third), Told::Waits);
     assert_eq!(rt; try_ask(alloc, &mut router, 0).err(), Some(Told::InUse(1)));
-    hand_in(&rt, alloc, &mut router, "10000000100000000000000007000000", 0);
+    hand_in(
+        &rt,
+        alloc,
+        &mut router,
+        "10000000100000000000000007000000",
+        0,
+    );
     assert_eq!(rt; read(&rt, alloc, &mut router, &mut third), Told::Message(0));
     assert_eq!(rt; read(&rt, alloc, &mut router, &mut third), Told::End);
 }
@@ -412,7 +411,9 @@ const CAME: [&str; 11] = [
 fn a_run_answers_each_command(rt: HostRuntime) {
     let alloc = rt.alloc();
     let commands = Vec::from_array(alloc, commands(&rt, alloc)).expect(&rt, "memory");
-    let outcomes = run::<Queues, u16, Buffer, u16, Buffer>(alloc, 0, commands).expect(&rt, "memory");
+    let outcomes = run::<Queues, u16, Buffer, u16, Buffer>(alloc, 0, commands).expect(
+        &rt, "memory",
+    );
     assert_eq!(rt; outcomes.len(), CAME.len());
     for (outcome, want) in outcomes.iter().zip(CAME) {
         assert_eq!(rt; came(outcome), want);

@@ -7,7 +7,13 @@ use neli::{BeU64, Cursor, FromBytesWithInput, FromBytesWithInputBorrowed};
 fn numbers_written(rt: HostRuntime) {
     let alloc = rt.alloc();
     let big = BeU64::new(571987654);
-    assert_written(&rt, alloc, "the highest byte first", &big, "000000002217d6c6");
+    assert_written(
+        &rt,
+        alloc,
+        "the highest byte first",
+        &big,
+        "000000002217d6c6",
+    );
     assert_written(&rt, alloc, "below zero", &-600000i32, "40d8f6ff");
 }
 

@@ -1,0 +1,233 @@
+//! Conversations with a kernel, Linux 6.18 on x86-64, as they were recorded: the request that a program sent, and each
+//! datagram that came for it. What the messages hold was read by libmnl and pyroute2.
+
+use crate::conversation::{Item, Talk, answered, payload_of};
+use crate::resolvers::{Ctrl, family};
+use neli::consts::nl::{GenlId, NlmF, NlmsgerrAttr};
+use neli::consts::rtnl::{Ifa, RtAddrFamily, RtScope, RtTable, Rta, Rtm, Rtn, Rtprot};
+use neli::err::RouterError;
+use neli::nl::NlPayload;
+use neli::router::synchronous::{lookup_id, resolve_genl_family, resolve_nl_mcast_group};
+use neli::rtnl::{Ifaddrmsg, IfaddrmsgBuilder, RtattrBuilder, Rtmsg, RtmsgBuilder};
+use neli::types::RtBuffer;
+use std::alloc::Global;
+use std::process::Abort;
+
+/// The family `tcp_metrics`, acknowledged.
+const TCP_METRICS: Talk = Talk {
+    port: 17225,
+    number: 1009,
+    request: "2400000010000500f10300000000000003010000100002007463705f6d65747269637300",
+    answers: &[
+        "7000000010000000f10300004943000001020000100002007463705f6d65747269637300060001001b00000008000300\
+        010000000800040000000000080005000d0000002c000600140001000800010001000000080002000e00000014000200\
+        0800010002000000080002000b000000",
+        "2400000002000001f103000049430000000000002400000010000500f103000000000000",
+    ],
+};
+
+#[test]
+fn a_family_is_resolved(rt: HostRuntime) {
+    let alloc = rt.alloc();
+    let request = family(&rt, alloc, "tcp_metrics", 1);
+    let items: Vec<Item<GenlId, Ctrl>> = answered(
+        &rt,
+        alloc,
+        &TCP_METRICS,
+        GenlId::Ctrl,
+        NlmF::ACK,
+        request,
+    );
+    assert_eq!(rt; items.len(), 2);
+    let number = resolve_genl_family(alloc, "tcp_metrics", items);
+    assert_eq!(rt; number.ok(), Some(27));
+}
+
+/// The controller's own family, with its group.
+const NLCTRL: Talk = Talk {
+    port: 17225,
+    number: 1056,
+    request: "20000000100001002004000000000000030100000b0002006e6c6374726c0000",
+    answers: &[
+        "88000000100000002004000049430000010200000b0002006e6c6374726c000006000100100000000800030002000000\
+        080004000000000008000500000000002c000600140001000800010003000000080002000e00000014000200080001000a\
+        000000080002000c0000001c0007001800010008000200100000000b0001006e6f746966790000",
+    ],
+};
+
+/// What the controller told of itself.
+fn nlctrl(rt: &impl Abort, alloc: Global) -> Vec<Item<GenlId, Ctrl>> {
+    let request = family(rt, alloc, "nlctrl", 1);
+    answered(rt, alloc, &NLCTRL, GenlId::Ctrl, NlmF::empty(), request)
+}
+
+#[test]
+fn a_group_is_resolved(rt: HostRuntime) {
+    let alloc = rt.alloc();
+    let number = resolve_nl_mcast_group(alloc, "nlctrl", "notify", nlctrl(&rt, alloc));
+    assert_eq!(rt; number.ok(), Some(16));
+    let names = lookup_id(alloc, 16, nlctrl(&rt, alloc));
+    let (family, group) = names.ok().expect(&rt, "names");
+    assert_eq!(rt; (family.as_str(), group.as_str()), ("nlctrl", "notify"));
+}
+
+/// A dump of the IPv4 addresses of one link, strictly checked.
+const ADDRESSES: Talk = Talk {
+    port: 4136408453,
+    number: 1179,
+    request: "18000000160001039b040000000000000200000003000000",
+    answers: &[
+        "58000000140022009b04000085958cf6021880000300000008000100c000020108000200c000020108000400c00002ff\
+        0a0003007665746830000000080008008000000014000600ffffffffffffffff44730300447303005000000014002200\
+        9b04000085958cf6021881000300000008000100c000020208000200c00002020c00030076657468303a780008000800\
+        8100000014000600ffffffffffffffff5d7303005d730300",
+        "14000000030022009b04000085958cf600000000",
+    ],
+};
+
+/// The addresses that the kernel was asked for.
+fn addresses(rt: &impl Abort, alloc: Global) -> Vec<Item<Rtm, Ifaddrmsg>> {
+    let asked = IfaddrmsgBuilder::default()
+        .ifa_family(RtAddrFamily::Inet)
+        .ifa_prefixlen(0)
+        .ifa_scope(RtScope::Universe)
+        .ifa_index(3)
+        .build(alloc)
+        .expect(rt, "a request");
+    answered(rt, alloc, &ADDRESSES, Rtm::Getaddr, NlmF::DUMP, asked)
+}
+
+/// Asserts the label and the last byte of the address of an item.
+fn assert_address(
+    rt: &impl Abort,
+    alloc: Global,
+    item: &Item<Rtm, Ifaddrmsg>,
+    label: &str,
+    last: u8,
+) {
+    let body = payload_of(rt, item);
+    assert_eq!(rt; (*body.ifa_prefixlen(), *body.ifa_index()), (24, 3));
+    let attrs = body.rtattrs().get_attr_handle();
+    let own: Option<&str> = attrs.get_attr_payload_as_with_len_borrowed(Ifa::Label).ok();
+    assert_eq!(rt; own, Some(label));
+    let address: Option<[u8; 4]> = attrs.get_attr_payload_as(alloc, Ifa::Local).ok();
+    assert_eq!(rt; address, Some([192, 0, 2, last]));
+}
+
+#[test]
+fn a_dump_is_read_to_its_end(rt: HostRuntime) {
+    let alloc = rt.alloc();
+    let items = addresses(&rt, alloc);
+    assert_eq!(rt; items.len(), 3);
+    for (item, (label, last)) in items.iter().zip([("veth0\0", 1), ("veth0:x\0", 2)]) {
+        assert_address(&rt, alloc, item, label, last);
+    }
+    let Some(Ok(end)) = items.last() else {
+        return rt.panic("no end");
+    };
+    let NlPayload::DumpExtAck(done) = end.nl_payload() else {
+        return rt.panic("another payload");
+    };
+    assert_eq!(rt; (*done.error(), done.ext_ack().len()), (0, 0));
+}
+
+/// Which way packets to 10.7.2.3 go, acknowledged.
+const ROUTE: Talk = Talk {
+    port: 3331851770,
+    number: 1047,
+    request: "240000001a0005001704000000000000022000000000000000000000080001000a070203",
+    answers: &[
+        "700000001800000017040000fa0598c602200000fe0000010002000008000f00fe000000080001000a07020308000400\
+        0300000008000700c000020108000500c0000209080019000000000024000c0002000000000000000000000000000000\
+        00000000000000000000000000000000",
+        "240000000200000117040000fa0598c600000000240000001a0005001704000000000000",
+    ],
+};
+
+/// A request for the way to an address.
+fn way_to(rt: &impl Abort, alloc: Global, address: [u8; 4]) -> Rtmsg {
+    let to = RtattrBuilder::default()
+        .rta_type(Rta::Dst)
+        .rta_payload(address)
+        .build(alloc)
+        .expect(rt, "an address");
+    let mut attrs = RtBuffer::new(alloc);
+    attrs.push(to).expect(rt, "memory");
+    RtmsgBuilder::default()
+        .rtm_family(RtAddrFamily::Inet)
+        .rtm_dst_len(32)
+        .rtm_src_len(0)
+        .rtm_tos(0)
+        .rtm_table(RtTable::Unspec)
+        .rtm_protocol(Rtprot::Unspec)
+        .rtm_scope(RtScope::Universe)
+        .rtm_type(Rtn::Unspec)
+        .rtattrs(attrs)
+        .build(alloc)
+        .expect(rt, "a request")
+}
+
+#[test]
+fn a_route_is_looked_up(rt: HostRuntime) {
+    let alloc = rt.alloc();
+    let asked = way_to(&rt, alloc, [10, 7, 2, 3]);
+    let items: Vec<Item<Rtm, Rtmsg>> = answered(
+        &rt,
+        alloc,
+        &ROUTE,
+        Rtm::Getroute,
+        NlmF::ACK,
+        asked,
+    );
+    assert_eq!(rt; items.len(), 2);
+    let body = payload_of(&rt, items.first().expect(&rt, "a route"));
+    let fields = (*body.rtm_table(), *body.rtm_type());
+    assert_eq!(rt; fields, (RtTable::Main, Rtn::Unicast));
+    let attrs = body.rtattrs().get_attr_handle();
+    let gateway: Option<[u8; 4]> = attrs.get_attr_payload_as(alloc, Rta::Gateway).ok();
+    assert_eq!(rt; gateway, Some([192, 0, 2, 9]));
+    let link: Option<u32> = attrs.get_attr_payload_as(alloc, Rta::Oif).ok();
+    assert_eq!(rt; link, Some(3));
+}
+
+/// A name that is too long for a family, refused with an extended acknowledgement.
+const TOO_LONG: Talk = Talk {
+    port: 17225,
+    number: 1107,
+    request: "3c0000001000050053040000000000000301000025000200612d6e616d652d6661722d746f6f2d6c6f6e672d666f722d\
+        612d66616d696c7900000000",
+    answers: &[
+        "94000000020000025304000049430000eaffffff3c0000001000050053040000000000000301000025000200612d6e61\
+        6d652d6661722d746f6f2d6c6f6e672d666f722d612d66616d696c790000000027000100417474726962757465206661\
+        696c656420706f6c6963792076616c69646174696f6e0000080002001400000014000480080007000f00000008000100\
+        0c000000",
+    ],
+};
+
+#[test]
+fn an_error_says_why(rt: HostRuntime) {
+    let alloc = rt.alloc();
+    let request = family(&rt, alloc, "a-name-far-too-long-for-a-family", 1);
+    let items: Vec<Item<GenlId, Ctrl>> = answered(
+        &rt,
+        alloc,
+        &TOO_LONG,
+        GenlId::Ctrl,
+        NlmF::ACK,
+        request,
+    );
+    assert_eq!(rt; items.len(), 1);
+    let Some(Err(RouterError::Nlmsgerr(answer))) = items.first() else {
+        return rt.panic("no error of the kernel");
+    };
+    assert_eq!(rt; *answer.error(), -22);
+    assert_eq!(rt; *answer.nlmsg().nl_seq(), 1107);
+    let attrs = answer.ext_ack().get_attr_handle();
+    assert_eq!(rt; attrs.get_attrs().len(), 3);
+    let said: Option<&str> = attrs
+        .get_attr_payload_as_with_len_borrowed(NlmsgerrAttr::Msg)
+        .ok();
+    assert_eq!(rt; said, Some("Attribute failed policy validation\0"));
+    let place: Option<u32> = attrs.get_attr_payload_as(alloc, NlmsgerrAttr::Offset).ok();
+    assert_eq!(rt; place, Some(20));
+}
