@@ -217,26 +217,23 @@ fn wrapped(rt: &impl Abort, alloc: Global, levels: u32) -> Nlattr<u16, Buffer> {
     attr
 }
 
-/// The attribute that lies so many levels deep.
-fn unwrapped(
-    rt: &impl Abort,
-    alloc: Global,
-    outer: Nlattr<u16, Buffer>,
-    levels: u32,
-) -> Nlattr<u16, Buffer> {
-    let mut attr = outer;
-    for _ in 0..levels {
-        let handle = attr.get_attr_handle::<u16>(alloc).expect(rt, "attributes");
-        let inner = handle.get_attribute(1).expect(rt, "a level");
-        attr = inner.try_clone().expect(rt, "memory");
-    }
-    attr
+/// The attribute that lies in another.
+fn inner_of(rt: &impl Abort, alloc: Global, outer: &Nlattr<u16, Buffer>) -> Nlattr<u16, Buffer> {
+    outer
+        .get_attr_handle::<u16>(alloc)
+        .expect(rt, "attributes")
+        .get_attribute(1)
+        .expect(rt, "a level")
+        .try_clone()
+        .expect(rt, "memory")
 }
 
 #[test]
 fn a_thousand_levels(rt: HostRuntime) {
-    let outer = wrapped(&rt, rt.alloc(), 1000);
-    assert_eq!(rt; *outer.nla_len(), 4004);
-    let inner = unwrapped(&rt, rt.alloc(), outer, 1000);
-    assert_eq!(rt; *inner.nla_len(), 4);
+    let mut attr = wrapped(&rt, rt.alloc(), 1000);
+    assert_eq!(rt; *attr.nla_len(), 4004);
+    for _ in 0..1000u32 {
+        attr = inner_of(&rt, rt.alloc(), &attr);
+    }
+    assert_eq!(rt; *attr.nla_len(), 4);
 }

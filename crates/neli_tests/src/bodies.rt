@@ -2,7 +2,7 @@
 
 use crate::support::{Fault, assert_written, bytes_of, read_whole};
 use neli::connector::{CnMsg, CnMsgBuilder, CnMsgBuilderError, ProcEvent, ProcEventHeader};
-use neli::consts::connector::{CnMsgIdx, CnMsgVal, ProcEventType};
+use neli::consts::connector::{CnMsgIdx, CnMsgVal};
 use neli::consts::genl::CtrlCmd;
 use neli::consts::rtnl::{Iff, RtAddrFamily};
 use neli::err::{BuildError, DeError};
@@ -138,17 +138,14 @@ fn a_process_event(rt: HostRuntime) {
     assert_eq!(rt; to, (CnMsgIdx::Proc, CnMsgVal::Proc, 643, 40));
     let event = message.payload();
     assert_eq!(rt; (event.cpu, event.timestamp_ns), (1, 2504390882488));
-    let exec = ProcEvent::Exec {
-        process_pid: 5759,
-        process_tgid: 5759,
+    let ProcEvent::Exec {
+        process_pid,
+        process_tgid,
+    } = event.event
+    else {
+        return rt.panic("another event");
     };
-    assert_eq!(rt;
-        ProcEventType::from(&event.event),
-        ProcEventType::from(&exec)
-    );
-    let printed = format!(in alloc; "{:?}", event.event).expect(&rt, "memory");
-    let want = format!(in alloc; "{exec:?}").expect(&rt, "memory");
-    assert_eq!(rt; printed.as_str(), want.as_str());
+    assert_eq!(rt; (process_pid, process_tgid), (5759, 5759));
     assert_written(&rt, alloc, "the same again", &message, EXEC);
 }
 

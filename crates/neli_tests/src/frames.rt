@@ -3,6 +3,7 @@
 
 use crate::support::{Fault, bytes_of, fault_of};
 use neli::ToBytes;
+use neli::consts::Flags;
 use neli::err::SocketError;
 use neli::iter::{NlBufferIter, cut};
 use neli::nl::{NlPayload, Nlmsghdr};
@@ -44,41 +45,30 @@ fn what_is_carried(payload: &NlPayload<u16, Buffer>) -> Carried {
 fn line_of(message: &Raw) -> Line {
     (
         *message.nl_type(),
-        u16::from(*message.nl_flags()),
+        message.nl_flags().bits(),
         *message.nl_seq(),
         *message.nl_pid(),
         what_is_carried(message.nl_payload()),
     )
 }
 
-/// The fault that stands in place of a message.
-fn fault_in(item: Option<Result<Raw, SocketError>>) -> Option<Fault> {
-    match item {
-        None => None,
-        Some(Err(SocketError::De(error))) => Some(fault_of(&error)),
-        Some(_) => Some(Fault::Other),
+/// The messages of a datagram.
+fn lines_of(rt: &impl Abort, alloc: Global, messages: &[Raw]) -> Vec<Line> {
+    let mut lines = Vec::new(alloc);
+    for message in messages.iter() {
+        lines.push(line_of(message)).expect(rt, "memory");
     }
+    lines
 }
 
 /// Asserts that the datagram is these messages, and then this fault or nothing.
-fn check(
-    rt: &impl Abort,
-    alloc: Global,
-    row: &str,
-    digits: &str,
-    lines: &[Line],
-    fault: Option<Fault>,
-) {
+fn check(rt: &impl Abort, alloc: Global, row: Row) {
+    let (name, digits, lines, fault) = row;
     let bytes = bytes_of(rt, alloc, digits);
-    let mut found = NlBufferIter::<'_, u16, Buffer>::new(&bytes);
-    for line in lines {
-        let Some(Ok(message)) = found.next(alloc) else {
-            return rt.panic(row);
-        };
-        assert_eq!(rt; line_of(&message), *line, "{row}");
-    }
-    assert_eq!(rt; fault_in(found.next(alloc)), fault, "{row}");
-    assert!(rt; found.next(alloc).is_none(), "{row}");
+    let (messages, end) = cut::<u16, Buffer>(alloc, &bytes).expect(rt, name);
+    let found = lines_of(rt, alloc, &messages);
+    assert_eq!(rt; found.as_slice(), lines, "{name}");
+    assert_eq!(rt; end.map(|error| fault_of(&error)), fault, "{name}");
 }
 
 /// A datagram: what it shows, its bytes, the messages in it, and what stands after them.
@@ -245,22 +235,31 @@ const ERRORS: [Row; 7] = [
 
 #[test]
 fn headers_lengths_and_padding(rt: HostRuntime) {
-    for (row, digits, lines, fault) in HEADERS {
-        check(&rt, rt.alloc(), row, digits, lines, fault);
+    for row in HEADERS {
+        check(&rt, rt.alloc(), row);
     }
 }
 
 #[test]
 fn kinds_of_payload(rt: HostRuntime) {
-    for (row, digits, lines, fault) in KINDS {
-        check(&rt, rt.alloc(), row, digits, lines, fault);
+    for row in KINDS {
+        check(&rt, rt.alloc(), row);
     }
 }
 
 #[test]
 fn lengths_inside_an_error(rt: HostRuntime) {
-    for (row, digits, lines, fault) in ERRORS {
-        check(&rt, rt.alloc(), row, digits, lines, fault);
+    for row in ERRORS {
+        check(&rt, rt.alloc(), row);
+    }
+}
+
+/// The fault that stands in place of a message.
+fn fault_in(item: Option<Result<Raw, SocketError>>) -> Option<Fault> {
+    match item {
+        None => None,
+        Some(Err(SocketError::De(error))) => Some(fault_of(&error)),
+        Some(_) => Some(Fault::Other),
     }
 }
 
@@ -311,21 +310,20 @@ const REWRITTEN: [(&str, &str, &str); 2] = [
     ),
 ];
 
+/// What is written of the messages of a datagram.
+fn written_again(rt: &impl Abort, alloc: Global, digits: &str) -> Vec<u8> {
+    let bytes = bytes_of(rt, alloc, digits);
+    let (messages, _) = cut::<u16, Buffer>(alloc, &bytes).expect(rt, "messages");
+    let mut again = Vec::new(alloc);
+    messages.to_bytes(&mut again).expect(rt, "memory");
+    again
+}
+
 #[test]
 fn padding_is_written_as_zeros(rt: HostRuntime) {
-    let alloc = rt.alloc();
     for (row, digits, want) in REWRITTEN {
-        let bytes = bytes_of(&rt, alloc, digits);
-        let (messages, fault) = cut::<u16, Buffer>(alloc, &bytes).expect(&rt, row);
-        assert!(rt; fault.is_none(), "{row}");
-        let mut again = Vec::new(alloc);
-        for message in messages.iter() {
-            message.to_bytes(&mut again).expect(&rt, row);
-        }
-        assert_eq!(rt;
-            again.as_slice(),
-            bytes_of(&rt, alloc, want).as_slice(),
-            "{row}"
-        );
+        let again = written_again(&rt, rt.alloc(), digits);
+        let want = bytes_of(&rt, rt.alloc(), want);
+        assert_eq!(rt; again.as_slice(), want.as_slice(), "{row}");
     }
 }

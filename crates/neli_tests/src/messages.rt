@@ -28,19 +28,20 @@ fn error(rt: &impl Abort, alloc: Global) -> Typed {
 #[test]
 fn an_error_with_other_types_keeps_its_attributes(rt: HostRuntime) {
     let message = error(&rt, rt.alloc());
-    assert_eq!(rt; *message.nl_len(), 52);
     let NlPayload::Err(answer) = message.nl_payload() else {
         return rt.panic("no error");
     };
     let echo = answer.nlmsg();
     let log = NlTypeWrapper::NetfilterMsg(NetfilterMsg::LogPacket);
-    assert_eq!(rt; (*echo.nl_type(), *echo.nl_len()), (log, 24));
-    assert_eq!(rt; echo.nl_payload().as_slice(), b"abcde".as_slice());
     let attrs = answer.ext_ack().get_attr_handle();
     let said: Option<&str> = attrs
         .get_attr_payload_as_with_len_borrowed(NlmsgerrAttr::Msg)
         .ok();
-    assert_eq!(rt; said, Some("bad\0"));
+    assert_eq!(rt; (*message.nl_len(), *echo.nl_len()), (52, 24));
+    assert_eq!(rt;
+        (*echo.nl_type(), echo.nl_payload().as_slice(), said),
+        (log, b"abcde".as_slice(), Some("bad\0"))
+    );
 }
 
 #[test]

@@ -9,7 +9,7 @@ use neli::err::RouterError;
 use neli::nl::NlPayload;
 use neli::router::synchronous::{lookup_id, resolve_genl_family, resolve_nl_mcast_group};
 use neli::rtnl::{Ifaddrmsg, IfaddrmsgBuilder, RtattrBuilder, Rtmsg, RtmsgBuilder};
-use neli::types::RtBuffer;
+use neli::types::{Buffer, GenlBuffer, RtBuffer};
 use std::alloc::Global;
 use std::process::Abort;
 
@@ -106,12 +106,13 @@ fn assert_address(
     last: u8,
 ) {
     let body = payload_of(rt, item);
-    assert_eq!(rt; (*body.ifa_prefixlen(), *body.ifa_index()), (24, 3));
     let attrs = body.rtattrs().get_attr_handle();
     let own: Option<&str> = attrs.get_attr_payload_as_with_len_borrowed(Ifa::Label).ok();
-    assert_eq!(rt; own, Some(label));
     let address: Option<[u8; 4]> = attrs.get_attr_payload_as(alloc, Ifa::Local).ok();
-    assert_eq!(rt; address, Some([192, 0, 2, last]));
+    assert_eq!(rt;
+        (*body.ifa_prefixlen(), *body.ifa_index(), own, address),
+        (24, 3, Some(label), Some([192, 0, 2, last]))
+    );
 }
 
 #[test]
@@ -181,13 +182,13 @@ fn a_route_is_looked_up(rt: HostRuntime) {
     );
     assert_eq!(rt; items.len(), 2);
     let body = payload_of(&rt, items.first().expect(&rt, "a route"));
-    let fields = (*body.rtm_table(), *body.rtm_type());
-    assert_eq!(rt; fields, (RtTable::Main, Rtn::Unicast));
     let attrs = body.rtattrs().get_attr_handle();
     let gateway: Option<[u8; 4]> = attrs.get_attr_payload_as(alloc, Rta::Gateway).ok();
-    assert_eq!(rt; gateway, Some([192, 0, 2, 9]));
     let link: Option<u32> = attrs.get_attr_payload_as(alloc, Rta::Oif).ok();
-    assert_eq!(rt; link, Some(3));
+    assert_eq!(rt;
+        (*body.rtm_table(), *body.rtm_type(), gateway, link),
+        (RtTable::Main, Rtn::Unicast, Some([192, 0, 2, 9]), Some(3))
+    );
 }
 
 /// A name that is too long for a family, refused with an extended acknowledgement.
@@ -220,14 +221,19 @@ fn an_error_says_why(rt: HostRuntime) {
     let Some(Err(RouterError::Nlmsgerr(answer))) = items.first() else {
         return rt.panic("no error of the kernel");
     };
-    assert_eq!(rt; *answer.error(), -22);
-    assert_eq!(rt; *answer.nlmsg().nl_seq(), 1107);
-    let attrs = answer.ext_ack().get_attr_handle();
-    assert_eq!(rt; attrs.get_attrs().len(), 3);
+    assert_eq!(rt; (*answer.error(), *answer.nlmsg().nl_seq()), (-22, 1107));
+    assert_why(&rt, alloc, answer.ext_ack());
+}
+
+/// Asserts what the kernel's three attributes say.
+fn assert_why(rt: &impl Abort, alloc: Global, ext_ack: &GenlBuffer<NlmsgerrAttr, Buffer>) {
+    let attrs = ext_ack.get_attr_handle();
     let said: Option<&str> = attrs
         .get_attr_payload_as_with_len_borrowed(NlmsgerrAttr::Msg)
         .ok();
-    assert_eq!(rt; said, Some("Attribute failed policy validation\0"));
     let place: Option<u32> = attrs.get_attr_payload_as(alloc, NlmsgerrAttr::Offset).ok();
-    assert_eq!(rt; place, Some(20));
+    assert_eq!(rt;
+        (attrs.get_attrs().len(), said, place),
+        (3, Some("Attribute failed policy validation\0"), Some(20))
+    );
 }

@@ -1,7 +1,7 @@
 //! Families and groups of generic netlink, by name and by number.
 
 use crate::conversation::{Talk, answered};
-use neli::consts::genl::{CtrlAttr, CtrlCmd};
+use neli::consts::genl::{CtrlAttr, CtrlCmd, NlAttrType};
 use neli::consts::nl::{GenlId, NlmF};
 use neli::err::RouterError;
 use neli::genl::{AttrType, Genlmsghdr, GenlmsghdrBuilder, NlattrBuilder};
@@ -18,7 +18,7 @@ pub type Ctrl = Genlmsghdr<CtrlCmd, CtrlAttr>;
 /// A request for the family of this name.
 pub fn family(rt: &impl Abort, alloc: Global, name: &str, version: u8) -> Ctrl {
     let name = NlattrBuilder::default()
-        .nla_type(AttrType::from(u16::from(CtrlAttr::FamilyName)))
+        .nla_type(AttrType::from(CtrlAttr::FamilyName.to_number()))
         .nla_payload(name)
         .build(alloc)
         .expect(rt, "a name");

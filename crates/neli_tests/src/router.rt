@@ -73,6 +73,14 @@ fn item_told(item: &Result<Raw, Refusal>) -> Told {
     }
 }
 
+fn reply_told(reply: &Reply<u16, Buffer>) -> Told {
+    match reply {
+        Reply::Item(item) => item_told(item),
+        Reply::End => Told::End,
+        Reply::Waits => Told::Waits,
+    }
+}
+
 /// Sends an empty request of type 16 with these flags.
 fn try_ask(alloc: Global, router: &mut NlRouter<Queues>, flags: u16) -> Result<Handle, Told> {
     let nothing = NlPayload::Payload(Buffer::new(alloc));
@@ -102,12 +110,10 @@ fn read<RT, RP>(
     router: &mut NlRouter<Queues>,
     handle: &mut NlRouterReceiverHandle<RT, RP>,
 ) -> Told {
-    let reply = router.next_typed::<u16, Buffer, _, _>(alloc, handle);
-    match &reply.expect(rt, "memory") {
-        Reply::Item(item) => item_told(item),
-        Reply::End => Told::End,
-        Reply::Waits => Told::Waits,
-    }
+    let reply = router
+        .next_typed::<u16, Buffer, _, _>(alloc, handle)
+        .expect(rt, "memory");
+    reply_told(&reply)
 }
 
 /// A message with number 0, and one with number 9; an acknowledgement of number 0.
@@ -163,98 +169,123 @@ const ANSWERS: [(&str, u16, &[&str], &[Told]); 6] = [
     ),
 ];
 
+/// What is read of one request, in so many reads, after these datagrams.
+fn answers(
+    rt: &impl Abort,
+    alloc: Global,
+    flags: u16,
+    datagrams: &[&str],
+    reads: usize,
+) -> Vec<Told> {
+    let (mut router, _multicast) = NlRouter::<Queues>::new(alloc, 0);
+    let mut handle = ask(rt, alloc, &mut router, flags);
+    for digits in datagrams {
+        hand_in(rt, alloc, &mut router, digits, 0);
+    }
+    let mut told = Vec::new(alloc);
+    for _ in 0..reads {
+        told.push(read(rt, alloc, &mut router, &mut handle))
+            .expect(rt, "memory");
+    }
+    told
+}
+
 #[test]
 fn answers_end_in_one_place(rt: HostRuntime) {
-    let alloc = rt.alloc();
-    for (row, flags, datagrams, told) in ANSWERS {
-        let (mut router, _multicast) = NlRouter::<Queues>::new(alloc, 0);
-        let mut handle = ask(&rt, alloc, &mut router, flags);
-        for digits in datagrams {
-            hand_in(&rt, alloc, &mut router, digits, 0);
-        }
-        for want in told {
-            let got = read(&rt, alloc, &mut router, &mut handle);
-            assert_eq!(rt; got, *want, "{row}");
-        }
+    for (row, flags, datagrams, want) in ANSWERS {
+        let told = answers(&rt, rt.alloc(), flags, datagrams, want.len());
+        assert_eq!(rt; told.as_slice(), want, "{row}");
     }
 }
 
-// Who gets what, of two requests and multicast: what it shows, the datagram, the mask of its groups, what is read of
-// multicast, and what of each request.
-const DATAGRAMS: [(&str, &str, u32, Told, Told); 6] = [
-    ("no bytes", "", 0, Told::Waits, Told::Waits),
+// Who gets what, of multicast and two requests: what it shows, the datagram, the mask of its groups, what is read of
+// multicast, then of each request, and of the first again.
+const DATAGRAMS: [(&str, &str, u32, [Told; 4]); 6] = [
+    (
+        "no bytes",
+        "",
+        0,
+        [Told::Waits, Told::Waits, Told::Waits, Told::Waits],
+    ),
     (
         "half a header",
         "000000000000000000000000000000",
         0,
-        Told::Waits,
-        Told::Fault(Fault::Short),
+        [Told::Waits, SHORT, SHORT, Told::End],
     ),
     (
         "half a header to a group",
         "000000000000000000000000000000",
         1,
-        Told::Waits,
-        Told::Fault(Fault::Short),
+        [Told::Waits, SHORT, SHORT, Told::End],
     ),
     (
         "a number that nobody has",
         STRAY,
         0,
-        Told::Waits,
-        Told::Stray(9),
+        [Told::Waits, Told::Stray(9), Told::Stray(9), Told::End],
     ),
     (
         "a message to group 32",
         REPLY,
         0x8000_0000,
-        Told::Message(0),
-        Told::Waits,
+        [Told::Message(0), Told::Waits, Told::Waits, Told::Waits],
     ),
     (
         "half a header after a message to group 32",
         "10000000100000000000000000000000000000000000000000000000000000",
         0x8000_0000,
-        Told::Message(0),
-        Told::Fault(Fault::Short),
+        [Told::Message(0), SHORT, SHORT, Told::End],
     ),
 ];
 
+/// What a datagram that ends inside a header gives.
+const SHORT: Told = Told::Fault(Fault::Short);
+
+/// What is read of multicast, of each of two requests, and of the first again, after a datagram.
+fn who_gets_what(rt: &impl Abort, alloc: Global, digits: &str, mask: u32) -> [Told; 4] {
+    let (mut router, mut multicast) = NlRouter::<Queues>::new(alloc, 0);
+    let mut first = ask(rt, alloc, &mut router, 0);
+    let mut second = ask(rt, alloc, &mut router, 0);
+    hand_in(rt, alloc, &mut router, digits, mask);
+    [
+        read(rt, alloc, &mut router, &mut multicast),
+        read(rt, alloc, &mut router, &mut first),
+        read(rt, alloc, &mut router, &mut second),
+        read(rt, alloc, &mut router, &mut first),
+    ]
+}
+
 #[test]
 fn a_datagram_goes_to_whom_it_is_for(rt: HostRuntime) {
-    let alloc = rt.alloc();
-    for (row, digits, mask, of_groups, of_requests) in DATAGRAMS {
-        let (mut router, mut multicast) = NlRouter::<Queues>::new(alloc, 0);
-        let mut first = ask(&rt, alloc, &mut router, 0);
-        let mut second = ask(&rt, alloc, &mut router, 0);
-        hand_in(&rt, alloc, &mut router, digits, mask);
-        let told = (
-            read(&rt, alloc, &mut router, &mut multicast),
-            read(&rt, alloc, &mut router, &mut first),
-            read(&rt, alloc, &mut router, &mut second),
-        );
-        assert_eq!(rt; told, (of_groups, of_requests, of_requests), "{row}");
-        let after = if of_requests == Told::Waits {
-            Told::Waits
-        } else {
-            Told::End
-        };
-        assert_eq!(rt; read(&rt, alloc, &mut router, &mut first), after, "{row}");
+    for (row, digits, mask, want) in DATAGRAMS {
+        let told = who_gets_what(&rt, rt.alloc(), digits, mask);
+        assert_eq!(rt; told, want, "{row}");
     }
+}
+
+/// What the second of two requests is given after the first is closed, and a datagram comes.
+fn of_the_other(rt: &impl Abort, alloc: Global, digits: &str) -> Told {
+    let (mut router, _multicast) = NlRouter::<Queues>::new(alloc, 0);
+    let first = ask(rt, alloc, &mut router, 0);
+    let mut second = ask(rt, alloc, &mut router, 0);
+    router.close(first);
+    hand_in(rt, alloc, &mut router, digits, 0);
+    read(rt, alloc, &mut router, &mut second)
 }
 
 #[test]
 fn a_closed_handle_leaves_strays_to_the_others(rt: HostRuntime) {
-    let alloc = rt.alloc();
-    for (digits, number) in [(STRAY, 9), (REPLY, 0)] {
-        let (mut router, _multicast) = NlRouter::<Queues>::new(alloc, 0);
-        let first = ask(&rt, alloc, &mut router, 0);
-        let mut second = ask(&rt, alloc, &mut router, 0);
-        router.close(first);
-        hand_in(&rt, alloc, &mut router, digits, 0);
-        let told = read(&rt, alloc, &mut router, &mut second);
-        assert_eq!(rt; told, Told::Stray(number));
-    }
+    let told = (
+        of_the_other(&rt, rt.alloc(), STRAY),
+        of_the_other(&rt, rt.alloc(), REPLY),
+    );
+    assert_eq!(rt; told, (Told::Stray(9), Told::Stray(0)));
+}
+
+/// Sends an empty request, and gives its number.
+fn number_of(rt: &impl Abort, alloc: Global, router: &mut NlRouter<Queues>) -> Option<u32> {
+    ask(rt, alloc, router, 0).state().number
 }
 
 #[test]
@@ -262,16 +293,29 @@ fn numbers_count_up_and_wrap(rt: HostRuntime) {
     let alloc = rt.alloc();
     let (mut router, _multicast) = NlRouter::<Queues>::new(alloc, 0);
     router.set_next_seq(4294967295);
-    let last = ask(&rt, alloc, &mut router, 0).state().number;
+    let last = number_of(&rt, alloc, &mut router);
     let zero = ask(&rt, alloc, &mut router, 0);
-    let one = ask(&rt, alloc, &mut router, 0).state().number;
-    let numbers = (last, zero.state().number, one);
-    assert_eq!(rt; numbers, (Some(4294967295), Some(0), Some(1)));
+    let one = number_of(&rt, alloc, &mut router);
     router.set_next_seq(0);
-    assert_eq!(rt; try_ask(alloc, &mut router, 0).err(), Some(Told::InUse(0)));
+    let refused = try_ask(alloc, &mut router, 0).err();
     router.close(zero);
-    let again = ask(&rt, alloc, &mut router, 0);
-    assert_eq!(rt; again.state().number, Some(0));
+    let again = number_of(&rt, alloc, &mut router);
+    assert_eq!(rt; [last, one, again], [Some(4294967295), Some(1), Some(0)]);
+    assert_eq!(rt; refused, Some(Told::InUse(0)));
+}
+
+/// What is read after a fault of the link.
+fn after_fault(
+    rt: &impl Abort,
+    alloc: Global,
+    router: &mut NlRouter<Queues>,
+    handle: &mut Handle,
+    kind: ErrorKind,
+) -> Told {
+    router
+        .error_handling(SocketError::Io(kind))
+        .expect(rt, "memory");
+    read(rt, alloc, router, handle)
 }
 
 #[test]
@@ -279,21 +323,15 @@ fn a_fault_of_the_link_ends_what_waits(rt: HostRuntime) {
     let alloc = rt.alloc();
     let (mut router, _multicast) = NlRouter::<Queues>::new(alloc, 0);
     let mut handle = ask(&rt, alloc, &mut router, 0);
-    assert_eq!(rt; read(&rt, alloc, &mut router, &mut handle), Told::Waits);
-    let rows = [
-        (ErrorKind::WouldBlock, Told::Waits),
-        (
-            ErrorKind::ConnectionReset,
-            Told::Failed(ErrorKind::ConnectionReset),
-        ),
+    let reset = ErrorKind::ConnectionReset;
+    let told = [
+        read(&rt, alloc, &mut router, &mut handle),
+        after_fault(&rt, alloc, &mut router, &mut handle, ErrorKind::WouldBlock),
+        after_fault(&rt, alloc, &mut router, &mut handle, reset),
+        read(&rt, alloc, &mut router, &mut handle),
     ];
-    for (kind, want) in rows {
-        router
-            .error_handling(SocketError::Io(kind))
-            .expect(&rt, "memory");
-        assert_eq!(rt; read(&rt, alloc, &mut router, &mut handle), want);
-    }
-    assert_eq!(rt; read(&rt, alloc, &mut router, &mut handle), Told::End);
+    let want = [Told::Waits, Told::Waits, Told::Failed(reset), Told::End];
+    assert_eq!(rt; told, want);
 }
 
 #[test]
@@ -321,12 +359,19 @@ fn a_handle_of_another_router_is_closed_here(rt: HostRuntime) {
     let (mut b, _) = NlRouter::<Queues>::new(alloc, 7);
     let mut handle = ask(&rt, alloc, &mut a, 0);
     let stranger = ask(&rt, alloc, &mut a, 0);
-    assert_eq!(rt; read(&rt, alloc, &mut b, &mut handle), Told::Closed);
-    assert_eq!(rt; read(&rt, alloc, &mut b, &mut handle), Told::End);
-    assert_eq!(rt; read(&rt, alloc, &mut a, &mut handle), Told::End);
     let mut own = ask(&rt, alloc, &mut b, 0);
     b.close(stranger);
-    assert_eq!(rt; read(&rt, alloc, &mut b, &mut own), Told::Waits);
+    b.set_next_seq(5);
+    let mut of_a = ask(&rt, alloc, &mut a, 0);
+    let told = [
+        read(&rt, alloc, &mut b, &mut of_a),
+        read(&rt, alloc, &mut b, &mut of_a),
+        read(&rt, alloc, &mut a, &mut of_a),
+        read(&rt, alloc, &mut b, &mut own),
+        read(&rt, alloc, &mut a, &mut handle),
+    ];
+    let want = [Told::Closed, Told::End, Told::End, Told::Waits, Told::Waits];
+    assert_eq!(rt; told, want);
 }
 
 // The first of two handles is closed in the middle of its answer, and its number is used again.
@@ -338,14 +383,12 @@ fn a_number_that_is_used_again_gets_what_comes_from_then_on(rt: HostRuntime) {
     let mut second = ask(&rt, alloc, &mut router, 0);
     let parts = "1000000010000200000000000700000010000000100000000100000000000000";
     hand_in(&rt, alloc, &mut router, parts, 0);
-    assert_eq!(rt; read(&rt, alloc, &mut router, &mut first), Told::Message(0));
+    let of_first = read(&rt, alloc, &mut router, &mut first);
     router.close(first);
-    assert_eq!(rt; read(&rt, alloc, &mut router, &mut second), Told::Stray(1));
-    assert_eq!(rt; read(&rt, alloc, &mut router, &mut second), Told::End);
+    let of_second = read(&rt, alloc, &mut router, &mut second);
     router.set_next_seq(0);
     let mut third = ask(&rt, alloc, &mut router, 0);
-    assert_eq!(rt; read(&rt, alloc, &mut router, &mut third), Told::Waits);
-    assert_eq!(rt; try_ask(alloc, &mut router, 0).err(), Some(Told::InUse(1)));
+    let before = read(&rt, alloc, &mut router, &mut third);
     hand_in(
         &rt,
         alloc,
@@ -353,8 +396,15 @@ fn a_number_that_is_used_again_gets_what_comes_from_then_on(rt: HostRuntime) {
         "10000000100000000000000007000000",
         0,
     );
-    assert_eq!(rt; read(&rt, alloc, &mut router, &mut third), Told::Message(0));
-    assert_eq!(rt; read(&rt, alloc, &mut router, &mut third), Told::End);
+    let after = read(&rt, alloc, &mut router, &mut third);
+    let told = [of_first, of_second, before, after];
+    let want = [
+        Told::Message(0),
+        Told::Stray(1),
+        Told::Waits,
+        Told::Message(0),
+    ];
+    assert_eq!(rt; told, want);
 }
 
 /// What came of a command of a run, in short.
@@ -414,8 +464,10 @@ fn a_run_answers_each_command(rt: HostRuntime) {
     let outcomes = run::<Queues, u16, Buffer, u16, Buffer>(alloc, 0, commands).expect(
         &rt, "memory",
     );
-    assert_eq!(rt; outcomes.len(), CAME.len());
-    for (outcome, want) in outcomes.iter().zip(CAME) {
-        assert_eq!(rt; came(outcome), want);
-    }
+    let told: Vec<&str> = outcomes
+        .iter()
+        .map(came)
+        .collect(alloc)
+        .expect(&rt, "memory");
+    assert_eq!(rt; told.as_slice(), CAME.as_slice());
 }
