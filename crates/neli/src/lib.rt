@@ -1,5 +1,124 @@
-//! Netlink, proved: the whole library under the module paths of the Rust crate neli. A program names this
-//! crate alone.
+//! Netlink, proved: the whole library under the module paths of the Rust crate neli 0.7.5.
+//!
+//! A program names this crate alone. There are no sockets here: requests come out as bytes for the link that you own, and
+//! the datagrams that arrive are handed in. What allocates takes the allocator and answers a `Result`.
+//!
+//! | You want | Use |
+//! |---|---|
+//! | messages: to read, to build, to write | [`nl`], [`iter`] |
+//! | attributes: to look up, to nest | [`attr`], [`genl`], [`rtnl`], [`types`] |
+//! | each reply with the one who asked | [`router::synchronous`] |
+//! | numbers and flags of the kernel's headers | [`consts`] |
+//! | to look at a few fields of many messages, without a copy | [`lent`] |
+//! | types of your own that are written and read | the traits of this page, [`implementing`] |
+//! | what may be refused, and what a kernel answers | [`err`] |
+//! | multicast groups | [`utils`] |
+//!
+//! # Link, address and route tools
+//!
+//! [`rtnl`] has the bodies of links, addresses, neighbours, routes, queues and rules, each with a builder, and their
+//! attributes; [`consts::rtnl`] what stands in their fields. A link is set up:
+//!
+//! ```
+//! use neli::consts::nl::NlmF;
+//! use neli::consts::rtnl::{RtAddrFamily, Rtm};
+//! use neli::nl::NlPayload;
+//! use neli::router::synchronous::Reply;
+//! use neli::utils::Groups;
+//!
+//! let up = IfinfomsgBuilder::default()
+//!     .ifi_family(RtAddrFamily::Unspecified)
+//!     .ifi_index(3)
+//!     .up()
+//!     .build(alloc)?;
+//! let body = NlPayload::Payload(up);
+//! let (request, mut handle) =
+//!     router.send::<_, _, Rtm, Ifinfomsg>(alloc, Rtm::Setlink, NlmF::ACK, body)?;
+//! // Your link sends `request`, and `datagram` comes back.
+//! router.processing_loop(datagram, &Groups::empty(alloc))?;
+//! let answer = router.next_typed::<Rtm, Ifinfomsg, _, _>(alloc, &mut handle)?;
+//! let is_up = matches!(answer, Reply::Item(Ok(_)));
+//! ```
+//!
+//! # A client of generic netlink
+//!
+//! [`genl`] has the body and its attributes, [`consts::genl`] the controller's numbers. A family's number is told by its
+//! name; commands and attributes of the family are numbers, or enums of your own. A request to a family:
+//!
+//! ```
+//! use neli::consts::nl::NlmF;
+//! use neli::genl::GenlmsghdrBuilder;
+//! use neli::nl::NlPayload;
+//! use neli::router::synchronous::{Reply, resolve_genl_family};
+//! use neli::utils::Groups;
+//!
+//! let (_request, mut handle) = router.request_genl_family(alloc, "tcp_metrics")?;
+//! // Your link sends the request, and `datagram` comes back.
+//! router.processing_loop(datagram, &Groups::empty(alloc))?;
+//! let mut items = Vec::new(alloc);
+//! if let Reply::Item(item) = router.next_typed(alloc, &mut handle)? {
+//!     items.push(item)?;
+//! }
+//! let family = resolve_genl_family(alloc, "tcp_metrics", items)?;
+//! // Command 1 of the family, whose number is the type of the message.
+//! let command = GenlmsghdrBuilder::<u8, u16>::default()
+//!     .cmd(1)
+//!     .version(1)
+//!     .build(alloc)?;
+//! let body = NlPayload::Payload(command);
+//! let (request, _handle): (_, NlRouterReceiverHandle<u16, Genlmsghdr<u8, u16>>) =
+//!     router.send(alloc, family, NlmF::DUMP, body)?;
+//! ```
+//!
+//! # Process events
+//!
+//! [`connector`] has the message and the events. The request is the payload of a message of type `Nlmsg::Done`; events come
+//! to a group, so a router gives them to multicast. Here a datagram is read without one:
+//!
+//! ```
+//! use neli::connector::{CnMsgBuilder, ProcEvent, ProcEventHeader};
+//! use neli::consts::connector::{CnMsgIdx, CnMsgVal};
+//! use neli::iter::cut;
+//!
+//! let request = CnMsgBuilder::default()
+//!     .idx(CnMsgIdx::Proc)
+//!     .val(CnMsgVal::Proc)
+//!     .payload(ProcCnMcastOp::Listen)
+//!     .build()?;
+//! let mut ended = Vec::new(alloc);
+//! let (messages, _fault) = cut::<u16, CnMsg<ProcEventHeader>>(alloc, datagram)?;
+//! for body in messages.iter().filter_map(|message| message.get_payload()) {
+//!     let event = body.payload().event;
+//!     if let ProcEvent::Exit { process_pid, exit_code, .. } = event {
+//!         ended.push((process_pid, exit_code))?;
+//!     }
+//! }
+//! ```
+//!
+//! # A simulator
+//!
+//! What a kernel would say is built and written as a request is. [`router::synchronous::run`] does a whole list of commands with
+//! one router, and answers what came of each. A link is told to who asked for it:
+//!
+//! ```
+//! use neli::consts::nl::NlmF;
+//! use neli::consts::rtnl::Rtm;
+//! use neli::nl::{NlPayload, Nlmsghdr, NlmsghdrBuilder};
+//! use neli::{Cursor, FromBytes, ToBytes};
+//!
+//! let request = Nlmsghdr::<Rtm, Ifinfomsg>::from_bytes(alloc, &mut Cursor::new(asked))?;
+//! let reply = NlmsghdrBuilder::default()
+//!     .nl_type(Rtm::Newlink)
+//!     .nl_flags(NlmF::empty())
+//!     .nl_seq(*request.nl_seq())
+//!     .nl_pid(*request.nl_pid())
+//!     .nl_payload(NlPayload::Payload(link))
+//!     .build()?;
+//! let mut datagram = Vec::new(alloc);
+//! reply.to_bytes(&mut datagram)?;
+//! ```
+//!
+//! These examples are tests, line by line: `crates/neli_tests/src/tour.rt`.
 #![tactic(auto)]
 
 pub mod attr;

@@ -3,7 +3,7 @@
 //! - [`attributes`], [`type_fields`], [`buffers`]: what single values are written as, and what is read.
 //! - [`builders`]: what builders answer. [`lists`], [`lookup`], [`nesting`]: lists of attributes.
 //! - [`recorded_routes`]: attributes of datagrams that were recorded, against what other libraries read there.
-//! - [`readme`]: the README's example. [`out_of_memory`]: each call where an allocation is refused.
+//! - [`out_of_memory`]: each call where an allocation is refused.
 //! - [`support`]: what the tests share.
 //!
 //! Expected bytes are worked out by hand from the kernel's headers, unless a comment names another source.
@@ -23,8 +23,6 @@ mod lookup;
 mod nesting;
 #[cfg(test)]
 mod out_of_memory;
-#[cfg(test)]
-mod readme;
 #[cfg(test)]
 mod recorded_routes;
 #[cfg(test)]

@@ -3,7 +3,7 @@
 //! - [`messages`], [`attributes`], [`lookup`]: each call with its answer. [`owned`]: what takes memory.
 //! - [`datagrams`], [`lists`]: the same bytes read lent and as owned values, with their faults.
 //! - [`recorded`]: messages that were recorded, against what other libraries read there.
-//! - [`readme`]: the README's example. [`laws`]: the laws, called. [`support`]: what the tests share.
+//! - [`laws`]: the laws, called. [`support`]: what the tests share.
 //!
 //! The layouts are those of RFC 3549 sections 2.3.2 and 3.1, of `struct nlmsghdr` and `struct nlattr` of
 //! linux/netlink.h, and of `struct rtattr` of linux/rtnetlink.h. Expected values are worked out by hand from
@@ -25,8 +25,6 @@ mod lookup;
 mod messages;
 #[cfg(test)]
 mod owned;
-#[cfg(test)]
-mod readme;
 #[cfg(test)]
 mod recorded;
 #[cfg(test)]

@@ -1,4 +1,14 @@
-//! Tests of the whole library by the paths of `neli`.
+//! Tests of the whole library by the paths of `neli`, as a program uses it.
+//!
+//! - [`values`], [`constants`], [`attributes`], [`bodies`], [`frames`], [`messages`], [`groups`]: worked examples, each by what
+//!   it shows. [`router`], [`resolvers`]: who gets which reply, and what the controller's replies tell.
+//! - [`recorded`]: conversations with a kernel. [`conversation`]: how one is played.
+//! - [`readme`], [`tour`]: the examples of the README and of the page of `neli`, line by line.
+//! - [`support`]: what the tests share.
+//!
+//! The layouts are those of RFC 3549 section 2.3.2, of linux/netlink.h, linux/genetlink.h, linux/rtnetlink.h and
+//! linux/cn_proc.h. Expected values are worked out by hand from these, unless a comment names a recording: those are from
+//! Linux 6.18 on x86-64, read by libmnl and pyroute2.
 #![tactic(auto)]
 
 #[cfg(test)]
@@ -25,5 +35,7 @@ mod resolvers;
 mod router;
 #[cfg(test)]
 mod support;
+#[cfg(test)]
+mod tour;
 #[cfg(test)]
 mod values;

@@ -37,11 +37,12 @@ fn an_error_with_other_types_keeps_its_attributes(rt: HostRuntime) {
     let said: Option<&str> = attrs
         .get_attr_payload_as_with_len_borrowed(NlmsgerrAttr::Msg)
         .ok();
-    assert_eq!(rt; (*message.nl_len(), *echo.nl_len()), (52, 24));
+    assert_eq!(rt; said, Some("bad\0"));
     assert_eq!(rt;
-        (*echo.nl_type(), echo.nl_payload().as_slice(), said),
-        (log, b"abcde".as_slice(), Some("bad\0"))
+        (*message.nl_len(), *echo.nl_type(), *echo.nl_len()),
+        (52, log, 24)
     );
+    assert_eq!(rt; echo.nl_payload().as_slice(), b"abcde".as_slice());
 }
 
 #[test]

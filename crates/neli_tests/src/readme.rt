@@ -1,15 +1,19 @@
 //! The examples of the README, line by line.
 
+use crate::support::bytes_of;
 use neli::consts::nl::NlmF;
-use neli::consts::rtnl::{Ifa, RtAddrFamily, RtScope, Rtm};
+use neli::consts::rtnl::{Ifa, Ifla, RtAddrFamily, RtScope, Rta, Rtm};
+use neli::lent::LentMessages;
 use neli::nl::NlPayload;
 use neli::router::synchronous::{NlRouter, Queues, Reply};
-use neli::rtnl::{Ifaddrmsg, IfaddrmsgBuilder};
+use neli::rtnl::{Ifaddrmsg, IfaddrmsgBuilder, Ifinfomsg, RtattrBuilder};
+use neli::types::{Buffer, RtBuffer};
 use neli::utils::Groups;
+use neli::{Cursor, FromBytesWithInput, ToBytes};
 use std::alloc::Global;
 use std::test::Fail;
 
-/// What a link is asked for its addresses, and the first of them in the kernel's answer.
+/// What the kernel is asked for the addresses of a link, and the first of them in its answer.
 fn first_address(
     alloc: Global,
     port: u32,
@@ -22,32 +26,103 @@ fn first_address(
         .ifa_scope(RtScope::Universe)
         .ifa_index(3)
         .build(alloc)?;
+    let body = NlPayload::Payload(asked);
     let (request, mut handle) = router.send::<_, _, Rtm, Ifaddrmsg>(
         alloc,
         Rtm::Getaddr,
         NlmF::DUMP,
-        NlPayload::Payload(asked),
+        body,
     )?;
+    // Your link sends `request`, and `datagram` comes back.
     router.processing_loop(datagram, &Groups::empty(alloc))?;
+    let mut address: Option<[u8; 4]> = None;
     if let Reply::Item(item) = router.next_typed::<Rtm, Ifaddrmsg, _, _>(alloc, &mut handle)? {
         if let Some(body) = item?.get_payload() {
             let attrs = body.rtattrs().get_attr_handle();
-            let address: [u8; 4] = attrs.get_attr_payload_as(alloc, Ifa::Local)?;
-            return Ok((request, Some(address)));
+            address = Some(attrs.get_attr_payload_as(alloc, Ifa::Local)?); // 192.0.2.1
         }
     }
-    Ok((request, None))
+    Ok((request, address))
+}
+
+// Recorded from Linux 6.18, but for the number, which was 1179: one of the addresses of veth0.
+#[test]
+fn addresses_of_a_link(rt: HostRuntime) -> Result<(), Fail> {
+    let alloc = rt.alloc();
+    let datagram = bytes_of(
+        &rt,
+        alloc,
+        "58000000140022000000000085958cf6021880000300000008000100c000020108000200c000020108000400c00002ff\
+        0a0003007665746830000000080008008000000014000600ffffffffffffffff4473030044730300",
+    );
+    let (request, address) = first_address(alloc, 4136408453, &datagram)?;
+    let want = bytes_of(
+        &rt,
+        alloc,
+        "18000000160001030000000085958cf60200000003000000",
+    );
+    assert_eq!(rt;
+        (request.as_slice(), address),
+        (want.as_slice(), Some([192, 0, 2, 1]))
+    );
+    Ok(())
+}
+
+/// A gateway of a route: its bytes, and the address that is read of them.
+fn gateway(alloc: Global) -> Result<(Vec<u8>, [u8; 4]), Fail> {
+    let gateway = RtattrBuilder::default()
+        .rta_type(Rta::Gateway)
+        .rta_payload([192u8, 0, 2, 1])
+        .build(alloc)?;
+    let mut attrs = RtBuffer::new(alloc);
+    attrs.push(gateway)?;
+
+    let mut bytes = Vec::new(alloc);
+    attrs.to_bytes(&mut bytes)?; // 08 00 05 00 c0 00 02 01
+
+    let mut cursor = Cursor::new(&bytes);
+    let read: RtBuffer<Rta, Buffer> = RtBuffer::from_bytes_with_input(
+        alloc,
+        &mut cursor,
+        bytes.len(),
+    )?;
+    let address: [u8; 4] = read
+        .get_attr_handle()
+        .get_attr_payload_as(alloc, Rta::Gateway)?;
+    Ok((bytes, address))
 }
 
 #[test]
-fn the_first_address_of_a_link(rt: HostRuntime) -> Result<(), Fail> {
-    let alloc = rt.alloc();
-    let datagram = hex::decode(
-        alloc,
-        "58000000140022000000000085958cf6021880000300000008000100c000020108000200c000020108000400c00002ff0a0003007665746830000000080008008000000014000600ffffffffffffffff4473030044730300",
-    )?;
-    let (request, address) = first_address(alloc, 4136408453, &datagram)?;
-    assert_eq!(rt; request.len(), 24);
-    assert_eq!(rt; address, Some([192, 0, 2, 1]));
+fn gateway_of_a_route(rt: HostRuntime) -> Result<(), Fail> {
+    let (bytes, address) = gateway(rt.alloc())?;
+    assert_eq!(rt; bytes.as_slice(), [8u8, 0, 5, 0, 0xc0, 0, 2, 1].as_slice());
+    assert_eq!(rt; address, [192, 0, 2, 1]);
+    Ok(())
+}
+
+/// The names of the links in a datagram. Each is the datagram's own bytes, so it outlives the message and the attribute
+/// that it was read in.
+fn names_of<'a>(alloc: Global, datagram: &'a [u8]) -> Result<Vec<&'a str>, Fail> {
+    let mut names = Vec::new(alloc);
+    for message in LentMessages::<u16>::new(datagram) {
+        let attrs = message?.get_attrs::<Ifinfomsg, Ifla>()?;
+        if let Some(attr) = attrs.get_attribute(Ifla::Ifname)? {
+            let name: &str = attr.get_payload_as_with_len_borrowed()?;
+            names.push(name.strip_suffix('\0').unwrap_or(name))?;
+        }
+    }
+    Ok(names)
+}
+
+/// Two links, each a message with the header, `struct ifinfomsg` and the name.
+const LINKS: &str =
+    "2800000010000200010000000000000000000403010000004900000000000000070003006c6f00002c00000010000200\
+    0100000000000000000001000300000043100100000000000a0003007665746830000000";
+
+#[test]
+fn names_of_links(rt: HostRuntime) -> Result<(), Fail> {
+    let datagram = bytes_of(&rt, rt.alloc(), LINKS);
+    let names = names_of(rt.alloc(), &datagram)?;
+    assert_eq!(rt; names.as_slice(), ["lo", "veth0"].as_slice());
     Ok(())
 }
