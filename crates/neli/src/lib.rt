@@ -24,6 +24,7 @@
 //! use neli::consts::rtnl::{RtAddrFamily, Rtm};
 //! use neli::nl::NlPayload;
 //! use neli::router::synchronous::Reply;
+//! use neli::rtnl::{Ifinfomsg, IfinfomsgBuilder};
 //! use neli::utils::Groups;
 //!
 //! let up = IfinfomsgBuilder::default()
@@ -32,8 +33,12 @@
 //!     .up()
 //!     .build(alloc)?;
 //! let body = NlPayload::Payload(up);
-//! let (request, mut handle) =
-//!     router.send::<_, _, Rtm, Ifinfomsg>(alloc, Rtm::Setlink, NlmF::ACK, body)?;
+//! let (request, mut handle) = router.send::<_, _, Rtm, Ifinfomsg>(
+//!     alloc,
+//!     Rtm::Setlink,
+//!     NlmF::ACK,
+//!     body,
+//! )?;
 //! // Your link sends `request`, and `datagram` comes back.
 //! router.processing_loop(datagram, &Groups::empty(alloc))?;
 //! let answer = router.next_typed::<Rtm, Ifinfomsg, _, _>(alloc, &mut handle)?;
@@ -47,7 +52,7 @@
 //!
 //! ```
 //! use neli::consts::nl::NlmF;
-//! use neli::genl::GenlmsghdrBuilder;
+//! use neli::genl::{Genlmsghdr, GenlmsghdrBuilder};
 //! use neli::nl::NlPayload;
 //! use neli::router::synchronous::{Reply, resolve_genl_family};
 //! use neli::utils::Groups;
@@ -66,8 +71,12 @@
 //!     .version(1)
 //!     .build(alloc)?;
 //! let body = NlPayload::Payload(command);
-//! let (request, _handle): (_, NlRouterReceiverHandle<u16, Genlmsghdr<u8, u16>>) =
-//!     router.send(alloc, family, NlmF::DUMP, body)?;
+//! let (request, _handle) = router.send::<_, _, u16, Genlmsghdr<u8, u16>>(
+//!     alloc,
+//!     family,
+//!     NlmF::DUMP,
+//!     body,
+//! )?;
 //! ```
 //!
 //! # Process events
@@ -76,8 +85,8 @@
 //! to a group, so a router gives them to multicast. Here a datagram is read without one:
 //!
 //! ```
-//! use neli::connector::{CnMsgBuilder, ProcEvent, ProcEventHeader};
-//! use neli::consts::connector::{CnMsgIdx, CnMsgVal};
+//! use neli::connector::{CnMsg, CnMsgBuilder, ProcEvent, ProcEventHeader};
+//! use neli::consts::connector::{CnMsgIdx, CnMsgVal, ProcCnMcastOp};
 //! use neli::iter::cut;
 //!
 //! let request = CnMsgBuilder::default()
@@ -89,7 +98,12 @@
 //! let (messages, _fault) = cut::<u16, CnMsg<ProcEventHeader>>(alloc, datagram)?;
 //! for body in messages.iter().filter_map(|message| message.get_payload()) {
 //!     let event = body.payload().event;
-//!     if let ProcEvent::Exit { process_pid, exit_code, .. } = event {
+//!     if let ProcEvent::Exit {
+//!         process_pid,
+//!         exit_code,
+//!         ..
+//!     } = event
+//!     {
 //!         ended.push((process_pid, exit_code))?;
 //!     }
 //! }
@@ -104,6 +118,7 @@
 //! use neli::consts::nl::NlmF;
 //! use neli::consts::rtnl::Rtm;
 //! use neli::nl::{NlPayload, Nlmsghdr, NlmsghdrBuilder};
+//! use neli::rtnl::Ifinfomsg;
 //! use neli::{Cursor, FromBytes, ToBytes};
 //!
 //! let request = Nlmsghdr::<Rtm, Ifinfomsg>::from_bytes(alloc, &mut Cursor::new(asked))?;

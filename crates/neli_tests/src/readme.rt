@@ -1,15 +1,6 @@
 //! The examples of the README, line by line.
 
 use crate::support::bytes_of;
-use neli::consts::nl::NlmF;
-use neli::consts::rtnl::{Ifa, Ifla, RtAddrFamily, RtScope, Rta, Rtm};
-use neli::lent::LentMessages;
-use neli::nl::NlPayload;
-use neli::router::synchronous::{NlRouter, Queues, Reply};
-use neli::rtnl::{Ifaddrmsg, IfaddrmsgBuilder, Ifinfomsg, RtattrBuilder};
-use neli::types::{Buffer, RtBuffer};
-use neli::utils::Groups;
-use neli::{Cursor, FromBytesWithInput, ToBytes};
 use std::alloc::Global;
 use std::test::Fail;
 
@@ -19,6 +10,13 @@ fn first_address(
     port: u32,
     datagram: &[u8],
 ) -> Result<(Vec<u8>, Option<[u8; 4]>), Fail> {
+    use neli::consts::nl::NlmF;
+    use neli::consts::rtnl::{Ifa, RtAddrFamily, RtScope, Rtm};
+    use neli::nl::NlPayload;
+    use neli::router::synchronous::{NlRouter, Queues, Reply};
+    use neli::rtnl::{Ifaddrmsg, IfaddrmsgBuilder};
+    use neli::utils::Groups;
+
     let (mut router, _multicast) = NlRouter::<Queues>::new(alloc, port);
     let asked = IfaddrmsgBuilder::default()
         .ifa_family(RtAddrFamily::Inet)
@@ -70,6 +68,11 @@ fn addresses_of_a_link(rt: HostRuntime) -> Result<(), Fail> {
 
 /// A gateway of a route: its bytes, and the address that is read of them.
 fn gateway(alloc: Global) -> Result<(Vec<u8>, [u8; 4]), Fail> {
+    use neli::consts::rtnl::Rta;
+    use neli::rtnl::RtattrBuilder;
+    use neli::types::{Buffer, RtBuffer};
+    use neli::{Cursor, FromBytesWithInput, ToBytes};
+
     let gateway = RtattrBuilder::default()
         .rta_type(Rta::Gateway)
         .rta_payload([192u8, 0, 2, 1])
@@ -103,6 +106,10 @@ fn gateway_of_a_route(rt: HostRuntime) -> Result<(), Fail> {
 /// The names of the links in a datagram. Each is the datagram's own bytes, so it outlives the message and the attribute
 /// that it was read in.
 fn names_of<'a>(alloc: Global, datagram: &'a [u8]) -> Result<Vec<&'a str>, Fail> {
+    use neli::consts::rtnl::Ifla;
+    use neli::lent::LentMessages;
+    use neli::rtnl::Ifinfomsg;
+
     let mut names = Vec::new(alloc);
     for message in LentMessages::<u16>::new(datagram) {
         let attrs = message?.get_attrs::<Ifinfomsg, Ifla>()?;
