@@ -103,25 +103,33 @@ fn the_first_name_of_a_number_is_found(rt: HostRuntime) {
 }
 
 #[test]
-fn three_attributes_have_24_bytes(rt: HostRuntime) {
-    let alloc = rt.alloc();
-    let mut generic_list = GenlBuffer::new(alloc);
-    let mut routing_list = RtBuffer::new(alloc);
+fn three_generic_attributes_have_24_bytes(rt: HostRuntime) {
+    let mut list = GenlBuffer::new(rt.alloc());
     for number in [0u8, 1, 2] {
-        let attr = generic(alloc, Index::from(u16::from(number)), number);
-        generic_list
-            .push(attr.expect(&rt, "an attribute"))
-            .expect(&rt, "memory");
-        let attr = RtattrBuilder::default()
-            .rta_type(Ifa::from(u16::from(number)))
-            .rta_payload(number)
-            .build(alloc);
-        routing_list
-            .push(attr.expect(&rt, "an attribute"))
-            .expect(&rt, "memory");
+        let attr = generic(rt.alloc(), Index::from(u16::from(number)), number);
+        let pushed = list.push(attr.expect(&rt, "an attribute"));
+        pushed.expect(&rt, "memory");
     }
-    assert_eq!(rt; generic_list.unpadded_size(), 24);
-    assert_eq!(rt; routing_list.unpadded_size(), 24);
+    assert_eq!(rt; list.unpadded_size(), 24);
+}
+
+/// A routing attribute with this number as its type and its payload.
+fn routing(rt: &impl Abort, alloc: Global, number: u8) -> Rtattr<Ifa, Buffer> {
+    RtattrBuilder::default()
+        .rta_type(Ifa::from(u16::from(number)))
+        .rta_payload(number)
+        .build(alloc)
+        .expect(rt, "an attribute")
+}
+
+#[test]
+fn three_routing_attributes_have_24_bytes(rt: HostRuntime) {
+    let mut list = RtBuffer::new(rt.alloc());
+    for number in [0u8, 1, 2] {
+        let pushed = list.push(routing(&rt, rt.alloc(), number));
+        pushed.expect(&rt, "memory");
+    }
+    assert_eq!(rt; list.unpadded_size(), 24);
 }
 
 // A list of bytes: what it shows, and how many attributes there are, or why there are none.

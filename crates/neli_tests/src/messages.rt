@@ -38,11 +38,11 @@ fn an_error_with_other_types_keeps_its_attributes(rt: HostRuntime) {
         .get_attr_payload_as_with_len_borrowed(NlmsgerrAttr::Msg)
         .ok();
     assert_eq!(rt; said, Some("bad\0"));
+    let lengths = [*message.nl_len(), *echo.nl_len()];
     assert_eq!(rt;
-        (*message.nl_len(), *echo.nl_type(), *echo.nl_len()),
-        (52, log, 24)
+        (lengths, *echo.nl_type(), echo.nl_payload().len()),
+        ([52, 24], log, 5)
     );
-    assert_eq!(rt; echo.nl_payload().as_slice(), b"abcde".as_slice());
 }
 
 #[test]

@@ -4,12 +4,12 @@
 use crate::conversation::{Item, Talk, answered, payload_of};
 use crate::resolvers::{Ctrl, family};
 use neli::consts::nl::{GenlId, NlmF, NlmsgerrAttr};
-use neli::consts::rtnl::{Ifa, RtAddrFamily, RtScope, RtTable, Rta, Rtm, Rtn, Rtprot};
+use neli::consts::rtnl::{Ifa, RtAddrFamily, RtScope, Rtm};
 use neli::err::RouterError;
 use neli::nl::NlPayload;
 use neli::router::synchronous::{lookup_id, resolve_genl_family, resolve_nl_mcast_group};
-use neli::rtnl::{Ifaddrmsg, IfaddrmsgBuilder, RtattrBuilder, Rtmsg, RtmsgBuilder};
-use neli::types::{Buffer, GenlBuffer, RtBuffer};
+use neli::rtnl::{Ifaddrmsg, IfaddrmsgBuilder};
+use neli::types::{Buffer, GenlBuffer};
 use std::alloc::Global;
 use std::process::Abort;
 
@@ -130,65 +130,6 @@ fn a_dump_is_read_to_its_end(rt: HostRuntime) {
         return rt.panic("another payload");
     };
     assert_eq!(rt; (*done.error(), done.ext_ack().len()), (0, 0));
-}
-
-/// Which way packets to 10.7.2.3 go, acknowledged.
-const ROUTE: Talk = Talk {
-    port: 3331851770,
-    number: 1047,
-    request: "240000001a0005001704000000000000022000000000000000000000080001000a070203",
-    answers: &[
-        "700000001800000017040000fa0598c602200000fe0000010002000008000f00fe000000080001000a07020308000400\
-        0300000008000700c000020108000500c0000209080019000000000024000c0002000000000000000000000000000000\
-        00000000000000000000000000000000",
-        "240000000200000117040000fa0598c600000000240000001a0005001704000000000000",
-    ],
-};
-
-/// A request for the way to an address.
-fn way_to(rt: &impl Abort, alloc: Global, address: [u8; 4]) -> Rtmsg {
-    let to = RtattrBuilder::default()
-        .rta_type(Rta::Dst)
-        .rta_payload(address)
-        .build(alloc)
-        .expect(rt, "an address");
-    let mut attrs = RtBuffer::new(alloc);
-    attrs.push(to).expect(rt, "memory");
-    RtmsgBuilder::default()
-        .rtm_family(RtAddrFamily::Inet)
-        .rtm_dst_len(32)
-        .rtm_src_len(0)
-        .rtm_tos(0)
-        .rtm_table(RtTable::Unspec)
-        .rtm_protocol(Rtprot::Unspec)
-        .rtm_scope(RtScope::Universe)
-        .rtm_type(Rtn::Unspec)
-        .rtattrs(attrs)
-        .build(alloc)
-        .expect(rt, "a request")
-}
-
-#[test]
-fn a_route_is_looked_up(rt: HostRuntime) {
-    let alloc = rt.alloc();
-    let asked = way_to(&rt, alloc, [10, 7, 2, 3]);
-    let items: Vec<Item<Rtm, Rtmsg>> = answered(
-        &rt,
-        alloc,
-        &ROUTE,
-        Rtm::Getroute,
-        NlmF::ACK,
-        asked,
-    );
-    assert_eq!(rt; items.len(), 2);
-    let body = payload_of(&rt, items.first().expect(&rt, "a route"));
-    let attrs = body.rtattrs().get_attr_handle();
-    let gateway: Option<[u8; 4]> = attrs.get_attr_payload_as(alloc, Rta::Gateway).ok();
-    let link: Option<u32> = attrs.get_attr_payload_as(alloc, Rta::Oif).ok();
-    assert_eq!(rt;
-        (*body.rtm_table(), *body.rtm_type(), gateway, link),
-        (RtTable::Main, Rtn::Unicast, Some([192, 0, 2, 9]), Some(3))
-    );
 }
 
 /// A name that is too long for a family, refused with an extended acknowledgement.

@@ -89,10 +89,8 @@ fn the_names_of_a_number(rt: HostRuntime) {
 
 /// Asserts that this error prints this text.
 fn assert_told(rt: &impl Abort, alloc: Global, error: Option<CtrlError>, want: &str) {
-    let text = match error {
-        Some(error) => error.to_string(alloc).expect(rt, "memory"),
-        None => return rt.panic(want),
-    };
+    let error = error.expect(rt, want);
+    let text = error.to_string(alloc).expect(rt, "memory");
     assert_eq!(rt; text.as_str(), want);
 }
 

@@ -29,8 +29,8 @@ fn a_text_without_its_last_byte(rt: HostRuntime) {
         let mut cursor = Cursor::new(TEXT);
         let read = String::from_bytes_with_input(alloc, &mut cursor, count);
         let fault = read.err().map(|error| fault_of(&error));
-        assert_eq!(rt; fault, Some(Fault::Input(count)));
-        assert_eq!(rt; cursor.position(), 0, "input {count}");
+        let want = (Some(Fault::Input(count)), 0);
+        assert_eq!(rt; (fault, cursor.position()), want);
     }
 }
 
