@@ -1,7 +1,7 @@
 //! Tests of the resolvers, `neli_resolvers`, by their public calls.
 //!
-//! - [`worked`]: the controller's answer for `nlctrl`, and each call's answer to it. [`lists`]: lists
-//!   of several items. [`out_of_memory`]: what the calls answer where an allocation is refused.
+//! - [`refused`]: what is not found. [`lists`]: lists of several items; what is found in one stands in `neli_tests`.
+//!   [`out_of_memory`]: what the calls answer where an allocation is refused.
 //!   [`support`]: what the tests share.
 //!
 //! The messages lie as `struct nlmsghdr` and `struct nlattr` of linux/netlink.h and
@@ -13,6 +13,6 @@ mod lists;
 #[cfg(test)]
 mod out_of_memory;
 #[cfg(test)]
-mod support;
+mod refused;
 #[cfg(test)]
-mod worked;
+mod support;

@@ -1,35 +1,8 @@
-//! The controller's answer for `nlctrl`.
+//! What the controller's answer for `nlctrl` does not tell.
 
-use crate::support::{ACK, Cause, NLCTRL, NUMBER, assert_refused, items};
+use crate::support::{Cause, NLCTRL, NUMBER, assert_refused, items};
 use neli_resolvers::{lookup_id, resolve_genl_family, resolve_nl_mcast_group};
 use std::test::Fail;
-
-#[test]
-fn the_number_of_the_family(rt: HostRuntime) -> Result<(), Fail> {
-    let alloc = rt.alloc();
-    let one = items(alloc, &[&NLCTRL])?;
-    assert_eq!(rt; resolve_genl_family(alloc, "nlctrl", one)?, 16);
-    let acknowledged = items(alloc, &[&NUMBER, &ACK])?;
-    assert_eq!(rt; resolve_genl_family(alloc, "nlctrl", acknowledged)?, 16);
-    Ok(())
-}
-
-#[test]
-fn the_number_of_the_group(rt: HostRuntime) -> Result<(), Fail> {
-    let alloc = rt.alloc();
-    let one = items(alloc, &[&NLCTRL])?;
-    assert_eq!(rt; resolve_nl_mcast_group(alloc, "nlctrl", "notify", one)?, 5);
-    Ok(())
-}
-
-#[test]
-fn the_names_of_the_number(rt: HostRuntime) -> Result<(), Fail> {
-    let alloc = rt.alloc();
-    let (family, group) = lookup_id(alloc, 5, items(alloc, &[&NLCTRL])?)?;
-    assert_eq!(rt; family.as_str(), "nlctrl");
-    assert_eq!(rt; group.as_str(), "notify");
-    Ok(())
-}
 
 #[test]
 fn what_is_not_found_is_told_by_a_text(rt: HostRuntime) -> Result<(), Fail> {
