@@ -31,7 +31,11 @@ impl From<AllocError> for LineError {
 }
 
 /// What stands between the bytes of this value. The parts are lent.
-pub(crate) fn parts_of<'t>(alloc: Global, text: &'t [u8], mark: u8) -> Result<Vec<&'t [u8]>, AllocError>
+pub(crate) fn parts_of<'t>(
+    alloc: Global,
+    text: &'t [u8],
+    mark: u8,
+) -> Result<Vec<&'t [u8]>, AllocError>
     ensures { IfOk result (λ parts. map (λ part. part.now) parts.items
         ≡ slice_split (λ b. b == mark) text.now) }
 {
