@@ -1,6 +1,6 @@
 -- Entries and the places among them: what a list waits for, and how the fields say it.
 use Rattle.std.specs.Prelude.{ℕ, zero, suc, ◌≡◌, ◌≤◌, ◌<◌, ◌+◌, ◌-◌, ◌^◌, true, ◌==◌, List, [], ◌∷◌, ◌++◌, Option, Some, None, length, drop, take, map, count_by, nat_eq, slice_set}
-use Rattle.std.specs.Option.{option_map}
+use Rattle.std.specs.Option.{is_some, option_map}
 use Rattle.std.specs.List.{slice_get}
 use Rattle.std.specs.HashMap.{get, values}
 use Rattle.std.specs.VecDeque.{deque_len, deque_capacity}
@@ -42,8 +42,8 @@ abbrev pub Gains : {T : Type 0} → (Option ℕ → Option (List T)) → Entry T
 Gains before e after = (w : Option ℕ) → after w ≡ option_map (λ xs. xs ++ items_for w (e ∷ [])) (before w)
 
 -- somebody gets an entry with this route: a list is open to which it goes
-abbrev pub HasReader : {T : Type 0} → Places T → Route → Type 0
-HasReader s route = (w : Option ℕ) × (p : Place) × (place_of s w ≡ Some p) × (leads w route ≡ true)
+abbrev pub HasReader : {T : Type 0} → (Option ℕ → Option (List T)) → Route → Type 0
+HasReader pending route = (w : Option ℕ) × (is_some (pending w) ≡ true) × (leads w route ≡ true)
 
 -- the position of the first entry that a place of w waits for
 abbrev pub next_position : {T : Type 0} → Places T → Option ℕ → Place → Option ℕ

@@ -14,6 +14,8 @@ pub enum Route {
 /// An item, and to whom it goes.
 #[derive(Drop)]
 pub struct Entry<T> {
-    pub(crate) item: T,
-    pub(crate) route: Route,
+    /// What is kept.
+    pub item: T,
+    /// To whom it goes.
+    pub route: Route,
 }

@@ -68,7 +68,7 @@ impl<T: Drop> Places<T> {
 
     /// Whether somebody gets an entry with this route.
     pub fn has_reader(&self, route: Route) -> bool
-        ensures { IsTrue result ↔ HasReader self.now route }
+        ensures { IsTrue result ↔ HasReader (pending_of self.now) route }
     {
         match route {
             Route::Multicast => self.multicast.is_some(),
@@ -203,16 +203,17 @@ impl<T: Drop> Places<T> {
         Ok(())
     }
 
-    /// Keeps an item for those to whom the route leads: somebody is there, and there is room.
-    pub fn push(&mut self, item: T, route: Route)
+    /// Keeps an entry after the others. Somebody gets it, and there is room.
+    pub fn push(&mut self, added: Entry<T>)
         requires trimmed { IsTrimmed self.old }
-        requires reader { HasReader self.old route }
+        requires reader { HasReader (pending_of self.old) added.route }
         requires room { HasRoom 1 self.old }
-        ensures entries { entries_of self.new ≡ entries_of self.old ++ entry item route ∷ [] }
-        ensures more { Gains (pending_of self.old) (entry item route) (pending_of self.new) }
+        ensures entries { entries_of self.new ≡ entries_of self.old ++ added ∷ [] }
+        ensures more { Gains (pending_of self.old) added (pending_of self.new) }
         ensures trimmed { IsTrimmed self.new }
         ensures room { LeavesRoom self.old self.new }
     {
+        let Entry { item, route } = added;
         match route {
             Route::Multicast => {
                 if let Some(p) = self.multicast {
