@@ -87,7 +87,8 @@ impl<T: Drop> Places<T> {
         ensures opened { OnOk result (pending_of self.new (Some number) ≡ Some []) }
         ensures others { OnOk result ((w : Option ℕ) → w ≢ Some number
             → pending_of self.new w ≡ pending_of self.old w) }
-        ensures err { OnErr result ((w : Option ℕ) → pending_of self.new w ≡ pending_of self.old w) }
+        ensures err { OnErr result ((w : Option ℕ)
+            → pending_of self.new w ≡ pending_of self.old w) }
         ensures trimmed { IsTrimmed self.new }
     {
         let _ = self.numbers.len();
