@@ -1,4 +1,3 @@
 mod Lists
 mod Owned
 mod Walks
-pub mod Spans

@@ -1,5 +1,4 @@
 pub mod Walks
 pub mod Attributes
 pub mod Messages
-pub mod Spans
 pub mod laws

@@ -1,4 +1,0 @@
-pub mod Read
-pub mod Entries
-pub mod Stages
-pub mod Stores

@@ -1,4 +1,0 @@
-pub mod Contents
-pub mod Next
-pub mod Staged
-pub mod Log
