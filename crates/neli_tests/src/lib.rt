@@ -1,7 +1,7 @@
 //! Tests of the whole library by the paths of `neli`, as a program uses it.
 //!
-//! - [`values`], [`constants`], [`attributes`], [`bodies`], [`frames`], [`messages`], [`groups`]: worked examples, each by what
-//!   it shows. [`router`], [`resolvers`]: who gets which reply, and what the controller's replies tell.
+//! - [`values`], [`constants`], [`bodies`], [`messages`], [`groups`]: worked examples, each by what it shows.
+//!   [`resolvers`]: what the controller's replies tell.
 //! - [`recorded`]: conversations with a kernel. [`conversation`]: how one is played.
 //! - [`readme`], [`tour`]: the examples of the README and of the page of `neli`, line by line.
 //! - [`support`]: what the tests share.
@@ -12,15 +12,11 @@
 #![tactic(auto)]
 
 #[cfg(test)]
-mod attributes;
-#[cfg(test)]
 mod bodies;
 #[cfg(test)]
 mod constants;
 #[cfg(test)]
 mod conversation;
-#[cfg(test)]
-mod frames;
 #[cfg(test)]
 mod groups;
 #[cfg(test)]
@@ -31,8 +27,6 @@ mod readme;
 mod recorded;
 #[cfg(test)]
 mod resolvers;
-#[cfg(test)]
-mod router;
 #[cfg(test)]
 mod support;
 #[cfg(test)]
