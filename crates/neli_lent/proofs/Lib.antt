@@ -1,3 +1,4 @@
 mod Lists
 mod Owned
 mod Walks
+pub mod Spans

@@ -1,4 +1,5 @@
 pub mod Walks
 pub mod Attributes
 pub mod Messages
+pub mod Spans
 pub mod laws

@@ -1,11 +1,12 @@
 //! A message whose payload is lent.
 
-ghost use Rattle.std.specs.Prelude.{◌≡◌, [], Ok, Err, IfOk, IfErr, OnOk, OnErr};
+ghost use Rattle.std.specs.Prelude.{◌≡◌, [], Ok, Err, IfOk, IfErr, IsTrue, OnOk, OnErr};
 ghost use Rattle.neli_wire.specs.Frames.{frame_at};
 ghost use Rattle.neli_wire.specs.Place.{whole};
 ghost use Rattle.neli_wire.specs.Refusals.{Refuses};
 ghost use Rattle.neli_msg.specs.Answers.{after};
 ghost use Rattle.neli_msg.specs.Messages.{message_of};
+ghost use Rattle.neli_msg.specs.NlPayload.TheVariants as payload;
 ghost use Rattle.neli_msg.specs.Retyping.{typed_header};
 ghost use Rattle.neli_lent.specs.Messages.{as_owned, as_owned_takes, lent_message, message_said};
 
@@ -27,6 +28,13 @@ pub struct LentMessage<'b, T> {
 }
 
 impl<'b, T> LentMessage<'b, T> {
+    /// The header as it was read.
+    pub(crate) fn header(&self) -> &NlmsghdrAck<T>
+        ensures { result.now ≡ self.now.header }
+    {
+        &self.header
+    }
+
     /// The length that the message states, in bytes: header and payload, without padding.
     pub fn nl_len(&self) -> &u32
         ensures { result.now ≡ self.now.header.len }
@@ -150,6 +158,17 @@ impl<'b, T: NlType> LentMessage<'b, T> {
 }
 
 impl<'b> LentMessage<'b, u16> {
+    /// Whether the type alone says that the payload is a body: so it is for all types but 2 (`NLMSG_ERROR`)
+    /// and 3 (`NLMSG_DONE`). It takes no memory.
+    pub fn has_plain_body(&self) -> bool
+        ensures { IsTrue result
+            → as_owned (λ n. n) (λ n. n) (λ bytes. Ok bytes) (message_said self.now)
+            ≡ Ok (self.now.header, payload.Payload self.now.payload.now) }
+    {
+        let number = *self.nl_type();
+        number != 2 && number != 3
+    }
+
     /// The same message with the type that its number means. It takes no memory.
     pub fn to_typed<T: NlType>(&self) -> LentMessage<'b, T>
         ensures header { result.header ≡ typed_header T.wire_value self.now.header }

@@ -1,0 +1,77 @@
+//! A message that is read from its own bytes as types of a caller's.
+
+ghost use Rattle.std.specs.Prelude.{◌≡◌, ℕ, List, Ok, IfOk, IfErr};
+ghost use Rattle.neli_wire.specs.Sizes.{align};
+ghost use Rattle.neli_msg.specs.Messages.{Message};
+ghost use Rattle.neli_msg.specs.NlPayload.TheVariants as payload;
+ghost use Rattle.neli_msg.specs.Retyping.{HasOwnEcho, IsMessageTooLong, RefusesTyping, payload_stating, stated_echo, typed_header, typed_payload, with_len};
+ghost use Rattle.neli_msg.specs.Wires.{message_size};
+ghost use Rattle.neli_lent.specs.Spans.{IsSpan, Spells};
+
+use crate::LentMessage;
+use neli_attr::Buffer;
+use neli_consts::NlType;
+use neli_list::read_whole;
+use neli_msg::{NlPayload, Nlmsghdr, NlmsghdrAck, RouterError};
+use neli_wire::{Cursor, FromBytesWithInput, MsgError, Size};
+use std::alloc::Global;
+
+/// A message with this header and these bytes as its body, read as `P`; the length is computed.
+fn with_body<T: NlType, P: FromBytesWithInput + Size>(
+    alloc: Global,
+    header: &NlmsghdrAck<u16>,
+    bytes: &[u8],
+) -> Result<Nlmsghdr<T, P>, RouterError<T, P>>
+    ensures value { IfOk result
+        (λ m. typed_payload T.wire_value P.read (payload.Payload bytes.now)
+        ≡ Ok (payload_stating 0 P.view m.payload)) }
+    ensures header { IfOk result (λ m. m.header ≡ with_len (typed_header T.wire_value header.now)
+        (align (message_size P.wire_length m))) }
+    ensures length { IfOk result (λ m. HasOwnEcho P.wire_length m.payload) }
+    ensures refused { IfErr result
+        (RefusesTyping (typed_payload T.wire_value P.read (payload.Payload bytes.now))
+        (IsMessageTooLong P.view P.wire_length P.read T.wire_value (payload.Payload bytes.now))) }
+{
+    let body: P = read_whole(alloc, bytes)?;
+    let mut message = Nlmsghdr::from_header(header.to_typed(), NlPayload::Empty);
+    match message.set_payload(NlPayload::Payload(body)) {
+        Ok(()) => Ok(message),
+        Err(_) => Err(RouterError::Msg(MsgError::from_static("Length does not fit its field"))),
+    }
+}
+
+/// The message that a span of a datagram is, with the types that numbers mean, and its body's or its echoed
+/// payload's bytes read as `P`: the same as reading it untyped and retyping that. A body is read where it lies.
+///
+/// Lengths are computed anew. Refused with the refusal of these bytes as [`RouterError::De`], or as
+/// [`RouterError::Msg`] where a length passes 32 bits.
+pub fn from_span<T: NlType, P: FromBytesWithInput + Size>(
+    alloc: Global,
+    span: &[u8],
+) -> Result<Nlmsghdr<T, P>, RouterError<T, P>>
+    requires { IsSpan span.now }
+    ensures value { (u : Message ℕ (List ℕ)) → Spells span.now u → IfOk result
+        (λ m. typed_payload T.wire_value P.read u.1
+        ≡ Ok (payload_stating (stated_echo u.1) P.view m.payload)) }
+    ensures header { (u : Message ℕ (List ℕ)) → Spells span.now u → IfOk result
+        (λ m. m.header ≡ with_len (typed_header T.wire_value u.0)
+        (align (message_size P.wire_length m))) }
+    ensures length { IfOk result (λ m. HasOwnEcho P.wire_length m.payload) }
+    ensures refused { (u : Message ℕ (List ℕ)) → Spells span.now u → IfErr result
+        (RefusesTyping (typed_payload T.wire_value P.read u.1)
+        (IsMessageTooLong P.view P.wire_length P.read T.wire_value u.1)) }
+{
+    let mut cursor = Cursor::new(span);
+    let message: LentMessage<'_, u16> = match LentMessage::lend(&mut cursor) {
+        Ok(message) => message,
+        Err(error) => return Err(RouterError::De(error)),
+    };
+    if message.has_plain_body() {
+        return with_body(alloc, message.header(), message.nl_payload());
+    }
+    // All that refuses it is that memory ran out.
+    match message.to_nlmsghdr::<Buffer>(alloc) {
+        Ok(message) => message.to_typed(alloc),
+        Err(_) => Err(RouterError::Memory),
+    }
+}

@@ -1,0 +1,4 @@
+pub mod Read
+pub mod Entries
+pub mod Stages
+pub mod Stores

@@ -1,0 +1,4 @@
+pub mod Contents
+pub mod Next
+pub mod Staged
+pub mod Log

@@ -1,0 +1,56 @@
+-- What a datagram brings, before any list changes.
+use Rattle.std.specs.Prelude.{◌≡◌, ◌≤◌, ℕ, Bool, true, List, [], ◌++◌, map, Option, Some, None, is_some}
+use Rattle.std.specs.List.{slice_get}
+use Rattle.neli_wire.specs.DeError.{DeError}
+use Rattle.neli_msg.specs.Agreement.{untyped_layout}
+use Rattle.neli_msg.specs.Cuts.{Cut, cut_of}
+use Rattle.neli_deliveries.specs.declared.delivery.Delivery.{Delivery}
+use Rattle.neli_deliveries.specs.Deliveries.{Untyped, received}
+use Rattle.neli_places.specs.declared.entry.Entry.{Entry}
+use Rattle.neli_places.specs.Places.{HasReader}
+use Rattle.neli_places.specs.Routes.{items_for}
+use Rattle.neli_lent.specs.Spans.{Spells}
+use Rattle.neli_spans.specs.declared.span.Span.{Span}
+use Rattle.neli_spans.specs.Spans.{AreOf}
+use Rattle.neli_log.specs.declared.content.Content.{Content}
+use Rattle.neli_log.specs.declared.next.Address.{Address}
+use Rattle.neli_log.specs.Contents.{AreMessages, delivery_of, part_of, spans_of}
+
+-- what a list gains of entries, whose spans are of these bytes
+abbrev pub gained : List ℕ → Option ℕ → List (Entry Content) → List Delivery
+gained bytes w es = map (delivery_of (part_of bytes)) (items_for w es)
+
+-- what is left of a datagram at a place: the cut of the rest, or nothing but a fault
+abbrev pub cut_left : List ℕ → Option DeError → Cut Untyped
+cut_left rest None = cut_of untyped_layout rest
+cut_left rest (Some e) = ([], Some e)
+
+-- whether a number is open, where the lists are these
+abbrev pub is_open : (Option ℕ → Option (List Content)) → ℕ → Bool
+is_open pending q = is_some (pending (Some q))
+
+-- what a list is due of a cut that came to these groups
+abbrev pub due : ℕ → (Option ℕ → Option (List Content)) → List ℕ → Option ℕ → Cut Untyped → List Delivery
+due port pending groups w cut = received port (is_open pending) w cut groups
+
+-- each entry is for somebody
+abbrev pub HaveReaders : (Option ℕ → Option (List Content)) → List (Entry Content) → Type 0
+HaveReaders pending es = (i : ℕ) (e : Entry Content) → slice_get es i ≡ Some e → HasReader pending e.route
+
+-- the entries, with what `rest` still brings, are what `cut` brings to each open list; their spans are messages of
+-- the first `at` bytes, in their order; and each goes to somebody
+pub record AreStaged (pending : Option ℕ → Option (List Content)) (port serial : ℕ) (bytes groups : List ℕ) (cut : Cut Untyped) (es : List (Entry Content)) (at : ℕ) (rest : Cut Untyped) : Type 0 where
+  pub lists : (w : Option ℕ) → is_some (pending w) ≡ true
+      → gained bytes w es ++ due port pending groups w rest ≡ due port pending groups w cut
+  pub spans : AreOf serial at (spans_of es)
+  pub messages : AreMessages (part_of bytes) (spans_of es)
+  pub readers : HaveReaders pending es
+
+-- the span is this message, after the first `at` bytes of the datagram with this serial number, and has this address
+pub record IsFound (serial at : ℕ) (bytes : List ℕ) (s : Span) (u : Untyped) (a : Address) : Type 0 where
+  pub datagram : s.datagram ≡ serial
+  pub after : at ≤ s.start
+  pub ordered : s.start ≤ s.end
+  pub spells : Spells (part_of bytes s) u
+  pub number : a.number ≡ u.0.sequence_number
+  pub port : a.port ≡ u.0.port

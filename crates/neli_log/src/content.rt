@@ -1,0 +1,15 @@
+//! What an entry holds.
+
+use neli_msg::SocketError;
+use neli_spans::Span;
+
+/// A delivery, of which a message is the span of its bytes.
+#[derive(Drop)]
+pub(crate) enum Content {
+    /// A message for the handle that it goes to.
+    Message(Span),
+    /// A message with a sequence number that no request has, or with another port.
+    Stray(Span),
+    /// A datagram could not be read to its end, or the link failed.
+    Fault(SocketError),
+}

@@ -1,0 +1,95 @@
+//! How entries and datagrams come to be kept, once there is nothing left to refuse.
+
+ghost use Rattle.std.specs.Prelude.{◌≡◌, ◌++◌, ◌<◌, ℕ, List, Option, Some, OnErr, OnOk, length, option_map, slice_get, slice_range};
+ghost use Rattle.neli_places.specs.Places.{HasRoom, IsTrimmed, entries_of, pending_of};
+ghost use Rattle.neli_places.specs.Routes.{items_for};
+ghost use Rattle.neli_spans.specs.Spans.{AreNamed, AreOf, IsUnchanged, Names, next_serial, text_of};
+ghost use Rattle.neli_spans.specs.declared.span.Span.{Span as Part};
+ghost use Rattle.neli_log.specs.Contents.{span_of, spans_of};
+ghost use Rattle.neli_log.specs.Staged.{HaveReaders};
+
+use crate::content::Content;
+use neli_places::{Entry, Places};
+use neli_spans::Datagrams;
+use neli_wire::NoMemory;
+use std::alloc::Global;
+
+/// Keeps each entry, in order.
+pub(crate) fn push_all(places: &mut Places<Content>, entries: Vec<Entry<Content>>)
+    requires trimmed { IsTrimmed places.old }
+    requires readers { HaveReaders (pending_of places.old) entries.items }
+    requires room { HasRoom (length entries.items) places.old }
+    ensures entries { entries_of places.new ≡ entries_of places.old ++ entries.items }
+    ensures more { (w : Option ℕ) → pending_of places.new w
+        ≡ option_map (λ xs. xs ++ items_for w entries.items) (pending_of places.old w) }
+    ensures trimmed { IsTrimmed places.new }
+{
+    for entry in entries {
+        places.push(entry);
+    }
+}
+
+/// How many spans an entry has: one, or none.
+fn spans_in(content: &Content) -> usize
+    ensures { result ≡ length (span_of content.now) }
+{
+    match content {
+        Content::Fault(_) => 0,
+        _ => 1,
+    }
+}
+
+/// How many spans entries have.
+pub(crate) fn span_count(entries: &[Entry<Content>]) -> usize
+    ensures { result ≡ length (spans_of entries.now) }
+{
+    let _ = entries.len();
+    let mut count = 0;
+    for entry in entries {
+        count += spans_in(&entry.item);
+    }
+    count
+}
+
+/// Keeps a copy of these bytes, of which there are so many spans; where there is none nothing is kept.
+///
+/// Refused only where memory runs out, and then nothing changes.
+pub(crate) fn keep_copy(
+    alloc: Global,
+    datagrams: &mut Datagrams,
+    bytes: &[u8],
+    spans: usize,
+) -> Result<(), NoMemory>
+    requires { AreNamed datagrams.old }
+    ensures names { OnOk result ((old new : List Part) → Names datagrams.old old
+        → AreOf (next_serial datagrams.old) (length bytes.now) new → length new ≡ spans
+        → Names datagrams.new (old ++ new)) }
+    ensures texts { OnOk result ((old : List Part) (i : ℕ) (s : Part) → Names datagrams.old old
+        → slice_get old i ≡ Some s → text_of datagrams.new s ≡ text_of datagrams.old s) }
+    ensures new_texts { OnOk result ((s : Part) → 0 < spans
+        → s.datagram ≡ next_serial datagrams.old → text_of datagrams.new s ≡ slice_range bytes.now s.start s.end) }
+    ensures err { OnErr result (IsUnchanged datagrams.old datagrams.new) }
+{
+    if spans == 0 {
+        return Ok(());
+    }
+    let copy = Vec::from_slice(alloc, bytes)?;
+    datagrams.reserve(copy.len())?;
+    datagrams.keep(copy, spans);
+    Ok(())
+}
+
+/// An entry's span goes, if it has one, and its datagram where no other span names it. Every other span means the
+/// bytes that it did.
+pub(crate) fn release(datagrams: &mut Datagrams, content: Content)
+    requires { (ss : List Part) × Names datagrams.old (span_of content ++ ss) }
+    ensures names { (ss : List Part) → Names datagrams.old (span_of content ++ ss)
+        → Names datagrams.new ss }
+    ensures texts { (ss : List Part) (i : ℕ) (s : Part)
+        → Names datagrams.old (span_of content ++ ss) → slice_get ss i ≡ Some s → text_of datagrams.new s ≡ text_of datagrams.old s }
+{
+    match content {
+        Content::Fault(_) => (),
+        _ => datagrams.release(),
+    }
+}

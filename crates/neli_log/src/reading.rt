@@ -1,0 +1,30 @@
+//! An entry as a caller's types.
+
+ghost use Rattle.std.specs.Prelude.{IfOk};
+ghost use Rattle.neli_msg.specs.Messages.{message_from};
+ghost use Rattle.neli_lent.specs.Spans.{IsSpan, Spells};
+ghost use Rattle.neli_deliveries.specs.declared.delivery.Delivery.TheVariants as delivery;
+ghost use Rattle.neli_deliveries.specs.Deliveries.{Untyped};
+ghost use Rattle.neli_deliveries.specs.Readings.{IsReading};
+
+use neli_consts::NlType;
+use neli_lent::from_span;
+use neli_msg::{Nlmsghdr, RouterError};
+use neli_wire::{FromBytesWithInput, NoMemory, Size};
+use std::alloc::Global;
+
+/// The message that a span's bytes are, or why it can't be read as these types.
+pub(crate) fn typed<T: NlType, P: FromBytesWithInput + Size>(
+    alloc: Global,
+    span: &[u8],
+) -> Result<Result<Nlmsghdr<T, P>, RouterError<T, P>>, NoMemory>
+    requires { IsSpan span.now }
+    ensures { (u : Untyped) → Spells span.now u → IfOk result (IsReading T.wire_value P.view
+        P.wire_length P.read (delivery.Message (message_from u))) }
+{
+    match from_span::<T, P>(alloc, span) {
+        Ok(message) => Ok(Ok(message)),
+        Err(RouterError::Memory) => Err(NoMemory),
+        Err(error) => Ok(Err(error)),
+    }
+}

@@ -1,0 +1,247 @@
+//! The parts of a log, and what is done to them.
+
+ghost use Rattle.std.specs.Prelude.{◌≡◌, ◌≢◌, ◌↔◌, ◌++◌, ℕ, List, [], ◌∷◌, Option, None, Some, IfOk, IsOk, OnErr, OnOk, is_some, length, option_map, true};
+ghost use Rattle.neli_msg.specs.Agreement.{untyped_layout};
+ghost use Rattle.neli_msg.specs.Cuts.{cut_of};
+ghost use Rattle.neli_deliveries.specs.declared.delivery.Delivery.{Delivery as Waiting};
+ghost use Rattle.neli_deliveries.specs.Deliveries.{broken, head_of, is_would_block, received};
+ghost use Rattle.neli_deliveries.specs.Readings.{IsFirst, IsReading};
+ghost use Rattle.neli_places.specs.Places.{pending_of as items_of};
+ghost use Rattle.neli_spans.specs.Spans.{AreOf, next_serial, text_of};
+ghost use Rattle.neli_log.specs.Contents.{AreMessages, IsReadable, delivery_of, part_of, spans_of};
+ghost use Rattle.neli_log.specs.Log.{IsLog, IsLoose, byte_count, entry_count, pending_of};
+ghost use Rattle.neli_log.specs.Staged.{HaveReaders, gained};
+
+use crate::content::Content;
+use crate::handing::{keep_copy, push_all, release, span_count};
+use crate::reading::typed;
+use crate::staging::staged;
+use neli_consts::NlType;
+use neli_msg::{Nlmsghdr, RouterError, SocketError};
+use neli_places::{Entry, Places, Route};
+use neli_spans::Datagrams;
+use neli_util::Groups;
+use neli_wire::{FromBytesWithInput, NoMemory, Size};
+use std::alloc::Global;
+use std::io::ErrorKind;
+
+/// The entries and the places among them, and the datagrams that the entries' spans name.
+#[derive(Drop)]
+pub(crate) struct Store {
+    pub(crate) port: u32,
+    pub(crate) alloc: Global,
+    pub(crate) places: Places<Content>,
+    pub(crate) datagrams: Datagrams,
+}
+
+/// Whether the error is that the link would block.
+fn would_block(error: &SocketError) -> bool
+    ensures { result ≡ is_would_block error.now }
+{
+    matches!(error, SocketError::Io(ErrorKind::WouldBlock))
+}
+
+impl Store {
+    /// Nothing, for a router with this port. It takes no memory.
+    pub(crate) fn new(alloc: Global, port: u32) -> Self
+        ensures port { result.port ≡ port }
+        ensures multicast { pending_of result None ≡ Some [] }
+        ensures numbers { (q : ℕ) → pending_of result (Some q) ≡ None }
+        ensures log { IsLog result }
+    {
+        Store {
+            port,
+            alloc,
+            places: Places::new(alloc),
+            datagrams: Datagrams::new(alloc),
+        }
+    }
+
+    /// Whether there is a list for this number, or for multicast.
+    pub(crate) fn is_open(&self, whose: Option<u32>) -> bool
+        ensures { result ≡ is_some (pending_of self.now whose) }
+    {
+        self.places.is_open(whose)
+    }
+
+    /// Lets go of what nobody waits for any more.
+    fn trim(&mut self)
+        requires { IsLoose self.old }
+        ensures port { self.new.port ≡ self.old.port }
+        ensures same { (w : Option ℕ) → pending_of self.new w ≡ pending_of self.old w }
+        ensures log { IsLog self.new }
+    {
+        while let Some(content) = self.places.pop_unawaited() {
+            release(&mut self.datagrams, content);
+        }
+    }
+
+    /// Opens an empty list for a number.
+    pub(crate) fn open(&mut self, number: u32) -> Result<(), NoMemory>
+        requires closed { pending_of self.old (Some number) ≡ None }
+        requires log { IsLog self.old }
+        ensures port { self.new.port ≡ self.old.port }
+        ensures opened { OnOk result (pending_of self.new (Some number) ≡ Some []) }
+        ensures others { OnOk result ((w : Option ℕ) → w ≢ Some number
+            → pending_of self.new w ≡ pending_of self.old w) }
+        ensures err { OnErr result ((w : Option ℕ)
+            → pending_of self.new w ≡ pending_of self.old w) }
+        ensures log { IsLog self.new }
+    {
+        self.places.open(number)?;
+        Ok(())
+    }
+
+    /// Takes a list away, with what waits there.
+    pub(crate) fn close(&mut self, whose: Option<u32>)
+        requires { IsLog self.old }
+        ensures port { self.new.port ≡ self.old.port }
+        ensures closed { pending_of self.new whose ≡ None }
+        ensures others { (w : Option ℕ) → w ≢ whose
+            → pending_of self.new w ≡ pending_of self.old w }
+        ensures log { IsLog self.new }
+    {
+        self.places.remove(whose);
+        self.trim();
+    }
+
+    /// Takes away what waits first.
+    pub(crate) fn drop_first(&mut self, whose: Option<u32>)
+        requires { IsLog self.old }
+        ensures port { self.new.port ≡ self.old.port }
+        ensures taken { (d : Waiting) (ds : List Waiting)
+            → pending_of self.old whose ≡ Some (d ∷ ds) → pending_of self.new whose ≡ Some ds }
+        ensures others { (w : Option ℕ) → w ≢ whose
+            → pending_of self.new w ≡ pending_of self.old w }
+        ensures log { IsLog self.new }
+    {
+        self.places.pass(whose);
+        self.trim();
+    }
+
+    /// Keeps these entries, whose spans are of these bytes.
+    fn hand_over(&mut self, bytes: &[u8], entries: Vec<Entry<Content>>) -> Result<(), NoMemory>
+        requires log { IsLog self.old }
+        requires spans { AreOf (next_serial self.old.datagrams) (length bytes.now)
+            (spans_of entries.items) }
+        requires messages { AreMessages (part_of bytes.now) (spans_of entries.items) }
+        requires readers { HaveReaders (items_of self.old.places) entries.items }
+        ensures port { self.new.port ≡ self.old.port }
+        ensures ok { OnOk result ((w : Option ℕ) → pending_of self.new w
+            ≡ option_map (λ ds. ds ++ gained bytes.now w entries.items) (pending_of self.old w)) }
+        ensures err { OnErr result ((w : Option ℕ)
+            → pending_of self.new w ≡ pending_of self.old w) }
+        ensures log { IsLog self.new }
+    {
+        self.places.reserve(entries.len())?;
+        let spans = span_count(&entries);
+        keep_copy(self.alloc, &mut self.datagrams, bytes, spans)?;
+        push_all(&mut self.places, entries);
+        Ok(())
+    }
+
+    /// Hands over what a datagram holds, that came to these groups.
+    pub(crate) fn datagram(&mut self, bytes: &[u8], groups: &Groups) -> Result<(), NoMemory>
+        requires { IsLog self.old }
+        ensures port { self.new.port ≡ self.old.port }
+        ensures ok { OnOk result ((w : Option ℕ) → pending_of self.new w
+            ≡ option_map (λ ds. ds ++ received self.old.port
+            (λ q. is_some (pending_of self.old (Some q))) w
+            (cut_of untyped_layout bytes.now) groups.now) (pending_of self.old w)) }
+        ensures err { OnErr result ((w : Option ℕ)
+            → pending_of self.new w ≡ pending_of self.old w) }
+        ensures empty { bytes.now ≡ [] → IsOk result }
+        ensures log { IsLog self.new }
+    {
+        if bytes.is_empty() {
+            return Ok(());
+        }
+        let serial = self.datagrams.next_serial();
+        let entries = staged(self.alloc, self.port, &self.places, serial, bytes, groups)?;
+        if entries.is_empty() {
+            return Ok(());
+        }
+        self.hand_over(bytes, entries)
+    }
+
+    /// Hands a fault of the link to each open number, unless it is that the link would block.
+    pub(crate) fn fault(&mut self, error: SocketError) -> Result<(), NoMemory>
+        requires { IsLog self.old }
+        ensures port { self.new.port ≡ self.old.port }
+        ensures ok { OnOk result ((w : Option ℕ) → pending_of self.new w
+            ≡ option_map (λ ds. ds ++ broken w error) (pending_of self.old w)) }
+        ensures err { OnErr result ((w : Option ℕ)
+            → pending_of self.new w ≡ pending_of self.old w) }
+        ensures would_block { is_would_block error ≡ true → IsOk result }
+        ensures log { IsLog self.new }
+    {
+        if would_block(&error) {
+            return Ok(());
+        }
+        if !self.places.has_reader(Route::Numbers) {
+            return Ok(());
+        }
+        self.places.reserve(1)?;
+        self.places.push(Entry {
+            item: Content::Fault(error),
+            route: Route::Numbers,
+        });
+        Ok(())
+    }
+
+    /// An entry's delivery as these types: a message, or why there is none.
+    fn read<T: NlType, P: FromBytesWithInput + Size>(
+        &self,
+        alloc: Global,
+        content: &Content,
+    ) -> Result<Result<Nlmsghdr<T, P>, RouterError<T, P>>, NoMemory>
+        requires { IsReadable self.now.datagrams content.now }
+        ensures { IfOk result (IsReading T.wire_value P.view P.wire_length P.read
+            (delivery_of (text_of self.now.datagrams) content.now)) }
+    {
+        match content {
+            Content::Message(span) => typed(alloc, self.datagrams.text(*span)),
+            Content::Stray(span) => match typed(alloc, self.datagrams.text(*span))? {
+                Ok(message) => Ok(Err(RouterError::BadSeqOrPid(message))),
+                Err(error) => Ok(Err(error)),
+            },
+            Content::Fault(error) => Ok(Err(RouterError::Socket(error.try_clone()?))),
+        }
+    }
+
+    /// What waits first, read as these types, or that nothing waits.
+    pub(crate) fn first<T: NlType, P: FromBytesWithInput + Size>(
+        &self,
+        alloc: Global,
+        whose: Option<u32>,
+    ) -> Result<Option<Result<Nlmsghdr<T, P>, RouterError<T, P>>>, NoMemory>
+        requires { IsLog self.now }
+        ensures first { IfOk result (IsFirst T.wire_value P.view P.wire_length P.read
+            (head_of (pending_of self.now whose))) }
+        ensures nothing { head_of (pending_of self.now whose) ≡ None → IsOk result }
+    {
+        match self.places.first(whose) {
+            None => Ok(None),
+            Some(content) => Ok(Some(self.read(alloc, content)?)),
+        }
+    }
+
+    /// How many entries are kept.
+    pub(crate) fn kept(&self) -> usize
+        requires { IsLog self.now }
+        ensures kept { result ≡ entry_count self.now }
+        ensures none { (result ≡ 0) ↔ ((w : Option ℕ) (ds : List Waiting)
+            → pending_of self.now w ≡ Some ds → ds ≡ []) }
+    {
+        self.places.len()
+    }
+
+    /// How many bytes of datagrams are kept.
+    pub(crate) fn kept_bytes(&self) -> usize
+        requires { IsLog self.now }
+        ensures bytes { result ≡ byte_count self.now }
+        ensures none { entry_count self.now ≡ 0 → result ≡ 0 }
+    {
+        self.datagrams.byte_count()
+    }
+}

@@ -1,0 +1,47 @@
+use Rattle.std.proofs.Common.{refl, ◌≡◌, ◌+◌, ◌-◌, sym, ◌∙◌, arith, ap, length, false}
+use Rattle.std.proofs.lemmas.Option.{slice_get_read}
+use Rattle.neli_places.specs.declared.entry.Route.{Route}
+use Rattle.neli_places.specs.declared.entry.Route.TheVariants.{Multicast, Number, Numbers}
+use Rattle.neli_places.specs.Routes.{is_shared}
+use Rattle.neli_places.specs.Places.{place_of, rest}
+use Rattle.neli_places.proofs.Nexts.{next_is, items_none}
+use Rattle.neli_places.proofs.Passes.{same_entry, nothing_pending}
+use Rattle.neli_places.proofs.places.Places.pass.Goals as goal
+
+unshared : (r : Route) → (r ≡ Numbers → ⊥) → is_shared r ≡ false
+unshared Multicast h = refl
+unshared (Number n) h = refl
+unshared Numbers h = absurd (h refl)
+
+pub overflow_sub-m : goal.overflow_sub-m
+overflow_sub-m g c =
+    let s = c.args.self.now in
+    (next_is c.args.whose s.base s.entries.items c.in-Some.p c.in-Some-next_of.m (sym c.next_of.ensures ∙ c.in-Some-next_of.is)).2.from_base
+
+pub index-requires : goal.index-requires
+index-requires g c =
+    let s = c.args.self.now in
+    let n = (next_is c.args.whose s.base s.entries.items c.in-Some.p c.in-Some-next_of.m (sym c.next_of.ensures ∙ c.in-Some-next_of.is)).2.within in
+    omega (arith, s.entries.ok.0, n)
+
+pub pass_shared-requires-clause-route : goal.pass_shared-requires-clause-route
+pass_shared-requires-clause-route g c = λ e at.
+    let s = c.args.self.now in
+    let n = next_is c.args.whose s.base s.entries.items c.in-Some.p c.in-Some-next_of.m (sym c.next_of.ensures ∙ c.in-Some-next_of.is) in
+    let here = slice_get_read s.entries.items (length s.entries.items) (c.in-Some-next_of.m - s.base) c.index.result.now refl n.2.within c.index.ensures in
+    let same = same_entry s.entries.items (c.in-Some-next_of.m - s.base) c.index.result.now e here at in
+    ap (λ x. is_shared x.route) (sym same) ∙ ap is_shared c.in-Numbers.is
+
+pub pass_number-requires-clause-route : goal.pass_number-requires-clause-route
+pass_number-requires-clause-route g c = λ e at.
+    let s = c.args.self.now in
+    let n = next_is c.args.whose s.base s.entries.items c.in-Some.p c.in-Some-next_of.m (sym c.next_of.ensures ∙ c.in-Some-next_of.is) in
+    let here = slice_get_read s.entries.items (length s.entries.items) (c.in-Some-next_of.m - s.base) c.index.result.now refl n.2.within c.index.ensures in
+    let same = same_entry s.entries.items (c.in-Some-next_of.m - s.base) c.index.result.now e here at in
+    ap (λ x. is_shared x.route) (sym same) ∙ unshared c.index.result.now.route c.in_default-route.not-Numbers
+
+pub returns-in_default-next_of-clause-taken : goal.returns-in_default-next_of-clause-taken
+returns-in_default-next_of-clause-taken g c = λ d ds old.
+    let s = c.args.self.now in
+    absurd (nothing_pending c.args.whose s.base s.entries.items c.in-Some.p (place_of s c.args.whose) d ds (sym c.place.ensures ∙ c.in-Some.is)
+    (items_none c.args.whose (s.base + (c.in-Some.p.from - s.base)) (rest s.base s.entries.items c.in-Some.p) (sym c.next_of.ensures ∙ c.in_default-next_of.is)) old)

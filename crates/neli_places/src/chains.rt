@@ -1,0 +1,67 @@
+//! Chains: the entries that go to one list alone, each linked to the next.
+
+ghost use Rattle.std.specs.Prelude.{◌≡◌, ◌+◌, ◌<◌, ◌≤◌, Some, length};
+ghost use Rattle.std.specs.VecDeque.{deque_capacity, deque_len};
+ghost use Rattle.neli_places.specs.Places.{links_with, start, with_last, without_first};
+ghost use Rattle.neli_places.specs.Routes.{lesser_of};
+ghost use Rattle.neli_places.specs.declared.place.Chain.{Chain as Link};
+
+use crate::place::Chain;
+use std::collections::VecDeque;
+
+/// The position of a chain's first entry.
+pub(crate) fn start(own: Option<Chain>) -> Option<u64>
+    ensures { result ≡ start own }
+{
+    own.map(|chain| chain.first)
+}
+
+/// The chain without its first entry, which has this link.
+pub(crate) fn without_first(own: Option<Chain>, link: Option<u64>) -> Option<Chain>
+    ensures { result ≡ without_first own link }
+{
+    match (own, link) {
+        (Some(chain), Some(first)) => Some(Chain {
+            first,
+            last: chain.last,
+        }),
+        _ => None,
+    }
+}
+
+/// The chain with one more entry, at this position.
+pub(crate) fn with_last(own: Option<Chain>, last: u64) -> Chain
+    ensures { result ≡ with_last own last }
+{
+    match own {
+        None => Chain { first: last, last },
+        Some(chain) => Chain {
+            first: chain.first,
+            last,
+        },
+    }
+}
+
+/// Links the last entry of a chain to a new one, at position `at`.
+pub(crate) fn link(links: &mut VecDeque<Option<u64>>, base: u64, own: Option<Chain>, at: u64)
+    requires { (c : Link) → own ≡ Some c
+        → (base ≤ c.last) × (c.last < base + length links.old.items) }
+    ensures links { links.new.items ≡ links_with base own at links.old.items }
+    ensures room { (deque_len links.new ≡ deque_len links.old)
+        × (deque_capacity links.new ≡ deque_capacity links.old) }
+{
+    if let Some(chain) = own {
+        links[(chain.last - base) as usize] = Some(at);
+    }
+}
+
+/// The lesser of two positions, where there are two.
+pub(crate) fn lesser_of(a: Option<u64>, b: Option<u64>) -> Option<u64>
+    ensures { result ≡ lesser_of a b }
+{
+    match (a, b) {
+        (None, _) => b,
+        (_, None) => a,
+        (Some(x), Some(y)) => if x <= y { a } else { b },
+    }
+}

@@ -1,0 +1,51 @@
+//! How many places stand at each entry for all numbers, and the places by number.
+
+ghost use Rattle.std.specs.Prelude.{◌≡◌, ◌+◌, ◌^◌, ◌<◌, ◌≤◌, ◌==◌, ℕ, true, Some, if◌then◌else◌, is_some, length, map, nat_eq};
+ghost use Rattle.std.specs.HashMap.{get};
+ghost use Rattle.std.specs.Map.{set_value};
+ghost use Rattle.neli_places.specs.Places.{standing_at};
+
+use crate::place::{Place, Shared};
+use std::collections::{HashMap, VecDeque};
+
+/// Puts another place for a number that has one.
+pub(crate) fn put(numbers: &mut HashMap<u32, Place>, number: u32, place: Place)
+    requires { is_some (get nat_eq numbers.old number) ≡ true }
+    ensures updates { (q : ℕ) → get nat_eq numbers.new q
+        ≡ (if nat_eq number q then Some place else get nat_eq numbers.old q) }
+    ensures entries { numbers.new.entries ≡ set_value (nat_eq number) numbers.old.entries place }
+{
+    if let Some(kept) = numbers.get_mut(&number) {
+        *kept = place;
+    }
+}
+
+/// One place fewer stands at the entry with this index, or at the next one that has not come.
+pub(crate) fn lower(shared: &mut VecDeque<Shared>, caught_up: &mut usize, i: usize)
+    requires within { i ≤ length shared.old.items }
+    requires some { 0 < standing_at shared.old.items caught_up.old i }
+    ensures less { (n : ℕ) → standing_at shared.new.items caught_up.new n
+        + (if n == i then 1 else 0) ≡ standing_at shared.old.items caught_up.old n }
+    ensures positions { map (λ s. s.at) shared.new.items ≡ map (λ s. s.at) shared.old.items }
+{
+    if i < shared.len() {
+        shared[i].standing -= 1;
+    } else {
+        *caught_up -= 1;
+    }
+}
+
+/// One place more stands at the entry with this index, or at the next one that has not come.
+pub(crate) fn raise(shared: &mut VecDeque<Shared>, caught_up: &mut usize, i: usize)
+    requires within { i ≤ length shared.old.items }
+    requires few { standing_at shared.old.items caught_up.old i < 2 ^ 63 }
+    ensures more { (n : ℕ) → standing_at shared.new.items caught_up.new n
+        ≡ standing_at shared.old.items caught_up.old n + (if n == i then 1 else 0) }
+    ensures positions { map (λ s. s.at) shared.new.items ≡ map (λ s. s.at) shared.old.items }
+{
+    if i < shared.len() {
+        shared[i].standing += 1;
+    } else {
+        *caught_up += 1;
+    }
+}

@@ -1,0 +1,113 @@
+//! The first entry goes, and places go.
+
+ghost use Rattle.std.specs.Prelude.{◌≡◌, ◌≢◌, ◌<◌, ℕ, true, false, Option, None, Some, drop, slice_get};
+ghost use Rattle.neli_places.specs.Places.{ArePast, BeginsWith, IsSound, Stands, entries_of, pending_of, place_of};
+ghost use Rattle.neli_places.specs.Routes.{is_shared};
+
+use crate::counts::lower;
+use crate::entry::{Entry, Route};
+use crate::places::Places;
+
+impl<T: Drop> Places<T> {
+    /// Whether a place stands at the first entry, which has this route.
+    pub(crate) fn is_awaited(&self, route: Route) -> bool
+        requires sound { IsSound self.now }
+        requires at { BeginsWith self.now route }
+        ensures yes { result ≡ true → Stands (place_of self.now) self.now.base route }
+        ensures no { result ≡ false → ArePast (place_of self.now) self.now.base route }
+    {
+        match route {
+            Route::Multicast => match self.multicast {
+                None => false,
+                Some(p) => p.from <= self.base,
+            },
+            Route::Number(n) => match self.numbers.get(&n) {
+                None => false,
+                Some(p) => p.from <= self.base,
+            },
+            Route::Numbers => {
+                let _ = self.numbers.len();
+                match self.shared.front() {
+                    None => false,
+                    Some(s) => s.standing > 0,
+                }
+            }
+        }
+    }
+
+    /// Takes out the first entry, for which no place waits.
+    pub(crate) fn forget(&mut self, route: Route) -> Option<Entry<T>>
+        requires sound { IsSound self.old }
+        requires at { BeginsWith self.old route }
+        requires past { ArePast (place_of self.old) self.old.base route }
+        ensures taken { result ≡ slice_get (entries_of self.old) 0 }
+        ensures less { entries_of self.new ≡ drop 1 (entries_of self.old) }
+        ensures same { (w : Option ℕ) → pending_of self.new w ≡ pending_of self.old w }
+        ensures sound { IsSound self.new }
+    {
+        match route {
+            Route::Numbers => self.forget_shared(),
+            _ => self.forget_own(route),
+        }
+    }
+
+    fn forget_own(&mut self, route: Route) -> Option<Entry<T>>
+        requires sound { IsSound self.old }
+        requires own { is_shared route ≡ false }
+        requires at { BeginsWith self.old route }
+        requires past { ArePast (place_of self.old) self.old.base route }
+        ensures taken { result ≡ slice_get (entries_of self.old) 0 }
+        ensures less { entries_of self.new ≡ drop 1 (entries_of self.old) }
+        ensures same { (w : Option ℕ) → pending_of self.new w ≡ pending_of self.old w }
+        ensures sound { IsSound self.new }
+    {
+        let _ = self.links.pop_front();
+        let first = self.entries.pop_front();
+        self.base += 1;
+        first
+    }
+
+    fn forget_shared(&mut self) -> Option<Entry<T>>
+        requires sound { IsSound self.old }
+        requires at { BeginsWith self.old Route.Numbers }
+        requires past { ArePast (place_of self.old) self.old.base Route.Numbers }
+        ensures taken { result ≡ slice_get (entries_of self.old) 0 }
+        ensures less { entries_of self.new ≡ drop 1 (entries_of self.old) }
+        ensures same { (w : Option ℕ) → pending_of self.new w ≡ pending_of self.old w }
+        ensures sound { IsSound self.new }
+    {
+        let _ = self.shared.pop_front();
+        self.shared_base += 1;
+        let _ = self.links.pop_front();
+        let first = self.entries.pop_front();
+        self.base += 1;
+        first
+    }
+
+    /// Takes multicast's place away.
+    pub(crate) fn remove_multicast(&mut self)
+        requires { IsSound self.old }
+        ensures entries { entries_of self.new ≡ entries_of self.old }
+        ensures closed { pending_of self.new None ≡ None }
+        ensures others { (w : Option ℕ) → w ≢ None
+            → pending_of self.new w ≡ pending_of self.old w }
+        ensures sound { IsSound self.new }
+    {
+        self.multicast = None;
+    }
+
+    /// Takes the place of a number away, if it has one.
+    pub(crate) fn remove_number(&mut self, n: u32)
+        requires { IsSound self.old }
+        ensures entries { entries_of self.new ≡ entries_of self.old }
+        ensures closed { pending_of self.new (Some n) ≡ None }
+        ensures others { (w : Option ℕ) → w ≢ Some n
+            → pending_of self.new w ≡ pending_of self.old w }
+        ensures sound { IsSound self.new }
+    {
+        if let Some(p) = self.numbers.remove(&n) {
+            let i = (p.seen - self.shared_base) as usize;
+            lower(&mut self.shared, &mut self.caught_up, i);
+        }
+    }
+}

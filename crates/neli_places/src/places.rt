@@ -1,0 +1,242 @@
+//! The entries, and who waits for which.
+
+ghost use Rattle.std.specs.Prelude.{◌≡◌, ◌≢◌, ◌↔◌, ◌++◌, ℕ, List, [], ◌∷◌, Option, None, Some, IfSome, IsNone, IsTrue, OnErr, OnOk, is_some, length, option_map};
+ghost use Rattle.neli_places.specs.Places.{Gains, HasReader, HasRoom, IsSound, IsTrimmed, LeavesRoom, entries_of, head_of, pending_of, place_of};
+ghost use Rattle.neli_places.specs.Routes.{entry};
+ghost use Rattle.neli_places.specs.declared.entry.Route.{Route as Way};
+
+use crate::entry::{Entry, Route};
+use crate::place::{Place, Shared};
+use std::alloc::{AllocError, Global};
+use std::collections::{HashMap, VecDeque};
+
+/// Entries in the order in which they came, each kept once however many wait for it, and a place for each open
+/// number and for multicast.
+///
+/// Contracts see what each list waits for, by number or for multicast (`None`), or that it is not open.
+#[derive(Drop)]
+pub struct Places<T> {
+    pub(crate) base: u64,
+    pub(crate) entries: VecDeque<Entry<T>>,
+    pub(crate) links: VecDeque<Option<u64>>,
+    pub(crate) shared_base: u64,
+    pub(crate) shared: VecDeque<Shared>,
+    pub(crate) caught_up: usize,
+    pub(crate) multicast: Option<Place>,
+    pub(crate) numbers: HashMap<u32, Place>,
+}
+
+impl<T: Drop> Places<T> {
+    /// No entries, no open number, and a place for multicast. It takes no memory.
+    pub fn new(alloc: Global) -> Self
+        ensures entries { entries_of result ≡ [] }
+        ensures multicast { pending_of result None ≡ Some [] }
+        ensures numbers { (q : ℕ) → pending_of result (Some q) ≡ None }
+        ensures trimmed { IsTrimmed result }
+    {
+        Places {
+            base: 0,
+            entries: VecDeque::new(alloc),
+            links: VecDeque::new(alloc),
+            shared_base: 0,
+            shared: VecDeque::new(alloc),
+            caught_up: 0,
+            multicast: Some(Place {
+                from: 0,
+                own: None,
+                seen: 0,
+            }),
+            numbers: HashMap::new(alloc),
+        }
+    }
+
+    fn place(&self, whose: Option<u32>) -> Option<Place>
+        ensures { result ≡ place_of self.now whose }
+    {
+        match whose {
+            None => self.multicast,
+            Some(n) => self.numbers.get(&n).copied(),
+        }
+    }
+
+    /// Whether a number, or multicast, has a place.
+    pub fn is_open(&self, whose: Option<u32>) -> bool
+        ensures { result ≡ is_some (pending_of self.now whose) }
+    {
+        self.place(whose).is_some()
+    }
+
+    /// Whether somebody gets an entry with this route.
+    pub fn has_reader(&self, route: Route) -> bool
+        ensures { IsTrue result ↔ HasReader (pending_of self.now) route }
+    {
+        match route {
+            Route::Multicast => self.multicast.is_some(),
+            Route::Number(n) => self.numbers.contains_key(&n),
+            Route::Numbers => self.numbers.len() > 0,
+        }
+    }
+
+    /// Gives a number that has no place one after the last entry.
+    ///
+    /// Refused only where memory runs out, and then nothing changes.
+    pub fn open(&mut self, number: u32) -> Result<(), AllocError>
+        requires closed { pending_of self.old (Some number) ≡ None }
+        requires trimmed { IsTrimmed self.old }
+        ensures entries { entries_of self.new ≡ entries_of self.old }
+        ensures opened { OnOk result (pending_of self.new (Some number) ≡ Some []) }
+        ensures others { OnOk result ((w : Option ℕ) → w ≢ Some number
+            → pending_of self.new w ≡ pending_of self.old w) }
+        ensures err { OnErr result ((w : Option ℕ)
+            → pending_of self.new w ≡ pending_of self.old w) }
+        ensures trimmed { IsTrimmed self.new }
+    {
+        let _ = self.numbers.len();
+        let from = self.base + self.entries.len() as u64;
+        let seen = self.shared_base + self.shared.len() as u64;
+        self.numbers.insert(
+            number,
+            Place {
+                from,
+                own: None,
+                seen,
+            },
+        )?;
+        self.caught_up += 1;
+        Ok(())
+    }
+
+    /// Takes a place away, if there is one. What nobody waits for any more is still kept:
+    /// [`Places::pop_unawaited`] takes it out.
+    pub fn remove(&mut self, whose: Option<u32>)
+        requires { IsSound self.old }
+        ensures entries { entries_of self.new ≡ entries_of self.old }
+        ensures closed { pending_of self.new whose ≡ None }
+        ensures others { (w : Option ℕ) → w ≢ whose
+            → pending_of self.new w ≡ pending_of self.old w }
+        ensures sound { IsSound self.new }
+    {
+        match whose {
+            None => self.remove_multicast(),
+            Some(n) => self.remove_number(n),
+        }
+    }
+
+    /// The first item that a list waits for, if it is open and waits for one.
+    pub fn first(&self, whose: Option<u32>) -> Option<&T>
+        requires { IsTrimmed self.now }
+        ensures { option_map (λ x. x.now) result ≡ head_of (pending_of self.now whose) }
+    {
+        match self.place(whose) {
+            None => None,
+            Some(p) => match self.next_of(whose, &p) {
+                None => None,
+                Some(m) => Some(&self.entries[(m - self.base) as usize].item),
+            },
+        }
+    }
+
+    /// Moves a place past the first item that its list waits for, if it waits for one. What nobody waits for any
+    /// more is still kept: [`Places::pop_unawaited`] takes it out.
+    pub fn pass(&mut self, whose: Option<u32>)
+        requires { IsSound self.old }
+        ensures entries { entries_of self.new ≡ entries_of self.old }
+        ensures taken { (x : T) (xs : List T) → pending_of self.old whose ≡ Some (x ∷ xs)
+            → pending_of self.new whose ≡ Some xs }
+        ensures others { (w : Option ℕ) → w ≢ whose
+            → pending_of self.new w ≡ pending_of self.old w }
+        ensures sound { IsSound self.new }
+    {
+        if let Some(p) = self.place(whose) {
+            if let Some(m) = self.next_of(whose, &p) {
+                let route = self.entries[(m - self.base) as usize].route;
+                match whose {
+                    None => self.pass_multicast(p, m),
+                    Some(n) => match route {
+                        Route::Numbers => self.pass_shared(n, p, m),
+                        _ => self.pass_number(n, p, m),
+                    },
+                }
+            }
+        }
+    }
+
+    /// Takes out the first entry's item, where nobody waits for it.
+    pub fn pop_unawaited(&mut self) -> Option<T>
+        requires { IsSound self.old }
+        ensures taken { IfSome result (λ x. (route : Way)
+            × (entries_of self.old ≡ entry x route ∷ entries_of self.new)) }
+        ensures same { (w : Option ℕ) → pending_of self.new w ≡ pending_of self.old w }
+        ensures sound { IsSound self.new }
+        ensures left { IsNone result → entries_of self.new ≡ entries_of self.old }
+        ensures trimmed { IsNone result → IsTrimmed self.new }
+    {
+        let route = match self.entries.front() {
+            None => return None,
+            Some(first) => first.route,
+        };
+        if self.is_awaited(route) {
+            return None;
+        }
+        match self.forget(route) {
+            None => None,
+            Some(first) => Some(first.item),
+        }
+    }
+
+    /// Makes room for n more entries.
+    ///
+    /// Refused only where memory runs out, and then all lists are as they were.
+    pub fn reserve(&mut self, n: usize) -> Result<(), AllocError>
+        requires { IsTrimmed self.old }
+        ensures entries { entries_of self.new ≡ entries_of self.old }
+        ensures same { (w : Option ℕ) → pending_of self.new w ≡ pending_of self.old w }
+        ensures trimmed { IsTrimmed self.new }
+        ensures room { OnOk result (HasRoom n self.new) }
+    {
+        let end = self.base + self.entries.len() as u64;
+        if n as u64 > u64::MAX - end {
+            return Err(AllocError);
+        }
+        self.entries.reserve(n)?;
+        self.links.reserve(n)?;
+        self.shared.reserve(n)?;
+        Ok(())
+    }
+
+    /// Keeps an entry after the others. Somebody gets it, and there is room.
+    pub fn push(&mut self, added: Entry<T>)
+        requires trimmed { IsTrimmed self.old }
+        requires reader { HasReader (pending_of self.old) added.route }
+        requires room { HasRoom 1 self.old }
+        ensures entries { entries_of self.new ≡ entries_of self.old ++ added ∷ [] }
+        ensures more { Gains (pending_of self.old) added (pending_of self.new) }
+        ensures trimmed { IsTrimmed self.new }
+        ensures room { LeavesRoom self.old self.new }
+    {
+        let Entry { item, route } = added;
+        match route {
+            Route::Multicast => {
+                if let Some(p) = self.multicast {
+                    self.add_to_multicast(item, p);
+                }
+            }
+            Route::Number(n) => {
+                if let Some(p) = self.place(Some(n)) {
+                    self.add_to_number(item, n, p);
+                }
+            }
+            Route::Numbers => self.add_to_numbers(item),
+        }
+    }
+
+    /// How many entries are kept: none exactly where no list waits for anything.
+    pub fn len(&self) -> usize
+        requires { IsTrimmed self.now }
+        ensures len { result ≡ length (entries_of self.now) }
+        ensures none { (result ≡ 0)
+            ↔ ((w : Option ℕ) (xs : List T) → pending_of self.now w ≡ Some xs → xs ≡ []) }
+    {
+        self.entries.len()
+    }
+}

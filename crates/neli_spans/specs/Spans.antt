@@ -1,0 +1,92 @@
+-- Spans: which bytes they mean, and when they name the kept datagrams.
+use Rattle.std.specs.Prelude.{ℕ, zero, suc, ◌≡◌, ◌≤◌, ◌<◌, ◌+◌, ◌-◌, ◌^◌, List, [], ◌∷◌, ◌++◌, Option, Some, None, length, map, slice_range}
+use Rattle.std.specs.List.{slice_get}
+use Rattle.std.specs.VecDeque.{deque_len, deque_capacity}
+use Rattle.neli_spans.specs.declared.span.Span.{Span}
+use Rattle.neli_spans.specs.declared.span.Datagram.{Datagram}
+use Rattle.neli_spans.specs.declared.datagrams.Datagrams.{Datagrams}
+use Rattle.neli_spans.specs.Bytes.{byte_count}
+
+-- ---- which bytes a span means
+
+-- those between its ends, of its datagram
+abbrev pub text_in : Span → Option Datagram → List ℕ
+text_in s None = []
+text_in s (Some d) = slice_range d.bytes.items s.start s.end
+
+abbrev pub text_of : Datagrams → Span → List ℕ
+text_of kept s = text_in s (slice_get kept.list.items (s.datagram - kept.first))
+
+-- ---- when spans name the kept datagrams
+
+-- the same number n times
+abbrev pub repeated : ℕ → ℕ → List ℕ
+repeated zero x = []
+repeated (suc n) x = x ∷ repeated n x
+
+-- the serial numbers that the spans name, in their order, where the first one is n: each datagram as often as it
+-- has spans
+abbrev pub laid : ℕ → List Datagram → List ℕ
+laid n [] = []
+laid n (d ∷ ds) = repeated d.spans n ++ laid (suc n) ds
+
+-- of two neighbours in one datagram the later begins at or after the earlier's end
+abbrev pub Apart : Span → List Span → Type 0
+Apart s [] = Unit {0}
+Apart s (t ∷ ts) = (s.datagram ≡ t.datagram → s.end ≤ t.start) × Apart t ts
+
+abbrev pub AreApart : List Span → Type 0
+AreApart [] = Unit {0}
+AreApart (s ∷ ss) = Apart s ss
+
+-- a span ends where its datagram does or before, and begins where it ends or before
+abbrev pub IsWithin : ℕ → Span → Type 0
+IsWithin size s = (s.start ≤ s.end) × (s.end ≤ size)
+
+-- the spans name the datagrams from the serial number `first` on, in order and without a gap: the first span the first
+-- datagram, each later one the same or the next, the last one the last; and none is kept without a span
+pub record NamesFrom (first : ℕ) (ds : List Datagram) (ss : List Span) : Type 0 where
+  pub fits : first + length ds < 2 ^ 64
+  pub serials : map (λ s. s.datagram) ss ≡ laid first ds
+  pub some : (i : ℕ) (d : Datagram) → slice_get ds i ≡ Some d → 0 < d.spans
+  pub apart : AreApart ss
+  pub within : (i j : ℕ) (s : Span) (d : Datagram) → slice_get ss i ≡ Some s → s.datagram ≡ first + j
+      → slice_get ds j ≡ Some d → IsWithin (length d.bytes.items) s
+
+abbrev pub Names : Datagrams → List Span → Type 0
+Names kept ss = NamesFrom kept.first kept.list.items ss
+
+-- some spans name them
+abbrev pub AreNamed : Datagrams → Type 0
+AreNamed kept = (ss : List Span) × Names kept ss
+
+-- this span is among those that name them
+abbrev pub IsNamed : Datagrams → Span → Type 0
+IsNamed kept s = (ss : List Span) × (i : ℕ) × Names kept ss × (slice_get ss i ≡ Some s)
+
+-- ---- a datagram that comes
+
+-- its serial number
+abbrev pub next_serial : Datagrams → ℕ
+next_serial kept = kept.first + length kept.list.items
+
+-- spans of the one with this serial number and so many bytes, one after the other
+pub record AreOf (serial size : ℕ) (ss : List Span) : Type 0 where
+  pub one : (i : ℕ) (s : Span) → slice_get ss i ≡ Some s → (s.datagram ≡ serial) × IsWithin size s
+  pub apart : AreApart ss
+
+-- there is room for one more datagram, of so many bytes
+pub record HasRoom (size : ℕ) (kept : Datagrams) : Type 0 where
+  pub slot : deque_len kept.list < deque_capacity kept.list
+  pub serial : next_serial kept + 1 < 2 ^ 64
+  pub bytes : kept.bytes + size < 2 ^ 64
+
+-- ---- the whole
+
+-- how many bytes are kept
+abbrev pub bytes_of : Datagrams → ℕ
+bytes_of kept = byte_count kept.list.items
+
+-- the same datagrams with the same serial numbers
+abbrev pub IsUnchanged : Datagrams → Datagrams → Type 0
+IsUnchanged before after = (after.first ≡ before.first) × (after.list.items ≡ before.list.items)

@@ -1,0 +1,113 @@
+//! The datagrams that spans name.
+
+ghost use Rattle.std.specs.Prelude.{◌≡◌};
+ghost use Rattle.neli_spans.specs.Bytes.{byte_count};
+
+use crate::part::part;
+use crate::span::{Datagram, Span};
+use std::alloc::{AllocError, Global};
+use std::collections::VecDeque;
+
+/// The datagrams that spans name, each kept once, by serial numbers without a gap.
+#[derive(Drop)]
+pub struct Datagrams {
+    pub(crate) first: u64,
+    pub(crate) list: VecDeque<Datagram>,
+    pub(crate) bytes: usize,
+    ghost counted: { bytes ≡ byte_count list.items },
+}
+
+impl Datagrams {
+    ghost use Rattle.std.specs.Prelude.{◌<◌, ◌+◌, ℕ, List, [], ◌∷◌, ◌++◌, Some, OnOk, length, slice_get, slice_range};
+    ghost use Rattle.neli_spans.specs.Spans.{AreNamed, AreOf, HasRoom, IsNamed, IsUnchanged, Names, bytes_of, next_serial, text_of};
+    ghost use Rattle.neli_spans.specs.declared.span.Span.{Span as Named};
+
+    /// No datagrams. It takes no memory.
+    pub fn new(alloc: Global) -> Self
+        ensures names { Names result [] }
+    {
+        Datagrams {
+            first: 0,
+            list: VecDeque::new(alloc),
+            bytes: 0,
+        }
+    }
+
+    /// The serial number of the datagram that is kept next.
+    pub fn next_serial(&self) -> u64
+        requires { AreNamed self.now }
+        ensures { result ≡ next_serial self.now }
+    {
+        self.first + self.list.len() as u64
+    }
+
+    /// How many bytes the kept datagrams have; none where no span is left.
+    pub fn byte_count(&self) -> usize
+        ensures bytes { result ≡ bytes_of self.now }
+        ensures none { Names self.now [] → result ≡ 0 }
+    {
+        self.bytes
+    }
+
+    /// Makes room for one more datagram, of `size` bytes.
+    ///
+    /// Refused only where memory runs out. Nothing else changes in either case.
+    pub fn reserve(&mut self, size: usize) -> Result<(), AllocError>
+        requires { AreNamed self.old }
+        ensures unchanged { IsUnchanged self.old self.new }
+        ensures room { OnOk result (HasRoom size self.new) }
+    {
+        if self.next_serial() == u64::MAX || usize::MAX - self.bytes < size {
+            return Err(AllocError);
+        }
+        self.list.reserve(1)
+    }
+
+    /// Keeps a datagram of which there are so many spans, one at least, where there is room.
+    pub fn keep(&mut self, bytes: Vec<u8>, spans: usize)
+        requires some { 0 < spans }
+        requires room { HasRoom (length bytes.items) self.old }
+        ensures names { (old new : List Named) → Names self.old old
+            → AreOf (next_serial self.old) (length bytes.items) new → length new ≡ spans
+            → Names self.new (old ++ new) }
+        ensures texts { (old : List Named) (i : ℕ) (s : Named) → Names self.old old
+            → slice_get old i ≡ Some s → text_of self.new s ≡ text_of self.old s }
+        ensures new_texts { (s : Named) → s.datagram ≡ next_serial self.old
+            → text_of self.new s ≡ slice_range bytes.items s.start s.end }
+    {
+        let size = bytes.len();
+        let _ = self.list.push_back(Datagram { bytes, spans });
+        self.bytes += size;
+    }
+
+    /// The first span goes, and its datagram where no other span names it. Every other span means the bytes that it
+    /// did.
+    pub fn release(&mut self)
+        requires { (s : Named) × (ss : List Named) × Names self.old (s ∷ ss) }
+        ensures names { (s : Named) (ss : List Named) → Names self.old (s ∷ ss)
+            → Names self.new ss }
+        ensures texts { (s t : Named) (ss : List Named) (i : ℕ) → Names self.old (s ∷ ss)
+            → slice_get ss i ≡ Some t → text_of self.new t ≡ text_of self.old t }
+    {
+        if let Some(datagram) = self.list.front() {
+            let spans = datagram.spans;
+            let size = datagram.bytes.len();
+            if spans == 1 {
+                let _ = self.list.pop_front();
+                self.bytes -= size;
+                self.first += 1;
+            } else {
+                self.list[0].spans -= 1;
+            }
+        }
+    }
+
+    /// The bytes that a span means.
+    pub fn text(&self, s: Span) -> &[u8]
+        requires { IsNamed self.now s }
+        ensures { result.now ≡ text_of self.now s }
+    {
+        let datagram = &self.list[(s.datagram - self.first) as usize];
+        part(&datagram.bytes, s.start, s.end)
+    }
+}
