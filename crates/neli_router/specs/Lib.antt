@@ -1,4 +1,5 @@
 pub mod Deliveries
 pub mod History
 pub mod Outcomes
+pub mod Regrouping
 pub mod laws

@@ -1,17 +1,22 @@
 //! Laws of runs, over the definitions alone. The calls do nothing: their contracts are the laws.
 
 ghost use Rattle.std.specs.Prelude.{◌≡◌, ◌≢◌, ◌++◌, ◌∷◌, ℕ, Bool, List};
+ghost use Rattle.neli_msg.specs.Agreement.{untyped_layout};
+ghost use Rattle.neli_msg.specs.Cuts.{cut_of, messages_before};
+ghost use Rattle.neli_msg.specs.Messages.{message_layout};
 ghost use Rattle.neli_deliveries.specs.declared.delivery.Delivery.{Delivery as Waiting};
 ghost use Rattle.neli_deliveries.specs.Readings.{Item};
 ghost use Rattle.neli_router_base.specs.declared.reply.Reply.{Reply as Answer};
 ghost use Rattle.neli_router_base.specs.declared.reply.Reply.TheVariants as reply;
 ghost use Rattle.neli_router_base.specs.Rule.{answer};
 ghost use Rattle.neli_router.specs.Deliveries.{deliveries};
-ghost use Rattle.neli_router.specs.History.{History, is_live, items_of, needs_of, whose};
-ghost use Rattle.neli_router.specs.Outcomes.{outcome_of};
+ghost use Rattle.neli_router.specs.History.{History, is_live, is_open, items_of, needs_of, whose};
+ghost use Rattle.neli_router.specs.Outcomes.{EachAfter, IsAnswered, IsSent, outcome_of};
+ghost use Rattle.neli_router.specs.Regrouping.{Bytes, IsRegrouped, IsWhole, came};
 
 use crate::{Command, Outcome};
 use neli_consts::NlType;
+use neli_wire::{FromBytesWithInput, Size, ToBytes};
 
 /// Answers only grow: what was answered with some deliveries is answered with more, an item as the same item
 /// and the end as the end. A wait alone may become something else.
@@ -43,4 +48,54 @@ pub fn reads_of_others_change_nothing<ST, SP, RT, RP>()
         → whose k ((Command.Read j, outcome_of r) ∷ h) ≡ whose k h }
     ensures live { (j k : ℕ) (r : Answer RT RP) (h : History ST SP RT RP)
         → is_live k ((Command.Read j, outcome_of r) ∷ h) ≡ is_live k h }
+{}
+
+/// Bytes without a fault and bytes after them have the messages of both, and then the fault of the later ones, if
+/// there is one.
+pub fn cuts_join<T: NlType, P: FromBytesWithInput>()
+    ensures typed { (a b : List ℕ) → IsWhole (message_layout T.wire_value T.wire_number P.read) a
+        → cut_of (message_layout T.wire_value T.wire_number P.read) (a ++ b)
+        ≡ messages_before (cut_of (message_layout T.wire_value T.wire_number P.read) a).0
+        (cut_of (message_layout T.wire_value T.wire_number P.read) b) }
+    ensures untyped { (a b : List ℕ) → IsWhole untyped_layout a → cut_of untyped_layout (a ++ b)
+        ≡ messages_before (cut_of untyped_layout a).0 (cut_of untyped_layout b) }
+{}
+
+/// Datagrams may be regrouped: where some that came one after the other, to the same groups, are replaced by others
+/// with the same bytes, every handle is delivered the same, whatever came before them and after them. Of the old
+/// datagrams and of the new ones only the last may have a fault. The same handles and numbers are open.
+pub fn regrouping_leaves_deliveries<ST, SP, RT, RP>()
+    ensures deliveries { (port k : ℕ) (groups : List ℕ) (bs cs : List Bytes)
+        (before later : History ST SP RT RP) → IsRegrouped bs cs
+        → deliveries port k (later ++ came groups bs before)
+        ≡ deliveries port k (later ++ came groups cs before) }
+    ensures live { (k : ℕ) (groups : List ℕ) (bs cs : List Bytes)
+        (before later : History ST SP RT RP)
+        → is_live k (later ++ came groups bs before) ≡ is_live k (later ++ came groups cs before) }
+    ensures open { (q : ℕ) (groups : List ℕ) (bs cs : List Bytes)
+        (before later : History ST SP RT RP)
+        → is_open q (later ++ came groups bs before) ≡ is_open q (later ++ came groups cs before) }
+{}
+
+/// So what is right for a run to answer after the old datagrams, to any commands, is right after the new ones.
+pub fn regrouping_leaves_outcomes<ST, SP, RT, RP>()
+where
+    ST: NlType,
+    SP: ToBytes,
+    RT: NlType,
+    RP: FromBytesWithInput + Size,
+    ensures sent { (port : ℕ) (groups : List ℕ) (bs cs : List Bytes) (before : History ST SP RT RP)
+        (commands : List (Command ST SP)) (outcomes : List (Outcome ST SP RT RP))
+        → IsRegrouped bs cs
+        → EachAfter (IsSent ST.wire_number SP.wire SP.Size.wire_length port)
+        (came groups bs before) commands outcomes
+        → EachAfter (IsSent ST.wire_number SP.wire SP.Size.wire_length port)
+        (came groups cs before) commands outcomes }
+    ensures read { (port : ℕ) (groups : List ℕ) (bs cs : List Bytes) (before : History ST SP RT RP)
+        (commands : List (Command ST SP)) (outcomes : List (Outcome ST SP RT RP))
+        → IsRegrouped bs cs
+        → EachAfter (IsAnswered RT.wire_value RT.wire_number RP.view RP.wire_length RP.read port)
+        (came groups bs before) commands outcomes
+        → EachAfter (IsAnswered RT.wire_value RT.wire_number RP.view RP.wire_length RP.read port)
+        (came groups cs before) commands outcomes }
 {}
