@@ -14,8 +14,8 @@ use crate::rule::{answer, needs_acknowledgement};
 use crate::{Deliveries, HandleState, NlRouterReceiverHandle, Reply};
 use neli_consts::{NlType, NlmF};
 use neli_genl::Genlmsghdr;
+use neli_log::Log;
 use neli_msg::{NlPayload, NlmsghdrBuilder, RouterError, SocketError};
-use neli_queues::Queues;
 use neli_util::Groups;
 use neli_wire::{FromBytesWithInput, MsgError, NoMemory, Size, ToBytes};
 use std::alloc::Global;
@@ -23,10 +23,10 @@ use std::alloc::Global;
 /// A router: gives each request a sequence number, and each reply to the handle that asked.
 ///
 /// It has no link: requests come out as bytes, and the caller hands in the datagrams that arrive
-/// and the faults of the link. What waits for a handle is kept in a `D`, plain lists where nothing
-/// else is said.
+/// and the faults of the link. What waits for a handle is kept in a `D`; where nothing else is said
+/// in a [`Log`], which keeps each delivery once.
 #[derive(Drop)]
-pub struct NlRouter<D = Queues> {
+pub struct NlRouter<D = Log> {
     pub(crate) deliveries: D,
     pub(crate) next_seq: u32,
 }
@@ -62,6 +62,13 @@ impl<D: Deliveries> NlRouter<D> {
         ensures { result ≡ D.port_of self.now.deliveries }
     {
         self.deliveries.port()
+    }
+
+    /// The store of what waits for the handles. It takes no memory.
+    pub fn deliveries(&self) -> &D
+        ensures { result.now ≡ self.now.deliveries }
+    {
+        &self.deliveries
     }
 
     /// Sets the sequence number of the next request.
