@@ -15,6 +15,9 @@ pub use Rattle.neli_lent.specs as lent
 pub use Rattle.neli_util.specs as util
 pub use Rattle.neli_deliveries.specs as deliveries
 pub use Rattle.neli_queues.specs as queues
+pub use Rattle.neli_places.specs as places
+pub use Rattle.neli_spans.specs as spans
+pub use Rattle.neli_log.specs as log
 pub use Rattle.neli_router_base.specs as router_base
 pub use Rattle.neli_router.specs as router
 pub use Rattle.neli_resolvers.specs as resolvers

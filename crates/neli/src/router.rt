@@ -2,6 +2,7 @@
 
 /// The router, its stores of what waits, whole runs of it, and the resolvers of generic netlink's names.
 pub mod synchronous {
+    pub use neli_log::Log;
     pub use neli_queues::Queues;
     pub use neli_resolvers::{
         CtrlError, CtrlItem, lookup_id, resolve_genl_family, resolve_nl_mcast_group,

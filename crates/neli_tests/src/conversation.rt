@@ -4,7 +4,7 @@ use crate::support::bytes_of;
 use neli::consts::nl::{NlType, NlmF};
 use neli::err::RouterError;
 use neli::nl::{NlPayload, Nlmsghdr};
-use neli::router::synchronous::{NlRouter, NlRouterReceiverHandle, Queues, Reply};
+use neli::router::synchronous::{Log, NlRouter, NlRouterReceiverHandle, Reply};
 use neli::utils::Groups;
 use neli::{FromBytesWithInput, Size, ToBytes};
 use std::alloc::Global;
@@ -35,7 +35,7 @@ fn assert_asked(rt: &impl Abort, alloc: Global, bytes: &[u8], digits: &str) {
 fn items_of<T: NlType, P: FromBytesWithInput + Size + Drop>(
     rt: &impl Abort,
     alloc: Global,
-    router: &mut NlRouter<Queues>,
+    router: &mut NlRouter,
     mut handle: NlRouterReceiverHandle<T, P>,
 ) -> Vec<Item<T, P>> {
     let mut items = Vec::new(alloc);
@@ -59,7 +59,7 @@ pub fn answered<T: NlType, S: ToBytes + Drop, P: FromBytesWithInput + Size + Dro
     nl_flags: NlmF,
     body: S,
 ) -> Vec<Item<T, P>> {
-    let (mut router, _multicast) = NlRouter::<Queues>::new(alloc, talk.port);
+    let (mut router, _multicast) = NlRouter::<Log>::new(alloc, talk.port);
     router.set_next_seq(talk.number);
     let sent = router.send::<T, S, T, P>(alloc, nl_type, nl_flags, NlPayload::Payload(body));
     let (request, handle) = match sent {

@@ -2,7 +2,7 @@
 //!
 //! - [`values`], [`constants`], [`bodies`], [`messages`], [`groups`]: worked examples, each by what it shows.
 //!   [`resolvers`]: what the controller's replies tell.
-//! - [`recorded`]: conversations with a kernel. [`conversation`]: how one is played.
+//! - [`recorded`]: conversations with a kernel. [`conversation`]: how one is played. [`store`]: what is kept meanwhile.
 //! - [`readme`], [`tour`]: the examples of the README and of the page of `neli`, line by line.
 //! - [`support`]: what the tests share.
 //!
@@ -27,6 +27,8 @@ mod readme;
 mod recorded;
 #[cfg(test)]
 mod resolvers;
+#[cfg(test)]
+mod store;
 #[cfg(test)]
 mod support;
 #[cfg(test)]

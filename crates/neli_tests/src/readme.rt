@@ -13,11 +13,11 @@ fn first_address(
     use neli::consts::nl::NlmF;
     use neli::consts::rtnl::{Ifa, RtAddrFamily, RtScope, Rtm};
     use neli::nl::NlPayload;
-    use neli::router::synchronous::{NlRouter, Queues, Reply};
+    use neli::router::synchronous::{Log, NlRouter, Reply};
     use neli::rtnl::{Ifaddrmsg, IfaddrmsgBuilder};
     use neli::utils::Groups;
 
-    let (mut router, _multicast) = NlRouter::<Queues>::new(alloc, port);
+    let (mut router, _multicast) = NlRouter::<Log>::new(alloc, port);
     let asked = IfaddrmsgBuilder::default()
         .ifa_family(RtAddrFamily::Inet)
         .ifa_prefixlen(0)

@@ -4,17 +4,13 @@ use crate::support::{assert_written, bytes_of};
 use neli::connector::CnMsg;
 use neli::consts::connector::ProcCnMcastOp;
 use neli::consts::rtnl::RtAddrFamily;
-use neli::router::synchronous::{NlRouter, Queues};
+use neli::router::synchronous::{Log, NlRouter};
 use neli::rtnl::{Ifinfomsg, IfinfomsgBuilder};
 use std::alloc::Global;
 use std::test::Fail;
 
 /// Sets a link up: the request, and whether the kernel did it.
-fn set_up(
-    alloc: Global,
-    router: &mut NlRouter<Queues>,
-    datagram: &[u8],
-) -> Result<(Vec<u8>, bool), Fail> {
+fn set_up(alloc: Global, router: &mut NlRouter, datagram: &[u8]) -> Result<(Vec<u8>, bool), Fail> {
     use neli::consts::nl::NlmF;
     use neli::consts::rtnl::{RtAddrFamily, Rtm};
     use neli::nl::NlPayload;
@@ -45,7 +41,7 @@ fn set_up(
 #[test]
 fn a_link_tool(rt: HostRuntime) -> Result<(), Fail> {
     let alloc = rt.alloc();
-    let (mut router, _multicast) = NlRouter::<Queues>::new(alloc, 12587);
+    let (mut router, _multicast) = NlRouter::<Log>::new(alloc, 12587);
     router.set_next_seq(1054);
     let acknowledgement = bytes_of(
         &rt,
@@ -63,11 +59,7 @@ fn a_link_tool(rt: HostRuntime) -> Result<(), Fail> {
 }
 
 /// Resolves a family: its number, and a request to it.
-fn resolve(
-    alloc: Global,
-    router: &mut NlRouter<Queues>,
-    datagram: &[u8],
-) -> Result<(u16, Vec<u8>), Fail> {
+fn resolve(alloc: Global, router: &mut NlRouter, datagram: &[u8]) -> Result<(u16, Vec<u8>), Fail> {
     use neli::consts::nl::NlmF;
     use neli::genl::{Genlmsghdr, GenlmsghdrBuilder};
     use neli::nl::NlPayload;
@@ -101,7 +93,7 @@ fn resolve(
 #[test]
 fn a_generic_client(rt: HostRuntime) -> Result<(), Fail> {
     let alloc = rt.alloc();
-    let (mut router, _multicast) = NlRouter::<Queues>::new(alloc, 17225);
+    let (mut router, _multicast) = NlRouter::<Log>::new(alloc, 17225);
     router.set_next_seq(1009);
     let told = bytes_of(
         &rt,
