@@ -1,8 +1,6 @@
 //! Scripts and what is answered.
 
-use neli_queues::Queues;
-use neli_replay::replay::replay;
-use neli_tool_base::status::Status;
+use crate::support::answers;
 
 #[test]
 fn a_request_has_a_body_and_one_answer(rt: HostRuntime) {
@@ -19,10 +17,7 @@ fn a_request_has_a_body_and_one_answer(rt: HostRuntime) {
         item type 1024 flags 0x0000 number 0 port 0 payload 0\n\
         end\n\
         no handle\n";
-    let mut output = Vec::new(alloc);
-    let status = replay::<Queues, _, _>(alloc, &mut script.as_bytes(), &mut output);
-    assert_eq!(rt; output.as_slice(), want.as_bytes());
-    assert_eq!(rt; status, Status::Whole);
+    answers(&rt, alloc, "a request", script, want);
 }
 
 /// The second worked script, without the line feed at its end.
@@ -52,10 +47,7 @@ fn an_acknowledgement_is_missed_and_a_handle_is_closed(rt: HostRuntime) {
         ok\n\
         item type 16 flags 0x0000 number 0 port 0 payload 0\n\
         waits\n";
-    let mut output = Vec::new(alloc);
-    let status = replay::<Queues, _, _>(alloc, &mut ACKNOWLEDGED.as_bytes(), &mut output);
-    assert_eq!(rt; output.as_slice(), want.as_bytes());
-    assert_eq!(rt; status, Status::Whole);
+    answers(&rt, alloc, "an acknowledgement", ACKNOWLEDGED, want);
 }
 
 #[test]
@@ -98,10 +90,7 @@ fn what_needs_no_request(rt: HostRuntime) {
         ),
     ];
     for (row, script, want) in rows {
-        let mut output = Vec::new(alloc);
-        let status = replay::<Queues, _, _>(alloc, &mut script.as_bytes(), &mut output);
-        assert_eq!(rt; output.as_slice(), want.as_bytes(), "{row}");
-        assert_eq!(rt; status, Status::Whole, "{row}");
+        answers(&rt, alloc, row, script, want);
     }
 }
 
@@ -148,19 +137,9 @@ fn what_comes_of_one_request(rt: HostRuntime) {
         ),
     ];
     for (row, later, want) in rows {
+        let script = format!(in alloc; "send 16 0 -\n{later}").expect(&rt, "memory");
         let alone = "sent 1 10000000100001000000000000000000\n";
-        let mut script = Vec::new(alloc);
-        script
-            .extend_from_slice("send 16 0 -\n".as_bytes())
-            .expect(&rt, "memory");
-        script
-            .extend_from_slice(later.as_bytes())
-            .expect(&rt, "memory");
-        let mut output = Vec::new(alloc);
-        let status = replay::<Queues, _, _>(alloc, &mut script.as_slice(), &mut output);
-        assert!(rt; output.as_slice().starts_with(alone.as_bytes()), "{row}");
-        assert!(rt; output.as_slice().ends_with(want.as_bytes()), "{row}");
-        assert_eq!(rt; output.len(), alone.len() + want.len(), "{row}");
-        assert_eq!(rt; status, Status::Whole, "{row}");
+        let want = format!(in alloc; "{alone}{want}").expect(&rt, "memory");
+        answers(&rt, alloc, row, &script, &want);
     }
 }

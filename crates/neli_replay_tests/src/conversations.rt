@@ -1,18 +1,6 @@
 //! Conversations: several requests, and what comes for each of them.
 
-use neli_queues::Queues;
-use neli_replay::replay::replay;
-use neli_tool_base::status::Status;
-use std::alloc::Global;
-use std::process::Abort;
-
-/// Asserts that this script is answered by these lines.
-fn answers(rt: &impl Abort, alloc: Global, row: &str, script: &str, want: &str) {
-    let mut output = Vec::new(alloc);
-    let status = replay::<Queues, _, _>(alloc, &mut script.as_bytes(), &mut output);
-    assert_eq!(rt; output.as_slice(), want.as_bytes(), "{row}");
-    assert_eq!(rt; status, Status::Whole, "{row}");
-}
+use crate::support::answers;
 
 #[test]
 fn a_dump_and_an_acknowledgement_end(rt: HostRuntime) {

@@ -1,4 +1,5 @@
-//! Tests of `neli_replay`, a file a subject. They call `replay` over readers and writers of their own.
+//! Tests of `neli_replay`, a file a subject. They call `replay` over readers and writers of their own; [`answers`]
+//! and [`conversations`] over both stores of deliveries.
 //!
 //! RFC 3549 section 2.3.2 and `struct nlmsghdr` of linux/netlink.h give the layout of what is sent and comes;
 //! the lines are the program's own, written out by hand.
@@ -14,3 +15,5 @@ mod conversations;
 mod out_of_memory;
 #[cfg(test)]
 mod output;
+#[cfg(test)]
+mod support;

@@ -1,12 +1,16 @@
-//! Any one allocation may be refused in this test (`rt try --test --fail-alloc N`). What is printed is then
+//! Any one allocation may be refused in these tests (`rt try --test --fail-alloc N`). What is printed is then
 //! the whole report or that memory ran out, and the status says which.
 
 use crate::answers::ACKNOWLEDGED;
+use neli_log::Log;
 use neli_queues::Queues;
 use neli_replay::replay::replay;
+use neli_router::Deliveries;
 use neli_tool_base::status::Status;
+use std::alloc::Global;
 use std::io;
 use std::io::Write;
+use std::process::Abort;
 
 /// A writer that keeps a byte at each call, without taking memory.
 #[derive(Drop)]
@@ -30,9 +34,8 @@ impl Write for Kept {
     }
 }
 
-#[test]
-fn answered_or_out_of_memory(rt: HostRuntime) {
-    let alloc = rt.alloc();
+/// Asserts that the script is answered over deliveries that are kept in a `D`, or that memory ran out.
+fn answers_or_out_of_memory<D: Deliveries + Drop, R: Abort>(rt: &R, alloc: Global) {
     let whole = "sent 1 10000000100005000000000000000000\n\
         waits\n\
         ok\n\
@@ -48,7 +51,7 @@ fn answered_or_out_of_memory(rt: HostRuntime) {
         bytes: [0; 256],
         count: 0,
     };
-    let status = replay::<Queues, _, _>(alloc, &mut ACKNOWLEDGED.as_bytes(), &mut output);
+    let status = replay::<D, _, _>(alloc, &mut ACKNOWLEDGED.as_bytes(), &mut output);
     let want = if status == Status::Memory {
         "memory\n"
     } else {
@@ -58,4 +61,14 @@ fn answered_or_out_of_memory(rt: HostRuntime) {
     let count = output.count;
     assert!(rt; count <= 256);
     assert_eq!(rt; &output.bytes[..count], want.as_bytes());
+}
+
+#[test]
+fn over_the_shared_store(rt: HostRuntime) {
+    answers_or_out_of_memory::<Log, _>(&rt, rt.alloc());
+}
+
+#[test]
+fn over_plain_lists(rt: HostRuntime) {
+    answers_or_out_of_memory::<Queues, _>(&rt, rt.alloc());
 }
