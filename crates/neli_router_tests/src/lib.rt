@@ -1,7 +1,8 @@
-//! Tests of the router by the public calls of `neli_router`, over the lists of `neli_queues`.
+//! Tests of the router by the public calls of `neli_router`, over both stores: the lists of `neli_queues` and the
+//! log of `neli_log`.
 //!
-//! - [`script`]: a list of steps with what each of them answers, played by one run. The other files are
-//!   tables of scripts.
+//! - [`script`]: a list of steps with what each of them answers, played by one run over each store. The other
+//!   files are tables of scripts.
 //! - [`numbers`]: requests as bytes, and which number each has. [`answers`]: where a handle's answers end.
 //! - [`datagrams`]: who gets what of a datagram. [`faults`]: faults of the link.
 //! - [`handles`]: handles that another router made, and closed ones. [`many`]: thousands of requests.

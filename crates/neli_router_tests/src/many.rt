@@ -3,9 +3,10 @@
 use crate::script::{Raw, Refusal};
 use neli_attr::Buffer;
 use neli_consts::NlmF;
+use neli_log::Log;
 use neli_msg::NlPayload;
 use neli_queues::Queues;
-use neli_router::{NlRouter, NlRouterReceiverHandle, Reply};
+use neli_router::{Deliveries, NlRouter, NlRouterReceiverHandle, Reply};
 use neli_util::Groups;
 use std::alloc::Global;
 use std::process::Abort;
@@ -20,10 +21,10 @@ fn reply(number: u32) -> [u8; 16] {
 }
 
 /// Sends so many requests.
-fn send_all(
+fn send_all<D: Deliveries>(
     rt: &impl Abort,
     alloc: Global,
-    router: &mut NlRouter<Queues>,
+    router: &mut NlRouter<D>,
     count: u32,
 ) -> Vec<Handle> {
     let mut handles = Vec::new(alloc);
@@ -41,7 +42,7 @@ fn send_all(
 }
 
 /// Hands in a reply to each of so many requests, a datagram each.
-fn reply_all(rt: &impl Abort, alloc: Global, router: &mut NlRouter<Queues>, count: u32) {
+fn reply_all<D: Deliveries>(rt: &impl Abort, alloc: Global, router: &mut NlRouter<D>, count: u32) {
     let no_groups = Groups::empty(alloc);
     for number in 0..count {
         router
@@ -64,8 +65,8 @@ fn number_of(message: &Raw) -> u32 {
 }
 
 /// Sends so many requests, hands in their replies, and reads each from its handle.
-fn round(rt: &impl Abort, alloc: Global, count: u32) {
-    let (mut router, _) = NlRouter::<Queues>::new(alloc, 0);
+fn round<D: Deliveries + Drop>(rt: &impl Abort, alloc: Global, count: u32) {
+    let (mut router, _) = NlRouter::<D>::new(alloc, 0);
     let mut handles = send_all(rt, alloc, &mut router, count);
     reply_all(rt, alloc, &mut router, count);
     let mut number = 0u32;
@@ -81,12 +82,12 @@ fn round(rt: &impl Abort, alloc: Global, count: u32) {
 
 #[test]
 fn five_thousand_requests_have_their_replies(rt: HostRuntime) {
-    let alloc = rt.alloc();
-    round(&rt, alloc, 5000);
+    round::<Queues>(&rt, rt.alloc(), 5000);
+    round::<Log>(&rt, rt.alloc(), 5000);
 }
 
 #[test]
 fn twenty_thousand_requests_have_their_replies(rt: HostRuntime) {
-    let alloc = rt.alloc();
-    round(&rt, alloc, 20000);
+    round::<Queues>(&rt, rt.alloc(), 20000);
+    round::<Log>(&rt, rt.alloc(), 20000);
 }

@@ -5,6 +5,7 @@ use crate::script::Told::{Done, End, InUse, Message, NoHandle, Sent, Stray, Wait
 use crate::script::{Raw, Step, Told, outcomes, play, sent_at};
 use neli_attr::Buffer;
 use neli_consts::NlmF;
+use neli_log::Log;
 use neli_msg::NlPayload;
 use neli_queues::Queues;
 use neli_router::{NlRouter, NlRouterReceiverHandle};
@@ -42,7 +43,7 @@ const REQUEST_AND_REPLY: [(Step, Told); 6] = [
 
 #[test]
 fn a_run_answers_the_bytes_to_be_sent(rt: HostRuntime) {
-    let came = outcomes(&rt, rt.alloc(), 0, &REQUEST_AND_REPLY);
+    let came = outcomes::<Log>(&rt, rt.alloc(), 0, &REQUEST_AND_REPLY);
     assert_eq!(rt; sent_at(&came, 0), REQUEST.as_slice());
 }
 

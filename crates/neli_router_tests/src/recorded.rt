@@ -4,6 +4,7 @@
 use crate::script::Step::{Come, Next, Read, Send};
 use crate::script::Told::{Ack, Done, DumpEnd, End, Message, Refused, Sent, Waits};
 use crate::script::{Step, Told, bytes_of, outcomes, play, sent_at};
+use neli_log::Log;
 
 /// What was asked, and the script with the port of the socket.
 const SCRIPTS: [(&str, u32, &[(Step, Told)]); 4] = [
@@ -147,7 +148,7 @@ fn requests_are_written_as_they_were_recorded(rt: HostRuntime) {
             (Next(number), Done),
             (Send(nl_type, flags, body), Sent(number, 0)),
         ];
-        let came = outcomes(&rt, alloc, 0, &steps);
+        let came = outcomes::<Log>(&rt, alloc, 0, &steps);
         let want = bytes_of(&rt, alloc, text);
         assert_eq!(rt; sent_at(&came, 1), want.as_slice(), "{row}");
     }

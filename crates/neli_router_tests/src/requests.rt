@@ -3,10 +3,11 @@
 use crate::script::bytes_of;
 use neli_consts::{CtrlAttr, CtrlCmd, GenlId};
 use neli_genl::Genlmsghdr;
+use neli_log::Log;
 use neli_msg::{NlPayload, RouterError};
 use neli_queues::Queues;
 use neli_resolvers::{CtrlError, CtrlItem, resolve_genl_family};
-use neli_router::{HandleState, NlRouter, NlRouterReceiverHandle, Reply};
+use neli_router::{Deliveries, HandleState, NlRouter, NlRouterReceiverHandle, Reply};
 use neli_util::Groups;
 use std::alloc::Global;
 use std::process::Abort;
@@ -67,7 +68,7 @@ fn assert_refused(rt: &impl Abort, alloc: Global, asked: Asked, want: &str) {
 }
 
 /// Hands in a datagram, in hexadecimal, that came to no group.
-fn come(rt: &impl Abort, alloc: Global, router: &mut NlRouter<Queues>, text: &str) {
+fn come<D: Deliveries>(rt: &impl Abort, alloc: Global, router: &mut NlRouter<D>, text: &str) {
     let bytes = bytes_of(rt, alloc, text);
     router
         .processing_loop(&bytes, &Groups::empty(alloc))
@@ -75,10 +76,10 @@ fn come(rt: &impl Abort, alloc: Global, router: &mut NlRouter<Queues>, text: &st
 }
 
 /// The items of a handle, which has to end after at most seven.
-fn items(
+fn items<D: Deliveries>(
     rt: &impl Abort,
     alloc: Global,
-    router: &mut NlRouter<Queues>,
+    router: &mut NlRouter<D>,
     handle: &mut Handle,
 ) -> Vec<CtrlItem> {
     let mut list = Vec::new(alloc);
@@ -177,41 +178,64 @@ fn a_number_in_use_is_refused_before_a_name(rt: HostRuntime) {
     assert_eq!(rt; bytes.as_slice(), FAMILY.as_slice());
 }
 
-#[test]
-fn a_family_is_found_by_its_name(rt: HostRuntime) {
-    let alloc = rt.alloc();
-    let (mut router, _multicast) = NlRouter::<Queues>::new(alloc, 0);
+/// The number of the family `nlctrl` in an answer of the controller.
+const NUMBER: &str = "1c000000100000000000000000000000010200000600010010000000";
+
+/// The acknowledgement of the request.
+const ACK: &str = "240000000200000100000000000000000000000020000000100005000000000000000000";
+
+/// Asks for the family `nlctrl`, which these datagrams answer: its number, and an acknowledgement.
+fn find<D: Deliveries + Drop>(rt: &impl Abort, alloc: Global, datagrams: &[&str]) {
+    let (mut router, _multicast) = NlRouter::<D>::new(alloc, 0);
     let (_bytes, mut handle) = router
         .request_genl_family(alloc, "nlctrl")
-        .expect(&rt, "bytes to be sent");
-    let number = "1c000000100000000000000000000000010200000600010010000000";
-    come(&rt, alloc, &mut router, number);
-    let ack = "240000000200000100000000000000000000000020000000100005000000000000000000";
-    come(&rt, alloc, &mut router, ack);
-    let list = items(&rt, alloc, &mut router, &mut handle);
+        .expect(rt, "bytes to be sent");
+    for text in datagrams {
+        come(rt, alloc, &mut router, text);
+    }
+    let list = items(rt, alloc, &mut router, &mut handle);
     assert_eq!(rt; list.len(), 2);
     assert_eq!(rt; list.first().is_some_and(has_body), true);
     assert_eq!(rt; list.last().is_some_and(is_ack), true);
     let found = resolve_genl_family(alloc, "nlctrl", list);
-    assert_eq!(rt; found.expect(&rt, "a number"), 16);
+    assert_eq!(rt; found.expect(rt, "a number"), 16);
+}
+
+#[test]
+fn a_family_is_found_by_its_name(rt: HostRuntime) {
+    find::<Queues>(&rt, rt.alloc(), &[NUMBER, ACK]);
+    find::<Log>(&rt, rt.alloc(), &[NUMBER, ACK]);
+}
+
+#[test]
+fn a_family_is_found_in_one_datagram(rt: HostRuntime) {
+    let alloc = rt.alloc();
+    let both = format!(in alloc; "{NUMBER}{ACK}").expect(&rt, "memory");
+    assert_eq!(rt; both.len(), 128);
+    find::<Queues>(&rt, alloc, &[&both]);
+    find::<Log>(&rt, alloc, &[&both]);
+}
+
+/// Asks for all families, which a datagram answers: the families 16 and 17, and the end of the dump.
+fn dump<D: Deliveries + Drop>(rt: &impl Abort, alloc: Global) {
+    let (mut router, _multicast) = NlRouter::<D>::new(alloc, 0);
+    let (_bytes, mut handle) = router
+        .request_families(alloc)
+        .expect(rt, "bytes to be sent");
+    let dump = "1c000000100002000000000000000000010200000600010010000000\
+        1c000000100002000000000000000000010200000600010011000000\
+        1400000003000200000000000000000000000000";
+    come(rt, alloc, &mut router, dump);
+    let list = items(rt, alloc, &mut router, &mut handle);
+    assert_eq!(rt; list.len(), 3);
+    let found = resolve_genl_family(alloc, "the last", list);
+    assert_eq!(rt; found.expect(rt, "a number"), 17);
 }
 
 #[test]
 fn all_families_come_as_a_dump(rt: HostRuntime) {
-    let alloc = rt.alloc();
-    let (mut router, _multicast) = NlRouter::<Queues>::new(alloc, 0);
-    let (_bytes, mut handle) = router
-        .request_families(alloc)
-        .expect(&rt, "bytes to be sent");
-    // The families 16 and 17, and the end of the dump.
-    let dump = "1c000000100002000000000000000000010200000600010010000000\
-        1c000000100002000000000000000000010200000600010011000000\
-        1400000003000200000000000000000000000000";
-    come(&rt, alloc, &mut router, dump);
-    let list = items(&rt, alloc, &mut router, &mut handle);
-    assert_eq!(rt; list.len(), 3);
-    let found = resolve_genl_family(alloc, "the last", list);
-    assert_eq!(rt; found.expect(&rt, "a number"), 17);
+    dump::<Queues>(&rt, rt.alloc());
+    dump::<Log>(&rt, rt.alloc());
 }
 
 /// Any one allocation may be refused in this test (`rt try --test --fail-alloc N`): then the number

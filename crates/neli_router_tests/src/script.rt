@@ -2,9 +2,10 @@
 
 use neli_attr::Buffer;
 use neli_consts::NlmF;
+use neli_log::Log;
 use neli_msg::{NlPayload, Nlmsghdr, RouterError, SocketError};
 use neli_queues::Queues;
-use neli_router::{Command, Outcome, run};
+use neli_router::{Command, Deliveries, Outcome, run};
 use neli_util::Groups;
 use neli_wire::DeError;
 use std::alloc::Global;
@@ -118,7 +119,7 @@ fn long(bytes: &[u8], at: usize) -> u32 {
 }
 
 /// What an outcome is.
-fn kind_of(outcome: &Came) -> Told {
+pub fn kind_of(outcome: &Came) -> Told {
     match outcome {
         Outcome::Done => Told::Done,
         Outcome::Sent(bytes) => Told::Sent(long(bytes, 8), long(bytes, 12)),
@@ -127,6 +128,38 @@ fn kind_of(outcome: &Came) -> Told {
         Outcome::End => Told::End,
         Outcome::Waits => Told::Waits,
         Outcome::NoHandle => Told::NoHandle,
+    }
+}
+
+/// Whether two refusals are equal: a stray or an answer field by field, another one by its text.
+fn refused_alike(rt: &impl Abort, alloc: Global, a: &Refusal, b: &Refusal) -> bool {
+    match (a, b) {
+        (RouterError::BadSeqOrPid(a), RouterError::BadSeqOrPid(b)) => a == b,
+        (RouterError::Nlmsgerr(a), RouterError::Nlmsgerr(b)) => a == b,
+        _ => {
+            let a = a.to_string(alloc).expect(rt, "memory");
+            let b = b.to_string(alloc).expect(rt, "memory");
+            a == b
+        }
+    }
+}
+
+/// Whether two outcomes are equal: bytes and messages whole, refusals as [`refused_alike`] says.
+fn are_alike(rt: &impl Abort, alloc: Global, a: &Came, b: &Came) -> bool {
+    match (a, b) {
+        (Outcome::Sent(a), Outcome::Sent(b)) => a == b,
+        (Outcome::NotSent(a), Outcome::NotSent(b)) => refused_alike(rt, alloc, a, b),
+        (Outcome::Item(Ok(a)), Outcome::Item(Ok(b))) => a == b,
+        (Outcome::Item(Err(a)), Outcome::Item(Err(b))) => refused_alike(rt, alloc, a, b),
+        _ => kind_of(a) == kind_of(b),
+    }
+}
+
+/// Asserts that the outcomes of two runs are equal, one by one.
+pub fn assert_alike(rt: &impl Abort, alloc: Global, row: &str, plain: &[Came], shared: &[Came]) {
+    assert_eq!(rt; plain.len(), shared.len(), "{row}");
+    for (place, (a, b)) in plain.iter().zip(shared).enumerate() {
+        assert!(rt; are_alike(rt, alloc, a, b), "{row}, at {place}");
     }
 }
 
@@ -161,22 +194,36 @@ fn command(rt: &impl Abort, alloc: Global, step: Step) -> Command<u16, Buffer> {
     }
 }
 
-/// Does these steps in their order with a new router of this port.
-pub fn outcomes(rt: &impl Abort, alloc: Global, port: u32, steps: &[(Step, Told)]) -> Vec<Came> {
+/// Does these steps in their order with a new router of this port, over this store.
+pub fn outcomes<D: Deliveries + Drop>(
+    rt: &impl Abort,
+    alloc: Global,
+    port: u32,
+    steps: &[(Step, Told)],
+) -> Vec<Came> {
     let mut commands = Vec::new(alloc);
     for (step, _) in steps {
         commands
             .push(command(rt, alloc, *step))
             .expect(rt, "memory");
     }
-    run::<Queues, u16, Buffer, u16, Buffer>(alloc, port, commands).expect(rt, "memory")
+    run::<D, u16, Buffer, u16, Buffer>(alloc, port, commands).expect(rt, "memory")
 }
 
-/// Does these steps with a new router of this port, and asserts that each answers what stands beside it.
-pub fn play(rt: &impl Abort, alloc: Global, row: &str, port: u32, steps: &[(Step, Told)]) {
-    let came = outcomes(rt, alloc, port, steps);
+/// Asserts that each of these outcomes is what stands beside its step.
+fn assert_told(rt: &impl Abort, row: &str, came: &[Came], steps: &[(Step, Told)]) {
     assert_eq!(rt; came.len(), steps.len(), "{row}");
     for (outcome, (step, want)) in came.iter().zip(steps) {
         assert_eq!(rt; kind_of(outcome), *want, "{row}, at {step:?}");
     }
+}
+
+/// Does these steps with a new router of this port, over each store, and asserts that each answers what stands
+/// beside it, and that the outcomes over both are equal.
+pub fn play(rt: &impl Abort, alloc: Global, row: &str, port: u32, steps: &[(Step, Told)]) {
+    let plain = outcomes::<Queues>(rt, alloc, port, steps);
+    assert_told(rt, row, &plain, steps);
+    let shared = outcomes::<Log>(rt, alloc, port, steps);
+    assert_told(rt, row, &shared, steps);
+    assert_alike(rt, alloc, row, &plain, &shared);
 }
