@@ -8,6 +8,8 @@
 //! - [`handles`]: handles that another router made, and closed ones. [`many`]: thousands of requests.
 //! - [`requests`]: requests to the controller of generic netlink, and what comes of its answers.
 //! - [`recorded`]: conversations with a kernel.
+//! - [`random`]: scripts that a generator makes, over both stores. [`entries`]: what the log keeps.
+//! - [`out_of_memory`]: each allocation refused in turn. [`refusing`]: a store that is always refused.
 //!
 //! Expected values are worked out by hand from RFC 3549 section 2.3.2 and the headers of Linux; those of
 //! the recorded conversations are what libmnl reads in them.
@@ -18,6 +20,8 @@ mod answers;
 #[cfg(test)]
 mod datagrams;
 #[cfg(test)]
+mod entries;
+#[cfg(test)]
 mod faults;
 #[cfg(test)]
 mod handles;
@@ -26,7 +30,13 @@ mod many;
 #[cfg(test)]
 mod numbers;
 #[cfg(test)]
+mod out_of_memory;
+#[cfg(test)]
+mod random;
+#[cfg(test)]
 mod recorded;
+#[cfg(test)]
+mod refusing;
 #[cfg(test)]
 mod requests;
 #[cfg(test)]
