@@ -1,12 +1,12 @@
 //! The calls of lent attributes and of walks over them.
 
-use crate::support::{Fault, fault_of};
+use crate::support::{Fault, assert_is_at, fault_in, lent};
 use neli_attr::AttrType;
-use neli_consts::{CtrlAttr, CtrlAttrMcastGrp, Index};
+use neli_consts::{CtrlAttr, CtrlAttrMcastGrp, Index, NlAttrType};
 use neli_consts_rta::Rta;
 use neli_lent::{LentAttr, LentAttrs, LentNlattr, LentNlattrs, LentRtattrs};
 use neli_wire::{Cursor, DeError};
-use std::test::Fail;
+use std::process::Abort;
 
 /// An attribute of type 1 with the payload `07 01 09 09`, and one of type 4 with `05` and padding of any value.
 const BYTES: [u8; 16] = [8, 0, 1, 0, 7, 1, 9, 9, 5, 0, 4, 0, 5, 0xff, 0xff, 0xff];
@@ -18,18 +18,23 @@ const GROUPS: [u8; 28] = [
 ];
 
 #[test]
-fn an_attribute_has_a_length_a_type_and_a_payload(rt: HostRuntime) -> Result<(), Fail> {
+fn an_attribute_has_a_length_a_type_and_a_payload(rt: HostRuntime) {
     let mut cursor = Cursor::new(&BYTES);
-    let first = LentAttr::<'_, Rta>::lend(&mut cursor)?;
-    assert_eq!(rt; (*first.attr_len(), *first.attr_type()), (8, Rta::Dst));
-    assert_eq!(rt; first.attr_payload(), &BYTES[4..8]);
-    assert_eq!(rt; cursor.position(), 8);
-    let second = LentNlattr::<'_, CtrlAttr>::lend(&mut cursor)?;
-    assert_eq!(rt; *second.attr_len(), 5);
-    assert_eq!(rt; *second.attr_type().nla_type(), CtrlAttr::Hdrsize);
-    assert_eq!(rt; second.attr_payload(), &BYTES[12..13]);
-    assert_eq!(rt; cursor.position(), 16);
-    Ok(())
+    let first = LentAttr::<'_, Rta>::lend(&mut cursor).expect(&rt, "an attribute");
+    let fields = (*first.attr_len(), *first.attr_type(), cursor.position());
+    assert_is_at(&rt, "fields", fields, (8, Rta::Dst, 8));
+    assert_is_at(&rt, "a payload", first.attr_payload(), &BYTES[4..8]);
+}
+
+#[test]
+fn a_generic_attribute_has_a_length_a_type_and_a_payload(rt: HostRuntime) {
+    let mut cursor = Cursor::new(&BYTES);
+    cursor.set_position(8);
+    let second = LentNlattr::<'_, CtrlAttr>::lend(&mut cursor).expect(&rt, "an attribute");
+    let kind = *second.attr_type().nla_type();
+    let fields = (*second.attr_len(), kind, cursor.position());
+    assert_is_at(&rt, "fields", fields, (5, CtrlAttr::Hdrsize, 16));
+    assert_is_at(&rt, "a payload", second.attr_payload(), &BYTES[12..13]);
 }
 
 #[test]
@@ -42,88 +47,119 @@ fn a_refused_attribute_leaves_the_cursor(rt: HostRuntime) {
     ];
     for (row, bytes, want) in rows {
         let mut cursor = Cursor::new(bytes);
-        let refused = LentAttr::<'_, u16>::lend(&mut cursor);
-        assert_eq!(rt; refused.err().as_ref().map(fault_of), Some(want), "{row}");
-        assert_eq!(rt; cursor.position(), 0, "{row}");
+        let refused = fault_in(LentAttr::<'_, u16>::lend(&mut cursor));
+        assert_is_at(&rt, row, (refused, cursor.position()), (Some(want), 0));
     }
 }
 
+/// The type of the next attribute of a walk, if there is one.
+fn next_type(rt: &impl Abort, attrs: &mut LentRtattrs<'_, Rta>) -> Option<Rta> {
+    let next = attrs.next()?;
+    Some(*next.expect(rt, "an attribute").attr_type())
+}
+
+/// How many attributes are left of a walk.
+fn count(rt: &impl Abort, attrs: &LentRtattrs<'_, Rta>) -> usize {
+    attrs.try_count().expect(rt, "attributes")
+}
+
+// Counting, and walking ahead, leave a walk where it is.
 #[test]
-fn a_walk_is_taken_step_by_step(rt: HostRuntime) -> Result<(), Fail> {
+fn a_walk_is_taken_step_by_step(rt: HostRuntime) {
     let mut attrs = LentRtattrs::<'_, Rta>::new(&BYTES);
-    assert_eq!(rt; attrs.try_count()?, 2);
-    let first = attrs.next().ok_or("the first attribute")??;
-    assert_eq!(rt;
-        *first.attr_type(),
-        Rta::Dst,
-        "counting left the walk at its start"
-    );
+    assert_is_at(&rt, "counted", count(&rt, &attrs), 2);
+    assert_is_at(&rt, "the first", next_type(&rt, &mut attrs), Some(Rta::Dst));
     let mut ahead = attrs.ahead();
-    let second = ahead.next().ok_or("the second attribute, ahead")??;
-    assert_eq!(rt; *second.attr_type(), Rta::Oif);
-    assert!(rt; ahead.next().is_none());
-    assert_eq!(rt; attrs.try_count()?, 1);
-    let again = attrs.next().ok_or("the second attribute")??;
-    assert_eq!(rt; again.attr_payload(), [5].as_slice());
-    assert!(rt; attrs.next().is_none());
-    assert_eq!(rt; attrs.try_count()?, 0);
-    Ok(())
+    assert_is_at(&rt, "ahead", next_type(&rt, &mut ahead), Some(Rta::Oif));
+    assert_is_at(&rt, "ahead", next_type(&rt, &mut ahead), None);
+    assert_is_at(&rt, "counted", count(&rt, &attrs), 1);
+    assert_is_at(
+        &rt,
+        "the second",
+        next_type(&rt, &mut attrs),
+        Some(Rta::Oif),
+    );
+    assert_is_at(&rt, "the end", next_type(&rt, &mut attrs), None);
+    assert_is_at(&rt, "counted", count(&rt, &attrs), 0);
 }
 
 #[test]
-fn a_walk_is_a_loop(rt: HostRuntime) -> Result<(), Fail> {
+fn a_walk_has_the_payloads(rt: HostRuntime) {
+    let mut attrs = LentRtattrs::<'_, Rta>::new(&BYTES);
+    next_type(&rt, &mut attrs).expect(&rt, "the first attribute");
+    let second = attrs.next().expect(&rt, "the second attribute");
+    let second = second.expect(&rt, "the second attribute");
+    assert_is_at(&rt, "a payload", second.attr_payload(), &[5]);
+}
+
+#[test]
+fn a_walk_is_a_loop(rt: HostRuntime) {
     let mut last = 0;
     for attr in LentAttrs::<'_, u16>::new(&BYTES) {
-        let attr = attr?;
-        assert!(rt; last < *attr.attr_type(), "in their order");
-        last = *attr.attr_type();
+        let kind = *attr.expect(&rt, "an attribute").attr_type();
+        assert!(rt; last < kind, "in their order");
+        last = kind;
     }
-    assert_eq!(rt; last, 4);
-    Ok(())
+    assert_is_at(&rt, "the last", last, 4);
+}
+
+/// The attribute of this type.
+fn found<'b, T: NlAttrType + PartialEq>(
+    rt: &impl Abort,
+    attrs: &LentNlattrs<'b, T>,
+    kind: T,
+) -> LentNlattr<'b, T> {
+    let found = attrs.get_attribute(kind).expect(rt, "attributes");
+    found.expect(rt, "an attribute of this type")
+}
+
+/// The attributes of group 1 of [`GROUPS`].
+fn group(rt: &impl Abort) -> LentNlattrs<'static, CtrlAttrMcastGrp> {
+    let attrs = LentNlattrs::new(&GROUPS);
+    let groups = found(rt, &attrs, CtrlAttr::McastGroups).get_attrs::<AttrType<Index>>();
+    found(rt, &groups, Index::from(1)).get_attrs()
 }
 
 #[test]
-fn attributes_inside_attributes(rt: HostRuntime) -> Result<(), Fail> {
-    let groups = LentNlattrs::<'_, CtrlAttr>::new(&GROUPS)
-        .get_attribute(CtrlAttr::McastGroups)?
-        .ok_or("the groups")?;
-    let group = groups
-        .get_attrs::<AttrType<Index>>()
-        .get_attribute(Index::from(1))?
-        .ok_or("group 1")?
-        .get_attrs::<AttrType<CtrlAttrMcastGrp>>();
-    let name = group
-        .get_attribute(CtrlAttrMcastGrp::Name)?
-        .ok_or("a name")?;
-    assert_eq!(rt; name.attr_payload(), b"notify\0".as_slice());
-    let id = group.get_attribute(CtrlAttrMcastGrp::Id)?.ok_or("an id")?;
-    let number: u32 = id.get_payload_as(rt.alloc())?;
-    assert_eq!(rt; number, 5);
-    Ok(())
+fn attributes_inside_attributes(rt: HostRuntime) {
+    let group = group(&rt);
+    let name = found(&rt, &group, CtrlAttrMcastGrp::Name);
+    assert_is_at(&rt, "a name", name.attr_payload(), b"notify\0");
+    let id = found(&rt, &group, CtrlAttrMcastGrp::Id);
+    let number: u32 = id.get_payload_as(rt.alloc()).expect(&rt, "a number");
+    assert_is_at(&rt, "a number", number, 5);
 }
 
 #[test]
-fn a_payload_is_read_as_a_value(rt: HostRuntime) -> Result<(), Fail> {
-    let alloc = rt.alloc();
-    let attr = LentAttr::<'_, Rta>::lend(&mut Cursor::new(&BYTES))?;
-    let number: u16 = attr.get_payload_as(alloc)?;
-    assert_eq!(rt; number, 0x0107, "what the payload begins with");
-    let number: Result<u64, DeError> = attr.get_payload_as(alloc);
-    assert_eq!(rt; number.err().as_ref().map(fault_of), Some(Fault::Short));
-    let nothing: Result<(), DeError> = attr.get_payload_as_with_len(alloc);
-    assert_eq!(rt; nothing.err().as_ref().map(fault_of), Some(Fault::Input(4)));
-    let lent: &[u8] = attr.get_payload_as_with_len_borrowed()?;
-    assert_eq!(rt; lent, [7, 1, 9, 9].as_slice());
-    Ok(())
+fn a_payload_is_read_as_a_value(rt: HostRuntime) {
+    let attr: LentAttr<'_, Rta> = lent(&rt, &BYTES);
+    let number: u16 = attr.get_payload_as(rt.alloc()).expect(&rt, "a number");
+    assert_is_at(&rt, "what the payload begins with", number, 0x0107);
+    let bytes: &[u8] = attr.get_payload_as_with_len_borrowed().expect(&rt, "bytes");
+    assert_is_at(&rt, "bytes", bytes, &[7, 1, 9, 9]);
 }
 
 #[test]
-fn a_payload_is_lent_as_a_text(rt: HostRuntime) -> Result<(), Fail> {
-    let name = LentAttr::<'_, u16>::lend(&mut Cursor::new(&GROUPS[8..]))?;
-    let text: &str = name.get_payload_as_with_len_borrowed()?;
-    assert_eq!(rt; text, "notify\0", "its zero too");
-    let bad = LentAttr::<'_, u16>::lend(&mut Cursor::new(&[5, 0, 1, 0, 0x80, 0, 0, 0]))?;
+fn a_payload_is_no_such_value(rt: HostRuntime) {
+    let attr: LentAttr<'_, Rta> = lent(&rt, &BYTES);
+    let number: Result<u64, DeError> = attr.get_payload_as(rt.alloc());
+    assert_is_at(&rt, "a number", fault_in(number), Some(Fault::Short));
+    let nothing: Result<(), DeError> = attr.get_payload_as_with_len(rt.alloc());
+    assert_is_at(&rt, "nothing", fault_in(nothing), Some(Fault::Input(4)));
+}
+
+#[test]
+fn a_payload_is_lent_as_a_text(rt: HostRuntime) {
+    let name: LentAttr<'_, u16> = lent(&rt, &GROUPS[8..]);
+    let text: &str = name
+        .get_payload_as_with_len_borrowed()
+        .expect(&rt, "a text");
+    assert_is_at(&rt, "its zero too", text, "notify\0");
+}
+
+#[test]
+fn a_payload_that_is_no_text(rt: HostRuntime) {
+    let bad: LentAttr<'_, u16> = lent(&rt, &[5, 0, 1, 0, 0x80, 0, 0, 0]);
     let refused: Result<&str, DeError> = bad.get_payload_as_with_len_borrowed();
     assert!(rt; matches!(refused, Err(DeError::Utf8(_))));
-    Ok(())
 }

@@ -1,13 +1,12 @@
 //! Datagrams, good and bad, each read lent and as owned messages: the same messages, and the same fault.
 
-use crate::support::{Fault, fault_of};
+use crate::support::{Fault, assert_is_at, fault_of};
 use neli_attr::Buffer;
 use neli_lent::{LentMessage, LentMessages};
 use neli_msg::{Nlmsghdr, cut};
 use neli_wire::DeError;
 use std::alloc::Global;
 use std::process::Abort;
-use std::test::Fail;
 
 /// A datagram in hexadecimal digits, how many messages it has, and the fault after them.
 type Row = (&'static str, &'static str, usize, Option<Fault>);
@@ -77,52 +76,52 @@ const ROWS: [Row; 12] = [
     ),
 ];
 
+type Owned = Nlmsghdr<u16, Buffer>;
+
 #[test]
-fn lent_and_owned_messages_are_the_same(rt: HostRuntime) -> Result<(), Fail> {
+fn lent_and_owned_messages_are_the_same(rt: HostRuntime) {
     for (row, datagram, count, fault) in ROWS {
-        let bytes = hex::decode(rt.alloc(), datagram)?;
-        let owned_fault = compare(&rt, rt.alloc(), row, &bytes, count)?;
-        assert_eq!(rt; owned_fault, fault, "{row}");
-        assert_eq!(rt; lent_fault(&bytes), fault, "{row}");
+        let bytes = hex::decode(rt.alloc(), datagram).expect(&rt, row);
+        let (messages, owned_fault) = owned(&rt, rt.alloc(), &bytes);
+        assert_is_at(&rt, row, (messages.len(), owned_fault), (count, fault));
+        assert_all_same(&rt, row, &bytes, &messages);
+        assert_is_at(&rt, row, lent_fault(&bytes), fault);
     }
-    Ok(())
 }
 
-/// Walks the bytes beside the messages that are read from them as owned ones, and answers the fault of these.
-fn compare(
-    rt: &impl Abort,
-    alloc: Global,
-    row: &str,
-    bytes: &[u8],
-    count: usize,
-) -> Result<Option<Fault>, Fail> {
-    let (messages, fault): (Vec<Nlmsghdr<u16, Buffer>>, Option<DeError>) = cut(alloc, bytes)?;
-    assert_eq!(rt; messages.len(), count, "{row}");
+/// The messages of the bytes as owned ones, and the fault after them.
+fn owned(rt: &impl Abort, alloc: Global, bytes: &[u8]) -> (Vec<Owned>, Option<Fault>) {
+    let (messages, fault): (Vec<Owned>, Option<DeError>) = cut(alloc, bytes).expect(rt, "memory");
+    (messages, fault.as_ref().map(fault_of))
+}
+
+/// Walks the bytes beside the messages that are read from them as owned ones.
+fn assert_all_same(rt: &impl Abort, row: &str, bytes: &[u8], messages: &[Owned]) {
     let mut lent = LentMessages::<'_, u16>::new(bytes);
-    for owned in messages.iter() {
-        let message = lent.next().ok_or("a message less")??;
-        assert_same(rt, row, &message, owned);
+    for owned in messages {
+        let message = lent.next().expect(rt, "a message less");
+        assert_same(rt, row, &message.expect(rt, row), owned);
     }
-    if let Some(last) = lent.next() {
-        assert!(rt; last.is_err(), "{row}: a message more");
-        assert!(rt; lent.next().is_none(), "{row}: a fault comes once");
-    }
-    Ok(fault.as_ref().map(fault_of))
+    assert_ends(rt, row, &mut lent);
 }
 
-fn assert_same(
-    rt: &impl Abort,
-    row: &str,
-    lent: &LentMessage<'_, u16>,
-    owned: &Nlmsghdr<u16, Buffer>,
-) {
-    assert_eq!(rt; *lent.nl_len(), *owned.nl_len(), "{row}");
-    assert_eq!(rt; *lent.nl_type(), *owned.nl_type(), "{row}");
-    assert_eq!(rt; *lent.nl_flags(), *owned.nl_flags(), "{row}");
-    assert_eq!(rt; *lent.nl_seq(), *owned.nl_seq(), "{row}");
-    assert_eq!(rt; *lent.nl_pid(), *owned.nl_pid(), "{row}");
+/// Asserts that no message is left, and that a fault comes once.
+fn assert_ends(rt: &impl Abort, row: &str, lent: &mut LentMessages<'_, u16>) {
+    let Some(last) = lent.next() else {
+        return;
+    };
+    assert!(rt; last.is_err(), "{row}: a message more");
+    assert!(rt; lent.next().is_none(), "{row}: a fault comes once");
+}
+
+fn assert_same(rt: &impl Abort, row: &str, lent: &LentMessage<'_, u16>, owned: &Owned) {
+    let sizes = (*lent.nl_len(), *lent.nl_type(), *lent.nl_flags());
+    let want = (*owned.nl_len(), *owned.nl_type(), *owned.nl_flags());
+    assert_is_at(rt, row, sizes, want);
+    let numbers = (*lent.nl_seq(), *lent.nl_pid());
+    assert_is_at(rt, row, numbers, (*owned.nl_seq(), *owned.nl_pid()));
     let payload = owned.get_payload().map(|payload| payload.as_ref());
-    assert_eq!(rt; Some(lent.nl_payload()), payload, "{row}");
+    assert_is_at(rt, row, Some(lent.nl_payload()), payload);
 }
 
 /// The fault of a datagram that is read lent.

@@ -1,10 +1,11 @@
 //! Attributes, good and bad, each list read lent and as an owned one: the same attributes, or the same fault.
 
-use crate::support::{Fault, fault_of};
-use neli_attr::{Buffer, RtBuffer};
-use neli_lent::LentAttrs;
-use neli_wire::{Cursor, FromBytesWithInput};
-use std::test::Fail;
+use crate::support::{Fault, assert_is_at, fault_of};
+use neli_attr::{Buffer, RtBuffer, Rtattr};
+use neli_lent::{LentAttr, LentAttrs};
+use neli_wire::{Cursor, DeError, FromBytesWithInput};
+use std::alloc::Global;
+use std::process::Abort;
 
 /// Attributes in hexadecimal digits, how many there are, and the fault after them. Where bytes are missing at
 /// the end, the fault names the count of the whole list.
@@ -40,23 +41,34 @@ const ROWS: [Row; 10] = [
 
 type Raw = RtBuffer<u16, Buffer>;
 
-#[test]
-fn lent_and_owned_attributes_are_the_same(rt: HostRuntime) -> Result<(), Fail> {
-    let alloc = rt.alloc();
-    for (row, text, count, fault) in ROWS {
-        let bytes = hex::decode(alloc, text)?;
-        let want = match fault {
-            None => Ok(count),
-            Some(fault) => Err(fault),
-        };
-        let lent = LentAttrs::<'_, u16>::new(&bytes).try_count();
-        assert_eq!(rt; lent.map_err(|error| fault_of(&error)), want, "{row}");
-        let owned = Raw::from_bytes_with_input(alloc, &mut Cursor::new(&bytes), bytes.len());
-        let owned = owned.map(|list| list.len());
-        assert_eq!(rt; owned.map_err(|error| fault_of(&error)), want, "{row}");
-        assert_eq!(rt; given(&bytes), (count, fault), "{row}");
+/// How many lent attributes the bytes are, or the fault.
+fn lent_count(bytes: &[u8]) -> Result<usize, Fault> {
+    let count = LentAttrs::<'_, u16>::new(bytes).try_count();
+    count.map_err(|error| fault_of(&error))
+}
+
+/// The bytes as an owned list.
+fn owned(alloc: Global, bytes: &[u8]) -> Result<Raw, DeError> {
+    Raw::from_bytes_with_input(alloc, &mut Cursor::new(bytes), bytes.len())
+}
+
+/// How many owned attributes the bytes are, or the fault.
+fn owned_count(alloc: Global, bytes: &[u8]) -> Result<usize, Fault> {
+    match owned(alloc, bytes) {
+        Ok(list) => Ok(list.len()),
+        Err(error) => Err(fault_of(&error)),
     }
-    Ok(())
+}
+
+#[test]
+fn lent_and_owned_attributes_are_the_same(rt: HostRuntime) {
+    for (row, text, count, fault) in ROWS {
+        let bytes = hex::decode(rt.alloc(), text).expect(&rt, row);
+        let want = fault.map_or(Ok(count), Err);
+        let counts = (lent_count(&bytes), owned_count(rt.alloc(), &bytes));
+        assert_is_at(&rt, row, counts, (want, want));
+        assert_is_at(&rt, row, given(&bytes), (count, fault));
+    }
 }
 
 /// How many attributes a walk gives, and the fault after them.
@@ -71,34 +83,54 @@ fn given(bytes: &[u8]) -> (usize, Option<Fault>) {
     (count, None)
 }
 
-#[test]
-fn lent_and_owned_attributes_say_the_same(rt: HostRuntime) -> Result<(), Fail> {
-    let alloc = rt.alloc();
-    let bytes = hex::decode(alloc, "080001000701090905000480050000ff04000100")?;
-    let list = Raw::from_bytes_with_input(alloc, &mut Cursor::new(&bytes), bytes.len())?;
-    assert_eq!(rt; list.len(), 3);
-    let mut attrs = LentAttrs::<'_, u16>::new(&bytes);
-    for owned in list.iter() {
-        let lent = attrs.next().ok_or("an attribute less")??;
-        assert_eq!(rt; *lent.attr_len(), *owned.rta_len());
-        assert_eq!(rt; *lent.attr_type(), *owned.rta_type());
-        assert_eq!(rt; lent.attr_payload(), owned.rta_payload().as_ref());
-    }
-    assert!(rt; attrs.next().is_none());
-    Ok(())
+/// Three attributes, of the types 1, 0x8004 and 1; padding of any value.
+const THREE: [u8; 20] = [
+    8, 0, 1, 0, 7, 1, 9, 9, 5, 0, 4, 0x80, 5, 0, 0, 0xff, 4, 0, 1, 0,
+];
+
+/// Asserts that the two say the same.
+fn assert_same(rt: &impl Abort, lent: &LentAttr<'_, u16>, owned: &Rtattr<u16, Buffer>) {
+    let header = (*lent.attr_len(), *lent.attr_type());
+    assert_is_at(rt, "header", header, (*owned.rta_len(), *owned.rta_type()));
+    let payload = owned.rta_payload().as_ref();
+    assert_is_at(rt, "payload", lent.attr_payload(), payload);
 }
 
 #[test]
-fn a_fault_comes_once_after_the_attributes(rt: HostRuntime) -> Result<(), Fail> {
-    let bytes = [8, 0, 1, 0, 7, 1, 9, 9, 4, 0, 2, 0, 6, 0, 3, 0, 5];
-    let mut attrs = LentAttrs::<'_, u16>::new(&bytes);
-    let first = attrs.next().ok_or("the first attribute")??;
-    assert_eq!(rt; first.attr_payload(), &bytes[4..8]);
-    let second = attrs.next().ok_or("the second attribute")??;
-    assert!(rt; second.attr_payload().is_empty());
-    let fault = attrs.next().ok_or("a fault")?;
-    assert_eq!(rt; fault.err().as_ref().map(fault_of), Some(Fault::Input(2)));
+fn lent_and_owned_attributes_say_the_same(rt: HostRuntime) {
+    let list = owned(rt.alloc(), &THREE).expect(&rt, "a list");
+    assert_is_at(&rt, "a list", list.len(), 3);
+    let mut attrs = LentAttrs::<'_, u16>::new(&THREE);
+    for owned in list.iter() {
+        let lent = attrs.next().expect(&rt, "an attribute less");
+        assert_same(&rt, &lent.expect(&rt, "an attribute"), owned);
+    }
     assert!(rt; attrs.next().is_none());
-    assert_eq!(rt; attrs.try_count()?, 0);
-    Ok(())
+}
+
+/// An attribute of type 1 with the payload `07 01 09 09`, an empty one of type 2, and one of which a byte is missing.
+const FAULTY: [u8; 17] = [8, 0, 1, 0, 7, 1, 9, 9, 4, 0, 2, 0, 6, 0, 3, 0, 5];
+
+/// The payload of the next attribute of a walk, or the fault; nothing at its end.
+fn next_payload<'b>(attrs: &mut LentAttrs<'b, u16>) -> Option<Result<&'b [u8], Fault>> {
+    match attrs.next()? {
+        Ok(attr) => Some(Ok(attr.attr_payload())),
+        Err(error) => Some(Err(fault_of(&error))),
+    }
+}
+
+#[test]
+fn a_fault_comes_once_after_the_attributes(rt: HostRuntime) {
+    let mut attrs = LentAttrs::<'_, u16>::new(&FAULTY);
+    let rows: [Option<Result<&[u8], Fault>>; 4] = [
+        Some(Ok(&[7, 1, 9, 9])),
+        Some(Ok(&[])),
+        Some(Err(Fault::Input(2))),
+        None,
+    ];
+    for want in rows {
+        assert_is_at(&rt, "an item", next_payload(&mut attrs), want);
+    }
+    let left = attrs.try_count().expect(&rt, "no fault");
+    assert_is_at(&rt, "the end", left, 0);
 }

@@ -1,12 +1,12 @@
 //! The calls of lent messages and of walks over them.
 
-use crate::support::{Fault, fault_of};
+use crate::support::{Fault, assert_is_at, fault_in, message};
 use neli_consts::{NlmF, Nlmsg};
 use neli_consts_rta::Ifla;
 use neli_lent::{LentMessage, LentMessages};
 use neli_link::Ifinfomsg;
 use neli_wire::Cursor;
-use std::test::Fail;
+use std::process::Abort;
 
 /// A message of type 1024 with the payload `61` and padding of any value, and one of type 3 without a payload.
 const DATAGRAM: [u8; 36] = [
@@ -15,21 +15,27 @@ const DATAGRAM: [u8; 36] = [
 ];
 
 #[test]
-fn a_message_has_a_header_and_a_payload(rt: HostRuntime) -> Result<(), Fail> {
+fn a_message_has_a_header_and_a_payload(rt: HostRuntime) {
     let mut cursor = Cursor::new(&DATAGRAM);
-    let message = LentMessage::<'_, u16>::lend(&mut cursor)?;
-    assert_eq!(rt; cursor.position(), 20);
-    assert_eq!(rt; *message.nl_len(), 17);
-    assert_eq!(rt; *message.nl_type(), 1024);
-    assert_eq!(rt; u16::from(*message.nl_flags()), 0xf002);
-    assert_eq!(rt; (*message.nl_seq(), *message.nl_pid()), (5, 7));
-    assert_eq!(rt; message.nl_payload(), &DATAGRAM[16..17]);
-    let last = LentMessage::<'_, Nlmsg>::lend(&mut cursor)?;
-    assert_eq!(rt; *last.nl_type(), Nlmsg::Done);
-    assert_eq!(rt; *last.nl_flags(), NlmF::empty());
-    assert!(rt; last.nl_payload().is_empty());
-    assert_eq!(rt; cursor.position(), 36);
-    Ok(())
+    let message = LentMessage::<'_, u16>::lend(&mut cursor).expect(&rt, "a message");
+    assert_is_at(&rt, "the place", cursor.position(), 20);
+    let flags = u16::from(*message.nl_flags());
+    let fields = (*message.nl_len(), *message.nl_type(), flags);
+    assert_is_at(&rt, "fields", fields, (17, 1024, 0xf002));
+    let numbers = (*message.nl_seq(), *message.nl_pid());
+    assert_is_at(&rt, "numbers", numbers, (5, 7));
+    assert_is_at(&rt, "payload", message.nl_payload(), &DATAGRAM[16..17]);
+}
+
+#[test]
+fn a_message_of_a_header_alone(rt: HostRuntime) {
+    let mut cursor = Cursor::new(&DATAGRAM);
+    cursor.set_position(20);
+    let last = LentMessage::<'_, Nlmsg>::lend(&mut cursor).expect(&rt, "a message");
+    assert_is_at(&rt, "the place", cursor.position(), 36);
+    let fields = (*last.nl_type(), *last.nl_flags());
+    assert_is_at(&rt, "fields", fields, (Nlmsg::Done, NlmF::empty()));
+    assert_is_at(&rt, "payload", last.nl_payload(), &[]);
 }
 
 #[test]
@@ -42,47 +48,45 @@ fn a_refused_message_leaves_the_cursor(rt: HostRuntime) {
     ];
     for (row, bytes, want) in rows {
         let mut cursor = Cursor::new(bytes);
-        let refused = LentMessage::<'_, u16>::lend(&mut cursor);
-        assert_eq!(rt; refused.err().as_ref().map(fault_of), Some(want), "{row}");
-        assert_eq!(rt; cursor.position(), 0, "{row}");
+        let refused = fault_in(LentMessage::<'_, u16>::lend(&mut cursor));
+        assert_is_at(&rt, row, (refused, cursor.position()), (Some(want), 0));
     }
 }
 
 #[test]
-fn a_walk_is_a_loop(rt: HostRuntime) -> Result<(), Fail> {
+fn a_walk_is_a_loop(rt: HostRuntime) {
     let mut last = 0;
     for message in LentMessages::<'_, u16>::new(&DATAGRAM) {
-        let message = message?;
-        assert!(rt; last < *message.nl_seq(), "in their order");
-        last = *message.nl_seq();
+        let number = *message.expect(&rt, "a message").nl_seq();
+        assert!(rt; last < number, "in their order");
+        last = number;
     }
-    assert_eq!(rt; last, 6);
-    Ok(())
+    assert_is_at(&rt, "the last", last, 6);
+}
+
+/// The number of the next message of a walk, if there is one.
+fn next_number(rt: &impl Abort, messages: &mut LentMessages<'_, u16>) -> Option<u32> {
+    let next = messages.next()?;
+    Some(*next.expect(rt, "a message").nl_seq())
 }
 
 #[test]
-fn a_walk_is_taken_step_by_step(rt: HostRuntime) -> Result<(), Fail> {
+fn a_walk_is_taken_step_by_step(rt: HostRuntime) {
     let mut messages = LentMessages::<'_, u16>::new(&DATAGRAM);
-    let first = messages.next().ok_or("the first message")??;
-    assert_eq!(rt; *first.nl_seq(), 5);
+    assert_is_at(&rt, "the first", next_number(&rt, &mut messages), Some(5));
     let mut ahead = messages.ahead();
-    let second = ahead.next().ok_or("the second message, ahead")??;
-    assert_eq!(rt; *second.nl_seq(), 6);
-    assert!(rt; ahead.next().is_none());
-    let again = messages.next().ok_or("the second message")??;
-    assert_eq!(rt; *again.nl_seq(), 6);
-    assert!(rt; messages.next().is_none());
-    Ok(())
+    assert_is_at(&rt, "ahead", next_number(&rt, &mut ahead), Some(6));
+    assert_is_at(&rt, "ahead", next_number(&rt, &mut ahead), None);
+    assert_is_at(&rt, "the second", next_number(&rt, &mut messages), Some(6));
+    assert_is_at(&rt, "the end", next_number(&rt, &mut messages), None);
 }
 
 #[test]
-fn a_message_has_the_type_that_its_number_means(rt: HostRuntime) -> Result<(), Fail> {
-    let message = LentMessage::<'_, u16>::lend(&mut Cursor::new(&DATAGRAM[20..]))?;
-    let typed = message.to_typed::<Nlmsg>();
-    assert_eq!(rt; *typed.nl_type(), Nlmsg::Done);
-    assert_eq!(rt; (*typed.nl_len(), *typed.nl_seq()), (16, 6));
-    assert!(rt; typed.nl_payload().is_empty());
-    Ok(())
+fn a_message_has_the_type_that_its_number_means(rt: HostRuntime) {
+    let typed = message::<u16>(&rt, &DATAGRAM[20..]).to_typed::<Nlmsg>();
+    let fields = (*typed.nl_len(), *typed.nl_type(), *typed.nl_seq());
+    assert_is_at(&rt, "fields", fields, (16, Nlmsg::Done, 6));
+    assert_is_at(&rt, "payload", typed.nl_payload(), &[]);
 }
 
 /// A message of this length whose type is that of links, and zeros for the link.
@@ -101,27 +105,30 @@ const LINK_WITH_MTU: [u8; 40] = [
 ];
 
 #[test]
-fn attributes_follow_the_header_of_a_body(rt: HostRuntime) -> Result<(), Fail> {
-    let message = LentMessage::<'_, u16>::lend(&mut Cursor::new(&LINK_WITH_MTU))?;
-    let mut attrs = message.get_attrs::<Ifinfomsg, Ifla>()?;
-    let mtu = attrs.next().ok_or("an attribute")??;
-    assert_eq!(rt; *mtu.attr_type(), Ifla::Mtu);
-    assert_eq!(rt; mtu.attr_payload(), [0xdc, 5, 0, 0].as_slice());
+fn attributes_follow_the_header_of_a_body(rt: HostRuntime) {
+    let message = message::<u16>(&rt, &LINK_WITH_MTU);
+    let mut attrs = message
+        .get_attrs::<Ifinfomsg, Ifla>()
+        .expect(&rt, "attributes");
+    let mtu = attrs.next().expect(&rt, "an attribute");
+    let mtu = mtu.expect(&rt, "an attribute");
+    assert_is_at(&rt, "the type", *mtu.attr_type(), Ifla::Mtu);
+    assert_is_at(&rt, "payload", mtu.attr_payload(), &[0xdc, 5, 0, 0]);
     assert!(rt; attrs.next().is_none());
-    Ok(())
 }
 
 #[test]
-fn a_body_without_attributes_or_without_its_header(rt: HostRuntime) -> Result<(), Fail> {
+fn a_body_without_attributes(rt: HostRuntime) {
     let whole = link(32);
-    let message = LentMessage::<'_, u16>::lend(&mut Cursor::new(&whole))?;
-    assert!(rt; message.get_attrs::<Ifinfomsg, Ifla>()?.next().is_none());
+    let mut attrs = message::<u16>(&rt, &whole)
+        .get_attrs::<Ifinfomsg, Ifla>()
+        .expect(&rt, "attributes");
+    assert!(rt; attrs.next().is_none());
+}
+
+#[test]
+fn a_body_without_its_header(rt: HostRuntime) {
     let short = link(31);
-    let message = LentMessage::<'_, u16>::lend(&mut Cursor::new(&short))?;
-    let refused = message.get_attrs::<Ifinfomsg, Ifla>();
-    assert_eq!(rt;
-        refused.err().as_ref().map(fault_of),
-        Some(Fault::Input(15))
-    );
-    Ok(())
+    let attrs = message::<u16>(&rt, &short).get_attrs::<Ifinfomsg, Ifla>();
+    assert_is_at(&rt, "refused", fault_in(attrs), Some(Fault::Input(15)));
 }

@@ -1,14 +1,14 @@
 //! Lent values that become owned ones. Each allocation may be refused in these tests: then the answer is that
 //! memory ran out, and the lent value is still there.
 
-use crate::support::{Fault, fault_of};
+use crate::support::{Fault, assert_is_at, fault_in, fault_of, lent, message};
 use neli_attr::Buffer;
 use neli_consts_rta::Rta;
-use neli_lent::{LentAttr, LentMessage};
+use neli_lent::LentAttr;
 use neli_link::Ifinfomsg;
 use neli_msg::{NlPayload, Nlmsghdr};
-use neli_wire::{Cursor, DeError};
-use std::test::Fail;
+use neli_wire::DeError;
+use std::process::Abort;
 
 /// A link with index 3, without attributes.
 const LINK: [u8; 32] = [
@@ -16,68 +16,72 @@ const LINK: [u8; 32] = [
     0,
 ];
 
+/// Asserts the fields and the payload of [`LINK`].
+fn assert_link(rt: &impl Abort, owned: &Nlmsghdr<u16, Buffer>) {
+    let flags = u16::from(*owned.nl_flags());
+    let fields = (*owned.nl_len(), *owned.nl_type(), flags);
+    assert_is_at(rt, "fields", fields, (32, 16, 2));
+    let numbers = (*owned.nl_seq(), *owned.nl_pid());
+    assert_is_at(rt, "numbers", numbers, (5, 7));
+    let payload = owned.get_payload().expect(rt, "a payload");
+    assert_is_at(rt, "payload", payload.as_ref(), &LINK[16..]);
+}
+
 #[test]
-fn a_message_with_a_payload_of_bytes_or_out_of_memory(rt: HostRuntime) -> Result<(), Fail> {
-    let message = LentMessage::<'_, u16>::lend(&mut Cursor::new(&LINK))?;
+fn a_message_with_a_payload_of_bytes_or_out_of_memory(rt: HostRuntime) {
+    let message = message::<u16>(&rt, &LINK);
     let owned: Result<Nlmsghdr<u16, Buffer>, DeError> = message.to_nlmsghdr(rt.alloc());
-    match owned {
-        Ok(owned) => {
-            assert_eq!(rt; (*owned.nl_len(), *owned.nl_type()), (32, 16));
-            assert_eq!(rt; u16::from(*owned.nl_flags()), 2);
-            assert_eq!(rt; (*owned.nl_seq(), *owned.nl_pid()), (5, 7));
-            let payload = owned.get_payload().ok_or("a payload")?;
-            assert_eq!(rt; payload.as_ref(), &LINK[16..]);
-        }
-        Err(error) => assert!(rt; matches!(error, DeError::Memory)),
+    match &owned {
+        Ok(owned) => assert_link(&rt, owned),
+        Err(error) => assert_is_at(&rt, "refused", fault_of(error), Fault::Memory),
     }
-    assert_eq!(rt; message.nl_payload(), &LINK[16..]);
-    Ok(())
+    assert_is_at(&rt, "payload", message.nl_payload(), &LINK[16..]);
 }
 
 // A link without attributes takes no memory.
 #[test]
-fn a_message_with_a_body(rt: HostRuntime) -> Result<(), Fail> {
-    let message = LentMessage::<'_, u16>::lend(&mut Cursor::new(&LINK))?;
-    let owned: Nlmsghdr<u16, Ifinfomsg> = message.to_nlmsghdr(rt.alloc())?;
-    let link = owned.get_payload().ok_or("a payload")?;
-    assert_eq!(rt; *link.ifi_index(), 3);
-    assert!(rt; link.rtattrs().is_empty());
-    Ok(())
+fn a_message_with_a_body(rt: HostRuntime) {
+    let owned = message::<u16>(&rt, &LINK).to_nlmsghdr(rt.alloc());
+    let owned: Nlmsghdr<u16, Ifinfomsg> = owned.expect(&rt, "a message");
+    let link = owned.get_payload().expect(&rt, "a payload");
+    let fields = (*link.ifi_index(), link.rtattrs().len());
+    assert_is_at(&rt, "a link", fields, (3, 0));
 }
+
+/// An error of code -22, which echoes nothing.
+const ERROR: [u8; 20] = [
+    20, 0, 0, 0, 2, 0, 0, 0, 5, 0, 0, 0, 7, 0, 0, 0, 0xea, 0xff, 0xff, 0xff,
+];
 
 // An error is lent whatever its payload is, and is refused only as an owned message.
 #[test]
-fn a_message_with_a_refused_payload(rt: HostRuntime) -> Result<(), Fail> {
-    let bytes = [
-        20, 0, 0, 0, 2, 0, 0, 0, 5, 0, 0, 0, 7, 0, 0, 0, 0xea, 0xff, 0xff, 0xff,
-    ];
-    let message = LentMessage::<'_, u16>::lend(&mut Cursor::new(&bytes))?;
-    assert_eq!(rt; message.nl_payload(), &bytes[16..]);
+fn a_message_with_a_refused_payload(rt: HostRuntime) {
+    let message = message::<u16>(&rt, &ERROR);
+    assert_is_at(&rt, "payload", message.nl_payload(), &ERROR[16..]);
     let owned: Result<Nlmsghdr<u16, Buffer>, DeError> = message.to_nlmsghdr(rt.alloc());
-    assert_eq!(rt; owned.err().as_ref().map(fault_of), Some(Fault::Input(4)));
-    Ok(())
+    assert_is_at(&rt, "refused", fault_in(owned), Some(Fault::Input(4)));
 }
 
+/// An acknowledgement of a message of 32 bytes.
+const ACK: [u8; 36] = [
+    36, 0, 0, 0, 2, 0, 0, 1, 0, 0, 0, 0, 0, 0, 0, 0, 0, 0, 0, 0, 32, 0, 0, 0, 0, 0, 0, 0, 0, 0, 0,
+    0, 0, 0, 0, 0,
+];
+
 #[test]
-fn a_message_of_another_kind(rt: HostRuntime) -> Result<(), Fail> {
-    let mut bytes = [0; 36];
-    bytes[..8].copy_from_slice(&[36, 0, 0, 0, 2, 0, 0, 1]);
-    bytes[20] = 32;
-    let message = LentMessage::<'_, u16>::lend(&mut Cursor::new(&bytes))?;
-    let owned: Nlmsghdr<u16, Buffer> = message.to_nlmsghdr(rt.alloc())?;
+fn a_message_of_another_kind(rt: HostRuntime) {
+    let owned = message::<u16>(&rt, &ACK).to_nlmsghdr(rt.alloc());
+    let owned: Nlmsghdr<u16, Buffer> = owned.expect(&rt, "a message");
     assert!(rt; matches!(owned.nl_payload(), NlPayload::Ack(_)));
-    Ok(())
 }
 
 #[test]
-fn a_text_or_out_of_memory(rt: HostRuntime) -> Result<(), Fail> {
-    let bytes = [7, 0, 3, 0, 0x6c, 0x6f, 0, 0xff];
-    let attr = LentAttr::<'_, Rta>::lend(&mut Cursor::new(&bytes))?;
+fn a_text_or_out_of_memory(rt: HostRuntime) {
+    let attr: LentAttr<'_, Rta> = lent(&rt, &[7, 0, 3, 0, 0x6c, 0x6f, 0, 0xff]);
     let text: Result<String, DeError> = attr.get_payload_as_with_len(rt.alloc());
-    match text {
-        Ok(text) => assert_eq!(rt; text.as_str(), "lo"),
-        Err(error) => assert!(rt; matches!(error, DeError::Memory)),
+    match &text {
+        Ok(text) => assert_is_at(&rt, "a text", text.as_str(), "lo"),
+        Err(error) => assert_is_at(&rt, "refused", fault_of(error), Fault::Memory),
     }
-    assert_eq!(rt; attr.attr_payload(), b"lo\0".as_slice());
-    Ok(())
+    assert_is_at(&rt, "payload", attr.attr_payload(), b"lo\0");
 }

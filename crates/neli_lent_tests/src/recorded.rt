@@ -1,13 +1,15 @@
 //! A link and a route that were recorded from Linux 6.18, against what libmnl reads in their headers and pyroute2 in
 //! their attributes, and a request of iproute2 against its command line.
 
+use crate::support::{assert_is_at, message};
 use neli_consts_rt::Rtm;
-use neli_consts_rta::{Ifla, IflaInfo, Rta};
-use neli_lent::{LentMessage, LentMessages};
+use neli_consts_rta::{Ifla, IflaInfo, Rta, RtaType};
+use neli_lent::{LentAttr, LentAttrs, LentMessage, LentMessages};
 use neli_link::Ifinfomsg;
 use neli_route::Rtmsg;
-use neli_wire::Cursor;
-use std::test::Fail;
+use neli_wire::DeError;
+use std::alloc::Global;
+use std::process::Abort;
 
 /// A bridge port, as it was listed: recording 0152.
 const LINK: &str = "\
@@ -32,81 +34,123 @@ const REQUEST: &str = "\
     50000000100005066b99026b00000000000000000000000000000000000000000800050003000000090003006d616330\
     000000001c0012000b0001006d6163766c616e000c0002000800010001000000";
 
-#[test]
-fn a_link_has_a_name(rt: HostRuntime) -> Result<(), Fail> {
-    let datagram = hex::decode(rt.alloc(), LINK)?;
-    let mut messages = LentMessages::<'_, Rtm>::new(&datagram);
-    let message = messages.next().ok_or("a message")??;
+/// The bytes of these digits.
+fn decoded(rt: &impl Abort, alloc: Global, digits: &str) -> Vec<u8> {
+    hex::decode(alloc, digits).expect(rt, "digits")
+}
+
+/// The message that the bytes are, and nothing after it.
+fn one_message<'b>(rt: &impl Abort, bytes: &'b [u8]) -> LentMessage<'b, Rtm> {
+    let mut messages = LentMessages::new(bytes);
+    let message = messages.next().expect(rt, "a message");
     assert!(rt; messages.next().is_none());
-    assert_eq!(rt;
-        (*message.nl_len(), *message.nl_type()),
-        (424, Rtm::Newlink)
-    );
-    assert_eq!(rt; u16::from(*message.nl_flags()), 2);
-    assert_eq!(rt; (*message.nl_seq(), *message.nl_pid()), (1003, 2696569102));
-    assert_eq!(rt; Some(message.nl_payload()), datagram.as_slice().get(16..));
-    let attrs = message.get_attrs::<Ifinfomsg, Ifla>()?;
-    assert_eq!(rt; attrs.try_count()?, 7);
-    let name = attrs.get_attribute(Ifla::Ifname)?.ok_or("a name")?;
-    let text: &str = name.get_payload_as_with_len_borrowed()?;
-    assert_eq!(rt; text.strip_suffix('\0'), Some("veth1"));
-    Ok(())
+    message.expect(rt, "a message")
 }
 
 #[test]
-fn a_link_has_numbers_and_an_address(rt: HostRuntime) -> Result<(), Fail> {
+fn a_link_has_a_header(rt: HostRuntime) {
+    let datagram = decoded(&rt, rt.alloc(), LINK);
+    let message = one_message(&rt, &datagram);
+    let flags = u16::from(*message.nl_flags());
+    let fields = (*message.nl_len(), *message.nl_type(), flags);
+    assert_is_at(&rt, "fields", fields, (424, Rtm::Newlink, 2));
+    let numbers = (*message.nl_seq(), *message.nl_pid());
+    assert_is_at(&rt, "numbers", numbers, (1003, 2696569102));
+    let payload = datagram.get(16..);
+    assert_is_at(&rt, "payload", Some(message.nl_payload()), payload);
+}
+
+/// The attributes of a link.
+fn link_attrs<'b>(rt: &impl Abort, bytes: &'b [u8]) -> LentAttrs<'b, Ifla> {
+    message::<u16>(rt, bytes)
+        .get_attrs::<Ifinfomsg, Ifla>()
+        .expect(rt, "attributes")
+}
+
+/// The attribute of this type.
+fn found<'b, T: RtaType>(rt: &impl Abort, attrs: &LentAttrs<'b, T>, kind: T) -> LentAttr<'b, T> {
+    let found = attrs.get_attribute(kind).expect(rt, "attributes");
+    found.expect(rt, "an attribute of this type")
+}
+
+/// The text of an attribute, with its last zero.
+fn text<'b, T: RtaType>(rt: &impl Abort, attr: &LentAttr<'b, T>) -> &'b str {
+    attr.get_payload_as_with_len_borrowed().expect(rt, "a text")
+}
+
+#[test]
+fn a_link_has_a_name(rt: HostRuntime) {
+    let datagram = decoded(&rt, rt.alloc(), LINK);
+    let attrs = link_attrs(&rt, &datagram);
+    assert_is_at(&rt, "attributes", attrs.try_count().ok(), Some(7));
+    let name = text(&rt, &found(&rt, &attrs, Ifla::Ifname));
+    assert_is_at(&rt, "a name", name, "veth1\0");
+}
+
+#[test]
+fn a_link_has_numbers(rt: HostRuntime) {
     let alloc = rt.alloc();
-    let datagram = hex::decode(alloc, LINK)?;
-    let message = LentMessage::<'_, Rtm>::lend(&mut Cursor::new(&datagram))?;
-    let attrs = message.get_attrs::<Ifinfomsg, Ifla>()?;
-    for (kind, want) in [(Ifla::Master, 5), (Ifla::Mtu, 1500), (Ifla::Link, 3)] {
-        let attr = attrs.get_attribute(kind)?.ok_or("a number")?;
-        let number: u32 = attr.get_payload_as(alloc)?;
-        assert_eq!(rt; number, want, "{kind:?}");
-    }
-    let address = attrs.get_attribute(Ifla::Address)?.ok_or("an address")?;
-    assert_eq!(rt; address.attr_payload(), [2, 0, 0, 0, 0, 2].as_slice());
-    // The port's own attributes are marked as nested, which a routing attribute's type keeps.
-    let nested = Ifla::UnrecognizedConst(0x800c);
-    let port = attrs.get_attribute(nested)?.ok_or("a port")?;
-    assert_eq!(rt; port.get_attrs::<u16>().try_count()?, 39);
-    Ok(())
-}
-
-#[test]
-fn a_route_has_addresses(rt: HostRuntime) -> Result<(), Fail> {
-    let datagram = hex::decode(rt.alloc(), ROUTE)?;
-    let message = LentMessage::<'_, Rtm>::lend(&mut Cursor::new(&datagram))?;
-    assert_eq!(rt;
-        (*message.nl_len(), *message.nl_type()),
-        (112, Rtm::Newroute)
-    );
-    assert_eq!(rt; (*message.nl_seq(), *message.nl_pid()), (1047, 3331851770));
-    let attrs = message.get_attrs::<Rtmsg, Rta>()?;
-    assert_eq!(rt; attrs.try_count()?, 7);
-    for (kind, want) in [
-        (Rta::Dst, [10u8, 7, 2, 3]),
-        (Rta::Prefsrc, [192, 0, 2, 1]),
-        (Rta::Gateway, [192, 0, 2, 9]),
-        (Rta::Table, [254, 0, 0, 0]),
-        (Rta::Oif, [3, 0, 0, 0]),
+    let datagram = decoded(&rt, alloc, LINK);
+    let attrs = link_attrs(&rt, &datagram);
+    for (row, kind, want) in [
+        ("master", Ifla::Master, 5),
+        ("mtu", Ifla::Mtu, 1500),
+        ("link", Ifla::Link, 3),
     ] {
-        let attr = attrs.get_attribute(kind)?.ok_or("an attribute")?;
-        assert_eq!(rt; attr.attr_payload(), want.as_slice(), "{kind:?}");
+        let number: Result<u32, DeError> = found(&rt, &attrs, kind).get_payload_as(alloc);
+        assert_is_at(&rt, row, number.expect(&rt, row), want);
     }
-    Ok(())
 }
 
 #[test]
-fn a_request_names_a_kind_of_link(rt: HostRuntime) -> Result<(), Fail> {
-    let datagram = hex::decode(rt.alloc(), REQUEST)?;
-    let message = LentMessage::<'_, u16>::lend(&mut Cursor::new(&datagram))?;
-    let attrs = message.get_attrs::<Ifinfomsg, Ifla>()?;
-    let name = attrs.get_attribute(Ifla::Ifname)?.ok_or("a name")?;
-    assert_eq!(rt; name.attr_payload(), b"mac0\0".as_slice());
-    let info = attrs.get_attribute(Ifla::Linkinfo)?.ok_or("what it is")?;
-    let kind = info.get_attrs::<IflaInfo>().get_attribute(IflaInfo::Kind)?;
-    let text: &str = kind.ok_or("a kind")?.get_payload_as_with_len_borrowed()?;
-    assert_eq!(rt; text, "macvlan");
-    Ok(())
+fn a_link_has_an_address(rt: HostRuntime) {
+    let datagram = decoded(&rt, rt.alloc(), LINK);
+    let attrs = link_attrs(&rt, &datagram);
+    let address = found(&rt, &attrs, Ifla::Address);
+    assert_is_at(&rt, "address", address.attr_payload(), &[2, 0, 0, 0, 0, 2]);
+    // The port's own attributes are marked as nested, which a routing attribute's type keeps.
+    let port = found(&rt, &attrs, Ifla::UnrecognizedConst(0x800c)).get_attrs::<u16>();
+    assert_is_at(&rt, "a port", port.try_count().ok(), Some(39));
+}
+
+#[test]
+fn a_route_has_a_header(rt: HostRuntime) {
+    let datagram = decoded(&rt, rt.alloc(), ROUTE);
+    let message = message::<Rtm>(&rt, &datagram);
+    let fields = (*message.nl_len(), *message.nl_type());
+    assert_is_at(&rt, "fields", fields, (112, Rtm::Newroute));
+    let numbers = (*message.nl_seq(), *message.nl_pid());
+    assert_is_at(&rt, "numbers", numbers, (1047, 3331851770));
+}
+
+/// Attributes of the route, with what pyroute2 reads there.
+const OF_THE_ROUTE: [(&str, Rta, &[u8]); 5] = [
+    ("destination", Rta::Dst, &[10, 7, 2, 3]),
+    ("source", Rta::Prefsrc, &[192, 0, 2, 1]),
+    ("gateway", Rta::Gateway, &[192, 0, 2, 9]),
+    ("table", Rta::Table, &[254, 0, 0, 0]),
+    ("link", Rta::Oif, &[3, 0, 0, 0]),
+];
+
+#[test]
+fn a_route_has_addresses(rt: HostRuntime) {
+    let datagram = decoded(&rt, rt.alloc(), ROUTE);
+    let attrs = message::<Rtm>(&rt, &datagram)
+        .get_attrs::<Rtmsg, Rta>()
+        .expect(&rt, "attributes");
+    assert_is_at(&rt, "attributes", attrs.try_count().ok(), Some(7));
+    for (row, kind, want) in OF_THE_ROUTE {
+        assert_is_at(&rt, row, found(&rt, &attrs, kind).attr_payload(), want);
+    }
+}
+
+#[test]
+fn a_request_names_a_kind_of_link(rt: HostRuntime) {
+    let datagram = decoded(&rt, rt.alloc(), REQUEST);
+    let attrs = link_attrs(&rt, &datagram);
+    let name = found(&rt, &attrs, Ifla::Ifname);
+    assert_is_at(&rt, "a name", name.attr_payload(), b"mac0\0");
+    let info = found(&rt, &attrs, Ifla::Linkinfo).get_attrs::<IflaInfo>();
+    let kind = text(&rt, &found(&rt, &info, IflaInfo::Kind));
+    assert_is_at(&rt, "a kind", kind, "macvlan");
 }
