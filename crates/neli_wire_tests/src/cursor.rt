@@ -1,6 +1,6 @@
 //! The place in bytes that reads go through.
 
-use crate::refusal::{Refusal, refusal_of};
+use crate::refusal::{Refusal, assert_is, assert_is_at, refusal_of};
 use neli_wire::Cursor;
 
 const BYTES: [u8; 5] = [1, 2, 3, 4, 5];
@@ -9,13 +9,14 @@ const BYTES: [u8; 5] = [1, 2, 3, 4, 5];
 fn places(rt: HostRuntime) {
     for position in [0usize, 1, 4, 5] {
         let mut cursor = Cursor::new(&BYTES);
-        assert_eq!(rt; cursor.position(), 0);
+        assert_is(&rt, cursor.position(), 0);
         cursor.set_position(position);
-        assert_eq!(rt; cursor.position(), position);
-        assert_eq!(rt;
+        assert_is(&rt, cursor.position(), position);
+        assert_is_at(
+            &rt,
+            position,
             (cursor.rest(), cursor.get_ref()),
             (&BYTES[position..], BYTES.as_slice()),
-            "at {position}"
         );
     }
 }
@@ -33,9 +34,9 @@ fn next_bytes(rt: HostRuntime) {
         let mut cursor = Cursor::new(&BYTES);
         cursor.set_position(2);
         let input = cursor.input(n).map_err(|error| refusal_of(&error));
-        assert_eq!(rt; (input, cursor.position()), (shown, 2), "of {n}");
+        assert_is_at(&rt, n, (input, cursor.position()), (shown, 2));
         let bytes = cursor.bytes(n).map_err(|error| refusal_of(&error));
-        assert_eq!(rt; (bytes, cursor.position()), (read, place), "of {n}");
+        assert_is_at(&rt, n, (bytes, cursor.position()), (read, place));
     }
 }
 
@@ -45,6 +46,6 @@ fn a_second_cursor(rt: HostRuntime) {
     cursor.advance(1);
     let mut ahead = cursor.ahead();
     ahead.advance(2);
-    assert_eq!(rt; ahead.rest(), [4u8, 5].as_slice());
-    assert_eq!(rt; cursor.rest(), [2u8, 3, 4, 5].as_slice());
+    assert_is(&rt, ahead.rest(), [4u8, 5].as_slice());
+    assert_is(&rt, cursor.rest(), [2u8, 3, 4, 5].as_slice());
 }

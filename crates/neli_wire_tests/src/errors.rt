@@ -1,5 +1,6 @@
 //! What refusals are made of.
 
+use crate::refusal::assert_is;
 use neli_wire::{DeError, MsgError, NoMemory, SerError, UninitializedFieldError, Utf8};
 use std::alloc::{AllocError, AllocFailed, Global};
 use std::io;
@@ -56,13 +57,13 @@ fn no_text(rt: &impl Abort, alloc: Global) -> FromUtf8Error {
 fn check_to_write(rt: &impl Abort, error: &SerError, want: Cause) {
     let copy = error.try_clone().expect(rt, "memory");
     let causes = (cause_to_write(error), cause_to_write(&copy));
-    assert_eq!(rt; causes, (want, want));
+    assert_is(rt, causes, (want, want));
 }
 
 fn check_to_read(rt: &impl Abort, error: &DeError, want: Cause) {
     let copy = error.try_clone().expect(rt, "memory");
     let causes = (cause_to_read(error), cause_to_read(&copy));
-    assert_eq!(rt; causes, (want, want));
+    assert_is(rt, causes, (want, want));
 }
 
 #[test]
@@ -116,13 +117,13 @@ fn refusals_to_read(rt: HostRuntime) {
 
 #[test]
 fn memory_that_ran_out(rt: HostRuntime) {
-    assert_eq!(rt; NoMemory::from(AllocError), NoMemory);
-    assert_eq!(rt; NoMemory::from(AllocFailed { value: 7u8 }), NoMemory);
+    assert_is(&rt, NoMemory::from(AllocError), NoMemory);
+    assert_is(&rt, NoMemory::from(AllocFailed { value: 7u8 }), NoMemory);
 }
 
 #[test]
 fn names_of_missing_fields(rt: HostRuntime) {
     for name in ["", "nla_type"] {
-        assert_eq!(rt; UninitializedFieldError::new(name).field_name(), name);
+        assert_is(&rt, UninitializedFieldError::new(name).field_name(), name);
     }
 }

@@ -1,6 +1,6 @@
 //! What follows a header that states the length of the whole: the payload and its padding.
 
-use crate::refusal::{Refusal, refusal_of};
+use crate::refusal::{Refusal, assert_is, assert_is_at, refusal_of};
 use neli_wire::implementing::{read_padded_payload, within_input};
 use neli_wire::{Cursor, DeError};
 use std::io::ErrorKind;
@@ -23,20 +23,16 @@ fn payloads_of_frames(rt: HostRuntime) {
             Ok(payload) => Ok(payload.as_slice()),
             Err(error) => Err(refusal_of(error)),
         };
-        assert_eq!(rt;
-            (got, cursor.position()),
-            (want, place),
-            "of {bytes:?} with length {len}"
-        );
+        assert_is_at(&rt, (bytes, len), (got, cursor.position()), (want, place));
     }
 }
 
 #[test]
 fn missing_bytes_inside_an_input(rt: HostRuntime) {
     let short = within_input(DeError::Io(ErrorKind::UnexpectedEof), 9);
-    assert_eq!(rt; refusal_of(&short), Refusal::Input(9));
+    assert_is(&rt, refusal_of(&short), Refusal::Input(9));
     let kept = within_input(DeError::InvalidInput(2), 9);
-    assert_eq!(rt; refusal_of(&kept), Refusal::Input(2));
+    assert_is(&rt, refusal_of(&kept), Refusal::Input(2));
     let other = within_input(DeError::Io(ErrorKind::BrokenPipe), 9);
     assert!(rt; matches!(other, DeError::Io(ErrorKind::BrokenPipe)));
 }

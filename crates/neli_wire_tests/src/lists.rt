@@ -1,6 +1,6 @@
 //! Lists of values, one after the other.
 
-use crate::refusal::{Refusal, refusal_of};
+use crate::refusal::{Refusal, assert_is, assert_is_at, refusal_of};
 use neli_wire::implementing::{read_all, size_of_all, write_all};
 use neli_wire::{Cursor, DeError, FromBytesWithInput, Size, ToBytes};
 
@@ -28,7 +28,7 @@ fn lists_with_an_input(rt: HostRuntime) {
             Err(error) => Err(refusal_of(error)),
         };
         let moved = if want.is_ok() { n } else { 0 };
-        assert_eq!(rt; (got, cursor.position()), (want, moved), "with input {n}");
+        assert_is_at(&rt, n, (got, cursor.position()), (want, moved));
     }
 }
 
@@ -45,7 +45,7 @@ fn whole_byte_lists(rt: HostRuntime) {
             Ok(list) => Ok(list.as_slice()),
             Err(error) => Err(refusal_of(error)),
         };
-        assert_eq!(rt; got, want, "of {bytes:?}");
+        assert_is_at(&rt, bytes, got, want);
     }
 }
 
@@ -58,7 +58,7 @@ fn elements_of_no_bytes(rt: HostRuntime) {
             Ok(list) => Ok(list.len()),
             Err(error) => Err(refusal_of(error)),
         };
-        assert_eq!(rt; got, want, "of {bytes:?}");
+        assert_is_at(&rt, bytes, got, want);
     }
 }
 
@@ -68,13 +68,17 @@ fn written_lists(rt: HostRuntime) {
     let list = vec![in rt.alloc(); 1u8, 2, 3, 4, 5, 6, 7, 8, 9].expect(&rt, "memory");
     let mut buffer = Vec::new(rt.alloc());
     list.to_bytes(&mut buffer).expect(&rt, "memory");
-    assert_eq!(rt; buffer.as_slice(), [1u8, 2, 3, 4, 5, 6, 7, 8, 9].as_slice());
+    assert_is(
+        &rt,
+        buffer.as_slice(),
+        [1u8, 2, 3, 4, 5, 6, 7, 8, 9].as_slice(),
+    );
     let sizes = (
         list.unpadded_size(),
         list.padded_size(),
         list.written_size(),
     );
-    assert_eq!(rt; sizes, (9, 12, 9));
+    assert_is(&rt, sizes, (9, 12, 9));
 }
 
 #[test]
@@ -85,9 +89,9 @@ fn written_slices_of_values(rt: HostRuntime) {
         (&[1, 2, 3], b"..\x01\0\x02\0\x03\0"),
     ];
     for (items, want) in rows {
-        assert_eq!(rt; size_of_all(items) + 2, want.len(), "of {items:?}");
+        assert_is_at(&rt, items, size_of_all(items) + 2, want.len());
         let mut buffer = Vec::from_slice(rt.alloc(), b"..").expect(&rt, "memory");
         write_all(items, &mut buffer).expect(&rt, "memory");
-        assert_eq!(rt; buffer.as_slice(), want, "of {items:?}");
+        assert_is_at(&rt, items, buffer.as_slice(), want);
     }
 }

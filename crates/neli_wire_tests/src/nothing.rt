@@ -1,6 +1,6 @@
 //! Values that take no bytes.
 
-use crate::refusal::{Refusal, refusal_of};
+use crate::refusal::{Refusal, assert_is, assert_is_at, refusal_of};
 use neli_wire::{Cursor, FromBytes, FromBytesWithInput, Size, ToBytes, TypeSize};
 use std::marker::PhantomData;
 
@@ -17,7 +17,7 @@ fn nothing_with_an_input(rt: HostRuntime) {
         let mut cursor = Cursor::new(&[7u8]);
         let read = <() as FromBytesWithInput>::from_bytes_with_input(rt.alloc(), &mut cursor, n);
         let got = read.map_err(|error| refusal_of(&error));
-        assert_eq!(rt; (got, cursor.position()), (want, 0), "with input {n}");
+        assert_is_at(&rt, n, (got, cursor.position()), (want, 0));
     }
 }
 
@@ -28,7 +28,7 @@ fn nothing_is_read_before_a_byte(rt: HostRuntime) {
     let _marker: PhantomData<u8> = PhantomData::from_bytes(rt.alloc(), &mut cursor).expect(
         &rt, "a value",
     );
-    assert_eq!(rt; cursor.position(), 0);
+    assert_is(&rt, cursor.position(), 0);
 }
 
 #[test]
@@ -36,7 +36,7 @@ fn nothing_is_written(rt: HostRuntime) {
     let mut buffer = Vec::from_slice(rt.alloc(), b"..").expect(&rt, "memory");
     ().to_bytes(&mut buffer).expect(&rt, "memory");
     MARKER.to_bytes(&mut buffer).expect(&rt, "memory");
-    assert_eq!(rt; buffer.as_slice(), b"..".as_slice());
+    assert_is(&rt, buffer.as_slice(), b"..".as_slice());
 }
 
 #[test]
@@ -47,6 +47,6 @@ fn sizes(rt: HostRuntime) {
         MARKER.padded_size(),
         MARKER.written_size(),
     );
-    assert_eq!(rt; (of_nothing, of_a_marker), ((0, 0, 0), (0, 0, 0)));
-    assert_eq!(rt; <PhantomData<u8> as TypeSize>::type_size(), 0);
+    assert_is(&rt, (of_nothing, of_a_marker), ((0, 0, 0), (0, 0, 0)));
+    assert_is(&rt, <PhantomData<u8> as TypeSize>::type_size(), 0);
 }

@@ -1,6 +1,6 @@
 //! The integer types.
 
-use crate::refusal::{Refusal, refusal_of};
+use crate::refusal::{Refusal, assert_is, assert_is_at, refusal_of};
 use neli_wire::{BeU64, Constant, Cursor, DeError, FromBytes, Size, ToBytes, TypeSize, WireNumber};
 use std::alloc::Global;
 use std::process::Abort;
@@ -25,22 +25,22 @@ enum Number {
 fn by_traits<T: Constant + PartialEq>(rt: &impl Abort, alloc: Global, value: T, bytes: &[u8]) {
     let sizes = (value.unpadded_size(), value.written_size(), T::type_size());
     let n = bytes.len();
-    assert_eq!(rt; sizes, (n, n, n), "of {value:?}");
+    assert_is_at(rt, value, sizes, (n, n, n));
     let mut buffer = Vec::from_slice(alloc, b"...").expect(rt, "memory");
     value.to_bytes(&mut buffer).expect(rt, "memory");
-    assert_eq!(rt; buffer.get(3..), Some(bytes), "of {value:?}");
+    assert_is_at(rt, value, buffer.get(3..), Some(bytes));
     let mut cursor = Cursor::new(bytes);
     let read: T = T::from_bytes(alloc, &mut cursor).expect(rt, "a number");
-    assert_eq!(rt; (read, cursor.position()), (value, n));
+    assert_is(rt, (read, cursor.position()), (value, n));
 }
 
 // The number by the calls of its own type.
 fn by_its_type<N: WireNumber + PartialEq>(rt: &impl Abort, alloc: Global, value: N, bytes: &[u8]) {
-    assert_eq!(rt; N::count(), bytes.len(), "of {value:?}");
-    assert_eq!(rt; N::number(bytes), value);
+    assert_is_at(rt, value, N::count(), bytes.len());
+    assert_is(rt, N::number(bytes), value);
     let mut buffer = Vec::new(alloc);
     value.append(&mut buffer).expect(rt, "memory");
-    assert_eq!(rt; buffer.as_slice(), bytes, "of {value:?}");
+    assert_is_at(rt, value, buffer.as_slice(), bytes);
 }
 
 fn both<N: WireNumber + PartialEq>(rt: &impl Abort, alloc: Global, value: N, bytes: &[u8]) {
@@ -123,7 +123,7 @@ fn the_highest_byte_first(rt: HostRuntime) {
     ];
     for (number, bytes) in rows {
         let big = BeU64::new(number);
-        assert_eq!(rt; big.as_ne_u64(), number);
+        assert_is(&rt, big.as_ne_u64(), number);
         check_row(&rt, rt.alloc(), Number::Be(big), bytes);
     }
 }
@@ -133,7 +133,7 @@ fn the_highest_byte_first(rt: HostRuntime) {
 fn numbers_mean_themselves(rt: HostRuntime) {
     for number in [0u16, 1, 0x0102, u16::MAX] {
         let both_ways = (u16::from_wire(number), number.to_wire());
-        assert_eq!(rt; both_ways, (number, number));
+        assert_is(&rt, both_ways, (number, number));
     }
 }
 
@@ -143,10 +143,11 @@ fn missing_bytes(rt: HostRuntime) {
         let mut cursor = Cursor::new(&[1u8, 2, 3][..n]);
         let read: Result<u32, DeError> = u32::from_bytes(rt.alloc(), &mut cursor);
         let refused = read.map_err(|error| refusal_of(&error));
-        assert_eq!(rt;
+        assert_is_at(
+            &rt,
+            n,
             (refused, cursor.position()),
             (Err(Refusal::Short), 0),
-            "of {n} bytes"
         );
     }
 }

@@ -1,7 +1,7 @@
 //! What the calls answer where an allocation is refused. `rt try --test --fail-alloc N` refuses the Nth one
 //! of each test; the tests of this file pass with every N, and without.
 
-use crate::refusal::{Refusal, refusal_of};
+use crate::refusal::{Refusal, assert_is, assert_is_at, refusal_of};
 use neli_wire::implementing::{read_all, write_all};
 use neli_wire::{
     Cursor, DeError, FromBytes, FromBytesWithInput, FromBytesWithInputBorrowed, MsgError, SerError,
@@ -18,9 +18,9 @@ fn check_nothing<T: ToBytes>(rt: &impl Abort, alloc: Global, value: &T) {
         value.to_bytes(&mut buffer).is_ok(),
         "{value:?} takes no memory"
     );
-    assert_eq!(rt; buffer.len(), 0);
+    assert_is(rt, buffer.len(), 0);
     assert!(rt; value.pad(&mut buffer).is_ok(), "no zeros take no memory");
-    assert_eq!(rt; buffer.len(), 0);
+    assert_is(rt, buffer.len(), 0);
 }
 
 #[test]
@@ -36,18 +36,18 @@ fn nothing_to_write_takes_no_memory(rt: HostRuntime) {
     let nothings: &[()] = &[(), ()];
     let mut buffer = Vec::new(alloc);
     assert!(rt; write_all(nothings, &mut buffer).is_ok());
-    assert_eq!(rt; buffer.len(), 0);
+    assert_is(&rt, buffer.len(), 0);
 }
 
 #[test]
 fn reads_that_take_no_memory(rt: HostRuntime) {
     let mut cursor = Cursor::new(b"\x01\x02ab");
     let number: Result<u16, DeError> = u16::from_bytes(rt.alloc(), &mut cursor);
-    assert_eq!(rt; number.map_err(|error| refusal_of(&error)), Ok(0x0201));
+    assert_is(&rt, number.map_err(|error| refusal_of(&error)), Ok(0x0201));
     let lent: Result<&str, DeError> = <&str>::from_bytes_with_input(&mut cursor, 2);
-    assert_eq!(rt; lent.map_err(|error| refusal_of(&error)), Ok("ab"));
+    assert_is(&rt, lent.map_err(|error| refusal_of(&error)), Ok("ab"));
     let array: Result<[u8; 2], DeError> = <[u8; 2]>::from_bytes(rt.alloc(), &mut cursor);
-    assert_eq!(rt; array.map_err(|error| refusal_of(&error)), Ok(*b"ab"));
+    assert_is(&rt, array.map_err(|error| refusal_of(&error)), Ok(*b"ab"));
 }
 
 #[test]
@@ -55,7 +55,7 @@ fn an_empty_list_read_takes_no_memory(rt: HostRuntime) {
     let mut cursor = Cursor::new(b"ab");
     let list: Result<Vec<u16>, DeError> = Vec::from_bytes_with_input(rt.alloc(), &mut cursor, 0);
     let count = list.map(|list| list.len());
-    assert_eq!(rt; count.map_err(|error| refusal_of(&error)), Ok(0));
+    assert_is(&rt, count.map_err(|error| refusal_of(&error)), Ok(0));
 }
 
 // An input past the bytes, or of no byte where a text needs one, is refused before memory is asked for.
@@ -92,12 +92,12 @@ fn a_list_read_or_out_of_memory(rt: HostRuntime) {
     let read: Result<Vec<u16>, DeError> = Vec::from_bytes_with_input(rt.alloc(), &mut cursor, 4);
     match &read {
         Ok(list) => {
-            assert_eq!(rt; list.as_slice(), [1u16, 2].as_slice());
-            assert_eq!(rt; cursor.position(), 4);
+            assert_is(&rt, list.as_slice(), [1u16, 2].as_slice());
+            assert_is(&rt, cursor.position(), 4);
         }
         Err(error) => {
-            assert_eq!(rt; refusal_of(error), Refusal::Memory);
-            assert_eq!(rt; cursor.position(), 0);
+            assert_is(&rt, refusal_of(error), Refusal::Memory);
+            assert_is(&rt, cursor.position(), 0);
         }
     }
 }
@@ -106,8 +106,8 @@ fn a_list_read_or_out_of_memory(rt: HostRuntime) {
 fn all_bytes_read_or_out_of_memory(rt: HostRuntime) {
     let read: Result<Vec<u32>, DeError> = read_all(rt.alloc(), &[1, 0, 0, 0]);
     match &read {
-        Ok(list) => assert_eq!(rt; list.as_slice(), [1u32].as_slice()),
-        Err(error) => assert_eq!(rt; refusal_of(error), Refusal::Memory),
+        Ok(list) => assert_is(&rt, list.as_slice(), [1u32].as_slice()),
+        Err(error) => assert_is(&rt, refusal_of(error), Refusal::Memory),
     }
 }
 
@@ -117,12 +117,12 @@ fn a_text_read_or_out_of_memory(rt: HostRuntime) {
     let read = String::from_bytes_with_input(rt.alloc(), &mut cursor, 6);
     match &read {
         Ok(text) => {
-            assert_eq!(rt; text.as_str(), "AAAAA");
-            assert_eq!(rt; cursor.position(), 6);
+            assert_is(&rt, text.as_str(), "AAAAA");
+            assert_is(&rt, cursor.position(), 6);
         }
         Err(error) => {
-            assert_eq!(rt; refusal_of(error), Refusal::Memory);
-            assert_eq!(rt; cursor.position(), 0);
+            assert_is(&rt, refusal_of(error), Refusal::Memory);
+            assert_is(&rt, cursor.position(), 0);
         }
     }
 }
@@ -136,11 +136,11 @@ fn check_written<T: ToBytes>(rt: &impl Abort, alloc: Global, value: &T, want: &[
     match value.to_bytes(&mut buffer) {
         Ok(()) => {
             assert!(rt; buffer.len() > 0);
-            assert_eq!(rt; &buffer.as_slice()[1..], want, "of {value:?}");
+            assert_is_at(rt, value, &buffer.as_slice()[1..], want);
         }
         Err(error) => {
             assert!(rt; matches!(error, SerError::Memory), "of {value:?}");
-            assert_eq!(rt; buffer.as_slice(), b"x".as_slice(), "of {value:?}");
+            assert_is_at(rt, value, buffer.as_slice(), b"x".as_slice());
         }
     }
 }
@@ -179,6 +179,6 @@ fn words_or_out_of_memory(rt: HostRuntime) {
     };
     let text: Result<String, AllocError> = copy.to_string(rt.alloc());
     if let Ok(text) = &text {
-        assert_eq!(rt; text.as_str(), "too long");
+        assert_is(&rt, text.as_str(), "too long");
     }
 }

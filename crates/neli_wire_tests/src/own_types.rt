@@ -1,6 +1,6 @@
 //! A user's own types, those of `example_body`.
 
-use crate::refusal::{Refusal, refusal_of};
+use crate::refusal::{Refusal, assert_is, assert_is_at, refusal_of};
 use example_body::{Probe, ProbeBuilder, ProbeBuilderError, Watch};
 use neli_attr::BuildError;
 use neli_wire::{Cursor, FromBytesWithInput, Header, Size, ToBytes};
@@ -12,12 +12,12 @@ const WATCH: [u8; 10] = [0x39, 5, 1, 0, 0, 0, 2, 0, 0, 0];
 fn a_watch_both_ways(rt: HostRuntime) {
     let mut cursor = Cursor::new(&WATCH);
     let watch = Watch::from_bytes_with_input(rt.alloc(), &mut cursor, 10).expect(&rt, "a value");
-    assert_eq!(rt; watch.port, 1337);
-    assert_eq!(rt; watch.levels.as_slice(), [1u32, 2].as_slice());
-    assert_eq!(rt; (watch.unpadded_size(), watch.written_size()), (10, 10));
+    assert_is(&rt, watch.port, 1337);
+    assert_is(&rt, watch.levels.as_slice(), [1u32, 2].as_slice());
+    assert_is(&rt, (watch.unpadded_size(), watch.written_size()), (10, 10));
     let mut buffer = Vec::new(rt.alloc());
     watch.to_bytes(&mut buffer).expect(&rt, "memory");
-    assert_eq!(rt; buffer.as_slice(), WATCH.as_slice());
+    assert_is(&rt, buffer.as_slice(), WATCH.as_slice());
 }
 
 #[test]
@@ -33,7 +33,7 @@ fn a_watch_refused(rt: HostRuntime) {
             Ok(_) => Refusal::Other,
             Err(error) => refusal_of(error),
         };
-        assert_eq!(rt; (refused, cursor.position()), (want, 0), "with input {n}");
+        assert_is_at(&rt, n, (refused, cursor.position()), (want, 0));
     }
 }
 
@@ -47,13 +47,17 @@ fn a_probe_of_all_fields(rt: HostRuntime) {
         .payload("up")
         .build()
         .expect(&rt, "all fields");
-    assert_eq!(rt; (*probe.hops(), *probe.kind(), *probe.port()), (3, 7, 1337));
-    assert_eq!(rt; *probe.payload(), "up");
-    assert_eq!(rt; (probe.unpadded_size(), probe.written_size()), (7, 7));
-    assert_eq!(rt; Probe::<&str>::header_size(), 4);
+    assert_is(
+        &rt,
+        (*probe.hops(), *probe.kind(), *probe.port()),
+        (3, 7, 1337),
+    );
+    assert_is(&rt, *probe.payload(), "up");
+    assert_is(&rt, (probe.unpadded_size(), probe.written_size()), (7, 7));
+    assert_is(&rt, Probe::<&str>::header_size(), 4);
     let mut buffer = Vec::new(rt.alloc());
     probe.to_bytes(&mut buffer).expect(&rt, "memory");
-    assert_eq!(rt; buffer.as_slice(), b"\x03\x07\x39\x05up\0".as_slice());
+    assert_is(&rt, buffer.as_slice(), b"\x03\x07\x39\x05up\0".as_slice());
 }
 
 #[test]
@@ -66,7 +70,7 @@ fn a_probe_of_default_hops(rt: HostRuntime) {
         .expect(&rt, "all fields");
     let mut buffer = Vec::new(rt.alloc());
     probe.to_bytes(&mut buffer).expect(&rt, "memory");
-    assert_eq!(rt; buffer.as_slice(), [64u8, 7, 0x39, 5].as_slice());
+    assert_is(&rt, buffer.as_slice(), [64u8, 7, 0x39, 5].as_slice());
 }
 
 // The field that the error names.
@@ -80,9 +84,9 @@ fn missing_of(built: Result<Probe<u8>, ProbeBuilderError>) -> &'static str {
 #[test]
 fn fields_that_a_probe_misses(rt: HostRuntime) {
     let builder: ProbeBuilder<u8> = ProbeBuilder::default();
-    assert_eq!(rt; missing_of(builder.build()), "kind");
+    assert_is(&rt, missing_of(builder.build()), "kind");
     let builder = ProbeBuilder::<u8>::default().kind(7);
-    assert_eq!(rt; missing_of(builder.build()), "port");
+    assert_is(&rt, missing_of(builder.build()), "port");
     let builder = ProbeBuilder::<u8>::default().kind(7).port(1337);
-    assert_eq!(rt; missing_of(builder.build()), "payload");
+    assert_is(&rt, missing_of(builder.build()), "payload");
 }

@@ -1,6 +1,6 @@
 //! Lengths rounded up to four, zeros that are written, and bytes that are passed over.
 
-use crate::refusal::{Refusal, refusal_of};
+use crate::refusal::{Refusal, assert_is, assert_is_at, refusal_of};
 use neli_wire::implementing::{pad_from, padded_length, strip_to_four, undo_on_refusal};
 use neli_wire::{
     Cursor, DeError, FromBytes, FromBytesWithInput, FromBytesWithInputBorrowed, SerError, ToBytes,
@@ -18,7 +18,7 @@ fn alignment(rt: HostRuntime) {
         (5, 8),
         (32767, 32768),
     ] {
-        assert_eq!(rt; alignto(len), want, "of {len}");
+        assert_is_at(&rt, len, alignto(len), want);
     }
 }
 
@@ -34,7 +34,7 @@ fn padded_lengths(rt: HostRuntime) {
         (usize::MAX - 2, usize::MAX),
         (usize::MAX, usize::MAX),
     ] {
-        assert_eq!(rt; padded_length(size), want, "of {size}");
+        assert_is_at(&rt, size, padded_length(size), want);
     }
 }
 
@@ -48,10 +48,10 @@ fn zeros_after_a_buffer(rt: HostRuntime) {
     ] {
         let mut buffer = Vec::from_slice(rt.alloc(), text).expect(&rt, "memory");
         7u16.pad(&mut buffer).expect(&rt, "memory");
-        assert_eq!(rt; buffer.as_slice(), want, "after {text:?}");
+        assert_is_at(&rt, text, buffer.as_slice(), want);
         let mut buffer = Vec::from_slice(rt.alloc(), text).expect(&rt, "memory");
         [9u8; 3].pad(&mut buffer).expect(&rt, "memory");
-        assert_eq!(rt; buffer.as_slice(), want, "after {text:?}, by an array");
+        assert_is_at(&rt, (text, "by an array"), buffer.as_slice(), want);
     }
 }
 
@@ -67,7 +67,7 @@ fn zeros_from_a_place_on(rt: HostRuntime) {
         let mut buffer = Vec::from_slice(rt.alloc(), b"12345").expect(&rt, "memory");
         assert!(rt; start <= buffer.len());
         pad_from(&mut buffer, start).expect(&rt, "memory");
-        assert_eq!(rt; buffer.as_slice(), want, "from {start} on");
+        assert_is_at(&rt, start, buffer.as_slice(), want);
     }
 }
 
@@ -79,7 +79,7 @@ fn a_number_a_text_and_zeros(rt: HostRuntime) {
     "lo".to_bytes(&mut buffer).expect(&rt, "memory");
     "lo".pad(&mut buffer).expect(&rt, "memory");
     let want = [0x70u8, 0x17, 0x6c, 0x6f, 0, 0, 0, 0];
-    assert_eq!(rt; buffer.as_slice(), want.as_slice());
+    assert_is(&rt, buffer.as_slice(), want.as_slice());
 }
 
 /// What bytes are passed over for.
@@ -125,11 +125,7 @@ fn check_strip(rt: &impl Abort, kind: Kind) {
         let mut cursor = Cursor::new(b"12345");
         cursor.set_position(start);
         let got = strip(kind, &mut cursor).map_err(|error| refusal_of(&error));
-        assert_eq!(rt;
-            (got, cursor.position()),
-            (want, place),
-            "{kind:?} from {start}"
-        );
+        assert_is_at(rt, (kind, start), (got, cursor.position()), (want, place));
     }
 }
 
@@ -144,8 +140,8 @@ fn strips(rt: HostRuntime) {
 fn writes_taken_back(rt: HostRuntime) {
     let mut buffer = Vec::from_slice(rt.alloc(), b"12345").expect(&rt, "memory");
     assert!(rt; undo_on_refusal(&mut buffer, 2, Ok(())).is_ok());
-    assert_eq!(rt; buffer.as_slice(), b"12345".as_slice());
+    assert_is(&rt, buffer.as_slice(), b"12345".as_slice());
     let refused = undo_on_refusal(&mut buffer, 2, Err(SerError::Memory));
     assert!(rt; matches!(refused, Err(SerError::Memory)));
-    assert_eq!(rt; buffer.as_slice(), b"12".as_slice());
+    assert_is(&rt, buffer.as_slice(), b"12".as_slice());
 }

@@ -3,6 +3,7 @@
 //! No contract states what the standard library prints of an `ErrorKind` or of a `Utf8Error`, so here the
 //! cause itself is printed and compared with what stands after the prefix.
 
+use crate::refusal::assert_is_at;
 use neli_attr::BuildError;
 use neli_msg::SocketError;
 use neli_wire::{DeError, MsgError, NoMemory, SerError, UninitializedFieldError, Utf8};
@@ -22,11 +23,7 @@ fn check<D: Display, C: Display>(
 ) {
     let text = value.to_string(alloc).expect(rt, "memory");
     let cause = cause.to_string(alloc).expect(rt, "memory");
-    assert_eq!(rt;
-        text.strip_prefix(prefix),
-        Some(cause.as_str()),
-        "after {prefix}"
-    );
+    assert_is_at(rt, prefix, text.strip_prefix(prefix), Some(cause.as_str()));
 }
 
 /// Kinds of failures of a link or of a file.

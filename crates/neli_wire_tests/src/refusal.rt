@@ -1,7 +1,24 @@
-//! Refusals to read, by what the tables compare of them.
+//! Refusals to read, by what the tables compare of them, and the comparison itself, which stands in one place.
 
 use neli_wire::{DeError, Utf8};
+use std::fmt::Debug;
 use std::io::ErrorKind;
+use std::process::Abort;
+
+/// Asserts that this is what is wanted.
+pub fn assert_is<T: Copy + PartialEq + Debug>(rt: &impl Abort, got: T, want: T) {
+    assert_eq!(rt; got, want);
+}
+
+/// Asserts that this is what is wanted, in the row of a table that has this name or input.
+pub fn assert_is_at<R: Copy + Debug, T: Copy + PartialEq + Debug>(
+    rt: &impl Abort,
+    row: R,
+    got: T,
+    want: T,
+) {
+    assert_eq!(rt; got, want, "at {row:?}");
+}
 
 /// A refusal to read.
 #[derive(Clone, Copy, Debug, PartialEq, Eq)]

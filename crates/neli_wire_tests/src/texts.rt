@@ -1,6 +1,6 @@
 //! Texts, borrowed and owned. An owned text is read without its last byte, whatever that is.
 
-use crate::refusal::{Refusal, refusal_of};
+use crate::refusal::{Refusal, assert_is, assert_is_at, refusal_of};
 use neli_wire::{Cursor, DeError, FromBytesWithInput, FromBytesWithInputBorrowed, Size, ToBytes};
 
 // Five letters and a zero, as neli's own test has them. The byte ff is in no text (RFC 3629 section 3).
@@ -26,11 +26,7 @@ fn owned_texts(rt: HostRuntime) {
             Err(error) => Err(refusal_of(error)),
         };
         let moved = if want.is_ok() { n } else { 0 };
-        assert_eq!(rt;
-            (got, cursor.position()),
-            (want, moved),
-            "of {bytes:?} with input {n}"
-        );
+        assert_is_at(&rt, (bytes, n), (got, cursor.position()), (want, moved));
     }
 }
 
@@ -48,11 +44,7 @@ fn lent_texts(rt: HostRuntime) {
         let mut cursor = Cursor::new(bytes);
         let read: Result<&str, DeError> = <&str>::from_bytes_with_input(&mut cursor, n);
         let got = read.map_err(|error| refusal_of(&error));
-        assert_eq!(rt;
-            (got, cursor.position()),
-            (want, 0),
-            "of {bytes:?} with input {n}"
-        );
+        assert_is_at(&rt, (bytes, n), (got, cursor.position()), (want, 0));
     }
 }
 
@@ -61,13 +53,13 @@ fn written_texts(rt: HostRuntime) {
     for (text, want) in [("", b"..\0".as_slice()), ("AAAAA", b"..AAAAA\0")] {
         let mut buffer = Vec::from_slice(rt.alloc(), b"..").expect(&rt, "memory");
         text.to_bytes(&mut buffer).expect(&rt, "memory");
-        assert_eq!(rt; buffer.as_slice(), want, "of {text}");
+        assert_is_at(&rt, text, buffer.as_slice(), want);
         let mut buffer = Vec::from_slice(rt.alloc(), b"..").expect(&rt, "memory");
         String::from_str(rt.alloc(), text)
             .expect(&rt, "memory")
             .to_bytes(&mut buffer)
             .expect(&rt, "memory");
-        assert_eq!(rt; buffer.as_slice(), want, "of {text}, owned");
+        assert_is_at(&rt, (text, "owned"), buffer.as_slice(), want);
     }
 }
 
@@ -79,12 +71,12 @@ fn sizes(rt: HostRuntime) {
         text.padded_size(),
         text.written_size(),
     );
-    assert_eq!(rt; sizes, (5, 8, 5));
+    assert_is(&rt, sizes, (5, 8, 5));
     let owned = String::from_str(rt.alloc(), text).expect(&rt, "memory");
     let sizes = (
         owned.unpadded_size(),
         owned.padded_size(),
         owned.written_size(),
     );
-    assert_eq!(rt; sizes, (5, 8, 5));
+    assert_is(&rt, sizes, (5, 8, 5));
 }
