@@ -1,7 +1,10 @@
 //! Single attributes on the wire: the frames of `struct nlattr` and `struct rtattr` of the kernel's
 //! linux/netlink.h and linux/rtnetlink.h, worked out by hand.
 
-use crate::support::{Refusal, assert_prints, assert_written, generic, refusal_of, routing, zeros};
+use crate::support::{
+    Refusal, assert_is, assert_is_at, assert_prints, assert_written, generic, refusal_of, routing,
+    zeros,
+};
 use neli_attr::{AttrType, Attribute, Buffer, BuildError, Nlattr, NlattrBuilder, Rtattr};
 use neli_consts::CtrlAttr;
 use neli_consts_rta::Rta;
@@ -25,12 +28,12 @@ fn read_routing(alloc: Global) -> Result<Rtattr<Rta, Buffer>, DeError> {
 // The frame of `struct rtattr` (the kernel's linux/rtnetlink.h).
 #[test]
 fn an_empty_routing_attribute(rt: HostRuntime) {
-    assert_eq!(rt; Rtattr::<Rta, Buffer>::header_size(), 4);
+    assert_is(&rt, Rtattr::<Rta, Buffer>::header_size(), 4);
     let mut cursor = Cursor::new(&[4, 0, 0, 0]);
     let read = Rtattr::from_bytes(rt.alloc(), &mut cursor);
     let empty: Rtattr<Rta, Buffer> = read.expect(&rt, "an attribute");
     let fields = (*empty.rta_len(), *empty.rta_type(), cursor.position());
-    assert_eq!(rt; fields, (4, Rta::Unspec, 4));
+    assert_is(&rt, fields, (4, Rta::Unspec, 4));
     assert!(rt; empty.rta_payload().is_empty());
 }
 
@@ -39,9 +42,10 @@ fn an_empty_routing_attribute(rt: HostRuntime) {
 fn a_routing_attribute_of_three_bytes(rt: HostRuntime) {
     let mut cursor = Cursor::new(&[3, 0, 0, 0]);
     let short: Result<Rtattr<Rta, Buffer>, DeError> = Rtattr::from_bytes(rt.alloc(), &mut cursor);
-    assert_eq!(rt;
+    assert_is(
+        &rt,
         (refusal_of(short), cursor.position()),
-        (Some(Refusal::Input(3)), 0)
+        (Some(Refusal::Input(3)), 0),
     );
 }
 
@@ -49,7 +53,7 @@ fn a_routing_attribute_of_three_bytes(rt: HostRuntime) {
 fn a_routing_attribute_of_five_bytes(rt: HostRuntime) {
     let alloc = rt.alloc();
     let built = routing(&rt, alloc, Rta::Unspec, 0u8);
-    assert_eq!(rt; (built.unpadded_size(), built.padded_size()), (5, 8));
+    assert_is(&rt, (built.unpadded_size(), built.padded_size()), (5, 8));
     let bytes = [5, 0, 0, 0, 0, 0, 0, 0];
     assert_written(&rt, alloc, &built, &bytes);
     let copy = built.try_clone().expect(&rt, "memory");
@@ -75,10 +79,11 @@ fn faults_of_one_attribute(rt: HostRuntime) {
             rt.alloc(),
             &mut cursor,
         );
-        assert_eq!(rt;
+        assert_is_at(
+            &rt,
+            bytes,
             (refusal_of(read), cursor.position()),
             (Some(want), 0),
-            "at {bytes:?}"
         );
     }
 }
@@ -88,7 +93,11 @@ fn faults_of_one_attribute(rt: HostRuntime) {
 fn the_longest_attribute(rt: HostRuntime) {
     let alloc = rt.alloc();
     let longest = generic(&rt, alloc, 1u16, zeros(&rt, alloc, 65531));
-    assert_eq!(rt; (*longest.nla_len(), longest.padded_size()), (65535, 65536));
+    assert_is(
+        &rt,
+        (*longest.nla_len(), longest.padded_size()),
+        (65535, 65536),
+    );
 }
 
 #[test]
@@ -131,23 +140,24 @@ fn payloads_that_are_set(rt: HostRuntime) {
 
 /// Asserts the sizes and the payload of the attribute of [`BYTES`], and what the payload is read as.
 fn assert_payload<T, A: Attribute<T> + Size>(rt: &impl Abort, alloc: Global, attr: &A) {
-    assert_eq!(rt; (attr.unpadded_size(), attr.written_size()), (8, 8));
-    assert_eq!(rt; attr.payload().as_ref(), [7u8, 1, 9, 9].as_slice());
+    assert_is(rt, (attr.unpadded_size(), attr.written_size()), (8, 8));
+    assert_is(rt, attr.payload().as_ref(), [7u8, 1, 9, 9].as_slice());
     let first: u16 = attr.get_payload_as(alloc).expect(rt, "a number");
     let whole: Vec<u8> = attr.get_payload_as_with_len(alloc).expect(rt, "bytes");
-    assert_eq!(rt;
+    assert_is(
+        rt,
         (first, whole.as_slice()),
-        (0x0107, [7u8, 1, 9, 9].as_slice())
+        (0x0107, [7u8, 1, 9, 9].as_slice()),
     );
 }
 
 #[test]
 fn payloads_of_generic_attributes(rt: HostRuntime) {
     let attr = read_generic(rt.alloc()).expect(&rt, "an attribute");
-    assert_eq!(rt; Nlattr::<CtrlAttr, Buffer>::header_size(), 4);
+    assert_is(&rt, Nlattr::<CtrlAttr, Buffer>::header_size(), 4);
     assert_payload(&rt, rt.alloc(), &attr);
     let lent: &[u8] = attr.get_payload_as_with_len_borrowed().expect(&rt, "bytes");
-    assert_eq!(rt; lent, [7u8, 1, 9, 9].as_slice());
+    assert_is(&rt, lent, [7u8, 1, 9, 9].as_slice());
 }
 
 #[test]
@@ -167,7 +177,7 @@ fn payloads_of_routing_attributes(rt: HostRuntime) {
     let attr = read_routing(rt.alloc()).expect(&rt, "an attribute");
     assert_payload(&rt, rt.alloc(), &attr);
     let lent: &[u8] = attr.get_payload_as_with_len_borrowed().expect(&rt, "bytes");
-    assert_eq!(rt; lent, [7u8, 1, 9, 9].as_slice());
+    assert_is(&rt, lent, [7u8, 1, 9, 9].as_slice());
     let copy = attr.try_clone().expect(&rt, "memory");
-    assert_eq!(rt; (*copy.rta_len(), *copy.rta_type()), (8, Rta::Dst));
+    assert_is(&rt, (*copy.rta_len(), *copy.rta_type()), (8, Rta::Dst));
 }

@@ -1,5 +1,6 @@
 //! Bytes that a value owns.
 
+use crate::support::assert_is;
 use neli_attr::Buffer;
 use neli_wire::{Cursor, FromBytesWithInput, Size, ToBytes};
 use std::alloc::Global;
@@ -24,12 +25,12 @@ fn three_bytes(rt: &impl Abort, alloc: Global) -> Buffer {
 fn buffers(rt: HostRuntime) {
     let alloc = rt.alloc();
     let buffer = three_bytes(&rt, alloc);
-    assert_eq!(rt; buffer.as_ref(), b"xxx".as_slice());
-    assert_eq!(rt; (buffer.len(), buffer.written_size()), (3, 3));
+    assert_is(&rt, buffer.as_ref(), b"xxx".as_slice());
+    assert_is(&rt, (buffer.len(), buffer.written_size()), (3, 3));
     let text = format!(in alloc; "{buffer:?}").expect(&rt, "memory");
-    assert_eq!(rt; text.as_str(), "Buffer");
+    assert_is(&rt, text.as_str(), "Buffer");
     let bytes: Vec<u8> = buffer.into();
-    assert_eq!(rt; bytes.as_slice(), b"xxx".as_slice());
+    assert_is(&rt, bytes.as_slice(), b"xxx".as_slice());
 }
 
 #[test]
@@ -47,7 +48,7 @@ fn buffers_written(rt: HostRuntime) {
     three_bytes(&rt, alloc)
         .to_bytes(&mut written)
         .expect(&rt, "memory");
-    assert_eq!(rt; written.as_slice(), b"..xxx".as_slice());
+    assert_is(&rt, written.as_slice(), b"..xxx".as_slice());
 }
 
 #[test]
@@ -55,13 +56,13 @@ fn bytes_of_a_buffer(rt: HostRuntime) {
     let alloc = rt.alloc();
     let mut cursor = Cursor::new(&BYTES);
     let buffer = Buffer::from_bytes_with_input(alloc, &mut cursor, 4).expect(&rt, "bytes");
-    assert_eq!(rt; buffer.as_ref(), [8u8, 0, 1, 0].as_slice());
+    assert_is(&rt, buffer.as_ref(), [8u8, 0, 1, 0].as_slice());
     let sizes = (
         buffer.unpadded_size(),
         buffer.written_size(),
         cursor.position(),
     );
-    assert_eq!(rt; sizes, (4, 4, 4));
+    assert_is(&rt, sizes, (4, 4, 4));
     let copy = Buffer::from_slice(alloc, &BYTES[..4]).expect(&rt, "memory");
     assert!(rt; copy == buffer);
 }
@@ -69,5 +70,5 @@ fn bytes_of_a_buffer(rt: HostRuntime) {
 #[test]
 fn a_buffer_of_a_list(rt: HostRuntime) {
     let bytes = Vec::from_slice(rt.alloc(), b"ab").expect(&rt, "memory");
-    assert_eq!(rt; Buffer::from(bytes).as_ref(), b"ab".as_slice());
+    assert_is(&rt, Buffer::from(bytes).as_ref(), b"ab".as_slice());
 }

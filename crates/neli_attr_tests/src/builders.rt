@@ -1,6 +1,6 @@
 //! What builders answer where they make nothing.
 
-use crate::support::assert_prints;
+use crate::support::{assert_is, assert_is_at, assert_prints};
 use neli_attr::{
     AttrTypeBuilder, BuildError, NlattrBuilder, NlattrBuilderError, RtattrBuilder, of,
 };
@@ -31,7 +31,7 @@ fn missing_fields(rt: HostRuntime) {
         (missing_of(bare.build(alloc)), "rta_payload"),
     ];
     for (missing, want) in rows {
-        assert_eq!(rt; missing, want);
+        assert_is(&rt, missing, want);
     }
 }
 
@@ -107,7 +107,7 @@ const BUILDERS: [(&str, u8); 19] = [
 fn numbers_of_builders_differ(rt: HostRuntime) {
     for (name, number) in BUILDERS {
         let same = BUILDERS.iter().filter(|row| row.1 == number).count();
-        assert_eq!(rt; same, 1, "at {name}");
+        assert_is_at(&rt, name, same, 1);
         assert!(rt; number < 128, "at {name}");
     }
 }

@@ -1,7 +1,8 @@
 //! Lists of attributes: their calls, and what they are written as and read from.
 
 use crate::support::{
-    Refusal, assert_written, generic, generic_list, refusal_of, routing, routing_list,
+    Refusal, assert_is, assert_is_at, assert_written, generic, generic_list, refusal_of, routing,
+    routing_list,
 };
 use neli_attr::{
     AttrHandle, AttrSlice, Attribute, Buffer, GenlAttrHandle, GenlBuffer, Nlattr, RtAttrHandle,
@@ -30,7 +31,7 @@ fn sizes_of_generic_lists(rt: HostRuntime) {
         let attr = generic(&rt, alloc, Index::from(u16::from(n)), n);
         indexed.push(attr).expect(&rt, "memory");
     }
-    assert_eq!(rt; indexed.unpadded_size(), 24);
+    assert_is(&rt, indexed.unpadded_size(), 24);
     assert_written(&rt, alloc, &indexed, &THREE);
 }
 
@@ -42,7 +43,7 @@ fn sizes_of_routing_lists(rt: HostRuntime) {
         let attr = routing(&rt, alloc, kind, n);
         addresses.push(attr).expect(&rt, "memory");
     }
-    assert_eq!(rt; addresses.unpadded_size(), 24);
+    assert_is(&rt, addresses.unpadded_size(), 24);
     assert_written(&rt, alloc, &addresses, &THREE);
 }
 
@@ -70,24 +71,24 @@ fn generic_lists_that_are_changed(rt: HostRuntime) {
         .map(|attr| *attr.nla_len())
         .collect(rt.alloc())
         .expect(&rt, "memory");
-    assert_eq!(rt; lengths.as_slice(), [6, 6].as_slice());
+    assert_is(&rt, lengths.as_slice(), [6, 6].as_slice());
 }
 
 #[test]
 fn generic_lists_that_are_emptied(rt: HostRuntime) {
     let mut list = changed(&rt, rt.alloc());
-    assert_eq!(rt; (list.len(), list.as_ref().len()), (2, 2));
+    assert_is(&rt, (list.len(), list.as_ref().len()), (2, 2));
     let last = list.pop().expect(&rt, "two attributes");
-    assert_eq!(rt; *last.nla_type().nla_type(), 2);
+    assert_is(&rt, *last.nla_type().nla_type(), 2);
     for attr in list {
-        assert_eq!(rt; *attr.nla_len(), 6);
+        assert_is(&rt, *attr.nla_len(), 6);
     }
 }
 
 #[test]
 fn copies_of_generic_lists(rt: HostRuntime) {
     let list = generic_list::<u16>(rt.alloc(), &TWO).expect(&rt, "a list");
-    assert_eq!(rt; list.len(), 2);
+    assert_is(&rt, list.len(), 2);
     assert!(rt; list.try_clone().expect(&rt, "memory") == list);
 }
 
@@ -113,10 +114,10 @@ fn routing_lists_that_are_emptied(rt: HostRuntime) {
     let alloc = rt.alloc();
     let mut routes = routing_list::<Rta>(alloc, &TWO).expect(&rt, "a list");
     assert!(rt; !routes.is_empty());
-    assert_eq!(rt; routes.iter().count(), 2);
+    assert_is(&rt, routes.iter().count(), 2);
     assert!(rt; routes.pop().is_some());
     let attrs = vec![in alloc; routing(&rt, alloc, Rta::Oif, 1u32)].expect(&rt, "memory");
-    assert_eq!(rt; RtBuffer::from_list(attrs).as_ref().len(), 1);
+    assert_is(&rt, RtBuffer::from_list(attrs).as_ref().len(), 1);
 }
 
 // Faults inside a list are faults of the whole list's bytes.
@@ -131,7 +132,7 @@ const FAULTS: [(&[u8], usize); 4] = [
 fn faults_of_lists(rt: HostRuntime) {
     for (bytes, want) in FAULTS {
         let refused = refusal_of(generic_list::<u16>(rt.alloc(), bytes));
-        assert_eq!(rt; refused, Some(Refusal::Input(want)), "at {bytes:?}");
+        assert_is_at(&rt, bytes, refused, Some(Refusal::Input(want)));
     }
 }
 
@@ -141,30 +142,30 @@ fn lists_of_none_and_of_one(rt: HostRuntime) {
     assert!(rt; none.is_empty());
     let bytes = [5, 0, 1, 0, 0x61, 0xff, 0xff, 0xff];
     let one = generic_list::<u16>(rt.alloc(), &bytes).expect(&rt, "a list");
-    assert_eq!(rt; one.len(), 1);
+    assert_is(&rt, one.len(), 1);
     for attr in one.iter() {
-        assert_eq!(rt; attr.payload().as_ref(), b"a".as_slice());
+        assert_is(&rt, attr.payload().as_ref(), b"a".as_slice());
     }
 }
 
 /// Asserts that these are the attributes of [`BYTES`].
 fn assert_generic(rt: &impl Abort, attrs: &[Nlattr<CtrlAttr, Buffer>]) {
-    assert_eq!(rt; attrs.len(), 2);
-    assert_eq!(rt; *attrs[0].nla_type().nla_type(), CtrlAttr::FamilyId);
-    assert_eq!(rt; *attrs[1].nla_len(), 5);
+    assert_is(rt, attrs.len(), 2);
+    assert_is(rt, *attrs[0].nla_type().nla_type(), CtrlAttr::FamilyId);
+    assert_is(rt, *attrs[1].nla_len(), 5);
 }
 
 /// Asserts that these are the attributes of [`BYTES`].
 fn assert_routing(rt: &impl Abort, attrs: &[Rtattr<Rta, Buffer>]) {
-    assert_eq!(rt; attrs.len(), 2);
-    assert_eq!(rt; *attrs[0].rta_type(), Rta::Dst);
-    assert_eq!(rt; *attrs[1].rta_len(), 5);
+    assert_is(rt, attrs.len(), 2);
+    assert_is(rt, *attrs[0].rta_type(), Rta::Dst);
+    assert_is(rt, *attrs[1].rta_len(), 5);
 }
 
 /// Asserts that this handle is of the attributes of [`BYTES`].
 fn assert_generic_handle(rt: &impl Abort, handle: &GenlAttrHandle<'_, CtrlAttr>) {
     assert_generic(rt, handle.get_attrs());
-    assert_eq!(rt; handle.iter().count(), 2);
+    assert_is(rt, handle.iter().count(), 2);
 }
 
 #[test]
@@ -185,7 +186,7 @@ fn generic_lists_of_attributes(rt: HostRuntime) {
     }
     let again = GenlBuffer::from(Vec::from(GenlBuffer::from(attrs)));
     assert_generic(&rt, again.as_ref());
-    assert_eq!(rt; (again.unpadded_size(), again.written_size()), (16, 16));
+    assert_is(&rt, (again.unpadded_size(), again.written_size()), (16, 16));
     let owned: GenlAttrHandle<'_, CtrlAttr> = AttrHandle::new(again);
     assert_generic(&rt, owned.get_attrs());
 }
@@ -193,7 +194,7 @@ fn generic_lists_of_attributes(rt: HostRuntime) {
 /// Asserts that this handle is of the attributes of [`BYTES`].
 fn assert_routing_handle(rt: &impl Abort, handle: &RtAttrHandle<'_, Rta>) {
     assert_routing(rt, handle.get_attrs());
-    assert_eq!(rt; handle.iter().count(), 2);
+    assert_is(rt, handle.iter().count(), 2);
 }
 
 #[test]
@@ -214,5 +215,5 @@ fn routing_lists_of_attributes(rt: HostRuntime) {
     }
     let again = RtBuffer::from(Vec::from(RtBuffer::from(attrs)));
     assert_routing(&rt, again.as_ref());
-    assert_eq!(rt; (again.unpadded_size(), again.written_size()), (16, 16));
+    assert_is(&rt, (again.unpadded_size(), again.written_size()), (16, 16));
 }

@@ -1,6 +1,6 @@
 //! Looking attributes up in a handle.
 
-use crate::support::{assert_prints, generic_list, routing_list};
+use crate::support::{assert_is, assert_is_at, assert_prints, generic_list, routing_list};
 use neli_attr::{AttrHandle, Buffer, GenlAttrHandle, GenlBuffer};
 use neli_consts::{CtrlAttr, Index};
 use neli_consts_rta::Frattr;
@@ -61,7 +61,7 @@ fn lookup_goes_by_equality(rt: HostRuntime) {
     let first: u32 = handle
         .get_attr_payload_as(alloc, Frattr::Iifname)
         .expect(&rt, "a number");
-    assert_eq!(rt; first, 1, "the first of two");
+    assert_is_at(&rt, "the first of two", first, 1);
     assert!(rt; handle.get_attribute(Frattr::Ifname).is_none());
 }
 
@@ -74,11 +74,11 @@ fn payloads_that_are_looked_up(rt: HostRuntime) {
     let whole: Buffer = handle
         .get_attr_payload_as_with_len(alloc, Frattr::Iifname)
         .expect(&rt, "bytes");
-    assert_eq!(rt; whole.as_ref(), [1, 0, 0, 0].as_slice());
+    assert_is(&rt, whole.as_ref(), [1, 0, 0, 0].as_slice());
     let lent: &[u8] = handle
         .get_attr_payload_as_with_len_borrowed(Frattr::Iifname)
         .expect(&rt, "bytes");
-    assert_eq!(rt; lent, [1, 0, 0, 0].as_slice());
+    assert_is(&rt, lent, [1, 0, 0, 0].as_slice());
 }
 
 // A handle of a list lends it; one that is made of a list owns it.

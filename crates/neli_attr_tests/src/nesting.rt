@@ -1,6 +1,6 @@
 //! Attributes inside attributes.
 
-use crate::support::{assert_written, generic, routing, routing_list};
+use crate::support::{assert_is, assert_written, generic, routing, routing_list};
 use neli_attr::{
     AttrHandle, Buffer, GenlAttrHandle, GenlBuffer, Nlattr, RtAttrHandle, RtBuffer, Rtattr,
 };
@@ -42,7 +42,7 @@ fn assert_group(rt: &impl Abort, alloc: Global, group: &GenlAttrHandle<'_, CtrlA
     let id: u32 = group
         .get_attr_payload_as(alloc, CtrlAttrMcastGrp::Id)
         .expect(rt, "a number");
-    assert_eq!(rt; (name.as_str(), lent, id), ("notify", "notify\0", 5));
+    assert_is(rt, (name.as_str(), lent, id), ("notify", "notify\0", 5));
 }
 
 #[test]
@@ -54,7 +54,7 @@ fn nested_groups_looked_up(rt: HostRuntime) {
     let indexed = handle
         .get_nested_attributes::<Index>(alloc, CtrlAttr::McastGroups)
         .expect(&rt, "groups");
-    assert_eq!(rt; indexed.iter().count(), 1);
+    assert_is(&rt, indexed.iter().count(), 1);
     let group = indexed
         .get_attribute(Index::from(1))
         .expect(&rt, "a group")
@@ -77,7 +77,7 @@ fn nested_routing_attributes(rt: HostRuntime) {
     let inner = nested
         .get_attr_handle::<Rta>(rt.alloc())
         .expect(&rt, "attributes");
-    assert_eq!(rt; inner.get_attrs().len(), 1);
+    assert_is(&rt, inner.get_attrs().len(), 1);
 }
 
 // A copy of them, owned.
@@ -92,7 +92,7 @@ fn nested_routing_attributes_of_an_owner(rt: HostRuntime) {
         .get_nested_attributes::<Rta>(alloc, Frattr::Dst)
         .expect(&rt, "attributes");
     let number: Result<u32, DeError> = found.get_attr_payload_as(alloc, Rta::Oif);
-    assert_eq!(rt; number.expect(&rt, "a number"), 4);
+    assert_is(&rt, number.expect(&rt, "a number"), 4);
 }
 
 // Each level is read by a call of its own, so the depth of the input is no depth of the stack.
@@ -105,7 +105,7 @@ fn a_thousand_levels(rt: HostRuntime) {
             .nest(&attr)
             .expect(&rt, "a nested attribute");
     }
-    assert_eq!(rt; *attr.nla_len(), 4004);
+    assert_is(&rt, *attr.nla_len(), 4004);
     for _ in 0..1000 {
         let inner = attr
             .get_attr_handle::<u16>(alloc)
@@ -116,7 +116,7 @@ fn a_thousand_levels(rt: HostRuntime) {
             .expect(&rt, "memory");
         attr = inner;
     }
-    assert_eq!(rt; *attr.nla_len(), 4);
+    assert_is(&rt, *attr.nla_len(), 4);
     assert!(rt; attr.nla_payload().is_empty());
 }
 
@@ -154,8 +154,9 @@ fn a_list_that_is_looked_up(rt: HostRuntime) {
     let mtu: u32 = metrics
         .get_attr_payload_as(alloc, 2)
         .expect(&rt, "a number");
-    assert_eq!(rt;
+    assert_is(
+        &rt,
         (address.as_slice(), mtu),
-        ([192u8, 0, 2, 1].as_slice(), 1500)
+        ([192u8, 0, 2, 1].as_slice(), 1500),
     );
 }

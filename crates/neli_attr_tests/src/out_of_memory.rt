@@ -1,6 +1,7 @@
 //! Each allocation may be refused in these tests: then the answer is that memory ran out, and nothing has
 //! changed. They are run with each allocation refused in turn.
 
+use crate::support::assert_is;
 use neli_attr::{Attribute, Buffer, RtBuffer, Rtattr, RtattrBuilder, RtattrBuilderError};
 use neli_consts_rta::Rta;
 use neli_wire::{Cursor, DeError, FromBytesWithInput, SerError, ToBytes};
@@ -38,9 +39,9 @@ fn built_and_nested_or_out_of_memory(rt: HostRuntime) {
     };
     match outer.nest(&inner) {
         Ok(nested) => {
-            assert_eq!(rt; *nested.rta_len(), 12);
+            assert_is(&rt, *nested.rta_len(), 12);
             let bytes = [8u8, 0, 1, 0, 7, 0, 0, 0];
-            assert_eq!(rt; nested.rta_payload().as_ref(), bytes.as_slice());
+            assert_is(&rt, nested.rta_payload().as_ref(), bytes.as_slice());
         }
         Err(error) => assert!(rt; matches!(error, SerError::Memory)),
     }
@@ -54,13 +55,13 @@ fn payload_set_or_out_of_memory(rt: HostRuntime) {
     };
     match attr.set_payload(alloc, &0x0201u16) {
         Ok(()) => {
-            assert_eq!(rt; *attr.rta_len(), 6);
-            assert_eq!(rt; attr.rta_payload().as_ref(), [1u8, 2].as_slice());
+            assert_is(&rt, *attr.rta_len(), 6);
+            assert_is(&rt, attr.rta_payload().as_ref(), [1u8, 2].as_slice());
         }
         Err(error) => {
             assert!(rt; matches!(error, SerError::Memory));
-            assert_eq!(rt; *attr.rta_len(), 5);
-            assert_eq!(rt; attr.rta_payload().as_ref(), [7u8].as_slice());
+            assert_is(&rt, *attr.rta_len(), 5);
+            assert_is(&rt, attr.rta_payload().as_ref(), [7u8].as_slice());
         }
     }
 }
@@ -73,7 +74,7 @@ fn read_list(rt: &impl Abort, alloc: Global) -> Option<RtBuffer<Rta, Buffer>> {
         Ok(attrs) => Some(attrs),
         Err(error) => {
             assert!(rt; matches!(error, DeError::Memory));
-            assert_eq!(rt; cursor.position(), 0);
+            assert_is(rt, cursor.position(), 0);
             None
         }
     }
@@ -84,7 +85,7 @@ fn list_read_or_out_of_memory(rt: HostRuntime) {
     let Some(attrs) = read_list(&rt, rt.alloc()) else {
         return;
     };
-    assert_eq!(rt; attrs.len(), 2);
+    assert_is(&rt, attrs.len(), 2);
     let number: Result<u32, DeError> = attrs
         .get_attr_handle()
         .get_attr_payload_as(rt.alloc(), Rta::Dst);
@@ -100,7 +101,7 @@ fn payload_read_or_out_of_memory(rt: HostRuntime) {
         .get_attr_handle()
         .get_attr_payload_as_with_len(rt.alloc(), Rta::Src);
     match list {
-        Ok(list) => assert_eq!(rt; list.as_slice(), [9u8].as_slice()),
+        Ok(list) => assert_is(&rt, list.as_slice(), [9u8].as_slice()),
         Err(error) => assert!(rt; matches!(error, DeError::Memory)),
     }
 }

@@ -1,6 +1,7 @@
 //! The attributes of datagrams that were recorded from Linux 6.18, against what libmnl and pyroute2 read
 //! there. Each row is the part of a message after the header of its body.
 
+use crate::support::{assert_is, assert_is_at};
 use neli_attr::{Buffer, GenlBuffer, Nlattr, RtBuffer};
 use neli_consts::{CtrlAttr, CtrlAttrMcastGrp, Index, NlAttrType};
 use neli_consts_rta::{Ifa, Ifla, Rta, RtaType};
@@ -233,12 +234,8 @@ fn routes<T: RtaType>(rt: &impl Abort, alloc: Global, row: Row) -> RtBuffer<T, B
 fn assert_written<T: ToBytes>(rt: &impl Abort, alloc: Global, list: &T, row: Row) {
     let mut again = Vec::new(alloc);
     list.to_bytes(&mut again).expect(rt, "memory");
-    assert_eq!(rt;
-        again.as_slice(),
-        decoded(rt, alloc, row.1).as_slice(),
-        "{}",
-        row.0
-    );
+    let bytes = decoded(rt, alloc, row.1);
+    assert_is_at(rt, row.0, again.as_slice(), bytes.as_slice());
 }
 
 /// What the rows compare of attributes.
@@ -260,7 +257,7 @@ fn attributes_are_as_libmnl_reads_them(rt: HostRuntime) {
     for row in ROWS {
         let list = family::<u16>(&rt, alloc, row);
         let seen = seen_in(&rt, alloc, &list);
-        assert_eq!(rt; seen.as_slice(), row.2, "{}", row.0);
+        assert_is_at(&rt, row.0, seen.as_slice(), row.2);
         assert_written(&rt, alloc, &list, row);
     }
 }
@@ -271,7 +268,7 @@ fn attributes_are_as_many_as_libmnl_reads(rt: HostRuntime) {
     let alloc = rt.alloc();
     for row in ROWS {
         let list = routes::<u16>(&rt, alloc, row);
-        assert_eq!(rt; list.len(), row.2.len(), "{}", row.0);
+        assert_is_at(&rt, row.0, list.len(), row.2.len());
         assert_written(&rt, alloc, &list, row);
     }
 }
@@ -284,14 +281,14 @@ fn values_of_an_address(rt: HostRuntime) {
     let local: &[u8] = handle
         .get_attr_payload_as_with_len_borrowed(Ifa::Local)
         .expect(&rt, "an address");
-    assert_eq!(rt; local, [127, 0, 0, 1].as_slice());
+    assert_is(&rt, local, [127, 0, 0, 1].as_slice());
     let label: String = handle
         .get_attr_payload_as_with_len(rt.alloc(), Ifa::Label)
         .expect(&rt, "a label");
     let flags: u32 = handle
         .get_attr_payload_as(rt.alloc(), Ifa::Flags)
         .expect(&rt, "flags");
-    assert_eq!(rt; (label.as_str(), flags), ("lo", 128));
+    assert_is(&rt, (label.as_str(), flags), ("lo", 128));
 }
 
 // Values that pyroute2 reads in a route.
@@ -301,7 +298,7 @@ fn numbers_of_a_route(rt: HostRuntime) {
     let handle = route.get_attr_handle();
     for (kind, want) in [(Rta::Table, 254), (Rta::Priority, 1024), (Rta::Oif, 3)] {
         let number: Result<u32, DeError> = handle.get_attr_payload_as(rt.alloc(), kind);
-        assert_eq!(rt; number.expect(&rt, "a number"), want, "at {kind:?}");
+        assert_is_at(&rt, kind, number.expect(&rt, "a number"), want);
     }
 }
 
@@ -312,9 +309,10 @@ fn a_gateway_of_a_route(rt: HostRuntime) {
     let gateway: &[u8] = handle
         .get_attr_payload_as_with_len_borrowed(Rta::Gateway)
         .expect(&rt, "a gateway");
-    assert_eq!(rt;
+    assert_is(
+        &rt,
         gateway,
-        b"\x20\x01\x0d\xb8\0\0\0\0\0\0\0\0\0\0\0\x09".as_slice()
+        b"\x20\x01\x0d\xb8\0\0\0\0\0\0\0\0\0\0\0\x09".as_slice(),
     );
     assert!(rt; handle.get_attribute(Rta::Metrics).is_none());
 }
@@ -330,7 +328,7 @@ fn values_of_a_link(rt: HostRuntime) {
     let mtu: u32 = handle
         .get_attr_payload_as(rt.alloc(), Ifla::Mtu)
         .expect(&rt, "a number");
-    assert_eq!(rt; (name.as_str(), mtu), ("veth1", 1500));
+    assert_is(&rt, (name.as_str(), mtu), ("veth1", 1500));
 }
 
 // Values that pyroute2 reads in the family IOAM6.
@@ -344,7 +342,7 @@ fn values_of_a_generic_family(rt: HostRuntime) {
     let id: u16 = handle
         .get_attr_payload_as(rt.alloc(), CtrlAttr::FamilyId)
         .expect(&rt, "a number");
-    assert_eq!(rt; (name.as_str(), id), ("IOAM6", 30));
+    assert_is(&rt, (name.as_str(), id), ("IOAM6", 30));
 }
 
 /// Two numbers of a nested attribute.
@@ -370,7 +368,7 @@ fn operations_of_a_generic_family(rt: HostRuntime) {
             .expect(&rt, "memory");
     }
     let want: [(u32, u32); 7] = [(1, 11), (2, 11), (3, 5), (4, 11), (5, 11), (6, 5), (7, 11)];
-    assert_eq!(rt; seen.as_slice(), want.as_slice());
+    assert_is(&rt, seen.as_slice(), want.as_slice());
 }
 
 /// Asserts the number and the name of the group `ioam6_events`.
@@ -384,7 +382,7 @@ fn assert_group(rt: &impl Abort, alloc: Global, group: &Nlattr<Index, Buffer>) {
     let name: String = fields
         .get_attr_payload_as_with_len(alloc, CtrlAttrMcastGrp::Name)
         .expect(rt, "a name");
-    assert_eq!(rt; (id, name.as_str()), (10, "ioam6_events"));
+    assert_is(rt, (id, name.as_str()), (10, "ioam6_events"));
 }
 
 // The multicast group of the family IOAM6.
@@ -395,7 +393,7 @@ fn groups_of_a_generic_family(rt: HostRuntime) {
     let groups = handle
         .get_nested_attributes::<Index>(rt.alloc(), CtrlAttr::McastGroups)
         .expect(&rt, "groups");
-    assert_eq!(rt; groups.get_attrs().len(), 1);
+    assert_is(&rt, groups.get_attrs().len(), 1);
     for group in groups.iter() {
         assert_group(&rt, rt.alloc(), group);
     }

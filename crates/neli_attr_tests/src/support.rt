@@ -7,9 +7,24 @@ use neli_consts::NlAttrType;
 use neli_consts_rta::RtaType;
 use neli_wire::{Cursor, DeError, FromBytesWithInput, ToBytes};
 use std::alloc::Global;
-use std::fmt::Display;
+use std::fmt::{Debug, Display};
 use std::io::ErrorKind;
 use std::process::Abort;
+
+/// Asserts that this is what is wanted.
+pub fn assert_is<T: Copy + PartialEq + Debug>(rt: &impl Abort, got: T, want: T) {
+    assert_eq!(rt; got, want);
+}
+
+/// Asserts that this is what is wanted, in the row of a table that has this name or input.
+pub fn assert_is_at<R: Copy + Debug, T: Copy + PartialEq + Debug>(
+    rt: &impl Abort,
+    row: R,
+    got: T,
+    want: T,
+) {
+    assert_eq!(rt; got, want, "at {row:?}");
+}
 
 /// A generic attribute without flags.
 pub fn generic<T: NlAttrType, P: ToBytes + Drop>(
@@ -43,14 +58,14 @@ pub fn routing<T: RtaType, P: ToBytes + Drop>(
 pub fn assert_written<T: ToBytes>(rt: &impl Abort, alloc: Global, value: &T, bytes: &[u8]) {
     let mut buffer = Vec::from_slice(alloc, b"..").expect(rt, "memory");
     value.to_bytes(&mut buffer).expect(rt, "memory");
-    assert_eq!(rt; buffer.get(2..), Some(bytes));
-    assert_eq!(rt; value.written_size(), bytes.len());
+    assert_is(rt, buffer.get(2..), Some(bytes));
+    assert_is(rt, value.written_size(), bytes.len());
 }
 
 /// Asserts that the value prints this text.
 pub fn assert_prints<D: Display>(rt: &impl Abort, alloc: Global, value: &D, text: &str) {
     let printed = value.to_string(alloc).expect(rt, "memory");
-    assert_eq!(rt; printed.as_str(), text);
+    assert_is(rt, printed.as_str(), text);
 }
 
 /// The list of generic attributes that all of the bytes spell.

@@ -1,6 +1,7 @@
 //! The type field of generic attributes: `NLA_F_NESTED` is 0x8000 and `NLA_F_NET_BYTEORDER` 0x4000 in the
 //! kernel's linux/netlink.h.
 
+use crate::support::{assert_is, assert_is_at};
 use neli_attr::{AttrType, AttrTypeBuilder};
 use neli_consts::CtrlAttr;
 use neli_wire::Constant;
@@ -22,15 +23,15 @@ fn type_fields(rt: HostRuntime) {
             *field.nla_network_order(),
             *field.nla_type(),
         );
-        assert_eq!(rt; parts, (nested, network_order, kind), "at {number}");
-        assert_eq!(rt; (u16::from(&field), u16::from(field)), (number, number));
+        assert_is_at(&rt, number, parts, (nested, network_order, kind));
+        assert_is(&rt, (u16::from(&field), u16::from(field)), (number, number));
         let built = AttrTypeBuilder::default()
             .nla_nested(nested)
             .nla_network_order(network_order)
             .nla_type(kind)
             .build()
             .expect(&rt, "all fields");
-        assert_eq!(rt; built, field, "at {number}");
+        assert_is_at(&rt, number, built, field);
     }
 }
 
@@ -38,17 +39,18 @@ fn type_fields(rt: HostRuntime) {
 #[test]
 fn type_fields_on_the_wire(rt: HostRuntime) {
     let field = AttrType::<CtrlAttr>::from_wire(0xc002);
-    assert_eq!(rt;
+    assert_is(
+        &rt,
         (*field.nla_nested(), *field.nla_network_order()),
-        (true, true)
+        (true, true),
     );
-    assert_eq!(rt; *field.nla_type(), CtrlAttr::FamilyName);
-    assert_eq!(rt; field.to_wire(), 0xc002);
+    assert_is(&rt, *field.nla_type(), CtrlAttr::FamilyName);
+    assert_is(&rt, field.to_wire(), 0xc002);
     let bare = AttrTypeBuilder::default()
         .nla_type(CtrlAttr::Version)
         .build()
         .expect(&rt, "all fields");
-    assert_eq!(rt; u16::from(bare), 3);
+    assert_is(&rt, u16::from(bare), 3);
     assert!(rt; bare != AttrType::from(0x8003));
 }
 
@@ -56,8 +58,8 @@ fn type_fields_on_the_wire(rt: HostRuntime) {
 #[test]
 fn type_fields_that_are_changed(rt: HostRuntime) {
     let nested = AttrType::<CtrlAttr>::from(0x4002).as_nested();
-    assert_eq!(rt; u16::from(nested), 0xc002);
+    assert_is(&rt, u16::from(nested), 0xc002);
     let typed = AttrType::<u16>::from(0x4002).to_typed::<CtrlAttr>();
-    assert_eq!(rt; *typed.nla_type(), CtrlAttr::FamilyName);
-    assert_eq!(rt; u16::from(typed), 0x4002);
+    assert_is(&rt, *typed.nla_type(), CtrlAttr::FamilyName);
+    assert_is(&rt, u16::from(typed), 0x4002);
 }
