@@ -1,7 +1,7 @@
 //! What builders make, and what is written.
 
 use crate::kinds::ERROR;
-use crate::support::{assert_prints, assert_written};
+use crate::support::{assert_is, assert_prints, assert_written};
 use neli_attr::{Buffer, BuildError, GenlBuffer};
 use neli_consts::{NlmF, NlmsgerrAttr};
 use neli_msg::{
@@ -26,7 +26,11 @@ fn a_length_is_rounded_up(rt: HostRuntime) {
         0x18, 0, 0, 0, 0, 4, 1, 0, 0, 0, 0, 0, 0, 0, 0, 0, 0x61, 0x62, 0x63, 0x64, 0x65, 0, 0, 0,
     ];
     assert_written(&rt, alloc, &message, &want);
-    assert_eq!(rt; (message.unpadded_size(), message.padded_size()), (21, 24));
+    assert_is(
+        &rt,
+        (message.unpadded_size(), message.padded_size()),
+        (21, 24),
+    );
 }
 
 // Padding of any value is written as zeros.
@@ -62,7 +66,7 @@ fn the_first_missing_field_is_named(rt: HostRuntime) {
         (missing_of(message.build()), "nl_flags"),
     ];
     for (missing, want) in rows {
-        assert_eq!(rt; missing, want);
+        assert_is(&rt, missing, want);
     }
 }
 
@@ -89,7 +93,7 @@ fn repeated(rt: &impl Abort) -> NlmsghdrAck<u16> {
 fn an_acknowledgement_is_built(rt: HostRuntime) {
     let alloc = rt.alloc();
     let header = repeated(&rt);
-    assert_eq!(rt; header.written_size(), 16);
+    assert_is(&rt, header.written_size(), 16);
     let answer: Nlmsgerr<NlmsghdrAck<u16>> = NlmsgerrBuilder::default()
         .error(-1)
         .nlmsg(header)
@@ -101,7 +105,7 @@ fn an_acknowledgement_is_built(rt: HostRuntime) {
     ];
     assert_written(&rt, alloc, &answer, &want);
     assert_prints(&rt, alloc, &answer, "netlink error -1");
-    assert_eq!(rt; answer.try_clone().expect(&rt, "memory"), answer);
+    assert_is(&rt, &answer.try_clone().expect(&rt, "memory"), &answer);
 }
 
 #[test]
@@ -115,5 +119,5 @@ fn an_echo_is_built(rt: HostRuntime) {
         .build()
         .expect(&rt, "an echo");
     let fields = (*echo.nl_len(), *echo.nl_seq(), *echo.nl_pid());
-    assert_eq!(rt; fields, (20, 3, 4));
+    assert_is(&rt, fields, (20, 3, 4));
 }

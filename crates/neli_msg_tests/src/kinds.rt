@@ -1,7 +1,7 @@
 //! The kinds of payload, by type, flags, code and length.
 
 use crate::reading::{Refusal, refusal_of};
-use crate::support::{RawError, error_in, read_error};
+use crate::support::{RawError, assert_is, assert_is_at, error_in, read_error};
 use neli_attr::Buffer;
 use neli_consts::{NlmF, NlmsgerrAttr};
 use neli_msg::{NlPayload, Nlmsgerr, NlmsghdrAck, NlmsghdrErr, cut};
@@ -141,7 +141,7 @@ const PAYLOADS: [(&str, &[u8], Result<Kind, Refusal>); 11] = [
 #[test]
 fn a_payload_is_of_its_kind(rt: HostRuntime) {
     for (row, bytes, want) in PAYLOADS {
-        assert_eq!(rt; first_kind(&rt, rt.alloc(), bytes), want, "{row}");
+        assert_is_at(&rt, row, first_kind(&rt, rt.alloc(), bytes), want);
     }
 }
 
@@ -150,9 +150,9 @@ fn an_error_has_its_echo(rt: HostRuntime) {
     let message = read_error(&rt, rt.alloc());
     let echo = error_in(&rt, &message).nlmsg();
     let fields = (*echo.nl_len(), *echo.nl_type(), u16::from(*echo.nl_flags()));
-    assert_eq!(rt; fields, (21, 1024, 5));
-    assert_eq!(rt; (*echo.nl_seq(), *echo.nl_pid()), (0, 0));
-    assert_eq!(rt; echo.nl_payload().as_ref(), b"abcde".as_slice());
+    assert_is(&rt, fields, (21, 1024, 5));
+    assert_is(&rt, (*echo.nl_seq(), *echo.nl_pid()), (0, 0));
+    assert_is(&rt, echo.nl_payload().as_ref(), b"abcde".as_slice());
 }
 
 #[test]
@@ -162,7 +162,7 @@ fn an_error_has_its_attributes(rt: HostRuntime) {
     let text: Vec<u8> = handle
         .get_attr_payload_as_with_len(rt.alloc(), NlmsgerrAttr::Msg)
         .expect(&rt, "words");
-    assert_eq!(rt; text.as_slice(), b"bad\0".as_slice());
+    assert_is(&rt, text.as_slice(), b"bad\0".as_slice());
 }
 
 /// The bytes of [`ERROR`] from this place on.
@@ -179,9 +179,10 @@ fn payloads_are_read_by_themselves(rt: HostRuntime) {
     let mut cursor = error_from(&rt, 16);
     let read = NlPayload::from_parts(rt.alloc(), &mut cursor, 2, NlmF::empty(), 36);
     let payload: NlPayload<u16, Buffer> = read.expect(&rt, "a payload");
-    assert_eq!(rt;
+    assert_is(
+        &rt,
         (kind_of(&payload), cursor.position()),
-        (Kind::Error(-22, 5, 1), 52)
+        (Kind::Error(-22, 5, 1), 52),
     );
 }
 
@@ -190,13 +191,13 @@ fn errors_are_read_by_themselves(rt: HostRuntime) {
     let alloc = rt.alloc();
     let read = Nlmsgerr::from_bytes_with_input(alloc, &mut error_from(&rt, 16), 36);
     let error: RawError = read.expect(&rt, "an error");
-    assert_eq!(rt; (*error.error(), error.ext_ack().len()), (-22, 1));
+    assert_is(&rt, (*error.error(), error.ext_ack().len()), (-22, 1));
     let read = Nlmsgerr::from_bytes_with_input(alloc, &mut error_from(&rt, 16), 36);
     let ack: Nlmsgerr<NlmsghdrAck<u16>> = read.expect(&rt, "an acknowledgement");
-    assert_eq!(rt; (*ack.nlmsg().nl_len(), ack.ext_ack().len()), (21, 0));
+    assert_is(&rt, (*ack.nlmsg().nl_len(), ack.ext_ack().len()), (21, 0));
     let read = Nlmsgerr::from_bytes_with_input(alloc, &mut error_from(&rt, 40), 12);
     let end: Nlmsgerr<()> = read.expect(&rt, "an end");
-    assert_eq!(rt; (*end.error(), end.ext_ack().len()), (0x65, 1));
+    assert_is(&rt, (*end.error(), end.ext_ack().len()), (0x65, 1));
 }
 
 #[test]
@@ -204,11 +205,11 @@ fn echoes_are_read_by_themselves(rt: HostRuntime) {
     let alloc = rt.alloc();
     let read = NlmsghdrAck::<u16>::from_bytes(alloc, &mut error_from(&rt, 20));
     let header = read.expect(&rt, "a header");
-    assert_eq!(rt; (*header.nl_len(), *header.nl_type()), (21, 1024));
+    assert_is(&rt, (*header.nl_len(), *header.nl_type()), (21, 1024));
     let mut cursor = error_from(&rt, 20);
     let read = NlmsghdrErr::<u16, Buffer>::from_bytes(alloc, &mut cursor);
     let echo = read.expect(&rt, "an echo");
-    assert_eq!(rt; (echo.nl_payload().len(), cursor.position()), (5, 44));
+    assert_is(&rt, (echo.nl_payload().len(), cursor.position()), (5, 44));
 }
 
 #[test]

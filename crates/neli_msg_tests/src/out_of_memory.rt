@@ -2,7 +2,7 @@
 //! changed. They are run with each allocation refused in turn.
 
 use crate::kinds::ERROR;
-use crate::support::{Cause, Raw, cause_of};
+use crate::support::{Cause, Raw, assert_is, cause_of};
 use neli_attr::Buffer;
 use neli_msg::{NlBufferIter, NlPayload, SocketError};
 use neli_wire::{Cursor, DeError, FromBytes, SerError, ToBytes};
@@ -39,7 +39,7 @@ fn a_message_or_out_of_memory_and_then_the_message(rt: HostRuntime) {
             taken(alloc, &mut messages).expect(&rt, "refused again")
         }
     };
-    assert_eq!(rt; code_of(&message.expect(&rt, "a message")), -22);
+    assert_is(&rt, code_of(&message.expect(&rt, "a message")), -22);
     assert!(rt; messages.next(alloc).is_none());
 }
 
@@ -48,12 +48,12 @@ fn read_error(rt: &impl Abort, alloc: Global) -> Option<Raw> {
     let mut cursor = Cursor::new(&ERROR);
     match Raw::from_bytes(alloc, &mut cursor) {
         Ok(raw) => {
-            assert_eq!(rt; cursor.position(), ERROR.len());
+            assert_is(rt, cursor.position(), ERROR.len());
             Some(raw)
         }
         Err(error) => {
             assert!(rt; matches!(error, DeError::Memory));
-            assert_eq!(rt; cursor.position(), 0);
+            assert_is(rt, cursor.position(), 0);
             None
         }
     }
@@ -65,8 +65,8 @@ fn a_typed_message_or_out_of_memory(rt: HostRuntime) {
         return;
     };
     match raw.to_typed::<u16, Vec<u8>>(rt.alloc()) {
-        Ok(typed) => assert_eq!(rt; *typed.nl_len(), 52),
-        Err(error) => assert_eq!(rt; cause_of(error), Cause::Memory),
+        Ok(typed) => assert_is(&rt, *typed.nl_len(), 52),
+        Err(error) => assert_is(&rt, cause_of(error), Cause::Memory),
     }
 }
 
@@ -78,7 +78,7 @@ fn a_message_is_written_or_out_of_memory(rt: HostRuntime) {
     };
     let mut bytes = Vec::new(alloc);
     match raw.to_bytes(&mut bytes) {
-        Ok(()) => assert_eq!(rt; bytes.as_slice(), ERROR.as_slice()),
+        Ok(()) => assert_is(&rt, bytes.as_slice(), ERROR.as_slice()),
         Err(error) => {
             assert!(rt; matches!(error, SerError::Memory));
             assert!(rt; bytes.is_empty());

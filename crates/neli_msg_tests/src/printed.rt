@@ -1,6 +1,6 @@
 //! What errors print, and what they are made of.
 
-use crate::support::{Cause, assert_prints, cause_of, read_error};
+use crate::support::{Cause, assert_is, assert_prints, cause_of, read_error};
 use neli_attr::{Buffer, BuildError, of};
 use neli_msg::{BuilderError, NlPayload, RouterError, SocketError};
 use neli_wire::{DeError, MsgError, NoMemory, SerError};
@@ -185,7 +185,7 @@ fn errors_of_builders_become_words(rt: HostRuntime) {
     let error = BuilderError::from(BuildError::<{ of::NLATTR }>::ValidationError("too long"));
     assert_prints(&rt, alloc, &DeError::from(error), "too long");
     let error = BuilderError::from(BuildError::<{ of::NLMSGERR }>::Memory);
-    assert_eq!(rt; cause_of(Error::from(error)), Cause::Memory);
+    assert_is(&rt, cause_of(Error::from(error)), Cause::Memory);
 }
 
 /// Whether the error says that memory ran out.
@@ -209,7 +209,7 @@ fn causes_of_errors_of_a_router_are_kept(rt: HostRuntime) {
         cause_of(Error::from(AllocError)),
         cause_of(Error::from(AllocFailed { value: 7u8 })),
     );
-    assert_eq!(rt; causes, (Cause::Memory, Cause::Memory, Cause::Memory));
+    assert_is(&rt, causes, (Cause::Memory, Cause::Memory, Cause::Memory));
 }
 
 #[test]

@@ -1,6 +1,6 @@
 //! One message, and a whole datagram.
 
-use crate::support::Raw;
+use crate::support::{Raw, assert_is, assert_is_at};
 use neli_consts::{NlmF, Nlmsg};
 use neli_msg::{NlBufferIter, NlPayload, Nlmsghdr, SocketError, cut};
 use neli_wire::{Cursor, DeError, FromBytes, Header};
@@ -79,7 +79,7 @@ fn one_message_is_read_or_refused(rt: HostRuntime) {
             }
             Err(error) => (Err(refusal_of(error)), 0),
         };
-        assert_eq!(rt; (got, place), (want, end), "{row}");
+        assert_is_at(&rt, row, (got, place), (want, end));
     }
 }
 
@@ -114,7 +114,7 @@ fn the_first_message_of_a_datagram_is_typed(rt: HostRuntime) {
             *first.nl_seq(),
             *first.nl_pid(),
         );
-        assert_eq!(rt; header, (16, Nlmsg::Done, 0xf002, 5, 7), "{row}");
+        assert_is_at(&rt, row, header, (16, Nlmsg::Done, 0xf002, 5, 7));
         assert!(rt; matches!(first.nl_payload(), NlPayload::Empty), "{row}");
     }
 }
@@ -146,13 +146,13 @@ fn a_datagram_ends_or_has_one_fault(rt: HostRuntime) {
         let mut messages: NlBufferIter<'_, u16, Vec<u8>> = NlBufferIter::new(end);
         let first = item_of(messages.next_typed::<Nlmsg, Vec<u16>>(alloc));
         let second = item_of(messages.next(alloc));
-        assert_eq!(rt; (first, second), (Item::Message, Item::Message), "{row}");
+        assert_is_at(&rt, row, (first, second), (Item::Message, Item::Message));
         let third = item_of(messages.next(alloc));
         let want = if fault { Item::Short } else { Item::End };
-        assert_eq!(rt; third, want, "{row}");
+        assert_is_at(&rt, row, third, want);
         let rest = item_of(messages.next(alloc));
         let typed = item_of(messages.next_typed::<Nlmsg, Vec<u8>>(alloc));
-        assert_eq!(rt; (rest, typed), (Item::End, Item::End), "{row}");
+        assert_is_at(&rt, row, (rest, typed), (Item::End, Item::End));
     }
 }
 
@@ -163,12 +163,12 @@ fn the_second_message_of_a_datagram_has_no_flags(rt: HostRuntime) {
         let end = bytes.get(..end).expect(&rt, row);
         let mut messages: NlBufferIter<'_, u16, Vec<u8>> = NlBufferIter::new(end);
         let first = item_of(messages.next(rt.alloc()));
-        assert_eq!(rt; first, Item::Message, "{row}");
+        assert_is_at(&rt, row, first, Item::Message);
         let second = messages
             .next(rt.alloc())
             .expect(&rt, "a second message")
             .expect(&rt, row);
-        assert_eq!(rt; *second.nl_flags(), NlmF::empty(), "{row}");
+        assert_is_at(&rt, row, *second.nl_flags(), NlmF::empty());
     }
 }
 
@@ -190,11 +190,11 @@ fn a_datagram_is_cut(rt: HostRuntime) {
         let (messages, found): (Vec<Raw>, Option<DeError>) = cut(rt.alloc(), &ONE[..end]).expect(
             &rt, "messages",
         );
-        assert_eq!(rt; (messages.len(), found.is_some()), (count, fault), "{row}");
+        assert_is_at(&rt, row, (messages.len(), found.is_some()), (count, fault));
     }
 }
 
 #[test]
 fn the_header_has_16_bytes(rt: HostRuntime) {
-    assert_eq!(rt; <Raw as Header>::header_size(), 16);
+    assert_is(&rt, <Raw as Header>::header_size(), 16);
 }

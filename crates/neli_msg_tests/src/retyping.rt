@@ -1,6 +1,6 @@
 //! Untyped messages as other types, and the calls that take a payload out or put one in.
 
-use crate::support::{Cause, Raw, cause_of, error_in, read_error};
+use crate::support::{Cause, Raw, assert_is, cause_of, error_in, read_error};
 use neli_attr::Buffer;
 use neli_consts::{NlTypeWrapper, NlmF, NlmsgerrAttr};
 use neli_consts_sys::NetfilterMsg;
@@ -18,23 +18,23 @@ fn typed_error(rt: &impl Abort, alloc: Global) -> Nlmsghdr<NlTypeWrapper, Vec<u8
 #[test]
 fn an_error_is_typed_with_its_attributes(rt: HostRuntime) {
     let typed = typed_error(&rt, rt.alloc());
-    assert_eq!(rt; *typed.nl_len(), 52);
+    assert_is(&rt, *typed.nl_len(), 52);
     let NlPayload::Err(answer) = typed.nl_payload() else {
         return rt.panic("no error");
     };
-    assert_eq!(rt; answer.ext_ack().len(), 1);
+    assert_is(&rt, answer.ext_ack().len(), 1);
     let echo = answer.nlmsg();
     let header = (*echo.nl_type(), *echo.nl_len());
     let log = NlTypeWrapper::NetfilterMsg(NetfilterMsg::LogPacket);
-    assert_eq!(rt; header, (log, 24));
-    assert_eq!(rt; echo.nl_payload().as_slice(), b"abcde".as_slice());
+    assert_is(&rt, header, (log, 24));
+    assert_is(&rt, echo.nl_payload().as_slice(), b"abcde".as_slice());
 }
 
 #[test]
 fn an_error_is_taken_out_once(rt: HostRuntime) {
     let mut typed = typed_error(&rt, rt.alloc());
     let taken = typed.get_err().expect(&rt, "an error");
-    assert_eq!(rt; (*taken.error(), *typed.nl_len()), (-22, 16));
+    assert_is(&rt, (*taken.error(), *typed.nl_len()), (-22, 16));
     assert!(rt; matches!(typed.nl_payload(), NlPayload::Empty));
     assert!(rt; typed.get_err().is_none());
 }
@@ -48,7 +48,7 @@ fn a_payload_is_put_in(rt: HostRuntime) {
         .set_payload(NlPayload::Payload(body))
         .expect(&rt, "a payload that fits");
     let count = typed.get_payload().map(|body| body.len());
-    assert_eq!(rt; (*typed.nl_len(), count), (24, Some(5)));
+    assert_is(&rt, (*typed.nl_len(), count), (24, Some(5)));
 }
 
 /// A message with a body of three bytes.
@@ -68,10 +68,10 @@ fn a_refusal_is_that_of_the_body(rt: HostRuntime) {
     let alloc = rt.alloc();
     let typed = three_bytes(&rt, alloc).to_typed::<u16, Vec<u32>>(alloc);
     let error = typed.err().expect(&rt, "a refusal");
-    assert_eq!(rt; cause_of(error), Cause::Input(3));
+    assert_is(&rt, cause_of(error), Cause::Input(3));
     let typed = read_error(&rt, alloc).to_typed::<u16, Vec<u32>>(alloc);
     let error = typed.err().expect(&rt, "a refusal");
-    assert_eq!(rt; cause_of(error), Cause::Input(5));
+    assert_is(&rt, cause_of(error), Cause::Input(5));
 }
 
 // A refusal leaves the message as it was.
@@ -81,11 +81,11 @@ fn a_refusal_leaves_the_body(rt: HostRuntime) {
     let raw = three_bytes(&rt, alloc);
     let typed = raw.to_typed::<u16, Vec<u32>>(alloc);
     let error = typed.err().expect(&rt, "a refusal");
-    assert_eq!(rt; cause_of(error), Cause::Input(3));
+    assert_is(&rt, cause_of(error), Cause::Input(3));
     let NlPayload::Payload(body) = raw.nl_payload() else {
         return rt.panic("no body");
     };
-    assert_eq!(rt; body.len(), 3);
+    assert_is(&rt, body.len(), 3);
 }
 
 #[test]
@@ -102,18 +102,18 @@ fn the_first_bytes_of_a_body_are_typed(rt: HostRuntime) {
 #[test]
 fn copies_are_equal(rt: HostRuntime) {
     let raw = read_error(&rt, rt.alloc());
-    assert_eq!(rt; raw.try_clone().expect(&rt, "memory"), raw);
+    assert_is(&rt, &raw.try_clone().expect(&rt, "memory"), &raw);
     let payload = raw.nl_payload();
-    assert_eq!(rt; payload.try_clone().expect(&rt, "memory"), *payload);
+    assert_is(&rt, &payload.try_clone().expect(&rt, "memory"), payload);
 }
 
 #[test]
 fn copies_of_errors_are_equal(rt: HostRuntime) {
     let raw = read_error(&rt, rt.alloc());
     let answer = error_in(&rt, &raw);
-    assert_eq!(rt; answer.try_clone().expect(&rt, "memory"), *answer);
+    assert_is(&rt, &answer.try_clone().expect(&rt, "memory"), answer);
     let echo = answer.nlmsg();
-    assert_eq!(rt; echo.try_clone().expect(&rt, "memory"), *echo);
+    assert_is(&rt, &echo.try_clone().expect(&rt, "memory"), echo);
     let handle = answer.ext_ack().get_attr_handle();
     assert!(rt; handle.get_attribute(NlmsgerrAttr::Msg).is_some());
 }

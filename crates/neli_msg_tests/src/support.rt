@@ -5,8 +5,23 @@ use neli_attr::Buffer;
 use neli_msg::{NlPayload, Nlmsgerr, Nlmsghdr, NlmsghdrErr, RouterError};
 use neli_wire::{Cursor, DeError, FromBytes, ToBytes};
 use std::alloc::Global;
-use std::fmt::Display;
+use std::fmt::{Debug, Display};
 use std::process::Abort;
+
+/// Asserts that this is what is wanted.
+pub fn assert_is<T: Copy + PartialEq + Debug>(rt: &impl Abort, got: T, want: T) {
+    assert_eq!(rt; got, want);
+}
+
+/// Asserts that this is what is wanted, in the row of a table that has this name or input.
+pub fn assert_is_at<R: Copy + Debug, T: Copy + PartialEq + Debug>(
+    rt: &impl Abort,
+    row: R,
+    got: T,
+    want: T,
+) {
+    assert_eq!(rt; got, want, "at {row:?}");
+}
 
 /// A message that no type is given to.
 pub type Raw = Nlmsghdr<u16, Buffer>;
@@ -48,12 +63,12 @@ pub fn cause_of<T: Drop, P: Drop>(error: RouterError<T, P>) -> Cause {
 pub fn assert_written<V: ToBytes>(rt: &impl Abort, alloc: Global, value: &V, want: &[u8]) {
     let mut bytes = Vec::new(alloc);
     value.to_bytes(&mut bytes).expect(rt, "memory");
-    assert_eq!(rt; bytes.as_slice(), want);
-    assert_eq!(rt; value.written_size(), want.len());
+    assert_is(rt, bytes.as_slice(), want);
+    assert_is(rt, value.written_size(), want.len());
 }
 
 /// Asserts that the value prints this text.
 pub fn assert_prints<D: Display>(rt: &impl Abort, alloc: Global, value: &D, want: &str) {
     let text = value.to_string(alloc).expect(rt, "memory");
-    assert_eq!(rt; text.as_str(), want);
+    assert_is(rt, text.as_str(), want);
 }
