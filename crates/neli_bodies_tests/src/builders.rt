@@ -1,6 +1,6 @@
 //! Builders: what they make of their fields, and what is missing.
 
-use crate::support::assert_written;
+use crate::support::{assert_is, assert_is_at, assert_written};
 use neli_attr::{
     AttrTypeBuilder, Buffer, BuildError, GenlBuffer, NlattrBuilder, RtBuffer, RtattrBuilder,
 };
@@ -49,8 +49,8 @@ fn a_link_set_down(rt: HostRuntime) {
         .expect(&rt, "a link");
     let bytes = [0, 0, 0, 0, 3, 0, 0, 0, 0, 0x10, 0, 0, 1, 0, 0, 0];
     assert_written(&rt, alloc, "a link", &down, &bytes);
-    assert_eq!(rt; *down.ifi_flags(), Iff::MULTICAST);
-    assert_eq!(rt; *down.ifi_change(), Iff::UP);
+    assert_is(&rt, *down.ifi_flags(), Iff::MULTICAST);
+    assert_is(&rt, *down.ifi_change(), Iff::UP);
 }
 
 /// A list of one routing attribute.
@@ -137,7 +137,7 @@ fn a_cache_entry(rt: HostRuntime) {
         *entry.ndm_refcnt(),
         cursor.position(),
     );
-    assert_eq!(rt; read, (1, 4, 16));
+    assert_is(&rt, read, (1, 4, 16));
 }
 
 #[test]
@@ -166,7 +166,7 @@ fn a_priority_of_a_vlan(rt: HostRuntime) {
     assert_written(&rt, alloc, "a mapping", &mapping, &bytes);
     let mut cursor = Cursor::new(&[1u8, 0, 0, 0, 2, 0, 0, 0, 9]);
     let mapping = IflaVlanQosMapping::from_bytes(alloc, &mut cursor).expect(&rt, "a mapping");
-    assert_eq!(rt; (*mapping.from(), *mapping.to()), (1, 2));
+    assert_is(&rt, (*mapping.from(), *mapping.to()), (1, 2));
 }
 
 #[test]
@@ -261,7 +261,7 @@ fn missing_fields_are_named_in_order(rt: HostRuntime) {
         (missing_of(queue.build(alloc)), "tcm_handle"),
     ];
     for (missing, want) in rows {
-        assert_eq!(rt; missing, want);
+        assert_is(&rt, missing, want);
     }
 }
 
@@ -277,7 +277,7 @@ fn missing_fields_of_generic_messages_are_named(rt: HostRuntime) {
         (missing_of(message.build()), "idx"),
     ];
     for (missing, want) in rows {
-        assert_eq!(rt; missing, want);
+        assert_is(&rt, missing, want);
     }
 }
 
@@ -294,7 +294,11 @@ fn a_generic_message_with_a_header(rt: HostRuntime) {
     assert_written(&rt, alloc, "a message", &message, &bytes);
     let copy = message.try_clone().expect(&rt, "memory");
     assert_written(&rt, alloc, "its copy", &copy, &bytes);
-    assert_eq!(rt; <Genlmsghdr<CtrlCmd, u16, u32> as Header>::header_size(), 8);
+    assert_is(
+        &rt,
+        <Genlmsghdr<CtrlCmd, u16, u32> as Header>::header_size(),
+        8,
+    );
 }
 
 #[test]
@@ -343,7 +347,7 @@ fn a_generic_message_with_attributes(rt: HostRuntime) {
     assert_written(&rt, alloc, "a request", &request, &bytes);
     let read = Genlmsghdr::from_bytes_with_input(alloc, &mut Cursor::new(&bytes), 16);
     let again: Genlmsghdr<CtrlCmd, CtrlAttr> = read.expect(&rt, "a request");
-    assert_eq!(rt; again, request);
+    assert_is(&rt, &again, &request);
 }
 
 /// A connector message of so many bytes, or why there is none.
@@ -363,7 +367,11 @@ fn connector(
 #[test]
 fn lengths_of_connector_messages(rt: HostRuntime) {
     let message = connector(&rt, rt.alloc(), 65535).expect(&rt, "a message");
-    assert_eq!(rt; (*message.len(), message.written_size()), (65535, 65555));
+    assert_is(
+        &rt,
+        (*message.len(), message.written_size()),
+        (65535, 65555),
+    );
     let long = connector(&rt, rt.alloc(), 65536);
     assert!(rt;
         matches!(
@@ -404,19 +412,20 @@ fn exits_by_their_codes(rt: HostRuntime) {
             parent_pid: 2,
             parent_tgid: 2,
         };
-        assert_eq!(rt; ProcEventType::from(&event), kind);
-        assert_eq!(rt; event.unpadded_size(), 24, "code {exit_code}");
+        assert_is(&rt, ProcEventType::from(&event), kind);
+        assert_is_at(&rt, exit_code, event.unpadded_size(), 24);
         let header = ProcEventHeader {
             cpu: 0,
             timestamp_ns: 1,
             event,
         };
         let bytes = bytes_of(&rt, rt.alloc(), &header);
-        assert_eq!(rt; bytes.get(..4), Some(first.as_slice()), "code {exit_code}");
-        assert_eq!(rt;
+        assert_is_at(&rt, exit_code, bytes.get(..4), Some(first.as_slice()));
+        assert_is_at(
+            &rt,
+            exit_code,
             (bytes.len(), header.written_size()),
             (40, 40),
-            "code {exit_code}"
         );
         let again = event_of(&rt, rt.alloc(), &bytes);
         assert!(rt;
@@ -439,8 +448,8 @@ fn a_name_of_a_thread(rt: HostRuntime) {
         },
     };
     let bytes = bytes_of(&rt, rt.alloc(), &header);
-    assert_eq!(rt; bytes.len(), 40);
-    assert_eq!(rt; bytes.get(24..), Some(comm.as_slice()));
+    assert_is(&rt, bytes.len(), 40);
+    assert_is(&rt, bytes.get(24..), Some(comm.as_slice()));
     let again = event_of(&rt, rt.alloc(), &bytes);
     assert!(rt;
         matches!(again.event, ProcEvent::Comm { process_tgid: 6, comm: name, .. } if name == comm)

@@ -1,7 +1,7 @@
 //! Bodies that are cut: each worked example at each length, with the refusal that it has there and the
 //! cursor where it was.
 
-use crate::support::recorded;
+use crate::support::{assert_is, assert_is_at, recorded};
 use neli_attr::Buffer;
 use neli_consts_sys::{CnMsgIdx, CnMsgVal};
 use neli_genl::{CnMsg, Genlmsghdr, ProcEvent, ProcEventHeader};
@@ -33,12 +33,7 @@ fn assert_refused<B: FromBytesWithInput>(
         "{what} of {} bytes with input {n}",
         bytes.len()
     );
-    assert_eq!(rt;
-        cursor.position(),
-        0,
-        "{what} of {} bytes with input {n}",
-        bytes.len()
-    );
+    assert_is_at(rt, (what, bytes.len(), n), cursor.position(), 0);
 }
 
 /// Asserts that the first k bytes, read with input k, are refused with `InvalidInput` of `want`; and with
@@ -62,12 +57,13 @@ fn a_process_event(rt: HostRuntime) {
     let mut cursor = Cursor::new(&EXEC);
     let read = CnMsg::from_bytes_with_input(alloc, &mut cursor, 44);
     let m: CnMsg<ProcEventHeader> = read.expect(&rt, "a message");
-    assert_eq!(rt;
+    assert_is(
+        &rt,
         (*m.idx(), *m.val(), *m.seq(), *m.len()),
-        (CnMsgIdx::Proc, CnMsgVal::Proc, 643, 40)
+        (CnMsgIdx::Proc, CnMsgVal::Proc, 643, 40),
     );
     let event = m.payload();
-    assert_eq!(rt; (event.cpu, event.timestamp_ns), (1, 2504390882488));
+    assert_is(&rt, (event.cpu, event.timestamp_ns), (1, 2504390882488));
     assert!(rt;
         matches!(
             event.event,
@@ -87,7 +83,7 @@ fn a_process_event_written_again(rt: HostRuntime) {
     let m: CnMsg<ProcEventHeader> = read.expect(&rt, "a message");
     let mut written = Vec::new(alloc);
     m.to_bytes(&mut written).expect(&rt, "memory");
-    assert_eq!(rt; written.as_slice(), EXEC.as_slice());
+    assert_is(&rt, written.as_slice(), EXEC.as_slice());
 }
 
 // What is read of a process event that is cut to `k` bytes.
@@ -104,7 +100,7 @@ fn a_process_event_that_is_cut(rt: HostRuntime) {
 fn a_process_event_as_bytes(rt: HostRuntime) {
     let read = CnMsg::from_bytes_with_input(rt.alloc(), &mut Cursor::new(&EXEC), 44);
     let m: CnMsg<Buffer> = read.expect(&rt, "a message");
-    assert_eq!(rt; m.payload().len(), 24);
+    assert_is(&rt, m.payload().len(), 24);
 }
 
 /// A header of `size` bytes and an attribute of 8.
@@ -129,11 +125,7 @@ fn assert_read<B: FromBytesWithInput>(
 ) {
     let mut cursor = Cursor::new(bytes);
     let is_read = B::from_bytes_with_input(alloc, &mut cursor, k).is_ok();
-    assert_eq!(rt;
-        (is_read, cursor.position()),
-        (true, k),
-        "{what} cut to {k}"
-    );
+    assert_is_at(rt, (what, k), (is_read, cursor.position()), (true, k));
 }
 
 /// A header of `size` bytes and an attribute of 8: cut in the header, after it, and in the attribute.
@@ -202,7 +194,7 @@ fn payloads_of_fixed_size(rt: HostRuntime) {
             matches!(read, Err(DeError::Io(ErrorKind::UnexpectedEof))),
             "cut to {k}"
         );
-        assert_eq!(rt; cursor.position(), 0, "cut to {k}");
+        assert_is_at(&rt, k, cursor.position(), 0);
     }
 }
 
@@ -213,13 +205,14 @@ fn an_event_without_a_name(rt: HostRuntime) {
     let mut cursor = Cursor::new(&bytes);
     let read = ProcEventHeader::from_bytes_with_input(alloc, &mut cursor, 16);
     match read {
-        Err(DeError::Msg(text)) => assert_eq!(rt;
+        Err(DeError::Msg(text)) => assert_is(
+            &rt,
             text.to_string(alloc).expect(&rt, "memory").as_str(),
-            "Unrecognized Proc event type: 3 (raw value: 3)"
+            "Unrecognized Proc event type: 3 (raw value: 3)",
         ),
         _ => assert!(rt; false, "an event without a name is read"),
     }
-    assert_eq!(rt; cursor.position(), 0);
+    assert_is(&rt, cursor.position(), 0);
     // Before the event's header is there, its type is not looked at.
     assert_refused::<ProcEventHeader>(&rt, alloc, "an event", &bytes, 15, 15);
 }
@@ -252,7 +245,7 @@ fn events_past_their_input(rt: HostRuntime) {
         }
         let mut cursor = Cursor::new(&bytes);
         let read = ProcEventHeader::from_bytes_with_input(alloc, &mut cursor, 40);
-        assert_eq!(rt; cursor.position(), 40, "{name}");
-        assert_eq!(rt; read.expect(&rt, name).written_size(), end, "{name}");
+        assert_is_at(&rt, name, cursor.position(), 40);
+        assert_is_at(&rt, name, read.expect(&rt, name).written_size(), end);
     }
 }

@@ -1,7 +1,7 @@
 //! Recorded messages of generic netlink's controller and of the connector: the fields that other readers
 //! find in each, and the same bytes when they are written again.
 
-use crate::support::{Row, assert_written, recorded};
+use crate::support::{Row, assert_is_at, assert_written, recorded};
 use neli_attr::Buffer;
 use neli_consts::{CtrlAttr, CtrlCmd};
 use neli_consts_sys::{CnMsgIdx, CnMsgVal, ProcEventType};
@@ -40,8 +40,8 @@ const CONTROLLER: [Row<(u8, u8)>; 3] = [
 fn controller(rt: HostRuntime) {
     for (label, digits, fields, attributes) in CONTROLLER {
         let m: Genlmsghdr<CtrlCmd, CtrlAttr> = recorded(&rt, rt.alloc(), label, digits);
-        assert_eq!(rt; (m.cmd().to_wire(), *m.version()), fields, "{label}");
-        assert_eq!(rt; m.attrs().len(), attributes, "{label}");
+        assert_is_at(&rt, label, (m.cmd().to_wire(), *m.version()), fields);
+        assert_is_at(&rt, label, m.attrs().len(), attributes);
     }
 }
 
@@ -153,7 +153,7 @@ const HELD: [Held; 7] = [
 fn message_of(rt: &impl Abort, alloc: Global, label: &str, bytes: &[u8]) -> CnMsg<ProcEventHeader> {
     let mut cursor = Cursor::new(bytes);
     let read = CnMsg::from_bytes_with_input(alloc, &mut cursor, bytes.len());
-    assert_eq!(rt; cursor.position(), bytes.len(), "{label}");
+    assert_is_at(rt, label, cursor.position(), bytes.len());
     read.expect(rt, label)
 }
 
@@ -161,24 +161,20 @@ fn message_of(rt: &impl Abort, alloc: Global, label: &str, bytes: &[u8]) -> CnMs
 fn assert_fields(rt: &impl Abort, m: &CnMsg<ProcEventHeader>, row: Event) {
     let (label, _, seq, cpu, time) = row;
     let to = (*m.idx(), *m.val());
-    assert_eq!(rt; to, (CnMsgIdx::Proc, CnMsgVal::Proc), "{label}");
+    assert_is_at(rt, label, to, (CnMsgIdx::Proc, CnMsgVal::Proc));
     let fields = (*m.seq(), *m.ack(), *m.len(), *m.flags());
-    assert_eq!(rt; fields, (seq, 0, 40, 0), "{label}");
+    assert_is_at(rt, label, fields, (seq, 0, 40, 0));
     let event = m.payload();
-    assert_eq!(rt; (event.cpu, event.timestamp_ns), (cpu, time), "{label}");
+    assert_is_at(rt, label, (event.cpu, event.timestamp_ns), (cpu, time));
 }
 
 /// Asserts what the event holds.
 fn assert_held(rt: &impl Abort, alloc: Global, label: &str, event: &ProcEventHeader, held: Held) {
     let (kind, fields, size) = held;
     let text = format!(in alloc; "{:?}", event.event).expect(rt, "memory");
-    assert_eq!(rt; text.as_str(), fields, "{label}");
-    assert_eq!(rt;
-        ProcEventType::from(&event.event).to_wire(),
-        kind,
-        "{label}"
-    );
-    assert_eq!(rt; event.written_size(), 16 + usize::from(size), "{label}");
+    assert_is_at(rt, label, text.as_str(), fields);
+    assert_is_at(rt, label, ProcEventType::from(&event.event).to_wire(), kind);
+    assert_is_at(rt, label, event.written_size(), 16 + usize::from(size));
 }
 
 /// The bytes without what follows the event, and with its type.
@@ -222,7 +218,7 @@ fn events_as_bytes(rt: HostRuntime) {
     let alloc = rt.alloc();
     for (label, digits, ..) in EVENTS {
         let m: CnMsg<Buffer> = recorded(&rt, alloc, label, digits);
-        assert_eq!(rt; m.payload().len(), 40, "{label}");
+        assert_is_at(&rt, label, m.payload().len(), 40);
         let bytes = hex::decode(alloc, digits).expect(&rt, label);
         assert_written(
             &rt,

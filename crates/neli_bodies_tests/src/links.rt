@@ -1,7 +1,7 @@
 //! Recorded links, addresses and neighbours, with the fields that pyroute2 reads in each, and the same
 //! bytes when they are written again.
 
-use crate::support::{Row, recorded};
+use crate::support::{Row, assert_is_at, recorded};
 use neli_consts_rta::Nda;
 use neli_link::{Ifaddrmsg, Ifinfomsg, NdaCacheinfo, Ndmsg};
 use neli_wire::{Constant, Cursor, FromBytesWithInput, ToBytes};
@@ -114,18 +114,19 @@ const LINKS: [Row<(u8, u16, i32, u32, u32)>; 3] = [
 fn links(rt: HostRuntime) {
     for (label, digits, fields, attributes) in LINKS {
         let m: Ifinfomsg = recorded(&rt, rt.alloc(), label, digits);
-        assert_eq!(rt;
+        assert_is_at(
+            &rt,
+            label,
             (
                 m.ifi_family().to_wire(),
                 m.ifi_type().to_wire(),
                 *m.ifi_index(),
                 m.ifi_flags().to_wire(),
-                m.ifi_change().to_wire()
+                m.ifi_change().to_wire(),
             ),
             fields,
-            "{label}"
         );
-        assert_eq!(rt; m.rtattrs().len(), attributes, "{label}");
+        assert_is_at(&rt, label, m.rtattrs().len(), attributes);
     }
 }
 
@@ -165,18 +166,19 @@ const ADDRESSES: [Row<(u8, u8, u8, u8, u32)>; 4] = [
 fn addresses(rt: HostRuntime) {
     for (label, digits, fields, attributes) in ADDRESSES {
         let m: Ifaddrmsg = recorded(&rt, rt.alloc(), label, digits);
-        assert_eq!(rt;
+        assert_is_at(
+            &rt,
+            label,
             (
                 m.ifa_family().to_wire(),
                 *m.ifa_prefixlen(),
                 m.ifa_flags().to_wire(),
                 m.ifa_scope().to_wire(),
-                *m.ifa_index()
+                *m.ifa_index(),
             ),
             fields,
-            "{label}"
         );
-        assert_eq!(rt; m.rtattrs().len(), attributes, "{label}");
+        assert_is_at(&rt, label, m.rtattrs().len(), attributes);
     }
 }
 
@@ -221,18 +223,19 @@ const NEIGHBOURS: [Row<(u8, i32, u16, u8, u8)>; 5] = [
 fn neighbours(rt: HostRuntime) {
     for (label, digits, fields, attributes) in NEIGHBOURS {
         let m: Ndmsg = recorded(&rt, rt.alloc(), label, digits);
-        assert_eq!(rt;
+        assert_is_at(
+            &rt,
+            label,
             (
                 m.ndm_family().to_wire(),
                 *m.ndm_index(),
                 m.ndm_state().to_wire(),
                 m.ndm_flags().to_wire(),
-                m.ndm_type().to_wire()
+                m.ndm_type().to_wire(),
             ),
             fields,
-            "{label}"
         );
-        assert_eq!(rt; m.rtattrs().len(), attributes, "{label}");
+        assert_is_at(&rt, label, m.rtattrs().len(), attributes);
     }
 }
 
@@ -277,9 +280,9 @@ fn cache_entries(rt: HostRuntime) {
             *info.ndm_updated(),
             *info.ndm_refcnt(),
         );
-        assert_eq!(rt; read, times, "{label}");
+        assert_is_at(&rt, label, read, times);
         let mut written = Vec::new(alloc);
         info.to_bytes(&mut written).expect(&rt, "memory");
-        assert_eq!(rt; written.len(), 16, "{label}");
+        assert_is_at(&rt, label, written.len(), 16);
     }
 }

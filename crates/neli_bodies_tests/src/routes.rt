@@ -1,7 +1,7 @@
 //! Recorded routes, rules, queueing disciplines and requests by family, with the fields that pyroute2
 //! reads in each, and the same bytes when they are written again.
 
-use crate::support::{Row, recorded};
+use crate::support::{Row, assert_is_at, recorded};
 use neli_route::{Fibmsg, Rtgenmsg, Rtmsg, Tcmsg};
 use neli_wire::Constant;
 use std::alloc::Global;
@@ -50,7 +50,9 @@ const ROUTES: [Row<(u8, u8, u8, u8, u8, u8, u8, u8, u32)>; 5] = [
 fn routes(rt: HostRuntime) {
     for (label, digits, fields, attributes) in ROUTES {
         let m: Rtmsg = recorded(&rt, rt.alloc(), label, digits);
-        assert_eq!(rt;
+        assert_is_at(
+            &rt,
+            label,
             (
                 m.rtm_family().to_wire(),
                 *m.rtm_dst_len(),
@@ -60,12 +62,11 @@ fn routes(rt: HostRuntime) {
                 m.rtm_protocol().to_wire(),
                 m.rtm_scope().to_wire(),
                 m.rtm_type().to_wire(),
-                m.rtm_flags().to_wire()
+                m.rtm_flags().to_wire(),
             ),
             fields,
-            "{label}"
         );
-        assert_eq!(rt; m.rtattrs().len(), attributes, "{label}");
+        assert_is_at(&rt, label, m.rtattrs().len(), attributes);
     }
 }
 
@@ -104,7 +105,9 @@ const RULES: [Row<(u8, u8, u8, u8, u8, u8, u32)>; 4] = [
 fn rules(rt: HostRuntime) {
     for (label, digits, fields, attributes) in RULES {
         let m: Fibmsg = recorded(&rt, rt.alloc(), label, digits);
-        assert_eq!(rt;
+        assert_is_at(
+            &rt,
+            label,
             (
                 m.fib_family().to_wire(),
                 *m.fib_dst_len(),
@@ -112,12 +115,11 @@ fn rules(rt: HostRuntime) {
                 *m.fib_tos(),
                 m.fib_table().to_wire(),
                 m.fib_action().to_wire(),
-                m.fib_flags().to_wire()
+                m.fib_flags().to_wire(),
             ),
             fields,
-            "{label}"
         );
-        assert_eq!(rt; m.rtattrs().len(), attributes, "{label}");
+        assert_is_at(&rt, label, m.rtattrs().len(), attributes);
     }
 }
 
@@ -128,18 +130,19 @@ type Queue = (u8, i32, u32, u32, u32);
 fn assert_queue(rt: &impl Abort, alloc: Global, row: Row<Queue>) {
     let (label, digits, fields, attributes) = row;
     let m: Tcmsg = recorded(rt, alloc, label, digits);
-    assert_eq!(rt;
+    assert_is_at(
+        rt,
+        label,
         (
             *m.tcm_family(),
             *m.tcm_ifindex(),
             *m.tcm_handle(),
             *m.tcm_parent(),
-            *m.tcm_info()
+            *m.tcm_info(),
         ),
         fields,
-        "{label}"
     );
-    assert_eq!(rt; m.rtattrs().len(), attributes, "{label}");
+    assert_is_at(rt, label, m.rtattrs().len(), attributes);
 }
 
 /// Queueing disciplines.
@@ -256,7 +259,7 @@ const NAMESPACES: [Row<(u8,)>; 3] = [
 fn numbers_of_namespaces(rt: HostRuntime) {
     for (label, digits, fields, attributes) in NAMESPACES {
         let m: Rtgenmsg = recorded(&rt, rt.alloc(), label, digits);
-        assert_eq!(rt; (m.rtgen_family().to_wire(),), fields, "{label}");
-        assert_eq!(rt; m.rtattrs().len(), attributes, "{label}");
+        assert_is_at(&rt, label, (m.rtgen_family().to_wire(),), fields);
+        assert_is_at(&rt, label, m.rtattrs().len(), attributes);
     }
 }

@@ -2,7 +2,23 @@
 
 use neli_wire::{Cursor, FromBytesWithInput, ToBytes};
 use std::alloc::Global;
+use std::fmt::Debug;
 use std::process::Abort;
+
+/// Asserts that this is what is wanted.
+pub fn assert_is<T: Copy + PartialEq + Debug>(rt: &impl Abort, got: T, want: T) {
+    assert_eq!(rt; got, want);
+}
+
+/// Asserts that this is what is wanted, in the row of a table that has this name or input.
+pub fn assert_is_at<R: Copy + Debug, T: Copy + PartialEq + Debug>(
+    rt: &impl Abort,
+    row: R,
+    got: T,
+    want: T,
+) {
+    assert_eq!(rt; got, want, "at {row:?}");
+}
 
 /// A recorded body: where it stands, its bytes as hexadecimal digits, its fields, and how many attributes it has.
 pub type Row<F> = (&'static str, &'static str, F, usize);
@@ -17,7 +33,7 @@ pub fn recorded<B: FromBytesWithInput + ToBytes>(
     let bytes = hex::decode(alloc, digits).expect(rt, label);
     let mut cursor = Cursor::new(&bytes);
     let body = B::from_bytes_with_input(alloc, &mut cursor, bytes.len()).expect(rt, label);
-    assert_eq!(rt; cursor.position(), bytes.len(), "{label}");
+    assert_is_at(rt, label, cursor.position(), bytes.len());
     assert_written(rt, alloc, label, &body, &bytes);
     body
 }
@@ -32,6 +48,6 @@ pub fn assert_written<V: ToBytes>(
 ) {
     let mut bytes = Vec::new(alloc);
     value.to_bytes(&mut bytes).expect(rt, label);
-    assert_eq!(rt; bytes.as_slice(), want, "{label}");
-    assert_eq!(rt; value.written_size(), want.len(), "{label}");
+    assert_is_at(rt, label, bytes.as_slice(), want);
+    assert_is_at(rt, label, value.written_size(), want.len());
 }
