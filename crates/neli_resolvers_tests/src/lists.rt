@@ -1,6 +1,6 @@
 //! Lists of several items.
 
-use crate::support::{ACK, Cause, NLCTRL, NUMBER, assert_refused, items};
+use crate::support::{ACK, Cause, NLCTRL, NUMBER, assert_is, assert_is_at, assert_refused, items};
 use neli_msg::RouterError;
 use neli_resolvers::{lookup_id, resolve_genl_family, resolve_nl_mcast_group};
 use std::test::Fail;
@@ -45,9 +45,10 @@ fn the_last_number_of_a_family_wins(rt: HostRuntime) -> Result<(), Fail> {
         (&[&OTHER_NUMBER, &OTHER_NAMES], 17),
     ];
     for (frames, want) in rows {
-        assert_eq!(rt;
+        assert_is(
+            &rt,
             resolve_genl_family(alloc, "nlctrl", items(alloc, frames)?)?,
-            want
+            want,
         );
     }
     Ok(())
@@ -64,7 +65,7 @@ fn the_first_match_of_the_last_message_wins(rt: HostRuntime) -> Result<(), Fail>
     ];
     for (frames, name, want) in rows {
         let found = resolve_nl_mcast_group(alloc, "a", name, items(alloc, frames)?)?;
-        assert_eq!(rt; found, want, "{name}");
+        assert_is_at(&rt, name, found, want);
     }
     Ok(())
 }
@@ -73,11 +74,11 @@ fn the_first_match_of_the_last_message_wins(rt: HostRuntime) -> Result<(), Fail>
 fn the_last_names_win(rt: HostRuntime) -> Result<(), Fail> {
     let alloc = rt.alloc();
     let (family, group) = lookup_id(alloc, 5, items(alloc, &[&NLCTRL, &ACK, &OTHER_NAMES])?)?;
-    assert_eq!(rt; family.as_str(), "a");
-    assert_eq!(rt; group.as_str(), "b");
+    assert_is(&rt, family.as_str(), "a");
+    assert_is(&rt, group.as_str(), "b");
     let (family, group) = lookup_id(alloc, 5, items(alloc, &[&OTHER_NAMES, &NLCTRL])?)?;
-    assert_eq!(rt; family.as_str(), "nlctrl");
-    assert_eq!(rt; group.as_str(), "notify");
+    assert_is(&rt, family.as_str(), "nlctrl");
+    assert_is(&rt, group.as_str(), "notify");
     Ok(())
 }
 

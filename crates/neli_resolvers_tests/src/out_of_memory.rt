@@ -1,15 +1,15 @@
 //! Any one allocation may be refused in these tests (`rt try --test --fail-alloc N`). The answer is then
 //! that memory ran out, or the answer of the run without a refusal.
 
-use crate::support::{Cause, NLCTRL, NUMBER, cause_of, items};
+use crate::support::{Cause, NLCTRL, NUMBER, assert_is, cause_of, items};
 use neli_resolvers::{CtrlError, lookup_id, resolve_genl_family, resolve_nl_mcast_group};
 use std::process::Abort;
 
 /// Asserts that an outcome is this answer, or that memory ran out.
 fn assert_answer(rt: &impl Abort, outcome: Result<u32, CtrlError>, want: u32) {
     match outcome {
-        Ok(number) => assert_eq!(rt; number, want),
-        Err(error) => assert_eq!(rt; cause_of(&error), Cause::Memory),
+        Ok(number) => assert_is(rt, number, want),
+        Err(error) => assert_is(rt, cause_of(&error), Cause::Memory),
     }
 }
 
@@ -33,7 +33,11 @@ fn a_family_takes_no_memory_where_it_is_found(rt: HostRuntime) {
     let Ok(list) = items(alloc, &[&NLCTRL]) else {
         return;
     };
-    assert_eq!(rt; resolve_genl_family(alloc, "nlctrl", list).ok(), Some(16));
+    assert_is(
+        &rt,
+        resolve_genl_family(alloc, "nlctrl", list).ok(),
+        Some(16),
+    );
 }
 
 #[test]
@@ -85,9 +89,9 @@ fn names_or_out_of_memory(rt: HostRuntime) {
     };
     match lookup_id(alloc, 5, list) {
         Ok((family, group)) => {
-            assert_eq!(rt; family.as_str(), "nlctrl");
-            assert_eq!(rt; group.as_str(), "notify");
+            assert_is(&rt, family.as_str(), "nlctrl");
+            assert_is(&rt, group.as_str(), "notify");
         }
-        Err(error) => assert_eq!(rt; cause_of(&error), Cause::Memory),
+        Err(error) => assert_is(&rt, cause_of(&error), Cause::Memory),
     }
 }

@@ -4,7 +4,23 @@ use neli_msg::{Nlmsghdr, RouterError};
 use neli_resolvers::{CtrlError, CtrlItem};
 use neli_wire::{Cursor, FromBytes};
 use std::alloc::Global;
+use std::fmt::Debug;
 use std::process::Abort;
+
+/// Asserts that this is what is wanted.
+pub fn assert_is<T: Copy + PartialEq + Debug>(rt: &impl Abort, got: T, want: T) {
+    assert_eq!(rt; got, want);
+}
+
+/// Asserts that this is what is wanted, in the row of a table that has this name or input.
+pub fn assert_is_at<R: Copy + Debug, T: Copy + PartialEq + Debug>(
+    rt: &impl Abort,
+    row: R,
+    got: T,
+    want: T,
+) {
+    assert_eq!(rt; got, want, "at {row:?}");
+}
 
 /// The controller's answer for the family `nlctrl`: its number is 16, and its group 1 is `notify`, with
 /// the number 5.
@@ -72,9 +88,9 @@ pub fn assert_refused<V: Drop>(
     match outcome {
         Ok(_) => rt.panic("no refusal"),
         Err(error) => {
-            assert_eq!(rt; cause_of(&error), cause, "{want}");
+            assert_is_at(rt, want, cause_of(&error), cause);
             let text = error.to_string(alloc).expect(rt, "memory");
-            assert_eq!(rt; text.as_str(), want);
+            assert_is(rt, text.as_str(), want);
         }
     }
 }
