@@ -14,6 +14,8 @@ mod own_enums;
 #[cfg(test)]
 mod sets;
 #[cfg(test)]
+mod support;
+#[cfg(test)]
 mod types;
 #[cfg(test)]
 mod wire;

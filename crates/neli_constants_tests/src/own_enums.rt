@@ -1,5 +1,6 @@
 //! The enums that a program adds, `example_enum`, through the library's traits.
 
+use crate::support::assert_is_at;
 use example_enum::{WirelessAttribute, WirelessCommand};
 use neli_consts::{Cmd, NlAttrType};
 
@@ -13,12 +14,8 @@ fn commands(rt: HostRuntime) {
         (WirelessCommand::UnrecognizedConst(34), 34),
     ];
     for (command, number) in rows {
-        assert_eq!(rt; command.to_number(), number, "of {command:?}");
-        assert_eq!(rt;
-            WirelessCommand::from_number(number),
-            command,
-            "of {number}"
-        );
+        assert_is_at(&rt, command, command.to_number(), number);
+        assert_is_at(&rt, number, WirelessCommand::from_number(number), command);
     }
 }
 
@@ -31,7 +28,7 @@ fn attributes(rt: HostRuntime) {
         (WirelessAttribute::UnrecognizedConst(5), 5),
     ];
     for (kind, number) in rows {
-        assert_eq!(rt; kind.to_number(), number, "of {kind:?}");
-        assert_eq!(rt; WirelessAttribute::from_number(number), kind, "of {number}");
+        assert_is_at(&rt, kind, kind.to_number(), number);
+        assert_is_at(&rt, number, WirelessAttribute::from_number(number), kind);
     }
 }

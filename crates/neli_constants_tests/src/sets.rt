@@ -1,5 +1,6 @@
 //! Flags as sets.
 
+use crate::support::{assert_is, assert_is_at};
 use bitflags::Flags;
 use neli_consts::NlmF;
 use neli_consts_rtf::Ntf;
@@ -16,22 +17,22 @@ fn flags_of_two_bits(rt: HostRuntime) {
         ("a union", NlmF::REQUEST | NlmF::DUMP, 0x301),
     ];
     for (name, flags, bits) in rows {
-        assert_eq!(rt; flags.bits(), bits, "{name}");
+        assert_is_at(&rt, name, flags.bits(), bits);
     }
     for (bits, dumps) in [(0x300, true), (0x100, false), (0x200, false), (0x704, true)] {
-        assert_eq!(rt; NlmF::from(bits).contains(NlmF::DUMP), dumps, "at {bits}");
+        assert_is_at(&rt, bits, NlmF::from(bits).contains(NlmF::DUMP), dumps);
     }
 }
 
 // 0x40 has no name among the flags of neighbours.
 #[test]
 fn bits_without_a_name(rt: HostRuntime) -> Result<(), Fail> {
-    assert_eq!(rt; Ntf::from(0xff).bits(), 0xbf);
+    assert_is(&rt, Ntf::from(0xff).bits(), 0xbf);
     let mut cursor = Cursor::new(b"\xff");
     let read = Ntf::from_bytes(rt.alloc(), &mut cursor)?;
-    assert_eq!(rt; read.bits(), 0xff);
+    assert_is(&rt, read.bits(), 0xff);
     let mut bytes = Vec::new(rt.alloc());
     read.to_bytes(&mut bytes)?;
-    assert_eq!(rt; bytes.as_slice(), b"\xff".as_slice());
+    assert_is(&rt, bytes.as_slice(), b"\xff".as_slice());
     Ok(())
 }

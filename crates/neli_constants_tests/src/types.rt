@@ -1,5 +1,6 @@
 //! The traits over the tables: the number of a type, and the type of a number.
 
+use crate::support::{assert_is, assert_is_at};
 use neli_consts::{
     Cmd, CtrlCmd, GenlId, Index, LogCfgCmd, LogCfgCmdWrapper, MAX_NL_LENGTH, NlAttrType, NlType,
     NlTypeWrapper,
@@ -11,32 +12,32 @@ use std::process::Abort;
 
 /// The type has this number, and the number means this type.
 fn check_message<T: NlType>(rt: &impl Abort, value: T, number: u16) {
-    assert_eq!(rt; value.to_number(), number, "the number of {value:?}");
-    assert_eq!(rt; T::from_number(number), value, "the type of {number}");
+    assert_is_at(rt, value, value.to_number(), number);
+    assert_is_at(rt, number, T::from_number(number), value);
 }
 
 /// The same for a type of attributes.
 fn check_attribute<T: NlAttrType>(rt: &impl Abort, value: T, number: u16) {
-    assert_eq!(rt; value.to_number(), number, "the number of {value:?}");
-    assert_eq!(rt; T::from_number(number), value, "the type of {number}");
+    assert_is_at(rt, value, value.to_number(), number);
+    assert_is_at(rt, number, T::from_number(number), value);
 }
 
 /// The same for a type of attributes in routing messages.
 fn check_routing<T: RtaType>(rt: &impl Abort, value: T, number: u16) {
-    assert_eq!(rt; value.to_number(), number, "the number of {value:?}");
-    assert_eq!(rt; T::from_number(number), value, "the type of {number}");
+    assert_is_at(rt, value, value.to_number(), number);
+    assert_is_at(rt, number, T::from_number(number), value);
 }
 
 /// The same for a command.
 fn check_command<T: Cmd>(rt: &impl Abort, value: T, number: u8) {
-    assert_eq!(rt; value.to_number(), number, "the number of {value:?}");
-    assert_eq!(rt; T::from_number(number), value, "the command of {number}");
+    assert_is_at(rt, value, value.to_number(), number);
+    assert_is_at(rt, number, T::from_number(number), value);
 }
 
 /// The same for a command of the log.
 fn check_logging<T: LogCfgCmd>(rt: &impl Abort, value: T, number: u8) {
-    assert_eq!(rt; value.to_number(), number, "the number of {value:?}");
-    assert_eq!(rt; T::from_number(number), value, "the command of {number}");
+    assert_is_at(rt, value, value.to_number(), number);
+    assert_is_at(rt, number, T::from_number(number), value);
 }
 
 #[test]
@@ -70,5 +71,5 @@ fn commands(rt: HostRuntime) {
 
 #[test]
 fn size_of_a_buffer(rt: HostRuntime) {
-    assert_eq!(rt; MAX_NL_LENGTH, 32 * 1024);
+    assert_is(&rt, MAX_NL_LENGTH, 32 * 1024);
 }

@@ -1,5 +1,6 @@
 //! Constants on the wire: the bytes of their number, the lowest first.
 
+use crate::support::{assert_is, assert_is_at};
 use neli_consts::{CtrlCmd, NlTypeWrapper, NlmF};
 use neli_consts_rt::Rtm;
 use neli_consts_rtf::Iff;
@@ -16,10 +17,10 @@ fn check<R: Abort + AllocGlobal, T: Constant + PartialEq>(
 ) -> Result<(), Fail> {
     let mut bytes = Vec::new(rt.alloc());
     value.to_bytes(&mut bytes)?;
-    assert_eq!(rt; bytes.as_slice(), wanted, "of {value:?}");
-    assert_eq!(rt; T::type_size(), wanted.len(), "of {value:?}");
+    assert_is_at(rt, value, bytes.as_slice(), wanted);
+    assert_is_at(rt, value, T::type_size(), wanted.len());
     let mut cursor = Cursor::new(wanted);
-    assert_eq!(rt; T::from_bytes(rt.alloc(), &mut cursor)?, value);
+    assert_is(rt, T::from_bytes(rt.alloc(), &mut cursor)?, value);
     Ok(())
 }
 

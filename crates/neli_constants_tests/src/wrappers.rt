@@ -1,5 +1,6 @@
 //! What a number may mean: the first table that has a name for it.
 
+use crate::support::assert_is_at;
 use neli_consts::{
     CtrlAttr, CtrlAttrMcastGrp, GenlId, Index, LogCfgCmdWrapper, NlAttrTypeWrapper, NlTypeWrapper,
     Nlmsg, NlmsgerrAttr,
@@ -23,8 +24,8 @@ fn types_of_messages(rt: HostRuntime) {
         (1026, NlTypeWrapper::UnrecognizedConst(1026)),
     ];
     for (number, wanted) in rows {
-        assert_eq!(rt; NlTypeWrapper::from(number), wanted, "of {number}");
-        assert_eq!(rt; u16::from(wanted), number, "of {wanted:?}");
+        assert_is_at(&rt, number, NlTypeWrapper::from(number), wanted);
+        assert_is_at(&rt, wanted, u16::from(wanted), number);
     }
 }
 
@@ -39,8 +40,8 @@ fn types_of_attributes(rt: HostRuntime) {
         (65535, NlAttrTypeWrapper::Index(Index::from(65535))),
     ];
     for (number, wanted) in rows {
-        assert_eq!(rt; NlAttrTypeWrapper::from(number), wanted, "of {number}");
-        assert_eq!(rt; u16::from(wanted), number, "of {wanted:?}");
+        assert_is_at(&rt, number, NlAttrTypeWrapper::from(number), wanted);
+        assert_is_at(&rt, wanted, u16::from(wanted), number);
     }
 }
 
@@ -55,7 +56,7 @@ fn attributes_that_are_never_read(rt: HostRuntime) {
         (NlAttrTypeWrapper::UnrecognizedConst(30), 30),
     ];
     for (value, number) in rows {
-        assert_eq!(rt; u16::from(&value), number, "of {value:?}");
+        assert_is_at(&rt, value, u16::from(&value), number);
         assert_ne!(rt; NlAttrTypeWrapper::from(number), value, "of {number}");
     }
 }
@@ -76,12 +77,8 @@ fn types_in_routing_messages(rt: HostRuntime) {
         (RtaTypeWrapper::UnrecognizedConst(56), 56, true),
     ];
     for (value, number, is_read) in rows {
-        assert_eq!(rt; u16::from(&value), number, "of {value:?}");
-        assert_eq!(rt;
-            RtaTypeWrapper::from(number) == value,
-            is_read,
-            "of {number}"
-        );
+        assert_is_at(&rt, value, u16::from(&value), number);
+        assert_is_at(&rt, number, RtaTypeWrapper::from(number) == value, is_read);
     }
 }
 
@@ -93,7 +90,7 @@ fn logging_commands(rt: HostRuntime) {
         (5, LogCfgCmdWrapper::UnrecognizedConst(5)),
     ];
     for (number, wanted) in rows {
-        assert_eq!(rt; LogCfgCmdWrapper::from(number), wanted, "of {number}");
-        assert_eq!(rt; u8::from(&wanted), number, "of {wanted:?}");
+        assert_is_at(&rt, number, LogCfgCmdWrapper::from(number), wanted);
+        assert_is_at(&rt, wanted, u8::from(&wanted), number);
     }
 }
