@@ -1,6 +1,7 @@
 //! What the arguments ask for, and what is answered.
 
 use crate::output::Narrow;
+use crate::support::assert_is_at;
 use neli_queues::Queues;
 use neli_tool_base::status::Status;
 use neli_tool_run::run::{Request, requested, run};
@@ -108,7 +109,7 @@ fn words_ask_for_a_listing_or_a_script_or_are_wrong_use(rt: HostRuntime) {
     ];
     for (given, request, want, code, text, complaint) in rows {
         let words = words(&rt, alloc, given);
-        assert_eq!(rt; requested(&words), request, "{given:?}");
+        assert_is_at(&rt, given, requested(&words), request);
         let mut input = SHORT.as_slice();
         let mut output = Vec::new(alloc);
         let mut complaints = Vec::new(alloc);
@@ -119,11 +120,11 @@ fn words_ask_for_a_listing_or_a_script_or_are_wrong_use(rt: HostRuntime) {
             &mut output,
             &mut complaints,
         );
-        assert_eq!(rt; status, want, "{given:?}");
-        assert_eq!(rt; status.code(), code, "{given:?}");
-        assert_eq!(rt; output.as_slice(), text.as_bytes(), "{given:?}");
-        assert_eq!(rt; complaints.as_slice(), complaint.as_bytes(), "{given:?}");
-        assert_eq!(rt; input.is_empty(), request != Request::Usage, "{given:?}");
+        assert_is_at(&rt, given, status, want);
+        assert_is_at(&rt, given, status.code(), code);
+        assert_is_at(&rt, given, output.as_slice(), text.as_bytes());
+        assert_is_at(&rt, given, complaints.as_slice(), complaint.as_bytes());
+        assert_is_at(&rt, given, input.is_empty(), request != Request::Usage);
     }
 }
 
@@ -148,7 +149,7 @@ fn words_that_are_not_read(rt: HostRuntime) {
     ];
     for (kind, request, want, text, complaint) in rows {
         let words: io::Result<Vec<String>> = Err(io::Error::from(kind));
-        assert_eq!(rt; requested(&words), request, "{kind:?}");
+        assert_is_at(&rt, kind, requested(&words), request);
         let mut input = SHORT.as_slice();
         let mut output = Vec::new(alloc);
         let mut complaints = Vec::new(alloc);
@@ -159,10 +160,10 @@ fn words_that_are_not_read(rt: HostRuntime) {
             &mut output,
             &mut complaints,
         );
-        assert_eq!(rt; status, want, "{kind:?}");
-        assert_eq!(rt; output.as_slice(), text.as_bytes(), "{kind:?}");
-        assert_eq!(rt; complaints.as_slice(), complaint.as_bytes(), "{kind:?}");
-        assert_eq!(rt; input.len(), 1, "{kind:?}");
+        assert_is_at(&rt, kind, status, want);
+        assert_is_at(&rt, kind, output.as_slice(), text.as_bytes());
+        assert_is_at(&rt, kind, complaints.as_slice(), complaint.as_bytes());
+        assert_is_at(&rt, kind, input.len(), 1);
     }
 }
 
@@ -188,8 +189,8 @@ fn complaints_that_fail_are_still_wrong_use(rt: HostRuntime) {
             &mut output,
             &mut complaints,
         );
-        assert_eq!(rt; status, want, "{row}");
-        assert_eq!(rt; status.code(), 2, "{row}");
+        assert_is_at(&rt, row, status, want);
+        assert_is_at(&rt, row, status.code(), 2);
         assert!(rt; output.is_empty(), "{row}");
     }
 }
@@ -207,6 +208,6 @@ fn each_end_has_its_exit_status(rt: HostRuntime) {
         (Status::NoUsage, 2),
     ];
     for (status, code) in rows {
-        assert_eq!(rt; status.code(), code, "{status:?}");
+        assert_is_at(&rt, status, status.code(), code);
     }
 }

@@ -1,5 +1,6 @@
 //! Inputs of many lengths, inputs that fail, and inputs that do not end.
 
+use crate::support::{assert_is, assert_is_at};
 use neli_tool_base::input::{InputError, read_whole};
 use neli_tool_base::listing::list;
 use neli_tool_base::status::Status;
@@ -7,7 +8,6 @@ use std::alloc::{AllocError, Global};
 use std::io;
 use std::io::{ErrorKind, Read};
 use std::process::Abort;
-use std::test::Fail;
 
 /// A reader that gives one of its bytes at each call.
 #[derive(Drop)]
@@ -63,22 +63,24 @@ fn counting(rt: &impl Abort, alloc: Global, count: usize) -> Vec<u8> {
     bytes
 }
 
+/// Asserts that the reader gives these bytes, and then ends.
+fn assert_read<R: Read>(rt: &impl Abort, alloc: Global, how: &str, input: &mut R, want: &[u8]) {
+    match &read_whole(alloc, input) {
+        Ok(read) => assert_is_at(rt, (how, want.len()), read.as_slice(), want),
+        Err(_) => rt.panic("an input that was not read"),
+    }
+}
+
 #[test]
-fn an_input_is_read_to_its_end(rt: HostRuntime) -> Result<(), Fail> {
+fn an_input_is_read_to_its_end(rt: HostRuntime) {
     let alloc = rt.alloc();
     for count in [0, 1, 4095, 4096, 4097, 8192, 10000] {
         let bytes = counting(&rt, alloc, count);
-        assert_eq!(rt; bytes.len(), count);
-        match read_whole(alloc, &mut bytes.as_slice()) {
-            Ok(read) => assert_eq!(rt; read.as_slice(), bytes.as_slice(), "{count} by pieces"),
-            Err(_) => return Err(Fail::new("an input that was not read")),
-        }
-        match read_whole(alloc, &mut ByteByByte { rest: &bytes }) {
-            Ok(read) => assert_eq!(rt; read.as_slice(), bytes.as_slice(), "{count} one by one"),
-            Err(_) => return Err(Fail::new("an input that was not read byte by byte")),
-        }
+        assert_is(&rt, bytes.len(), count);
+        assert_read(&rt, alloc, "by pieces", &mut bytes.as_slice(), &bytes);
+        let mut one_by_one = ByteByByte { rest: &bytes };
+        assert_read(&rt, alloc, "one by one", &mut one_by_one, &bytes);
     }
-    Ok(())
 }
 
 #[test]
@@ -91,11 +93,11 @@ fn a_read_that_fails_is_told(rt: HostRuntime) {
         };
         let failed = matches!(read_whole(rt.alloc(), &mut input), Err(InputError::Failed));
         assert!(rt; failed, "{last}");
-        assert_eq!(rt; input.calls, last);
+        assert_is(&rt, input.calls, last);
     }
     let failed = InputError::from(io::Error::from(ErrorKind::Other));
-    assert_eq!(rt; failed, InputError::Failed);
-    assert_eq!(rt; InputError::from(AllocError), InputError::Memory);
+    assert_is(&rt, failed, InputError::Failed);
+    assert_is(&rt, InputError::from(AllocError), InputError::Memory);
 }
 
 #[test]
@@ -135,8 +137,8 @@ fn an_input_ends_within_a_million_calls(rt: HostRuntime) {
         };
         let mut output = Vec::new(rt.alloc());
         let status = list(rt.alloc(), &mut input, &mut output);
-        assert_eq!(rt; status, want, "{row}");
-        assert_eq!(rt; output.as_slice(), text.as_bytes(), "{row}");
-        assert_eq!(rt; input.calls, calls, "{row}");
+        assert_is_at(&rt, row, status, want);
+        assert_is_at(&rt, row, output.as_slice(), text.as_bytes());
+        assert_is_at(&rt, row, input.calls, calls);
     }
 }

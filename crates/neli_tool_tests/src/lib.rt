@@ -17,3 +17,5 @@ mod out_of_memory;
 mod output;
 #[cfg(test)]
 mod rewriting;
+#[cfg(test)]
+mod support;

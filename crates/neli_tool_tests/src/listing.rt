@@ -1,12 +1,12 @@
 //! The lines of datagrams.
 
+use crate::support::{assert_is, assert_is_at, assert_prints, decoded};
 use neli_lent::LentMessages;
 use neli_msg::NlBufferIter;
 use neli_tool_base::line::{Ending, Line, RawMessage};
 use neli_tool_base::listing::{list, read_line, write_ending, write_lines};
 use neli_tool_base::status::Status;
 use neli_wire::Cursor;
-use std::test::Fail;
 
 /// A message of type 1024 with the payload `61`, and three padding bytes of any value.
 const ONE: &str = "1100000000040000000000000000000061ffffff";
@@ -14,7 +14,7 @@ const ONE: &str = "1100000000040000000000000000000061ffffff";
 const ONE_LINE: &str = "type 1024 flags 0x0000 number 0 port 0 payload 1\n";
 
 #[test]
-fn datagrams_are_listed(rt: HostRuntime) -> Result<(), Fail> {
+fn datagrams_are_listed(rt: HostRuntime) {
     let rows = [
         ("nothing", "", "", Status::Whole),
         ("a payload of one byte", ONE, ONE_LINE, Status::Whole),
@@ -62,54 +62,64 @@ fn datagrams_are_listed(rt: HostRuntime) -> Result<(), Fail> {
         ),
     ];
     for (row, datagram, text, want) in rows {
-        let bytes = hex::decode(rt.alloc(), datagram)?;
+        let bytes = decoded(&rt, rt.alloc(), datagram);
         let mut output = Vec::new(rt.alloc());
         let status = list(rt.alloc(), &mut bytes.as_slice(), &mut output);
-        assert_eq!(rt; output.as_slice(), text.as_bytes(), "{row}");
-        assert_eq!(rt; status, want, "{row}");
+        assert_is_at(&rt, row, output.as_slice(), text.as_bytes());
+        assert_is_at(&rt, row, status, want);
     }
-    Ok(())
 }
 
+/// A message without a payload, and a byte after it.
+const HEADER: &str = "10000000100002f0050000000700000000";
+
+const HEADER_LINE: &str = "type 16 flags 0xf002 number 5 port 7 payload 0";
+
 #[test]
-fn a_message_has_a_line(rt: HostRuntime) -> Result<(), Fail> {
+fn an_owned_message_has_a_line(rt: HostRuntime) {
     let alloc = rt.alloc();
-    let line = "type 16 flags 0xf002 number 5 port 7 payload 0";
-    let bytes = hex::decode(alloc, "10000000100002f0050000000700000000")?;
+    let bytes = decoded(&rt, alloc, HEADER);
     let mut messages = NlBufferIter::new(&bytes);
-    let Some(Ok(message)) = messages.next(alloc) else {
-        return Err(Fail::new("the first message"));
-    };
-    let message: RawMessage = message;
-    assert_eq!(rt; Line::of(&message).to_string(alloc)?.as_str(), line);
-    let Some(Ok(lent)) = LentMessages::new(&bytes).next() else {
-        return Err(Fail::new("the first message, lent"));
-    };
-    assert_eq!(rt; Line::of_body(&lent).to_string(alloc)?.as_str(), line);
-    let mut cursor = Cursor::new(&bytes);
-    let read = read_line(alloc, &mut cursor)?;
-    assert_eq!(rt; read.to_string(alloc)?.as_str(), line);
-    assert_eq!(rt; cursor.position(), 16);
-    Ok(())
+    let message = messages.next(alloc).expect(&rt, "the first message");
+    let message: RawMessage = message.expect(&rt, "the first message");
+    assert_prints(&rt, alloc, &Line::of(&message), HEADER_LINE);
 }
 
 #[test]
-fn lines_are_written_and_then_their_ending(rt: HostRuntime) -> Result<(), Fail> {
+fn a_lent_message_has_a_line(rt: HostRuntime) {
+    let bytes = decoded(&rt, rt.alloc(), HEADER);
+    let message = LentMessages::new(&bytes).next();
+    let message = message.expect(&rt, "the first message, lent");
+    let line = Line::of_body(&message.expect(&rt, "the first message, lent"));
+    assert_prints(&rt, rt.alloc(), &line, HEADER_LINE);
+}
+
+#[test]
+fn a_line_is_read(rt: HostRuntime) {
     let alloc = rt.alloc();
-    let bytes = hex::decode(alloc, "10000000100002f0050000000700000000")?;
-    let mut output = Vec::new(alloc);
-    let ending = write_lines(alloc, &bytes, &mut output)?;
-    assert_eq!(rt; ending, Ending::Short);
-    let line = "type 16 flags 0xf002 number 5 port 7 payload 0\n";
-    assert_eq!(rt; output.as_slice(), line.as_bytes());
-    write_ending(ending, &mut output)?;
-    let whole = "type 16 flags 0xf002 number 5 port 7 payload 0\nfault: short\n";
-    assert_eq!(rt; output.as_slice(), whole.as_bytes());
-    Ok(())
+    let bytes = decoded(&rt, alloc, HEADER);
+    let mut cursor = Cursor::new(&bytes);
+    let line = read_line(alloc, &mut cursor).expect(&rt, "a line");
+    assert_prints(&rt, alloc, &line, HEADER_LINE);
+    assert_is(&rt, cursor.position(), 16);
 }
 
 #[test]
-fn endings_have_lines(rt: HostRuntime) -> Result<(), Fail> {
+fn lines_are_written_and_then_their_ending(rt: HostRuntime) {
+    let alloc = rt.alloc();
+    let bytes = decoded(&rt, alloc, HEADER);
+    let mut output = Vec::new(alloc);
+    let ending = write_lines(alloc, &bytes, &mut output).expect(&rt, "memory");
+    assert_is(&rt, ending, Ending::Short);
+    let line = "type 16 flags 0xf002 number 5 port 7 payload 0\n";
+    assert_is(&rt, output.as_slice(), line.as_bytes());
+    write_ending(ending, &mut output).expect(&rt, "memory");
+    let whole = "type 16 flags 0xf002 number 5 port 7 payload 0\nfault: short\n";
+    assert_is(&rt, output.as_slice(), whole.as_bytes());
+}
+
+#[test]
+fn endings_have_lines(rt: HostRuntime) {
     let rows = [
         (Ending::Whole, ""),
         (Ending::Input(15), "fault: input 15\n"),
@@ -119,7 +129,6 @@ fn endings_have_lines(rt: HostRuntime) -> Result<(), Fail> {
         (Ending::Memory, "fault: memory\n"),
     ];
     for (ending, want) in rows {
-        assert_eq!(rt; ending.to_string(rt.alloc())?.as_str(), want);
+        assert_prints(&rt, rt.alloc(), &ending, want);
     }
-    Ok(())
 }

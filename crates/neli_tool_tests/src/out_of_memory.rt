@@ -1,6 +1,7 @@
 //! Any one allocation may be refused in these tests (`rt try --test --fail-alloc N`). What is printed is then
 //! the whole text, or whole lines of it and the line for out of memory, and the status says which.
 
+use crate::support::assert_is;
 use neli_queues::Queues;
 use neli_tool_base::status::Status;
 use neli_tool_run::run::run;
@@ -72,7 +73,7 @@ fn listed_or_out_of_memory(rt: HostRuntime) {
     assert!(rt; count <= 256);
     let text = &output.bytes[..count];
     match status {
-        Status::Whole => assert_eq!(rt; text, whole.as_bytes()),
+        Status::Whole => assert_is(&rt, text, whole.as_bytes()),
         Status::Memory => assert!(rt;
             parts.iter().any(|part| text == part.as_bytes()),
             "{text:?}"

@@ -1,10 +1,10 @@
 //! Outputs that fail.
 
+use crate::support::{assert_is_at, decoded};
 use neli_tool_base::listing::{list, out_of_memory};
 use neli_tool_base::status::Status;
 use std::io;
 use std::io::{ErrorKind, Write};
-use std::test::Fail;
 
 /// A writer that takes so many bytes and then fails, and of which a flush may fail.
 #[derive(Drop)]
@@ -33,7 +33,7 @@ impl Write for Narrow {
 }
 
 #[test]
-fn a_listing_that_is_not_written_is_no_output(rt: HostRuntime) -> Result<(), Fail> {
+fn a_listing_that_is_not_written_is_no_output(rt: HostRuntime) {
     let alloc = rt.alloc();
     let line = "type 1024 flags 0x0000 number 0 port 0 payload 1\n".len();
     let fault = "fault: short\n".len();
@@ -57,14 +57,13 @@ fn a_listing_that_is_not_written_is_no_output(rt: HostRuntime) -> Result<(), Fai
         ("room for all", line + fault, true, Status::Fault),
     ];
     // A message of type 1024 with the payload `61` and three padding bytes, and then one byte.
-    let datagram = hex::decode(alloc, "1100000000040000000000000000000061ffffff00")?;
+    let datagram = decoded(&rt, alloc, "1100000000040000000000000000000061ffffff00");
     for (row, room, flushes, want) in rows {
         let mut output = Narrow { room, flushes };
         let status = list(alloc, &mut datagram.as_slice(), &mut output);
-        assert_eq!(rt; status, want, "{row}");
-        assert_eq!(rt; output.room, 0, "{row}");
+        assert_is_at(&rt, row, status, want);
+        assert_is_at(&rt, row, output.room, 0);
     }
-    Ok(())
 }
 
 #[test]
@@ -78,7 +77,7 @@ fn out_of_memory_that_is_not_written_is_no_output(rt: HostRuntime) {
     ];
     for (row, room, flushes, want) in rows {
         let mut output = Narrow { room, flushes };
-        assert_eq!(rt; out_of_memory(&mut output), want, "{row}");
-        assert_eq!(rt; output.room, 0, "{row}");
+        assert_is_at(&rt, row, out_of_memory(&mut output), want);
+        assert_is_at(&rt, row, output.room, 0);
     }
 }

@@ -1,15 +1,15 @@
 //! Datagrams that are written again, with zeros for their padding.
 
+use crate::support::{assert_is_at, decoded};
 use neli_tool_base::line::Ending;
 use neli_tool_base::listing::list;
 use neli_tool_base::rewriting::{list_zero, rewriting_of};
 use neli_tool_base::status::Status;
 use std::alloc::Global;
 use std::process::Abort;
-use std::test::Fail;
 
 #[test]
-fn padding_is_written_as_zeros(rt: HostRuntime) -> Result<(), Fail> {
+fn padding_is_written_as_zeros(rt: HostRuntime) {
     let alloc = rt.alloc();
     // What the datagram is, what is read, and what is written.
     let rows = [
@@ -52,52 +52,47 @@ fn padding_is_written_as_zeros(rt: HostRuntime) -> Result<(), Fail> {
         ),
     ];
     for (row, datagram, want) in rows {
-        let bytes = hex::decode(alloc, datagram)?;
-        let want = hex::decode(alloc, want)?;
+        let bytes = decoded(&rt, alloc, datagram);
+        let want = decoded(&rt, alloc, want);
         let mut output = Vec::new(alloc);
         let status = list_zero(alloc, &mut bytes.as_slice(), &mut output);
-        assert_eq!(rt; status, Status::Whole, "{row}");
-        assert_eq!(rt; output.as_slice(), want.as_slice(), "{row}");
-        same_lines(&rt, alloc, row, &bytes, &output)?;
-        // Written once more, nothing changes.
-        let again = rewriting_of(alloc, &output);
-        assert_eq!(rt; again.ending, Ending::Whole, "{row}");
-        assert_eq!(rt; again.bytes.as_slice(), output.as_slice(), "{row}");
+        assert_is_at(&rt, row, status, Status::Whole);
+        assert_is_at(&rt, row, output.as_slice(), want.as_slice());
+        assert_same_lines(&rt, alloc, row, &bytes, &output);
+        assert_is_zeroed(&rt, alloc, row, &output);
     }
-    Ok(())
 }
 
 // Both are listed alike.
-fn same_lines(
-    rt: &impl Abort,
-    alloc: Global,
-    row: &str,
-    first: &[u8],
-    second: &[u8],
-) -> Result<(), Fail> {
+fn assert_same_lines(rt: &impl Abort, alloc: Global, row: &str, first: &[u8], second: &[u8]) {
     let mut one = Vec::new(alloc);
     let mut two = Vec::new(alloc);
     let first_ends = list(alloc, &mut &*first, &mut one);
     let second_ends = list(alloc, &mut &*second, &mut two);
-    assert_eq!(rt; first_ends, second_ends, "{row}");
-    assert_eq!(rt; one.as_slice(), two.as_slice(), "{row}");
-    Ok(())
+    assert_is_at(rt, row, first_ends, second_ends);
+    assert_is_at(rt, row, one.as_slice(), two.as_slice());
+}
+
+// Written once more, nothing changes.
+fn assert_is_zeroed(rt: &impl Abort, alloc: Global, row: &str, bytes: &[u8]) {
+    let again = rewriting_of(alloc, bytes);
+    assert_is_at(rt, row, again.ending, Ending::Whole);
+    assert_is_at(rt, row, again.bytes.as_slice(), bytes);
 }
 
 #[test]
-fn faults_are_lines_alone(rt: HostRuntime) -> Result<(), Fail> {
+fn faults_are_lines_alone(rt: HostRuntime) {
     let alloc = rt.alloc();
-    let tail = "28000000020000000000000000000000000000001000000010000500000000000000000001020304";
-    let tail_and_fault = format!(in alloc; "{tail}ffffff")?;
     let rows = [
         (
             "bytes after the header that an acknowledgement answers",
-            tail,
+            "28000000020000000000000000000000000000001000000010000500000000000000000001020304",
             "fault: tail\n",
         ),
         (
             "the same before a fault",
-            tail_and_fault.as_str(),
+            "28000000020000000000000000000000000000001000000010000500000000000000000001020304\
+                ffffff",
             "fault: short\n",
         ),
         (
@@ -112,11 +107,10 @@ fn faults_are_lines_alone(rt: HostRuntime) -> Result<(), Fail> {
         ),
     ];
     for (row, datagram, want) in rows {
-        let bytes = hex::decode(alloc, datagram)?;
+        let bytes = decoded(&rt, alloc, datagram);
         let mut output = Vec::new(alloc);
         let status = list_zero(alloc, &mut bytes.as_slice(), &mut output);
-        assert_eq!(rt; output.as_slice(), want.as_bytes(), "{row}");
-        assert_eq!(rt; status, Status::Fault, "{row}");
+        assert_is_at(&rt, row, output.as_slice(), want.as_bytes());
+        assert_is_at(&rt, row, status, Status::Fault);
     }
-    Ok(())
 }

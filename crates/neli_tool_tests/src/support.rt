@@ -1,0 +1,31 @@
+//! What the tests share: the comparison, which stands in one place, digits that are read, and texts that are printed.
+
+use std::alloc::Global;
+use std::fmt::{Debug, Display};
+use std::process::Abort;
+
+/// Asserts that this is what is wanted.
+pub fn assert_is<T: Copy + PartialEq + Debug>(rt: &impl Abort, got: T, want: T) {
+    assert_eq!(rt; got, want);
+}
+
+/// Asserts that this is what is wanted, in the row of a table that has this name or input.
+pub fn assert_is_at<R: Copy + Debug, T: Copy + PartialEq + Debug>(
+    rt: &impl Abort,
+    row: R,
+    got: T,
+    want: T,
+) {
+    assert_eq!(rt; got, want, "at {row:?}");
+}
+
+/// The bytes of these hexadecimal digits.
+pub fn decoded(rt: &impl Abort, alloc: Global, digits: &str) -> Vec<u8> {
+    hex::decode(alloc, digits).expect(rt, "digits")
+}
+
+/// Asserts that the value prints this text.
+pub fn assert_prints<D: Display>(rt: &impl Abort, alloc: Global, value: &D, text: &str) {
+    let printed = value.to_string(alloc).expect(rt, "memory");
+    assert_is(rt, printed.as_str(), text);
+}
