@@ -5,10 +5,14 @@ use crate::support::{
     Refusal, assert_is, assert_is_at, assert_prints, assert_written, generic, refusal_of, routing,
     zeros,
 };
-use neli_attr::{AttrType, Attribute, Buffer, BuildError, Nlattr, NlattrBuilder, Rtattr};
-use neli_consts::CtrlAttr;
-use neli_consts_rta::Rta;
-use neli_wire::{Cursor, DeError, FromBytes, Header, Size};
+use neli::attr::Attribute;
+use neli::consts::genl::CtrlAttr;
+use neli::consts::rtnl::Rta;
+use neli::err::{BuildError, DeError};
+use neli::genl::{AttrType, Nlattr, NlattrBuilder};
+use neli::rtnl::Rtattr;
+use neli::types::Buffer;
+use neli::{Cursor, FromBytes, Header, Size};
 use std::alloc::Global;
 use std::process::Abort;
 

@@ -1,8 +1,8 @@
 //! Bytes that a value owns.
 
 use crate::support::assert_is;
-use neli_attr::Buffer;
-use neli_wire::{Cursor, FromBytesWithInput, Size, ToBytes};
+use neli::types::Buffer;
+use neli::{Cursor, FromBytesWithInput, Size, ToBytes};
 use std::alloc::Global;
 use std::process::Abort;
 

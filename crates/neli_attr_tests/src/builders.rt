@@ -1,10 +1,9 @@
 //! What builders answer where they make nothing.
 
 use crate::support::{assert_is, assert_is_at, assert_prints};
-use neli_attr::{
-    AttrTypeBuilder, BuildError, NlattrBuilder, NlattrBuilderError, RtattrBuilder, of,
-};
-use neli_wire::{NoMemory, SerError, UninitializedFieldError};
+use neli::err::{BuildError, NoMemory, SerError, UninitializedFieldError, of};
+use neli::genl::{AttrTypeBuilder, NlattrBuilder, NlattrBuilderError};
+use neli::rtnl::RtattrBuilder;
 use std::alloc::{AllocError, AllocFailed};
 use std::io::ErrorKind;
 

@@ -1,4 +1,4 @@
-//! Tests of attributes, `neli_attr` and what it re-exports, by its public calls.
+//! Tests of attributes by the paths of `neli`.
 //!
 //! - [`attributes`], [`type_fields`], [`buffers`]: what single values are written as, and what is read.
 //! - [`builders`]: what builders answer. [`lists`], [`lookup`], [`nesting`]: lists of attributes.

@@ -4,13 +4,13 @@ use crate::support::{
     Refusal, assert_is, assert_is_at, assert_written, generic, generic_list, refusal_of, routing,
     routing_list,
 };
-use neli_attr::{
-    AttrHandle, AttrSlice, Attribute, Buffer, GenlAttrHandle, GenlBuffer, Nlattr, RtAttrHandle,
-    RtBuffer, Rtattr,
-};
-use neli_consts::{CtrlAttr, Index};
-use neli_consts_rta::{Ifa, Rta};
-use neli_wire::{Cursor, FromBytesWithInput, Size};
+use neli::attr::{AttrHandle, AttrSlice, Attribute};
+use neli::consts::genl::{CtrlAttr, Index};
+use neli::consts::rtnl::{Ifa, Rta};
+use neli::genl::{GenlAttrHandle, Nlattr};
+use neli::rtnl::{RtAttrHandle, Rtattr};
+use neli::types::{Buffer, GenlBuffer, RtBuffer};
+use neli::{Cursor, FromBytesWithInput, Size};
 use std::alloc::Global;
 use std::process::Abort;
 

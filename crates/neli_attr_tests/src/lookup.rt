@@ -1,10 +1,12 @@
 //! Looking attributes up in a handle.
 
 use crate::support::{assert_is, assert_is_at, assert_prints, generic_list, routing_list};
-use neli_attr::{AttrHandle, Buffer, GenlAttrHandle, GenlBuffer};
-use neli_consts::{CtrlAttr, Index};
-use neli_consts_rta::Frattr;
-use neli_wire::DeError;
+use neli::attr::AttrHandle;
+use neli::consts::genl::{CtrlAttr, Index};
+use neli::consts::rtnl::Frattr;
+use neli::err::DeError;
+use neli::genl::GenlAttrHandle;
+use neli::types::{Buffer, GenlBuffer};
 
 /// An attribute of type 1 with the number 5, which is the `FamilyId` of a generic family.
 const FAMILY_ID: [u8; 8] = [8, 0, 1, 0, 5, 0, 0, 0];

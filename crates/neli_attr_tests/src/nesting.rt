@@ -1,12 +1,13 @@
 //! Attributes inside attributes.
 
 use crate::support::{assert_is, assert_written, generic, routing, routing_list};
-use neli_attr::{
-    AttrHandle, Buffer, GenlAttrHandle, GenlBuffer, Nlattr, RtAttrHandle, RtBuffer, Rtattr,
-};
-use neli_consts::{CtrlAttr, CtrlAttrMcastGrp, Index};
-use neli_consts_rta::{Frattr, Rta};
-use neli_wire::DeError;
+use neli::attr::AttrHandle;
+use neli::consts::genl::{CtrlAttr, CtrlAttrMcastGrp, Index};
+use neli::consts::rtnl::{Frattr, Rta};
+use neli::err::DeError;
+use neli::genl::{GenlAttrHandle, Nlattr};
+use neli::rtnl::{RtAttrHandle, Rtattr};
+use neli::types::{Buffer, GenlBuffer, RtBuffer};
 use std::alloc::Global;
 use std::process::Abort;
 

@@ -2,9 +2,12 @@
 //! changed. They are run with each allocation refused in turn.
 
 use crate::support::assert_is;
-use neli_attr::{Attribute, Buffer, RtBuffer, Rtattr, RtattrBuilder, RtattrBuilderError};
-use neli_consts_rta::Rta;
-use neli_wire::{Cursor, DeError, FromBytesWithInput, SerError, ToBytes};
+use neli::attr::Attribute;
+use neli::consts::rtnl::Rta;
+use neli::err::{DeError, SerError};
+use neli::rtnl::{Rtattr, RtattrBuilder, RtattrBuilderError};
+use neli::types::{Buffer, RtBuffer};
+use neli::{Cursor, FromBytesWithInput, ToBytes};
 use std::alloc::Global;
 use std::process::Abort;
 

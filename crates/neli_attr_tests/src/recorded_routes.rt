@@ -2,10 +2,12 @@
 //! there. Each row is the part of a message after the header of its body.
 
 use crate::support::{assert_is, assert_is_at};
-use neli_attr::{Buffer, GenlBuffer, Nlattr, RtBuffer};
-use neli_consts::{CtrlAttr, CtrlAttrMcastGrp, Index, NlAttrType};
-use neli_consts_rta::{Ifa, Ifla, Rta, RtaType};
-use neli_wire::{Cursor, DeError, FromBytesWithInput, ToBytes};
+use neli::consts::genl::{CtrlAttr, CtrlAttrMcastGrp, Index, NlAttrType};
+use neli::consts::rtnl::{Ifa, Ifla, Rta, RtaType};
+use neli::err::DeError;
+use neli::genl::Nlattr;
+use neli::types::{Buffer, GenlBuffer, RtBuffer};
+use neli::{Cursor, FromBytesWithInput, ToBytes};
 use std::alloc::Global;
 use std::process::Abort;
 

@@ -1,11 +1,12 @@
 //! What the tests share: attributes that are built, lists that are read, and values that are written.
 
-use neli_attr::{
-    AttrType, Buffer, GenlBuffer, Nlattr, NlattrBuilder, RtBuffer, Rtattr, RtattrBuilder,
-};
-use neli_consts::NlAttrType;
-use neli_consts_rta::RtaType;
-use neli_wire::{Cursor, DeError, FromBytesWithInput, ToBytes};
+use neli::consts::genl::NlAttrType;
+use neli::consts::rtnl::RtaType;
+use neli::err::DeError;
+use neli::genl::{AttrType, Nlattr, NlattrBuilder};
+use neli::rtnl::{Rtattr, RtattrBuilder};
+use neli::types::{Buffer, GenlBuffer, RtBuffer};
+use neli::{Cursor, FromBytesWithInput, ToBytes};
 use std::alloc::Global;
 use std::fmt::{Debug, Display};
 use std::io::ErrorKind;

@@ -2,9 +2,9 @@
 //! kernel's linux/netlink.h.
 
 use crate::support::{assert_is, assert_is_at};
-use neli_attr::{AttrType, AttrTypeBuilder};
-use neli_consts::CtrlAttr;
-use neli_wire::Constant;
+use neli::consts::Constant;
+use neli::consts::genl::CtrlAttr;
+use neli::genl::{AttrType, AttrTypeBuilder};
 
 // The flags of the type field, `NLA_F_NESTED` and `NLA_F_NET_BYTEORDER` (the kernel's linux/netlink.h).
 #[test]

@@ -1,24 +1,22 @@
 //! Builders: what they make of their fields, and what is missing.
 
 use crate::support::{assert_is, assert_is_at, assert_written};
-use neli_attr::{
-    AttrTypeBuilder, Buffer, BuildError, GenlBuffer, NlattrBuilder, RtBuffer, RtattrBuilder,
+use neli::connector::{CnMsg, CnMsgBuilder, CnMsgBuilderError, ProcEvent, ProcEventHeader};
+use neli::consts::connector::{CnMsgIdx, CnMsgVal, ProcEventType};
+use neli::consts::genl::{CtrlAttr, CtrlCmd};
+use neli::consts::rtnl::{
+    FrAct, Frf, IfaF, Iff, Ifla, Ntf, Nud, RtAddrFamily, RtScope, RtTable, Rta, RtaType, RtmF, Rtn,
+    Rtprot, VlanFlags,
 };
-use neli_consts::{CtrlAttr, CtrlCmd};
-use neli_consts_rt::{FrAct, RtAddrFamily, RtScope, RtTable, Rtn, Rtprot};
-use neli_consts_rta::{Ifla, Rta, RtaType};
-use neli_consts_rtf::{Frf, IfaF, Iff, Ntf, Nud, RtmF, VlanFlags};
-use neli_consts_sys::{CnMsgIdx, CnMsgVal, ProcEventType};
-use neli_genl::{
-    CnMsg, CnMsgBuilder, CnMsgBuilderError, Genlmsghdr, GenlmsghdrBuilder, ProcEvent,
-    ProcEventHeader,
+use neli::err::BuildError;
+use neli::genl::{AttrTypeBuilder, Genlmsghdr, GenlmsghdrBuilder, NlattrBuilder};
+use neli::rtnl::{
+    FibmsgBuilder, IfaddrmsgBuilder, IfinfomsgBuilder, IflaVlanFlags, IflaVlanFlagsBuilder,
+    IflaVlanQosMapping, IflaVlanQosMappingBuilder, NdaCacheinfo, NdaCacheinfoBuilder, NdmsgBuilder,
+    RtattrBuilder, RtgenmsgBuilder, RtmsgBuilder, TcmsgBuilder,
 };
-use neli_link::{
-    IfaddrmsgBuilder, IfinfomsgBuilder, IflaVlanFlags, IflaVlanFlagsBuilder, IflaVlanQosMapping,
-    IflaVlanQosMappingBuilder, NdaCacheinfo, NdaCacheinfoBuilder, NdmsgBuilder,
-};
-use neli_route::{FibmsgBuilder, RtgenmsgBuilder, RtmsgBuilder, TcmsgBuilder};
-use neli_wire::{Cursor, FromBytes, FromBytesWithInput, Header, Size, ToBytes};
+use neli::types::{Buffer, GenlBuffer, RtBuffer};
+use neli::{Cursor, FromBytes, FromBytesWithInput, Header, Size, ToBytes};
 use std::alloc::Global;
 use std::process::Abort;
 

@@ -2,12 +2,13 @@
 //! cursor where it was.
 
 use crate::support::{assert_is, assert_is_at, recorded};
-use neli_attr::Buffer;
-use neli_consts_sys::{CnMsgIdx, CnMsgVal};
-use neli_genl::{CnMsg, Genlmsghdr, ProcEvent, ProcEventHeader};
-use neli_link::{Ifaddrmsg, Ifinfomsg, NdaCacheinfo, Ndmsg};
-use neli_route::{Fibmsg, Rtgenmsg, Rtmsg, Tcmsg};
-use neli_wire::{Cursor, DeError, FromBytes, FromBytesWithInput, Size, ToBytes};
+use neli::connector::{CnMsg, ProcEvent, ProcEventHeader};
+use neli::consts::connector::{CnMsgIdx, CnMsgVal};
+use neli::err::DeError;
+use neli::genl::Genlmsghdr;
+use neli::rtnl::{Fibmsg, Ifaddrmsg, Ifinfomsg, NdaCacheinfo, Ndmsg, Rtgenmsg, Rtmsg, Tcmsg};
+use neli::types::Buffer;
+use neli::{Cursor, FromBytes, FromBytesWithInput, Size, ToBytes};
 use std::alloc::Global;
 use std::io::ErrorKind;
 use std::process::Abort;

@@ -2,11 +2,13 @@
 //! find in each, and the same bytes when they are written again.
 
 use crate::support::{Row, assert_is_at, assert_written, recorded};
-use neli_attr::Buffer;
-use neli_consts::{CtrlAttr, CtrlCmd};
-use neli_consts_sys::{CnMsgIdx, CnMsgVal, ProcEventType};
-use neli_genl::{CnMsg, Genlmsghdr, ProcEvent, ProcEventHeader};
-use neli_wire::{Constant, Cursor, FromBytesWithInput, Size};
+use neli::connector::{CnMsg, ProcEvent, ProcEventHeader};
+use neli::consts::Constant;
+use neli::consts::connector::{CnMsgIdx, CnMsgVal, ProcEventType};
+use neli::consts::genl::{CtrlAttr, CtrlCmd};
+use neli::genl::Genlmsghdr;
+use neli::types::Buffer;
+use neli::{Cursor, FromBytesWithInput, Size};
 use std::alloc::Global;
 use std::process::Abort;
 

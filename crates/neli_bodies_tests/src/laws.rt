@@ -1,19 +1,18 @@
 //! The laws, called: they do nothing when they run.
 
-use neli_attr::Buffer;
-use neli_body::laws::{attributes_are_read_back, body_is_read_back};
-use neli_consts::{CtrlAttr, CtrlCmd};
-use neli_consts_rta::Rta;
-use neli_genl::NoUserHeader;
-use neli_genl::laws::{cn_msg_is_read_back, genlmsghdr_is_read_back, proc_event_is_read_back};
-use neli_link::NdaCacheinfo;
-use neli_link::laws::{
-    ifaddrmsg_is_read_back, ifinfomsg_is_read_back, ifla_vlan_flags_is_read_back,
-    ifla_vlan_qos_mapping_is_read_back, nda_cacheinfo_is_read_back, ndmsg_is_read_back,
+use neli::connector::laws::{cn_msg_is_read_back, proc_event_is_read_back};
+use neli::consts::genl::{CtrlAttr, CtrlCmd};
+use neli::consts::rtnl::Rta;
+use neli::genl::NoUserHeader;
+use neli::genl::laws::genlmsghdr_is_read_back;
+use neli::implementing::bodies::laws::{attributes_are_read_back, body_is_read_back};
+use neli::rtnl::NdaCacheinfo;
+use neli::rtnl::laws::{
+    fibmsg_is_read_back, ifaddrmsg_is_read_back, ifinfomsg_is_read_back,
+    ifla_vlan_flags_is_read_back, ifla_vlan_qos_mapping_is_read_back, nda_cacheinfo_is_read_back,
+    ndmsg_is_read_back, rtgenmsg_is_read_back, rtmsg_is_read_back, tcmsg_is_read_back,
 };
-use neli_route::laws::{
-    fibmsg_is_read_back, rtgenmsg_is_read_back, rtmsg_is_read_back, tcmsg_is_read_back,
-};
+use neli::types::Buffer;
 
 #[test]
 fn laws_are_called() {

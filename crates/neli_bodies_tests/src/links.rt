@@ -2,9 +2,10 @@
 //! bytes when they are written again.
 
 use crate::support::{Row, assert_is_at, recorded};
-use neli_consts_rta::Nda;
-use neli_link::{Ifaddrmsg, Ifinfomsg, NdaCacheinfo, Ndmsg};
-use neli_wire::{Constant, Cursor, FromBytesWithInput, ToBytes};
+use neli::consts::Constant;
+use neli::consts::rtnl::Nda;
+use neli::rtnl::{Ifaddrmsg, Ifinfomsg, NdaCacheinfo, Ndmsg};
+use neli::{Cursor, FromBytesWithInput, ToBytes};
 
 /// Links.
 const LINKS: [Row<(u8, u16, i32, u32, u32)>; 3] = [

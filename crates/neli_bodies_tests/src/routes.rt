@@ -2,8 +2,8 @@
 //! reads in each, and the same bytes when they are written again.
 
 use crate::support::{Row, assert_is_at, recorded};
-use neli_route::{Fibmsg, Rtgenmsg, Rtmsg, Tcmsg};
-use neli_wire::Constant;
+use neli::consts::Constant;
+use neli::rtnl::{Fibmsg, Rtgenmsg, Rtmsg, Tcmsg};
 use std::alloc::Global;
 use std::process::Abort;
 

@@ -1,6 +1,6 @@
 //! What the tests share: bodies that were recorded, and bytes that values are written as.
 
-use neli_wire::{Cursor, FromBytesWithInput, ToBytes};
+use neli::{Cursor, FromBytesWithInput, ToBytes};
 use std::alloc::Global;
 use std::fmt::Debug;
 use std::process::Abort;

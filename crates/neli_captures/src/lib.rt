@@ -1,4 +1,4 @@
-//! Recorded netlink datagrams, read by neli_msg: tests only.
+//! Recorded netlink datagrams, read by the paths of `neli`: tests only.
 //!
 //! The datagrams were recorded from Linux 6.18 on x86-64, in network namespaces with virtual links. What
 //! each of them holds was read by libmnl: for each message the type, the flags, the sequence number, the

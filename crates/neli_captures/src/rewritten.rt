@@ -1,8 +1,9 @@
 //! Recorded datagrams that are written again: themselves, but for their padding.
 
 use crate::tests::{Fault, ROWS, Row};
-use neli_msg::{NlPayload, Nlmsghdr, cut};
-use neli_wire::ToBytes;
+use neli::ToBytes;
+use neli::iter::cut;
+use neli::nl::{NlPayload, Nlmsghdr};
 use std::alloc::Global;
 use std::process::Abort;
 use std::test::Fail;

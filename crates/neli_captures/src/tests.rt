@@ -1,7 +1,8 @@
 //! A table of recorded datagrams and of what libmnl reads in each.
 
-use neli_msg::{NlBufferIter, Nlmsghdr, SocketError};
-use neli_wire::DeError;
+use neli::err::{DeError, SocketError};
+use neli::iter::NlBufferIter;
+use neli::nl::Nlmsghdr;
 use std::alloc::Global;
 use std::io::ErrorKind;
 use std::process::Abort;

@@ -1,8 +1,7 @@
 //! Values are equal where they are the same variant, whatever their numbers.
 
-use neli_consts_rt::Arphrd;
-use neli_consts_rta::Frattr;
-use neli_consts_sys::CnMsgVal;
+use neli::consts::connector::CnMsgVal;
+use neli::consts::rtnl::{Arphrd, Frattr};
 
 #[test]
 fn names_of_one_number(rt: HostRuntime) {
@@ -21,10 +20,10 @@ fn an_older_name_is_never_read(rt: HostRuntime) {
 
 #[test]
 fn laws(_rt: HostRuntime) {
-    neli_consts::laws::equality();
-    neli_consts_rt::laws::equality();
-    neli_consts_rta::laws::equality();
-    neli_consts_rta::laws::ifname_is_never_read();
-    neli_consts_rtf::laws::equality();
-    neli_consts_sys::laws::equality();
+    neli::consts::laws::messages::equality();
+    neli::consts::laws::routing::equality();
+    neli::consts::laws::route_attributes::equality();
+    neli::consts::laws::route_attributes::ifname_is_never_read();
+    neli::consts::laws::routing_flags::equality();
+    neli::consts::laws::systems::equality();
 }

@@ -2,7 +2,7 @@
 
 use crate::support::assert_is_at;
 use example_enum::{WirelessAttribute, WirelessCommand};
-use neli_consts::{Cmd, NlAttrType};
+use neli::consts::genl::{Cmd, NlAttrType};
 
 #[test]
 fn commands(rt: HostRuntime) {

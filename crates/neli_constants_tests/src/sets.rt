@@ -1,10 +1,10 @@
 //! Flags as sets.
 
 use crate::support::{assert_is, assert_is_at};
-use bitflags::Flags;
-use neli_consts::NlmF;
-use neli_consts_rtf::Ntf;
-use neli_wire::{Cursor, FromBytes, ToBytes};
+use neli::consts::Flags;
+use neli::consts::nl::NlmF;
+use neli::consts::rtnl::Ntf;
+use neli::{Cursor, FromBytes, ToBytes};
 use std::test::Fail;
 
 // 0x300 is two bits, and each of the two is a flag too.

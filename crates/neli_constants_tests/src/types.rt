@@ -1,13 +1,11 @@
 //! The traits over the tables: the number of a type, and the type of a number.
 
 use crate::support::{assert_is, assert_is_at};
-use neli_consts::{
-    Cmd, CtrlCmd, GenlId, Index, LogCfgCmd, LogCfgCmdWrapper, MAX_NL_LENGTH, NlAttrType, NlType,
-    NlTypeWrapper,
-};
-use neli_consts_rt::Rtm;
-use neli_consts_rta::{Frattr, Ifla, RtaType, RtaTypeWrapper};
-use neli_consts_sys::{LogCmd, NfLogAttr};
+use neli::consts::MAX_NL_LENGTH;
+use neli::consts::genl::{Cmd, CtrlCmd, Index, NlAttrType};
+use neli::consts::netfilter::{LogCfgCmd, LogCfgCmdWrapper, LogCmd, NfLogAttr};
+use neli::consts::nl::{GenlId, NlType, NlTypeWrapper};
+use neli::consts::rtnl::{Frattr, Ifla, RtaType, RtaTypeWrapper, Rtm};
 use std::process::Abort;
 
 /// The type has this number, and the number means this type.

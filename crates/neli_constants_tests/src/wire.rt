@@ -1,11 +1,13 @@
 //! Constants on the wire: the bytes of their number, the lowest first.
 
 use crate::support::{assert_is, assert_is_at};
-use neli_consts::{CtrlCmd, NlTypeWrapper, NlmF};
-use neli_consts_rt::Rtm;
-use neli_consts_rtf::Iff;
-use neli_consts_sys::{AddrFamily, ProcEventType};
-use neli_wire::{Constant, Cursor, FromBytes, ToBytes, TypeSize};
+use neli::consts::Constant;
+use neli::consts::connector::ProcEventType;
+use neli::consts::genl::CtrlCmd;
+use neli::consts::nl::{NlTypeWrapper, NlmF};
+use neli::consts::rtnl::{Iff, Rtm};
+use neli::consts::socket::AddrFamily;
+use neli::{Cursor, FromBytes, ToBytes, TypeSize};
 use std::process::Abort;
 use std::test::Fail;
 

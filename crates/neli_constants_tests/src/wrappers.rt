@@ -1,15 +1,12 @@
 //! What a number may mean: the first table that has a name for it.
 
 use crate::support::assert_is_at;
-use neli_consts::{
-    CtrlAttr, CtrlAttrMcastGrp, GenlId, Index, LogCfgCmdWrapper, NlAttrTypeWrapper, NlTypeWrapper,
-    Nlmsg, NlmsgerrAttr,
+use neli::consts::genl::{CtrlAttr, CtrlAttrMcastGrp, Index, NlAttrTypeWrapper};
+use neli::consts::netfilter::{LogCfgCmdWrapper, LogCmd, NetfilterMsg, NfLogAttr, NfLogCfg};
+use neli::consts::nl::{GenlId, NlTypeWrapper, Nlmsg, NlmsgerrAttr};
+use neli::consts::rtnl::{
+    Frattr, Ifa, Ifla, IflaInfo, IflaVlan, IflaVlanQos, Nda, Rta, RtaTypeWrapper, Rtm, Tca,
 };
-use neli_consts_rt::Rtm;
-use neli_consts_rta::{
-    Frattr, Ifa, Ifla, IflaInfo, IflaVlan, IflaVlanQos, Nda, Rta, RtaTypeWrapper, Tca,
-};
-use neli_consts_sys::{LogCmd, NetfilterMsg, NfLogAttr, NfLogCfg};
 
 #[test]
 fn types_of_messages(rt: HostRuntime) {

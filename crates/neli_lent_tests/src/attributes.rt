@@ -1,11 +1,12 @@
 //! The calls of lent attributes and of walks over them.
 
 use crate::support::{Fault, assert_is_at, fault_in, lent};
-use neli_attr::AttrType;
-use neli_consts::{CtrlAttr, CtrlAttrMcastGrp, Index, NlAttrType};
-use neli_consts_rta::Rta;
-use neli_lent::{LentAttr, LentAttrs, LentNlattr, LentNlattrs, LentRtattrs};
-use neli_wire::{Cursor, DeError};
+use neli::Cursor;
+use neli::consts::genl::{CtrlAttr, CtrlAttrMcastGrp, Index, NlAttrType};
+use neli::consts::rtnl::Rta;
+use neli::err::DeError;
+use neli::genl::AttrType;
+use neli::lent::{LentAttr, LentAttrs, LentNlattr, LentNlattrs, LentRtattrs};
 use std::process::Abort;
 
 /// An attribute of type 1 with the payload `07 01 09 09`, and one of type 4 with `05` and padding of any value.

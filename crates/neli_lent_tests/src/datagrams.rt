@@ -1,10 +1,11 @@
 //! Datagrams, good and bad, each read lent and as owned messages: the same messages, and the same fault.
 
 use crate::support::{Fault, assert_is_at, fault_of};
-use neli_attr::Buffer;
-use neli_lent::{LentMessage, LentMessages};
-use neli_msg::{Nlmsghdr, cut};
-use neli_wire::DeError;
+use neli::err::DeError;
+use neli::iter::cut;
+use neli::lent::{LentMessage, LentMessages};
+use neli::nl::Nlmsghdr;
+use neli::types::Buffer;
 use std::alloc::Global;
 use std::process::Abort;
 

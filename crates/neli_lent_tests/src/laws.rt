@@ -1,9 +1,10 @@
 //! The laws, called: they do nothing when they run.
 
-use neli_attr::{AttrType, Buffer};
-use neli_consts::CtrlAttr;
-use neli_consts_rta::Ifla;
-use neli_lent::laws::{lent_attributes_are_the_list, lent_message_becomes_what_is_read};
+use neli::consts::genl::CtrlAttr;
+use neli::consts::rtnl::Ifla;
+use neli::genl::AttrType;
+use neli::lent::laws::{lent_attributes_are_the_list, lent_message_becomes_what_is_read};
+use neli::types::Buffer;
 
 #[test]
 fn laws_are_called() {

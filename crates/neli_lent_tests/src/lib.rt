@@ -1,4 +1,4 @@
-//! Tests of lent reads, `neli_lent`, by its public calls.
+//! Tests of lent reads by the paths of `neli`.
 //!
 //! - [`messages`], [`attributes`], [`lookup`]: each call with its answer. [`owned`]: what takes memory.
 //! - [`datagrams`], [`lists`]: the same bytes read lent and as owned values, with their faults.

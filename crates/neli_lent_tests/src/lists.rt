@@ -1,9 +1,11 @@
 //! Attributes, good and bad, each list read lent and as an owned one: the same attributes, or the same fault.
 
 use crate::support::{Fault, assert_is_at, fault_of};
-use neli_attr::{Buffer, RtBuffer, Rtattr};
-use neli_lent::{LentAttr, LentAttrs};
-use neli_wire::{Cursor, DeError, FromBytesWithInput};
+use neli::err::DeError;
+use neli::lent::{LentAttr, LentAttrs};
+use neli::rtnl::Rtattr;
+use neli::types::{Buffer, RtBuffer};
+use neli::{Cursor, FromBytesWithInput};
 use std::alloc::Global;
 use std::process::Abort;
 

@@ -1,10 +1,10 @@
 //! Looking up the attributes that are left of a walk.
 
 use crate::support::{Fault, assert_is_at, fault_in, fault_of};
-use neli_attr::AttrType;
-use neli_consts::CtrlAttr;
-use neli_consts_rta::Rta;
-use neli_lent::{AttrSelector, LentNlattrs, LentRtattrs};
+use neli::consts::genl::CtrlAttr;
+use neli::consts::rtnl::Rta;
+use neli::genl::AttrType;
+use neli::lent::{AttrSelector, LentNlattrs, LentRtattrs};
 use std::process::Abort;
 
 /// Attributes of type 5, 1 and 5, and then a length that no attribute has.

@@ -1,11 +1,11 @@
 //! The calls of lent messages and of walks over them.
 
 use crate::support::{Fault, assert_is_at, fault_in, message};
-use neli_consts::{NlmF, Nlmsg};
-use neli_consts_rta::Ifla;
-use neli_lent::{LentMessage, LentMessages};
-use neli_link::Ifinfomsg;
-use neli_wire::Cursor;
+use neli::Cursor;
+use neli::consts::nl::{NlmF, Nlmsg};
+use neli::consts::rtnl::Ifla;
+use neli::lent::{LentMessage, LentMessages};
+use neli::rtnl::Ifinfomsg;
 use std::process::Abort;
 
 /// A message of type 1024 with the payload `61` and padding of any value, and one of type 3 without a payload.

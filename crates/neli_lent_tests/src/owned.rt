@@ -2,12 +2,12 @@
 //! memory ran out, and the lent value is still there.
 
 use crate::support::{Fault, assert_is_at, fault_in, fault_of, lent, message};
-use neli_attr::Buffer;
-use neli_consts_rta::Rta;
-use neli_lent::LentAttr;
-use neli_link::Ifinfomsg;
-use neli_msg::{NlPayload, Nlmsghdr};
-use neli_wire::DeError;
+use neli::consts::rtnl::Rta;
+use neli::err::DeError;
+use neli::lent::LentAttr;
+use neli::nl::{NlPayload, Nlmsghdr};
+use neli::rtnl::Ifinfomsg;
+use neli::types::Buffer;
 use std::process::Abort;
 
 /// A link with index 3, without attributes.

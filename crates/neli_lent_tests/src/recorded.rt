@@ -2,12 +2,10 @@
 //! their attributes, and a request of iproute2 against its command line.
 
 use crate::support::{assert_is_at, message};
-use neli_consts_rt::Rtm;
-use neli_consts_rta::{Ifla, IflaInfo, Rta, RtaType};
-use neli_lent::{LentAttr, LentAttrs, LentMessage, LentMessages};
-use neli_link::Ifinfomsg;
-use neli_route::Rtmsg;
-use neli_wire::DeError;
+use neli::consts::rtnl::{Ifla, IflaInfo, Rta, RtaType, Rtm};
+use neli::err::DeError;
+use neli::lent::{LentAttr, LentAttrs, LentMessage, LentMessages};
+use neli::rtnl::{Ifinfomsg, Rtmsg};
 use std::alloc::Global;
 use std::process::Abort;
 

@@ -1,9 +1,11 @@
 //! What the tests share: faults that can be compared, one comparison for all, and attributes and messages that are
 //! lent of bytes.
 
-use neli_consts::NlType;
-use neli_lent::{LentAttr, LentMessage};
-use neli_wire::{Constant, Cursor, DeError};
+use neli::Cursor;
+use neli::consts::Constant;
+use neli::consts::nl::NlType;
+use neli::err::DeError;
+use neli::lent::{LentAttr, LentMessage};
 use std::fmt::Debug;
 use std::io::ErrorKind;
 use std::process::Abort;

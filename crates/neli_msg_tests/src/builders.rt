@@ -2,13 +2,13 @@
 
 use crate::kinds::ERROR;
 use crate::support::{assert_is, assert_prints, assert_written};
-use neli_attr::{Buffer, BuildError, GenlBuffer};
-use neli_consts::{NlmF, NlmsgerrAttr};
-use neli_msg::{
-    NlPayload, Nlmsgerr, NlmsgerrBuilder, Nlmsghdr, NlmsghdrAck, NlmsghdrAckBuilder,
-    NlmsghdrBuilder, NlmsghdrErrBuilder,
+use neli::consts::nl::{NlmF, NlmsgerrAttr};
+use neli::err::{
+    BuildError, Nlmsgerr, NlmsgerrBuilder, NlmsghdrAck, NlmsghdrAckBuilder, NlmsghdrErrBuilder,
 };
-use neli_wire::{Cursor, FromBytes, Size};
+use neli::nl::{NlPayload, Nlmsghdr, NlmsghdrBuilder};
+use neli::types::{Buffer, GenlBuffer};
+use neli::{Cursor, FromBytes, Size};
 use std::process::Abort;
 
 // `NLMSG_ALIGN` of linux/netlink.h: a body of five bytes takes eight.

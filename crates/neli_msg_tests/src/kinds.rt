@@ -2,10 +2,12 @@
 
 use crate::reading::{Refusal, refusal_of};
 use crate::support::{RawError, assert_is, assert_is_at, error_in, read_error};
-use neli_attr::Buffer;
-use neli_consts::{NlmF, NlmsgerrAttr};
-use neli_msg::{NlPayload, Nlmsgerr, NlmsghdrAck, NlmsghdrErr, cut};
-use neli_wire::{Cursor, DeError, FromBytes, FromBytesWithInput};
+use neli::consts::nl::{NlmF, NlmsgerrAttr};
+use neli::err::{DeError, Nlmsgerr, NlmsghdrAck, NlmsghdrErr};
+use neli::iter::cut;
+use neli::nl::NlPayload;
+use neli::types::Buffer;
+use neli::{Cursor, FromBytes, FromBytesWithInput};
 use std::alloc::Global;
 use std::process::Abort;
 

@@ -1,6 +1,6 @@
 //! The laws, called: they do nothing when they run.
 
-use neli_msg::laws::{
+use neli::nl::laws::{
     has_a_cut, has_few_messages, has_one_cut, rewritten_datagram_is_zeroed, typed_reading_agrees,
 };
 

@@ -1,4 +1,4 @@
-//! Tests of messages by the public calls of `neli_msg`.
+//! Tests of messages by the paths of `neli`.
 //!
 //! - [`reading`]: one message and a whole datagram, and their refusals. [`kinds`]: the kinds of payload.
 //! - [`retyping`]: untyped messages as other types, and the calls that take a payload out or put one in.

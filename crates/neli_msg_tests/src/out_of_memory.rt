@@ -3,9 +3,11 @@
 
 use crate::kinds::ERROR;
 use crate::support::{Cause, Raw, assert_is, cause_of};
-use neli_attr::Buffer;
-use neli_msg::{NlBufferIter, NlPayload, SocketError};
-use neli_wire::{Cursor, DeError, FromBytes, SerError, ToBytes};
+use neli::err::{DeError, SerError, SocketError};
+use neli::iter::NlBufferIter;
+use neli::nl::NlPayload;
+use neli::types::Buffer;
+use neli::{Cursor, FromBytes, ToBytes};
 use std::alloc::Global;
 use std::process::Abort;
 

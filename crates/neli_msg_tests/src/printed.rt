@@ -1,9 +1,11 @@
 //! What errors print, and what they are made of.
 
 use crate::support::{Cause, assert_is, assert_prints, cause_of, read_error};
-use neli_attr::{Buffer, BuildError, of};
-use neli_msg::{BuilderError, NlPayload, RouterError, SocketError};
-use neli_wire::{DeError, MsgError, NoMemory, SerError};
+use neli::err::{
+    BuildError, BuilderError, DeError, MsgError, NoMemory, RouterError, SerError, SocketError, of,
+};
+use neli::nl::NlPayload;
+use neli::types::Buffer;
 use std::alloc::{AllocError, AllocFailed, Global};
 use std::io;
 use std::io::ErrorKind;

@@ -1,9 +1,11 @@
 //! One message, and a whole datagram.
 
 use crate::support::{Raw, assert_is, assert_is_at};
-use neli_consts::{NlmF, Nlmsg};
-use neli_msg::{NlBufferIter, NlPayload, Nlmsghdr, SocketError, cut};
-use neli_wire::{Cursor, DeError, FromBytes, Header};
+use neli::consts::nl::{NlmF, Nlmsg};
+use neli::err::{DeError, SocketError};
+use neli::iter::{NlBufferIter, cut};
+use neli::nl::{NlPayload, Nlmsghdr};
+use neli::{Cursor, FromBytes, Header};
 use std::io::ErrorKind;
 
 /// What reading answers where it refuses.

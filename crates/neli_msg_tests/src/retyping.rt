@@ -1,10 +1,10 @@
 //! Untyped messages as other types, and the calls that take a payload out or put one in.
 
 use crate::support::{Cause, Raw, assert_is, cause_of, error_in, read_error};
-use neli_attr::Buffer;
-use neli_consts::{NlTypeWrapper, NlmF, NlmsgerrAttr};
-use neli_consts_sys::NetfilterMsg;
-use neli_msg::{NlPayload, Nlmsghdr, NlmsghdrBuilder};
+use neli::consts::netfilter::NetfilterMsg;
+use neli::consts::nl::{NlTypeWrapper, NlmF, NlmsgerrAttr};
+use neli::nl::{NlPayload, Nlmsghdr, NlmsghdrBuilder};
+use neli::types::Buffer;
 use std::alloc::Global;
 use std::process::Abort;
 

@@ -1,9 +1,10 @@
 //! What the tests share.
 
 use crate::kinds::ERROR;
-use neli_attr::Buffer;
-use neli_msg::{NlPayload, Nlmsgerr, Nlmsghdr, NlmsghdrErr, RouterError};
-use neli_wire::{Cursor, DeError, FromBytes, ToBytes};
+use neli::err::{DeError, Nlmsgerr, NlmsghdrErr, RouterError};
+use neli::nl::{NlPayload, Nlmsghdr};
+use neli::types::Buffer;
+use neli::{Cursor, FromBytes, ToBytes};
 use std::alloc::Global;
 use std::fmt::{Debug, Display};
 use std::process::Abort;

@@ -1,8 +1,8 @@
 //! Lists of several items.
 
 use crate::support::{ACK, Cause, NLCTRL, NUMBER, assert_is, assert_is_at, assert_refused, items};
-use neli_msg::RouterError;
-use neli_resolvers::{lookup_id, resolve_genl_family, resolve_nl_mcast_group};
+use neli::err::RouterError;
+use neli::router::synchronous::{lookup_id, resolve_genl_family, resolve_nl_mcast_group};
 use std::test::Fail;
 
 /// An answer with the number 17 alone.

@@ -2,7 +2,9 @@
 //! that memory ran out, or the answer of the run without a refusal.
 
 use crate::support::{Cause, NLCTRL, NUMBER, assert_is, cause_of, items};
-use neli_resolvers::{CtrlError, lookup_id, resolve_genl_family, resolve_nl_mcast_group};
+use neli::router::synchronous::{
+    CtrlError, lookup_id, resolve_genl_family, resolve_nl_mcast_group,
+};
 use std::process::Abort;
 
 /// Asserts that an outcome is this answer, or that memory ran out.

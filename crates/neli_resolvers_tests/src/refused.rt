@@ -1,7 +1,7 @@
 //! What the controller's answer for `nlctrl` does not tell.
 
 use crate::support::{Cause, NLCTRL, NUMBER, assert_refused, items};
-use neli_resolvers::{lookup_id, resolve_genl_family, resolve_nl_mcast_group};
+use neli::router::synchronous::{lookup_id, resolve_genl_family, resolve_nl_mcast_group};
 use std::test::Fail;
 
 #[test]

@@ -1,8 +1,9 @@
 //! What the tests share.
 
-use neli_msg::{Nlmsghdr, RouterError};
-use neli_resolvers::{CtrlError, CtrlItem};
-use neli_wire::{Cursor, FromBytes};
+use neli::err::RouterError;
+use neli::nl::Nlmsghdr;
+use neli::router::synchronous::{CtrlError, CtrlItem};
+use neli::{Cursor, FromBytes};
 use std::alloc::Global;
 use std::fmt::Debug;
 use std::process::Abort;

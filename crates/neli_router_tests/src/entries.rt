@@ -2,9 +2,8 @@
 
 use crate::handles::{read, send};
 use crate::script::{Told, bytes_of};
-use neli_log::Log;
-use neli_router::NlRouter;
-use neli_util::Groups;
+use neli::router::synchronous::{Log, NlRouter};
+use neli::utils::Groups;
 use std::alloc::Global;
 use std::process::Abort;
 

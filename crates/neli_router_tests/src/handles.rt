@@ -1,13 +1,11 @@
 //! Handles that another router made, and multicast, by the router's own calls over both stores.
 
 use crate::script::{Raw, Refusal, Told, bytes_of, item};
-use neli_attr::Buffer;
-use neli_consts::NlmF;
-use neli_log::Log;
-use neli_msg::NlPayload;
-use neli_queues::Queues;
-use neli_router::{Deliveries, NlRouter, NlRouterReceiverHandle, Reply};
-use neli_util::Groups;
+use neli::consts::nl::NlmF;
+use neli::nl::NlPayload;
+use neli::router::synchronous::{Deliveries, Log, NlRouter, NlRouterReceiverHandle, Queues, Reply};
+use neli::types::Buffer;
+use neli::utils::Groups;
 use std::alloc::Global;
 use std::process::Abort;
 

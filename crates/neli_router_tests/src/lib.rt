@@ -1,5 +1,4 @@
-//! Tests of the router by the public calls of `neli_router`, over both stores: the lists of `neli_queues` and the
-//! log of `neli_log`.
+//! Tests of the router by the paths of `neli`, over both stores: plain lists and the shared log.
 //!
 //! - [`script`]: a list of steps with what each of them answers, played by one run over each store. The other
 //!   files are tables of scripts.

@@ -1,13 +1,11 @@
 //! Many requests at once: each reply in a datagram of its own, and each handle reads its own.
 
 use crate::script::{Raw, Refusal};
-use neli_attr::Buffer;
-use neli_consts::NlmF;
-use neli_log::Log;
-use neli_msg::NlPayload;
-use neli_queues::Queues;
-use neli_router::{Deliveries, NlRouter, NlRouterReceiverHandle, Reply};
-use neli_util::Groups;
+use neli::consts::nl::NlmF;
+use neli::nl::NlPayload;
+use neli::router::synchronous::{Deliveries, Log, NlRouter, NlRouterReceiverHandle, Queues, Reply};
+use neli::types::Buffer;
+use neli::utils::Groups;
 use std::alloc::Global;
 use std::process::Abort;
 

@@ -3,13 +3,11 @@
 use crate::script::Step::{Close, Come, Next, Read, Send};
 use crate::script::Told::{Done, End, InUse, Message, NoHandle, Sent, Stray, Waits};
 use crate::script::{Raw, Step, Told, outcomes, play, sent_at};
-use neli_attr::Buffer;
-use neli_consts::NlmF;
-use neli_log::Log;
-use neli_msg::NlPayload;
-use neli_queues::Queues;
-use neli_router::{NlRouter, NlRouterReceiverHandle};
-use neli_wire::{Cursor, FromBytes};
+use neli::consts::nl::NlmF;
+use neli::nl::NlPayload;
+use neli::router::synchronous::{Log, NlRouter, NlRouterReceiverHandle, Queues};
+use neli::types::Buffer;
+use neli::{Cursor, FromBytes};
 
 /// The first request of a router with port 0: type 1024, REQUEST, the body `61 62 63 64 65` and three
 /// bytes of padding. The length states the padding too.

@@ -5,14 +5,12 @@
 use crate::entries::kept;
 use crate::handles::{Handle, told};
 use crate::script::{Came, Refusal, Told, kind_of};
-use neli_attr::Buffer;
-use neli_consts::NlmF;
-use neli_log::Log;
-use neli_msg::{NlPayload, RouterError};
-use neli_queues::Queues;
-use neli_router::{Command, Deliveries, NlRouter, run};
-use neli_util::Groups;
-use neli_wire::NoMemory;
+use neli::consts::nl::NlmF;
+use neli::err::{NoMemory, RouterError};
+use neli::nl::NlPayload;
+use neli::router::synchronous::{Command, Deliveries, Log, NlRouter, Queues, run};
+use neli::types::Buffer;
+use neli::utils::Groups;
 use std::alloc::Global;
 use std::process::Abort;
 

@@ -3,13 +3,12 @@
 ghost use Rattle.std.specs.Prelude.{◌<◌};
 
 use crate::script::{Came, Told, assert_alike, kind_of};
-use neli_attr::Buffer;
-use neli_consts::NlmF;
-use neli_log::Log;
-use neli_msg::{NlPayload, SocketError};
-use neli_queues::Queues;
-use neli_router::{Command, run};
-use neli_util::Groups;
+use neli::consts::nl::NlmF;
+use neli::err::SocketError;
+use neli::nl::NlPayload;
+use neli::router::synchronous::{Command, Log, Queues, run};
+use neli::types::Buffer;
+use neli::utils::Groups;
 use std::alloc::Global;
 use std::io::ErrorKind;
 use std::process::Abort;

@@ -4,7 +4,7 @@
 use crate::script::Step::{Come, Next, Read, Send};
 use crate::script::Told::{Ack, Done, DumpEnd, End, Message, Refused, Sent, Waits};
 use crate::script::{Step, Told, bytes_of, outcomes, play, sent_at};
-use neli_log::Log;
+use neli::router::synchronous::Log;
 
 /// What was asked, and the script with the port of the socket.
 const SCRIPTS: [(&str, u32, &[(Step, Told)]); 4] = [

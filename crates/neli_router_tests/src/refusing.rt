@@ -1,16 +1,16 @@
 //! A store that takes in no datagram: a run over it is refused too.
 
-ghost use Rattle.neli_queues.specs.Queues.{kept_port, pending_of};
+ghost use Rattle.neli.specs.queues.Queues.{kept_port, pending_of};
 
 use crate::entries::ONE;
 use crate::script::bytes_of;
-use neli_attr::Buffer;
-use neli_consts::NlType;
-use neli_msg::{Nlmsghdr, RouterError, SocketError};
-use neli_queues::Queues;
-use neli_router::{Command, Deliveries, run};
-use neli_util::Groups;
-use neli_wire::{FromBytesWithInput, NoMemory, Size};
+use neli::consts::nl::NlType;
+use neli::err::{NoMemory, RouterError, SocketError};
+use neli::nl::Nlmsghdr;
+use neli::router::synchronous::{Command, Deliveries, Queues, run};
+use neli::types::Buffer;
+use neli::utils::Groups;
+use neli::{FromBytesWithInput, Size};
 use std::alloc::Global;
 use std::process::Abort;
 

@@ -1,14 +1,16 @@
 //! Requests to the controller of generic netlink, and what comes of its answers.
 
 use crate::script::bytes_of;
-use neli_consts::{CtrlAttr, CtrlCmd, GenlId};
-use neli_genl::Genlmsghdr;
-use neli_log::Log;
-use neli_msg::{NlPayload, RouterError};
-use neli_queues::Queues;
-use neli_resolvers::{CtrlError, CtrlItem, resolve_genl_family};
-use neli_router::{Deliveries, HandleState, NlRouter, NlRouterReceiverHandle, Reply};
-use neli_util::Groups;
+use neli::consts::genl::{CtrlAttr, CtrlCmd};
+use neli::consts::nl::GenlId;
+use neli::err::RouterError;
+use neli::genl::Genlmsghdr;
+use neli::nl::NlPayload;
+use neli::router::synchronous::{
+    CtrlError, CtrlItem, Deliveries, HandleState, Log, NlRouter, NlRouterReceiverHandle, Queues,
+    Reply, resolve_genl_family,
+};
+use neli::utils::Groups;
 use std::alloc::Global;
 use std::process::Abort;
 

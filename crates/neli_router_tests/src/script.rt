@@ -1,13 +1,11 @@
 //! Scripts: steps and what each of them answers.
 
-use neli_attr::Buffer;
-use neli_consts::NlmF;
-use neli_log::Log;
-use neli_msg::{NlPayload, Nlmsghdr, RouterError, SocketError};
-use neli_queues::Queues;
-use neli_router::{Command, Deliveries, Outcome, run};
-use neli_util::Groups;
-use neli_wire::DeError;
+use neli::consts::nl::NlmF;
+use neli::err::{DeError, RouterError, SocketError};
+use neli::nl::{NlPayload, Nlmsghdr};
+use neli::router::synchronous::{Command, Deliveries, Log, Outcome, Queues, run};
+use neli::types::Buffer;
+use neli::utils::Groups;
 use std::alloc::Global;
 use std::io::ErrorKind;
 use std::process::Abort;

@@ -1,7 +1,7 @@
 //! Tests of the whole library by the paths of `neli`, as a program uses it.
 //!
-//! - [`values`], [`constants`], [`bodies`], [`messages`], [`groups`]: worked examples, each by what it shows.
-//!   [`resolvers`]: what the controller's replies tell.
+//! - [`values`], [`bodies`]: worked examples of numbers, texts and bodies. [`resolvers`]: what the controller's replies tell. Worked examples of attributes, messages, constants,
+//!   groups and the router stand in crates of tests of their own, which use the same paths.
 //! - [`recorded`]: conversations with a kernel. [`conversation`]: how one is played. [`store`]: what is kept meanwhile.
 //! - [`readme`], [`tour`]: the examples of the README and of the page of `neli`, line by line.
 //! - [`support`]: what the tests share.
@@ -14,13 +14,7 @@
 #[cfg(test)]
 mod bodies;
 #[cfg(test)]
-mod constants;
-#[cfg(test)]
 mod conversation;
-#[cfg(test)]
-mod groups;
-#[cfg(test)]
-mod messages;
 #[cfg(test)]
 mod readme;
 #[cfg(test)]

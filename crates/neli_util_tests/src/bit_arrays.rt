@@ -1,7 +1,7 @@
 //! Bit arrays.
 
-use neli_util::NetlinkBitArray;
-use neli_wire::SerError;
+use neli::err::SerError;
+use neli::utils::NetlinkBitArray;
 use std::alloc::Global;
 use std::test::Fail;
 

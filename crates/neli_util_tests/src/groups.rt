@@ -1,6 +1,6 @@
 //! Lists of groups.
 
-use neli_util::Groups;
+use neli::utils::Groups;
 use std::test::Fail;
 
 #[test]

@@ -1,4 +1,4 @@
-//! Tests of `neli_util` by its public calls.
+//! Tests of multicast groups and bit arrays by the paths of `neli`.
 //!
 //! - [`groups`], [`masks`]: what a list of groups holds after each call, and its mask. [`bit_arrays`]: which
 //!   numbers are set, and how long the array is.

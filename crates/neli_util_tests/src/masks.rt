@@ -1,7 +1,7 @@
 //! Masks of groups. Group 32 has the highest bit.
 
-use neli_util::Groups;
-use neli_wire::SerError;
+use neli::err::SerError;
+use neli::utils::Groups;
 use std::test::Fail;
 
 #[test]

@@ -1,8 +1,8 @@
 //! What the calls answer where an allocation is refused. `rt try --test --fail-alloc N` refuses the Nth one
 //! of each test; the tests of this file pass with every N, and without.
 
-use neli_util::{Groups, NetlinkBitArray};
-use neli_wire::SerError;
+use neli::err::SerError;
+use neli::utils::{Groups, NetlinkBitArray};
 
 #[test]
 fn what_takes_no_memory(rt: HostRuntime) {

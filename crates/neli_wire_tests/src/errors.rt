@@ -1,7 +1,7 @@
 //! What refusals are made of.
 
 use crate::refusal::assert_is;
-use neli_wire::{DeError, MsgError, NoMemory, SerError, UninitializedFieldError, Utf8};
+use neli::err::{DeError, MsgError, NoMemory, SerError, UninitializedFieldError, Utf8};
 use std::alloc::{AllocError, AllocFailed, Global};
 use std::io;
 use std::io::ErrorKind;

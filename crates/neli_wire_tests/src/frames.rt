@@ -1,8 +1,9 @@
 //! What follows a header that states the length of the whole: the payload and its padding.
 
 use crate::refusal::{Refusal, assert_is, assert_is_at, refusal_of};
-use neli_wire::implementing::{read_padded_payload, within_input};
-use neli_wire::{Cursor, DeError};
+use neli::Cursor;
+use neli::err::DeError;
+use neli::implementing::{read_padded_payload, within_input};
 use std::io::ErrorKind;
 
 // After a header of 4 bytes; padding holds bytes of any value.

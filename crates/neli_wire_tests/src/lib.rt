@@ -1,4 +1,4 @@
-//! Tests of the wire layer, `neli_wire` and what it re-exports, by its public calls.
+//! Tests of the wire layer by the paths of `neli`.
 //!
 //! - [`numbers`], [`texts`], [`lists`], [`octets`], [`nothing`]: what values of each kind are written as, and
 //!   what is read. [`padding`] and [`frames`]: what stands around them. [`cursor`]: the place in bytes.

@@ -1,8 +1,9 @@
 //! Lists of values, one after the other.
 
 use crate::refusal::{Refusal, assert_is, assert_is_at, refusal_of};
-use neli_wire::implementing::{read_all, size_of_all, write_all};
-use neli_wire::{Cursor, DeError, FromBytesWithInput, Size, ToBytes};
+use neli::err::DeError;
+use neli::implementing::{read_all, size_of_all, write_all};
+use neli::{Cursor, FromBytesWithInput, Size, ToBytes};
 
 /// The numbers 1 and 2, and half of another.
 const BYTES: [u8; 5] = [1, 0, 2, 0, 3];

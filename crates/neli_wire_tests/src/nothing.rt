@@ -1,7 +1,7 @@
 //! Values that take no bytes.
 
 use crate::refusal::{Refusal, assert_is, assert_is_at, refusal_of};
-use neli_wire::{Cursor, FromBytes, FromBytesWithInput, Size, ToBytes, TypeSize};
+use neli::{Cursor, FromBytes, FromBytesWithInput, Size, ToBytes, TypeSize};
 use std::marker::PhantomData;
 
 const MARKER: PhantomData<u8> = PhantomData;

@@ -1,7 +1,9 @@
 //! The integer types.
 
 use crate::refusal::{Refusal, assert_is, assert_is_at, refusal_of};
-use neli_wire::{BeU64, Constant, Cursor, DeError, FromBytes, Size, ToBytes, TypeSize, WireNumber};
+use neli::consts::{Constant, WireNumber};
+use neli::err::DeError;
+use neli::{BeU64, Cursor, FromBytes, Size, ToBytes, TypeSize};
 use std::alloc::Global;
 use std::process::Abort;
 

@@ -1,7 +1,8 @@
 //! Slices and arrays of bytes.
 
 use crate::refusal::{Refusal, assert_is, assert_is_at, refusal_of};
-use neli_wire::{Cursor, DeError, FromBytes, FromBytesWithInputBorrowed, Size, ToBytes};
+use neli::err::DeError;
+use neli::{Cursor, FromBytes, FromBytesWithInputBorrowed, Size, ToBytes};
 
 const BYTES: [u8; 3] = [1, 2, 3];
 

@@ -2,11 +2,9 @@
 //! of each test; the tests of this file pass with every N, and without.
 
 use crate::refusal::{Refusal, assert_is, assert_is_at, refusal_of};
-use neli_wire::implementing::{read_all, write_all};
-use neli_wire::{
-    Cursor, DeError, FromBytes, FromBytesWithInput, FromBytesWithInputBorrowed, MsgError, SerError,
-    ToBytes, UninitializedFieldError,
-};
+use neli::err::{DeError, MsgError, SerError, UninitializedFieldError};
+use neli::implementing::{read_all, write_all};
+use neli::{Cursor, FromBytes, FromBytesWithInput, FromBytesWithInputBorrowed, ToBytes};
 use std::alloc::{AllocError, Global};
 use std::marker::PhantomData;
 use std::process::Abort;

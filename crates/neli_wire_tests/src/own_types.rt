@@ -2,8 +2,8 @@
 
 use crate::refusal::{Refusal, assert_is, assert_is_at, refusal_of};
 use example_body::{Probe, ProbeBuilder, ProbeBuilderError, Watch};
-use neli_attr::BuildError;
-use neli_wire::{Cursor, FromBytesWithInput, Header, Size, ToBytes};
+use neli::err::BuildError;
+use neli::{Cursor, FromBytesWithInput, Header, Size, ToBytes};
 
 /// The port 1337 and the levels 1 and 2.
 const WATCH: [u8; 10] = [0x39, 5, 1, 0, 0, 0, 2, 0, 0, 0];

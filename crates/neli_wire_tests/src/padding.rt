@@ -1,11 +1,10 @@
 //! Lengths rounded up to four, zeros that are written, and bytes that are passed over.
 
 use crate::refusal::{Refusal, assert_is, assert_is_at, refusal_of};
-use neli_wire::implementing::{pad_from, padded_length, strip_to_four, undo_on_refusal};
-use neli_wire::{
-    Cursor, DeError, FromBytes, FromBytesWithInput, FromBytesWithInputBorrowed, SerError, ToBytes,
-    alignto,
-};
+use neli::consts::alignto;
+use neli::err::{DeError, SerError};
+use neli::implementing::{pad_from, padded_length, strip_to_four, undo_on_refusal};
+use neli::{Cursor, FromBytes, FromBytesWithInput, FromBytesWithInputBorrowed, ToBytes};
 use std::process::Abort;
 
 #[test]

@@ -4,9 +4,9 @@
 //! cause itself is printed and compared with what stands after the prefix.
 
 use crate::refusal::assert_is_at;
-use neli_attr::BuildError;
-use neli_msg::SocketError;
-use neli_wire::{DeError, MsgError, NoMemory, SerError, UninitializedFieldError, Utf8};
+use neli::err::{
+    BuildError, DeError, MsgError, NoMemory, SerError, SocketError, UninitializedFieldError, Utf8,
+};
 use std::alloc::Global;
 use std::fmt::Display;
 use std::io::ErrorKind;

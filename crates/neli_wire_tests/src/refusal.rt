@@ -1,6 +1,6 @@
 //! Refusals to read, by what the tables compare of them, and the comparison itself, which stands in one place.
 
-use neli_wire::{DeError, Utf8};
+use neli::err::{DeError, Utf8};
 use std::fmt::Debug;
 use std::io::ErrorKind;
 use std::process::Abort;

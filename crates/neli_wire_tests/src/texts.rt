@@ -1,7 +1,8 @@
 //! Texts, borrowed and owned. An owned text is read without its last byte, whatever that is.
 
 use crate::refusal::{Refusal, assert_is, assert_is_at, refusal_of};
-use neli_wire::{Cursor, DeError, FromBytesWithInput, FromBytesWithInputBorrowed, Size, ToBytes};
+use neli::err::DeError;
+use neli::{Cursor, FromBytesWithInput, FromBytesWithInputBorrowed, Size, ToBytes};
 
 // Five letters and a zero, as neli's own test has them. The byte ff is in no text (RFC 3629 section 3).
 #[test]
