@@ -150,14 +150,14 @@ fn lists_of_none_and_of_one(rt: HostRuntime) {
 
 /// Asserts that these are the attributes of [`BYTES`].
 fn assert_generic(rt: &impl Abort, attrs: &[Nlattr<CtrlAttr, Buffer>]) {
-    assert_is(rt, attrs.len(), 2);
+    assert_eq!(rt; attrs.len(), 2);
     assert_is(rt, *attrs[0].nla_type().nla_type(), CtrlAttr::FamilyId);
     assert_is(rt, *attrs[1].nla_len(), 5);
 }
 
 /// Asserts that these are the attributes of [`BYTES`].
 fn assert_routing(rt: &impl Abort, attrs: &[Rtattr<Rta, Buffer>]) {
-    assert_is(rt, attrs.len(), 2);
+    assert_eq!(rt; attrs.len(), 2);
     assert_is(rt, *attrs[0].rta_type(), Rta::Dst);
     assert_is(rt, *attrs[1].rta_len(), 5);
 }

@@ -38,7 +38,7 @@ fn by_traits<T: Constant + PartialEq>(rt: &impl Abort, alloc: Global, value: T, 
 
 // The number by the calls of its own type.
 fn by_its_type<N: WireNumber + PartialEq>(rt: &impl Abort, alloc: Global, value: N, bytes: &[u8]) {
-    assert_is_at(rt, value, N::count(), bytes.len());
+    assert_eq!(rt; N::count(), bytes.len(), "of {value:?}");
     assert_is(rt, N::number(bytes), value);
     let mut buffer = Vec::new(alloc);
     value.append(&mut buffer).expect(rt, "memory");
