@@ -1,6 +1,6 @@
 //! Tests of the resolvers by the paths of `neli`.
 //!
-//! - [`refused`]: what is not found. [`lists`]: lists of several items; what is found in one stands in `neli_tests` too.
+//! - [`refused`]: what is not found. [`lists`]: lists of several items.
 //!   [`out_of_memory`]: what the calls answer where an allocation is refused.
 //!   [`support`]: what the tests share.
 //!

@@ -1,8 +1,8 @@
 //! Tests of the whole library by the paths of `neli`, as a program uses it.
 //!
 //! - [`values`], [`bodies`]: worked examples of numbers, texts and bodies. [`zeros`]: lengths past 32 bits, by a payload of a
-//!   type of its own. [`resolvers`]: what the controller's replies tell. Worked examples of attributes, messages, constants,
-//!   groups and the router stand in crates of tests of their own, which use the same paths.
+//!   type of its own. Worked examples of attributes, messages, constants, groups, resolvers and the router stand in crates of
+//!   tests of their own, which use the same paths.
 //! - [`recorded`]: conversations with a kernel. [`conversation`]: how one is played. [`store`]: what is kept meanwhile.
 //! - [`readme`], [`tour`]: the examples of the README and of the page of `neli`, line by line.
 //! - [`support`]: what the tests share.
@@ -20,8 +20,6 @@ mod conversation;
 mod readme;
 #[cfg(test)]
 mod recorded;
-#[cfg(test)]
-mod resolvers;
 #[cfg(test)]
 mod store;
 #[cfg(test)]

@@ -2,16 +2,37 @@
 //! datagram that came for it. What the messages hold was read by libmnl and pyroute2.
 
 use crate::conversation::{Item, Talk, answered, payload_of};
-use crate::resolvers::{Ctrl, family};
+use neli::consts::genl::{CtrlAttr, CtrlCmd, NlAttrType};
 use neli::consts::nl::{GenlId, NlmF, NlmsgerrAttr};
 use neli::consts::rtnl::{Ifa, RtAddrFamily, RtScope, Rtm};
 use neli::err::RouterError;
+use neli::genl::{AttrType, Genlmsghdr, GenlmsghdrBuilder, NlattrBuilder};
 use neli::nl::NlPayload;
 use neli::router::synchronous::{lookup_id, resolve_genl_family, resolve_nl_mcast_group};
 use neli::rtnl::{Ifaddrmsg, IfaddrmsgBuilder};
 use neli::types::{Buffer, GenlBuffer};
 use std::alloc::Global;
 use std::process::Abort;
+
+/// What the controller is asked, and answers.
+type Ctrl = Genlmsghdr<CtrlCmd, CtrlAttr>;
+
+/// A request for the family of this name.
+fn family(rt: &impl Abort, alloc: Global, name: &str, version: u8) -> Ctrl {
+    let name = NlattrBuilder::default()
+        .nla_type(AttrType::from(CtrlAttr::FamilyName.to_number()))
+        .nla_payload(name)
+        .build(alloc)
+        .expect(rt, "a name");
+    let mut attrs = GenlBuffer::new(alloc);
+    attrs.push(name).expect(rt, "memory");
+    GenlmsghdrBuilder::default()
+        .cmd(CtrlCmd::Getfamily)
+        .version(version)
+        .attrs(attrs)
+        .build(alloc)
+        .expect(rt, "a request")
+}
 
 /// The family `tcp_metrics`, acknowledged.
 const TCP_METRICS: Talk = Talk {
