@@ -1,0 +1,137 @@
+/* Times the router of this library by the program `neli_tool replay`, a process for each run.
+ *
+ * A script opens handles, hands in messages of 16 bytes, a datagram each, and reads them. What the program prints is
+ * counted; where a count is not what it has to be, the driver ends with status 1. */
+#include <stdbool.h>
+#include <stdio.h>
+#include <stdlib.h>
+#include <string.h>
+#include <sys/resource.h>
+#include <sys/wait.h>
+#include <unistd.h>
+
+#ifndef ROUNDS
+#define ROUNDS 3
+#endif
+
+enum { OPEN = 100000, MESSAGES = 1000000, STRAYS = 100000 };
+
+struct script {
+    unsigned open;     /* handles that are opened first */
+    unsigned messages; /* messages that come */
+    unsigned over;     /* the handles that they are for, in turn; 0: strays, of which none is read */
+    unsigned batch;    /* how many come before they are read */
+    bool dropped;      /* they come to a group, after multicast was closed: read, cut, and given to nobody */
+};
+
+struct cost {
+    double seconds; /* processor time of the process */
+    long kilobytes; /* the most memory that it had */
+};
+
+static void fail(const char *what) {
+    fprintf(stderr, "router: %s\n", what);
+    exit(1);
+}
+
+/* One line of 16 bytes: a message of type 16 with flag MULTI, for this number. */
+static void data(FILE *out, bool dropped, unsigned number) {
+    fprintf(out, "data %d 1000000010000200%02x%02x%02x%02x00000000\n", dropped,
+            number & 0xff, number >> 8 & 0xff, number >> 16 & 0xff, number >> 24);
+}
+
+static void write_script(FILE *out, const struct script *s) {
+    for (unsigned i = 0; i < s->open; i++) fputs("send 16 0 -\n", out);
+    if (s->dropped) fputs("close 0\n", out);
+    for (unsigned i = 0; i < s->messages; i += s->batch) {
+        for (unsigned k = i; k < i + s->batch; k++) data(out, s->dropped, s->over ? k % s->over : ~0u);
+        for (unsigned k = i; s->over && k < i + s->batch; k++) fprintf(out, "read %u\n", k % s->over + 1);
+    }
+}
+
+/* How many lines of the output begin with this word. */
+static unsigned count(FILE *in, const char *word) {
+    static char line[4096];
+    unsigned found = 0;
+    rewind(in);
+    while (fgets(line, sizeof line, in)) found += !strncmp(line, word, strlen(word));
+    return found;
+}
+
+static struct cost run(const char *tool, const struct script *s) {
+    FILE *in = tmpfile(), *out = tmpfile();
+    if (!in || !out) fail("no temporary file");
+    write_script(in, s);
+    if (fflush(in)) fail("the script is not written");
+    rewind(in);
+    pid_t child = fork();
+    if (child < 0) fail("no process");
+    if (!child) {
+        dup2(fileno(in), 0);
+        dup2(fileno(out), 1);
+        lseek(0, 0, SEEK_SET);
+        execl(tool, tool, "replay", (char *)NULL);
+        _exit(127);
+    }
+    int status;
+    struct rusage use;
+    if (wait4(child, &status, 0, &use) != child || status) fail("neli_tool did not end with status 0");
+    unsigned items = s->over && !s->dropped ? s->messages : 0;
+    if (count(out, "sent ") != s->open) fail("not all handles were opened");
+    if (count(out, "item ") != items) fail("not each message was read once");
+    if (count(out, "error ") || count(out, "refused ") || count(out, "bad ")) fail("something was refused");
+    fclose(in);
+    fclose(out);
+    struct cost cost = {
+        use.ru_utime.tv_sec + use.ru_stime.tv_sec + (use.ru_utime.tv_usec + use.ru_stime.tv_usec) / 1e6,
+        use.ru_maxrss,
+    };
+    return cost;
+}
+
+/* The best of some runs. */
+static struct cost best(const char *tool, struct script s) {
+    struct cost least = run(tool, &s);
+    for (int i = 1; i < ROUNDS; i++) {
+        struct cost next = run(tool, &s);
+        if (next.seconds < least.seconds) least.seconds = next.seconds;
+        if (next.kilobytes < least.kilobytes) least.kilobytes = next.kilobytes;
+    }
+    return least;
+}
+
+/* A line of the table: a script, and the same one with its messages dropped. */
+static void compare(const char *tool, struct script kept, unsigned first, unsigned second) {
+    struct script dropped = kept;
+    dropped.dropped = true;
+    struct cost all = best(tool, kept), rest = best(tool, dropped);
+    double each = 1e9 / kept.messages;
+    printf("%8u %9u %9.0f %9.0f %11.0f %9.1f %9.1f\n", first, second, all.seconds * each,
+           rest.seconds * each, (all.seconds - rest.seconds) * each, all.kilobytes / 1024.0,
+           rest.kilobytes / 1024.0);
+    fflush(stdout);
+}
+
+int main(int argc, char **argv) {
+    static const unsigned handles[] = {1, 1000, 100000};
+    if (argc != 2) {
+        fputs("usage: router NELI_TOOL\n", stderr);
+        return 2;
+    }
+    printf("%d messages of 16 bytes, a datagram each, with %d open handles\n\n", MESSAGES, OPEN);
+    puts(" waiting   handles        ns for each message                 MB");
+    puts(" at most  they are       all   dropped  difference       all   dropped");
+    for (unsigned batch = 1000; batch <= MESSAGES; batch *= 1000)
+        for (int i = 0; i < 3; i++) {
+            struct script script = {OPEN, MESSAGES, handles[i], batch, false};
+            compare(argv[1], script, batch, handles[i]);
+        }
+    printf("\n%d strays, of which none is read\n\n", STRAYS);
+    puts("                           ns for each stray                  MB");
+    puts("  strays      open       all   dropped  difference       all   dropped");
+    for (int i = 0; i < 3; i++) {
+        struct script script = {handles[i], STRAYS, 0, STRAYS, false};
+        compare(argv[1], script, STRAYS, handles[i]);
+    }
+    return 0;
+}
