@@ -1,6 +1,8 @@
+mod Alike
 mod Lists
 mod Places
 mod Readings
+mod OtherReads
 mod Regrouping
 mod Steps
 mod Walks

@@ -1,6 +1,6 @@
 //! Laws of runs, over the definitions alone. The calls do nothing: their contracts are the laws.
 
-ghost use Rattle.std.specs.Prelude.{◌≡◌, ◌≢◌, ◌++◌, ◌∷◌, ℕ, Bool, List};
+ghost use Rattle.std.specs.Prelude.{◌≡◌, ◌≢◌, ◌↔◌, ◌++◌, ◌∷◌, ℕ, Bool, false, List};
 ghost use Rattle.neli_msg.specs.Agreement.{untyped_layout};
 ghost use Rattle.neli_msg.specs.Cuts.{cut_of, messages_before};
 ghost use Rattle.neli_msg.specs.Messages.{message_layout};
@@ -10,7 +10,8 @@ ghost use Rattle.neli_router_base.specs.declared.reply.Reply.{Reply as Answer};
 ghost use Rattle.neli_router_base.specs.declared.reply.Reply.TheVariants as reply;
 ghost use Rattle.neli_router_base.specs.Rule.{answer};
 ghost use Rattle.neli_router.specs.Deliveries.{deliveries};
-ghost use Rattle.neli_router.specs.History.{History, is_live, is_open, items_of, needs_of, whose};
+ghost use Rattle.neli_router.specs.History.{History, is_live, is_open, is_sent, items_of, needs_of, whose};
+ghost use Rattle.neli_router.specs.OtherReads.{NoneReads};
 ghost use Rattle.neli_router.specs.Outcomes.{EachAfter, IsAnswered, IsSent, outcome_of};
 ghost use Rattle.neli_router.specs.Regrouping.{Bytes, IsRegrouped, IsWhole, came};
 
@@ -48,6 +49,32 @@ pub fn reads_of_others_change_nothing<ST, SP, RT, RP>()
         → whose k ((Command.Read j, outcome_of r) ∷ h) ≡ whose k h }
     ensures live { (j k : ℕ) (r : Answer RT RP) (h : History ST SP RT RP)
         → is_live k ((Command.Read j, outcome_of r) ∷ h) ≡ is_live k h }
+{}
+
+/// So it changes no outcome: where handle `j` was read at some point of a history, or was not, the same is right for a
+/// run to answer to the commands that come later, of which none reads `j`. The read may have had any outcome but bytes
+/// to be sent, which no read has.
+pub fn reads_of_others_leave_outcomes<ST, SP, RT, RP>()
+where
+    ST: NlType,
+    SP: ToBytes,
+    RT: NlType,
+    RP: FromBytesWithInput + Size,
+    // What is sent is the same even where they read `j`.
+    ensures sent { (port j : ℕ) (o : Outcome ST SP RT RP) (before later : History ST SP RT RP)
+        (commands : List (Command ST SP)) (outcomes : List (Outcome ST SP RT RP))
+        → is_sent o ≡ false
+        → (EachAfter (IsSent ST.wire_number SP.wire SP.Size.wire_length port)
+        (later ++ before) commands outcomes
+        ↔ EachAfter (IsSent ST.wire_number SP.wire SP.Size.wire_length port)
+        (later ++ (Command.Read j, o) ∷ before) commands outcomes) }
+    ensures read { (port j : ℕ) (o : Outcome ST SP RT RP) (before later : History ST SP RT RP)
+        (commands : List (Command ST SP)) (outcomes : List (Outcome ST SP RT RP))
+        → is_sent o ≡ false → NoneReads j commands
+        → (EachAfter (IsAnswered RT.wire_value RT.wire_number RP.view RP.wire_length RP.read port)
+        (later ++ before) commands outcomes
+        ↔ EachAfter (IsAnswered RT.wire_value RT.wire_number RP.view RP.wire_length RP.read port)
+        (later ++ (Command.Read j, o) ∷ before) commands outcomes) }
 {}
 
 /// Bytes without a fault and bytes after them have the messages of both, and then the fault of the later ones, if

@@ -1,4 +1,5 @@
-use Rattle.neli_router.proofs.Regrouping.{alike_live, alike_open, regrouped-alike, regrouped-deliveries}
+use Rattle.neli_router.proofs.Alike.{alike_live, alike_open}
+use Rattle.neli_router.proofs.Regrouping.{regrouped-alike, regrouped-deliveries}
 use Rattle.neli_router.proofs.laws.regrouping_leaves_deliveries.Goals as goal
 
 pub returns-clause-deliveries : goal.returns-clause-deliveries
