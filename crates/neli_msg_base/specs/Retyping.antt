@@ -14,7 +14,7 @@ use Rattle.neli_msg_base.specs.declared.router_error.RouterError.TheVariants as 
 use Rattle.neli_msg_base.specs.Answers.{answer}
 use Rattle.neli_msg_base.specs.Headers.{Header}
 use Rattle.neli_msg_base.specs.Messages.{Message}
-use Rattle.neli_msg_base.specs.Wires.{payload_size}
+use Rattle.neli_msg_base.specs.Wires.{message_size, payload_size}
 
 -- ---- what the untyped message says as the other types; lengths are as they were
 
@@ -139,6 +139,40 @@ module _ {P V : Type 0} (view : P → V) (size : P → ℕ) (read : List ℕ →
   IsMessageTooLong {K} type_of u =
       IsEchoTooLong u ⊎ ((p : NlPayload K P) × (typed_payload type_of read u ≡ Ok (payload_stating (stated_echo u) view p))
       × HasOwnEcho size p × (4294967295 < align (16 + payload_size size p)))
+
+-- ---- a router's error: what it has of a message is retyped, and all else stays
+
+module _ {K P V : Type 0} (type_of : ℕ → K) (view : P → V) (size : P → ℕ) (read : List ℕ → Result V DeError) where
+  -- f is what the untyped e says
+  abbrev pub IsTypedError : RouterError ℕ (List ℕ) → RouterError K P → Type 0
+  IsTypedError (router.Nlmsgerr e) (router.Nlmsgerr f) =
+      (typed_failure type_of read e ≡ Ok (failure_stating e.nlmsg.header.len view f)) × HasOwnLength size f.nlmsg
+  IsTypedError (router.Nlmsgerr e) f = ⊥
+  IsTypedError (router.BadSeqOrPid u) (router.BadSeqOrPid m) =
+      (typed_payload type_of read u.payload ≡ Ok (payload_stating (stated_echo u.payload) view m.payload))
+      × (m.header ≡ with_len (typed_header type_of u.header) (align (message_size size m)))
+      × HasOwnEcho size m.payload
+  IsTypedError (router.BadSeqOrPid u) f = ⊥
+  IsTypedError (router.Msg text) f = f ≡ router.Msg text
+  IsTypedError (router.Io kind) f = f ≡ router.Io kind
+  IsTypedError (router.De e) f = f ≡ router.De e
+  IsTypedError (router.Socket e) f = f ≡ router.Socket e
+  IsTypedError router.NoAck f = f ≡ router.NoAck
+  IsTypedError router.UnexpectedAck f = f ≡ router.UnexpectedAck
+  IsTypedError router.ClosedChannel f = f ≡ router.ClosedChannel
+  IsTypedError (router.SeqInUse n) f = f ≡ router.SeqInUse n
+  IsTypedError router.Memory f = f ≡ router.Memory
+
+  -- why is why the untyped error can't be typed: its message can't; or memory ran out where there is something to copy
+  abbrev pub RefusesTypingError : RouterError ℕ (List ℕ) → RouterError K P → Type 0
+  RefusesTypingError (router.Nlmsgerr e) why =
+      RefusesTyping (typed_failure type_of read e) (IsTooLong view size read e.nlmsg.payload) why
+  RefusesTypingError (router.BadSeqOrPid u) why =
+      RefusesTyping (typed_payload type_of read u.payload) (IsMessageTooLong view size read type_of u.payload) why
+  RefusesTypingError (router.Msg text) why = why ≡ router.Memory
+  RefusesTypingError (router.De e) why = why ≡ router.Memory
+  RefusesTypingError (router.Socket e) why = why ≡ router.Memory
+  RefusesTypingError e why = ⊥
 
 -- ---- parts that are taken out and put in
 

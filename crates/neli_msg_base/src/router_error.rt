@@ -1,13 +1,14 @@
 //! What a router reports.
 
-ghost use Rattle.std.specs.Prelude.{◌≡◌, IfOk, IfSome};
+ghost use Rattle.std.specs.Prelude.{◌≡◌, IfErr, IfOk, IfSome};
 ghost use Rattle.neli_msg_base.specs.declared.router_error.RouterError.TheVariants as router;
+ghost use Rattle.neli_msg_base.specs.Retyping.{IsTypedError, RefusesTypingError};
 ghost use Rattle.neli_msg_base.specs.RouterErrors.{de_of, router_text, socket_of};
 
 use crate::{Nlmsgerr, Nlmsghdr, NlmsghdrErr, SocketError};
 use neli_attr::Buffer;
 use neli_consts::NlType;
-use neli_wire::{DeError, MsgError, NoMemory};
+use neli_wire::{DeError, FromBytesWithInput, MsgError, NoMemory, Size};
 use std::alloc::{AllocError, AllocFailed, Global};
 use std::error::Error;
 use std::fmt;
@@ -68,6 +69,38 @@ impl<T: NlType> RouterError<T, Buffer> {
             RouterError::Socket(error) => RouterError::Socket(error.try_clone()?),
             RouterError::Nlmsgerr(answer) => RouterError::Nlmsgerr(answer.try_clone()?),
             RouterError::BadSeqOrPid(message) => RouterError::BadSeqOrPid(message.try_clone()?),
+            RouterError::NoAck => RouterError::NoAck,
+            RouterError::UnexpectedAck => RouterError::UnexpectedAck,
+            RouterError::ClosedChannel => RouterError::ClosedChannel,
+            RouterError::SeqInUse(number) => RouterError::SeqInUse(*number),
+            RouterError::Memory => RouterError::Memory,
+        })
+    }
+}
+
+impl RouterError<u16, Buffer> {
+    /// The same error as one of other types: what the other side's answer echoes, and a message with a bad
+    /// sequence number or port, are retyped, with lengths computed anew; every other error stays as it is.
+    ///
+    /// Refused as [`Nlmsgerr::to_typed`] and [`Nlmsghdr::to_typed`] are: with the refusal of the message's
+    /// bytes as [`RouterError::De`], or as [`RouterError::Msg`] where a length passes 32 bits. What has
+    /// neither a message nor a text is never refused.
+    pub fn to_typed<T: NlType, P: FromBytesWithInput + Size>(
+        &self,
+        alloc: Global,
+    ) -> Result<RouterError<T, P>, RouterError<T, P>>
+        ensures value { IfOk result
+            (IsTypedError T.wire_value P.view P.wire_length P.read self.now) }
+        ensures refused { IfErr result
+            (RefusesTypingError T.wire_value P.view P.wire_length P.read self.now) }
+    {
+        Ok(match self {
+            RouterError::Nlmsgerr(answer) => RouterError::Nlmsgerr(answer.to_typed(alloc)?),
+            RouterError::BadSeqOrPid(stray) => RouterError::BadSeqOrPid(stray.to_typed(alloc)?),
+            RouterError::Msg(text) => RouterError::Msg(text.try_clone()?),
+            RouterError::De(refusal) => RouterError::De(refusal.try_clone()?),
+            RouterError::Socket(failure) => RouterError::Socket(failure.try_clone()?),
+            RouterError::Io(kind) => RouterError::Io(*kind),
             RouterError::NoAck => RouterError::NoAck,
             RouterError::UnexpectedAck => RouterError::UnexpectedAck,
             RouterError::ClosedChannel => RouterError::ClosedChannel,

@@ -2,6 +2,7 @@
 //!
 //! - [`reading`]: one message and a whole datagram, and their refusals. [`kinds`]: the kinds of payload.
 //! - [`retyping`]: untyped messages as other types, and the calls that take a payload out or put one in.
+//!   [`typed_errors`]: a router's errors as ones of other types.
 //! - [`builders`]: what builders make, and what is written. [`printed`]: what errors print, and their
 //!   causes.
 //! - [`out_of_memory`]: what calls answer where an allocation is refused. [`laws`]: the laws, called.
@@ -27,3 +28,5 @@ mod reading;
 mod retyping;
 #[cfg(test)]
 mod support;
+#[cfg(test)]
+mod typed_errors;

@@ -52,7 +52,7 @@ fn a_payload_is_put_in(rt: HostRuntime) {
 }
 
 /// A message with a body of three bytes.
-fn three_bytes(rt: &impl Abort, alloc: Global) -> Raw {
+pub fn three_bytes(rt: &impl Abort, alloc: Global) -> Raw {
     let body = Buffer::from_slice(alloc, b"abc").expect(rt, "memory");
     NlmsghdrBuilder::default()
         .nl_type(1024u16)
