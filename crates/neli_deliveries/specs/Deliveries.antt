@@ -5,7 +5,6 @@ use Rattle.std.specs.declared.io.ErrorKind.TheVariants.{WouldBlock}
 use Rattle.neli_wire.specs.DeError.{DeError}
 use Rattle.neli_msg.specs.Cuts.{Cut}
 use Rattle.neli_msg.specs.Messages.{Message, message_from}
-use Rattle.neli_msg.specs.Nlmsghdr.{Nlmsghdr}
 use Rattle.neli_msg.specs.SocketError.{SocketError}
 use Rattle.neli_msg.specs.SocketError.TheVariants as socket
 use Rattle.neli_deliveries.specs.declared.delivery.Delivery.{Delivery}

@@ -25,6 +25,8 @@ use Rattle.neli_spans.specs.Spans.{AreOf, Names, next_serial, text_of}
 use Rattle.neli_log.specs.declared.content.Content.{Content}
 use Rattle.neli_log.specs.declared.content.Content.TheVariants as content
 use Rattle.neli_log.specs.Contents.{AreBacked, AreMessages, IsReadable, delivery_of, part_of, span_of, spans_of}
+use Rattle.neli_log.specs.declared.store.Store.{Store}
+use Rattle.neli_log.specs.Log.{Keeps}
 use Rattle.neli_log.specs.Staged.{gained}
 use Rattle.neli_log.proofs.Entries.{each_joined, either, get_end, get_right, items_same, spans_append}
 
@@ -237,3 +239,12 @@ fault_backed d es es' e is h = rw is (record { names = rw (fault_spans es e) h.n
 pub on_ok : {A E : Type 0} (r : Result A E) (X Y : Type 0) → (X → Y) → OnOk r X → OnOk r Y
 on_ok (Ok a) X Y f h = f h
 on_ok (Err e) X Y f h = tt
+
+-- ---- what a call keeps
+
+pub keeps_none : (s : Store) (bytes : List ℕ) → Keeps s s bytes []
+keeps_none s bytes = record {
+  entries = sym (append-nil (entries_of s.places));
+  readers = λ i e at. cc;
+  counted = omega arith;
+}

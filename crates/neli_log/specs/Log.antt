@@ -1,12 +1,15 @@
 -- What a log holds.
-use Rattle.std.specs.Prelude.{ℕ, List, length, map, Option}
+use Rattle.std.specs.Prelude.{ℕ, zero, suc, ◌≡◌, ◌+◌, List, ◌++◌, length, map, Option}
 use Rattle.std.specs.Option.{option_map}
 use Rattle.neli_deliveries.specs.declared.delivery.Delivery.{Delivery}
+use Rattle.neli_places.specs.declared.entry.Entry.{Entry}
 use Rattle.neli_places.specs.Places.{IsSound, IsTrimmed, entries_of}
 use Rattle.neli_places.specs.Places.{pending_of as items_of}
 use Rattle.neli_spans.specs.Spans.{bytes_of, text_of}
+use Rattle.neli_log.specs.declared.content.Content.{Content}
 use Rattle.neli_log.specs.declared.store.Store.{Store}
-use Rattle.neli_log.specs.Contents.{AreBacked, delivery_of}
+use Rattle.neli_log.specs.Contents.{AreBacked, delivery_of, spans_of}
+use Rattle.neli_log.specs.Staged.{HaveReaders}
 
 -- what waits for a number, or for multicast (None), where it is open
 abbrev pub pending_of : Store → Option ℕ → Option (List Delivery)
@@ -29,3 +32,20 @@ entry_count s = length (entries_of s.places)
 -- how many bytes of datagrams
 abbrev pub byte_count : Store → ℕ
 byte_count s = bytes_of s.datagrams
+
+-- ---- what a call keeps
+
+-- how many bytes are kept of these, where so many spans name them: all or none
+abbrev pub kept_with : ℕ → List ℕ → ℕ
+kept_with zero bytes = 0
+kept_with (suc n) bytes = length bytes
+
+-- these entries come after the others; each is for somebody, and the bytes are kept where one of them is a span of them
+pub record Keeps (before after : Store) (bytes : List ℕ) (es : List (Entry Content)) : Type 0 where
+  pub entries : entries_of after.places ≡ entries_of before.places ++ es
+  pub readers : HaveReaders (items_of before.places) es
+  pub counted : byte_count after ≡ byte_count before + kept_with (length (spans_of es)) bytes
+
+-- entries and bytes are as they were
+abbrev pub IsLeft : Store → Store → Type 0
+IsLeft before after = (entries_of after.places ≡ entries_of before.places) × (byte_count after ≡ byte_count before)

@@ -1,11 +1,12 @@
 //! How entries and datagrams come to be kept, once there is nothing left to refuse.
 
-ghost use Rattle.std.specs.Prelude.{◌≡◌, ◌++◌, ◌<◌, ℕ, List, Option, Some, OnErr, OnOk, length, option_map, slice_get, slice_range};
+ghost use Rattle.std.specs.Prelude.{◌≡◌, ◌++◌, ◌+◌, ◌<◌, ℕ, List, Option, Some, OnErr, OnOk, length, option_map, slice_get, slice_range};
 ghost use Rattle.neli_places.specs.Places.{HasRoom, IsTrimmed, entries_of, pending_of};
 ghost use Rattle.neli_places.specs.Routes.{items_for};
-ghost use Rattle.neli_spans.specs.Spans.{AreNamed, AreOf, IsUnchanged, Names, next_serial, text_of};
+ghost use Rattle.neli_spans.specs.Spans.{AreNamed, AreOf, IsUnchanged, Names, bytes_of, next_serial, text_of};
 ghost use Rattle.neli_spans.specs.declared.span.Span.{Span as Part};
 ghost use Rattle.neli_log.specs.Contents.{span_of, spans_of};
+ghost use Rattle.neli_log.specs.Log.{kept_with};
 ghost use Rattle.neli_log.specs.Staged.{HaveReaders};
 
 use crate::content::Content;
@@ -43,6 +44,7 @@ fn spans_in(content: &Content) -> usize
 pub(crate) fn span_count(entries: &[Entry<Content>]) -> usize
     ensures { result ≡ length (spans_of entries.now) }
 {
+    // The prover learns here that the count fits: there are no more entries than a usize.
     let _ = entries.len();
     let mut count = 0;
     for entry in entries {
@@ -67,7 +69,10 @@ pub(crate) fn keep_copy(
     ensures texts { OnOk result ((old : List Part) (i : ℕ) (s : Part) → Names datagrams.old old
         → slice_get old i ≡ Some s → text_of datagrams.new s ≡ text_of datagrams.old s) }
     ensures new_texts { OnOk result ((s : Part) → 0 < spans
-        → s.datagram ≡ next_serial datagrams.old → text_of datagrams.new s ≡ slice_range bytes.now s.start s.end) }
+        → s.datagram ≡ next_serial datagrams.old
+        → text_of datagrams.new s ≡ slice_range bytes.now s.start s.end) }
+    ensures bytes { OnOk result
+        (bytes_of datagrams.new ≡ bytes_of datagrams.old + kept_with spans bytes.now) }
     ensures err { OnErr result (IsUnchanged datagrams.old datagrams.new) }
 {
     if spans == 0 {
@@ -86,7 +91,8 @@ pub(crate) fn release(datagrams: &mut Datagrams, content: Content)
     ensures names { (ss : List Part) → Names datagrams.old (span_of content ++ ss)
         → Names datagrams.new ss }
     ensures texts { (ss : List Part) (i : ℕ) (s : Part)
-        → Names datagrams.old (span_of content ++ ss) → slice_get ss i ≡ Some s → text_of datagrams.new s ≡ text_of datagrams.old s }
+        → Names datagrams.old (span_of content ++ ss) → slice_get ss i ≡ Some s
+        → text_of datagrams.new s ≡ text_of datagrams.old s }
 {
     match content {
         Content::Fault(_) => (),

@@ -6,10 +6,12 @@ ghost use Rattle.neli_msg.specs.Cuts.{cut_of};
 ghost use Rattle.neli_deliveries.specs.declared.delivery.Delivery.{Delivery as Waiting};
 ghost use Rattle.neli_deliveries.specs.Deliveries.{broken, head_of, is_would_block, received};
 ghost use Rattle.neli_deliveries.specs.Readings.{IsFirst, IsReading};
+ghost use Rattle.neli_places.specs.declared.entry.Entry.{Entry as Kept};
+ghost use Rattle.neli_log.specs.declared.content.Content.{Content as Held};
 ghost use Rattle.neli_places.specs.Places.{pending_of as items_of};
 ghost use Rattle.neli_spans.specs.Spans.{AreOf, next_serial, text_of};
 ghost use Rattle.neli_log.specs.Contents.{AreMessages, IsReadable, delivery_of, part_of, spans_of};
-ghost use Rattle.neli_log.specs.Log.{IsLog, IsLoose, byte_count, entry_count, pending_of};
+ghost use Rattle.neli_log.specs.Log.{IsLeft, IsLog, IsLoose, Keeps, byte_count, entry_count, pending_of};
 ghost use Rattle.neli_log.specs.Staged.{HaveReaders, gained};
 
 use crate::content::Content;
@@ -131,6 +133,8 @@ impl Store {
             ≡ option_map (λ ds. ds ++ gained bytes.now w entries.items) (pending_of self.old w)) }
         ensures err { OnErr result ((w : Option ℕ)
             → pending_of self.new w ≡ pending_of self.old w) }
+        ensures kept { OnOk result (Keeps self.old self.new bytes.now entries.items) }
+        ensures left { OnErr result (IsLeft self.old self.new) }
         ensures log { IsLog self.new }
     {
         self.places.reserve(entries.len())?;
@@ -151,6 +155,9 @@ impl Store {
         ensures err { OnErr result ((w : Option ℕ)
             → pending_of self.new w ≡ pending_of self.old w) }
         ensures empty { bytes.now ≡ [] → IsOk result }
+        ensures kept { OnOk result
+            ((es : List (Kept Held)) × Keeps self.old self.new bytes.now es) }
+        ensures left { OnErr result (IsLeft self.old self.new) }
         ensures log { IsLog self.new }
     {
         if bytes.is_empty() {
@@ -173,6 +180,8 @@ impl Store {
         ensures err { OnErr result ((w : Option ℕ)
             → pending_of self.new w ≡ pending_of self.old w) }
         ensures would_block { is_would_block error ≡ true → IsOk result }
+        ensures kept { OnOk result ((es : List (Kept Held)) × Keeps self.old self.new [] es) }
+        ensures left { OnErr result (IsLeft self.old self.new) }
         ensures log { IsLog self.new }
     {
         if would_block(&error) {

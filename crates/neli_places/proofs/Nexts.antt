@@ -190,3 +190,8 @@ first_delivery w base es p o m x is h at =
 pub no_delivery : {T : Type 0} (w : Option ℕ) (base : ℕ) (es : List (Entry T)) (p : Place) (o : Option Place) → o ≡ Some p → first_position (leads w) (base + (p.from - base)) (rest base es p) ≡ None
     → ◌≡◌ {A = Option T} None (head_of (option_map (λ p. items_for w (rest base es p)) o))
 no_delivery w base es p o is h = rw (is, items_none w _ (rest base es p) h) refl
+
+pub something_waits : {T : Type 0} (w : Option ℕ) (base : ℕ) (es : List (Entry T)) (p : Place) (o : Option Place) (m : ℕ) → o ≡ Some p → first_position (leads w) (base + (p.from - base)) (rest base es p) ≡ Some m → head_of (option_map (λ p. items_for w (rest base es p)) o) ≡ None → ⊥
+something_waits w base es p o m is h none =
+    let n = next_is w base es p m h in
+    let f = first_delivery w base es p o m n.1 is h n.2.at in cc

@@ -2,7 +2,6 @@
 use Rattle.std.proofs.Common.{ap, ℕ, ◌≡◌, ◌<◌, ◌∙◌, true, List, [], ◌∷◌, length, Option, Some, None, refl, sym, arith, nat_eq, is_some, option_map}
 use Rattle.std.specs.HashMap.{HashMap, get}
 use Rattle.std.specs.Map.{lookup}
-use Rattle.neli_places.specs.declared.entry.Route.{Route}
 use Rattle.neli_places.specs.declared.entry.Route.TheVariants.{Number, Numbers}
 use Rattle.neli_places.specs.declared.place.Place.{Place}
 use Rattle.neli_places.specs.Places.{HasReader}

@@ -143,6 +143,8 @@ impl<T: Drop> Places<T> {
         ensures entries { entries_of self.new ≡ entries_of self.old }
         ensures taken { (x : T) (xs : List T) → pending_of self.old whose ≡ Some (x ∷ xs)
             → pending_of self.new whose ≡ Some xs }
+        ensures nothing { head_of (pending_of self.old whose) ≡ None
+            → pending_of self.new whose ≡ pending_of self.old whose }
         ensures others { (w : Option ℕ) → w ≢ whose
             → pending_of self.new w ≡ pending_of self.old w }
         ensures sound { IsSound self.new }

@@ -25,6 +25,7 @@ impl Datagrams {
     /// No datagrams. It takes no memory.
     pub fn new(alloc: Global) -> Self
         ensures names { Names result [] }
+        ensures serial { next_serial result ≡ 0 }
     {
         Datagrams {
             first: 0,
@@ -74,6 +75,8 @@ impl Datagrams {
             → slice_get old i ≡ Some s → text_of self.new s ≡ text_of self.old s }
         ensures new_texts { (s : Named) → s.datagram ≡ next_serial self.old
             → text_of self.new s ≡ slice_range bytes.items s.start s.end }
+        ensures serial { next_serial self.new ≡ next_serial self.old + 1 }
+        ensures bytes { bytes_of self.new ≡ bytes_of self.old + length bytes.items }
     {
         let size = bytes.len();
         let _ = self.list.push_back(Datagram { bytes, spans });
@@ -88,6 +91,7 @@ impl Datagrams {
             → Names self.new ss }
         ensures texts { (s t : Named) (ss : List Named) (i : ℕ) → Names self.old (s ∷ ss)
             → slice_get ss i ≡ Some t → text_of self.new t ≡ text_of self.old t }
+        ensures serial { next_serial self.new ≡ next_serial self.old }
     {
         if let Some(datagram) = self.list.front() {
             let spans = datagram.spans;

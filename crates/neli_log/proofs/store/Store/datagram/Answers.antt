@@ -11,7 +11,7 @@ use Rattle.neli_log.specs.Contents.{delivery_of}
 use Rattle.neli_log.specs.Log.{pending_of}
 use Rattle.neli_log.specs.Staged.{gained, is_open}
 use Rattle.neli_log.proofs.Stages.{staged_gains}
-use Rattle.neli_log.proofs.Stores.{mapped_is_some, mapped_more, mapped_nothing, on_ok, received_nothing, received_same}
+use Rattle.neli_log.proofs.Stores.{keeps_none, mapped_is_some, mapped_more, mapped_nothing, on_ok, received_nothing, received_same}
 use Rattle.neli_log.proofs.store.Store.datagram.Goals as goal
 
 pub returns-then-is_empty-clause-ok : goal.returns-then-is_empty-clause-ok
@@ -47,3 +47,12 @@ returns-clause-ok c =
     let same = received_same s.port (is_open P) (λ q. is_some (pending_of s (Some q))) (λ q. sym (mapped_is_some _ (P (Some q)))) w cut c.args.groups.now in
     h w ∙ mapped_more (delivery_of (text_of s.datagrams)) (P w) (gained bytes w es) (received s.port (λ q. is_some (pending_of s (Some q))) w cut c.args.groups.now)
     (λ opened. staged_gains P s.port c.next_serial-serial.result bytes c.args.groups.now cut es (length bytes) c.in_ok-entries.ensures w opened ∙ same)) c.hand_over.ensures.ok
+
+pub returns-then-is_empty-clause-kept : goal.returns-then-is_empty-clause-kept
+returns-then-is_empty-clause-kept c = ([], keeps_none c.args.self.now c.args.bytes.now)
+
+pub returns-then-is_empty-2-clause-kept : goal.returns-then-is_empty-2-clause-kept
+returns-then-is_empty-2-clause-kept c = ([], keeps_none c.args.self.now c.args.bytes.now)
+
+pub returns-clause-kept : goal.returns-clause-kept
+returns-clause-kept c = on_ok c.hand_over.result _ _ (λ kept. (c.in_ok-entries.entries.items, kept)) c.hand_over.ensures.kept

@@ -1,13 +1,14 @@
-use Rattle.std.proofs.Common.{◌∙◌, ◌++◌, ◌∷◌, [], ap, option_map, sym}
+use Rattle.std.proofs.Common.{◌∙◌, ◌++◌, ◌∷◌, [], ap, arith, option_map, sym}
 use Rattle.neli_places.specs.declared.entry.Entry.{Entry}
 use Rattle.neli_places.specs.declared.entry.Route.TheVariants as route
 use Rattle.neli_log.specs.declared.content.Content.{Content}
 use Rattle.neli_log.specs.declared.content.Content.TheVariants as content
-use Rattle.neli_places.specs.Places.{entries_of, pending_of}
+use Rattle.neli_places.specs.Places.{HasReader, entries_of, pending_of}
 use Rattle.neli_places.specs.Routes.{items_for}
 use Rattle.neli_spans.specs.Spans.{text_of}
 use Rattle.neli_log.specs.Contents.{delivery_of}
-use Rattle.neli_log.proofs.Stores.{blocked_brings, fault_backed, fault_pending, mapped_nothing, unread_brings}
+use Rattle.neli_log.proofs.Entries.{each_one}
+use Rattle.neli_log.proofs.Stores.{blocked_brings, fault_backed, fault_pending, keeps_none, mapped_nothing, unread_brings}
 use Rattle.neli_log.proofs.store.Store.fault.Goals as goal
 
 pub returns-then-would_block-clause-ok : goal.returns-then-would_block-clause-ok
@@ -35,3 +36,21 @@ returns-clause-log c =
       trimmed = c.push.ensures.trimmed;
       backed = fault_backed s.datagrams (entries_of s.places) (entries_of c.push.new.self) c.args.error (c.push.ensures.entries ∙ ap (λ es. es ++ e ∷ []) c.in_ok-reserve.ensures.entries) c.requires.backed;
     }
+
+pub returns-then-would_block-clause-kept : goal.returns-then-would_block-clause-kept
+returns-then-would_block-clause-kept c = ([], keeps_none c.args.self.now [])
+
+pub returns-then-not-has_reader-clause-kept : goal.returns-then-not-has_reader-clause-kept
+returns-then-not-has_reader-clause-kept c = ([], keeps_none c.args.self.now [])
+
+pub returns-clause-kept : goal.returns-clause-kept
+returns-clause-kept c =
+    let s = c.args.self.now in
+    let e : Entry Content = record { item = content.Fault c.args.error; route = route.Numbers } in (
+      e ∷ [],
+      record {
+        entries = c.push.ensures.entries ∙ ap (λ es. es ++ e ∷ []) c.in_ok-reserve.ensures.entries;
+        readers = each_one (λ x. HasReader (pending_of s.places) x.route) e (c.has_reader.ensures.0 (let yes = c.if-not-has_reader.false in cc));
+        counted = omega arith;
+      },
+    )

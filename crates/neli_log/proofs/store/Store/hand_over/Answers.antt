@@ -1,6 +1,8 @@
-use Rattle.std.proofs.Common.{◌≡◌, ◌∙◌, ◌++◌, ◌<◌, ap, length, option_map, subst, sym}
+use Rattle.std.proofs.Common.{◌≡◌, ◌∙◌, ◌++◌, ◌+◌, ◌<◌, ap, length, option_map, subst, sym}
 use Rattle.neli_places.specs.Routes.{items_for}
+use Rattle.neli_spans.specs.Spans.{bytes_of}
 use Rattle.neli_log.specs.Contents.{spans_of}
+use Rattle.neli_log.specs.Log.{kept_with}
 use Rattle.neli_log.proofs.Stores.{handed_backed, handed_pending}
 use Rattle.neli_log.proofs.store.Store.hand_over.Goals as goal
 
@@ -29,4 +31,15 @@ returns-clause-log c =
           c.requires.spans c.requires.messages c.requires.log.backed
           (λ old new h of n. c.in_ok-keep_copy.ensures.names old new h of (n ∙ sym count)) c.in_ok-keep_copy.ensures.texts
           (λ x some is. c.in_ok-keep_copy.ensures.new_texts x (subst (λ n. 0 < n) (sym count) some) is);
+    }
+
+pub returns-clause-kept : goal.returns-clause-kept
+returns-clause-kept c =
+    let s = c.args.self.now in
+    let es = c.args.entries.items in
+    let count : c.span_count-spans.result ≡ length (spans_of es) = c.span_count-spans.ensures ∙ ap (λ xs. length (spans_of xs)) c.deref.ensures.value in
+    record {
+      entries = c.push_all.ensures.entries ∙ ap (λ xs. xs ++ es) c.in_ok-reserve.ensures.entries;
+      readers = c.requires.readers;
+      counted = c.in_ok-keep_copy.ensures.bytes ∙ ap (λ n. bytes_of s.datagrams + kept_with n c.args.bytes.now) count;
     }

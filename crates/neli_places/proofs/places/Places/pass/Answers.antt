@@ -4,7 +4,7 @@ use Rattle.neli_places.specs.declared.entry.Route.{Route}
 use Rattle.neli_places.specs.declared.entry.Route.TheVariants.{Multicast, Number, Numbers}
 use Rattle.neli_places.specs.Routes.{is_shared}
 use Rattle.neli_places.specs.Places.{place_of, rest}
-use Rattle.neli_places.proofs.Nexts.{next_is, items_none}
+use Rattle.neli_places.proofs.Nexts.{next_is, items_none, something_waits}
 use Rattle.neli_places.proofs.Passes.{same_entry, nothing_pending}
 use Rattle.neli_places.proofs.places.Places.pass.Goals as goal
 
@@ -45,3 +45,18 @@ returns-in_default-next_of-clause-taken g c = λ d ds old.
     let s = c.args.self.now in
     absurd (nothing_pending c.args.whose s.base s.entries.items c.in-Some.p (place_of s c.args.whose) d ds (sym c.place.ensures ∙ c.in-Some.is)
     (items_none c.args.whose (s.base + (c.in-Some.p.from - s.base)) (rest s.base s.entries.items c.in-Some.p) (sym c.next_of.ensures ∙ c.in_default-next_of.is)) old)
+
+pub returns-in-None-clause-nothing : goal.returns-in-None-clause-nothing
+returns-in-None-clause-nothing g c = λ none.
+    let s = c.args.self.now in
+    absurd (something_waits c.args.whose s.base s.entries.items c.in-Some.p (place_of s c.args.whose) c.in-Some-next_of.m (sym c.place.ensures ∙ c.in-Some.is) (sym c.next_of.ensures ∙ c.in-Some-next_of.is) none)
+
+pub returns-in-Numbers-clause-nothing : goal.returns-in-Numbers-clause-nothing
+returns-in-Numbers-clause-nothing g c = λ none.
+    let s = c.args.self.now in
+    absurd (something_waits c.args.whose s.base s.entries.items c.in-Some.p (place_of s c.args.whose) c.in-Some-next_of.m (sym c.place.ensures ∙ c.in-Some.is) (sym c.next_of.ensures ∙ c.in-Some-next_of.is) none)
+
+pub returns-in_default-route-clause-nothing : goal.returns-in_default-route-clause-nothing
+returns-in_default-route-clause-nothing g c = λ none.
+    let s = c.args.self.now in
+    absurd (something_waits c.args.whose s.base s.entries.items c.in-Some.p (place_of s c.args.whose) c.in-Some-next_of.m (sym c.place.ensures ∙ c.in-Some.is) (sym c.next_of.ensures ∙ c.in-Some-next_of.is) none)
