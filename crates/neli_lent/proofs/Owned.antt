@@ -1,5 +1,5 @@
 -- A payload that is read whole.
-use Rattle.std.proofs.Common.{◌≡◌, ℕ, false, ltb, List, length, take, drop, Result, Ok, Err, refl, sym, ap, ◌∙◌, arith}
+use Rattle.std.proofs.Common.{◌≡◌, ℕ, false, ltb, List, length, take, drop, Result, Ok, refl, sym, ap, ◌∙◌, arith}
 use Rattle.std.proofs.lemmas.Bool.{le-ltb}
 use Rattle.std.proofs.lemmas.List.{take_all}
 use Rattle.neli_wire.specs.DeError.{DeError}

@@ -1,6 +1,6 @@
 //! A message whose payload is lent.
 
-ghost use Rattle.std.specs.Prelude.{◌≡◌, [], Ok, Err, IfOk, IfErr, IsTrue, OnOk, OnErr};
+ghost use Rattle.std.specs.Prelude.{◌≡◌, ◌≢◌, ◌↔◌, [], Ok, Err, IfOk, IfErr, IsTrue, OnOk, OnErr};
 ghost use Rattle.neli_wire.specs.Frames.{frame_at};
 ghost use Rattle.neli_wire.specs.Place.{whole};
 ghost use Rattle.neli_wire.specs.Refusals.{Refuses};
@@ -161,9 +161,11 @@ impl<'b> LentMessage<'b, u16> {
     /// Whether the type alone says that the payload is a body: so it is for all types but 2 (`NLMSG_ERROR`)
     /// and 3 (`NLMSG_DONE`). It takes no memory.
     pub fn has_plain_body(&self) -> bool
-        ensures { IsTrue result
+        ensures body { IsTrue result
             → as_owned (λ n. n) (λ n. n) (λ bytes. Ok bytes) (message_said self.now)
             ≡ Ok (self.now.header, payload.Payload self.now.payload.now) }
+        ensures types { IsTrue result
+            ↔ (self.now.header.message_type ≢ 2) × (self.now.header.message_type ≢ 3) }
     {
         let number = *self.nl_type();
         number != 2 && number != 3

@@ -1,4 +1,4 @@
-use Rattle.std.proofs.Common.{rules, ◌≡◌, ◌≢◌, ℕ, List, [], Some, ◌∙◌, sym, ap, length, true, false, Err}
+use Rattle.std.proofs.Common.{rules, ◌≡◌, ◌≢◌, ℕ, List, [], Some, ◌∙◌, sym, ap, length, true, false}
 use Rattle.std.proofs.lemmas.Bool.{eqb-true}
 use Rattle.neli_wire.specs.DeError.{DeError}
 use Rattle.neli_wire.specs.Place.{Place, whole}

@@ -1,5 +1,5 @@
-use Rattle.std.proofs.Common.{rules, ap, length, arith, length-append}
-use Rattle.neli_wire.specs.Place.{Place, whole}
+use Rattle.std.proofs.Common.{ap, length, arith, length-append}
+use Rattle.neli_wire.specs.Place.{Place}
 use Rattle.neli_lent.proofs.attributes.LentAttrs.try_count.Goals as goal
 
 -- the attributes so far took a byte each, and stand before the place

@@ -1,4 +1,4 @@
-use Rattle.std.proofs.Common.{rules, refl, sym, ap, length, ◌∙◌}
+use Rattle.std.proofs.Common.{refl, ap, length, ◌∙◌}
 use Rattle.neli_msg.specs.Kinds.{payload_in}
 use Rattle.neli_lent.proofs.Owned.{whole-value}
 use Rattle.neli_lent.proofs.message.LentMessage.to_nlmsghdr.Goals as goal

@@ -1,4 +1,4 @@
-use Rattle.std.proofs.Common.{rules, ◌≡◌, ◌≢◌, [], ◌∙◌, sym, length, true, false, Err}
+use Rattle.std.proofs.Common.{rules, ◌≡◌, ◌≢◌, [], ◌∙◌, sym, length, true, false}
 use Rattle.std.proofs.lemmas.Bool.{eqb-true}
 use Rattle.neli_msg.specs.laws.Cuts.{drop_whole, empty_is}
 use Rattle.neli_lent.proofs.Walks.{messages-end, messages-message, messages-fault}
