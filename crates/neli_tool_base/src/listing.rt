@@ -3,6 +3,7 @@
 ghost use Rattle.std.specs.Prelude.{⊤, ◌≡◌, ◌≢◌, ◌++◌, List, ℕ, Ok, Some, IfOk, IfErr, OnOk, OnErr};
 ghost use Rattle.std.specs.Io.KnownBytes.{Appends};
 ghost use Rattle.neli_wire.specs.Frames.{frame_at};
+ghost use Rattle.neli_wire.specs.Place.{whole};
 ghost use Rattle.neli_wire.specs.Refusals.{Refuses};
 ghost use Rattle.neli_msg.specs.Agreement.{untyped_layout};
 ghost use Rattle.neli_lent.specs.Messages.{as_owned, message_said};
@@ -71,6 +72,7 @@ fn line_of(alloc: Global, message: &LentMessage<'_, u16>) -> Result<Line, DeErro
 fn read_owned_line(alloc: Global, cursor: &mut Cursor<'_>) -> Result<Line, DeError>
     ensures value { IfOk result (λ l. BeginsWith cursor.old.rest l cursor.new.rest) }
     ensures refused { IfErr result (Refuses (frame_at untyped_layout cursor.old.rest) ⊤) }
+    ensures moved { OnOk result (whole cursor.new ≡ whole cursor.old) }
     ensures unchanged { OnErr result (cursor.new ≡ cursor.old) }
 {
     let message: RawMessage = Nlmsghdr::from_bytes(alloc, cursor)?;
@@ -83,6 +85,7 @@ fn read_owned_line(alloc: Global, cursor: &mut Cursor<'_>) -> Result<Line, DeErr
 pub fn read_line(alloc: Global, cursor: &mut Cursor<'_>) -> Result<Line, DeError>
     ensures value { IfOk result (λ l. BeginsWith cursor.old.rest l cursor.new.rest) }
     ensures refused { IfErr result (Refuses (frame_at untyped_layout cursor.old.rest) ⊤) }
+    ensures moved { OnOk result (whole cursor.new ≡ whole cursor.old) }
     ensures unchanged { OnErr result (cursor.new ≡ cursor.old) }
 {
     let mut ahead = cursor.ahead();
