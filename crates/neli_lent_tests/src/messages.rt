@@ -38,6 +38,18 @@ fn a_message_of_a_header_alone(rt: HostRuntime) {
     assert_is_at(&rt, "payload", last.nl_payload(), &[]);
 }
 
+// Types 2 (an error or an acknowledgement) and 3 (the end of a dump) have more in their payload than a body.
+#[test]
+fn a_body_is_plain_by_its_type(rt: HostRuntime) {
+    let rows: [(u16, bool); 5] = [(1, true), (2, false), (3, false), (4, true), (1024, true)];
+    for (number, want) in rows {
+        let [low, high] = number.to_le_bytes();
+        let bytes = [16, 0, 0, 0, low, high, 0, 0, 0, 0, 0, 0, 0, 0, 0, 0];
+        let plain = message::<u16>(&rt, &bytes).has_plain_body();
+        assert_is_at(&rt, "plain", (number, plain), (number, want));
+    }
+}
+
 #[test]
 fn a_refused_message_leaves_the_cursor(rt: HostRuntime) {
     let rows: [(&str, &[u8], Fault); 4] = [
