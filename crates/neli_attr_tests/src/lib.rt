@@ -3,6 +3,7 @@
 //! - [`attributes`], [`type_fields`], [`buffers`]: what single values are written as, and what is read.
 //! - [`builders`]: what builders answer. [`lists`], [`lookup`], [`nesting`]: lists of attributes.
 //! - [`recorded_routes`]: attributes of datagrams that were recorded, against what other libraries read there.
+//! - [`laws`]: the laws, called.
 //! - [`out_of_memory`]: each call where an allocation is refused.
 //! - [`support`]: what the tests share.
 //!
@@ -15,6 +16,8 @@ mod attributes;
 mod buffers;
 #[cfg(test)]
 mod builders;
+#[cfg(test)]
+mod laws;
 #[cfg(test)]
 mod lists;
 #[cfg(test)]

@@ -1,5 +1,5 @@
 //! Tests of `neli_replay`, a file a subject. They call `replay` over readers and writers of their own; [`answers`]
-//! and [`conversations`] over both stores of deliveries.
+//! and [`conversations`] over both stores of deliveries. [`laws`] calls the laws.
 //!
 //! RFC 3549 section 2.3.2 and `struct nlmsghdr` of linux/netlink.h give the layout of what is sent and comes;
 //! the lines are the program's own, written out by hand.
@@ -11,6 +11,8 @@ mod answers;
 mod bad_lines;
 #[cfg(test)]
 mod conversations;
+#[cfg(test)]
+mod laws;
 #[cfg(test)]
 mod out_of_memory;
 #[cfg(test)]

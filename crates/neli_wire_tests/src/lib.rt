@@ -5,6 +5,7 @@
 //! - [`errors`]: what refusals are made of. [`printed`]: what every error prints, those of builders and of
 //!   the reader of messages too.
 //! - [`own_types`]: a user's own types, those of `example_body`.
+//! - [`laws`]: the laws, called.
 //! - [`out_of_memory`]: what each call answers where an allocation is refused.
 //!
 //! Numbers are in two's complement, the lowest byte first. Expected bytes are worked out by hand from that,
@@ -17,6 +18,8 @@ mod cursor;
 mod errors;
 #[cfg(test)]
 mod frames;
+#[cfg(test)]
+mod laws;
 #[cfg(test)]
 mod lists;
 #[cfg(test)]

@@ -1,0 +1,19 @@
+//! The laws, called: they do nothing when they run.
+
+use neli::attr::laws::{
+    built_generic_attribute_reads_back, built_routing_attribute_reads_back, list_is_its_frames,
+    nested_attribute_comes_last,
+};
+use neli::consts::genl::CtrlAttr;
+use neli::consts::rtnl::{Ifla, Rta};
+use neli::genl::AttrType;
+use neli::types::Buffer;
+
+#[test]
+fn laws_are_called() {
+    list_is_its_frames::<Rta, Buffer>();
+    list_is_its_frames::<AttrType<CtrlAttr>, Buffer>();
+    built_generic_attribute_reads_back::<CtrlAttr, u32>();
+    built_routing_attribute_reads_back::<Rta, Buffer>();
+    nested_attribute_comes_last::<Ifla, Ifla, Buffer>();
+}

@@ -1,0 +1,9 @@
+//! The laws, called: they do nothing when they run.
+
+use neli_replay::laws::{has_good_lines, names_the_first_bad_line};
+
+#[test]
+fn laws_are_called() {
+    has_good_lines();
+    names_the_first_bad_line();
+}

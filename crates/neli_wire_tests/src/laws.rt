@@ -1,0 +1,11 @@
+//! The laws, called: they do nothing when they run.
+
+use neli::consts::nl::Nlmsg;
+use neli::laws::{bytes_of_number, constant_is_read_back, list_is_its_elements};
+
+#[test]
+fn laws_are_called() {
+    bytes_of_number();
+    constant_is_read_back::<Nlmsg>();
+    list_is_its_elements::<u16>();
+}
