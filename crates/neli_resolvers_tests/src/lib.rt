@@ -1,6 +1,6 @@
 //! Tests of the resolvers by the paths of `neli`.
 //!
-//! - [`refused`]: what is not found. [`lists`]: lists of several items.
+//! - [`refused`]: what is not found. [`lists`]: lists of one item, and of several.
 //!   [`out_of_memory`]: what the calls answer where an allocation is refused.
 //!   [`support`]: what the tests share.
 //!

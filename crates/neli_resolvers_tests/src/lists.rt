@@ -1,4 +1,4 @@
-//! Lists of several items.
+//! Lists of one item, and of several.
 
 use crate::support::{ACK, Cause, NLCTRL, NUMBER, assert_is, assert_is_at, assert_refused, items};
 use neli::err::RouterError;
@@ -35,6 +35,17 @@ const NAMELESS: [u8; 44] = [
     0x10, 0, 7, 0x80, 0x0c, 0, 1, 0x80, // McastGroups and its group 1
     8, 0, 2, 0, 5, 0, 0, 0, // Id 5
 ];
+
+#[test]
+fn one_answer_tells_a_group_and_its_names(rt: HostRuntime) -> Result<(), Fail> {
+    let alloc = rt.alloc();
+    let found = resolve_nl_mcast_group(alloc, "nlctrl", "notify", items(alloc, &[&NLCTRL])?)?;
+    assert_is(&rt, found, 5);
+    let (family, group) = lookup_id(alloc, 5, items(alloc, &[&NLCTRL])?)?;
+    assert_is(&rt, family.as_str(), "nlctrl");
+    assert_is(&rt, group.as_str(), "notify");
+    Ok(())
+}
 
 #[test]
 fn the_last_number_of_a_family_wins(rt: HostRuntime) -> Result<(), Fail> {
