@@ -1,5 +1,6 @@
 //! Who gets what of a datagram.
 
+use crate::entries::{ONE, THREE};
 use crate::script::Step::{Close, Come, Read, Send};
 use crate::script::Told::{Done, End, Message, NoHandle, Sent, Short, Stray, Waits};
 use crate::script::{Step, Told, play};
@@ -15,7 +16,7 @@ const ZERO: &str = "10000000100000000000000000000000";
 const PORT_5: &str = "10000000100000000000000005000000";
 
 /// Datagrams, and what is read of multicast and of the handles of numbers 0 and 1.
-const SCRIPTS: [(&str, &[(Step, Told)]); 8] = [
+const SCRIPTS: [(&str, &[(Step, Told)]); 10] = [
     (
         "an empty datagram",
         &[
@@ -114,6 +115,32 @@ const SCRIPTS: [(&str, &[(Step, Told)]); 8] = [
             (Come(ZERO, 0x8000_0000), Done),
             (Read(1), Waits),
             (Read(0), NoHandle),
+        ],
+    ),
+    (
+        "a message for each of two handles, and one that is for none",
+        &[
+            (Send(16, 0, ""), Sent(0, 0)),
+            (Send(16, 0, ""), Sent(1, 0)),
+            (Come(THREE, 0), Done),
+            (Read(1), Message(16, 0, 0)),
+            (Read(1), Stray(9, 0)),
+            (Read(2), Message(16, 1, 0)),
+            (Read(2), Stray(9, 0)),
+            (Read(1), End),
+            (Read(2), End),
+            (Read(0), Waits),
+        ],
+    ),
+    (
+        "news that waits while multicast is closed",
+        &[
+            (Send(16, 0, ""), Sent(0, 0)),
+            (Come(ONE, 1), Done),
+            (Close(0), Done),
+            (Come(ONE, 1), Done),
+            (Read(0), NoHandle),
+            (Read(1), Waits),
         ],
     ),
 ];

@@ -1,4 +1,5 @@
-//! What the shared store keeps after each step: entries, and bytes of datagrams.
+//! What the shared store keeps after each step: entries, and bytes of datagrams. That both stores answer these steps
+//! alike is tested in [`crate::datagrams`].
 
 use crate::handles::{read, send};
 use crate::script::{Told, bytes_of};

@@ -1,7 +1,7 @@
 //! Tests of the router by the paths of `neli`, over both stores: plain lists and the shared log.
 //!
-//! - [`script`]: a list of steps with what each of them answers, played by one run over each store. The other
-//!   files are tables of scripts.
+//! - [`script`]: a list of steps with what each of them answers, played over each store by one run, and by the
+//!   router's own calls, as [`steps`] makes them. The other files are tables of scripts.
 //! - [`numbers`]: requests as bytes, and which number each has. [`answers`]: where a handle's answers end.
 //! - [`datagrams`]: who gets what of a datagram. [`faults`]: faults of the link.
 //! - [`handles`]: handles that another router made, and closed ones. [`many`]: thousands of requests.
@@ -9,6 +9,7 @@
 //! - [`recorded`]: conversations with a kernel.
 //! - [`random`]: scripts that a generator makes, over both stores. [`entries`]: what the log keeps.
 //! - [`out_of_memory`]: each allocation refused in turn. [`refusing`]: a store that is always refused.
+//! - [`laws`]: the laws of runs, called.
 //!
 //! Expected values are worked out by hand from RFC 3549 section 2.3.2 and the headers of Linux; those of
 //! the recorded conversations are what libmnl reads in them.
@@ -25,6 +26,8 @@ mod faults;
 #[cfg(test)]
 mod handles;
 #[cfg(test)]
+mod laws;
+#[cfg(test)]
 mod many;
 #[cfg(test)]
 mod numbers;
@@ -40,3 +43,5 @@ mod refusing;
 mod requests;
 #[cfg(test)]
 mod script;
+#[cfg(test)]
+mod steps;

@@ -1,5 +1,6 @@
 //! Requests to the controller of generic netlink, and what comes of its answers.
 
+use crate::handles::send;
 use crate::script::bytes_of;
 use neli::consts::genl::{CtrlAttr, CtrlCmd};
 use neli::consts::nl::GenlId;
@@ -114,13 +115,12 @@ fn is_ack(item: &CtrlItem) -> bool {
     }
 }
 
-#[test]
-fn requests_are_these_bytes(rt: HostRuntime) {
-    let alloc = rt.alloc();
-    let (mut router, _multicast) = NlRouter::<Queues>::new(alloc, 0);
+/// Asks for the family `nlctrl`, which the kernel is to acknowledge, and in another router for all families.
+fn ask<D: Deliveries + Drop>(rt: &impl Abort, alloc: Global) {
+    let (mut router, _multicast) = NlRouter::<D>::new(alloc, 0);
     let (bytes, handle) = router
         .request_genl_family(alloc, "nlctrl")
-        .expect(&rt, "bytes to be sent");
+        .expect(rt, "bytes to be sent");
     assert_eq!(rt; bytes.as_slice(), FAMILY.as_slice());
     let asking = HandleState {
         number: Some(0),
@@ -129,16 +129,22 @@ fn requests_are_these_bytes(rt: HostRuntime) {
         ended: false,
     };
     assert_eq!(rt; handle.state(), asking);
-    let (mut router, _multicast) = NlRouter::<Queues>::new(alloc, 0);
+    let (mut router, _multicast) = NlRouter::<D>::new(alloc, 0);
     let (bytes, handle) = router
         .request_families(alloc)
-        .expect(&rt, "bytes to be sent");
+        .expect(rt, "bytes to be sent");
     assert_eq!(rt; bytes.as_slice(), FAMILIES.as_slice());
     let dumping = HandleState {
         needs_ack: false,
         ..asking
     };
     assert_eq!(rt; handle.state(), dumping);
+}
+
+#[test]
+fn requests_are_these_bytes(rt: HostRuntime) {
+    ask::<Queues>(&rt, rt.alloc());
+    ask::<Log>(&rt, rt.alloc());
 }
 
 #[test]
@@ -216,6 +222,26 @@ fn a_family_is_found_in_one_datagram(rt: HostRuntime) {
     assert_eq!(rt; both.len(), 128);
     find::<Queues>(&rt, alloc, &[&both]);
     find::<Log>(&rt, alloc, &[&both]);
+}
+
+/// Sends a request whose answers are meant to be bytes, and reads its answer as the controller's.
+fn retype<D: Deliveries + Drop>(rt: &impl Abort, alloc: Global) {
+    let (mut router, _multicast) = NlRouter::<D>::new(alloc, 0);
+    let of_bytes = send(rt, alloc, &mut router);
+    let state = of_bytes.state();
+    come(rt, alloc, &mut router, NUMBER);
+    let mut handle: Handle = of_bytes.retyped();
+    assert_eq!(rt; handle.state(), state);
+    let list = items(rt, alloc, &mut router, &mut handle);
+    assert_eq!(rt; list.len(), 1);
+    let found = resolve_genl_family(alloc, "nlctrl", list);
+    assert_eq!(rt; found.expect(rt, "a number"), 16);
+}
+
+#[test]
+fn a_retyped_handle_reads_its_answers_typed(rt: HostRuntime) {
+    retype::<Queues>(&rt, rt.alloc());
+    retype::<Log>(&rt, rt.alloc());
 }
 
 /// Asks for all families, which a datagram answers: the families 16 and 17, and the end of the dump.

@@ -1,5 +1,6 @@
-//! Scripts: steps and what each of them answers.
+//! Scripts: steps and what each of them answers, by a run and by calls.
 
+use crate::steps::called;
 use neli::consts::nl::NlmF;
 use neli::err::{DeError, RouterError, SocketError};
 use neli::nl::{NlPayload, Nlmsghdr};
@@ -216,12 +217,29 @@ fn assert_told(rt: &impl Abort, row: &str, came: &[Came], steps: &[(Step, Told)]
     }
 }
 
-/// Does these steps with a new router of this port, over each store, and asserts that each answers what stands
-/// beside it, and that the outcomes over both are equal.
+/// Does these steps by the router's own calls over this store. Asserts that each answers what stands beside it, and
+/// that the outcomes are equal to those of a run.
+fn play_by_calls<D: Deliveries + Drop>(
+    rt: &impl Abort,
+    alloc: Global,
+    row: &str,
+    port: u32,
+    steps: &[(Step, Told)],
+    of_run: &[Came],
+) {
+    let came = called::<D>(rt, alloc, port, steps);
+    assert_told(rt, row, &came, steps);
+    assert_alike(rt, alloc, row, of_run, &came);
+}
+
+/// Does these steps with a new router of this port, over each store: by one run, and by the router's own calls.
+/// Asserts that each answers what stands beside it, and that all four have equal outcomes.
 pub fn play(rt: &impl Abort, alloc: Global, row: &str, port: u32, steps: &[(Step, Told)]) {
     let plain = outcomes::<Queues>(rt, alloc, port, steps);
     assert_told(rt, row, &plain, steps);
     let shared = outcomes::<Log>(rt, alloc, port, steps);
     assert_told(rt, row, &shared, steps);
     assert_alike(rt, alloc, row, &plain, &shared);
+    play_by_calls::<Queues>(rt, alloc, row, port, steps, &plain);
+    play_by_calls::<Log>(rt, alloc, row, port, steps, &plain);
 }

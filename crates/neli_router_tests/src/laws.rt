@@ -1,0 +1,17 @@
+//! The laws, called: they do nothing when they run.
+
+use neli::router::synchronous::laws::{
+    answers_only_grow, cuts_join, deliveries_only_grow, reads_of_others_change_nothing,
+    regrouping_leaves_deliveries, regrouping_leaves_outcomes,
+};
+use neli::types::Buffer;
+
+#[test]
+fn laws_are_called() {
+    answers_only_grow::<u16, Buffer>();
+    deliveries_only_grow::<u16, Buffer, u16, Buffer>();
+    reads_of_others_change_nothing::<u16, Buffer, u16, Buffer>();
+    cuts_join::<u16, Buffer>();
+    regrouping_leaves_deliveries::<u16, Buffer, u16, Buffer>();
+    regrouping_leaves_outcomes::<u16, Buffer, u16, Buffer>();
+}
