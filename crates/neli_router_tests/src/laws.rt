@@ -2,7 +2,7 @@
 
 use neli::router::synchronous::laws::{
     answers_only_grow, cuts_join, deliveries_only_grow, reads_of_others_change_nothing,
-    regrouping_leaves_deliveries, regrouping_leaves_outcomes,
+    reads_of_others_leave_outcomes, regrouping_leaves_deliveries, regrouping_leaves_outcomes,
 };
 use neli::types::Buffer;
 
@@ -11,6 +11,7 @@ fn laws_are_called() {
     answers_only_grow::<u16, Buffer>();
     deliveries_only_grow::<u16, Buffer, u16, Buffer>();
     reads_of_others_change_nothing::<u16, Buffer, u16, Buffer>();
+    reads_of_others_leave_outcomes::<u16, Buffer, u16, Buffer>();
     cuts_join::<u16, Buffer>();
     regrouping_leaves_deliveries::<u16, Buffer, u16, Buffer>();
     regrouping_leaves_outcomes::<u16, Buffer, u16, Buffer>();
