@@ -15,61 +15,61 @@ use std::fmt;
 /// The builders, by the type that they make. A number tells a builder's errors from those of the
 /// others; a builder outside these crates takes one from 128 on. 5 is not used.
 pub mod of {
-    /// Of `AttrType`.
+    /// The number of the builder of `AttrType`.
     pub const ATTR_TYPE: u8 = 0;
 
-    /// Of `Nlattr`.
+    /// The number of the builder of `Nlattr`.
     pub const NLATTR: u8 = 1;
 
-    /// Of `Rtattr`.
+    /// The number of the builder of `Rtattr`.
     pub const RTATTR: u8 = 2;
 
-    /// Of `Genlmsghdr`.
+    /// The number of the builder of `Genlmsghdr`.
     pub const GENLMSGHDR: u8 = 3;
 
-    /// Of `CnMsg`.
+    /// The number of the builder of `CnMsg`.
     pub const CN_MSG: u8 = 4;
 
-    /// Of `Ifinfomsg`.
+    /// The number of the builder of `Ifinfomsg`.
     pub const IFINFOMSG: u8 = 6;
 
-    /// Of `Ifaddrmsg`.
+    /// The number of the builder of `Ifaddrmsg`.
     pub const IFADDRMSG: u8 = 7;
 
-    /// Of `Ndmsg`.
+    /// The number of the builder of `Ndmsg`.
     pub const NDMSG: u8 = 8;
 
-    /// Of `NdaCacheinfo`.
+    /// The number of the builder of `NdaCacheinfo`.
     pub const NDA_CACHEINFO: u8 = 9;
 
-    /// Of `IflaVlanFlags`.
+    /// The number of the builder of `IflaVlanFlags`.
     pub const IFLA_VLAN_FLAGS: u8 = 10;
 
-    /// Of `IflaVlanQosMapping`.
+    /// The number of the builder of `IflaVlanQosMapping`.
     pub const IFLA_VLAN_QOS_MAPPING: u8 = 11;
 
-    /// Of `Rtgenmsg`.
+    /// The number of the builder of `Rtgenmsg`.
     pub const RTGENMSG: u8 = 12;
 
-    /// Of `Rtmsg`.
+    /// The number of the builder of `Rtmsg`.
     pub const RTMSG: u8 = 13;
 
-    /// Of `Tcmsg`.
+    /// The number of the builder of `Tcmsg`.
     pub const TCMSG: u8 = 14;
 
-    /// Of `Fibmsg`.
+    /// The number of the builder of `Fibmsg`.
     pub const FIBMSG: u8 = 15;
 
-    /// Of `NlmsghdrAck`.
+    /// The number of the builder of `NlmsghdrAck`.
     pub const NLMSGHDR_ACK: u8 = 16;
 
-    /// Of `NlmsghdrErr`.
+    /// The number of the builder of `NlmsghdrErr`.
     pub const NLMSGHDR_ERR: u8 = 17;
 
-    /// Of `Nlmsgerr`.
+    /// The number of the builder of `Nlmsgerr`.
     pub const NLMSGERR: u8 = 18;
 
-    /// Of `Nlmsghdr`.
+    /// The number of the builder of `Nlmsghdr`.
     pub const NLMSGHDR: u8 = 19;
 }
 

@@ -124,7 +124,8 @@ impl<'b, K: Constant<Number = u16>> LentAttrs<'b, K> {
 impl<'b, K: Constant<Number = u16>> Iterator for LentAttrs<'b, K> {
     type Item = Result<LentAttr<'b, K>, DeError>;
 
-    ghost next_gives = { YieldsFirstBy (map_ok attribute_said) (λ place. items_of (attributes_at K.wire_value place)) };
+    ghost next_gives = { YieldsFirstBy (map_ok attribute_said)
+        (λ place. items_of (attributes_at K.wire_value place)) };
 
     ghost remaining = { item_count (λ place. items_of (attributes_at K.wire_value place)) };
 

@@ -4,7 +4,7 @@
 //!
 //! A datagram's bytes are copied once, and a message is a span of them. An entry of the log is such a span or a
 //! fault, with the route that was decided when it came; each open number, and multicast until it is closed, has a
-//! place among the entries. Here three handles wait for what came in two datagrams:
+//! place among the entries. Here two datagrams came; 4 waits for three entries, 6 for two and 5 for none:
 //!
 //! ```text
 //!  datagrams       0: 48 bytes                    1: 16 bytes

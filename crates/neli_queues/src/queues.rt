@@ -55,7 +55,8 @@ impl Queues {
         groups: &Groups,
     ) -> Result<(LinkedList<Delivery>, Vec<Piece>), NoMemory>
         ensures { IfOk result (λ r. AreDue self.now (λ w. received (kept_port self.now)
-            (is_open self.now.numbers) w (cut_of untyped_layout bytes.now) groups.now) r.0 r.1.items) }
+            (is_open self.now.numbers) w (cut_of untyped_layout bytes.now) groups.now)
+            r.0 r.1.items) }
     {
         let (messages, fault) = cut(self.alloc, bytes)?;
         let mut pieces = Vec::new(self.alloc);

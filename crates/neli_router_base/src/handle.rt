@@ -45,7 +45,7 @@ impl<T, P> NlRouterReceiverHandle<T, P> {
         }
     }
 
-    /// What is known of it.
+    /// Its number, and how far its answers have come.
     pub fn state(&self) -> HandleState
         ensures { result ≡ self.now }
     {

@@ -80,8 +80,8 @@ impl<D: Deliveries> NlRouter<D> {
     }
 
     /// A request of this type, with these flags and REQUEST, as bytes to be sent, and the handle
-    /// for its replies. Its sequence number is one more than that of the request before it, modulo
-    /// 2^32.
+    /// for its replies. The sequence number of the first is 0, or what `set_next_seq` has set; it grows
+    /// by one with each request that is sent, modulo 2^32.
     ///
     /// Refused, in this order, as `SeqInUse` where the number belongs to a handle that is not
     /// closed; as `Msg` where the length passes 32 bits; as `Socket(Ser)` where the payload is not

@@ -58,6 +58,7 @@ pub trait WireNumber: Copy + Debug {
 
 /// A value that is written as one number, and read as what that number means.
 pub trait Constant: Copy + Debug {
+    /// The integer that it is written as.
     type Number: WireNumber;
 
     // The number that a value is written as.

@@ -35,7 +35,7 @@ pub trait Size {
     // The length of the whole wire bytes.
     ghost wire_length: { Self → ℕ };
 
-    /// The number of bytes of the value, in bytes, without padding at its end.
+    /// The number of bytes of the value, without padding at its end.
     fn unpadded_size(&self) -> usize
         ensures { result ≡ min (unpadded_length self.now) usize.MAX };
 
@@ -51,6 +51,6 @@ pub trait Size {
     fn written_size(&self) -> usize
         ensures { result ≡ min (wire_length self.now) usize.MAX };
 
-    // The whole text is the one without padding, or as long as that rounded up to four.
+    // The wire bytes are as many as without padding, or that rounded up to four.
     ghost rounded: { (v : Self) → IsRounded (unpadded_length v) (wire_length v) };
 }
