@@ -7,66 +7,137 @@ use neli_tool_base::line::{Ending, Line, RawMessage};
 use neli_tool_base::listing::{list, read_line, write_ending, write_lines};
 use neli_tool_base::status::Status;
 use neli_wire::Cursor;
+use std::alloc::Global;
+use std::process::Abort;
 
 /// A message of type 1024 with the payload `61`, and three padding bytes of any value.
 const ONE: &str = "1100000000040000000000000000000061ffffff";
 
 const ONE_LINE: &str = "type 1024 flags 0x0000 number 0 port 0 payload 1\n";
 
+/// Datagrams, what is printed of them, and how that ends.
+const DATAGRAMS: [(&str, &str, &str, Status); 9] = [
+    ("nothing", "", "", Status::Whole),
+    ("a payload of one byte", ONE, ONE_LINE, Status::Whole),
+    (
+        "flags without a name, and a second message",
+        "10000000100002f005000000070000001100000000040000000000000000000061ffffff",
+        "type 16 flags 0xf002 number 5 port 7 payload 0\n\
+            type 1024 flags 0x0000 number 0 port 0 payload 1\n",
+        Status::Whole,
+    ),
+    (
+        "five zeros after a message",
+        "1100000000040000000000000000000061ffffff0000000000",
+        "type 1024 flags 0x0000 number 0 port 0 payload 1\nfault: short\n",
+        Status::Fault,
+    ),
+    (
+        "15 bytes",
+        "110000000004000000000000000000",
+        "fault: short\n",
+        Status::Fault,
+    ),
+    (
+        "a length below the header",
+        "0f000000000400000000000000000000",
+        "fault: input 15\n",
+        Status::Fault,
+    ),
+    (
+        "a length past the bytes",
+        "ffffffff000400000000000000000000000000ff",
+        "fault: input 4294967279\n",
+        Status::Fault,
+    ),
+    (
+        "an end of a dump whose attribute has a length of 3, and no padding",
+        "19000000030002000000000000000000000000000300010000",
+        "fault: input 3\n",
+        Status::Fault,
+    ),
+    (
+        "padding missing",
+        "1100000000040000000000000000000061",
+        "fault: short\n",
+        Status::Fault,
+    ),
+];
+
+/// Errors, acknowledgements and ends of dumps.
+const ANSWERS: [(&str, &str, &str, Status); 7] = [
+    (
+        "an error with an echo of five bytes and an attribute",
+        "34000000020000020000000000000000eaffffff1500000000040500000000000000000061626364\
+            650000000800010062616400",
+        "type 2 flags 0x0200 number 0 port 0 error -22 attributes 1\n",
+        Status::Whole,
+    ),
+    (
+        "an acknowledgement",
+        "240000000200000100000000000000000000000020000000100005000000000000000000",
+        "type 2 flags 0x0100 number 0 port 0 ack\n",
+        Status::Whole,
+    ),
+    (
+        "an acknowledgement, and bytes after the header that it answers",
+        "28000000020000000000000000000000000000001000000010000500000000000000000001020304",
+        "type 2 flags 0x0000 number 0 port 0 ack\n",
+        Status::Whole,
+    ),
+    (
+        "the end of a dump",
+        "1400000003000200000000000000000000000000",
+        "type 3 flags 0x0002 number 0 port 0 done 0 attributes 0\n",
+        Status::Whole,
+    ),
+    (
+        "an end without a code",
+        "10000000030000000000000000000000",
+        "type 3 flags 0x0000 number 0 port 0 empty\n",
+        Status::Whole,
+    ),
+    (
+        "an end of a dump with two bytes of a code",
+        "1200000003000200000000000000000000000000",
+        "fault: input 2\n",
+        Status::Fault,
+    ),
+    (
+        "an error with a code alone",
+        "1400000002000000000000000000000000000000",
+        "fault: input 4\n",
+        Status::Fault,
+    ),
+];
+
+/// Asserts that this is printed of the datagram, and that the listing ends so.
+fn assert_listed(
+    rt: &impl Abort,
+    alloc: Global,
+    row: &str,
+    datagram: &str,
+    text: &str,
+    want: Status,
+) {
+    let bytes = decoded(rt, alloc, datagram);
+    let mut output = Vec::new(alloc);
+    let status = list(alloc, &mut bytes.as_slice(), &mut output);
+    assert_is_at(rt, row, output.as_slice(), text.as_bytes());
+    assert_is_at(rt, row, status, want);
+}
+
 #[test]
 fn datagrams_are_listed(rt: HostRuntime) {
-    let rows = [
-        ("nothing", "", "", Status::Whole),
-        ("a payload of one byte", ONE, ONE_LINE, Status::Whole),
-        (
-            "flags without a name, and a second message",
-            "10000000100002f005000000070000001100000000040000000000000000000061ffffff",
-            "type 16 flags 0xf002 number 5 port 7 payload 0\ntype 1024 flags 0x0000 number 0 port 0 payload 1\n",
-            Status::Whole,
-        ),
-        (
-            "five zeros after a message",
-            "1100000000040000000000000000000061ffffff0000000000",
-            "type 1024 flags 0x0000 number 0 port 0 payload 1\nfault: short\n",
-            Status::Fault,
-        ),
-        (
-            "15 bytes",
-            "110000000004000000000000000000",
-            "fault: short\n",
-            Status::Fault,
-        ),
-        (
-            "a length below the header",
-            "0f000000000400000000000000000000",
-            "fault: input 15\n",
-            Status::Fault,
-        ),
-        (
-            "a length past the bytes",
-            "ffffffff000400000000000000000000000000ff",
-            "fault: input 4294967279\n",
-            Status::Fault,
-        ),
-        (
-            "an end of a dump whose attribute has a length of 3, and no padding",
-            "19000000030002000000000000000000000000000300010000",
-            "fault: input 3\n",
-            Status::Fault,
-        ),
-        (
-            "padding missing",
-            "1100000000040000000000000000000061",
-            "fault: short\n",
-            Status::Fault,
-        ),
-    ];
-    for (row, datagram, text, want) in rows {
-        let bytes = decoded(&rt, rt.alloc(), datagram);
-        let mut output = Vec::new(rt.alloc());
-        let status = list(rt.alloc(), &mut bytes.as_slice(), &mut output);
-        assert_is_at(&rt, row, output.as_slice(), text.as_bytes());
-        assert_is_at(&rt, row, status, want);
+    for (row, datagram, text, want) in DATAGRAMS {
+        assert_listed(&rt, rt.alloc(), row, datagram, text, want);
+    }
+}
+
+#[test]
+fn answers_are_listed(rt: HostRuntime) {
+    for (row, datagram, text, want) in ANSWERS {
+        assert_listed(&rt, rt.alloc(), row, datagram, text, want);
     }
 }
 

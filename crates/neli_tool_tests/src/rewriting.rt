@@ -8,58 +8,101 @@ use neli_tool_base::status::Status;
 use std::alloc::Global;
 use std::process::Abort;
 
+/// Datagrams with padding of any value: what each is, what is read, and what is written.
+const PADDED: [(&str, &str, &str); 4] = [
+    (
+        "padding after a payload of one byte",
+        "1100000000040000000000000000000061ffffff",
+        "1100000000040000000000000000000061000000",
+    ),
+    (
+        "padding after the echo",
+        "34000000020000020000000000000000eaffffff1500000000040500000000000000000061626364\
+            65ffffff0800010062616400",
+        "34000000020000020000000000000000eaffffff1500000000040500000000000000000061626364\
+            650000000800010062616400",
+    ),
+    (
+        "padding after an echo at the end, of which one byte is in the message",
+        "2a000000020000000000000000000000eaffffff1500000000040500000000000000000061626364\
+            65ffffff",
+        "2a000000020000000000000000000000eaffffff1500000000040500000000000000000061626364\
+            65000000",
+    ),
+    (
+        "padding after an attribute of the end of a dump",
+        "1c000000030002000000000000000000000000000500010061ffffff",
+        "1c000000030002000000000000000000000000000500010061000000",
+    ),
+];
+
+/// Datagrams without padding: their lengths are multiples of four, and what a payload holds is its own.
+const UNPADDED: [(&str, &str); 10] = [
+    ("nothing", ""),
+    (
+        "what would be padding of an attribute, in a payload",
+        "1c000000100002000000000000000000000000000500010061ffffff",
+    ),
+    (
+        "an acknowledgement, and a message of its header alone",
+        "24000000020000010000000000000000000000002000000010000500000000000000000010000000\
+            030000000000000000000000",
+    ),
+    (
+        "a request for a family by its name",
+        "20000000100005000000000000000000030200000b0002006e6c6374726c0000",
+    ),
+    (
+        "a reply with the family's number",
+        "1c000000100000000000000000000000010200000600010010000000",
+    ),
+    (
+        "two messages of a dump, and its end",
+        "10000000100002000000000000000000100000001000020000000000000000001400000003000200\
+            000000000000000000000000",
+    ),
+    (
+        "two messages of a dump, and an end with a code",
+        "10000000100002000000000000000000100000001000020000000000000000001400000003000200\
+            0000000000000000eaffffff",
+    ),
+    (
+        "a body of five bytes, whose length counts three zeros",
+        "180000000004010000000000000000006162636465000000",
+    ),
+    (
+        "a message without a payload",
+        "10000000100000000000000000000000",
+    ),
+    (
+        "a message of another type without a payload",
+        "10000000000400000000000000000000",
+    ),
+];
+
+/// Asserts that this is written of the datagram, which is listed as what is written is.
+fn assert_rewritten(rt: &impl Abort, alloc: Global, row: &str, datagram: &str, want: &str) {
+    let bytes = decoded(rt, alloc, datagram);
+    let want = decoded(rt, alloc, want);
+    let mut output = Vec::new(alloc);
+    let status = list_zero(alloc, &mut bytes.as_slice(), &mut output);
+    assert_is_at(rt, row, status, Status::Whole);
+    assert_is_at(rt, row, output.as_slice(), want.as_slice());
+    assert_same_lines(rt, alloc, row, &bytes, &output);
+    assert_is_zeroed(rt, alloc, row, &output);
+}
+
 #[test]
 fn padding_is_written_as_zeros(rt: HostRuntime) {
-    let alloc = rt.alloc();
-    // What the datagram is, what is read, and what is written.
-    let rows = [
-        ("nothing", "", ""),
-        (
-            "padding after a payload of one byte",
-            "1100000000040000000000000000000061ffffff",
-            "1100000000040000000000000000000061000000",
-        ),
-        (
-            "padding after the echo",
-            "34000000020000020000000000000000eaffffff1500000000040500000000000000000061626364\
-                65ffffff0800010062616400",
-            "34000000020000020000000000000000eaffffff1500000000040500000000000000000061626364\
-                650000000800010062616400",
-        ),
-        (
-            "padding after an echo at the end, of which one byte is in the message",
-            "2a000000020000000000000000000000eaffffff1500000000040500000000000000000061626364\
-                65ffffff",
-            "2a000000020000000000000000000000eaffffff1500000000040500000000000000000061626364\
-                65000000",
-        ),
-        (
-            "padding after an attribute of the end of a dump",
-            "1c000000030002000000000000000000000000000500010061ffffff",
-            "1c000000030002000000000000000000000000000500010061000000",
-        ),
-        (
-            "the same bytes in a payload, which stay",
-            "1c000000100002000000000000000000000000000500010061ffffff",
-            "1c000000100002000000000000000000000000000500010061ffffff",
-        ),
-        (
-            "an acknowledgement, and a message of its header alone",
-            "24000000020000010000000000000000000000002000000010000500000000000000000010000000\
-                030000000000000000000000",
-            "24000000020000010000000000000000000000002000000010000500000000000000000010000000\
-                030000000000000000000000",
-        ),
-    ];
-    for (row, datagram, want) in rows {
-        let bytes = decoded(&rt, alloc, datagram);
-        let want = decoded(&rt, alloc, want);
-        let mut output = Vec::new(alloc);
-        let status = list_zero(alloc, &mut bytes.as_slice(), &mut output);
-        assert_is_at(&rt, row, status, Status::Whole);
-        assert_is_at(&rt, row, output.as_slice(), want.as_slice());
-        assert_same_lines(&rt, alloc, row, &bytes, &output);
-        assert_is_zeroed(&rt, alloc, row, &output);
+    for (row, datagram, want) in PADDED {
+        assert_rewritten(&rt, rt.alloc(), row, datagram, want);
+    }
+}
+
+#[test]
+fn what_is_no_padding_stays(rt: HostRuntime) {
+    for (row, datagram) in UNPADDED {
+        assert_rewritten(&rt, rt.alloc(), row, datagram, datagram);
     }
 }
 
