@@ -1,6 +1,7 @@
 //! Tests of messages by the paths of `neli`.
 //!
 //! - [`reading`]: one message and a whole datagram, and their refusals. [`kinds`]: the kinds of payload.
+//!   [`parts`]: headers, echoes and answers by themselves.
 //! - [`retyping`]: untyped messages as other types, and the calls that take a payload out or put one in.
 //!   [`typed_errors`]: a router's errors as ones of other types.
 //! - [`builders`]: what builders make, and what is written. [`printed`]: what errors print, and their
@@ -20,6 +21,8 @@ mod kinds;
 mod laws;
 #[cfg(test)]
 mod out_of_memory;
+#[cfg(test)]
+mod parts;
 #[cfg(test)]
 mod printed;
 #[cfg(test)]

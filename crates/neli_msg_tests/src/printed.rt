@@ -2,23 +2,24 @@
 
 use crate::support::{Cause, assert_is, assert_prints, cause_of, read_error};
 use neli::err::{
-    BuildError, BuilderError, DeError, MsgError, NoMemory, RouterError, SerError, SocketError, of,
+    BuildError, BuilderError, DeError, MsgError, NoMemory, RouterError, SerError, SocketError,
+    Utf8, of,
 };
 use neli::nl::NlPayload;
 use neli::types::Buffer;
 use std::alloc::{AllocError, AllocFailed, Global};
+use std::fmt::Display;
 use std::io;
 use std::io::ErrorKind;
 use std::process::Abort;
 
 type Error = RouterError<u16, Buffer>;
 
-/// Asserts that the error prints what begins so, and that its copy prints the same.
+/// Asserts that the error prints this, and its copy too.
 fn assert_link(rt: &impl Abort, alloc: Global, error: SocketError, want: &str) {
-    let text = error.to_string(alloc).expect(rt, "memory");
-    assert!(rt; text.as_str().starts_with(want), "{text} is not {want}");
+    assert_prints(rt, alloc, &error, want);
     let copy = error.try_clone().expect(rt, "memory");
-    assert_prints(rt, alloc, &copy, text.as_str());
+    assert_prints(rt, alloc, &copy, want);
 }
 
 #[test]
@@ -36,18 +37,30 @@ fn errors_of_a_link_print_their_cause(rt: HostRuntime) {
         SocketError::from(DeError::InvalidInput(15)),
         "Deserialization error: Invalid input was provided: 15",
     );
-    assert_link(
-        &rt,
-        alloc,
-        SocketError::from(DeError::Io(ErrorKind::UnexpectedEof)),
-        "Deserialization error: IO error: ",
-    );
-    assert_link(
-        &rt,
-        alloc,
-        SocketError::Io(ErrorKind::ConnectionReset),
-        "IO error: ",
-    );
+}
+
+/// The words of ours, and then what a cause prints by itself: no contract says what that is.
+fn words_and<C: Display>(rt: &impl Abort, alloc: Global, words: &str, cause: &C) -> String {
+    format!(in alloc; "{words}{cause}").expect(rt, "memory")
+}
+
+/// Kinds of failures of a link, an input or an output.
+const KINDS: [ErrorKind; 4] = [
+    ErrorKind::UnexpectedEof,
+    ErrorKind::WouldBlock,
+    ErrorKind::ConnectionReset,
+    ErrorKind::Other,
+];
+
+#[test]
+fn errors_of_a_link_print_a_failure(rt: HostRuntime) {
+    let alloc = rt.alloc();
+    for kind in &KINDS {
+        let text = words_and(&rt, alloc, "IO error: ", kind);
+        assert_link(&rt, alloc, SocketError::Io(*kind), &text);
+        let text = words_and(&rt, alloc, "Deserialization error: IO error: ", kind);
+        assert_link(&rt, alloc, SocketError::from(DeError::Io(*kind)), &text);
+    }
 }
 
 #[test]
@@ -79,18 +92,16 @@ fn errors_of_a_link_print_words(rt: HostRuntime) {
     );
 }
 
-/// Asserts that the error prints what begins so, and that its copy prints the same.
+/// Asserts that the error prints this, and its copy too.
 fn assert_router(rt: &impl Abort, alloc: Global, error: Error, want: &str) {
-    let text = error.to_string(alloc).expect(rt, "memory");
-    assert!(rt; text.as_str().starts_with(want), "{text} is not {want}");
+    assert_prints(rt, alloc, &error, want);
     let copy = error.try_clone().expect(rt, "memory");
-    assert_prints(rt, alloc, &copy, text.as_str());
+    assert_prints(rt, alloc, &copy, want);
 }
 
 #[test]
 fn errors_of_a_router_print_their_cause(rt: HostRuntime) {
     let alloc = rt.alloc();
-    assert_router(&rt, alloc, RouterError::Io(ErrorKind::Other), "IO error: ");
     assert_router(
         &rt,
         alloc,
@@ -103,6 +114,35 @@ fn errors_of_a_router_print_their_cause(rt: HostRuntime) {
         RouterError::from(SocketError::De(DeError::InvalidInput(15))),
         "Socket error: Deserialization error: Invalid input was provided: 15",
     );
+}
+
+#[test]
+fn errors_of_a_router_print_a_failure(rt: HostRuntime) {
+    let alloc = rt.alloc();
+    for kind in &KINDS {
+        let text = words_and(&rt, alloc, "IO error: ", kind);
+        assert_router(&rt, alloc, RouterError::Io(*kind), &text);
+        let text = words_and(&rt, alloc, "Deserialization failed: IO error: ", kind);
+        assert_router(&rt, alloc, RouterError::De(DeError::Io(*kind)), &text);
+        let text = words_and(&rt, alloc, "Socket error: IO error: ", kind);
+        assert_router(
+            &rt,
+            alloc,
+            RouterError::Socket(SocketError::Io(*kind)),
+            &text,
+        );
+    }
+}
+
+// The byte ff is in no text (RFC 3629 section 3).
+#[test]
+fn errors_of_a_router_print_where_a_text_ends(rt: HostRuntime) {
+    let alloc = rt.alloc();
+    let cause = str::from_utf8(b"abc\xff").err().expect(&rt, "no text");
+    let text = words_and(&rt, alloc, "Deserialization failed: UTF8 error: ", &cause);
+    for place in [Utf8::Str(cause), Utf8::String(cause)] {
+        assert_router(&rt, alloc, RouterError::De(DeError::Utf8(place)), &text);
+    }
 }
 
 #[test]

@@ -1,12 +1,15 @@
 //! One message, and a whole datagram.
 
-use crate::support::{Raw, assert_is, assert_is_at};
-use neli::consts::nl::{NlmF, Nlmsg};
+use crate::kinds::ERROR;
+use crate::support::{Raw, assert_is, assert_is_at, error_in};
+use neli::consts::nl::{NlmF, Nlmsg, NlmsgerrAttr};
 use neli::err::{DeError, SocketError};
 use neli::iter::{NlBufferIter, cut};
 use neli::nl::{NlPayload, Nlmsghdr};
 use neli::{Cursor, FromBytes, Header};
+use std::alloc::Global;
 use std::io::ErrorKind;
+use std::process::Abort;
 
 /// What reading answers where it refuses.
 #[derive(Clone, Copy, Debug, PartialEq, Eq)]
@@ -83,6 +86,104 @@ fn one_message_is_read_or_refused(rt: HostRuntime) {
         };
         assert_is_at(&rt, row, (got, place), (want, end));
     }
+}
+
+/// A request to the generic netlink controller: its command and one attribute, the name `nlctrl`.
+const REQUEST: [u8; 32] = [
+    32, 0, 0, 0, 16, 0, 5, 0, 0, 0, 0, 0, 0, 0, 0, 0, 3, 2, 0, 0, 11, 0, 2, 0, 0x6e, 0x6c, 0x63,
+    0x74, 0x72, 0x6c, 0, 0,
+];
+
+/// The refusal of a reader's item.
+fn fault_of(item: Option<Result<Raw, SocketError>>) -> Option<Refusal> {
+    match &item {
+        Some(Err(SocketError::De(error))) => Some(refusal_of(error)),
+        _ => None,
+    }
+}
+
+/// Asserts that the message is refused so, and that the cursor stays; a datagram of these bytes has this fault
+/// and nothing else.
+fn assert_refused(rt: &impl Abort, alloc: Global, bytes: &[u8], want: Refusal) {
+    let mut cursor = Cursor::new(bytes);
+    let read = Raw::from_bytes(alloc, &mut cursor).err();
+    let refusal = read.map(|error| refusal_of(&error));
+    assert_is_at(rt, bytes, (refusal, cursor.position()), (Some(want), 0));
+    let mut messages = NlBufferIter::new(bytes);
+    let fault = fault_of(messages.next(alloc));
+    let ended = messages.next(alloc).is_none();
+    assert_is_at(rt, bytes, (fault, ended), (Some(want), true));
+}
+
+// Of 52 bytes 36 are the payload: they are missed where the header is there.
+#[test]
+fn an_error_that_is_cut_is_refused(rt: HostRuntime) {
+    for k in 1..52 {
+        let want = if k < 16 {
+            Refusal::Short
+        } else {
+            Refusal::Input(36)
+        };
+        assert_refused(&rt, rt.alloc(), &ERROR[..k], want);
+    }
+}
+
+#[test]
+fn a_request_that_is_cut_is_refused(rt: HostRuntime) {
+    for k in 1..32 {
+        let want = if k < 16 {
+            Refusal::Short
+        } else {
+            Refusal::Input(16)
+        };
+        assert_refused(&rt, rt.alloc(), &REQUEST[..k], want);
+    }
+}
+
+/// The place in [`ERROR`] of the echoed message's length.
+const ECHO: usize = 20;
+
+/// The place of its attribute's length and type.
+const ATTRIBUTE: usize = 44;
+
+/// [`ERROR`] with other bytes at one of these places.
+fn changed(rt: &impl Abort, place: usize, number: [u8; 4]) -> [u8; 52] {
+    let mut bytes = ERROR;
+    assert!(rt; place <= 48);
+    bytes[place..place + 4].copy_from_slice(&number);
+    bytes
+}
+
+/// Lengths that are wrong: the place, the bytes there, and why the message is refused.
+const LENGTHS: [(usize, [u8; 4], Refusal); 5] = [
+    // An echoed length below that of a header, and the largest one.
+    (ECHO, [15, 0, 0, 0], Refusal::Input(15)),
+    (ECHO, [255, 255, 255, 255], Refusal::Input(4294967279)),
+    // An attribute's length below that of its header, and one byte past the message.
+    (ATTRIBUTE, [3, 0, 1, 0], Refusal::Input(3)),
+    (ATTRIBUTE, [9, 0, 1, 0], Refusal::Input(5)),
+    // An attribute without a payload: `ba` is the length of the next one, 24930.
+    (ATTRIBUTE, [4, 0, 1, 0], Refusal::Input(24926)),
+];
+
+#[test]
+fn an_error_with_a_wrong_length_is_refused(rt: HostRuntime) {
+    for (place, number, want) in LENGTHS {
+        assert_refused(&rt, rt.alloc(), &changed(&rt, place, number), want);
+    }
+}
+
+// The fourth byte is padding then.
+#[test]
+fn an_attribute_of_three_bytes_is_read(rt: HostRuntime) {
+    let bytes = changed(&rt, ATTRIBUTE, [7, 0, 1, 0]);
+    let read = Raw::from_bytes(rt.alloc(), &mut Cursor::new(&bytes));
+    let message = read.expect(&rt, "a message");
+    let handle = error_in(&rt, &message).ext_ack().get_attr_handle();
+    let text: Vec<u8> = handle
+        .get_attr_payload_as_with_len(rt.alloc(), NlmsgerrAttr::Msg)
+        .expect(&rt, "words");
+    assert_is(&rt, text.as_slice(), b"bad".as_slice());
 }
 
 /// A datagram of the end of a dump, the message [`ONE`], and nine zeros.

@@ -1,0 +1,117 @@
+//! The parts of messages by themselves: a header, an echoed message, and answers.
+
+use crate::support::{Cause, Raw, assert_is, cause_of, error_in, read_error};
+use neli::consts::netfilter::NetfilterMsg;
+use neli::consts::nl::{GenlId, NlTypeWrapper, NlmF};
+use neli::err::{Nlmsgerr, NlmsghdrAck, NlmsghdrErr};
+use neli::nl::{NlPayload, Nlmsghdr};
+use neli::{Cursor, FromBytesWithInput};
+use std::process::Abort;
+
+/// A code that is no error, and the header of a message of 32 bytes, type 16, REQUEST and ACK, number 3,
+/// port 7.
+const ANSWER: [u8; 20] = [0, 0, 0, 0, 32, 0, 0, 0, 16, 0, 5, 0, 3, 0, 0, 0, 7, 0, 0, 0];
+
+/// The header in [`ANSWER`].
+fn header(rt: &impl Abort) -> NlmsghdrAck<u16> {
+    NlmsghdrAck::of_bytes(&ANSWER[4..]).expect(rt, "16 bytes")
+}
+
+/// The fields of a header but its type: length, flags, number and port.
+fn fields_of<T>(header: &NlmsghdrAck<T>) -> (u32, u16, u32, u32) {
+    let flags = u16::from(*header.nl_flags());
+    (*header.nl_len(), flags, *header.nl_seq(), *header.nl_pid())
+}
+
+#[test]
+fn a_header_is_read_of_bytes(rt: HostRuntime) {
+    let header = header(&rt);
+    assert_is(&rt, *header.nl_type(), 16);
+    assert_is(&rt, fields_of(&header), (32, 5, 3, 7));
+    assert!(rt; NlmsghdrAck::<u16>::of_bytes(&ANSWER[5..]).is_none());
+}
+
+#[test]
+fn a_header_is_typed(rt: HostRuntime) {
+    let typed = header(&rt).to_typed::<NlTypeWrapper>();
+    assert_is(&rt, *typed.nl_type(), NlTypeWrapper::GenlId(GenlId::Ctrl));
+    assert_is(&rt, fields_of(&typed), (32, 5, 3, 7));
+}
+
+// The length stays, whatever the payload is.
+#[test]
+fn a_message_has_the_header_that_is_given(rt: HostRuntime) {
+    let message: Raw = Nlmsghdr::from_header(header(&rt), NlPayload::Empty);
+    assert!(rt; matches!(message.nl_payload(), NlPayload::Empty));
+    assert_is(&rt, (*message.nl_len(), *message.nl_type()), (32, 16));
+    assert_is(&rt, *message.nl_flags(), NlmF::REQUEST | NlmF::ACK);
+    assert_is(&rt, (*message.nl_seq(), *message.nl_pid()), (3, 7));
+}
+
+#[test]
+fn an_acknowledgement_is_typed(rt: HostRuntime) {
+    let alloc = rt.alloc();
+    let read = Nlmsgerr::from_bytes_with_input(alloc, &mut Cursor::new(&ANSWER), 20);
+    let answer: Nlmsgerr<NlmsghdrAck<u16>> = read.expect(&rt, "an acknowledgement");
+    let typed = answer.to_typed::<NlTypeWrapper>().expect(&rt, "memory");
+    assert_is(&rt, (*typed.error(), typed.ext_ack().len()), (0, 0));
+    let header = typed.nlmsg();
+    assert_is(&rt, *header.nl_type(), NlTypeWrapper::GenlId(GenlId::Ctrl));
+    assert_is(&rt, fields_of(header), (32, 5, 3, 7));
+}
+
+/// Asserts that this is the echo in [`ERROR`](crate::kinds::ERROR), with a type that is known and a length
+/// that is rounded up.
+fn assert_echo(rt: &impl Abort, echo: &NlmsghdrErr<NlTypeWrapper, Vec<u8>>) {
+    let log = NlTypeWrapper::NetfilterMsg(NetfilterMsg::LogPacket);
+    assert_is(rt, (*echo.nl_len(), *echo.nl_type()), (24, log));
+    assert_is(rt, *echo.nl_flags(), NlmF::REQUEST | NlmF::ACK);
+    assert_is(rt, (*echo.nl_seq(), *echo.nl_pid()), (0, 0));
+    assert_is(rt, echo.nl_payload().as_slice(), b"abcde".as_slice());
+}
+
+#[test]
+fn an_echo_is_typed(rt: HostRuntime) {
+    let raw = read_error(&rt, rt.alloc());
+    let typed = error_in(&rt, &raw).nlmsg().to_typed(rt.alloc());
+    assert_echo(&rt, &typed.expect(&rt, "an echo"));
+}
+
+#[test]
+fn an_error_is_typed(rt: HostRuntime) {
+    let raw = read_error(&rt, rt.alloc());
+    let typed = error_in(&rt, &raw).to_typed(rt.alloc());
+    let answer = typed.expect(&rt, "an error");
+    assert_echo(&rt, answer.nlmsg());
+    assert_is(&rt, (*answer.error(), answer.ext_ack().len()), (-22, 1));
+}
+
+// Five bytes are no numbers of four.
+#[test]
+fn an_echo_is_refused_as_its_payload_is(rt: HostRuntime) {
+    let alloc = rt.alloc();
+    let raw = read_error(&rt, alloc);
+    let answer = error_in(&rt, &raw);
+    let echo = answer.nlmsg().to_typed::<u16, Vec<u32>>(alloc).err();
+    assert_is(
+        &rt,
+        cause_of(echo.expect(&rt, "a refusal")),
+        Cause::Input(5),
+    );
+    let error = answer.to_typed::<u16, Vec<u32>>(alloc).err();
+    assert_is(
+        &rt,
+        cause_of(error.expect(&rt, "a refusal")),
+        Cause::Input(5),
+    );
+}
+
+#[test]
+fn an_end_of_a_dump_is_copied(rt: HostRuntime) {
+    let bytes = [0xea, 0xff, 0xff, 0xff, 8, 0, 1, 0, 0x62, 0x61, 0x64, 0];
+    let read = Nlmsgerr::from_bytes_with_input(rt.alloc(), &mut Cursor::new(&bytes), 12);
+    let end: Nlmsgerr<()> = read.expect(&rt, "an end of a dump");
+    let copy = end.try_clone().expect(&rt, "memory");
+    assert_is(&rt, (*copy.error(), copy.ext_ack().len()), (-22, 1));
+    assert_is(&rt, &copy, &end);
+}
