@@ -5,7 +5,7 @@ use Rattle.std.proofs.lemmas.List.Sums.{sum_by-cons}
 use Rattle.neli_wire.specs.DeError.{DeError}
 use Rattle.neli_msg.specs.Cuts.{Cut}
 use Rattle.neli_lent.specs.Walks.{items_of}
-use Rattle.neli_bench.specs.Walks.{IsSum, capped}
+use Rattle.neli_bench.specs.Walks.{IsSum, as_u64}
 
 -- what an item adds
 abbrev pub added : {A : Type 0} → (A → ℕ) → Result A DeError → ℕ
@@ -21,7 +21,7 @@ fault_among (Err e ∷ later) = Some e
 -- the sum over all items is the sum so far and that over the items that are left
 pub record IsItemSum {A : Type 0} (size : A → ℕ) (all left : List (Result A DeError)) (so_far : ℕ) : Type 0 where
   pub fault : fault_among all ≡ fault_among left
-  pub total : capped (sum_by (added size) all) ≡ capped (so_far + sum_by (added size) left)
+  pub total : as_u64 (sum_by (added size) all) ≡ as_u64 (so_far + sum_by (added size) left)
   pub fits : so_far ≤ 2 ^ 64 - 1
 
 items-sum : {A : Type 0} (size : A → ℕ) (values : List A) (fault : Option DeError) → sum_by (added size) (items_of (values, fault)) ≡ sum_by size values
@@ -38,7 +38,7 @@ items-fault (a ∷ later) fault = items-fault later fault
 pub items_end : {A : Type 0} (size : A → ℕ) (cut : Cut A) (left : List (Result A DeError)) (so_far : ℕ) → IsItemSum size (items_of cut) left so_far → left ≡ [] → IsSum size cut so_far
 items_end size (values, fault) left so_far is last = (
   sym (items-fault values fault) ∙ is.fault ∙ ap fault_among last,
-  sym (ap capped (sym (items-sum size values fault)) ∙ is.total ∙ ap (λ items. capped (so_far + sum_by (added size) items)) last ∙ omega (arith, is.fits)),
+  sym (ap as_u64 (sym (items-sum size values fault)) ∙ is.total ∙ ap (λ items. as_u64 (so_far + sum_by (added size) items)) last ∙ omega (arith, is.fits)),
 )
 
 pub items_fault : {A : Type 0} (size : A → ℕ) (cut : Cut A) (left later : List (Result A DeError)) (e : DeError) (so_far : ℕ) → IsItemSum size (items_of cut) left so_far → left ≡ Err e ∷ later → IsSome cut.1
@@ -46,9 +46,9 @@ items_fault size (values, fault) left later e so_far is first =
     let found : fault ≡ Some e = sym (items-fault values fault) ∙ is.fault ∙ ap fault_among first in
     rw found (search rules)
 
-pub items_more : {A : Type 0} (size : A → ℕ) (all left later : List (Result A DeError)) (a : A) (so_far next : ℕ) → IsItemSum size all left so_far → left ≡ Ok a ∷ later → next ≡ capped (so_far + size a) → IsItemSum size all later next
+pub items_more : {A : Type 0} (size : A → ℕ) (all left later : List (Result A DeError)) (a : A) (so_far next : ℕ) → IsItemSum size all left so_far → left ≡ Ok a ∷ later → next ≡ as_u64 (so_far + size a) → IsItemSum size all later next
 items_more size all left later a so_far next is first e = record {
   fault = is.fault ∙ ap fault_among first;
-  total = is.total ∙ ap (λ items. capped (so_far + sum_by (added size) items)) first ∙ grind (arith, sum_by-cons (added size) (Ok a) later, e);
+  total = is.total ∙ ap (λ items. as_u64 (so_far + sum_by (added size) items)) first ∙ grind (arith, sum_by-cons (added size) (Ok a) later, e);
   fits = grind (arith, e);
 }

@@ -18,12 +18,12 @@ use Rattle.neli_route.specs.Rtmsg.{rtmsg_header}
 use Rattle.neli_route.specs.declared.rtmsg.RtmsgHeader.{RtmsgHeader}
 
 -- a sum as the walks answer it: the largest number of 64 bits stands for those above it
-abbrev pub capped : ℕ → ℕ
-capped n = min n (2 ^ 64 - 1)
+abbrev pub as_u64 : ℕ → ℕ
+as_u64 n = min n (2 ^ 64 - 1)
 
 -- the bytes have no fault, and this is the sum of what their messages add
 abbrev pub IsSum : {A : Type 0} → (A → ℕ) → Cut A → ℕ → Type 0
-IsSum adds cut total = (cut.1 ≡ None) × (total ≡ capped (sum_by adds cut.0))
+IsSum adds cut total = (cut.1 ≡ None) × (total ≡ as_u64 (sum_by adds cut.0))
 
 -- what an attribute adds: the number of its type, without the two upper bits, and how long its payload is
 abbrev pub type_and_length : ℕ → List ℕ → ℕ

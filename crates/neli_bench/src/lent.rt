@@ -5,7 +5,7 @@
 ghost use Rattle.std.specs.Prelude.{◌≡◌, IfSome, IsSome, IsTrue, false};
 ghost use Rattle.neli_lent.specs.Attributes.{attributes_at};
 ghost use Rattle.neli_lent.specs.Messages.{message_said};
-ghost use Rattle.neli_bench.specs.Walks.{IsSum, capped, lent_adds, lent_cut, lent_stated_length, type_and_length};
+ghost use Rattle.neli_bench.specs.Walks.{IsSum, as_u64, lent_adds, lent_cut, lent_stated_length, type_and_length};
 
 use crate::plus;
 use neli_lent::{LentAttrs, LentMessage, LentMessages};
@@ -31,7 +31,7 @@ fn attributes_add(mut attributes: LentAttrs<'_, u16>) -> Option<u64>
 /// What the attributes after a message's body `B` add.
 fn message_adds<'b, B: Header>(message: &LentMessage<'b, u16>) -> Option<u64>
     ensures { IfSome result
-        (λ n. n ≡ capped (lent_adds B.header (message_said message.now))) }
+        (λ n. n ≡ as_u64 (lent_adds B.header (message_said message.now))) }
 {
     let Ok(attributes) = message.get_attrs::<B, u16>() else {
         return None;

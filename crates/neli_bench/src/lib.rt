@@ -9,14 +9,14 @@
 #![tactic(auto)]
 
 ghost use Rattle.std.specs.Prelude.{◌≡◌, ◌+◌};
-ghost use Rattle.neli_bench.specs.Walks.{capped, type_and_length};
+ghost use Rattle.neli_bench.specs.Walks.{as_u64, type_and_length};
 
 pub mod lent;
 pub mod owned;
 
 /// A sum with what an attribute adds.
 fn plus(total: u64, number: u16, payload: &[u8]) -> u64
-    ensures { result ≡ capped (total + type_and_length number payload.now) }
+    ensures { result ≡ as_u64 (total + type_and_length number payload.now) }
 {
     total
         .saturating_add(u64::from(number & 0x3fff))

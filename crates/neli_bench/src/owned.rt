@@ -5,7 +5,7 @@
 ghost use Rattle.std.specs.Prelude.{◌≡◌, IsTrue, false, sum_by};
 ghost use Rattle.neli_body.specs.Attributes.{attrs_say};
 ghost use Rattle.neli_msg.specs.Messages.{message_of};
-ghost use Rattle.neli_bench.specs.Walks.{IsSum, capped, link_adds, link_cut, raw_cut, route_adds, route_cut, stated_length, type_and_length};
+ghost use Rattle.neli_bench.specs.Walks.{IsSum, as_u64, link_adds, link_cut, raw_cut, route_adds, route_cut, stated_length, type_and_length};
 
 use crate::plus;
 use neli_attr::{Buffer, RtBuffer};
@@ -17,7 +17,7 @@ use std::alloc::Global;
 
 /// What the attributes add together.
 fn attributes_add<T: RtaType>(attributes: &RtBuffer<T, Buffer>) -> u64
-    ensures { result ≡ capped (sum_by
+    ensures { result ≡ as_u64 (sum_by
         (λ a. type_and_length (T.wire_number a.rta_type) a.rta_payload) attributes.now) }
 {
     let mut total: u64 = 0;
@@ -30,7 +30,7 @@ fn attributes_add<T: RtaType>(attributes: &RtBuffer<T, Buffer>) -> u64
 
 /// What the attributes of a link add.
 fn link_adds(message: &Nlmsghdr<u16, Ifinfomsg>) -> u64
-    ensures { result ≡ capped (link_adds
+    ensures { result ≡ as_u64 (link_adds
         (message_of (λ link. (link.header, attrs_say link.rtattrs)) message.now)) }
 {
     match message.get_payload() {
@@ -41,7 +41,7 @@ fn link_adds(message: &Nlmsghdr<u16, Ifinfomsg>) -> u64
 
 /// What the attributes of a route add.
 fn route_adds(message: &Nlmsghdr<u16, Rtmsg>) -> u64
-    ensures { result ≡ capped (route_adds
+    ensures { result ≡ as_u64 (route_adds
         (message_of (λ route. (route.header, attrs_say route.rtattrs)) message.now)) }
 {
     match message.get_payload() {

@@ -43,11 +43,11 @@ reader_fault (Some e) = delivery.Fault (socket.De e) ∷ []
 
 -- what the handle with the number q, or the one for multicast, gets of a datagram. One that came to groups is for
 -- multicast, message by message; else its messages are for the handles with numbers. Its fault is for these anyway.
-abbrev pub received : ℕ → (ℕ → Bool) → Option ℕ → Cut Untyped → List ℕ → List Delivery
-received port is_open None cut [] = []
-received port is_open None cut (g ∷ groups) = map message cut.0
-received port is_open (Some q) cut [] = messages_to port is_open q cut.0 ++ reader_fault cut.1
-received port is_open (Some q) cut (g ∷ groups) = reader_fault cut.1
+abbrev pub datagram_share : ℕ → (ℕ → Bool) → Option ℕ → Cut Untyped → List ℕ → List Delivery
+datagram_share port is_open None cut [] = []
+datagram_share port is_open None cut (g ∷ groups) = map message cut.0
+datagram_share port is_open (Some q) cut [] = messages_to port is_open q cut.0 ++ reader_fault cut.1
+datagram_share port is_open (Some q) cut (g ∷ groups) = reader_fault cut.1
 
 -- ---- a fault of the link
 
@@ -56,9 +56,9 @@ is_would_block (socket.Io WouldBlock) = true
 is_would_block e = false
 
 -- what the handle with a number, or the one for multicast, gets of a fault
-abbrev pub broken : Option ℕ → SocketError → List Delivery
-broken None e = []
-broken (Some q) e = if is_would_block e then [] else delivery.Fault e ∷ []
+abbrev pub fault_share : Option ℕ → SocketError → List Delivery
+fault_share None e = []
+fault_share (Some q) e = if is_would_block e then [] else delivery.Fault e ∷ []
 
 -- ---- a list
 

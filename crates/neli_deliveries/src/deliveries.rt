@@ -4,7 +4,7 @@ ghost use Rattle.std.specs.Prelude.{true, ◌≡◌, ◌≢◌, ℕ, List, [], �
 ghost use Rattle.neli_msg.specs.Cuts.{cut_of};
 ghost use Rattle.neli_msg.specs.Agreement.{untyped_layout};
 ghost use Rattle.neli_deliveries.specs.declared.delivery.Delivery.{Delivery as Waiting};
-ghost use Rattle.neli_deliveries.specs.Deliveries.{broken, head_of, is_would_block, received};
+ghost use Rattle.neli_deliveries.specs.Deliveries.{fault_share, head_of, is_would_block, datagram_share};
 ghost use Rattle.neli_deliveries.specs.Readings.{IsFirst};
 
 use neli_consts::NlType;
@@ -63,7 +63,7 @@ pub trait Deliveries: Sized {
     fn datagram(&mut self, bytes: &[u8], groups: &Groups) -> Result<(), NoMemory>
         ensures port { port_of self.new ≡ port_of self.old }
         ensures ok { OnOk result ((w : Option ℕ) → pending self.new w
-            ≡ option_map (λ ds. ds ++ received (port_of self.old)
+            ≡ option_map (λ ds. ds ++ datagram_share (port_of self.old)
             (λ q. is_some (pending self.old (Some q))) w
             (cut_of untyped_layout bytes.now) groups.now) (pending self.old w)) }
         ensures err { OnErr result ((w : Option ℕ) → pending self.new w ≡ pending self.old w) }
@@ -76,7 +76,7 @@ pub trait Deliveries: Sized {
     fn fault(&mut self, error: SocketError) -> Result<(), NoMemory>
         ensures port { port_of self.new ≡ port_of self.old }
         ensures ok { OnOk result ((w : Option ℕ) → pending self.new w
-            ≡ option_map (λ ds. ds ++ broken w error) (pending self.old w)) }
+            ≡ option_map (λ ds. ds ++ fault_share w error) (pending self.old w)) }
         ensures err { OnErr result ((w : Option ℕ) → pending self.new w ≡ pending self.old w) }
         ensures would_block { is_would_block error ≡ true → IsOk result };
 

@@ -16,50 +16,50 @@ abbrev pub signed_in : ℕ → List ℕ → ℤ
 signed_in i s = signed_number w32 4 (drop i s)
 
 -- an event of this size, where its bytes are there
-abbrev pub sized : ℕ → (List ℕ → ProcEvent) → List ℕ → Result ProcEvent DeError
-sized size event s = if nat_lt (length s) (16 + size) then Err (InvalidInput (length s)) else Ok (event s)
+abbrev pub event_of_size : ℕ → (List ℕ → ProcEvent) → List ℕ → Result ProcEvent DeError
+event_of_size size event s = if nat_lt (length s) (16 + size) then Err (InvalidInput (length s)) else Ok (event s)
 
 -- ---- the events, each with its size and its fields by their places
 
 -- err
 abbrev pub ack_of : List ℕ → Result ProcEvent DeError
-ack_of = sized 4 (λ s. Ack (number_in 4 16 s))
+ack_of = event_of_size 4 (λ s. Ack (number_in 4 16 s))
 
 -- parent_pid, parent_tgid, child_pid, child_tgid
 abbrev pub fork_of : List ℕ → Result ProcEvent DeError
-fork_of = sized 16 (λ s. Fork (signed_in 16 s) (signed_in 20 s) (signed_in 24 s) (signed_in 28 s))
+fork_of = event_of_size 16 (λ s. Fork (signed_in 16 s) (signed_in 20 s) (signed_in 24 s) (signed_in 28 s))
 
 -- process_pid, process_tgid
 abbrev pub exec_of : List ℕ → Result ProcEvent DeError
-exec_of = sized 8 (λ s. Exec (signed_in 16 s) (signed_in 20 s))
+exec_of = event_of_size 8 (λ s. Exec (signed_in 16 s) (signed_in 20 s))
 
 -- process_pid, process_tgid, ruid, euid
 abbrev pub uid_of : List ℕ → Result ProcEvent DeError
-uid_of = sized 16 (λ s. Uid (signed_in 16 s) (signed_in 20 s) (number_in 4 24 s) (number_in 4 28 s))
+uid_of = event_of_size 16 (λ s. Uid (signed_in 16 s) (signed_in 20 s) (number_in 4 24 s) (number_in 4 28 s))
 
 -- process_pid, process_tgid, rgid, egid
 abbrev pub gid_of : List ℕ → Result ProcEvent DeError
-gid_of = sized 16 (λ s. Gid (signed_in 16 s) (signed_in 20 s) (number_in 4 24 s) (number_in 4 28 s))
+gid_of = event_of_size 16 (λ s. Gid (signed_in 16 s) (signed_in 20 s) (number_in 4 24 s) (number_in 4 28 s))
 
 -- process_pid, process_tgid
 abbrev pub sid_of : List ℕ → Result ProcEvent DeError
-sid_of = sized 8 (λ s. Sid (signed_in 16 s) (signed_in 20 s))
+sid_of = event_of_size 8 (λ s. Sid (signed_in 16 s) (signed_in 20 s))
 
 -- process_pid, process_tgid, tracer_pid, tracer_tgid
 abbrev pub ptrace_of : List ℕ → Result ProcEvent DeError
-ptrace_of = sized 16 (λ s. Ptrace (signed_in 16 s) (signed_in 20 s) (signed_in 24 s) (signed_in 28 s))
+ptrace_of = event_of_size 16 (λ s. Ptrace (signed_in 16 s) (signed_in 20 s) (signed_in 24 s) (signed_in 28 s))
 
 -- process_pid, process_tgid, comm
 abbrev pub comm_of : List ℕ → Result ProcEvent DeError
-comm_of = sized 24 (λ s. Comm (signed_in 16 s) (signed_in 20 s) (take 16 (drop 24 s)))
+comm_of = event_of_size 24 (λ s. Comm (signed_in 16 s) (signed_in 20 s) (take 16 (drop 24 s)))
 
 -- process_pid, process_tgid, parent_pid, parent_tgid
 abbrev pub coredump_of : List ℕ → Result ProcEvent DeError
-coredump_of = sized 16 (λ s. Coredump (signed_in 16 s) (signed_in 20 s) (signed_in 24 s) (signed_in 28 s))
+coredump_of = event_of_size 16 (λ s. Coredump (signed_in 16 s) (signed_in 20 s) (signed_in 24 s) (signed_in 28 s))
 
 -- process_pid, process_tgid, exit_code, exit_signal, parent_pid, parent_tgid
 abbrev pub exit_of : List ℕ → Result ProcEvent DeError
-exit_of = sized 24 (λ s. Exit (signed_in 16 s) (signed_in 20 s) (number_in 4 24 s) (number_in 4 28 s) (signed_in 32 s) (signed_in 36 s))
+exit_of = event_of_size 24 (λ s. Exit (signed_in 16 s) (signed_in 20 s) (number_in 4 24 s) (number_in 4 28 s) (signed_in 32 s) (signed_in 36 s))
 
 -- what a type without a name is reported as
 abbrev pub unknown_text : ℕ → List ℕ

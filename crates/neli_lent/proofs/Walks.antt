@@ -9,7 +9,7 @@ use Rattle.neli_attr.specs.Attributes.{Attr}
 use Rattle.neli_attr.specs.laws.Attributes.{attribute-placed}
 use Rattle.neli_msg.specs.Cuts.{Cut, cut_of, message_before}
 use Rattle.neli_msg.specs.laws.Cuts.{cut_of-end, cut_of-message, cut_of-fault, frame_at-longer}
-use Rattle.neli_msg.specs.laws.Messages.{framed-placed}
+use Rattle.neli_msg.specs.laws.Messages.{layout_with-placed}
 use Rattle.neli_lent.specs.Attributes.{attributes_at, lent_attribute}
 use Rattle.neli_lent.specs.Walks.{count_of, cut_with, find_in, items_of, map_item, map_ok}
 use Rattle.neli_lent.specs.Messages.{Lent, lent_message, messages_in}
@@ -54,15 +54,15 @@ counted-more n a (xs, Some e) = refl
 module _ {K : Type 0} (type_of : ℕ → K) where
   pub messages-end : (s : List ℕ) → s ≡ [] → messages_in type_of s ≡ ([], None)
   unfolding messages_in
-  messages-end s e = rw e (cut_of-end (lent_message type_of) (framed-placed type_of _) (omega arith))
+  messages-end s e = rw e (cut_of-end (lent_message type_of) (layout_with-placed type_of _) (omega arith))
 
   pub messages-message : (s r : List ℕ) (m : Lent K) → frame_at (lent_message type_of) s ≡ Ok (m, r) → messages_in type_of s ≡ message_before m (messages_in type_of r)
   unfolding messages_in
-  messages-message = cut_of-message (lent_message type_of) (framed-placed type_of _) (omega arith)
+  messages-message = cut_of-message (lent_message type_of) (layout_with-placed type_of _) (omega arith)
 
   pub messages-fault : (s : List ℕ) (e : DeError) → s ≢ [] → frame_at (lent_message type_of) s ≡ Err e → messages_in type_of s ≡ ([], Some e)
   unfolding messages_in
-  messages-fault = cut_of-fault (lent_message type_of) (framed-placed type_of _) (omega arith)
+  messages-fault = cut_of-fault (lent_message type_of) (layout_with-placed type_of _) (omega arith)
 
 -- ---- attributes
 

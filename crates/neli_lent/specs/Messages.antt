@@ -7,7 +7,7 @@ use Rattle.neli_wire.specs.Reading.{◌>>=◌}
 use Rattle.neli_msg.specs.Cuts.{Cut, cut_of}
 use Rattle.neli_msg.specs.Headers.{Header}
 use Rattle.neli_msg.specs.Kinds.{payload_in, payload_takes}
-use Rattle.neli_msg.specs.Messages.{Message, framed}
+use Rattle.neli_msg.specs.Messages.{Message, layout_with}
 use Rattle.neli_lent.specs.declared.message.LentMessage.{LentMessage}
 
 -- what one says: its header and its payload's bytes
@@ -19,7 +19,7 @@ message_said m = (m.header, m.payload.now)
 
 -- how they lie: as messages do, each with its payload's bytes whatever its kind
 abbrev pub lent_message : {K : Type 0} → (ℕ → K) → Layout (Header K) (List ℕ)
-lent_message type_of = framed type_of (λ _ bytes. Ok bytes)
+lent_message type_of = layout_with type_of (λ _ bytes. Ok bytes)
 
 -- what is left of a datagram: messages, and the fault after them
 unfoldable pub messages_in : {K : Type 0} → (ℕ → K) → List ℕ → Cut (Lent K)

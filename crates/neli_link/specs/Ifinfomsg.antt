@@ -60,8 +60,8 @@ ifinfomsg_built b =
     }))
 
 -- the flags of a builder: those that were given, else none
-abbrev pub given : Option Iff → ℕ
-given flags = (unwrap_or flags (record { 0 = 0 })).0
+abbrev pub flags_or_none : Option Iff → ℕ
+flags_or_none flags = (unwrap_or flags (record { 0 = 0 })).0
 
 -- the bits that have names, but UP
 abbrev pub named_but_up : ℕ
@@ -70,13 +70,13 @@ named_but_up = bit_and (2 ^ 32 - 1 - 1) (known_bits iff_names)
 -- `up` sets UP in the flags and in those that are to be changed
 abbrev pub ifinfomsg_up : IfinfomsgBuilder → IfinfomsgBuilder
 ifinfomsg_up b = record b {
-  ifi_flags = Some (record { 0 = bit_or (given b.ifi_flags) 1 });
-  ifi_change = Some (record { 0 = bit_or (given b.ifi_change) 1 });
+  ifi_flags = Some (record { 0 = bit_or (flags_or_none b.ifi_flags) 1 });
+  ifi_change = Some (record { 0 = bit_or (flags_or_none b.ifi_change) 1 });
 }
 
 -- `down` takes UP and the bits without a name out of the flags, and sets UP in those that are to be changed
 abbrev pub ifinfomsg_down : IfinfomsgBuilder → IfinfomsgBuilder
 ifinfomsg_down b = record b {
-  ifi_flags = Some (record { 0 = bit_and (given b.ifi_flags) named_but_up });
-  ifi_change = Some (record { 0 = bit_or (given b.ifi_change) 1 });
+  ifi_flags = Some (record { 0 = bit_and (flags_or_none b.ifi_flags) named_but_up });
+  ifi_change = Some (record { 0 = bit_or (flags_or_none b.ifi_change) 1 });
 }

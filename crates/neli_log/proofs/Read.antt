@@ -3,7 +3,7 @@ use Rattle.std.proofs.Common.{◌≡◌, ℕ, ◌+◌, ◌≤◌, List, length, 
 use Rattle.neli_wire.specs.Frames.{frame_at}
 use Rattle.neli_msg.specs.Agreement.{untyped_layout}
 use Rattle.neli_msg.specs.laws.Cuts.{frame_at-longer}
-use Rattle.neli_msg.specs.laws.Messages.{framed-placed}
+use Rattle.neli_msg.specs.laws.Messages.{layout_with-placed}
 use Rattle.neli_deliveries.specs.Deliveries.{Untyped}
 use Rattle.neli_lent.specs.Messages.{Lent, as_owned, lent_message}
 use Rattle.neli_lent.specs.laws.Messages.{owned-read}
@@ -14,4 +14,4 @@ read_lent s r m u lent owned = owned-read (λ n. n) (λ n. n) (λ bytes. Ok byte
 
 -- a message has the bytes of a header at least
 pub read_shorter : (s r : List ℕ) (u : Untyped) → frame_at untyped_layout s ≡ Ok (u, r) → length r + 16 ≤ length s
-read_shorter s r u is = frame_at-longer untyped_layout (framed-placed (λ n. n) _) (omega arith) s r u is
+read_shorter s r u is = frame_at-longer untyped_layout (layout_with-placed (λ n. n) _) (omega arith) s r u is

@@ -9,9 +9,9 @@ use Rattle.neli_wire.specs.laws.Frames.{frame_at-frame, frame_of-frame_at}
 use Rattle.neli_msg.specs.Agreement.{untyped_layout}
 use Rattle.neli_msg.specs.Cuts.{Cut, cut_of, message_before}
 use Rattle.neli_msg.specs.laws.Cuts.{cut_of-end, cut_of-fault, cut_of-message, empty_is}
-use Rattle.neli_msg.specs.laws.Messages.{framed-placed}
+use Rattle.neli_msg.specs.laws.Messages.{layout_with-placed}
 use Rattle.neli_lent.specs.Spans.{IsSpan, Spells}
-use Rattle.neli_deliveries.specs.Deliveries.{Untyped, message_to, messages_to, reader_fault, received}
+use Rattle.neli_deliveries.specs.Deliveries.{Untyped, message_to, messages_to, reader_fault, datagram_share}
 use Rattle.neli_places.specs.declared.entry.Entry.{Entry}
 use Rattle.neli_places.specs.Places.{HasReader}
 use Rattle.neli_places.specs.Routes.{items_for, leads}
@@ -23,12 +23,12 @@ use Rattle.neli_log.specs.declared.content.Content.{Content}
 use Rattle.neli_log.specs.declared.content.Content.TheVariants as content
 use Rattle.neli_log.specs.declared.next.Address.{Address}
 use Rattle.neli_log.specs.Contents.{AreMessages, delivery_of, part_of, span_of, spans_of}
-use Rattle.neli_log.specs.Staged.{AreStaged, HaveReaders, IsFound, due, gained, is_open}
+use Rattle.neli_log.specs.Staged.{AreStaged, HaveReaders, IsFound, due, gain_of, is_open}
 use Rattle.neli_log.proofs.Entries.{each_joined, each_one, either, items_append, spans_append}
 
 -- ---- what is due of a message, and then of the rest
 
-received_message : (port : ℕ) (opened : ℕ → Bool) (w : Option ℕ) (u : Untyped) (rest : Cut Untyped) (groups : List ℕ) → received port opened w (message_before u rest) groups ≡ received port opened w (u ∷ [], None) groups ++ received port opened w rest groups
+received_message : (port : ℕ) (opened : ℕ → Bool) (w : Option ℕ) (u : Untyped) (rest : Cut Untyped) (groups : List ℕ) → datagram_share port opened w (message_before u rest) groups ≡ datagram_share port opened w (u ∷ [], None) groups ++ datagram_share port opened w rest groups
 received_message port opened None u rest [] = refl
 received_message port opened None u rest (g ∷ gs) = refl
 received_message port opened (Some q) u rest [] =
@@ -37,7 +37,7 @@ received_message port opened (Some q) u rest [] =
     rw one (append_assoc first (messages_to port opened q rest.0) (reader_fault rest.1))
 received_message port opened (Some q) u rest (g ∷ gs) = refl
 
-received_end : (port : ℕ) (opened : ℕ → Bool) (w : Option ℕ) (groups : List ℕ) → received port opened w ([], None) groups ≡ []
+received_end : (port : ℕ) (opened : ℕ → Bool) (w : Option ℕ) (groups : List ℕ) → datagram_share port opened w ([], None) groups ≡ []
 received_end port opened None [] = refl
 received_end port opened None (g ∷ gs) = refl
 received_end port opened (Some q) [] = refl
@@ -70,30 +70,30 @@ of_push serial at ss t same from le h = record {
 -- ---- stages
 
 module _ (P : Option ℕ → Option (List Content)) (port serial : ℕ) (bytes groups : List ℕ) (cut : Cut Untyped) where
-  gained_push : (w : Option ℕ) (es : List (Entry Content)) (e : Entry Content) → gained bytes w (es ++ e ∷ []) ≡ gained bytes w es ++ gained bytes w (e ∷ [])
+  gained_push : (w : Option ℕ) (es : List (Entry Content)) (e : Entry Content) → gain_of bytes w (es ++ e ∷ []) ≡ gain_of bytes w es ++ gain_of bytes w (e ∷ [])
   gained_push w es e = ap (map (delivery_of (part_of bytes))) (items_append w es (e ∷ [])) ∙ map-append (delivery_of (part_of bytes)) (items_for w es) (items_for w (e ∷ []))
 
   -- nobody gets it
-  gained_unread : (w : Option ℕ) (e : Entry Content) → (HasReader P e.route → ⊥) → is_some (P w) ≡ true → gained bytes w (e ∷ []) ≡ []
+  gained_unread : (w : Option ℕ) (e : Entry Content) → (HasReader P e.route → ⊥) → is_some (P w) ≡ true → gain_of bytes w (e ∷ []) ≡ []
   gained_unread w e none opened = elim (either (leads w e.route)) [
     | inl it ↦ absurd (none (w, opened, it))
     | inr it ↦ rw it refl
   ]
 
   -- the entry e is what `step` brings, before `rest`
-  lists_pushed : (es : List (Entry Content)) (e : Entry Content) (whole step rest : Cut Untyped) (w : Option ℕ) → due port P groups w whole ≡ due port P groups w step ++ due port P groups w rest → gained bytes w (e ∷ []) ≡ due port P groups w step
-      → gained bytes w es ++ due port P groups w whole ≡ due port P groups w cut → gained bytes w (es ++ e ∷ []) ++ due port P groups w rest ≡ due port P groups w cut
+  lists_pushed : (es : List (Entry Content)) (e : Entry Content) (whole step rest : Cut Untyped) (w : Option ℕ) → due port P groups w whole ≡ due port P groups w step ++ due port P groups w rest → gain_of bytes w (e ∷ []) ≡ due port P groups w step
+      → gain_of bytes w es ++ due port P groups w whole ≡ due port P groups w cut → gain_of bytes w (es ++ e ∷ []) ++ due port P groups w rest ≡ due port P groups w cut
   lists_pushed es e whole step rest w parts gains is =
       ap (λ ds. ds ++ due port P groups w rest) (gained_push w es e)
-      ∙ append_assoc (gained bytes w es) (gained bytes w (e ∷ [])) (due port P groups w rest)
-      ∙ ap (λ ds. gained bytes w es ++ (ds ++ due port P groups w rest)) gains
-      ∙ ap (λ ds. gained bytes w es ++ ds) (sym parts) ∙ is
+      ∙ append_assoc (gain_of bytes w es) (gain_of bytes w (e ∷ [])) (due port P groups w rest)
+      ∙ ap (λ ds. gain_of bytes w es ++ (ds ++ due port P groups w rest)) gains
+      ∙ ap (λ ds. gain_of bytes w es ++ ds) (sym parts) ∙ is
 
-  lists_skipped : (es : List (Entry Content)) (e : Entry Content) (whole step rest : Cut Untyped) (w : Option ℕ) → due port P groups w whole ≡ due port P groups w step ++ due port P groups w rest → gained bytes w (e ∷ []) ≡ due port P groups w step → gained bytes w (e ∷ []) ≡ []
-      → gained bytes w es ++ due port P groups w whole ≡ due port P groups w cut → gained bytes w es ++ due port P groups w rest ≡ due port P groups w cut
+  lists_skipped : (es : List (Entry Content)) (e : Entry Content) (whole step rest : Cut Untyped) (w : Option ℕ) → due port P groups w whole ≡ due port P groups w step ++ due port P groups w rest → gain_of bytes w (e ∷ []) ≡ due port P groups w step → gain_of bytes w (e ∷ []) ≡ []
+      → gain_of bytes w es ++ due port P groups w whole ≡ due port P groups w cut → gain_of bytes w es ++ due port P groups w rest ≡ due port P groups w cut
   lists_skipped es e whole step rest w parts gains none is =
-      ap (λ ds. gained bytes w es ++ (ds ++ due port P groups w rest)) (sym none ∙ gains)
-      ∙ ap (λ ds. gained bytes w es ++ ds) (sym parts) ∙ is
+      ap (λ ds. gain_of bytes w es ++ (ds ++ due port P groups w rest)) (sym none ∙ gains)
+      ∙ ap (λ ds. gain_of bytes w es ++ ds) (sym parts) ∙ is
 
   readers_push : (es : List (Entry Content)) (e : Entry Content) → HasReader P e.route → HaveReaders P es → HaveReaders P (es ++ e ∷ [])
   readers_push es e r h = each_joined (λ x. HasReader P x.route) es (e ∷ []) h (each_one (λ x. HasReader P x.route) e r)
@@ -103,7 +103,7 @@ module _ (P : Option ℕ → Option (List Content)) (port serial : ℕ) (bytes g
 
   -- the entry of a message is added
   pub staged_kept : (es : List (Entry Content)) (at : ℕ) (u : Untyped) (rest : Cut Untyped) (e : Entry Content) (s : Span) (a : Address) → AreStaged P port serial bytes groups cut es at (message_before u rest) → IsFound serial at bytes s u a
-      → ((w : Option ℕ) → gained bytes w (e ∷ []) ≡ due port P groups w (u ∷ [], None)) → span_of e.item ≡ s ∷ [] → HasReader P e.route
+      → ((w : Option ℕ) → gain_of bytes w (e ∷ []) ≡ due port P groups w (u ∷ [], None)) → span_of e.item ≡ s ∷ [] → HasReader P e.route
       → AreStaged P port serial bytes groups cut (es ++ e ∷ []) s.end rest
   staged_kept es at u rest e s a h f gains has r =
       let spans : spans_of (es ++ e ∷ []) ≡ spans_of es ++ s ∷ [] = spans_push es e ∙ ap (λ ss. spans_of es ++ ss) has in
@@ -116,7 +116,7 @@ module _ (P : Option ℕ → Option (List Content)) (port serial : ℕ) (bytes g
 
   -- the message goes to nobody
   pub staged_skipped : (es : List (Entry Content)) (at : ℕ) (u : Untyped) (rest : Cut Untyped) (e : Entry Content) (s : Span) (a : Address) → AreStaged P port serial bytes groups cut es at (message_before u rest) → IsFound serial at bytes s u a
-      → ((w : Option ℕ) → gained bytes w (e ∷ []) ≡ due port P groups w (u ∷ [], None)) → (HasReader P e.route → ⊥)
+      → ((w : Option ℕ) → gain_of bytes w (e ∷ []) ≡ due port P groups w (u ∷ [], None)) → (HasReader P e.route → ⊥)
       → AreStaged P port serial bytes groups cut es s.end rest
   staged_skipped es at u rest e s a h f gains none = record {
     lists = λ w opened. lists_skipped es e (message_before u rest) (u ∷ [], None) rest w (received_message port (is_open P) w u rest groups) (gains w) (gained_unread w e none opened) (h.lists w opened);
@@ -127,7 +127,7 @@ module _ (P : Option ℕ → Option (List Content)) (port serial : ℕ) (bytes g
 
   -- ---- the fault at the end
 
-  pub staged_fault : (es : List (Entry Content)) (at : ℕ) (fault : DeError) (e : Entry Content) → AreStaged P port serial bytes groups cut es at ([], Some fault) → ((w : Option ℕ) → gained bytes w (e ∷ []) ≡ due port P groups w ([], Some fault)) → span_of e.item ≡ [] → HasReader P e.route
+  pub staged_fault : (es : List (Entry Content)) (at : ℕ) (fault : DeError) (e : Entry Content) → AreStaged P port serial bytes groups cut es at ([], Some fault) → ((w : Option ℕ) → gain_of bytes w (e ∷ []) ≡ due port P groups w ([], Some fault)) → span_of e.item ≡ [] → HasReader P e.route
       → AreStaged P port serial bytes groups cut (es ++ e ∷ []) at ([], None)
   staged_fault es at fault e h gains has r =
       let spans : spans_of (es ++ e ∷ []) ≡ spans_of es = spans_push es e ∙ ap (λ ss. spans_of es ++ ss) has ∙ append-nil (spans_of es) in
@@ -138,7 +138,7 @@ module _ (P : Option ℕ → Option (List Content)) (port serial : ℕ) (bytes g
         readers = readers_push es e r h.readers;
       }
 
-  pub staged_unread_fault : (es : List (Entry Content)) (at : ℕ) (fault : DeError) (e : Entry Content) → AreStaged P port serial bytes groups cut es at ([], Some fault) → ((w : Option ℕ) → gained bytes w (e ∷ []) ≡ due port P groups w ([], Some fault)) → (HasReader P e.route → ⊥)
+  pub staged_unread_fault : (es : List (Entry Content)) (at : ℕ) (fault : DeError) (e : Entry Content) → AreStaged P port serial bytes groups cut es at ([], Some fault) → ((w : Option ℕ) → gain_of bytes w (e ∷ []) ≡ due port P groups w ([], Some fault)) → (HasReader P e.route → ⊥)
       → AreStaged P port serial bytes groups cut es at ([], None)
   staged_unread_fault es at fault e h gains none = record {
     lists = λ w opened. lists_skipped es e ([], Some fault) ([], Some fault) ([], None) w (sym (ap (λ ds. due port P groups w ([], Some fault) ++ ds) (received_end port (is_open P) w groups) ∙ append-nil _)) (gains w) (gained_unread w e none opened) (h.lists w opened);
@@ -152,8 +152,8 @@ module _ (P : Option ℕ → Option (List Content)) (port serial : ℕ) (bytes g
   staged_further es at at' rest le h = record { lists = h.lists; spans = of_further serial at at' (spans_of es) le h.spans; messages = h.messages; readers = h.readers }
 
   -- in the end each opened list gains what it is due
-  pub staged_gains : (es : List (Entry Content)) (at : ℕ) → AreStaged P port serial bytes groups cut es at ([], None) → (w : Option ℕ) → is_some (P w) ≡ true → gained bytes w es ≡ due port P groups w cut
-  staged_gains es at h w opened = sym (append-nil (gained bytes w es)) ∙ ap (λ ds. gained bytes w es ++ ds) (sym (received_end port (is_open P) w groups)) ∙ h.lists w opened
+  pub staged_gains : (es : List (Entry Content)) (at : ℕ) → AreStaged P port serial bytes groups cut es at ([], None) → (w : Option ℕ) → is_some (P w) ≡ true → gain_of bytes w es ≡ due port P groups w cut
+  staged_gains es at h w opened = sym (append-nil (gain_of bytes w es)) ∙ ap (λ ds. gain_of bytes w es ++ ds) (sym (received_end port (is_open P) w groups)) ∙ h.lists w opened
 
 -- nothing is staged before the first byte
 pub staged_none : (P : Option ℕ → Option (List Content)) (port serial : ℕ) (bytes groups : List ℕ) (cut : Cut Untyped) → AreStaged P port serial bytes groups cut [] 0 cut
@@ -166,10 +166,10 @@ staged_none P port serial bytes groups cut = record {
 
 -- what a fault brings is the entry of it
 pub fault_gains : (port : ℕ) (P : Option ℕ → Option (List Content)) (bytes groups : List ℕ) (fault : DeError) (e : Entry Content) (w : Option ℕ) → e ≡ record { item = content.Fault (socket.De fault); route = route.Numbers }
-    → gained bytes w (e ∷ []) ≡ due port P groups w ([], Some fault)
+    → gain_of bytes w (e ∷ []) ≡ due port P groups w ([], Some fault)
 fault_gains port P bytes groups fault e w is = rw is (by w groups)
   where
-    by : (w : Option ℕ) (groups : List ℕ) → gained bytes w (record { item = content.Fault (socket.De fault); route = route.Numbers } ∷ []) ≡ due port P groups w ([], Some fault)
+    by : (w : Option ℕ) (groups : List ℕ) → gain_of bytes w (record { item = content.Fault (socket.De fault); route = route.Numbers } ∷ []) ≡ due port P groups w ([], Some fault)
     by None [] = refl
     by None (g ∷ gs) = refl
     by (Some q) [] = refl
@@ -190,11 +190,11 @@ take_before (suc n) (x ∷ xs) ys h = ap (λ zs. x ∷ zs) (take_before n xs ys 
 -- the bytes between two places of a datagram, where a message was read from the one to the other
 pub span_spells : (before s after r : List ℕ) (u : Untyped) → frame_at untyped_layout s ≡ Ok (u, r) → after ++ r ≡ before ++ s → Spells (slice_range (before ++ s) (length before) (length after)) u
 span_spells before s after r u is same =
-    let f = frame_of-frame_at untyped_layout (framed-placed (λ n. n) _) s r u.0 u.1 is in
+    let f = frame_of-frame_at untyped_layout (layout_with-placed (λ n. n) _) s r u.0 u.1 is in
     let total = ap length same in
     let n : length after - length before ≡ length f.0 = omega (arith, total, length-append after r, length-append before s, ap length f.1, length-append f.0 r) in
     let text : slice_range (before ++ s) (length before) (length after) ≡ f.0 = ap (take (length after - length before)) (drop_before before s) ∙ ap (take (length after - length before)) f.1 ∙ take_before (length after - length before) f.0 r n in
-    rw text (ap (frame_at untyped_layout) (sym (append-nil f.0)) ∙ frame_at-frame untyped_layout (framed-placed (λ n. n) _) f.0 [] u.0 u.1 f.2)
+    rw text (ap (frame_at untyped_layout) (sym (append-nil f.0)) ∙ frame_at-frame untyped_layout (layout_with-placed (λ n. n) _) f.0 [] u.0 u.1 f.2)
 
 -- its place is after that where the rest began
 pub after_more : (before s after r : List ℕ) → length r ≤ length s → after ++ r ≡ before ++ s → length before ≤ length after
@@ -215,13 +215,13 @@ staged_found serial before s after r u a x of start end is short same number por
 -- ---- the cut, step by step
 
 pub cut_first : (s r : List ℕ) (u : Untyped) → frame_at untyped_layout s ≡ Ok (u, r) → cut_of untyped_layout s ≡ message_before u (cut_of untyped_layout r)
-cut_first s r u is = cut_of-message untyped_layout (framed-placed (λ n. n) _) (omega arith) s r u is
+cut_first s r u is = cut_of-message untyped_layout (layout_with-placed (λ n. n) _) (omega arith) s r u is
 
 pub cut_last : (s : List ℕ) (e : DeError) → 0 < length s → frame_at untyped_layout s ≡ Err e → cut_of untyped_layout s ≡ ([], Some e)
-cut_last s e some is = cut_of-fault untyped_layout (framed-placed (λ n. n) _) (omega arith) s e (λ none. (let l = ap length none in omega arith)) is
+cut_last s e some is = cut_of-fault untyped_layout (layout_with-placed (λ n. n) _) (omega arith) s e (λ none. (let l = ap length none in omega arith)) is
 
 pub cut_done : (s : List ℕ) → length s ≡ 0 → cut_of untyped_layout s ≡ ([], None)
-cut_done s none = rw (empty_is s none) (cut_of-end untyped_layout (framed-placed (λ n. n) _) (omega arith))
+cut_done s none = rw (empty_is s none) (cut_of-end untyped_layout (layout_with-placed (λ n. n) _) (omega arith))
 
 -- a place is within the bytes
 pub before_within : (before rest bytes : List ℕ) → before ++ rest ≡ bytes → length before ≤ length bytes

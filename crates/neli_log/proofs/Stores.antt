@@ -7,10 +7,10 @@ use Rattle.neli_msg.specs.Agreement.{untyped_layout}
 use Rattle.neli_msg.specs.Cuts.{Cut, cut_of}
 use Rattle.neli_msg.specs.SocketError.{SocketError}
 use Rattle.neli_msg.specs.laws.Cuts.{cut_of-end}
-use Rattle.neli_msg.specs.laws.Messages.{framed-placed}
+use Rattle.neli_msg.specs.laws.Messages.{layout_with-placed}
 use Rattle.neli_lent.specs.Spans.{IsSpan}
 use Rattle.neli_deliveries.specs.declared.delivery.Delivery.{Delivery}
-use Rattle.neli_deliveries.specs.Deliveries.{Untyped, broken, head_of, is_would_block, messages_to, reader_fault, received}
+use Rattle.neli_deliveries.specs.Deliveries.{Untyped, fault_share, head_of, is_would_block, messages_to, reader_fault, datagram_share}
 use Rattle.neli_places.specs.declared.entry.Entry.{Entry}
 use Rattle.neli_places.specs.declared.entry.Route.{Route}
 use Rattle.neli_places.specs.declared.entry.Route.TheVariants as route
@@ -27,7 +27,7 @@ use Rattle.neli_log.specs.declared.content.Content.TheVariants as content
 use Rattle.neli_log.specs.Contents.{AreBacked, AreMessages, IsReadable, delivery_of, part_of, span_of, spans_of}
 use Rattle.neli_log.specs.declared.store.Store.{Store}
 use Rattle.neli_log.specs.Log.{Keeps}
-use Rattle.neli_log.specs.Staged.{gained}
+use Rattle.neli_log.specs.Staged.{gain_of}
 use Rattle.neli_log.proofs.Entries.{each_joined, either, get_end, get_right, items_same, spans_append}
 
 -- ---- lists that are mapped, where there are any
@@ -170,13 +170,13 @@ module _ (s s' : Places Content) (d d' : Datagrams) (bytes : List ℕ) (es : Lis
         (λ i x at. subst IsSpan (sym (added_text i x at)) (messages i x at)));
   })
 
-  pub handed_pending : (w : Option ℕ) → option_map (map (delivery_of (text_of d'))) (items_of s' w) ≡ option_map (λ ds. ds ++ gained bytes w es) (option_map (map (delivery_of (text_of d))) (items_of s w))
+  pub handed_pending : (w : Option ℕ) → option_map (map (delivery_of (text_of d'))) (items_of s' w) ≡ option_map (λ ds. ds ++ gain_of bytes w es) (option_map (map (delivery_of (text_of d))) (items_of s w))
   handed_pending w = ap (option_map (map (delivery_of (text_of d')))) (more w) ∙ by (place_of s w)
     where
-      new : map (delivery_of (text_of d')) (items_for w es) ≡ gained bytes w es
+      new : map (delivery_of (text_of d')) (items_for w es) ≡ gain_of bytes w es
       new = items_same (part_of bytes) (text_of d') w es added_text
 
-      by : (o : Option Place) → option_map (map (delivery_of (text_of d'))) (option_map (λ xs. xs ++ items_for w es) (option_map (λ p. items_for w (rest s.base (entries_of s) p)) o)) ≡ option_map (λ ds. ds ++ gained bytes w es) (option_map (map (delivery_of (text_of d))) (option_map (λ p. items_for w (rest s.base (entries_of s) p)) o))
+      by : (o : Option Place) → option_map (map (delivery_of (text_of d'))) (option_map (λ xs. xs ++ items_for w es) (option_map (λ p. items_for w (rest s.base (entries_of s) p)) o)) ≡ option_map (λ ds. ds ++ gain_of bytes w es) (option_map (map (delivery_of (text_of d))) (option_map (λ p. items_for w (rest s.base (entries_of s) p)) o))
       by None = refl
       by (Some p) =
           let old : List Content = items_for w (rest s.base (entries_of s) p) in
@@ -186,7 +186,7 @@ module _ (s s' : Places Content) (d d' : Datagrams) (bytes : List ℕ) (es : Lis
 -- ---- what is due
 
 -- it depends on which numbers are open, however that is told
-pub received_same : (port : ℕ) (o o' : ℕ → Bool) → ((q : ℕ) → o q ≡ o' q) → (w : Option ℕ) (cut : Cut Untyped) (groups : List ℕ) → received port o w cut groups ≡ received port o' w cut groups
+pub received_same : (port : ℕ) (o o' : ℕ → Bool) → ((q : ℕ) → o q ≡ o' q) → (w : Option ℕ) (cut : Cut Untyped) (groups : List ℕ) → datagram_share port o w cut groups ≡ datagram_share port o' w cut groups
 received_same port o o' same None cut [] = refl
 received_same port o o' same None cut (g ∷ gs) = refl
 received_same port o o' same (Some q) cut [] = ap (λ ds. ds ++ reader_fault cut.1) (each cut.0)
@@ -197,10 +197,10 @@ received_same port o o' same (Some q) cut [] = ap (λ ds. ds ++ reader_fault cut
 received_same port o o' same (Some q) cut (g ∷ gs) = refl
 
 -- an empty datagram brings nothing
-pub received_nothing : (port : ℕ) (o : ℕ → Bool) (w : Option ℕ) (groups : List ℕ) → [] ≡ received port o w (cut_of untyped_layout []) groups
-received_nothing port o w groups = rw (cut_of-end untyped_layout (framed-placed (λ n. n) _) (omega arith)) (by w groups)
+pub received_nothing : (port : ℕ) (o : ℕ → Bool) (w : Option ℕ) (groups : List ℕ) → [] ≡ datagram_share port o w (cut_of untyped_layout []) groups
+received_nothing port o w groups = rw (cut_of-end untyped_layout (layout_with-placed (λ n. n) _) (omega arith)) (by w groups)
   where
-    by : (w : Option ℕ) (groups : List ℕ) → [] ≡ received port o w ([], None) groups
+    by : (w : Option ℕ) (groups : List ℕ) → [] ≡ datagram_share port o w ([], None) groups
     by None [] = refl
     by None (g ∷ gs) = refl
     by (Some q) [] = refl
@@ -208,23 +208,23 @@ received_nothing port o w groups = rw (cut_of-end untyped_layout (framed-placed 
 
 -- ---- a fault of the link
 
-pub blocked_brings : (w : Option ℕ) (e : SocketError) → is_would_block e ≡ true → [] ≡ broken w e
+pub blocked_brings : (w : Option ℕ) (e : SocketError) → is_would_block e ≡ true → [] ≡ fault_share w e
 blocked_brings None e h = refl
 blocked_brings (Some q) e h = rw h refl
 
-pub unread_brings : (P : Option ℕ → Option (List Content)) (w : Option ℕ) (e : SocketError) → (HasReader P route.Numbers → ⊥) → is_some (P w) ≡ true → [] ≡ broken w e
+pub unread_brings : (P : Option ℕ → Option (List Content)) (w : Option ℕ) (e : SocketError) → (HasReader P route.Numbers → ⊥) → is_some (P w) ≡ true → [] ≡ fault_share w e
 unread_brings P None e none opened = refl
 unread_brings P (Some q) e none opened = absurd (none (Some q, opened, refl))
 
-pub fault_brings : (text : Span → List ℕ) (w : Option ℕ) (e : SocketError) → is_would_block e ≡ false → map (delivery_of text) (items_for w (record { item = content.Fault e; route = route.Numbers } ∷ [])) ≡ broken w e
+pub fault_brings : (text : Span → List ℕ) (w : Option ℕ) (e : SocketError) → is_would_block e ≡ false → map (delivery_of text) (items_for w (record { item = content.Fault e; route = route.Numbers } ∷ [])) ≡ fault_share w e
 fault_brings text None e h = refl
 fault_brings text (Some q) e h = rw h refl
 
 pub fault_pending : (text : Span → List ℕ) (w : Option ℕ) (e : SocketError) (o o' : Option (List Content)) → is_would_block e ≡ false → o' ≡ option_map (λ xs. xs ++ items_for w (record { item = content.Fault e; route = route.Numbers } ∷ [])) o
-    → option_map (map (delivery_of text)) o' ≡ option_map (λ ds. ds ++ broken w e) (option_map (map (delivery_of text)) o)
+    → option_map (map (delivery_of text)) o' ≡ option_map (λ ds. ds ++ fault_share w e) (option_map (map (delivery_of text)) o)
 fault_pending text w e o o' h is = rw is (by o)
   where
-    by : (o : Option (List Content)) → option_map (map (delivery_of text)) (option_map (λ xs. xs ++ items_for w (record { item = content.Fault e; route = route.Numbers } ∷ [])) o) ≡ option_map (λ ds. ds ++ broken w e) (option_map (map (delivery_of text)) o)
+    by : (o : Option (List Content)) → option_map (map (delivery_of text)) (option_map (λ xs. xs ++ items_for w (record { item = content.Fault e; route = route.Numbers } ∷ [])) o) ≡ option_map (λ ds. ds ++ fault_share w e) (option_map (map (delivery_of text)) o)
     by None = refl
     by (Some xs) = ap (λ ds. Some ds) (map-append (delivery_of text) xs (items_for w (record { item = content.Fault e; route = route.Numbers } ∷ [])) ∙ ap (λ ds. map (delivery_of text) xs ++ ds) (fault_brings text w e h))
 

@@ -5,7 +5,7 @@ use Rattle.neli_wire.specs.DeError.{DeError}
 use Rattle.neli_msg.specs.Agreement.{untyped_layout}
 use Rattle.neli_msg.specs.Cuts.{Cut, cut_of}
 use Rattle.neli_deliveries.specs.declared.delivery.Delivery.{Delivery}
-use Rattle.neli_deliveries.specs.Deliveries.{Untyped, received}
+use Rattle.neli_deliveries.specs.Deliveries.{Untyped, datagram_share}
 use Rattle.neli_places.specs.declared.entry.Entry.{Entry}
 use Rattle.neli_places.specs.Places.{HasReader}
 use Rattle.neli_places.specs.Routes.{items_for}
@@ -17,8 +17,8 @@ use Rattle.neli_log.specs.declared.next.Address.{Address}
 use Rattle.neli_log.specs.Contents.{AreMessages, delivery_of, part_of, spans_of}
 
 -- what a list gains of entries, whose spans are of these bytes
-abbrev pub gained : List ℕ → Option ℕ → List (Entry Content) → List Delivery
-gained bytes w es = map (delivery_of (part_of bytes)) (items_for w es)
+abbrev pub gain_of : List ℕ → Option ℕ → List (Entry Content) → List Delivery
+gain_of bytes w es = map (delivery_of (part_of bytes)) (items_for w es)
 
 -- what is left of a datagram at a place: the cut of the rest, or nothing but a fault
 abbrev pub cut_left : List ℕ → Option DeError → Cut Untyped
@@ -31,7 +31,7 @@ is_open pending q = is_some (pending (Some q))
 
 -- what a list is due of a cut that came to these groups
 abbrev pub due : ℕ → (Option ℕ → Option (List Content)) → List ℕ → Option ℕ → Cut Untyped → List Delivery
-due port pending groups w cut = received port (is_open pending) w cut groups
+due port pending groups w cut = datagram_share port (is_open pending) w cut groups
 
 -- each entry is for somebody
 abbrev pub HaveReaders : (Option ℕ → Option (List Content)) → List (Entry Content) → Type 0
@@ -41,7 +41,7 @@ HaveReaders pending es = (i : ℕ) (e : Entry Content) → slice_get es i ≡ So
 -- the first `at` bytes, in their order; and each goes to somebody
 pub record AreStaged (pending : Option ℕ → Option (List Content)) (port serial : ℕ) (bytes groups : List ℕ) (cut : Cut Untyped) (es : List (Entry Content)) (at : ℕ) (rest : Cut Untyped) : Type 0 where
   pub lists : (w : Option ℕ) → is_some (pending w) ≡ true
-      → gained bytes w es ++ due port pending groups w rest ≡ due port pending groups w cut
+      → gain_of bytes w es ++ due port pending groups w rest ≡ due port pending groups w cut
   pub spans : AreOf serial at (spans_of es)
   pub messages : AreMessages (part_of bytes) (spans_of es)
   pub readers : HaveReaders pending es

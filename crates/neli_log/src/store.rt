@@ -4,7 +4,7 @@ ghost use Rattle.std.specs.Prelude.{◌≡◌, ◌≢◌, ◌↔◌, ◌++◌, �
 ghost use Rattle.neli_msg.specs.Agreement.{untyped_layout};
 ghost use Rattle.neli_msg.specs.Cuts.{cut_of};
 ghost use Rattle.neli_deliveries.specs.declared.delivery.Delivery.{Delivery as Waiting};
-ghost use Rattle.neli_deliveries.specs.Deliveries.{broken, head_of, is_would_block, received};
+ghost use Rattle.neli_deliveries.specs.Deliveries.{fault_share, head_of, is_would_block, datagram_share};
 ghost use Rattle.neli_deliveries.specs.Readings.{IsFirst, IsReading};
 ghost use Rattle.neli_places.specs.declared.entry.Entry.{Entry as Kept};
 ghost use Rattle.neli_log.specs.declared.content.Content.{Content as Held};
@@ -12,7 +12,7 @@ ghost use Rattle.neli_places.specs.Places.{pending_of as items_of};
 ghost use Rattle.neli_spans.specs.Spans.{AreOf, next_serial, text_of};
 ghost use Rattle.neli_log.specs.Contents.{AreMessages, IsReadable, delivery_of, part_of, spans_of};
 ghost use Rattle.neli_log.specs.Log.{IsLeft, IsLog, IsLoose, Keeps, byte_count, entry_count, pending_of};
-ghost use Rattle.neli_log.specs.Staged.{HaveReaders, gained};
+ghost use Rattle.neli_log.specs.Staged.{HaveReaders, gain_of};
 
 use crate::content::Content;
 use crate::handing::{keep_copy, push_all, release, span_count};
@@ -130,7 +130,7 @@ impl Store {
         requires readers { HaveReaders (items_of self.old.places) entries.items }
         ensures port { self.new.port ≡ self.old.port }
         ensures ok { OnOk result ((w : Option ℕ) → pending_of self.new w
-            ≡ option_map (λ ds. ds ++ gained bytes.now w entries.items) (pending_of self.old w)) }
+            ≡ option_map (λ ds. ds ++ gain_of bytes.now w entries.items) (pending_of self.old w)) }
         ensures err { OnErr result ((w : Option ℕ)
             → pending_of self.new w ≡ pending_of self.old w) }
         ensures kept { OnOk result (Keeps self.old self.new bytes.now entries.items) }
@@ -149,7 +149,7 @@ impl Store {
         requires { IsLog self.old }
         ensures port { self.new.port ≡ self.old.port }
         ensures ok { OnOk result ((w : Option ℕ) → pending_of self.new w
-            ≡ option_map (λ ds. ds ++ received self.old.port
+            ≡ option_map (λ ds. ds ++ datagram_share self.old.port
             (λ q. is_some (pending_of self.old (Some q))) w
             (cut_of untyped_layout bytes.now) groups.now) (pending_of self.old w)) }
         ensures err { OnErr result ((w : Option ℕ)
@@ -176,7 +176,7 @@ impl Store {
         requires { IsLog self.old }
         ensures port { self.new.port ≡ self.old.port }
         ensures ok { OnOk result ((w : Option ℕ) → pending_of self.new w
-            ≡ option_map (λ ds. ds ++ broken w error) (pending_of self.old w)) }
+            ≡ option_map (λ ds. ds ++ fault_share w error) (pending_of self.old w)) }
         ensures err { OnErr result ((w : Option ℕ)
             → pending_of self.new w ≡ pending_of self.old w) }
         ensures would_block { is_would_block error ≡ true → IsOk result }

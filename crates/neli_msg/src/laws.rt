@@ -9,7 +9,7 @@ ghost use Rattle.neli_msg_base.specs.Messages.{Message, message_layout};
 ghost use Rattle.neli_msg_base.specs.Retyping.{typed_message};
 ghost use Rattle.neli_msg.specs.Cuts.{Cuts, cut_of};
 ghost use Rattle.neli_msg.specs.Agreement.{AreRead, typed_reading, untyped_layout};
-ghost use Rattle.neli_msg_base.specs.Zeroed.{HasNoTail, untyped_wires, zeroed};
+ghost use Rattle.neli_msg_base.specs.Zeroed.{HasNoTail, untyped_wires, datagram_zeroed};
 
 use neli_consts::NlType;
 use neli_wire::FromBytesWithInput;
@@ -55,9 +55,9 @@ pub fn typed_reading_agrees<T: NlType, P: FromBytesWithInput>()
 /// is as long as it was, and is read as the same messages.
 pub fn rewritten_datagram_is_zeroed()
     ensures written { (b : List ℕ) (ms : List (Message ℕ (List ℕ))) → AreBytes b
-        → Cuts untyped_layout b ms None → All HasNoTail ms → untyped_wires ms ≡ Ok (zeroed b) }
+        → Cuts untyped_layout b ms None → All HasNoTail ms → untyped_wires ms ≡ Ok (datagram_zeroed b) }
     ensures read_again { (b : List ℕ) (ms : List (Message ℕ (List ℕ)))
-        → Cuts untyped_layout b ms None → Cuts untyped_layout (zeroed b) ms None }
+        → Cuts untyped_layout b ms None → Cuts untyped_layout (datagram_zeroed b) ms None }
     ensures as_long { (b : List ℕ) (ms : List (Message ℕ (List ℕ)))
-        → Cuts untyped_layout b ms None → length (zeroed b) ≡ length b }
+        → Cuts untyped_layout b ms None → length (datagram_zeroed b) ≡ length b }
 {}

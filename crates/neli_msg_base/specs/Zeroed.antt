@@ -79,8 +79,8 @@ message_zeroed frame =
     ++ replicate (length frame - n) 0
 
 -- a datagram, which is the frames of messages
-abbrev pub zeroed : List ℕ → List ℕ
-zeroed = frames_zeroed message_length message_zeroed
+abbrev pub datagram_zeroed : List ℕ → List ℕ
+datagram_zeroed = frames_zeroed message_length message_zeroed
 
 -- ---- what is written
 

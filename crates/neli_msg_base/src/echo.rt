@@ -11,7 +11,7 @@ ghost use Rattle.neli_msg_base.specs.Answers.{echo_view};
 ghost use Rattle.neli_msg_base.specs.Headers.{Header as Head};
 ghost use Rattle.neli_msg_base.specs.Messages.{echo_layout};
 ghost use Rattle.neli_msg_base.specs.Wires.{echo_size, echo_wire};
-ghost use Rattle.neli_msg_base.specs.laws.Messages.{framed-local, framed-no_memory};
+ghost use Rattle.neli_msg_base.specs.laws.Messages.{layout_with-local, layout_with-no_memory};
 ghost use Rattle.neli_msg_base.specs.laws.Wires.{echo_wire-length, echo_wire-no_memory, echo_wire-zeros};
 
 use crate::header::{HEADER_SIZE, header_of};

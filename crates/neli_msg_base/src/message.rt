@@ -12,7 +12,7 @@ ghost use Rattle.neli_wire.specs.Sizes.{align};
 ghost use Rattle.neli_msg_base.specs.Kinds.{payload_in};
 ghost use Rattle.neli_msg_base.specs.Messages.{Message, message_layout, message_of, message_takes};
 ghost use Rattle.neli_msg_base.specs.Wires.{message_size, message_wire};
-ghost use Rattle.neli_msg_base.specs.laws.Messages.{framed-local, message-no_memory};
+ghost use Rattle.neli_msg_base.specs.laws.Messages.{layout_with-local, message-no_memory};
 ghost use Rattle.neli_msg_base.specs.laws.Wires.{message_wire-length, message_wire-no_memory, message_wire-zeros};
 
 use crate::header::{HEADER_SIZE, header_of};

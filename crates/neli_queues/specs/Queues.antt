@@ -4,7 +4,7 @@ use Rattle.std.specs.HashMap.{get}
 use Rattle.neli_deliveries.specs.declared.delivery.Delivery.{Delivery}
 use Rattle.neli_queues.specs.declared.piece.Piece.{Piece}
 use Rattle.neli_queues.specs.declared.queues.Queues.{Queues}
-use Rattle.neli_queues.specs.Pieces.{gained}
+use Rattle.neli_queues.specs.Pieces.{gain_of}
 
 -- the port of the router
 abbrev pub kept_port : Queues → ℕ
@@ -16,10 +16,10 @@ pending_of s None = s.multicast
 pending_of s (Some q) = get nat_eq s.numbers q
 
 -- what a list gets of deliveries for multicast and of pieces
-abbrev pub added : List Delivery → List Piece → Option ℕ → List Delivery
-added news ps None = news
-added news ps (Some q) = gained q ps
+abbrev pub share_of_both : List Delivery → List Piece → Option ℕ → List Delivery
+share_of_both news ps None = news
+share_of_both news ps (Some q) = gain_of q ps
 
 -- each open list gets of them what it is due
 abbrev pub AreDue : Queues → (Option ℕ → List Delivery) → List Delivery → List Piece → Type 0
-AreDue s due news ps = (w : Option ℕ) → is_some (pending_of s w) ≡ true → added news ps w ≡ due w
+AreDue s due news ps = (w : Option ℕ) → is_some (pending_of s w) ≡ true → share_of_both news ps w ≡ due w

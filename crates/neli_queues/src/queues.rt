@@ -3,9 +3,9 @@
 ghost use Rattle.std.specs.Prelude.{◌≡◌, ◌++◌, ℕ, Option, IfOk, OnOk, OnErr, option_map};
 ghost use Rattle.neli_msg.specs.Agreement.{untyped_layout};
 ghost use Rattle.neli_msg.specs.Cuts.{cut_of};
-ghost use Rattle.neli_deliveries.specs.Deliveries.{is_would_block, received};
+ghost use Rattle.neli_deliveries.specs.Deliveries.{is_would_block, datagram_share};
 ghost use Rattle.neli_queues.specs.Pieces.{is_open};
-ghost use Rattle.neli_queues.specs.Queues.{AreDue, added, kept_port, pending_of};
+ghost use Rattle.neli_queues.specs.Queues.{AreDue, share_of_both, kept_port, pending_of};
 
 use crate::hanging::{Numbers, hang_all, have_room};
 use crate::piece::Piece;
@@ -54,7 +54,7 @@ impl Queues {
         bytes: &[u8],
         groups: &Groups,
     ) -> Result<(LinkedList<Delivery>, Vec<Piece>), NoMemory>
-        ensures { IfOk result (λ r. AreDue self.now (λ w. received (kept_port self.now)
+        ensures { IfOk result (λ r. AreDue self.now (λ w. datagram_share (kept_port self.now)
             (is_open self.now.numbers) w (cut_of untyped_layout bytes.now) groups.now)
             r.0 r.1.items) }
     {
@@ -80,7 +80,7 @@ impl Queues {
     ) -> Result<(), NoMemory>
         ensures port { kept_port self.new ≡ kept_port self.old }
         ensures ok { OnOk result ((w : Option ℕ) → pending_of self.new w
-            ≡ option_map (λ ds. ds ++ added news pieces.items w) (pending_of self.old w)) }
+            ≡ option_map (λ ds. ds ++ share_of_both news pieces.items w) (pending_of self.old w)) }
         ensures err { OnErr result (self.new ≡ self.old) }
     {
         if !have_room(&self.numbers, &pieces) {

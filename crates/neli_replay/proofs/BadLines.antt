@@ -2,7 +2,7 @@
 use Rattle.std.proofs.Common.{◌≡◌, ◌⊎◌, inl, inr, ℕ, suc, ◌+◌, ◌<◌, Bool, true, false, List, [], ◌∷◌, length, take, Option, Some, None, Result, Ok, Err, refl, arith}
 use Rattle.std.specs.Prelude.{IsSome}
 use Rattle.neli_replay.specs.declared.line.Entry.{Entry}
-use Rattle.neli_replay.specs.Script.{AreGood, IsFirstBad, allowed, entries_from, entries_of, entry_in, lines_in, with_line, words_in}
+use Rattle.neli_replay.specs.Script.{AreGood, IsFirstBad, entry_if, entries_from, entries_of, entry_in, lines_in, with_line, words_in}
 
 with_ok : (k : ℕ) (o : Option Entry) (later : Result (List Entry) ℕ) (es : List Entry) → with_line k o later ≡ Ok es → IsSome o × ((rest : List Entry) × (later ≡ Ok rest))
 with_ok k None later es is = absurd cc
@@ -18,7 +18,7 @@ good_from : (first : Bool) (n : ℕ) (lines : List (List ℕ)) (es : List Entry)
 good_from first n [] es is = tt
 good_from first n ([] ∷ lines) es is = good_from first (n + 1) lines es is
 good_from first n ((b ∷ line) ∷ lines) es is =
-    let parts = with_ok n (allowed first (entry_in (words_in (b ∷ line)))) (entries_from false (n + 1) lines) es is in
+    let parts = with_ok n (entry_if first (entry_in (words_in (b ∷ line)))) (entries_from false (n + 1) lines) es is in
     (parts.0, good_from false (n + 1) lines parts.1.0 parts.1.1)
 
 -- the lines before are good, and not with the next
@@ -36,7 +36,7 @@ first_from first n ([] ∷ lines) k is =
     let later = first_from first (n + 1) lines k is in
     (suc later.0, omega (arith, later.1), omega (arith, later.2), later.3, later.4)
 first_from first n ((b ∷ line) ∷ lines) k is =
-    let said = allowed first (entry_in (words_in (b ∷ line))) in
+    let said = entry_if first (entry_in (words_in (b ∷ line))) in
     elim (with_err n said (entries_from false (n + 1) lines) k is) [
       | inl bad ↦ (0, omega (arith, bad.1), omega arith, tt, λ good. no_none said bad.0 good.0)
       | inr some ↦

@@ -7,7 +7,7 @@ use Rattle.std.proofs.lemmas.List.{append-nil, drop_more, get_or-map, length-map
 use Rattle.std.proofs.lemmas.Bool.Decides.{nat_tests}
 use Rattle.neli_router.specs.declared.command.Command.{Command}
 use Rattle.neli_replay.specs.declared.line.Entry.{Entry}
-use Rattle.neli_replay.specs.Script.{AreCommands, IsTold, allowed, entries_from, entry_in, with_line, words_in}
+use Rattle.neli_replay.specs.Script.{AreCommands, IsTold, entry_if, entries_from, entry_in, with_line, words_in}
 
 -- ---- what a router is told
 
@@ -47,7 +47,7 @@ after said (Ok entries) = Ok (said ++ entries)
 after said (Err k) = Err k
 
 abbrev said_on : Bool → List ℕ → Option Entry
-said_on first line = allowed first (entry_in (words_in line))
+said_on first line = entry_if first (entry_in (words_in line))
 
 read_empty : (first : Bool) (k : ℕ) (line : List ℕ) (lines : List (List ℕ)) → length line ≡ 0 → entries_from first k (line ∷ lines) ≡ entries_from first (k + 1) lines
 read_empty first k [] lines none = refl
@@ -61,12 +61,12 @@ line_is : (first : Bool) (k : ℕ) (line : List ℕ) (lines : List (List ℕ)) �
 line_is first k [] lines some = absurd cc
 line_is first k (b ∷ line) lines some = refl
 
-read_more : (said : List Entry) (first : Bool) (k : ℕ) (line : List ℕ) (lines : List (List ℕ)) (e : Entry) → eqb (length line) 0 ≡ false → allowed first (entry_in (words_in line)) ≡ Some e → after said (entries_from first k (line ∷ lines)) ≡ after (said ++ e ∷ []) (entries_from false (k + 1) lines)
+read_more : (said : List Entry) (first : Bool) (k : ℕ) (line : List ℕ) (lines : List (List ℕ)) (e : Entry) → eqb (length line) 0 ≡ false → entry_if first (entry_in (words_in line)) ≡ Some e → after said (entries_from first k (line ∷ lines)) ≡ after (said ++ e ∷ []) (entries_from false (k + 1) lines)
 read_more said first k line lines e some is =
     ap (after said) (line_is first k line lines some ∙ ap (λ o. with_line k o (entries_from false (k + 1) lines)) is)
     ∙ after_more said k e (entries_from false (k + 1) lines)
 
-read_bad : (said : List Entry) (first : Bool) (k : ℕ) (line : List ℕ) (lines : List (List ℕ)) → eqb (length line) 0 ≡ false → allowed first (entry_in (words_in line)) ≡ None → after said (entries_from first k (line ∷ lines)) ≡ Err k
+read_bad : (said : List Entry) (first : Bool) (k : ℕ) (line : List ℕ) (lines : List (List ℕ)) → eqb (length line) 0 ≡ false → entry_if first (entry_in (words_in line)) ≡ None → after said (entries_from first k (line ∷ lines)) ≡ Err k
 read_bad said first k line lines some is =
     ap (after said) (line_is first k line lines some ∙ ap (λ o. with_line k o (entries_from false (k + 1) lines)) is)
 
@@ -87,11 +87,11 @@ pub pass_empty : (whole : Result (List Entry) ℕ) (said : List Entry) (first : 
 pass_empty whole said first lines i d before within none =
     before ∙ ap (after said) (ap (entries_from first (i + 1)) (line_left lines i d within) ∙ read_empty first (i + 1) (get_or lines i d).now (drop (i + 1) (bytes_in lines)) none)
 
-pub pass_entry : (whole : Result (List Entry) ℕ) (said : List Entry) (first : Bool) (lines : List (Bor (List ℕ))) (i : ℕ) (d : Bor (List ℕ)) (e : Entry) → whole ≡ after said (entries_from first (i + 1) (drop i (bytes_in lines))) → i < length lines → eqb (length (get_or lines i d).now) 0 ≡ false → allowed first (entry_in (words_in (get_or lines i d).now)) ≡ Some e → whole ≡ after (said ++ e ∷ []) (entries_from false (i + 1 + 1) (drop (i + 1) (bytes_in lines)))
+pub pass_entry : (whole : Result (List Entry) ℕ) (said : List Entry) (first : Bool) (lines : List (Bor (List ℕ))) (i : ℕ) (d : Bor (List ℕ)) (e : Entry) → whole ≡ after said (entries_from first (i + 1) (drop i (bytes_in lines))) → i < length lines → eqb (length (get_or lines i d).now) 0 ≡ false → entry_if first (entry_in (words_in (get_or lines i d).now)) ≡ Some e → whole ≡ after (said ++ e ∷ []) (entries_from false (i + 1 + 1) (drop (i + 1) (bytes_in lines)))
 pass_entry whole said first lines i d e before within some is =
     before ∙ (ap (λ ls. after said (entries_from first (i + 1) ls)) (line_left lines i d within) ∙ read_more said first (i + 1) (get_or lines i d).now (drop (i + 1) (bytes_in lines)) e some is)
 
-pub pass_bad : (whole : Result (List Entry) ℕ) (said : List Entry) (first : Bool) (lines : List (Bor (List ℕ))) (i : ℕ) (d : Bor (List ℕ)) → whole ≡ after said (entries_from first (i + 1) (drop i (bytes_in lines))) → i < length lines → eqb (length (get_or lines i d).now) 0 ≡ false → allowed first (entry_in (words_in (get_or lines i d).now)) ≡ None → whole ≡ Err (i + 1)
+pub pass_bad : (whole : Result (List Entry) ℕ) (said : List Entry) (first : Bool) (lines : List (Bor (List ℕ))) (i : ℕ) (d : Bor (List ℕ)) → whole ≡ after said (entries_from first (i + 1) (drop i (bytes_in lines))) → i < length lines → eqb (length (get_or lines i d).now) 0 ≡ false → entry_if first (entry_in (words_in (get_or lines i d).now)) ≡ None → whole ≡ Err (i + 1)
 pass_bad whole said first lines i d before within some is =
     before ∙ (ap (λ ls. after said (entries_from first (i + 1) ls)) (line_left lines i d within) ∙ read_bad said first (i + 1) (get_or lines i d).now (drop (i + 1) (bytes_in lines)) some is)
 

@@ -69,10 +69,10 @@ entry_in words = None
 -- ---- what a script says
 
 -- the port is set on the first line that isn't empty, or not at all
-abbrev pub allowed : Bool → Option Entry → Option Entry
-allowed true said = said
-allowed false (Some (Port n)) = None
-allowed false said = said
+abbrev pub entry_if : Bool → Option Entry → Option Entry
+entry_if true said = said
+entry_if false (Some (Port n)) = None
+entry_if false said = said
 
 -- what line k says stands before what the others say; or the number of the first bad one
 abbrev pub with_line : ℕ → Option Entry → Result (List Entry) ℕ → Result (List Entry) ℕ
@@ -86,7 +86,7 @@ abbrev pub entries_from : Bool → ℕ → List (List ℕ) → Result (List Entr
 entries_from first k [] = Ok []
 entries_from first k ([] ∷ lines) = entries_from first (k + 1) lines
 entries_from first k ((b ∷ line) ∷ lines) =
-    with_line k (allowed first (entry_in (words_in (b ∷ line)))) (entries_from false (k + 1) lines)
+    with_line k (entry_if first (entry_in (words_in (b ∷ line)))) (entries_from false (k + 1) lines)
 
 -- what a script says, or the number of its first bad line
 abbrev pub entries_of : List ℕ → Result (List Entry) ℕ
@@ -98,7 +98,7 @@ abbrev pub AreGood : Bool → List (List ℕ) → Type 0
 AreGood first [] = ⊤
 AreGood first ([] ∷ lines) = AreGood first lines
 AreGood first ((b ∷ line) ∷ lines) =
-    IsSome (allowed first (entry_in (words_in (b ∷ line)))) × AreGood false lines
+    IsSome (entry_if first (entry_in (words_in (b ∷ line)))) × AreGood false lines
 
 -- line k is the first bad one: those before it are good, and with it they are not
 abbrev pub IsFirstBad : List (List ℕ) → ℕ → Type 0

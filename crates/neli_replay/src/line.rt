@@ -2,7 +2,7 @@
 
 ghost use Rattle.std.specs.Prelude.{◌≡◌, map};
 ghost use Rattle.neli_replay.specs.Words.{Reads, bytes_of, number};
-ghost use Rattle.neli_replay.specs.Script.{allowed, datagram, entry_in, fault_named, request, short_entry, words_in};
+ghost use Rattle.neli_replay.specs.Script.{entry_if, datagram, entry_in, fault_named, request, short_entry, words_in};
 
 use crate::words::{LineError, number_u16, number_u32, number_usize, parts_of, read_bytes};
 use neli_attr::Buffer;
@@ -126,7 +126,7 @@ fn read_words(alloc: Global, words: &[&[u8]]) -> Result<Entry, LineError>
 
 /// What a line says that isn't empty. Only the first such line may set the port.
 pub(crate) fn read_line(alloc: Global, line: &[u8], first: bool) -> Result<Entry, LineError>
-    ensures { Reads (allowed first (entry_in (words_in line.now))) result }
+    ensures { Reads (entry_if first (entry_in (words_in line.now))) result }
 {
     let words = parts_of(alloc, line, b' ')?;
     match read_words(alloc, &words) {

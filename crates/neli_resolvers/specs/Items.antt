@@ -36,8 +36,8 @@ abbrev pub Item : Type 0
 Item = Result Message Error
 
 -- what the attributes of a message say, where it has a payload
-abbrev pub said : Message → Option (Says CtrlAttr)
-said m = option_map (λ body. map nlattr_says body.attrs) (body_of m.payload)
+abbrev pub attributes_said : Message → Option (Says CtrlAttr)
+attributes_said m = option_map (λ body. map nlattr_says body.attrs) (body_of m.payload)
 
 -- the messages among the items
 abbrev pub messages : List Item → List Message

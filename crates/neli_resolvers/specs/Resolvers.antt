@@ -11,7 +11,7 @@ use Rattle.neli_genl.specs.Genlmsghdr.{Says}
 use Rattle.neli_msg.specs.RouterError.TheVariants.{Msg}
 use Rattle.neli_msg.specs.RouterErrors.{de_of}
 use Rattle.neli_resolvers.specs.Attributes.{Group, family_id, family_name, group_attrs, group_id, group_name, groups}
-use Rattle.neli_resolvers.specs.Items.{Error, Item, Message, after, first_error, first_found, last_found, messages, said}
+use Rattle.neli_resolvers.specs.Items.{Error, Item, Message, after, first_error, first_found, last_found, messages, attributes_said}
 
 -- ---- texts, where nothing was found
 
@@ -44,7 +44,7 @@ as_error reading = result_map_both (λ x. x) de_of reading
 
 -- the number of a family that a message tells
 abbrev pub number_told : Message → Option ℕ
-number_told m = option_and_then (λ attrs. result_ok (family_id attrs)) (said m)
+number_told m = option_and_then (λ attrs. result_ok (family_id attrs)) (attributes_said m)
 
 -- the last number that is told
 abbrev pub family_answer : List ℕ → List Item → Result ℕ Error
@@ -73,7 +73,7 @@ match_number name group =
 abbrev pub match_in : List ℕ → Message → Result (Option ℕ) DeError
 match_in name m =
     option_map_or (λ attrs. after (λ all. Ok (first_found (match_number name) all)) (groups attrs))
-    (said m) (Ok None)
+    (attributes_said m) (Ok None)
 
 -- that of the last message with a match
 abbrev pub group_answer : List ℕ → List ℕ → List Item → Result ℕ Error
@@ -107,7 +107,7 @@ names_said id attrs =
 
 -- those that a message tells
 abbrev pub names_in : ℕ → Message → Result (Option (List ℕ × List ℕ)) DeError
-names_in id m = option_map_or (names_said id) (said m) (Ok None)
+names_in id m = option_map_or (names_said id) (attributes_said m) (Ok None)
 
 -- those that an item tells
 abbrev pub names_told : ℕ → Item → Result (Option (List ℕ × List ℕ)) Error
@@ -119,4 +119,4 @@ names_answer id items = after (or_text no_number) (last_found (names_told id) it
 
 -- memory is asked for where a message has a payload
 abbrev pub names_take : List Item → Type 0
-names_take items = IsSome (first_found said (messages items))
+names_take items = IsSome (first_found attributes_said (messages items))

@@ -3,7 +3,7 @@
 ghost use Rattle.std.specs.Prelude.{◌≡◌, Err, IfErr, IfOk, IsSome, Ok, OnErr, None, map, option_map, string_bytes};
 ghost use Rattle.neli_attr.specs.Handles.{attrs_in};
 ghost use Rattle.neli_attr.specs.Nlattr.{nlattr_says};
-ghost use Rattle.neli_resolvers.specs.Items.{IsReadRefusal, IsRefusal, said};
+ghost use Rattle.neli_resolvers.specs.Items.{IsReadRefusal, IsRefusal, attributes_said};
 ghost use Rattle.neli_resolvers.specs.Resolvers.{family_answer, family_takes, group_answer, group_takes, match_in, names_answer, names_in, names_said, names_take, number_told};
 
 use crate::attributes::{family_id, family_name, groups};
@@ -117,7 +117,7 @@ fn names_in(
     ensures value { IfOk result (λ names. names_in id message.now
         ≡ Ok (option_map (λ p. (string_bytes p.0, string_bytes p.1)) names)) }
     ensures refused { IfErr result (IsReadRefusal (names_in id message.now)) }
-    ensures payload { OnErr result (IsSome (said message.now)) }
+    ensures payload { OnErr result (IsSome (attributes_said message.now)) }
 {
     let Some(body) = message.get_payload() else {
         return Ok(None);

@@ -7,18 +7,18 @@ use Rattle.neli_wire.specs.DeError.{DeError}
 use Rattle.neli_wire.specs.Writing.{Wire}
 use Rattle.neli_msg.specs.Agreement.{untyped_layout}
 use Rattle.neli_msg.specs.Cuts.{Cut, cut_of}
-use Rattle.neli_deliveries.specs.Deliveries.{Untyped, messages_to, reader_fault, received}
-use Rattle.neli_router_base.specs.Sends.{sent}
+use Rattle.neli_deliveries.specs.Deliveries.{Untyped, messages_to, reader_fault, datagram_share}
+use Rattle.neli_router_base.specs.Sends.{frame_or_refusal}
 use Rattle.neli_router.specs.declared.command.Command.{Command}
 use Rattle.neli_router.specs.declared.command.Command.TheVariants as command
 use Rattle.neli_router.specs.declared.command.Outcome.{Outcome}
-use Rattle.neli_router.specs.Deliveries.{deliveries, gained}
+use Rattle.neli_router.specs.Deliveries.{deliveries, gain}
 use Rattle.neli_router.specs.History.{Event, History, any_upto, base, is_closed, is_live, is_open, items_of, needs_of, next_number, number_of, reads, sends, since, whose, with_item}
 use Rattle.neli_router.specs.Outcomes.{EachAfter, IsAnswered, IsNextAnswer, IsReadOf, IsSending, IsSent, closed_or_not, is_numbered}
 use Rattle.neli_router.specs.laws.Deliveries.{deliveries-more}
 
 -- the same where the same numbers are open
-pub received_same : (port : ℕ) (test test' : ℕ → Bool) → ((n : ℕ) → test n ≡ test' n) → (w : Option ℕ) (cut : Cut Untyped) (groups : List ℕ) → received port test w cut groups ≡ received port test' w cut groups
+pub received_same : (port : ℕ) (test test' : ℕ → Bool) → ((n : ℕ) → test n ≡ test' n) → (w : Option ℕ) (cut : Cut Untyped) (groups : List ℕ) → datagram_share port test w cut groups ≡ datagram_share port test' w cut groups
 received_same port test test' same None cut [] = refl
 received_same port test test' same None cut (g ∷ groups) = refl
 received_same port test test' same (Some q) cut [] = ap (λ ds. ds ++ reader_fault cut.1) (each cut.0)
@@ -79,21 +79,21 @@ module _ {ST SP RT RP : Type 0} where
       ∙ any_same (sends h') (λ k. is_live k h && (number_of k h == q)) (λ k. is_live k h' && (number_of k h' == q)) (λ k. rw (alike_live k h h' a, a.numbers k) refl)
 
   -- a handle gets the same of each command
-  gained-same : (port k : ℕ) (c : Command ST SP) (h h' : History ST SP RT RP) → IsAlike h h' → gained port k c h ≡ gained port k c h'
-  gained-same port k (command.Datagram b groups) h h' a =
+  gain-same : (port k : ℕ) (c : Command ST SP) (h h' : History ST SP RT RP) → IsAlike h h' → gain port k c h ≡ gain port k c h'
+  gain-same port k (command.Datagram b groups) h h' a =
       rw (alike_whose k h h' a) (received_same port (λ q. is_open q h) (λ q. is_open q h') (λ q. alike_open q h h' a) (whose k h') (cut_of untyped_layout b.items) groups)
-  gained-same port k (command.Fault e) h h' a = rw (alike_whose k h h' a) refl
-  gained-same port k (command.SetNextSeq n) h h' a = refl
-  gained-same port k (command.Send t f p) h h' a = refl
-  gained-same port k (command.Read j) h h' a = refl
-  gained-same port k (command.Close j) h h' a = refl
+  gain-same port k (command.Fault e) h h' a = rw (alike_whose k h h' a) refl
+  gain-same port k (command.SetNextSeq n) h h' a = refl
+  gain-same port k (command.Send t f p) h h' a = refl
+  gain-same port k (command.Read j) h h' a = refl
+  gain-same port k (command.Close j) h h' a = refl
 
   pub deliveries-after : (port k : ℕ) (later h h' : History ST SP RT RP) → IsAlike h h' → deliveries port k h ≡ deliveries port k h' → deliveries port k (later ++ h) ≡ deliveries port k (later ++ h')
   deliveries-after port k [] h h' a same = same
   deliveries-after port k (e ∷ later) h h' a same =
       let after = alike-after later h h' a in
       deliveries-more port k e (later ++ h)
-      ∙ rw (deliveries-after port k later h h' a same, alike_live k (later ++ h) (later ++ h') after, gained-same port k e.0 (later ++ h) (later ++ h') after) refl
+      ∙ rw (deliveries-after port k later h h' a same, alike_live k (later ++ h) (later ++ h') after, gain-same port k e.0 (later ++ h) (later ++ h') after) refl
       ∙ sym (deliveries-more port k e (later ++ h'))
 
   -- ---- histories after which the same is right
@@ -135,7 +135,7 @@ module _ {ST SP RT RP : Type 0} where
       pub sent-same : (h h' : History ST SP RT RP) → IsSameFor port Passes h h' → (c : Command ST SP) (o : Outcome ST SP RT RP) → IsSent number wire size port h c o → IsSent number wire size port h' c o
       sent-same h h' s (command.Send t f p) o is =
           let next : next_number h ≡ next_number h' = rw (s.alike.set, s.alike.counted) refl in
-          subst (λ r. IsSending r o) (ap (λ n. sent number wire size port n (is_open n h) t f p) next ∙ ap (λ b. sent number wire size port (next_number h') b t f p) (alike_open (next_number h') h h' s.alike)) is
+          subst (λ r. IsSending r o) (ap (λ n. frame_or_refusal number wire size port n (is_open n h) t f p) next ∙ ap (λ b. frame_or_refusal number wire size port (next_number h') b t f p) (alike_open (next_number h') h h' s.alike)) is
       sent-same h h' s (command.Datagram b groups) o is = is
       sent-same h h' s (command.Fault e) o is = is
       sent-same h h' s (command.SetNextSeq n) o is = is

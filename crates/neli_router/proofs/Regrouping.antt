@@ -9,9 +9,9 @@ use Rattle.neli_wire.specs.laws.Frames.{IsPlaced}
 use Rattle.neli_msg.specs.Agreement.{untyped_layout}
 use Rattle.neli_msg.specs.Cuts.{Cut, cut_of, messages_before}
 use Rattle.neli_msg.specs.laws.Cuts.{CutsEach, Cuts-each, cut_of-Cuts, cut_of-end, each-Cuts, one_cut}
-use Rattle.neli_msg.specs.laws.Messages.{framed-placed}
+use Rattle.neli_msg.specs.laws.Messages.{layout_with-placed}
 use Rattle.neli_deliveries.specs.declared.delivery.Delivery.{Delivery}
-use Rattle.neli_deliveries.specs.Deliveries.{Untyped, message, message_to, messages_to, reader_fault, received}
+use Rattle.neli_deliveries.specs.Deliveries.{Untyped, message, message_to, messages_to, reader_fault, datagram_share}
 use Rattle.neli_router.specs.declared.command.Command.{Command}
 use Rattle.neli_router.specs.declared.command.Command.TheVariants as command
 use Rattle.neli_router.specs.declared.command.Outcome.{Outcome}
@@ -19,7 +19,7 @@ use Rattle.neli_router.specs.declared.command.Outcome.TheVariants as outcome
 use Rattle.neli_router.specs.Deliveries.{deliveries}
 use Rattle.neli_router.specs.History.{History, is_live, is_open, items_of, whose}
 use Rattle.neli_router.specs.Outcomes.{EachAfter}
-use Rattle.neli_router.specs.Regrouping.{AreWholeBeforeLast, Bytes, IsRegrouped, IsWhole, came, joined}
+use Rattle.neli_router.specs.Regrouping.{AreWholeBeforeLast, Bytes, IsRegrouped, IsWhole, history_with, concatenation}
 use Rattle.neli_router.specs.laws.Deliveries.{deliveries-more}
 use Rattle.neli_router.proofs.Alike.{IsAlike, IsSameFor, alike-after, alike-back, alike-both, alike-self, alike_live, alike_open, alike_whose, deliveries-after, each-same, received_same}
 
@@ -48,40 +48,40 @@ module _ {H V : Type 0} (layout : Layout H V) (placed : IsPlaced layout) (some :
       each-cut_of (a ++ b) _ _ (each-join a b _ _ _ (subst (λ (g : Option DeError). Each a (cut_of layout a).0 g) whole (cut_of-each a)) (cut_of-each b))
 
 pub untyped-join : (a b : List ℕ) → IsWhole untyped_layout a → cut_of untyped_layout (a ++ b) ≡ messages_before (cut_of untyped_layout a).0 (cut_of untyped_layout b)
-untyped-join = cut_of-join untyped_layout (framed-placed (λ n. n) _) (omega arith)
+untyped-join = cut_of-join untyped_layout (layout_with-placed (λ n. n) _) (omega arith)
 
 untyped-end : cut_of untyped_layout [] ≡ ([], None)
-untyped-end = cut_of-end untyped_layout (framed-placed (λ n. n) _) (omega arith)
+untyped-end = cut_of-end untyped_layout (layout_with-placed (λ n. n) _) (omega arith)
 
 -- ---- what a handle gets
 
 module _ (port : ℕ) (test : ℕ → Bool) where
   -- of whole messages and those after them, both
-  received-join : (w : Option ℕ) (groups : List ℕ) (ms : List Untyped) (cut : Cut Untyped) → received port test w (messages_before ms cut) groups ≡ received port test w (ms, None) groups ++ received port test w cut groups
-  received-join None [] ms cut = refl
-  received-join None (g ∷ groups) ms cut = map-append message ms cut.0
-  received-join (Some q) [] ms cut =
+  datagram_share-join : (w : Option ℕ) (groups : List ℕ) (ms : List Untyped) (cut : Cut Untyped) → datagram_share port test w (messages_before ms cut) groups ≡ datagram_share port test w (ms, None) groups ++ datagram_share port test w cut groups
+  datagram_share-join None [] ms cut = refl
+  datagram_share-join None (g ∷ groups) ms cut = map-append message ms cut.0
+  datagram_share-join (Some q) [] ms cut =
       ap (λ ds. ds ++ reader_fault cut.1) (flat_map-append (message_to port test q) ms cut.0)
       ∙ append_assoc (messages_to port test q ms) (messages_to port test q cut.0) (reader_fault cut.1)
-      ∙ ap (λ ds. ds ++ received port test (Some q) cut []) (sym (append-nil (messages_to port test q ms)))
-  received-join (Some q) (g ∷ groups) ms cut = refl
+      ∙ ap (λ ds. ds ++ datagram_share port test (Some q) cut []) (sym (append-nil (messages_to port test q ms)))
+  datagram_share-join (Some q) (g ∷ groups) ms cut = refl
 
-  received-nothing : (w : Option ℕ) (groups : List ℕ) → received port test w (cut_of untyped_layout []) groups ≡ []
-  received-nothing w groups = ap (λ cut. received port test w cut groups) untyped-end ∙ by w groups
+  datagram_share-nothing : (w : Option ℕ) (groups : List ℕ) → datagram_share port test w (cut_of untyped_layout []) groups ≡ []
+  datagram_share-nothing w groups = ap (λ cut. datagram_share port test w cut groups) untyped-end ∙ by w groups
     where
-      by : (w : Option ℕ) (groups : List ℕ) → received port test w ([], None) groups ≡ []
+      by : (w : Option ℕ) (groups : List ℕ) → datagram_share port test w ([], None) groups ≡ []
       by None [] = refl
       by None (g ∷ groups) = refl
       by (Some q) [] = refl
       by (Some q) (g ∷ groups) = refl
 
-  received-more : (w : Option ℕ) (groups : List ℕ) (a b : List ℕ) → IsWhole untyped_layout a
-      → received port test w (cut_of untyped_layout a) groups ++ received port test w (cut_of untyped_layout b) groups ≡ received port test w (cut_of untyped_layout (a ++ b)) groups
-  received-more w groups a b whole =
+  datagram_share-more : (w : Option ℕ) (groups : List ℕ) (a b : List ℕ) → IsWhole untyped_layout a
+      → datagram_share port test w (cut_of untyped_layout a) groups ++ datagram_share port test w (cut_of untyped_layout b) groups ≡ datagram_share port test w (cut_of untyped_layout (a ++ b)) groups
+  datagram_share-more w groups a b whole =
       let first : cut_of untyped_layout a ≡ ((cut_of untyped_layout a).0, None) = ap (λ (g : Option DeError). ((cut_of untyped_layout a).0, g)) whole in
-      ap (λ cut. received port test w cut groups ++ received port test w (cut_of untyped_layout b) groups) first
-      ∙ sym (received-join w groups (cut_of untyped_layout a).0 (cut_of untyped_layout b))
-      ∙ ap (λ cut. received port test w cut groups) (sym (untyped-join a b whole))
+      ap (λ cut. datagram_share port test w cut groups ++ datagram_share port test w (cut_of untyped_layout b) groups) first
+      ∙ sym (datagram_share-join w groups (cut_of untyped_layout a).0 (cut_of untyped_layout b))
+      ∙ ap (λ cut. datagram_share port test w cut groups) (sym (untyped-join a b whole))
 
 either : (b : Bool) (ds : List Delivery) → (if b then ds else ds) ≡ ds
 either true ds = refl
@@ -94,18 +94,18 @@ module _ {ST SP RT RP : Type 0} where
   alike-datagram : (b : Bytes) (groups : List ℕ) (h : History ST SP RT RP) → IsAlike ((command.Datagram b groups, outcome.Done) ∷ h) h
   alike-datagram b groups h = record { sent = refl; set = refl; counted = refl; numbers = λ k. refl; needs = λ k. refl; closed = λ k. refl }
 
-  alike-came : (groups : List ℕ) (bs : List Bytes) (h : History ST SP RT RP) → IsAlike (came groups bs h) h
+  alike-came : (groups : List ℕ) (bs : List Bytes) (h : History ST SP RT RP) → IsAlike (history_with groups bs h) h
   alike-came groups [] h = alike-self h
   alike-came groups (b ∷ later) h =
       alike-both _ _ _ (alike-came groups later ((command.Datagram b groups, outcome.Done) ∷ h)) (alike-datagram b groups h)
 
   -- what a handle gets of bytes that come as one datagram
   part_of : ℕ → ℕ → List ℕ → History ST SP RT RP → List ℕ → List Delivery
-  part_of port k groups h b = if is_live k h then received port (λ q. is_open q h) (whose k h) (cut_of untyped_layout b) groups else []
+  part_of port k groups h b = if is_live k h then datagram_share port (λ q. is_open q h) (whose k h) (cut_of untyped_layout b) groups else []
 
   part-nothing : (port k : ℕ) (groups : List ℕ) (h : History ST SP RT RP) → part_of port k groups h [] ≡ []
   unfolding part_of
-  part-nothing port k groups h = rw (received-nothing port (λ q. is_open q h) (whose k h) groups) (either (is_live k h) [])
+  part-nothing port k groups h = rw (datagram_share-nothing port (λ q. is_open q h) (whose k h) groups) (either (is_live k h) [])
 
   part-same : (port k : ℕ) (groups : List ℕ) (h h' : History ST SP RT RP) (b : List ℕ) → IsAlike h h' → part_of port k groups h b ≡ part_of port k groups h' b
   unfolding part_of
@@ -115,9 +115,9 @@ module _ {ST SP RT RP : Type 0} where
   part-more : (port k : ℕ) (groups : List ℕ) (h : History ST SP RT RP) (a b : List ℕ) → IsWhole untyped_layout a → part_of port k groups h a ++ part_of port k groups h b ≡ part_of port k groups h (a ++ b)
   unfolding part_of
   part-more port k groups h a b whole = elim (is_live k h) as (λ live.
-      (if live then received port (λ q. is_open q h) (whose k h) (cut_of untyped_layout a) groups else []) ++ (if live then received port (λ q. is_open q h) (whose k h) (cut_of untyped_layout b) groups else [])
-      ≡ (if live then received port (λ q. is_open q h) (whose k h) (cut_of untyped_layout (a ++ b)) groups else [])) [
-        | true ↦ received-more port (λ q. is_open q h) (whose k h) groups a b whole
+      (if live then datagram_share port (λ q. is_open q h) (whose k h) (cut_of untyped_layout a) groups else []) ++ (if live then datagram_share port (λ q. is_open q h) (whose k h) (cut_of untyped_layout b) groups else [])
+      ≡ (if live then datagram_share port (λ q. is_open q h) (whose k h) (cut_of untyped_layout (a ++ b)) groups else [])) [
+        | true ↦ datagram_share-more port (λ q. is_open q h) (whose k h) groups a b whole
         | false ↦ refl
       ]
 
@@ -125,7 +125,7 @@ module _ {ST SP RT RP : Type 0} where
   unfolding part_of
   part-one port k groups h b = deliveries-more port k (command.Datagram b groups, outcome.Done) h
 
-  deliveries-came : (port k : ℕ) (groups : List ℕ) (bs : List Bytes) (h : History ST SP RT RP) → AreWholeBeforeLast bs → deliveries port k (came groups bs h) ≡ deliveries port k h ++ part_of port k groups h (joined bs)
+  deliveries-came : (port k : ℕ) (groups : List ℕ) (bs : List Bytes) (h : History ST SP RT RP) → AreWholeBeforeLast bs → deliveries port k (history_with groups bs h) ≡ deliveries port k h ++ part_of port k groups h (concatenation bs)
   deliveries-came port k groups [] h whole =
       sym (append-nil (deliveries port k h)) ∙ ap (λ ds. deliveries port k h ++ ds) (sym (part-nothing port k groups h))
   deliveries-came port k groups (b ∷ []) h whole =
@@ -133,28 +133,28 @@ module _ {ST SP RT RP : Type 0} where
   deliveries-came port k groups (b ∷ c ∷ later) h whole =
       let next = (command.Datagram b groups, outcome.Done) ∷ h in
       deliveries-came port k groups (c ∷ later) next whole.1
-      ∙ rw (part-one port k groups h b, part-same port k groups next h (joined (c ∷ later)) (alike-datagram b groups h)) refl
-      ∙ append_assoc (deliveries port k h) (part_of port k groups h b.items) (part_of port k groups h (joined (c ∷ later)))
-      ∙ ap (λ ds. deliveries port k h ++ ds) (part-more port k groups h b.items (joined (c ∷ later)) whole.0)
+      ∙ rw (part-one port k groups h b, part-same port k groups next h (concatenation (c ∷ later)) (alike-datagram b groups h)) refl
+      ∙ append_assoc (deliveries port k h) (part_of port k groups h b.items) (part_of port k groups h (concatenation (c ∷ later)))
+      ∙ ap (λ ds. deliveries port k h ++ ds) (part-more port k groups h b.items (concatenation (c ∷ later)) whole.0)
 
   -- ---- the same bytes in other datagrams
 
-  pub regrouped-alike : (groups : List ℕ) (bs cs : List Bytes) (before later : History ST SP RT RP) → IsAlike (later ++ came groups bs before) (later ++ came groups cs before)
+  pub regrouped-alike : (groups : List ℕ) (bs cs : List Bytes) (before later : History ST SP RT RP) → IsAlike (later ++ history_with groups bs before) (later ++ history_with groups cs before)
   regrouped-alike groups bs cs before later =
-      alike-after later (came groups bs before) (came groups cs before) (alike-both _ _ _ (alike-came groups bs before) (alike-back _ _ (alike-came groups cs before)))
+      alike-after later (history_with groups bs before) (history_with groups cs before) (alike-both _ _ _ (alike-came groups bs before) (alike-back _ _ (alike-came groups cs before)))
 
-  pub regrouped-deliveries : (port k : ℕ) (groups : List ℕ) (bs cs : List Bytes) (before later : History ST SP RT RP) → IsRegrouped bs cs → deliveries port k (later ++ came groups bs before) ≡ deliveries port k (later ++ came groups cs before)
+  pub regrouped-deliveries : (port k : ℕ) (groups : List ℕ) (bs cs : List Bytes) (before later : History ST SP RT RP) → IsRegrouped bs cs → deliveries port k (later ++ history_with groups bs before) ≡ deliveries port k (later ++ history_with groups cs before)
   regrouped-deliveries port k groups bs cs before later r =
-      deliveries-after port k later (came groups bs before) (came groups cs before) (regrouped-alike groups bs cs before [])
+      deliveries-after port k later (history_with groups bs before) (history_with groups cs before) (regrouped-alike groups bs cs before [])
       (deliveries-came port k groups bs before r.0 ∙ ap (λ (x : List ℕ). deliveries port k before ++ part_of port k groups before x) r.2 ∙ sym (deliveries-came port k groups cs before r.1))
 
   -- ---- and so with what is done next
 
-  items-came : (k : ℕ) (groups : List ℕ) (bs : List Bytes) (h : History ST SP RT RP) → items_of k (came groups bs h) ≡ items_of k h
+  items-came : (k : ℕ) (groups : List ℕ) (bs : List Bytes) (h : History ST SP RT RP) → items_of k (history_with groups bs h) ≡ items_of k h
   items-came k groups [] h = refl
   items-came k groups (b ∷ later) h = items-came k groups later ((command.Datagram b groups, outcome.Done) ∷ h)
 
-  regrouped-same : (port : ℕ) (groups : List ℕ) (bs cs : List Bytes) (before : History ST SP RT RP) → IsRegrouped bs cs → IsSameFor port (λ k. ⊤) (came groups bs before) (came groups cs before)
+  regrouped-same : (port : ℕ) (groups : List ℕ) (bs cs : List Bytes) (before : History ST SP RT RP) → IsRegrouped bs cs → IsSameFor port (λ k. ⊤) (history_with groups bs before) (history_with groups cs before)
   regrouped-same port groups bs cs before r = record {
     alike = regrouped-alike groups bs cs before [];
     delivered = λ k. regrouped-deliveries port k groups bs cs before [] r;
@@ -163,6 +163,6 @@ module _ {ST SP RT RP : Type 0} where
 
   module _ (port : ℕ) (Said : History ST SP RT RP → Command ST SP → Outcome ST SP RT RP → Type 0)
       (respects : (h h' : History ST SP RT RP) → IsSameFor port (λ k. ⊤) h h' → (c : Command ST SP) (o : Outcome ST SP RT RP) → Said h c o → Said h' c o) where
-    pub regrouped-each : (groups : List ℕ) (bs cs : List Bytes) (before : History ST SP RT RP) (commands : List (Command ST SP)) (outcomes : List (Outcome ST SP RT RP)) → IsRegrouped bs cs → EachAfter Said (came groups bs before) commands outcomes → EachAfter Said (came groups cs before) commands outcomes
+    pub regrouped-each : (groups : List ℕ) (bs cs : List Bytes) (before : History ST SP RT RP) (commands : List (Command ST SP)) (outcomes : List (Outcome ST SP RT RP)) → IsRegrouped bs cs → EachAfter Said (history_with groups bs before) commands outcomes → EachAfter Said (history_with groups cs before) commands outcomes
     regrouped-each groups bs cs before commands outcomes r each =
-        each-same port (λ k. ⊤) (λ c. ⊤) Said (λ h h' s c o _. respects h h' s c o) (came groups bs before) (came groups cs before) commands outcomes (regrouped-same port groups bs cs before r) (λ i d within. tt) each
+        each-same port (λ k. ⊤) (λ c. ⊤) Said (λ h h' s c o _. respects h h' s c o) (history_with groups bs before) (history_with groups cs before) commands outcomes (regrouped-same port groups bs cs before r) (λ i d within. tt) each

@@ -10,7 +10,7 @@ use Rattle.neli_msg.specs.Agreement.{untyped_layout}
 use Rattle.neli_msg.specs.Cuts.{Cut, cut_of}
 use Rattle.neli_msg.specs.NlPayload.{NlPayload}
 use Rattle.neli_deliveries.specs.declared.delivery.Delivery.{Delivery}
-use Rattle.neli_deliveries.specs.Deliveries.{Untyped, broken, message_to, messages_to, received}
+use Rattle.neli_deliveries.specs.Deliveries.{Untyped, fault_share, message_to, messages_to, datagram_share}
 use Rattle.neli_deliveries.specs.Readings.{IsReading, Item}
 use Rattle.neli_router_base.specs.declared.handle.HandleState.{HandleState}
 use Rattle.neli_router_base.specs.declared.reply.Reply.TheVariants as reply
@@ -123,7 +123,7 @@ messages_same : (port q : ℕ) (test test' : ℕ → Bool) → ((n : ℕ) → te
 messages_same port q test test' same [] = refl
 messages_same port q test test' same (m ∷ ms) = rw (message_same port q test test' same m, messages_same port q test test' same ms) refl
 
-received_same : (port : ℕ) (test test' : ℕ → Bool) → ((n : ℕ) → test n ≡ test' n) → (w : Option ℕ) (cut : Cut Untyped) (groups : List ℕ) → received port test w cut groups ≡ received port test' w cut groups
+received_same : (port : ℕ) (test test' : ℕ → Bool) → ((n : ℕ) → test n ≡ test' n) → (w : Option ℕ) (cut : Cut Untyped) (groups : List ℕ) → datagram_share port test w cut groups ≡ datagram_share port test' w cut groups
 received_same port test test' same None cut [] = refl
 received_same port test test' same None cut (g ∷ groups) = refl
 received_same port test test' same (Some q) cut [] = rw (messages_same port q test test' same cut.0) refl
@@ -134,8 +134,8 @@ no_items = []
 
 -- what a datagram or a fault hands over
 abbrev pub handed_by : {ST SP : Type 0} → ℕ → (ℕ → Bool) → Command ST SP → Option ℕ → List Delivery
-handed_by port test (command.Datagram b groups) w = received port test w (cut_of untyped_layout b.items) groups
-handed_by port test (command.Fault e) w = broken w e
+handed_by port test (command.Datagram b groups) w = datagram_share port test w (cut_of untyped_layout b.items) groups
+handed_by port test (command.Fault e) w = fault_share w e
 handed_by port test (command.SetNextSeq n) w = []
 handed_by port test (command.Send t f p) w = []
 handed_by port test (command.Read k) w = []
@@ -555,12 +555,12 @@ module _ {ST SP K P V : Type 0} (type_of : ℕ → K) (number : K → ℕ) (view
       → ((w : Option ℕ) → pending' w ≡ option_map (λ ds. ds ++ handed_by port (λ q. is_some (pending (Some q))) c w) (pending w))
       → Agrees type_of number view size read port next count pending' slots ((c, outcome.Done) ∷ h)
   agrees_handed port next count pending pending' slots h (command.Datagram b groups) is a grown =
-      agrees_more port next count pending pending' slots h ((command.Datagram b groups, outcome.Done) ∷ h) (λ w. received port (λ q. is_open q h) w (cut_of untyped_layout b.items) groups) a
+      agrees_more port next count pending pending' slots h ((command.Datagram b groups, outcome.Done) ∷ h) (λ w. datagram_share port (λ q. is_open q h) w (cut_of untyped_layout b.items) groups) a
       (λ w. grown w ∙ ap (λ more. option_map (λ ds. ds ++ more) (pending w)) (received_same port (λ q. is_some (pending (Some q))) (λ q. is_open q h) (open_test port next count pending slots h a) w (cut_of untyped_layout b.items) groups))
       refl refl (λ k. refl) (λ k. refl) (λ k. refl) (λ k. whose_unsent k (command.Datagram b groups) outcome.Done h refl)
       (λ k. refl)
   agrees_handed port next count pending pending' slots h (command.Fault e) is a grown =
-      agrees_more port next count pending pending' slots h ((command.Fault e, outcome.Done) ∷ h) (λ w. broken w e) a grown
+      agrees_more port next count pending pending' slots h ((command.Fault e, outcome.Done) ∷ h) (λ w. fault_share w e) a grown
       refl refl (λ k. refl) (λ k. refl) (λ k. refl) (λ k. whose_unsent k (command.Fault e) outcome.Done h refl)
       (λ k. refl)
   agrees_handed port next count pending pending' slots h (command.SetNextSeq n) is a grown = absurd cc

@@ -17,7 +17,7 @@ use Rattle.neli_router_base.specs.declared.handle.HandleState.{HandleState}
 use Rattle.neli_router_base.specs.declared.reply.Reply.{Reply}
 use Rattle.neli_router_base.specs.declared.reply.Reply.TheVariants as reply
 use Rattle.neli_router_base.specs.Rule.{ends_at, has_number, is_single, item_of, last_place, single_place}
-use Rattle.neli_router_base.specs.Sends.{RefusesSend, asks, sent}
+use Rattle.neli_router_base.specs.Sends.{RefusesSend, asks, frame_or_refusal}
 use Rattle.neli_router.specs.declared.command.Command.{Command}
 use Rattle.neli_router.specs.declared.command.Command.TheVariants as command
 use Rattle.neli_router.specs.declared.command.Outcome.{Outcome}
@@ -74,11 +74,11 @@ module _ {ST SP K P V : Type 0} (type_of : ℕ → K) (number : K → ℕ) (view
     in_use-is : is_some (pending (Some next)) ≡ is_open (next_number h) h
     in_use-is = open_test type_of number view size read port next (length handles) pending (λ k. slice_get handles k) h a next ∙ ap (λ n. is_open n h) a.next_is
 
-    sent-is : sent number_of wire wire_size port next (is_some (pending (Some next))) t f p ≡ sent number_of wire wire_size port (next_number h) (is_open (next_number h) h) t f p
-    sent-is = rw (in_use-is) (ap (λ n. sent number_of wire wire_size port n (is_open (next_number h) h) t f p) a.next_is)
+    sent-is : frame_or_refusal number_of wire wire_size port next (is_some (pending (Some next))) t f p ≡ frame_or_refusal number_of wire wire_size port (next_number h) (is_open (next_number h) h) t f p
+    sent-is = rw (in_use-is) (ap (λ n. frame_or_refusal number_of wire wire_size port n (is_open (next_number h) h) t f p) a.next_is)
 
   pub goes_unsent : (port next next' : ℕ) (t : ST) (f : NlmF) (p : NlPayload ST SP) (pending pending' : Pending) (handles : Handles) (takes : Type 0) (e : RouterError ST SP)
-      → e ≢ router.Memory → RefusesSend (sent number_of wire wire_size port next (is_some (pending (Some next))) t f p) takes e
+      → e ≢ router.Memory → RefusesSend (frame_or_refusal number_of wire wire_size port next (is_some (pending (Some next))) t f p) takes e
       → next' ≡ next → ((w : Option ℕ) → pending' w ≡ pending w)
       → Goes type_of number view size read (Says type_of number view size read number_of wire wire_size port) port next pending handles next' pending' handles (command.Send t f p) (outcome.NotSent e)
   goes_unsent port next next' t f p pending pending' handles takes e other refused next_is same h a = (
@@ -90,7 +90,7 @@ module _ {ST SP K P V : Type 0} (type_of : ℕ → K) (number : K → ℕ) (view
   pub goes_sent : (port next next' : ℕ) (t : ST) (f : NlmF) (p : NlPayload ST SP) (o : Outcome ST SP K P) (bytes : List ℕ) (pending pending' : Pending) (handles : Handles) (x : HandleState)
       → is_sent o ≡ true → ((h : History ST SP K P) (k : ℕ) → items_of k ((command.Send t f p, o) ∷ h) ≡ items_of k h)
       → ((result : Result (List ℕ) (RouterError ST SP)) → result ≡ Ok bytes → IsSending result o)
-      → sent number_of wire wire_size port next (is_some (pending (Some next))) t f p ≡ Ok bytes
+      → frame_or_refusal number_of wire wire_size port next (is_some (pending (Some next))) t f p ≡ Ok bytes
       → is_some (pending (Some next)) ≡ false
       → next' ≡ (next + 1) % 2 ^ 32 → pending' (Some next) ≡ Some [] → ((w : Option ℕ) → w ≢ Some next → pending' w ≡ pending w)
       → x ≡ asks next f

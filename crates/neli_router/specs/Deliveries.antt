@@ -3,7 +3,7 @@ use Rattle.std.specs.Prelude.{ℕ, List, [], ◌∷◌, ◌++◌}
 use Rattle.std.specs.List.{filter, flat_map}
 use Rattle.neli_msg.specs.Agreement.{untyped_layout}
 use Rattle.neli_msg.specs.Cuts.{cut_of}
-use Rattle.neli_deliveries.specs.Deliveries.{broken, received}
+use Rattle.neli_deliveries.specs.Deliveries.{fault_share, datagram_share}
 use Rattle.neli_deliveries.specs.declared.delivery.Delivery.{Delivery}
 use Rattle.neli_router.specs.declared.command.Command.{Command}
 use Rattle.neli_router.specs.declared.command.Command.TheVariants as command
@@ -21,16 +21,16 @@ module _ {ST SP RT RP : Type 0} where
 
   -- what handle k gets of a command that comes after this history: its part of a datagram, which is cut into messages,
   -- or of a fault of the link
-  abbrev pub gained : ℕ → ℕ → Command ST SP → History ST SP RT RP → List Delivery
-  gained port k (command.Datagram b groups) h =
-      received port (λ q. is_open q h) (whose k h) (cut_of untyped_layout b.items) groups
-  gained port k (command.Fault e) h = broken (whose k h) e
-  gained port k (command.SetNextSeq n) h = []
-  gained port k (command.Send t f p) h = []
-  gained port k (command.Read j) h = []
-  gained port k (command.Close j) h = []
+  abbrev pub gain : ℕ → ℕ → Command ST SP → History ST SP RT RP → List Delivery
+  gain port k (command.Datagram b groups) h =
+      datagram_share port (λ q. is_open q h) (whose k h) (cut_of untyped_layout b.items) groups
+  gain port k (command.Fault e) h = fault_share (whose k h) e
+  gain port k (command.SetNextSeq n) h = []
+  gain port k (command.Send t f p) h = []
+  gain port k (command.Read j) h = []
+  gain port k (command.Close j) h = []
 
   -- the deliveries to handle k: what it gets at each moment at which it was given and not closed, in order
   abbrev pub deliveries : ℕ → ℕ → History ST SP RT RP → List Delivery
   deliveries port k h =
-      flat_map (λ m. gained port k m.0 m.1) (filter (λ m. is_live k m.1) (moments h))
+      flat_map (λ m. gain port k m.0 m.1) (filter (λ m. is_live k m.1) (moments h))

@@ -9,7 +9,7 @@ use Rattle.neli_deliveries.specs.Readings.{IsReading, Item}
 use Rattle.neli_router_base.specs.declared.reply.Reply.{Reply}
 use Rattle.neli_router_base.specs.declared.reply.Reply.TheVariants as reply
 use Rattle.neli_router_base.specs.Rule.{answer}
-use Rattle.neli_router_base.specs.Sends.{sent}
+use Rattle.neli_router_base.specs.Sends.{frame_or_refusal}
 use Rattle.neli_router.specs.declared.command.Command.{Command}
 use Rattle.neli_router.specs.declared.command.Command.TheVariants as command
 use Rattle.neli_router.specs.declared.command.Outcome.{Outcome}
@@ -34,7 +34,7 @@ module _ {ST SP RT RP : Type 0} (number_of : ST → ℕ) (wire : SP → Wire) (s
   -- what comes of sending a request after a history: its frame, or the first cause for which it is not sent
   abbrev pub IsSent : History ST SP RT RP → Command ST SP → Outcome ST SP RT RP → Type 0
   IsSent h (command.Send message_type flags payload) o =
-      IsSending (sent number_of wire size port (next_number h) (is_open (next_number h) h) message_type flags payload) o
+      IsSending (frame_or_refusal number_of wire size port (next_number h) (is_open (next_number h) h) message_type flags payload) o
   IsSent h c o = ⊤
 
 -- ---- what is read

@@ -25,14 +25,14 @@ AreWholeBeforeLast (b ∷ []) = ⊤
 AreWholeBeforeLast (b ∷ c ∷ later) = IsWhole untyped_layout b.items × AreWholeBeforeLast (c ∷ later)
 
 -- their bytes, one after the other
-abbrev pub joined : List Bytes → List ℕ
-joined bs = flat_map (λ b. b.items) bs
+abbrev pub concatenation : List Bytes → List ℕ
+concatenation bs = flat_map (λ b. b.items) bs
 
 -- the history h, and after it these datagrams in their order, each to the same groups; the last is its latest event
-abbrev pub came : {ST SP RT RP : Type 0} → List ℕ → List Bytes → History ST SP RT RP → History ST SP RT RP
-came groups [] h = h
-came groups (b ∷ later) h = came groups later ((command.Datagram b groups, outcome.Done) ∷ h)
+abbrev pub history_with : {ST SP RT RP : Type 0} → List ℕ → List Bytes → History ST SP RT RP → History ST SP RT RP
+history_with groups [] h = h
+history_with groups (b ∷ later) h = history_with groups later ((command.Datagram b groups, outcome.Done) ∷ h)
 
 -- the same bytes in other datagrams, of which in both lists only the last may have a fault
 abbrev pub IsRegrouped : List Bytes → List Bytes → Type 0
-IsRegrouped bs cs = AreWholeBeforeLast bs × AreWholeBeforeLast cs × (joined bs ≡ joined cs)
+IsRegrouped bs cs = AreWholeBeforeLast bs × AreWholeBeforeLast cs × (concatenation bs ≡ concatenation cs)

@@ -13,7 +13,7 @@ ghost use Rattle.neli_router.specs.Deliveries.{deliveries};
 ghost use Rattle.neli_router.specs.History.{History, is_live, is_open, is_sent, items_of, needs_of, whose};
 ghost use Rattle.neli_router.specs.OtherReads.{NoneReads};
 ghost use Rattle.neli_router.specs.Outcomes.{EachAfter, IsAnswered, IsSent, outcome_of};
-ghost use Rattle.neli_router.specs.Regrouping.{Bytes, IsRegrouped, IsWhole, came};
+ghost use Rattle.neli_router.specs.Regrouping.{Bytes, IsRegrouped, IsWhole, history_with};
 
 use crate::{Command, Outcome};
 use neli_consts::NlType;
@@ -94,14 +94,14 @@ pub fn cuts_join<T: NlType, P: FromBytesWithInput>()
 pub fn regrouping_leaves_deliveries<ST, SP, RT, RP>()
     ensures deliveries { (port k : ℕ) (groups : List ℕ) (bs cs : List Bytes)
         (before later : History ST SP RT RP) → IsRegrouped bs cs
-        → deliveries port k (later ++ came groups bs before)
-        ≡ deliveries port k (later ++ came groups cs before) }
+        → deliveries port k (later ++ history_with groups bs before)
+        ≡ deliveries port k (later ++ history_with groups cs before) }
     ensures live { (k : ℕ) (groups : List ℕ) (bs cs : List Bytes)
         (before later : History ST SP RT RP)
-        → is_live k (later ++ came groups bs before) ≡ is_live k (later ++ came groups cs before) }
+        → is_live k (later ++ history_with groups bs before) ≡ is_live k (later ++ history_with groups cs before) }
     ensures open { (q : ℕ) (groups : List ℕ) (bs cs : List Bytes)
         (before later : History ST SP RT RP)
-        → is_open q (later ++ came groups bs before) ≡ is_open q (later ++ came groups cs before) }
+        → is_open q (later ++ history_with groups bs before) ≡ is_open q (later ++ history_with groups cs before) }
 {}
 
 /// So what is right for a run to answer after the old datagrams, to any commands, is right after the new ones.
@@ -115,14 +115,14 @@ where
         (commands : List (Command ST SP)) (outcomes : List (Outcome ST SP RT RP))
         → IsRegrouped bs cs
         → EachAfter (IsSent ST.wire_number SP.wire SP.Size.wire_length port)
-        (came groups bs before) commands outcomes
+        (history_with groups bs before) commands outcomes
         → EachAfter (IsSent ST.wire_number SP.wire SP.Size.wire_length port)
-        (came groups cs before) commands outcomes }
+        (history_with groups cs before) commands outcomes }
     ensures read { (port : ℕ) (groups : List ℕ) (bs cs : List Bytes) (before : History ST SP RT RP)
         (commands : List (Command ST SP)) (outcomes : List (Outcome ST SP RT RP))
         → IsRegrouped bs cs
         → EachAfter (IsAnswered RT.wire_value RT.wire_number RP.view RP.wire_length RP.read port)
-        (came groups bs before) commands outcomes
+        (history_with groups bs before) commands outcomes
         → EachAfter (IsAnswered RT.wire_value RT.wire_number RP.view RP.wire_length RP.read port)
-        (came groups cs before) commands outcomes }
+        (history_with groups cs before) commands outcomes }
 {}

@@ -16,7 +16,7 @@ use Rattle.neli_msg.specs.RouterError.TheVariants as router
 use Rattle.neli_msg.specs.RouterErrors.{socket_of}
 use Rattle.neli_msg.specs.SocketErrors.{of_ser}
 use Rattle.neli_msg.specs.Wires.{message_wire}
-use Rattle.neli_router_base.specs.Sends.{RefusesSend, TakesMemory, as_request, request, request_length, sent, with_request}
+use Rattle.neli_router_base.specs.Sends.{RefusesSend, TakesMemory, as_request, request, request_length, frame_or_refusal, with_request}
 
 module _ {T P : Type 0} (number_of : T → ℕ) (wire : P → Wire) (size : P → ℕ) where
   -- a refusal to write is that of the request
@@ -42,5 +42,5 @@ module _ {T P : Type 0} (number_of : T → ℕ) (wire : P → Wire) (size : P �
         refused-write (message_wire number_of wire (request number_of wire size port number t f p)) room ((false ≡ false) × (false ≡ false)) e (refl, refl) (subst (λ (x : Nlmsghdr T P). IsRefusal ser_ran_out (message_wire number_of wire x) room e) (sym same) r)
 
     -- why a built request is not sent
-    pub refused-request : built_message size (record { nl_type = Some t; nl_flags = Some (with_request f); nl_seq = Some number; nl_pid = Some port; nl_payload = Some p }) ≡ Ok m → IsRefusal ser_ran_out (message_wire number_of wire m) room e → RefusesSend {T = T} {P = P} (sent number_of wire size port number false t f p) (TakesMemory number_of wire size false p) (socket_of (of_ser e))
+    pub refused-request : built_message size (record { nl_type = Some t; nl_flags = Some (with_request f); nl_seq = Some number; nl_pid = Some port; nl_payload = Some p }) ≡ Ok m → IsRefusal ser_ran_out (message_wire number_of wire m) room e → RefusesSend {T = T} {P = P} (frame_or_refusal number_of wire size port number false t f p) (TakesMemory number_of wire size false p) (socket_of (of_ser e))
     refused-request is r = refused-by (nat_lt 4294967295 (request_length number_of wire size p)) is r

@@ -20,7 +20,7 @@ use Rattle.neli_genl.specs.declared.no_user_header.NoUserHeader.{NoUserHeader}
 use Rattle.neli_msg.specs.NlPayload.TheVariants as payload
 use Rattle.neli_msg.specs.RouterError.{RouterError}
 use Rattle.neli_msg.specs.RouterError.TheVariants as router
-use Rattle.neli_router_base.specs.Sends.{sent}
+use Rattle.neli_router_base.specs.Sends.{frame_or_refusal}
 
 -- ---- what is asked
 
@@ -52,7 +52,7 @@ families_request = getfamily []
 -- such a request as a router sends any other: its type is Ctrl
 abbrev pub sent_to_controller : ℕ → ℕ → Bool → NlmF → Body → Result (List ℕ) Error
 sent_to_controller port number in_use flags body =
-    sent genl_id_number (genlmsghdr_wire ctrl_cmd_number ctrl_attr_number (λ _. Ok [])) (genlmsghdr_size (λ _. 0))
+    frame_or_refusal genl_id_number (genlmsghdr_wire ctrl_cmd_number ctrl_attr_number (λ _. Ok [])) (genlmsghdr_size (λ _. 0))
     port number in_use Ctrl flags (payload.Payload body)
 
 -- ---- as bytes

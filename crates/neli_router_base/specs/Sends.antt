@@ -37,8 +37,8 @@ module _ {T P : Type 0} (number_of : T → ℕ) (wire : P → Wire) (size : P �
 
   -- what is sent, as bytes; or the first cause that holds: the number is in use, the length passes 32 bits, the
   -- payload has no bytes
-  abbrev pub sent : ℕ → ℕ → Bool → T → NlmF → NlPayload T P → Result (List ℕ) (RouterError T P)
-  sent port number in_use message_type flags payload =
+  abbrev pub frame_or_refusal : ℕ → ℕ → Bool → T → NlmF → NlPayload T P → Result (List ℕ) (RouterError T P)
+  frame_or_refusal port number in_use message_type flags payload =
       if in_use then Err (router.SeqInUse number)
       else (if nat_lt 4294967295 (request_length payload) then Err (router.Msg (codes "Length does not fit its field"))
       else as_request (message_wire number_of wire (request port number message_type flags payload)))

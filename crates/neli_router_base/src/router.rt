@@ -4,11 +4,11 @@ ghost use Rattle.std.specs.Prelude.{true, false, ◌≡◌, ◌≢◌, ◌||◌,
 ghost use Rattle.neli_msg.specs.Cuts.{cut_of};
 ghost use Rattle.neli_msg.specs.Agreement.{untyped_layout};
 ghost use Rattle.neli_deliveries.specs.declared.delivery.Delivery.{Delivery as Waiting};
-ghost use Rattle.neli_deliveries.specs.Deliveries.{broken, is_would_block, received};
+ghost use Rattle.neli_deliveries.specs.Deliveries.{fault_share, is_would_block, datagram_share};
 ghost use Rattle.neli_deliveries.specs.Readings.{IsReading, Item as Given};
 ghost use Rattle.neli_router_base.specs.declared.reply.Reply.TheVariants as reply;
 ghost use Rattle.neli_router_base.specs.Rule.{ends_at, has_number, is_single, item_of};
-ghost use Rattle.neli_router_base.specs.Sends.{RefusesSend, TakesMemory, asks, number_after, sent};
+ghost use Rattle.neli_router_base.specs.Sends.{RefusesSend, TakesMemory, asks, number_after, frame_or_refusal};
 
 use crate::rule::{answer, needs_acknowledgement};
 use crate::{Deliveries, HandleState, NlRouterReceiverHandle, Reply};
@@ -94,11 +94,11 @@ impl<D: Deliveries> NlRouter<D> {
         nl_payload: NlPayload<ST, SP>,
     ) -> Result<(Vec<u8>, NlRouterReceiverHandle<RT, RP>), RouterError<ST, SP>>
         ensures port { D.port_of self.new.deliveries ≡ D.port_of self.old.deliveries }
-        ensures bytes { IfOk result (λ r. sent ST.wire_number SP.wire SP.Size.wire_length
+        ensures bytes { IfOk result (λ r. frame_or_refusal ST.wire_number SP.wire SP.Size.wire_length
             (D.port_of self.old.deliveries) self.old.next_seq
             (is_some (D.pending self.old.deliveries (Some self.old.next_seq)))
             nl_type nl_flags nl_payload ≡ Ok r.0.items) }
-        ensures refused { IfErr result (RefusesSend (sent ST.wire_number SP.wire SP.Size.wire_length
+        ensures refused { IfErr result (RefusesSend (frame_or_refusal ST.wire_number SP.wire SP.Size.wire_length
             (D.port_of self.old.deliveries) self.old.next_seq
             (is_some (D.pending self.old.deliveries (Some self.old.next_seq)))
             nl_type nl_flags nl_payload)
@@ -138,7 +138,7 @@ impl<D: Deliveries> NlRouter<D> {
         ensures port { D.port_of self.new.deliveries ≡ D.port_of self.old.deliveries }
         ensures next_seq { self.new.next_seq ≡ self.old.next_seq }
         ensures ok { OnOk result ((w : Option ℕ) → D.pending self.new.deliveries w
-            ≡ option_map (λ ds. ds ++ received (D.port_of self.old.deliveries)
+            ≡ option_map (λ ds. ds ++ datagram_share (D.port_of self.old.deliveries)
             (λ q. is_some (D.pending self.old.deliveries (Some q))) w
             (cut_of untyped_layout bytes.now) groups.now) (D.pending self.old.deliveries w)) }
         ensures err { OnErr result ((w : Option ℕ)
@@ -157,7 +157,7 @@ impl<D: Deliveries> NlRouter<D> {
         ensures port { D.port_of self.new.deliveries ≡ D.port_of self.old.deliveries }
         ensures next_seq { self.new.next_seq ≡ self.old.next_seq }
         ensures ok { OnOk result ((w : Option ℕ) → D.pending self.new.deliveries w
-            ≡ option_map (λ ds. ds ++ broken w error) (D.pending self.old.deliveries w)) }
+            ≡ option_map (λ ds. ds ++ fault_share w error) (D.pending self.old.deliveries w)) }
         ensures err { OnErr result ((w : Option ℕ)
             → D.pending self.new.deliveries w ≡ D.pending self.old.deliveries w) }
         ensures would_block { is_would_block error ≡ true → IsOk result }
@@ -250,9 +250,9 @@ fn frame<ST: NlType, SP: ToBytes + Drop>(
     port: u32,
     nl_payload: NlPayload<ST, SP>,
 ) -> Result<Vec<u8>, RouterError<ST, SP>>
-    ensures bytes { IfOk result (λ bytes. sent ST.wire_number SP.wire SP.Size.wire_length
+    ensures bytes { IfOk result (λ bytes. frame_or_refusal ST.wire_number SP.wire SP.Size.wire_length
         port number false nl_type nl_flags nl_payload ≡ Ok bytes.items) }
-    ensures refused { IfErr result (RefusesSend (sent ST.wire_number SP.wire SP.Size.wire_length
+    ensures refused { IfErr result (RefusesSend (frame_or_refusal ST.wire_number SP.wire SP.Size.wire_length
         port number false nl_type nl_flags nl_payload)
         (TakesMemory ST.wire_number SP.wire SP.Size.wire_length false nl_payload)) }
 {

@@ -7,7 +7,7 @@ use Rattle.std.proofs.lemmas.List.{map-append, append-nil}
 use Rattle.neli_spans.specs.declared.span.Span.{Span}
 use Rattle.neli_spans.specs.declared.span.Datagram.{Datagram}
 use Rattle.std.specs.Prelude.{slice_range}
-use Rattle.neli_spans.specs.Spans.{text_in, repeated, laid, Apart, AreApart, NamesFrom, AreOf}
+use Rattle.neli_spans.specs.Spans.{text_in, copies, serials_by_span, Apart, AreApart, NamesFrom, AreOf}
 
 apart_tail : (s : Span) (ss : List Span) → Apart s ss → AreApart ss
 apart_tail s [] h = tt
@@ -20,7 +20,7 @@ tail_same x y xs ys h = cc
 pub released_last : (first : ℕ) (d : Datagram) (ds : List Datagram) (s : Span) (ss : List Span) → d.spans ≡ 1 → NamesFrom first (d ∷ ds) (s ∷ ss) → NamesFrom (first + 1) ds ss
 released_last first d ds s ss one h = record {
   fits = (let a = h.fits in omega arith);
-  serials = (let a = rw one at h.serials in rw add-one (tail_same s.datagram first (map (λ s. s.datagram) ss) (laid (suc first) ds) a));
+  serials = (let a = rw one at h.serials in rw add-one (tail_same s.datagram first (map (λ s. s.datagram) ss) (serials_by_span (suc first) ds) a));
   some = λ i x at. h.some (suc i) x at;
   apart = apart_tail s ss h.apart;
   within = λ i j t x at is there. h.within (suc i) (suc j) t x at (omega (arith, is)) there;
@@ -30,7 +30,7 @@ released_last first d ds s ss one h = record {
 pub released_one : (first n : ℕ) (d d' : Datagram) (ds : List Datagram) (s : Span) (ss : List Span) → d.spans ≡ suc (suc n) → d'.spans ≡ suc n → d'.bytes ≡ d.bytes → NamesFrom first (d ∷ ds) (s ∷ ss) → NamesFrom first (d' ∷ ds) ss
 released_one first n d d' ds s ss more less same h = record {
   fits = h.fits;
-  serials = (let a = rw more at h.serials in rw less (tail_same s.datagram first (map (λ s. s.datagram) ss) (first ∷ repeated n first ++ laid (suc first) ds) a));
+  serials = (let a = rw more at h.serials in rw less (tail_same s.datagram first (map (λ s. s.datagram) ss) (first ∷ copies n first ++ serials_by_span (suc first) ds) a));
   some = some_of h.some;
   apart = apart_tail s ss h.apart;
   within = within_of h.within;
@@ -49,25 +49,25 @@ released_one first n d d' ds s ss more less same h = record {
         (r.0, (let l = ap (λ b. length b.items) e in let r1 = r.1 in omega (arith, l)))
     within_of g i (suc j) t x at is there = g (suc i) (suc j) t x at is there
 
-laid_push : (n : ℕ) (ds : List Datagram) (x : Datagram) → laid n (ds ++ x ∷ []) ≡ laid n ds ++ repeated x.spans (n + length ds)
-laid_push n [] x = (let s : n + 0 ≡ n = omega arith in rw s (append-nil (repeated x.spans n)))
+laid_push : (n : ℕ) (ds : List Datagram) (x : Datagram) → serials_by_span n (ds ++ x ∷ []) ≡ serials_by_span n ds ++ copies x.spans (n + length ds)
+laid_push n [] x = (let s : n + 0 ≡ n = omega arith in rw s (append-nil (copies x.spans n)))
 laid_push n (d ∷ ds) x =
     let s : n + suc (length ds) ≡ suc n + length ds = omega arith in
-    rw s (ap (λ l. repeated d.spans n ++ l) (laid_push (suc n) ds x) ∙ sym (append_assoc (repeated d.spans n) (laid (suc n) ds) (repeated x.spans (suc n + length ds))))
+    rw s (ap (λ l. copies d.spans n ++ l) (laid_push (suc n) ds x) ∙ sym (append_assoc (copies d.spans n) (serials_by_span (suc n) ds) (copies x.spans (suc n + length ds))))
 
-of_serials : (serial : ℕ) (ss : List Span) → ((i : ℕ) (s : Span) → slice_get ss i ≡ Some s → s.datagram ≡ serial) → map (λ s. s.datagram) ss ≡ repeated (length ss) serial
+of_serials : (serial : ℕ) (ss : List Span) → ((i : ℕ) (s : Span) → slice_get ss i ≡ Some s → s.datagram ≡ serial) → map (λ s. s.datagram) ss ≡ copies (length ss) serial
 of_serials serial [] h = refl
 of_serials serial (s ∷ ss) h = rw (h 0 s refl, of_serials serial ss (λ i t at. h (suc i) t at)) refl
 
 -- each serial number that is named
-bound_repeated : (k n m i : ℕ) (rest : List ℕ) → slice_get (repeated k n ++ rest) i ≡ Some m → (m ≡ n) ⊎ ((j : ℕ) × (slice_get rest j ≡ Some m))
+bound_repeated : (k n m i : ℕ) (rest : List ℕ) → slice_get (copies k n ++ rest) i ≡ Some m → (m ≡ n) ⊎ ((j : ℕ) × (slice_get rest j ≡ Some m))
 bound_repeated zero n m i rest h = inr (i, h)
 bound_repeated (suc k) n m zero rest h = inl (let f : n ≡ m = cc in sym f)
 bound_repeated (suc k) n m (suc i) rest h = bound_repeated k n m i rest h
 
-pub laid_bound : (n : ℕ) (ds : List Datagram) (i m : ℕ) → slice_get (laid n ds) i ≡ Some m → (n ≤ m) × (m < n + length ds)
+pub laid_bound : (n : ℕ) (ds : List Datagram) (i m : ℕ) → slice_get (serials_by_span n ds) i ≡ Some m → (n ≤ m) × (m < n + length ds)
 laid_bound n [] i m h = cc
-laid_bound n (d ∷ ds) i m h = elim (bound_repeated d.spans n m i (laid (suc n) ds) h) [
+laid_bound n (d ∷ ds) i m h = elim (bound_repeated d.spans n m i (serials_by_span (suc n) ds) h) [
   | inl same ↦ (omega arith, omega arith)
   | inr more ↦ (let r = laid_bound (suc n) ds more.0 m more.1 in let a = r.0 in let b = r.1 in (omega arith, omega arith))
 ]
@@ -206,7 +206,7 @@ pub none_named : (first : ℕ) (ds : List Datagram) → NamesFrom first ds [] �
 none_named first [] h = refl
 none_named first (d ∷ ds) h = by d.spans (h.some 0 d refl) h.serials
   where
-    by : (n : ℕ) → 0 < n → [] ≡ repeated n first ++ laid (suc first) ds → d ∷ ds ≡ []
+    by : (n : ℕ) → 0 < n → [] ≡ copies n first ++ serials_by_span (suc first) ds → d ∷ ds ≡ []
     by zero some is = absurd (omega arith)
     by (suc n) some is = cc
 

@@ -20,15 +20,15 @@ text_of kept s = text_in s (slice_get kept.list.items (s.datagram - kept.first))
 -- ---- when spans name the kept datagrams
 
 -- the same number n times
-abbrev pub repeated : ℕ → ℕ → List ℕ
-repeated zero x = []
-repeated (suc n) x = x ∷ repeated n x
+abbrev pub copies : ℕ → ℕ → List ℕ
+copies zero x = []
+copies (suc n) x = x ∷ copies n x
 
 -- the serial numbers that the spans name, in their order, where the first one is n: each datagram as often as it
 -- has spans
-abbrev pub laid : ℕ → List Datagram → List ℕ
-laid n [] = []
-laid n (d ∷ ds) = repeated d.spans n ++ laid (suc n) ds
+abbrev pub serials_by_span : ℕ → List Datagram → List ℕ
+serials_by_span n [] = []
+serials_by_span n (d ∷ ds) = copies d.spans n ++ serials_by_span (suc n) ds
 
 -- of two neighbours in one datagram the later begins at or after the earlier's end
 abbrev pub Apart : Span → List Span → Type 0
@@ -47,7 +47,7 @@ IsWithin size s = (s.start ≤ s.end) × (s.end ≤ size)
 -- datagram, each later one the same or the next, the last one the last; and none is kept without a span
 pub record NamesFrom (first : ℕ) (ds : List Datagram) (ss : List Span) : Type 0 where
   pub fits : first + length ds < 2 ^ 64
-  pub serials : map (λ s. s.datagram) ss ≡ laid first ds
+  pub serials : map (λ s. s.datagram) ss ≡ serials_by_span first ds
   pub some : (i : ℕ) (d : Datagram) → slice_get ds i ≡ Some d → 0 < d.spans
   pub apart : AreApart ss
   pub within : (i j : ℕ) (s : Span) (d : Datagram) → slice_get ss i ≡ Some s → s.datagram ≡ first + j

@@ -20,7 +20,7 @@ use Rattle.std.specs.declared.io.ErrorKind.{ErrorKind}
 use Rattle.std.specs.declared.io.ErrorKind.TheVariants.{UnexpectedEof}
 use Rattle.neli_msg.specs.Agreement.{untyped_layout}
 use Rattle.neli_msg.specs.Cuts.{Cut, Cuts, message_before, messages_before}
-use Rattle.neli_msg.specs.laws.Messages.{framed-placed}
+use Rattle.neli_msg.specs.laws.Messages.{layout_with-placed}
 use Rattle.neli_msg.specs.laws.Cuts.{cut_of-Cuts, cut_of-end, cut_of-fault, cut_of-message, frame_at-longer}
 use Rattle.neli_tool_base.specs.declared.line.Ending.{Ending}
 use Rattle.neli_tool_base.specs.declared.line.Ending.TheVariants.{Whole, Input, Short, Other, Tail, Memory}
@@ -29,13 +29,13 @@ use Rattle.neli_tool_base.specs.Listing.{BeginsWith, GoesOnAfter, IsLineOf, List
 -- ---- what is left of a datagram
 
 end_at : (s : List ℕ) → s ≡ [] → raw_cut s ≡ ([], None)
-end_at s none = rw none (cut_of-end untyped_layout (framed-placed (λ n. n) _) (omega arith))
+end_at s none = rw none (cut_of-end untyped_layout (layout_with-placed (λ n. n) _) (omega arith))
 
 message_at : (s later : List ℕ) (m : Raw) → frame_at untyped_layout s ≡ Ok (m, later) → raw_cut s ≡ message_before m (raw_cut later)
-message_at = cut_of-message untyped_layout (framed-placed (λ n. n) _) (omega arith)
+message_at = cut_of-message untyped_layout (layout_with-placed (λ n. n) _) (omega arith)
 
 fault_at : (s : List ℕ) (e : DeError) → s ≢ [] → frame_at untyped_layout s ≡ Err e → raw_cut s ≡ ([], Some e)
-fault_at = cut_of-fault untyped_layout (framed-placed (λ n. n) _) (omega arith)
+fault_at = cut_of-fault untyped_layout (layout_with-placed (λ n. n) _) (omega arith)
 
 -- ---- lines so far
 
@@ -98,7 +98,7 @@ goes_on ms c (inr fault) = inr fault
 pub listed_memory : (bytes lines left : List ℕ) → IsListed bytes lines left → left ≢ [] → Lists bytes lines Memory
 listed_memory bytes lines left is some =
     let front : take (length is.messages) (raw_cut bytes).0 ≡ is.messages = ap (λ (c : Cut Raw). take (length is.messages) c.0) is.so_far ∙ take_at is.messages (raw_cut left).0 (length is.messages) refl in
-    let later = not_done left (raw_cut left).0 (raw_cut left).1 (cut_of-Cuts untyped_layout (framed-placed (λ n. n) _) (omega arith) left) some in
+    let later = not_done left (raw_cut left).0 (raw_cut left).1 (cut_of-Cuts untyped_layout (layout_with-placed (λ n. n) _) (omega arith) left) some in
     (length is.messages, subst (GoesOnAfter (length is.messages)) (sym is.so_far) (goes_on is.messages (raw_cut left) later), is.made ∙ sym (ap lines_of front))
 
 named : (e : DeError) → ending_of (Some e) ≢ Memory
@@ -178,4 +178,4 @@ printed_error bytes old now left e is some refused = (is.lines, listed_error byt
 
 -- a message that begins what is left makes it shorter
 pub line_shorter : (left later : List ℕ) (line : Line) → BeginsWith left line later → length later < length left
-line_shorter left later line begins = omega (arith, frame_at-longer untyped_layout (framed-placed (λ n. n) _) (omega arith) left later begins.0 begins.1)
+line_shorter left later line begins = omega (arith, frame_at-longer untyped_layout (layout_with-placed (λ n. n) _) (omega arith) left later begins.0 begins.1)

@@ -5,7 +5,7 @@ use Rattle.neli_wire.specs.Frames.{frame_at}
 use Rattle.neli_msg.specs.Agreement.{untyped_layout}
 use Rattle.neli_msg.specs.Cuts.{Cuts}
 use Rattle.neli_msg.specs.laws.Cuts.{cut_of-Cuts}
-use Rattle.neli_msg.specs.laws.Messages.{framed-placed}
+use Rattle.neli_msg.specs.laws.Messages.{layout_with-placed}
 use Rattle.neli_msg.specs.laws.Plain.{only-message}
 use Rattle.neli_tool_base.specs.declared.line.Ending.{Ending}
 use Rattle.neli_tool_base.specs.declared.line.Ending.TheVariants.{Whole, Input, Short, Other, Tail, Memory}
@@ -24,7 +24,7 @@ ending-named b ms (Some e) c h = message-named c.1 e c.4.1 h
 
 -- a listing ends in one of the ways that have a line
 pub listed-named : (bytes lines : List ℕ) (e : Ending) → Lists bytes lines e → e ≢ Other
-listed-named bytes lines Other l h = ending-named bytes (raw_cut bytes).0 (raw_cut bytes).1 (cut_of-Cuts untyped_layout (framed-placed (λ n. n) _) (omega arith) bytes) (sym l.1)
+listed-named bytes lines Other l h = ending-named bytes (raw_cut bytes).0 (raw_cut bytes).1 (cut_of-Cuts untyped_layout (layout_with-placed (λ n. n) _) (omega arith) bytes) (sym l.1)
 listed-named bytes lines Whole l h = cc
 listed-named bytes lines (Input n) l h = cc
 listed-named bytes lines Short l h = cc

@@ -18,9 +18,9 @@ use Rattle.neli_msg.specs.Cuts.{Cut, Cuts}
 use Rattle.neli_msg.specs.Headers.{Header}
 use Rattle.neli_msg.specs.Messages.{message_of}
 use Rattle.neli_msg.specs.Wires.{message_wire}
-use Rattle.neli_msg.specs.Zeroed.{HasNoTail, untyped_wire, untyped_wires, zeroed}
+use Rattle.neli_msg.specs.Zeroed.{HasNoTail, untyped_wire, untyped_wires, datagram_zeroed}
 use Rattle.neli_msg.specs.laws.Cuts.{cut_of-Cuts, whole_frames}
-use Rattle.neli_msg.specs.laws.Messages.{framed-placed}
+use Rattle.neli_msg.specs.laws.Messages.{layout_with-placed}
 use Rattle.neli_msg.specs.laws.Zeroed.{datagram-back}
 use Rattle.neli_tool_base.specs.declared.line.Ending.{Ending}
 use Rattle.neli_tool_base.specs.declared.line.Ending.TheVariants.{Whole, Input, Short, Other, Tail}
@@ -71,11 +71,11 @@ pub rewritten : (bytes old written : List ℕ) (items : List Held) → ((i : ℕ
 rewritten bytes old written items fits cut whole none writes =
     let small : AreBytes bytes = λ i. (fits i).fits in
     let tails : All HasNoTail (map seen items) = All-map HasNoTail seen items whole in
-    let found : Cuts untyped_layout bytes (raw_cut bytes).0 (raw_cut bytes).1 = cut_of-Cuts untyped_layout (framed-placed (λ n. n) _) (omega arith) bytes in
+    let found : Cuts untyped_layout bytes (raw_cut bytes).0 (raw_cut bytes).1 = cut_of-Cuts untyped_layout (layout_with-placed (λ n. n) _) (omega arith) bytes in
     let cuts : Cuts untyped_layout bytes (map seen items) None = subst (λ (c : Cut Raw). Cuts untyped_layout bytes c.0 c.1) cut found in
-    let law : untyped_wires (map seen items) ≡ Ok (zeroed bytes) = datagram-back bytes (map seen items) small (whole_frames untyped_layout bytes (map seen items) cuts) tails in
+    let law : untyped_wires (map seen items) ≡ Ok (datagram_zeroed bytes) = datagram-back bytes (map seen items) small (whole_frames untyped_layout bytes (map seen items) cuts) tails in
     let wires : wire_all held_wire items ≡ Ok written = after_nothing (wire_all held_wire items) written (ap (λ (x : List ℕ). append_wire x (wire_all held_wire items)) (sym none) ∙ writes) in
-    let is : written ≡ zeroed bytes = written_is written (zeroed bytes) (sym wires ∙ sym (same_wires items) ∙ law) in (
+    let is : written ≡ datagram_zeroed bytes = written_is written (datagram_zeroed bytes) (sym wires ∙ sym (same_wires items) ∙ law) in (
       ap (λ (c : Cut Raw). c.1) cut,
       subst (λ (c : Cut Raw). All HasNoTail c.0) (sym cut) tails,
       is,

@@ -29,15 +29,15 @@ abbrev pub Raw : Type 0
 Raw = Message ℕ (List ℕ)
 
 -- what is printed of an answer after its kind: its code, and how many attributes it has
-abbrev pub counted : List ℕ → ℤ → ℕ → List ℕ
-counted kind code count = kind ++ (signed_decimal code ++ (codes " attributes " ++ decimal count))
+abbrev pub count_text : List ℕ → ℤ → ℕ → List ℕ
+count_text kind code count = kind ++ (signed_decimal code ++ (codes " attributes " ++ decimal count))
 
 -- what is printed of a kind
 abbrev pub kind_text : Kind → List ℕ
 kind_text (kind.Payload count) = codes "payload " ++ decimal count
 kind_text kind.Ack = codes "ack"
-kind_text (kind.Error code count) = counted (codes "error ") code count
-kind_text (kind.Done code count) = counted (codes "done ") code count
+kind_text (kind.Error code count) = count_text (codes "error ") code count
+kind_text (kind.Done code count) = count_text (codes "done ") code count
 kind_text kind.Empty = codes "empty"
 
 -- the kind of a payload, and how many bytes or attributes it has

@@ -1,7 +1,7 @@
 -- What is written of a datagram that is read and written again.
 use Rattle.std.specs.Prelude.{◌≡◌, ◌≢◌, List, [], ℕ, None}
 use Rattle.std.specs.List.{All}
-use Rattle.neli_msg.specs.Zeroed.{HasNoTail, zeroed}
+use Rattle.neli_msg.specs.Zeroed.{HasNoTail, datagram_zeroed}
 use Rattle.neli_tool_base.specs.declared.line.Ending.{Ending}
 use Rattle.neli_tool_base.specs.declared.line.Ending.TheVariants.{Whole, Tail, Memory}
 use Rattle.neli_tool_base.specs.Listing.{ending_of, raw_cut}
@@ -10,7 +10,7 @@ use Rattle.neli_tool_base.specs.Listing.{ending_of, raw_cut}
 -- fault, where it has one; nothing, and the ending for a tail, where an acknowledgement has one; or memory ran out
 abbrev pub Rewrites : List ℕ → List ℕ → Ending → Type 0
 Rewrites bytes written Whole =
-    ((raw_cut bytes).1 ≡ None) × All HasNoTail (raw_cut bytes).0 × (written ≡ zeroed bytes)
+    ((raw_cut bytes).1 ≡ None) × All HasNoTail (raw_cut bytes).0 × (written ≡ datagram_zeroed bytes)
 Rewrites bytes written Tail =
     ((raw_cut bytes).1 ≡ None) × (¬ All HasNoTail (raw_cut bytes).0) × (written ≡ [])
 Rewrites bytes written Memory = written ≡ []

@@ -11,7 +11,7 @@ use Rattle.std.proofs.lemmas.Nat.Bits.{bit_at-zero, bit_at_set_same, bit_at_set_
 use Rattle.neli_util.proofs.Lists.{has-filter, has-range, filter-filter, filter_agree_on, filter_ranges, range_within, range_rises}
 use Rattle.neli_util.proofs.MaskLemmas.{and_false, and_true, or_false}
 use Rattle.neli_util.specs.Groups.{has}
-use Rattle.neli_util.specs.BitArrays.{BitArray, resized, with_number, has_bit, array_of}
+use Rattle.neli_util.specs.BitArrays.{BitArray, with_capacity, with_number, has_bit, array_of}
 
 -- ---- words
 
@@ -69,7 +69,7 @@ same_array : (c d : ℕ) (ns ms : List ℕ) → c ≡ d → ns ≡ ms → (let a
 same_array c d ns ms e f = λ i. record { capacity = e i; numbers = f i }
 
 -- the array of words that were resized
-pub array_of-resized : (ws : List ℕ) (count : ℕ) → array_of (take count ws ++ zeros (count - length ws)) ≡ resized (32 * count) (array_of ws)
+pub array_of-resized : (ws : List ℕ) (count : ℕ) → array_of (take count ws ++ zeros (count - length ws)) ≡ with_capacity (32 * count) (array_of ws)
 array_of-resized ws count =
     let new = take count ws ++ replicate (count - length ws) 0 in
     let long : 32 * length new ≡ 32 * count = ap (λ n. 32 * n) (length-resized ws count) in

@@ -22,8 +22,8 @@ abbrev pub AreTooMany : ℕ → Type 0
 AreTooMany words = 134217727 < words
 
 -- the array with another capacity: the numbers within it stay
-abbrev pub resized : ℕ → BitArray → BitArray
-resized capacity a = record { capacity = capacity; numbers = filter (λ n. nat_le n capacity) a.numbers }
+abbrev pub with_capacity : ℕ → BitArray → BitArray
+with_capacity capacity a = record { capacity = capacity; numbers = filter (λ n. nat_le n capacity) a.numbers }
 
 -- the array with a number set
 abbrev pub with_number : ℕ → BitArray → BitArray

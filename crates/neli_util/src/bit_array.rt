@@ -5,7 +5,7 @@ ghost use Rattle.std.specs.Int.{bit_at};
 ghost use Rattle.std.specs.List.{All};
 ghost use Rattle.std.specs.List.Sorted.{IsStrictlyIncreasing};
 ghost use Rattle.neli_util.specs.Groups.{has};
-ghost use Rattle.neli_util.specs.BitArrays.{words_for, AreTooMany, resized, with_number};
+ghost use Rattle.neli_util.specs.BitArrays.{words_for, AreTooMany, with_capacity, with_number};
 
 use neli_wire::{MsgError, NoMemory, SerError};
 use std::alloc::Global;
@@ -59,7 +59,7 @@ impl NetlinkBitArray {
     /// Refused as [`NetlinkBitArray::new`] is, and then the array is as it was. Only a larger capacity takes
     /// memory.
     pub fn resize_bits(&mut self, bits: usize) -> Result<(), SerError>
-        ensures ok { OnOk result (self.new ≡ resized (32 * words_for bits) self.old) }
+        ensures ok { OnOk result (self.new ≡ with_capacity (32 * words_for bits) self.old) }
         ensures too_long { (result ≡ Err (SerError.Msg (codes "bit array too long")))
             ↔ AreTooMany (words_for bits) }
         ensures memory { ¬ AreTooMany (words_for bits) → IfErr result (λ e. e ≡ SerError.Memory) }
@@ -74,7 +74,7 @@ impl NetlinkBitArray {
     ///
     /// Refused as [`NetlinkBitArray::resize_bits`] is.
     pub fn resize(&mut self, bytes: usize) -> Result<(), SerError>
-        ensures ok { OnOk result (self.new ≡ resized (32 * words_for (8 * bytes)) self.old) }
+        ensures ok { OnOk result (self.new ≡ with_capacity (32 * words_for (8 * bytes)) self.old) }
         ensures too_long { (result ≡ Err (SerError.Msg (codes "bit array too long")))
             ↔ AreTooMany (words_for (8 * bytes)) }
         ensures memory { ¬ AreTooMany (words_for (8 * bytes))

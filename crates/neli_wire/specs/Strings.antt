@@ -9,8 +9,8 @@ use Rattle.neli_wire.specs.Utf8.{Utf8}
 use Rattle.neli_wire.specs.Utf8.TheVariants.{String as OfString, Str as OfStr}
 
 -- a text and a zero after it
-abbrev pub terminated : List ℕ → Wire
-terminated text = Ok (text ++ 0 ∷ [])
+abbrev pub text_and_zero : List ℕ → Wire
+text_and_zero text = Ok (text ++ 0 ∷ [])
 
 -- where bytes stop being UTF-8: how many are, and how many after these are at fault, if that is known
 abbrev pub fault_of : List ℕ → Utf8Error

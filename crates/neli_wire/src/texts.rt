@@ -3,8 +3,8 @@
 ghost use Rattle.std.specs.Prelude.{◌≡◌, ◌+◌, ◌<◌, ◌++◌, ◌∷◌, [], ℕ, List, Ok, Err, OnOk, OnErr, IfOk, IfErr, length, string_bytes};
 ghost use Rattle.neli_wire.specs.Refusals.{Refuses};
 ghost use Rattle.neli_wire.specs.laws.Sizes.{unpadded-rounded, unpadded-zeros};
-ghost use Rattle.neli_wire.specs.laws.Strings.{terminated-length, borrowed_text-never_short, owned_text-never_short, owned_text-no_memory};
-ghost use Rattle.neli_wire.specs.Strings.{terminated, borrowed_text, owned_text};
+ghost use Rattle.neli_wire.specs.laws.Strings.{text_and_zero-length, borrowed_text-never_short, owned_text-never_short, owned_text-no_memory};
+ghost use Rattle.neli_wire.specs.Strings.{text_and_zero, borrowed_text, owned_text};
 ghost use Rattle.neli_wire.specs.laws.Writing.{written-no_memory};
 
 use crate::implementing::strip_to_four;

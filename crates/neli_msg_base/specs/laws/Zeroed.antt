@@ -37,7 +37,7 @@ use Rattle.neli_msg_base.specs.Headers.{Header, flags_of, header_in}
 use Rattle.neli_msg_base.specs.Kinds.{is_acknowledged, is_multi, kind_of, payload_as, payload_in}
 use Rattle.neli_msg_base.specs.Wires.{attributes_wire, payload_wire}
 use Rattle.neli_msg_base.specs.Messages.{Message, message_layout}
-use Rattle.neli_msg_base.specs.Zeroed.{HasNoTail, attribute_length, attribute_zeroed, attributes_zeroed, message_length, message_zeroed, HasNoTailIn, payload_zeroed, untyped_wire, untyped_wires, zeroed, zeros_from}
+use Rattle.neli_msg_base.specs.Zeroed.{HasNoTail, attribute_length, attribute_zeroed, attributes_zeroed, message_length, message_zeroed, HasNoTailIn, payload_zeroed, untyped_wire, untyped_wires, datagram_zeroed, zeros_from}
 use Rattle.neli_msg_base.specs.laws.ZeroedFrames.{States, all-true, bytes-drop, bytes-take, frames-aligned, frames-length, frames-wire, frames_by-nil, last_place, place, wire_all-map}
 
 -- ---- untyped
@@ -387,6 +387,6 @@ message-back frame m bytes tail is = subst Q is.header_is there is.least is.whol
         ∙ ap written text
 
 -- the messages of a datagram without a fault
-pub datagram-back : (b : List ℕ) (ms : List (Message ℕ (List ℕ))) → AreBytes b → AreFrames untyped_layout b ms → All HasNoTail ms → untyped_wires ms ≡ Ok (zeroed b)
+pub datagram-back : (b : List ℕ) (ms : List (Message ℕ (List ℕ))) → AreBytes b → AreFrames untyped_layout b ms → All HasNoTail ms → untyped_wires ms ≡ Ok (datagram_zeroed b)
 datagram-back b ms bytes are tails =
     frames-wire untyped_layout message_length message_zeroed message-states untyped_wire HasNoTail message-back (length b) b ms bytes (omega arith) tails are

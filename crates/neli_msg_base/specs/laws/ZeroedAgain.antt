@@ -28,8 +28,8 @@ use Rattle.neli_msg_base.specs.Answers.{Attributes, after, after_echo, answer, a
 use Rattle.neli_msg_base.specs.Headers.{Header, flags_of, header_in}
 use Rattle.neli_msg_base.specs.Kinds.{kind_of, payload_as, payload_in}
 use Rattle.neli_msg_base.specs.Messages.{Message, message_layout}
-use Rattle.neli_msg_base.specs.Zeroed.{attribute_length, attribute_zeroed, attributes_zeroed, message_length, message_zeroed, payload_zeroed, zeroed, zeros_from}
-use Rattle.neli_msg_base.specs.laws.Messages.{framed-placed}
+use Rattle.neli_msg_base.specs.Zeroed.{attribute_length, attribute_zeroed, attributes_zeroed, message_length, message_zeroed, payload_zeroed, datagram_zeroed, zeros_from}
+use Rattle.neli_msg_base.specs.laws.Messages.{layout_with-placed}
 use Rattle.neli_msg_base.specs.laws.Zeroed.{attribute-length, attribute-states, message-states, whole-zeroed}
 use Rattle.neli_msg_base.specs.laws.ZeroedFrames.{frames-again, frames-length}
 
@@ -166,7 +166,7 @@ failure-reads t body attrs long least there is lists =
 -- the header is in the first 16 bytes
 header-same : (s z : List ℕ) → 16 ≤ length s → 16 ≤ length z → take 16 z ≡ take 16 s → header_in same z ≡ header_in same s
 header-same s z long enough is =
-    let placed = framed-placed same (λ (h : Header ℕ). all) in
+    let placed = layout_with-placed same (λ (h : Header ℕ). all) in
     sym (placed.own z enough) ∙ ap (header_in same) is ∙ placed.own s long
 
 failure-again : (number : ℕ) (flags : NlmF) (s : List ℕ) (u : NlPayload ℕ (List ℕ)) → kind_of number flags s ≡ Failure → payload_as same all Failure s ≡ Ok u → IsAgain number flags s (payload_zeroed Failure s) u
@@ -262,11 +262,11 @@ message-again frame m is = subst Q is.header_is there is.least is.whole is.paylo
         }
 
 -- the messages of a datagram are those of the datagram with zeros for padding
-pub datagram-again : (b : List ℕ) (ms : List (Message ℕ (List ℕ))) → AreFrames untyped_layout b ms → AreFrames untyped_layout (zeroed b) ms
+pub datagram-again : (b : List ℕ) (ms : List (Message ℕ (List ℕ))) → AreFrames untyped_layout b ms → AreFrames untyped_layout (datagram_zeroed b) ms
 datagram-again b ms are =
     frames-again untyped_layout message_length message_zeroed message-states message-again (length b) b ms (omega arith) are
 
 -- as many bytes
-pub datagram-length : (b : List ℕ) (ms : List (Message ℕ (List ℕ))) → AreFrames untyped_layout b ms → length (zeroed b) ≡ length b
+pub datagram-length : (b : List ℕ) (ms : List (Message ℕ (List ℕ))) → AreFrames untyped_layout b ms → length (datagram_zeroed b) ≡ length b
 datagram-length b ms are =
     frames-length untyped_layout message_length message_zeroed message-states (λ frame m is. (message-again frame m is).whole ∙ sym is.whole) (length b) b ms (omega arith) are

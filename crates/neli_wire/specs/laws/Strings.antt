@@ -9,14 +9,14 @@ use Rattle.neli_wire.specs.DeError.TheVariants.{Utf8 as NotText, InvalidInput, M
 use Rattle.neli_wire.specs.Utf8.{Utf8}
 use Rattle.neli_wire.specs.Utf8.TheVariants.{String as OfString, Str as OfStr}
 use Rattle.neli_wire.specs.Bytes.{short}
-use Rattle.neli_wire.specs.Strings.{terminated, fault_of, utf8_of, borrowed_text, owned_text, nothing}
+use Rattle.neli_wire.specs.Strings.{text_and_zero, fault_of, utf8_of, borrowed_text, owned_text, nothing}
 
 abbrev done : {A : Type 0} → A → Result A DeError
 done x = Ok x
 
 -- a terminated text has one byte more than the text
-pub terminated-length : (text bytes : List ℕ) → terminated text ≡ Ok bytes → length bytes ≡ length text + 1
-terminated-length text bytes e = let same : text ++ 0 ∷ [] ≡ bytes = cc in omega (arith, ap length same, length-append text (0 ∷ []))
+pub text_and_zero-length : (text bytes : List ℕ) → text_and_zero text ≡ Ok bytes → length bytes ≡ length text + 1
+text_and_zero-length text bytes e = let same : text ++ 0 ∷ [] ≡ bytes = cc in omega (arith, ap length same, length-append text (0 ∷ []))
 
 -- neither outcome of a test is that refusal
 neither : {A : Type 0} (b : Bool) (x : A) (d e : DeError) → d ≢ e → cond b (done x) (Err d) ≢ Err e

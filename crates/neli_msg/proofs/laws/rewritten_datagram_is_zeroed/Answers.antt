@@ -1,6 +1,6 @@
 use Rattle.std.proofs.Common.{[], refl, sym}
 use Rattle.std.proofs.lemmas.List.{append-nil}
-use Rattle.neli_msg_base.specs.Zeroed.{zeroed}
+use Rattle.neli_msg_base.specs.Zeroed.{datagram_zeroed}
 use Rattle.neli_msg_base.specs.laws.Zeroed.{datagram-back}
 use Rattle.neli_msg_base.specs.laws.ZeroedAgain.{datagram-again, datagram-length}
 use Rattle.neli_msg.specs.Agreement.{untyped_layout}
@@ -12,7 +12,7 @@ returns-clause-written c b ms bytes cuts tails = datagram-back b ms bytes (whole
 
 pub returns-clause-read_again : goal.returns-clause-read_again
 returns-clause-read_again c b ms cuts =
-    (zeroed b, [], sym (append-nil (zeroed b)), datagram-again b ms (whole_frames untyped_layout b ms cuts), refl)
+    (datagram_zeroed b, [], sym (append-nil (datagram_zeroed b)), datagram-again b ms (whole_frames untyped_layout b ms cuts), refl)
 
 pub returns-clause-as_long : goal.returns-clause-as_long
 returns-clause-as_long c b ms cuts = datagram-length b ms (whole_frames untyped_layout b ms cuts)

@@ -2,7 +2,7 @@ use Rattle.std.proofs.Common.{rules, arith, ◌≡◌, ◌≢◌, [], ◌∙◌,
 use Rattle.std.proofs.lemmas.Bool.{eqb-true}
 use Rattle.neli_wire.specs.Frames.{frame_at}
 use Rattle.neli_msg_base.specs.Messages.{message_layout}
-use Rattle.neli_msg_base.specs.laws.Messages.{framed-placed}
+use Rattle.neli_msg_base.specs.laws.Messages.{layout_with-placed}
 use Rattle.neli_msg.specs.laws.Cuts.{cut_of-end, cut_of-message, cut_of-fault, refused_is, drop_whole, empty_is, frame_at-longer}
 use Rattle.neli_msg.proofs.iter.NlBufferIter.next_typed.Goals as goal
 
@@ -13,7 +13,7 @@ returns-then-is_empty g c =
     record {
       next = (nothing, nothing);
       shorter = tt;
-      cut = rw nothing (cut_of-end (message_layout g.T2.Constant.wire_value g.T2.Constant.wire_number g.P2.FromBytesWithInput.read) (framed-placed g.T2.Constant.wire_value _) (omega arith));
+      cut = rw nothing (cut_of-end (message_layout g.T2.Constant.wire_value g.T2.Constant.wire_number g.P2.FromBytesWithInput.read) (layout_with-placed g.T2.Constant.wire_value _) (omega arith));
     }
 
 pub returns-in-Ok : goal.returns-in-Ok
@@ -24,8 +24,8 @@ returns-in-Ok g c =
     let value = rw c.self.view_is at c.in-Ok.ensures.value in
     record {
       next = (any, value);
-      shorter = frame_at-longer layout (framed-placed g.T2.Constant.wire_value _) (omega arith) _ _ _ value;
-      cut = cut_of-message layout (framed-placed g.T2.Constant.wire_value _) (omega arith) _ _ _ value;
+      shorter = frame_at-longer layout (layout_with-placed g.T2.Constant.wire_value _) (omega arith) _ _ _ value;
+      cut = cut_of-message layout (layout_with-placed g.T2.Constant.wire_value _) (omega arith) _ _ _ value;
     }
 
 -- the fault is that of the rest, and the cursor stands after the last byte
@@ -39,5 +39,5 @@ returns-in_default g c =
     record {
       next = (any, faulty, nothing);
       shorter = tt;
-      cut = cut_of-fault layout (framed-placed g.T2.Constant.wire_value _) (omega arith) c.args.self.now c.in-Err.error any faulty;
+      cut = cut_of-fault layout (layout_with-placed g.T2.Constant.wire_value _) (omega arith) c.args.self.now c.in-Err.error any faulty;
     }
