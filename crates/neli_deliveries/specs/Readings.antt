@@ -1,12 +1,10 @@
 -- What a delivery is as a caller's types: a message, or why there is none.
 use Rattle.std.specs.Prelude.{◌≡◌, ◌≢◌, ℕ, List, Option, Some, None, Result, Ok, Err}
 use Rattle.neli_wire.specs.DeError.{DeError}
-use Rattle.neli_wire.specs.Sizes.{align}
 use Rattle.neli_msg.specs.Nlmsghdr.{Nlmsghdr}
 use Rattle.neli_msg.specs.RouterError.{RouterError}
 use Rattle.neli_msg.specs.RouterError.TheVariants as router
-use Rattle.neli_msg.specs.Retyping.{HasOwnEcho, IsMessageTooLong, RefusesTyping, payload_stating, stated_echo, typed_header, typed_payload, with_len}
-use Rattle.neli_msg.specs.Wires.{message_size}
+use Rattle.neli_msg.specs.Retyping.{IsTyped, RefusesTypingMessage}
 use Rattle.neli_deliveries.specs.declared.delivery.Delivery.{Delivery}
 use Rattle.neli_deliveries.specs.declared.delivery.Delivery.TheVariants as delivery
 
@@ -16,24 +14,15 @@ Item K P = Result (Nlmsghdr K P) (RouterError K P)
 
 -- the caller's types: what the number of a message's type means; what is seen of a body, its size, and its reading
 module _ {K P V : Type 0} (type_of : ℕ → K) (view : P → V) (size : P → ℕ) (read : List ℕ → Result V DeError) where
-  -- m is what the untyped u says, with its lengths computed anew
-  abbrev pub IsTyped : Nlmsghdr ℕ (List ℕ) → Nlmsghdr K P → Type 0
-  IsTyped u m =
-      (typed_payload type_of read u.payload ≡ Ok (payload_stating (stated_echo u.payload) view m.payload))
-      × (m.header ≡ with_len (typed_header type_of u.header) (align (message_size size m)))
-      × HasOwnEcho size m.payload
-
-  -- e is why u can't be so typed: a body's refusal, or that a length passes 32 bits
+  -- e is why u can't be typed: a body's refusal, or that a length passes 32 bits
   abbrev pub IsNotTyped : Nlmsghdr ℕ (List ℕ) → RouterError K P → Type 0
-  IsNotTyped u e =
-      RefusesTyping (typed_payload type_of read u.payload) (IsMessageTooLong view size read type_of u.payload) e
-      × (e ≢ router.Memory)
+  IsNotTyped u e = RefusesTypingMessage type_of view size read u e × (e ≢ router.Memory)
 
   -- the item is this delivery: a message, typed; a stray, typed, as an error; or why it can't be typed; or the fault
   abbrev pub IsReading : Delivery → Item K P → Type 0
-  IsReading (delivery.Message u) (Ok m) = IsTyped u m
+  IsReading (delivery.Message u) (Ok m) = IsTyped type_of view size read u m
   IsReading (delivery.Message u) (Err e) = IsNotTyped u e
-  IsReading (delivery.Stray u) (Err (router.BadSeqOrPid m)) = IsTyped u m
+  IsReading (delivery.Stray u) (Err (router.BadSeqOrPid m)) = IsTyped type_of view size read u m
   IsReading (delivery.Stray u) (Err e) = IsNotTyped u e
   IsReading (delivery.Stray u) (Ok m) = ⊥
   IsReading (delivery.Fault e) item = item ≡ Err (router.Socket e)

@@ -140,18 +140,27 @@ module _ {P V : Type 0} (view : P → V) (size : P → ℕ) (read : List ℕ →
       IsEchoTooLong u ⊎ ((p : NlPayload K P) × (typed_payload type_of read u ≡ Ok (payload_stating (stated_echo u) view p))
       × HasOwnEcho size p × (4294967295 < align (16 + payload_size size p)))
 
--- ---- a router's error: what it has of a message is retyped, and all else stays
+-- ---- a message, and a router's error: what it has of a message is retyped, and all else stays
 
 module _ {K P V : Type 0} (type_of : ℕ → K) (view : P → V) (size : P → ℕ) (read : List ℕ → Result V DeError) where
+  -- m is what the untyped u says, with its lengths computed anew
+  abbrev pub IsTyped : Nlmsghdr ℕ (List ℕ) → Nlmsghdr K P → Type 0
+  IsTyped u m =
+      (typed_payload type_of read u.payload ≡ Ok (payload_stating (stated_echo u.payload) view m.payload))
+      × (m.header ≡ with_len (typed_header type_of u.header) (align (message_size size m)))
+      × HasOwnEcho size m.payload
+
+  -- why is why u can't be typed: a body's refusal, or that a length passes 32 bits; or memory ran out
+  abbrev pub RefusesTypingMessage : Nlmsghdr ℕ (List ℕ) → RouterError K P → Type 0
+  RefusesTypingMessage u why =
+      RefusesTyping (typed_payload type_of read u.payload) (IsMessageTooLong view size read type_of u.payload) why
+
   -- f is what the untyped e says
   abbrev pub IsTypedError : RouterError ℕ (List ℕ) → RouterError K P → Type 0
   IsTypedError (router.Nlmsgerr e) (router.Nlmsgerr f) =
       (typed_failure type_of read e ≡ Ok (failure_stating e.nlmsg.header.len view f)) × HasOwnLength size f.nlmsg
   IsTypedError (router.Nlmsgerr e) f = ⊥
-  IsTypedError (router.BadSeqOrPid u) (router.BadSeqOrPid m) =
-      (typed_payload type_of read u.payload ≡ Ok (payload_stating (stated_echo u.payload) view m.payload))
-      × (m.header ≡ with_len (typed_header type_of u.header) (align (message_size size m)))
-      × HasOwnEcho size m.payload
+  IsTypedError (router.BadSeqOrPid u) (router.BadSeqOrPid m) = IsTyped u m
   IsTypedError (router.BadSeqOrPid u) f = ⊥
   IsTypedError (router.Msg text) f = f ≡ router.Msg text
   IsTypedError (router.Io kind) f = f ≡ router.Io kind
@@ -167,8 +176,7 @@ module _ {K P V : Type 0} (type_of : ℕ → K) (view : P → V) (size : P → �
   abbrev pub RefusesTypingError : RouterError ℕ (List ℕ) → RouterError K P → Type 0
   RefusesTypingError (router.Nlmsgerr e) why =
       RefusesTyping (typed_failure type_of read e) (IsTooLong view size read e.nlmsg.payload) why
-  RefusesTypingError (router.BadSeqOrPid u) why =
-      RefusesTyping (typed_payload type_of read u.payload) (IsMessageTooLong view size read type_of u.payload) why
+  RefusesTypingError (router.BadSeqOrPid u) why = RefusesTypingMessage u why
   RefusesTypingError (router.Msg text) why = why ≡ router.Memory
   RefusesTypingError (router.De e) why = why ≡ router.Memory
   RefusesTypingError (router.Socket e) why = why ≡ router.Memory
