@@ -2,6 +2,7 @@ mod Alike
 mod Lists
 mod Places
 mod Readings
+mod Later
 mod OtherReads
 mod Regrouping
 mod Steps

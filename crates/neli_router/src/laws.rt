@@ -12,7 +12,7 @@ ghost use Rattle.neli_router_base.specs.Rule.{answer};
 ghost use Rattle.neli_router.specs.Deliveries.{deliveries};
 ghost use Rattle.neli_router.specs.History.{History, is_live, is_open, is_sent, items_of, needs_of, whose};
 ghost use Rattle.neli_router.specs.OtherReads.{NoneReads};
-ghost use Rattle.neli_router.specs.Outcomes.{EachAfter, IsAnswered, IsSent, outcome_of};
+ghost use Rattle.neli_router.specs.Outcomes.{EachAfter, IsAnswered, IsNextAnswer, IsSent, outcome_of};
 ghost use Rattle.neli_router.specs.Regrouping.{Bytes, IsRegrouped, IsWhole, history_with};
 
 use crate::{Command, Outcome};
@@ -35,6 +35,22 @@ pub fn deliveries_only_grow<ST, SP, RT, RP>()
     ensures { (port k : ℕ) (c : Command ST SP) (o : Outcome ST SP RT RP)
         (h : History ST SP RT RP) → (more : List Waiting)
         × (deliveries port k ((c, o) ∷ h) ≡ deliveries port k h ++ more) }
+{}
+
+/// So what comes later takes no answer back: an item or the end that is right for a read after some history is right
+/// after every history that begins with that one.
+pub fn later_commands_leave_answers<ST, SP, RT, RP>()
+where
+    RT: NlType,
+    RP: FromBytesWithInput + Size,
+    ensures deliveries { (port k : ℕ) (before later : History ST SP RT RP) → (more : List Waiting)
+        × (deliveries port k (later ++ before) ≡ deliveries port k before ++ more) }
+    ensures answer { (port k : ℕ) (needs numbered : Bool) (given : List (Item RT RP))
+        (r : Answer RT RP) (before later : History ST SP RT RP) → r ≢ reply.Waits
+        → IsNextAnswer RT.wire_value RT.wire_number RP.view RP.wire_length RP.read needs numbered
+        (deliveries port k before) given r
+        → IsNextAnswer RT.wire_value RT.wire_number RP.view RP.wire_length RP.read needs numbered
+        (deliveries port k (later ++ before)) given r }
 {}
 
 /// A read of one handle changes nothing of another: neither what is delivered to it nor what it was given.
