@@ -1,3 +1,8 @@
+pub use Rattle.neli_router_base.specs.declared.handle.HandleState
+pub use Rattle.neli_router_base.specs.declared.reply.Reply
+pub use Rattle.neli_router_base.specs.Requests
+pub use Rattle.neli_router_base.specs.Rule
+pub use Rattle.neli_router_base.specs.Sends
 pub mod Deliveries
 pub mod History
 pub mod OtherReads
