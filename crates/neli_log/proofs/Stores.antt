@@ -21,7 +21,7 @@ use Rattle.neli_places.specs.Places.{pending_of as items_of, head_of as first_of
 use Rattle.neli_places.specs.Routes.{entry, items_for, leads}
 use Rattle.neli_spans.specs.declared.span.Span.{Span}
 use Rattle.neli_spans.specs.declared.datagrams.Datagrams.{Datagrams}
-use Rattle.neli_spans.specs.Spans.{AreOf, Names, next_serial, text_of}
+use Rattle.neli_spans.specs.Spans.{AreOf, Names, next_serial, span_bytes}
 use Rattle.neli_log.specs.declared.content.Content.{Content}
 use Rattle.neli_log.specs.declared.content.Content.TheVariants as content
 use Rattle.neli_log.specs.Contents.{AreBacked, AreMessages, IsReadable, delivery_of, part_of, span_of, spans_of}
@@ -128,25 +128,25 @@ module _ (s s' : Places Content) (d d' : Datagrams) (c : Content) (r : Route) (t
   pub released_names : Names d (span_of c ++ spans_of (entries_of s'))
   released_names = subst (λ es. Names d (spans_of es)) taken backed.names
 
-  released_messages : AreMessages (text_of d) (spans_of (entries_of s'))
+  released_messages : AreMessages (span_bytes d) (spans_of (entries_of s'))
   released_messages i x at =
-      let all = subst (λ es. AreMessages (text_of d) (spans_of es)) taken backed.messages in
+      let all = subst (λ es. AreMessages (span_bytes d) (spans_of es)) taken backed.messages in
       let j : length (span_of c) + i - length (span_of c) ≡ i = omega arith in
       all (length (span_of c) + i) x (get_right (span_of c) (spans_of (entries_of s')) (length (span_of c) + i) (omega arith) ∙ (rw j at))
 
-  module _ (names : (ss : List Span) → Names d (span_of c ++ ss) → Names d' ss) (texts : (ss : List Span) (i : ℕ) (x : Span) → Names d (span_of c ++ ss) → slice_get ss i ≡ Some x → text_of d' x ≡ text_of d x) where
+  module _ (names : (ss : List Span) → Names d (span_of c ++ ss) → Names d' ss) (texts : (ss : List Span) (i : ℕ) (x : Span) → Names d (span_of c ++ ss) → slice_get ss i ≡ Some x → span_bytes d' x ≡ span_bytes d x) where
     pub released_backed : AreBacked d' (entries_of s')
     released_backed = record {
       names = names (spans_of (entries_of s')) released_names;
       messages = λ i x at. subst IsSpan (sym (texts (spans_of (entries_of s')) i x released_names at)) (released_messages i x at);
     }
 
-    pub released_pending : (w : Option ℕ) → option_map (map (delivery_of (text_of d'))) (items_of s' w) ≡ option_map (map (delivery_of (text_of d))) (items_of s w)
-    released_pending w = by (place_of s' w) ∙ ap (option_map (map (delivery_of (text_of d)))) (same w)
+    pub released_pending : (w : Option ℕ) → option_map (map (delivery_of (span_bytes d'))) (items_of s' w) ≡ option_map (map (delivery_of (span_bytes d))) (items_of s w)
+    released_pending w = by (place_of s' w) ∙ ap (option_map (map (delivery_of (span_bytes d)))) (same w)
       where
-        by : (o : Option Place) → option_map (map (delivery_of (text_of d'))) (option_map (λ p. items_for w (rest s'.base (entries_of s') p)) o) ≡ option_map (map (delivery_of (text_of d))) (option_map (λ p. items_for w (rest s'.base (entries_of s') p)) o)
+        by : (o : Option Place) → option_map (map (delivery_of (span_bytes d'))) (option_map (λ p. items_for w (rest s'.base (entries_of s') p)) o) ≡ option_map (map (delivery_of (span_bytes d))) (option_map (λ p. items_for w (rest s'.base (entries_of s') p)) o)
         by None = refl
-        by (Some p) = ap (λ ds. Some ds) (items_same (text_of d) (text_of d') w (rest s'.base (entries_of s') p)
+        by (Some p) = ap (λ ds. Some ds) (items_same (span_bytes d) (span_bytes d') w (rest s'.base (entries_of s') p)
             (λ i x at. (let j = span_dropped (p.from - s'.base) (entries_of s') i x at in texts (spans_of (entries_of s')) j.0 x released_names j.1)))
 
 -- ---- entries are added, and their datagram
@@ -154,34 +154,34 @@ module _ (s s' : Places Content) (d d' : Datagrams) (c : Content) (r : Route) (t
 module _ (s s' : Places Content) (d d' : Datagrams) (bytes : List ℕ) (es : List (Entry Content)) (entries : entries_of s' ≡ entries_of s ++ es) (more : (w : Option ℕ) → items_of s' w ≡ option_map (λ xs. xs ++ items_for w es) (items_of s w))
     (spans : AreOf (next_serial d) (length bytes) (spans_of es)) (messages : AreMessages (part_of bytes) (spans_of es)) (backed : AreBacked d (entries_of s))
     (names : (old new : List Span) → Names d old → AreOf (next_serial d) (length bytes) new → length new ≡ length (spans_of es) → Names d' (old ++ new))
-    (texts : (old : List Span) (i : ℕ) (x : Span) → Names d old → slice_get old i ≡ Some x → text_of d' x ≡ text_of d x)
-    (new_texts : (x : Span) → 0 < length (spans_of es) → x.datagram ≡ next_serial d → text_of d' x ≡ slice_range bytes x.start x.end) where
-  kept_text : (i : ℕ) (x : Span) → slice_get (spans_of (entries_of s)) i ≡ Some x → text_of d' x ≡ text_of d x
+    (texts : (old : List Span) (i : ℕ) (x : Span) → Names d old → slice_get old i ≡ Some x → span_bytes d' x ≡ span_bytes d x)
+    (new_span : (x : Span) → 0 < length (spans_of es) → x.datagram ≡ next_serial d → span_bytes d' x ≡ slice_range bytes x.start x.end) where
+  kept_text : (i : ℕ) (x : Span) → slice_get (spans_of (entries_of s)) i ≡ Some x → span_bytes d' x ≡ span_bytes d x
   kept_text i x at = texts (spans_of (entries_of s)) i x backed.names at
 
-  added_text : (i : ℕ) (x : Span) → slice_get (spans_of es) i ≡ Some x → text_of d' x ≡ part_of bytes x
-  added_text i x at = new_texts x (let e = get_end (spans_of es) i x at in omega arith) (spans.one i x at).0
+  added_text : (i : ℕ) (x : Span) → slice_get (spans_of es) i ≡ Some x → span_bytes d' x ≡ part_of bytes x
+  added_text i x at = new_span x (let e = get_end (spans_of es) i x at in omega arith) (spans.one i x at).0
 
   pub handed_backed : AreBacked d' (entries_of s')
   handed_backed = rw entries (record {
     names = rw (spans_append (entries_of s) es) (names (spans_of (entries_of s)) (spans_of es) backed.names spans refl);
-    messages = rw (spans_append (entries_of s) es) (each_joined (λ x. IsSpan (text_of d' x)) (spans_of (entries_of s)) (spans_of es)
+    messages = rw (spans_append (entries_of s) es) (each_joined (λ x. IsSpan (span_bytes d' x)) (spans_of (entries_of s)) (spans_of es)
         (λ i x at. subst IsSpan (sym (kept_text i x at)) (backed.messages i x at))
         (λ i x at. subst IsSpan (sym (added_text i x at)) (messages i x at)));
   })
 
-  pub handed_pending : (w : Option ℕ) → option_map (map (delivery_of (text_of d'))) (items_of s' w) ≡ option_map (λ ds. ds ++ gain_of bytes w es) (option_map (map (delivery_of (text_of d))) (items_of s w))
-  handed_pending w = ap (option_map (map (delivery_of (text_of d')))) (more w) ∙ by (place_of s w)
+  pub handed_pending : (w : Option ℕ) → option_map (map (delivery_of (span_bytes d'))) (items_of s' w) ≡ option_map (λ ds. ds ++ gain_of bytes w es) (option_map (map (delivery_of (span_bytes d))) (items_of s w))
+  handed_pending w = ap (option_map (map (delivery_of (span_bytes d')))) (more w) ∙ by (place_of s w)
     where
-      new : map (delivery_of (text_of d')) (items_for w es) ≡ gain_of bytes w es
-      new = items_same (part_of bytes) (text_of d') w es added_text
+      new : map (delivery_of (span_bytes d')) (items_for w es) ≡ gain_of bytes w es
+      new = items_same (part_of bytes) (span_bytes d') w es added_text
 
-      by : (o : Option Place) → option_map (map (delivery_of (text_of d'))) (option_map (λ xs. xs ++ items_for w es) (option_map (λ p. items_for w (rest s.base (entries_of s) p)) o)) ≡ option_map (λ ds. ds ++ gain_of bytes w es) (option_map (map (delivery_of (text_of d))) (option_map (λ p. items_for w (rest s.base (entries_of s) p)) o))
+      by : (o : Option Place) → option_map (map (delivery_of (span_bytes d'))) (option_map (λ xs. xs ++ items_for w es) (option_map (λ p. items_for w (rest s.base (entries_of s) p)) o)) ≡ option_map (λ ds. ds ++ gain_of bytes w es) (option_map (map (delivery_of (span_bytes d))) (option_map (λ p. items_for w (rest s.base (entries_of s) p)) o))
       by None = refl
       by (Some p) =
           let old : List Content = items_for w (rest s.base (entries_of s) p) in
-          let first : map (delivery_of (text_of d')) old ≡ map (delivery_of (text_of d)) old = items_same (text_of d) (text_of d') w (rest s.base (entries_of s) p) (λ i x at. (let j = span_dropped (p.from - s.base) (entries_of s) i x at in kept_text j.0 x j.1)) in
-          ap (λ ds. Some ds) (map-append (delivery_of (text_of d')) old (items_for w es) ∙ ap (λ ds. ds ++ map (delivery_of (text_of d')) (items_for w es)) first ∙ ap (λ ds. map (delivery_of (text_of d)) old ++ ds) new)
+          let first : map (delivery_of (span_bytes d')) old ≡ map (delivery_of (span_bytes d)) old = items_same (span_bytes d) (span_bytes d') w (rest s.base (entries_of s) p) (λ i x at. (let j = span_dropped (p.from - s.base) (entries_of s) i x at in kept_text j.0 x j.1)) in
+          ap (λ ds. Some ds) (map-append (delivery_of (span_bytes d')) old (items_for w es) ∙ ap (λ ds. ds ++ map (delivery_of (span_bytes d')) (items_for w es)) first ∙ ap (λ ds. map (delivery_of (span_bytes d)) old ++ ds) new)
 
 -- ---- what is due
 

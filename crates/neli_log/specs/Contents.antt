@@ -12,7 +12,7 @@ use Rattle.neli_deliveries.specs.Deliveries.{Untyped, message, stray}
 use Rattle.neli_places.specs.declared.entry.Entry.{Entry}
 use Rattle.neli_spans.specs.declared.span.Span.{Span}
 use Rattle.neli_spans.specs.declared.datagrams.Datagrams.{Datagrams}
-use Rattle.neli_spans.specs.Spans.{IsNamed, Names, text_of}
+use Rattle.neli_spans.specs.Spans.{IsNamed, Names, span_bytes}
 use Rattle.neli_log.specs.declared.content.Content.{Content}
 use Rattle.neli_log.specs.declared.content.Content.TheVariants as content
 
@@ -21,11 +21,11 @@ abbrev pub delivery_read : (Untyped → Delivery) → Reading Untyped → Delive
 delivery_read kind (Ok p) = kind p.0
 delivery_read kind (Err e) = delivery.Fault (socket.De e)
 
--- the delivery that an entry is, where `text` has the bytes of its span
+-- the delivery that an entry is, where `part` has the bytes of its span
 abbrev pub delivery_of : (Span → List ℕ) → Content → Delivery
-delivery_of text (content.Message s) = delivery_read message (frame_at untyped_layout (text s))
-delivery_of text (content.Stray s) = delivery_read stray (frame_at untyped_layout (text s))
-delivery_of text (content.Fault e) = delivery.Fault e
+delivery_of part (content.Message s) = delivery_read message (frame_at untyped_layout (part s))
+delivery_of part (content.Stray s) = delivery_read stray (frame_at untyped_layout (part s))
+delivery_of part (content.Fault e) = delivery.Fault e
 
 -- the span of an entry that has one
 abbrev pub span_of : Content → List Span
@@ -40,12 +40,12 @@ spans_of (e ∷ es) = span_of e.item ++ spans_of es
 
 -- each span is a message that can be read untyped
 abbrev pub AreMessages : (Span → List ℕ) → List Span → Type 0
-AreMessages text ss = (i : ℕ) (s : Span) → slice_get ss i ≡ Some s → IsSpan (text s)
+AreMessages part ss = (i : ℕ) (s : Span) → slice_get ss i ≡ Some s → IsSpan (part s)
 
 -- the spans of these entries name the kept datagrams, and each is a message
 pub record AreBacked (kept : Datagrams) (es : List (Entry Content)) : Type 0 where
   pub names : Names kept (spans_of es)
-  pub messages : AreMessages (text_of kept) (spans_of es)
+  pub messages : AreMessages (span_bytes kept) (spans_of es)
 
 -- the bytes of a span of these bytes
 abbrev pub part_of : List ℕ → Span → List ℕ
@@ -53,6 +53,6 @@ part_of bytes s = slice_range bytes s.start s.end
 
 -- an entry can be read: its span, if it has one, is named and a message
 abbrev pub IsReadable : Datagrams → Content → Type 0
-IsReadable kept (content.Message s) = IsNamed kept s × IsSpan (text_of kept s)
-IsReadable kept (content.Stray s) = IsNamed kept s × IsSpan (text_of kept s)
+IsReadable kept (content.Message s) = IsNamed kept s × IsSpan (span_bytes kept s)
+IsReadable kept (content.Stray s) = IsNamed kept s × IsSpan (span_bytes kept s)
 IsReadable kept (content.Fault e) = Unit {0}

@@ -5,7 +5,7 @@ use Rattle.neli_deliveries.specs.declared.delivery.Delivery.{Delivery}
 use Rattle.neli_places.specs.declared.entry.Entry.{Entry}
 use Rattle.neli_places.specs.Places.{IsSound, IsTrimmed, entries_of}
 use Rattle.neli_places.specs.Places.{pending_of as items_of}
-use Rattle.neli_spans.specs.Spans.{bytes_of, text_of}
+use Rattle.neli_spans.specs.Spans.{bytes_of, span_bytes}
 use Rattle.neli_log.specs.declared.content.Content.{Content}
 use Rattle.neli_log.specs.declared.store.Store.{Store}
 use Rattle.neli_log.specs.Contents.{AreBacked, delivery_of, spans_of}
@@ -13,7 +13,7 @@ use Rattle.neli_log.specs.Staged.{HaveReaders}
 
 -- what waits for a number, or for multicast (None), where it is open
 abbrev pub pending_of : Store → Option ℕ → Option (List Delivery)
-pending_of s w = option_map (map (delivery_of (text_of s.datagrams))) (items_of s.places w)
+pending_of s w = option_map (map (delivery_of (span_bytes s.datagrams))) (items_of s.places w)
 
 -- all but that what nobody waits for any more is gone
 pub record IsLoose (s : Store) : Type 0 where

@@ -3,7 +3,7 @@
 ghost use Rattle.std.specs.Prelude.{◌≡◌, ◌++◌, ◌+◌, ◌<◌, ℕ, List, Option, Some, OnErr, OnOk, length, option_map, slice_get, slice_range};
 ghost use Rattle.neli_places.specs.Places.{HasRoom, IsTrimmed, entries_of, pending_of};
 ghost use Rattle.neli_places.specs.Routes.{items_for};
-ghost use Rattle.neli_spans.specs.Spans.{AreNamed, AreOf, IsUnchanged, Names, bytes_of, next_serial, text_of};
+ghost use Rattle.neli_spans.specs.Spans.{AreNamed, AreOf, IsUnchanged, Names, bytes_of, next_serial, span_bytes};
 ghost use Rattle.neli_spans.specs.declared.span.Span.{Span as Part};
 ghost use Rattle.neli_log.specs.Contents.{span_of, spans_of};
 ghost use Rattle.neli_log.specs.Log.{kept_with};
@@ -66,11 +66,11 @@ pub(crate) fn keep_copy(
     ensures names { OnOk result ((old new : List Part) → Names datagrams.old old
         → AreOf (next_serial datagrams.old) (length bytes.now) new → length new ≡ spans
         → Names datagrams.new (old ++ new)) }
-    ensures texts { OnOk result ((old : List Part) (i : ℕ) (s : Part) → Names datagrams.old old
-        → slice_get old i ≡ Some s → text_of datagrams.new s ≡ text_of datagrams.old s) }
-    ensures new_texts { OnOk result ((s : Part) → 0 < spans
+    ensures same_bytes { OnOk result ((old : List Part) (i : ℕ) (s : Part) → Names datagrams.old old
+        → slice_get old i ≡ Some s → span_bytes datagrams.new s ≡ span_bytes datagrams.old s) }
+    ensures new_span { OnOk result ((s : Part) → 0 < spans
         → s.datagram ≡ next_serial datagrams.old
-        → text_of datagrams.new s ≡ slice_range bytes.now s.start s.end) }
+        → span_bytes datagrams.new s ≡ slice_range bytes.now s.start s.end) }
     ensures bytes { OnOk result
         (bytes_of datagrams.new ≡ bytes_of datagrams.old + kept_with spans bytes.now) }
     ensures err { OnErr result (IsUnchanged datagrams.old datagrams.new) }
@@ -90,9 +90,9 @@ pub(crate) fn release(datagrams: &mut Datagrams, content: Content)
     requires { (ss : List Part) × Names datagrams.old (span_of content ++ ss) }
     ensures names { (ss : List Part) → Names datagrams.old (span_of content ++ ss)
         → Names datagrams.new ss }
-    ensures texts { (ss : List Part) (i : ℕ) (s : Part)
+    ensures same_bytes { (ss : List Part) (i : ℕ) (s : Part)
         → Names datagrams.old (span_of content ++ ss) → slice_get ss i ≡ Some s
-        → text_of datagrams.new s ≡ text_of datagrams.old s }
+        → span_bytes datagrams.new s ≡ span_bytes datagrams.old s }
 {
     match content {
         Content::Fault(_) => (),

@@ -1,6 +1,6 @@
 //! The parts of a log, and what is done to them.
 
-ghost use Rattle.std.specs.Prelude.{◌≡◌, ◌≢◌, ◌↔◌, ◌++◌, ℕ, List, [], ◌∷◌, Option, None, Some, IfOk, IsOk, OnErr, OnOk, is_some, length, option_map, true};
+ghost use Rattle.std.specs.Prelude.{◌≡◌, ◌≢◌, ◌↔◌, ◌++◌, ◌+◌, ◌≤◌, ℕ, List, [], ◌∷◌, Option, None, Some, IfOk, IsOk, OnErr, OnOk, is_some, length, option_map, true};
 ghost use Rattle.neli_msg.specs.Agreement.{untyped_layout};
 ghost use Rattle.neli_msg.specs.Cuts.{cut_of};
 ghost use Rattle.neli_deliveries.specs.declared.delivery.Delivery.{Delivery as Waiting};
@@ -9,7 +9,7 @@ ghost use Rattle.neli_deliveries.specs.Readings.{IsFirst, IsReading};
 ghost use Rattle.neli_places.specs.declared.entry.Entry.{Entry as Kept};
 ghost use Rattle.neli_log.specs.declared.content.Content.{Content as Held};
 ghost use Rattle.neli_places.specs.Places.{pending_of as items_of};
-ghost use Rattle.neli_spans.specs.Spans.{AreOf, next_serial, text_of};
+ghost use Rattle.neli_spans.specs.Spans.{AreOf, next_serial, span_bytes};
 ghost use Rattle.neli_log.specs.Contents.{AreMessages, IsReadable, delivery_of, part_of, spans_of};
 ghost use Rattle.neli_log.specs.Log.{IsLeft, IsLog, IsLoose, Keeps, byte_count, entry_count, pending_of};
 ghost use Rattle.neli_log.specs.Staged.{HaveReaders, gain_of};
@@ -88,6 +88,7 @@ impl Store {
             → pending_of self.new w ≡ pending_of self.old w) }
         ensures err { OnErr result ((w : Option ℕ)
             → pending_of self.new w ≡ pending_of self.old w) }
+        ensures left { IsLeft self.old self.new }
         ensures log { IsLog self.new }
     {
         self.places.open(number)?;
@@ -180,7 +181,9 @@ impl Store {
         ensures err { OnErr result ((w : Option ℕ)
             → pending_of self.new w ≡ pending_of self.old w) }
         ensures would_block { is_would_block error ≡ true → IsOk result }
+        ensures unawaited { ((q : ℕ) → pending_of self.old (Some q) ≡ None) → IsOk result }
         ensures kept { OnOk result ((es : List (Kept Held)) × Keeps self.old self.new [] es) }
+        ensures once { entry_count self.new ≤ 1 + entry_count self.old }
         ensures left { OnErr result (IsLeft self.old self.new) }
         ensures log { IsLog self.new }
     {
@@ -206,11 +209,11 @@ impl Store {
     ) -> Result<Result<Nlmsghdr<T, P>, RouterError<T, P>>, NoMemory>
         requires { IsReadable self.now.datagrams content.now }
         ensures { IfOk result (IsReading T.wire_value P.view P.wire_length P.read
-            (delivery_of (text_of self.now.datagrams) content.now)) }
+            (delivery_of (span_bytes self.now.datagrams) content.now)) }
     {
         match content {
-            Content::Message(span) => typed(alloc, self.datagrams.text(*span)),
-            Content::Stray(span) => match typed(alloc, self.datagrams.text(*span))? {
+            Content::Message(span) => typed(alloc, self.datagrams.span_bytes(*span)),
+            Content::Stray(span) => match typed(alloc, self.datagrams.span_bytes(*span))? {
                 Ok(message) => Ok(Err(RouterError::BadSeqOrPid(message))),
                 Err(error) => Ok(Err(error)),
             },

@@ -7,7 +7,7 @@ use Rattle.std.proofs.lemmas.List.{map-append, append-nil}
 use Rattle.neli_spans.specs.declared.span.Span.{Span}
 use Rattle.neli_spans.specs.declared.span.Datagram.{Datagram}
 use Rattle.std.specs.Prelude.{slice_range}
-use Rattle.neli_spans.specs.Spans.{text_in, copies, serials_by_span, Apart, AreApart, NamesFrom, AreOf}
+use Rattle.neli_spans.specs.Spans.{span_bytes_in, copies, serials_by_span, Apart, AreApart, NamesFrom, AreOf}
 
 apart_tail : (s : Span) (ss : List Span) → Apart s ss → AreApart ss
 apart_tail s [] h = tt
@@ -180,23 +180,23 @@ span_in first ds ss i s h at =
 pub same_read : (ds : List Datagram) (i : ℕ) (x y : Datagram) → slice_get ds i ≡ Some x → slice_get ds i ≡ Some y → x ≡ y
 same_read ds i x y a b = cc
 
-pub text_read : (s : Span) (ds : List Datagram) (i : ℕ) (x : Datagram) (bytes : List ℕ) {text : List ℕ} → slice_get ds i ≡ Some x → bytes ≡ x.bytes.items → text ≡ slice_range bytes s.start s.end → text ≡ text_in s (slice_get ds i)
+pub text_read : (s : Span) (ds : List Datagram) (i : ℕ) (x : Datagram) (bytes : List ℕ) {text : List ℕ} → slice_get ds i ≡ Some x → bytes ≡ x.bytes.items → text ≡ slice_range bytes s.start s.end → text ≡ span_bytes_in s (slice_get ds i)
 text_read s ds i x bytes at is h = rw (at, ← is) h
 
 -- the other spans keep their text
 pub text_popped : (first : ℕ) (d : Datagram) (es items items' : List Datagram) (s : Span) (ss : List Span) (i : ℕ) (t : Span) → items ≡ d ∷ es → items' ≡ drop 1 items → d.spans ≡ 1 → NamesFrom first items (s ∷ ss) → slice_get ss i ≡ Some t
-    → text_in t (slice_get items' (t.datagram - (first + 1))) ≡ text_in t (slice_get items (t.datagram - first))
+    → span_bytes_in t (slice_get items' (t.datagram - (first + 1))) ≡ span_bytes_in t (slice_get items (t.datagram - first))
 text_popped first d es items items' s ss i t is gone one h at =
     let f : items' ≡ es = gone ∙ ap (drop 1) is in
     let b = (named_bound (first + 1) items' ss i t (released_pop first d es items items' s ss is gone one h) at).0 in
     let j : t.datagram - first ≡ suc (t.datagram - (first + 1)) = omega arith in
     rw (f, is, j) refl
 
-text_head : (t : Span) (d d' : Datagram) (es : List Datagram) (j : ℕ) → d'.bytes ≡ d.bytes → text_in t (slice_get (d' ∷ es) j) ≡ text_in t (slice_get (d ∷ es) j)
+text_head : (t : Span) (d d' : Datagram) (es : List Datagram) (j : ℕ) → d'.bytes ≡ d.bytes → span_bytes_in t (slice_get (d' ∷ es) j) ≡ span_bytes_in t (slice_get (d ∷ es) j)
 text_head t d d' es zero same = ap (λ b. slice_range b.items t.start t.end) same
 text_head t d d' es (suc j) same = refl
 
-pub text_set : (d x d' : Datagram) (es items : List Datagram) (t : Span) (j : ℕ) → items ≡ d ∷ es → x ≡ get_or items 0 x → d'.bytes ≡ x.bytes → text_in t (slice_get (set items 0 d') j) ≡ text_in t (slice_get items j)
+pub text_set : (d x d' : Datagram) (es items : List Datagram) (t : Span) (j : ℕ) → items ≡ d ∷ es → x ≡ get_or items 0 x → d'.bytes ≡ x.bytes → span_bytes_in t (slice_get (set items 0 d') j) ≡ span_bytes_in t (slice_get items j)
 text_set d x d' es items t j is read bytes =
     let same : x ≡ d = (let a = rw is at read in a) in
     rw is (text_head t d d' es j (bytes ∙ ap (λ y. y.bytes) same))
@@ -212,7 +212,7 @@ none_named first (d ∷ ds) h = by d.spans (h.some 0 d refl) h.serials
 
 -- a datagram that is kept leaves the text of each span of before
 pub text_pushed : (first : ℕ) (ds ds' : List Datagram) (x : Datagram) (old : List Span) (i : ℕ) (s : Span) → ds' ≡ ds ++ x ∷ [] → NamesFrom first ds old → slice_get old i ≡ Some s
-    → text_in s (slice_get ds' (s.datagram - first)) ≡ text_in s (slice_get ds (s.datagram - first))
+    → span_bytes_in s (slice_get ds' (s.datagram - first)) ≡ span_bytes_in s (slice_get ds (s.datagram - first))
 text_pushed first ds ds' x old i s is h at =
     let b = named_bound first ds old i s h at in
     let b0 = b.0 in let b1 = b.1 in
@@ -221,7 +221,7 @@ text_pushed first ds ds' x old i s is h at =
 
 -- a span of the datagram that is kept means its bytes
 pub text_new : (first : ℕ) (ds ds' : List Datagram) (x : Datagram) (s : Span) → ds' ≡ ds ++ x ∷ [] → s.datagram ≡ first + length ds
-    → text_in s (slice_get ds' (s.datagram - first)) ≡ slice_range x.bytes.items s.start s.end
+    → span_bytes_in s (slice_get ds' (s.datagram - first)) ≡ slice_range x.bytes.items s.start s.end
 text_new first ds ds' x s is at =
     let j : s.datagram - first ≡ length ds = omega (arith, at) in
     let z : length ds - length ds ≡ 0 = omega arith in

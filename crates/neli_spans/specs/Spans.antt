@@ -10,12 +10,12 @@ use Rattle.neli_spans.specs.Bytes.{byte_count}
 -- ---- which bytes a span means
 
 -- those between its ends, of its datagram
-abbrev pub text_in : Span → Option Datagram → List ℕ
-text_in s None = []
-text_in s (Some d) = slice_range d.bytes.items s.start s.end
+abbrev pub span_bytes_in : Span → Option Datagram → List ℕ
+span_bytes_in s None = []
+span_bytes_in s (Some d) = slice_range d.bytes.items s.start s.end
 
-abbrev pub text_of : Datagrams → Span → List ℕ
-text_of kept s = text_in s (slice_get kept.list.items (s.datagram - kept.first))
+abbrev pub span_bytes : Datagrams → Span → List ℕ
+span_bytes kept s = span_bytes_in s (slice_get kept.list.items (s.datagram - kept.first))
 
 -- ---- when spans name the kept datagrams
 

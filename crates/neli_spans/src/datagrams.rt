@@ -19,7 +19,7 @@ pub struct Datagrams {
 
 impl Datagrams {
     ghost use Rattle.std.specs.Prelude.{◌<◌, ◌+◌, ℕ, List, [], ◌∷◌, ◌++◌, Some, OnOk, length, slice_get, slice_range};
-    ghost use Rattle.neli_spans.specs.Spans.{AreNamed, AreOf, HasRoom, IsNamed, IsUnchanged, Names, bytes_of, next_serial, text_of};
+    ghost use Rattle.neli_spans.specs.Spans.{AreNamed, AreOf, HasRoom, IsNamed, IsUnchanged, Names, bytes_of, next_serial, span_bytes};
     ghost use Rattle.neli_spans.specs.declared.span.Span.{Span as Named};
 
     /// No datagrams. It takes no memory.
@@ -71,10 +71,10 @@ impl Datagrams {
         ensures names { (old new : List Named) → Names self.old old
             → AreOf (next_serial self.old) (length bytes.items) new → length new ≡ spans
             → Names self.new (old ++ new) }
-        ensures texts { (old : List Named) (i : ℕ) (s : Named) → Names self.old old
-            → slice_get old i ≡ Some s → text_of self.new s ≡ text_of self.old s }
-        ensures new_texts { (s : Named) → s.datagram ≡ next_serial self.old
-            → text_of self.new s ≡ slice_range bytes.items s.start s.end }
+        ensures same_bytes { (old : List Named) (i : ℕ) (s : Named) → Names self.old old
+            → slice_get old i ≡ Some s → span_bytes self.new s ≡ span_bytes self.old s }
+        ensures new_span { (s : Named) → s.datagram ≡ next_serial self.old
+            → span_bytes self.new s ≡ slice_range bytes.items s.start s.end }
         ensures serial { next_serial self.new ≡ next_serial self.old + 1 }
         ensures bytes { bytes_of self.new ≡ bytes_of self.old + length bytes.items }
     {
@@ -89,8 +89,8 @@ impl Datagrams {
         requires { (s : Named) × (ss : List Named) × Names self.old (s ∷ ss) }
         ensures names { (s : Named) (ss : List Named) → Names self.old (s ∷ ss)
             → Names self.new ss }
-        ensures texts { (s t : Named) (ss : List Named) (i : ℕ) → Names self.old (s ∷ ss)
-            → slice_get ss i ≡ Some t → text_of self.new t ≡ text_of self.old t }
+        ensures same_bytes { (s t : Named) (ss : List Named) (i : ℕ) → Names self.old (s ∷ ss)
+            → slice_get ss i ≡ Some t → span_bytes self.new t ≡ span_bytes self.old t }
         ensures serial { next_serial self.new ≡ next_serial self.old }
     {
         if let Some(datagram) = self.list.front() {
@@ -107,9 +107,9 @@ impl Datagrams {
     }
 
     /// The bytes that a span means.
-    pub fn text(&self, s: Span) -> &[u8]
+    pub fn span_bytes(&self, s: Span) -> &[u8]
         requires { IsNamed self.now s }
-        ensures { result.now ≡ text_of self.now s }
+        ensures { result.now ≡ span_bytes self.now s }
     {
         let datagram = &self.list[(s.datagram - self.first) as usize];
         part(&datagram.bytes, s.start, s.end)

@@ -6,7 +6,7 @@ use Rattle.neli_msg.specs.Cuts.{cut_of}
 use Rattle.neli_msg.specs.laws.Cuts.{empty_is}
 use Rattle.neli_deliveries.specs.Deliveries.{datagram_share}
 use Rattle.neli_places.specs.Places.{pending_of as items_of}
-use Rattle.neli_spans.specs.Spans.{text_of}
+use Rattle.neli_spans.specs.Spans.{span_bytes}
 use Rattle.neli_log.specs.Contents.{delivery_of}
 use Rattle.neli_log.specs.Log.{pending_of}
 use Rattle.neli_log.specs.Staged.{gain_of, is_open}
@@ -19,7 +19,7 @@ returns-then-is_empty-clause-ok c = λ w.
     let s = c.args.self.now in
     let opened : ℕ → Bool = λ q. is_some (pending_of s (Some q)) in
     let none : c.args.bytes.now ≡ [] = empty_is c.args.bytes.now (eqb-true _ _ (sym c.is_empty.ensures ∙ c.if-is_empty.true)) in
-    mapped_nothing (delivery_of (text_of s.datagrams)) (items_of s.places w) _
+    mapped_nothing (delivery_of (span_bytes s.datagrams)) (items_of s.places w) _
     (λ _. subst (λ b. [] ≡ datagram_share s.port opened w (cut_of untyped_layout b) c.args.groups.now) (sym none) (received_nothing s.port opened w c.args.groups.now))
 
 pub returns-then-is_empty-2-clause-ok : goal.returns-then-is_empty-2-clause-ok
@@ -32,7 +32,7 @@ returns-then-is_empty-2-clause-ok c = λ w.
     let same = received_same s.port (is_open P) (λ q. is_some (pending_of s (Some q))) (λ q. sym (mapped_is_some _ (P (Some q)))) w cut c.args.groups.now in
     let len : c.in_ok-entries.entries.len ≡ 0 = eqb-true _ _ (sym c.is_empty-2.ensures ∙ c.if-is_empty-2.true) in
     let none : es ≡ [] = nil_from_length es (omega (arith, len, c.in_ok-entries.entries.ok.0)) in
-    mapped_nothing (delivery_of (text_of s.datagrams)) (P w) _
+    mapped_nothing (delivery_of (span_bytes s.datagrams)) (P w) _
     (λ opened. ap (gain_of bytes w) (sym none) ∙ (staged_gains P s.port c.next_serial-serial.result bytes c.args.groups.now cut es (length bytes) c.in_ok-entries.ensures w opened ∙ same))
 
 pub returns-clause-ok : goal.returns-clause-ok
@@ -45,7 +45,7 @@ returns-clause-ok c =
     on_ok c.hand_over.result _ _
     (λ h w.
     let same = received_same s.port (is_open P) (λ q. is_some (pending_of s (Some q))) (λ q. sym (mapped_is_some _ (P (Some q)))) w cut c.args.groups.now in
-    h w ∙ mapped_more (delivery_of (text_of s.datagrams)) (P w) (gain_of bytes w es) (datagram_share s.port (λ q. is_some (pending_of s (Some q))) w cut c.args.groups.now)
+    h w ∙ mapped_more (delivery_of (span_bytes s.datagrams)) (P w) (gain_of bytes w es) (datagram_share s.port (λ q. is_some (pending_of s (Some q))) w cut c.args.groups.now)
     (λ opened. staged_gains P s.port c.next_serial-serial.result bytes c.args.groups.now cut es (length bytes) c.in_ok-entries.ensures w opened ∙ same)) c.hand_over.ensures.ok
 
 pub returns-then-is_empty-clause-kept : goal.returns-then-is_empty-clause-kept

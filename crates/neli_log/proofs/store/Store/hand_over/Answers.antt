@@ -15,8 +15,8 @@ returns-clause-ok c = λ w.
     (c.push_all.ensures.entries ∙ ap (λ xs. xs ++ es) c.in_ok-reserve.ensures.entries)
     (λ v. c.push_all.ensures.more v ∙ ap (option_map (λ xs. xs ++ items_for v es)) (c.in_ok-reserve.ensures.same v))
     c.requires.spans c.requires.messages c.requires.log.backed
-    (λ old new h of n. c.in_ok-keep_copy.ensures.names old new h of (n ∙ sym count)) c.in_ok-keep_copy.ensures.texts
-    (λ x some is. c.in_ok-keep_copy.ensures.new_texts x (subst (λ n. 0 < n) (sym count) some) is) w
+    (λ old new h of n. c.in_ok-keep_copy.ensures.names old new h of (n ∙ sym count)) c.in_ok-keep_copy.ensures.same_bytes
+    (λ x some is. c.in_ok-keep_copy.ensures.new_span x (subst (λ n. 0 < n) (sym count) some) is) w
 
 pub returns-clause-log : goal.returns-clause-log
 returns-clause-log c =
@@ -29,8 +29,8 @@ returns-clause-log c =
           (c.push_all.ensures.entries ∙ ap (λ xs. xs ++ es) c.in_ok-reserve.ensures.entries)
           (λ v. c.push_all.ensures.more v ∙ ap (option_map (λ xs. xs ++ items_for v es)) (c.in_ok-reserve.ensures.same v))
           c.requires.spans c.requires.messages c.requires.log.backed
-          (λ old new h of n. c.in_ok-keep_copy.ensures.names old new h of (n ∙ sym count)) c.in_ok-keep_copy.ensures.texts
-          (λ x some is. c.in_ok-keep_copy.ensures.new_texts x (subst (λ n. 0 < n) (sym count) some) is);
+          (λ old new h of n. c.in_ok-keep_copy.ensures.names old new h of (n ∙ sym count)) c.in_ok-keep_copy.ensures.same_bytes
+          (λ x some is. c.in_ok-keep_copy.ensures.new_span x (subst (λ n. 0 < n) (sym count) some) is);
     }
 
 pub returns-clause-kept : goal.returns-clause-kept

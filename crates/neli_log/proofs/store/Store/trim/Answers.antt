@@ -18,8 +18,8 @@ loop-content-preserved c =
     let taken = c.in-Some.ensures.taken in
     record {
       port = c.loop-content.invariant.port;
-      same = λ w. released_pending old.places new old.datagrams c.release.new.datagrams c.in-Some.content taken.0 taken.1 c.in-Some.ensures.same c.loop-content.invariant.backed c.release.ensures.names c.release.ensures.texts w
+      same = λ w. released_pending old.places new old.datagrams c.release.new.datagrams c.in-Some.content taken.0 taken.1 c.in-Some.ensures.same c.loop-content.invariant.backed c.release.ensures.names c.release.ensures.same_bytes w
           ∙ c.loop-content.invariant.same w;
       sound = c.in-Some.ensures.sound;
-      backed = released_backed old.places new old.datagrams c.release.new.datagrams c.in-Some.content taken.0 taken.1 c.in-Some.ensures.same c.loop-content.invariant.backed c.release.ensures.names c.release.ensures.texts;
+      backed = released_backed old.places new old.datagrams c.release.new.datagrams c.in-Some.content taken.0 taken.1 c.in-Some.ensures.same c.loop-content.invariant.backed c.release.ensures.names c.release.ensures.same_bytes;
     }

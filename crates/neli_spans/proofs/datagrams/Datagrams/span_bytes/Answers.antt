@@ -1,7 +1,7 @@
 use Rattle.std.proofs.Common.{arith, refl, ◌-◌, length}
 use Rattle.std.proofs.lemmas.Option.{slice_get_read}
 use Rattle.neli_spans.proofs.Named.{span_in, same_read, text_read}
-use Rattle.neli_spans.proofs.datagrams.Datagrams.text.Goals as goal
+use Rattle.neli_spans.proofs.datagrams.Datagrams.span_bytes.Goals as goal
 
 pub overflow_sub-s : goal.overflow_sub-s
 overflow_sub-s c = let r = c.requires in (span_in c.args.self.now.first c.args.self.now.list.items r.0 r.1 c.args.s r.2 r.3).2
