@@ -44,7 +44,7 @@ fn spans_in(content: &Content) -> usize
 pub(crate) fn span_count(entries: &[Entry<Content>]) -> usize
     ensures { result ≡ length (spans_of entries.now) }
 {
-    // The prover learns here that the count fits: there are no more entries than a usize.
+    // The prover learns here that the count fits: there are no more entries than a usize holds.
     let _ = entries.len();
     let mut count = 0;
     for entry in entries {

@@ -137,7 +137,7 @@ module _ {T : Type 0} (base : ℕ) (es : List (Entry T)) (links : List (Option �
         low : (p : Place) (c : Chain) → p.own ≡ Some c → IsOwn w base es (p.from - base) p.own → base ≤ c.last
         low p c is h = low_of (p.from - base) c (rw is at h)
 
-  -- the place of the list that it items_for to
+  -- the place of the list to which it goes
   module _ (w : Option ℕ) (mine : leads_only w e.route ≡ true) (k : ℕ) (le : k ≤ length es) where
     long : length (es ++ e ∷ []) ≡ length es + 1
     long = long_push es e

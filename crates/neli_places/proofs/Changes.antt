@@ -140,7 +140,7 @@ removed place place' n none some (Some q) p is = elim (b_or (nat_eq n q)) [
   | inr it ↦ (let f = rw it at (sym (some q) ∙ is) in f)
 ]
 
--- a new place behind the last entry
+-- a new place after the last entry
 drop_end : {T : Type 0} (es : List (Entry T)) (n : ℕ) → length es ≤ n → drop n es ≡ []
 drop_end [] zero h = refl
 drop_end [] (suc n) h = refl
@@ -277,7 +277,7 @@ module _ {S T : Type 0} (m n : HashMap ℕ Place S) (place place' : Option ℕ �
       let f = few_waiting (shared_base + length shared) (values m) in
       omega (arith, a, b, f, length-values_of m.entries)
 
-  -- a place behind the last entry is put
+  -- a place after the last entry is put
   pub sound_opened : (q : ℕ) (x : Place) (old : Option Place) → place (Some q) ≡ None → get nat_eq m q ≡ None → old ≡ get nat_eq m q → PutsEntry nat_eq m n q x old
       → place' None ≡ place None → ((r : ℕ) → place' (Some r) ≡ cond (nat_eq q r) (Some x) (place (Some r)))
       → x.from ≡ base + length es → x.own ≡ None → x.seen ≡ shared_base + length shared

@@ -165,7 +165,7 @@ slice_get_end [] i e h = cc
 slice_get_end (x ∷ es) zero e h = omega arith
 slice_get_end (x ∷ es) (suc i) e h = let f = slice_get_end es i e h in omega arith
 
--- what a position first_position at a place says of all entries
+-- what a position that was found from a place on says of all entries
 pub record IsNext {T : Type 0} (w : Option ℕ) (base : ℕ) (es : List (Entry T)) (p : Place) (m : ℕ) (i : ℕ) (e : Entry T) : Type 0 where
   pub position : m ≡ base + (p.from - base) + i
   pub here : IsFirst (leads w) (drop (p.from - base) es) i e

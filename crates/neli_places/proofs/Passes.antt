@@ -48,7 +48,7 @@ count_one (suc b) (x ∷ es) e at it h =
     let off : is_shared x.route ≡ false = h 0 x (omega arith) refl in
     rw off (count_one b es e at it (λ j y lt there. h (suc j) y (omega arith) there))
 
--- the two tests of an entry that items_for to a list
+-- the two tests of an entry that goes to a list
 pub own_of_to : (w : Option ℕ) (r : Route) → leads w r ≡ false → leads_only w r ≡ false
 own_of_to = not_own
 
@@ -153,7 +153,7 @@ module _ {T : Type 0} (w : Option ℕ) (base : ℕ) (es : List (Entry T)) (links
   pub seen_shared : (q shared_base : ℕ) (x : Place) → w ≡ Some q → is_shared e.route ≡ true → x.from ≡ m + 1 → x.seen ≡ p.seen + 1 → IsSeen shared_base base es p → IsSeen shared_base base es x
   seen_shared q shared_base x is it from same h = let a = counted_shared q is it in rw from (omega (arith, a, h, same))
 
--- how the pending deliveries change
+-- how what waits changes
 pub passed_pending : {T : Type 0} (w : Option ℕ) (base : ℕ) (es : List (Entry T)) (p x : Place) (o o' : Option Place) (m : ℕ) (d : T) (ds : List T) → o ≡ Some p → o' ≡ Some x → x.from ≡ m + 1
     → first_position (leads w) (base + (p.from - base)) (rest base es p) ≡ Some m
     → option_map (λ p. items_for w (rest base es p)) o ≡ Some (d ∷ ds) → option_map (λ p. items_for w (rest base es p)) o' ≡ Some ds
@@ -163,7 +163,7 @@ passed_pending w base es p x o o' m d ds is is' from h old =
     let same : items_for w (drop (m + 1 - base) es) ≡ ds = cc in
     rw (is', from) (ap Some same)
 
--- nothing was pending
+-- nothing waited
 pub nothing_pending : {T : Type 0} (w : Option ℕ) (base : ℕ) (es : List (Entry T)) (p : Place) (o : Option Place) (d : T) (ds : List T) → o ≡ Some p → items_for w (rest base es p) ≡ [] → option_map (λ p. items_for w (rest base es p)) o ≡ Some (d ∷ ds) → ⊥
 nothing_pending w base es p o d ds is none old = let a = rw (is, none) at old in cc
 
@@ -178,7 +178,7 @@ own_by_multicast Multicast t = refl
 own_by_multicast (Number n) t = cc
 own_by_multicast Numbers t = cc
 
--- any entry at that position is the one first_position
+-- any entry at that position is the one that was found
 pub same_entry : {A : Type 0} (es : List A) (i : ℕ) (e x : A) → slice_get es i ≡ Some e → slice_get es i ≡ Some x → e ≡ x
 same_entry es i e x a b = cc
 

@@ -113,7 +113,7 @@ apart_append : (serial : ℕ) (old new : List Span) → ((i : ℕ) (t : Span) �
 apart_append serial [] new low of h g = g
 apart_append serial (s ∷ ss) new low of h g = apart_join serial s ss new (low 0 s refl) (λ i t at. low (suc i) t at) of h g
 
--- a datagram is kept, with the spans of it behind all others
+-- a datagram is kept, with the spans of it after all others
 pub kept : (first : ℕ) (ds ds' : List Datagram) (x : Datagram) (old new : List Span) → ds' ≡ ds ++ x ∷ [] → first + length ds + 1 < 2 ^ 64 → 0 < x.spans → length new ≡ x.spans
     → AreOf (first + length ds) (length x.bytes.items) new → NamesFrom first ds old → NamesFrom first ds' (old ++ new)
 kept first ds ds' x old new is few some long of h = rw is (record {
