@@ -8,8 +8,8 @@
 //! - [`GenlAttrHandle`], [`RtAttrHandle`]: lists in which attributes are looked up.
 //! - [`laws`]: what holds of lists, of what is built, and of what is nested.
 //!
-//! What is read and written is stated in `specs/`: `Attributes`, `TypeField`, `Builders`, `Nlattr` and
-//! `Rtattr`, and for lists and handles `Handles`, `Lookup` and `Payloads`. Lists and handles are those
+//! What is read and written is stated in `specs/`: `Attributes`, `TypeField`, `Builders`, `Nlattr`, `Rtattr`
+//! and `RoundTrips`, and for lists and handles `Handles`, `Lookup` and `Payloads`. Lists and handles are those
 //! of `neli_list`; [`Buffer`], [`AttrType`], [`Attribute`] and [`BuildError`] those of `neli_attr_base`.
 #![tactic(auto)]
 

@@ -5,7 +5,7 @@
 //!
 //! What a run answers is said on three pages: `specs/History.antt` (which numbers are open),
 //! `specs/Deliveries.antt` (who gets what) and `specs/Outcomes.antt` (what is sent, and what each
-//! read answers).
+//! read answers). `specs/Regrouping.antt` and `specs/OtherReads.antt` have the words of the laws.
 #![tactic(auto)]
 
 mod command;

@@ -11,7 +11,7 @@
 //!
 //! What is implemented here: the integer types, lowest byte first, [`BeU64`], `Vec<T>`, texts, byte
 //! slices and arrays, `()` and `PhantomData`. What a read or a write means is stated in `specs/`: `Sizes`,
-//! `Writing`, `Reading`, `Numbers`, `Strings` and `Frames`.
+//! `Writing`, `Reading`, `Numbers`, `Constants`, `Strings` and `Frames`.
 #![tactic(auto)]
 
 mod big_endian;

@@ -5,7 +5,8 @@
 //! - [`SerError`], [`DeError`], [`NoMemory`]: why something is not written or read.
 //! - [`MsgError`], [`UninitializedFieldError`]: the texts that errors hold.
 //!
-//! What they mean is stated in `specs/`: `Bytes`, `Place`, `Messages` and `ErrorTexts`.
+//! What they mean is stated in `specs/`: `Bytes`, `Place`, `Messages`, `ErrorTexts` and
+//! `Refusals`.
 #![tactic(auto)]
 
 mod cursor;
