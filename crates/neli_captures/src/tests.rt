@@ -20,7 +20,7 @@ pub enum Fault {
     Short,
 }
 
-/// A message as libmnl reads it: type, flags, number, port, and the payload's length.
+/// A message as libmnl reads it: type, flags, sequence number, port, and the payload's length.
 pub type Header = (u16, u16, u32, u32, usize);
 
 #[derive(Clone, Copy, Debug)]
