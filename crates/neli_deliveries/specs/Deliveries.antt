@@ -14,9 +14,11 @@ use Rattle.neli_deliveries.specs.declared.delivery.Delivery.TheVariants as deliv
 abbrev pub Untyped : Type 0
 Untyped = Message ℕ (List ℕ)
 
+-- it as a delivery: a message of the handle's own
 abbrev pub message : Untyped → Delivery
 message m = delivery.Message (message_from m)
 
+-- it as a delivery: a stray
 abbrev pub stray : Untyped → Delivery
 stray m = delivery.Stray (message_from m)
 
@@ -51,6 +53,7 @@ datagram_share port is_open (Some q) cut (g ∷ groups) = reader_fault cut.1
 
 -- ---- a fault of the link
 
+-- whether it says that the link would block
 abbrev pub is_would_block : SocketError → Bool
 is_would_block (socket.Io WouldBlock) = true
 is_would_block e = false

@@ -14,6 +14,7 @@ use Rattle.neli_lent.specs.declared.message.LentMessage.{LentMessage}
 abbrev pub Lent : Type 0 → Type 0
 Lent K = Header K × List ℕ
 
+-- what this message says
 abbrev pub message_said : {K : Type 0} → LentMessage K → Lent K
 message_said m = (m.header, m.payload.now)
 

@@ -126,6 +126,7 @@ pub record AreSound {T : Type 0} (place : Option ℕ → Option Place) (numbers 
   pub positions_are : map (λ x. x.at) shared ≡ shared_positions base es
   pub standing_are : (n : ℕ) → standing_at shared caught_up n ≡ waiting_count (shared_base + n) numbers
 
+-- the same of these fields
 abbrev pub IsSound : {T : Type 0} → Places T → Type 0
 IsSound s = AreSound (place_of s) (values s.numbers) s.base s.shared_base s.caught_up s.entries.items s.links.items s.shared.items
 

@@ -17,6 +17,7 @@ use Rattle.neli_tool_base.specs.Listing.{line_of}
 abbrev pub RawOutcome : Type 0
 RawOutcome = Outcome ℕ (List ℕ) ℕ (List ℕ)
 
+-- an error of such an outcome
 abbrev pub RawError : Type 0
 RawError = RouterError ℕ (List ℕ)
 

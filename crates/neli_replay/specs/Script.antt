@@ -48,10 +48,12 @@ short_entry word argument =
     else (if bytes_eq word (codes "read") then option_map Read (number 64 argument)
     else (if bytes_eq word (codes "close") then option_map Close (number 64 argument) else None))))
 
+-- a datagram; None where a word of it is bad
 abbrev pub datagram : Option ℕ → Option (List ℕ) → Option Entry
 datagram (Some mask) (Some bytes) = Some (Datagram mask bytes)
 datagram mask bytes = None
 
+-- a request; None where a word of it is bad
 abbrev pub request : Option ℕ → Option ℕ → Option (List ℕ) → Option Entry
 request (Some message_type) (Some flags) (Some bytes) = Some (Request message_type flags bytes)
 request message_type flags bytes = None

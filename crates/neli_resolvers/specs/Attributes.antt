@@ -19,22 +19,27 @@ use Rattle.neli_genl.specs.Genlmsghdr.{Says}
 
 -- ---- whether an attribute's type is this
 
+-- the number of the family
 abbrev pub is_family_id : CtrlAttr → Bool
 is_family_id FamilyId = true
 is_family_id kind = false
 
+-- its name
 abbrev pub is_family_name : CtrlAttr → Bool
 is_family_name FamilyName = true
 is_family_name kind = false
 
+-- its groups
 abbrev pub is_mcast_groups : CtrlAttr → Bool
 is_mcast_groups McastGroups = true
 is_mcast_groups kind = false
 
+-- the name of a group
 abbrev pub is_name : CtrlAttrMcastGrp → Bool
 is_name Name = true
 is_name kind = false
 
+-- its number
 abbrev pub is_id : CtrlAttrMcastGrp → Bool
 is_id Id = true
 is_id kind = false

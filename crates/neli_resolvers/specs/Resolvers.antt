@@ -15,14 +15,17 @@ use Rattle.neli_resolvers.specs.Items.{Error, Item, Message, after, first_error,
 
 -- ---- texts, where nothing was found
 
+-- no family has this name
 abbrev pub no_family : List ℕ → List ℕ
 no_family family = codes "Generic netlink family " ++ family ++ codes " was not found"
 
+-- no group of this family has this name
 abbrev pub no_group : List ℕ → List ℕ → List ℕ
 no_group family name =
     codes "Failed to resolve multicast group ID for family name " ++ family
     ++ codes ", multicast group name " ++ name
 
+-- no group has the number
 abbrev pub no_number : List ℕ
 no_number = codes "ID does not correspond to a multicast group"
 

@@ -11,6 +11,7 @@ use Rattle.neli_router.specs.declared.command.Outcome.TheVariants as outcome
 abbrev pub Event : Type 0 → Type 0 → Type 0 → Type 0 → Type 0
 Event ST SP RT RP = Command ST SP × Outcome ST SP RT RP
 
+-- all events so far, the latest first
 abbrev pub History : Type 0 → Type 0 → Type 0 → Type 0 → Type 0
 History ST SP RT RP = List (Event ST SP RT RP)
 
@@ -44,6 +45,7 @@ module _ {ST SP : Type 0} where
   asks_ack (command.Read k) = false
   asks_ack (command.Close k) = false
 
+  -- a close of handle k
   abbrev pub closes : ℕ → Command ST SP → Bool
   closes k (command.Close j) = j == k
   closes k (command.SetNextSeq n) = false
@@ -52,6 +54,7 @@ module _ {ST SP : Type 0} where
   closes k (command.Fault e) = false
   closes k (command.Read j) = false
 
+  -- a read of handle k
   abbrev pub reads : ℕ → Command ST SP → Bool
   reads k (command.Read j) = j == k
   reads k (command.SetNextSeq n) = false
@@ -61,10 +64,12 @@ module _ {ST SP : Type 0} where
   reads k (command.Close j) = false
 
 module _ {ST SP RT RP : Type 0} where
+  -- a request was sent
   abbrev pub is_sent : Outcome ST SP RT RP → Bool
   is_sent (outcome.Sent bytes) = true
   is_sent _ = false
 
+  -- a command was done that answers nothing else
   abbrev pub is_done : Outcome ST SP RT RP → Bool
   is_done outcome.Done = true
   is_done _ = false

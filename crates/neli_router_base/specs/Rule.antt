@@ -89,8 +89,10 @@ module _ {K P : Type 0} (number_of : K → ℕ) (needs numbered : Bool) where
 
   -- ---- one read, of a handle that was given a single reply (`after`) or not
 
+  -- whether the answers end at this item
   abbrev pub ends_at : Bool → Item K P → Bool
   ends_at after item = ends_alone item || (if needs then after else is_single number_of numbered item)
 
+  -- what is given in its place
   abbrev pub item_of : Bool → Item K P → Item K P
   item_of after item = if ends_at after item then last_item needs after item else item

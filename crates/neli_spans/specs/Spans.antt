@@ -35,6 +35,7 @@ abbrev pub Apart : Span → List Span → Type 0
 Apart s [] = Unit {0}
 Apart s (t ∷ ts) = (s.datagram ≡ t.datagram → s.end ≤ t.start) × Apart t ts
 
+-- the same of all neighbours
 abbrev pub AreApart : List Span → Type 0
 AreApart [] = Unit {0}
 AreApart (s ∷ ss) = Apart s ss
@@ -53,6 +54,7 @@ pub record NamesFrom (first : ℕ) (ds : List Datagram) (ss : List Span) : Type 
   pub within : (i j : ℕ) (s : Span) (d : Datagram) → slice_get ss i ≡ Some s → s.datagram ≡ first + j
       → slice_get ds j ≡ Some d → IsWithin (length d.bytes.items) s
 
+-- the same of the kept datagrams
 abbrev pub Names : Datagrams → List Span → Type 0
 Names kept ss = NamesFrom kept.first kept.list.items ss
 

@@ -11,11 +11,14 @@ use Rattle.neli.specs.wire.SerError.TheVariants as ser
 abbrev pub zeros : ℕ → Wire
 zeros n = Ok (replicate n 0)
 
+-- they are n
 pub zeros-count : (n : ℕ) (bytes : List ℕ) → zeros n ≡ Ok bytes → length bytes ≡ n
 zeros-count n bytes e = written-length (replicate n 0) bytes n (length-replicate {A = ℕ} n 0) e
 
+-- after the first n come zeros
 pub zeros-again : (n : ℕ) (bytes : List ℕ) → zeros n ≡ Ok bytes → EndsInZeros n bytes
 zeros-again n bytes e = unpadded-zeros n bytes (zeros-count n bytes e)
 
+-- they are not refused because memory ran out
 pub zeros-written : (n : ℕ) → zeros n ≢ Err ser.Memory
 zeros-written n = written-no_memory (replicate n 0)

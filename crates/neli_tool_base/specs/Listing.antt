@@ -64,9 +64,11 @@ heading_in h = record { message_type = h.message_type; flags = h.flags.0; number
 abbrev pub line_in : Raw → Line
 line_in m = record { heading = heading_in m.0; kind = kind_in m.1 }
 
+-- the text of a line
 abbrev pub line_text : Line → List ℕ
 line_text l = heading_text l.heading ++ (codes " " ++ kind_text l.kind)
 
+-- the text of a message's line
 abbrev pub line_of : Raw → List ℕ
 line_of m = line_text (line_in m)
 
