@@ -1,7 +1,7 @@
 //! Netlink, proved: the whole library under the module paths of the Rust crate neli 0.7.5.
 //!
-//! A program names this crate alone. There are no sockets here: requests come out as bytes for the link that you own, and
-//! the datagrams that arrive are handed in. What allocates answers a `Result`.
+//! A program names this crate alone. There are no sockets here: requests come out as bytes for the link that you own,
+//! and the datagrams that arrive are handed in. What allocates answers a `Result`.
 //!
 //! | You want | Use |
 //! |---|---|
