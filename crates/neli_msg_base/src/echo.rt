@@ -126,9 +126,9 @@ impl<T: NlType, P: FromBytesWithInput> FromBytes for NlmsghdrErr<T, P> {
 
     ghost takes_memory = { frame_takes (echo_layout T.wire_value P.read) (λ _. P.takes_memory) };
 
-    ghost local = { framed-local T.wire_value (λ _. P.read) };
+    ghost local = { layout_with-local T.wire_value (λ _. P.read) };
 
-    ghost no_memory = { framed-no_memory T.wire_value (λ _. P.read) (λ _. P.no_memory) };
+    ghost no_memory = { layout_with-no_memory T.wire_value (λ _. P.read) (λ _. P.no_memory) };
 
     /// Reads the message by itself, outside an error: its length states its payload.
     #[tactic(auto, using(neli_wire::specs::laws::Reading::refused_first), unfolding(neli_wire::specs::Frames::frame_at))]

@@ -130,7 +130,7 @@ impl<T: NlType, P: FromBytesWithInput> FromBytes for Nlmsghdr<T, P> {
     ghost takes_memory = { frame_takes (message_layout T.wire_value T.wire_number P.read)
         (message_takes T.wire_number P.takes_memory) };
 
-    ghost local = { framed-local T.wire_value
+    ghost local = { layout_with-local T.wire_value
         (λ h. payload_in T.wire_value P.read (T.wire_number h.message_type) h.flags) };
 
     ghost no_memory = { message-no_memory T.wire_value T.wire_number P.read P.no_memory };

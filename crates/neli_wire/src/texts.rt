@@ -59,12 +59,12 @@ impl<'a> Size for &'a str {
 }
 
 impl<'a> ToBytes for &'a str {
-    ghost wire = { λ t. terminated t.now };
+    ghost wire = { λ t. text_and_zero t.now };
 
-    ghost length_is = { λ t bytes e. terminated-length t.now bytes e };
+    ghost length_is = { λ t bytes e. text_and_zero-length t.now bytes e };
 
     ghost zeros_after = { λ t bytes e. unpadded-zeros (length t.now + 1) bytes
-        (terminated-length t.now bytes e) };
+        (text_and_zero-length t.now bytes e) };
 
     ghost no_memory = { λ t. written-no_memory (t.now ++ 0 ∷ []) };
 
@@ -115,12 +115,12 @@ impl Size for String {
 }
 
 impl ToBytes for String {
-    ghost wire = { λ t. terminated (string_bytes t) };
+    ghost wire = { λ t. text_and_zero (string_bytes t) };
 
-    ghost length_is = { λ t bytes e. terminated-length (string_bytes t) bytes e };
+    ghost length_is = { λ t bytes e. text_and_zero-length (string_bytes t) bytes e };
 
     ghost zeros_after = { λ t bytes e. unpadded-zeros (length (string_bytes t) + 1) bytes
-        (terminated-length (string_bytes t) bytes e) };
+        (text_and_zero-length (string_bytes t) bytes e) };
 
     ghost no_memory = { λ t. written-no_memory (string_bytes t ++ 0 ∷ []) };
 
