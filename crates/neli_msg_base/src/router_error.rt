@@ -23,7 +23,7 @@ pub enum RouterError<T, P> {
     Io(ErrorKind),
     /// Bytes are not what they were read as. Out of memory is [`RouterError::Memory`].
     De(DeError),
-    /// The link failed, or a datagram could not be read to its end.
+    /// The link failed, a datagram could not be read to its end, or a request's payload is not written.
     Socket(SocketError),
     /// The other side answers with an error.
     Nlmsgerr(Nlmsgerr<NlmsghdrErr<T, P>>),
@@ -33,7 +33,7 @@ pub enum RouterError<T, P> {
     NoAck,
     /// An acknowledgement came that was not asked for.
     UnexpectedAck,
-    /// The request is not open here.
+    /// The handle is not open here: of a request, or of multicast.
     ClosedChannel,
     /// The sequence number belongs to a request that is still open.
     SeqInUse(u32),
@@ -83,8 +83,9 @@ impl RouterError<u16, Buffer> {
     /// sequence number or port, are retyped, with lengths computed anew; every other error stays as it is.
     ///
     /// Refused as [`Nlmsgerr::to_typed`] and [`Nlmsghdr::to_typed`] are: with the refusal of the message's
-    /// bytes as [`RouterError::De`], or as [`RouterError::Msg`] where a length passes 32 bits. What has
-    /// neither a message nor a text is never refused.
+    /// bytes as [`RouterError::De`], as [`RouterError::Msg`] where a length passes 32 bits, or as
+    /// [`RouterError::Memory`]. `Memory` alone refuses a `Msg`, a `De` and a `Socket`, which are copied; no
+    /// other error is refused.
     pub fn to_typed<T: NlType, P: FromBytesWithInput + Size>(
         &self,
         alloc: Global,
