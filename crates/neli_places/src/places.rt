@@ -188,7 +188,8 @@ impl<T: Drop> Places<T> {
 
     /// Makes room for n more entries.
     ///
-    /// Refused only where memory runs out, and then all lists are as they were.
+    /// Refused where memory runs out, and where the positions of the entries would pass 64 bits; then all
+    /// lists are as they were.
     pub fn reserve(&mut self, n: usize) -> Result<(), AllocError>
         requires { IsTrimmed self.old }
         ensures entries { entries_of self.new ≡ entries_of self.old }

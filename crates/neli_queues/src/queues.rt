@@ -73,6 +73,8 @@ impl Queues {
 
     /// Appends these deliveries to multicast's list, if it is open, and the pieces to those of
     /// their numbers.
+    ///
+    /// Refused where a list could come to 2^63 deliveries, and then nothing changes.
     fn hand_over(
         &mut self,
         mut news: LinkedList<Delivery>,

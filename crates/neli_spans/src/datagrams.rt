@@ -52,7 +52,8 @@ impl Datagrams {
 
     /// Makes room for one more datagram, of `size` bytes.
     ///
-    /// Refused only where memory runs out. Nothing else changes in either case.
+    /// Refused where memory runs out, where the next serial number is 2^64 - 1, and where the bytes of all
+    /// datagrams would pass a usize. Nothing else changes in either case.
     pub fn reserve(&mut self, size: usize) -> Result<(), AllocError>
         requires { AreNamed self.old }
         ensures unchanged { IsUnchanged self.old self.new }
