@@ -35,7 +35,7 @@ impl<'b, T> LentMessage<'b, T> {
         &self.header
     }
 
-    /// The length that the message states, in bytes: header and payload, without padding.
+    /// The length that the message states, in bytes: header and payload.
     pub fn nl_len(&self) -> &u32
         ensures { result.now ≡ self.now.header.len }
     {

@@ -36,7 +36,8 @@ pub struct NlmsghdrErr<T, P> {
 }
 
 impl<T, P> NlmsghdrErr<T, P> {
-    /// The length that the message states, in bytes: header and payload, without padding.
+    /// The length that the message states, in bytes: header and payload; rounded up to four where it was
+    /// computed here.
     pub fn nl_len(&self) -> &u32
         ensures { result.now ≡ self.now.header.len }
     {
@@ -64,7 +65,7 @@ impl<T, P> NlmsghdrErr<T, P> {
         self.header.nl_seq()
     }
 
-    /// The port that the message came from.
+    /// The port of the socket that the message belongs to; 0 is the kernel's.
     pub fn nl_pid(&self) -> &u32
         ensures { result.now ≡ self.now.header.port }
     {

@@ -36,7 +36,8 @@ pub struct NlmsghdrAck<T> {
 }
 
 impl<T> NlmsghdrAck<T> {
-    /// The length that the message states, in bytes: header and payload, without padding.
+    /// The length that the message states, in bytes: header and payload; rounded up to four where it was
+    /// computed here.
     pub fn nl_len(&self) -> &u32
         ensures { result.now ≡ self.now.len }
     {
@@ -240,7 +241,7 @@ impl<T: Drop> NlmsghdrAckBuilder<T> {
         self
     }
 
-    /// The port that the message came from.
+    /// The port of the socket that the message belongs to; 0 is the kernel's.
     pub fn nl_pid(mut self, value: u32) -> Self
         ensures { result ≡ record self { nl_pid = Some value } }
     {

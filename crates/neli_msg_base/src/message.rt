@@ -39,7 +39,8 @@ pub struct Nlmsghdr<T, P> {
 }
 
 impl<T, P> Nlmsghdr<T, P> {
-    /// The length that the message states, in bytes: header and payload, without padding.
+    /// The length that the message states, in bytes: header and payload; rounded up to four where it was
+    /// computed here.
     pub fn nl_len(&self) -> &u32
         ensures { result.now ≡ self.now.header.len }
     {
@@ -244,8 +245,8 @@ impl<T: Drop, P: Drop> NlmsghdrBuilder<T, P> {
 }
 
 impl<T: NlType + Drop, P: Size + Drop> NlmsghdrBuilder<T, P> {
-    /// The message of what was given, with the length of its header and payload, rounded up to four. It
-    /// takes no memory.
+    /// The message of what was given, with the length of its header and payload, rounded up to four: a body
+    /// of 5 bytes is read back as 8, with zeros at its end. It takes no memory.
     ///
     /// Refused where a field is missing, or the length passes 32 bits.
     pub fn build(self) -> Result<Nlmsghdr<T, P>, NlmsghdrBuilderError>
