@@ -14,7 +14,7 @@ use crate::{Cursor, DeError, FromBytes, SerError, Size, ToBytes, TypeSize};
 use std::alloc::{AllocError, Global};
 use std::fmt::Debug;
 
-/// An integer type, with its bytes on the wire: the lowest first.
+/// An integer type, with its bytes on the wire.
 pub trait WireNumber: Copy + Debug {
     // How many bytes each number has.
     ghost byte_count: { ℕ };

@@ -75,7 +75,7 @@ pub enum DeError {
     Io(ErrorKind),
     /// A text is not UTF-8.
     Utf8(Utf8),
-    /// A count of bytes that does not fit what is read; it is kept as it was stated.
+    /// A count of bytes that does not fit what is read: the one that the read names.
     InvalidInput(usize),
     /// Memory ran out.
     Memory,
