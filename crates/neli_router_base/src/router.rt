@@ -34,8 +34,8 @@ pub struct NlRouter<D = Log> {
 impl<D: Deliveries> NlRouter<D> {
     /// A router with this port, whose next sequence number is 0, and the handle for multicast.
     ///
-    /// Port 0 is the kernel's; a socket that was not bound to a port has the one that the kernel
-    /// chose.
+    /// `pid` is the port of the socket that requests go out by. A socket that was not bound to a port has
+    /// the one that the kernel chose, which getsockname(2) tells; 0 is the kernel's own.
     pub fn new(alloc: Global, pid: u32) -> (Self, NlRouterReceiverHandle<u16, Genlmsghdr<u8, u16>>)
         ensures port { D.port_of result.0.deliveries ≡ pid }
         ensures next_seq { result.0.next_seq ≡ 0 }
@@ -85,7 +85,8 @@ impl<D: Deliveries> NlRouter<D> {
     ///
     /// Refused, in this order, as `SeqInUse` where the number belongs to a handle that is not
     /// closed; as `Msg` where the length passes 32 bits; as `Socket(Ser)` where the payload is not
-    /// written. A refusal leaves the router as it was, and the number is not used up.
+    /// written, or as `Memory` where memory runs out. A refusal leaves the router as it was, and the
+    /// number is not used up.
     pub fn send<ST: NlType, SP: ToBytes + Drop, RT, RP>(
         &mut self,
         alloc: Global,
@@ -130,8 +131,10 @@ impl<D: Deliveries> NlRouter<D> {
         Ok((bytes, handle))
     }
 
-    /// Takes in a datagram that came to these groups: to none, where it is for the handles with
-    /// numbers.
+    /// Takes in a datagram that came to these groups. Where these are none, each message goes to the handle
+    /// of its sequence number; a stray, which has another port than the router's or a number that is not
+    /// open, goes to the handle of every open number. Where there are groups, each message goes to multicast.
+    /// The fault at which a datagram ends goes to the handle of every open number in any case.
     ///
     /// Refused only where memory runs out, and then nothing is handed to anybody.
     pub fn processing_loop(&mut self, bytes: &[u8], groups: &Groups) -> Result<(), NoMemory>
@@ -167,7 +170,7 @@ impl<D: Deliveries> NlRouter<D> {
 
     /// The handle's next item, read as these types whatever the handle's own are; or the end, or
     /// that it waits. A handle that is not open here is given `ClosedChannel`, and is ended then:
-    /// it gives the end everywhere.
+    /// it gives the end in every router.
     ///
     /// Refused only where memory runs out, and then the router and the handle are as they were.
     pub fn next_typed<T: NlType, P: FromBytesWithInput + Size + Drop, RT, RP>(
