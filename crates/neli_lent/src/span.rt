@@ -56,8 +56,8 @@ impl<T: NlType, P: FromBytesWithInput + Size> FromSpan for Nlmsghdr<T, P> {
     /// The message, with the types that numbers mean, and its body's or its echoed payload's bytes read as `P`: the
     /// same as reading it untyped and retyping that. A body is read where it lies.
     ///
-    /// Lengths are computed anew. Refused with the refusal of these bytes as [`RouterError::De`], or as
-    /// [`RouterError::Msg`] where a length passes 32 bits.
+    /// Lengths are computed anew. Refused with the refusal of these bytes as [`RouterError::De`], as
+    /// [`RouterError::Msg`] where a length passes 32 bits, or as [`RouterError::Memory`].
     fn from_span(alloc: Global, span: &[u8]) -> Result<Nlmsghdr<T, P>, RouterError<T, P>>
         requires { IsSpan span.now }
         ensures value { (u : Message ℕ (List ℕ)) → Spells span.now u → IfOk result

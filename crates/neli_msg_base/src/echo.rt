@@ -281,8 +281,8 @@ impl NlmsghdrErr<u16, Buffer> {
     /// The same message with the type that its number means, and its payload's bytes read as `P`. Its
     /// length is computed anew.
     ///
-    /// Refused with the refusal of these bytes as [`RouterError::De`], or as [`RouterError::Msg`] where
-    /// the length passes 32 bits.
+    /// Refused with the refusal of these bytes as [`RouterError::De`], as [`RouterError::Msg`] where the
+    /// length passes 32 bits, or as [`RouterError::Memory`].
     pub fn to_typed<T: NlType, P: FromBytesWithInput + Size>(
         &self,
         alloc: Global,

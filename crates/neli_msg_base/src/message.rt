@@ -355,8 +355,8 @@ impl Nlmsghdr<u16, Buffer> {
     /// The same message with the types that numbers mean, and its body's or its echoed payload's bytes
     /// read as `P`. Lengths are computed anew; codes, attributes and an acknowledgement's header stay.
     ///
-    /// Refused with the refusal of these bytes as [`RouterError::De`], or as [`RouterError::Msg`] where
-    /// a length passes 32 bits.
+    /// Refused with the refusal of these bytes as [`RouterError::De`], as [`RouterError::Msg`] where a length
+    /// passes 32 bits, or as [`RouterError::Memory`].
     pub fn to_typed<T: NlType, P: FromBytesWithInput + Size>(
         &self,
         alloc: Global,

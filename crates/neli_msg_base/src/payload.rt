@@ -217,8 +217,9 @@ impl NlPayload<u16, Buffer> {
     /// The same payload with the types that numbers mean, and the first `n` bytes of a body, or all the
     /// echoed bytes of an error, read as `P`. Codes, attributes and an acknowledgement's header stay.
     ///
-    /// Refused with the refusal of these bytes as [`RouterError::De`], or as [`RouterError::Msg`] where
-    /// an echoed message's length passes 32 bits.
+    /// Refused as [`RouterError::De`] with `InvalidInput(n)` where a body has fewer bytes, else with the
+    /// refusal of these bytes; as [`RouterError::Msg`] where an echoed message's length passes 32 bits; or as
+    /// [`RouterError::Memory`].
     pub fn to_typed<T: NlType, P: FromBytesWithInput + Size>(
         &self,
         alloc: Global,
