@@ -312,7 +312,8 @@ impl<T: NlAttrType, P: ToBytes + Drop> NlattrBuilder<T, P> {
 
     /// The attribute of what was given, with the length of its header and payload.
     ///
-    /// Refused where a field is missing, the payload has no wire bytes, or the length passes 65535.
+    /// Refused where a field is missing, and the first one is named; then where the payload has no wire bytes;
+    /// then where the length passes 65535. Out of memory may stand in place of the last two.
     pub fn build(self, alloc: Global) -> Result<Nlattr<T, Buffer>, NlattrBuilderError>
         ensures built { IfOk result (λ a. built_nlattr P.wire self ≡ Ok a) }
         ensures refused { IfErr result (IsWhyNot (built_nlattr P.wire self)) }

@@ -275,7 +275,8 @@ impl<T: RtaType, P: ToBytes + Drop> RtattrBuilder<T, P> {
 
     /// The attribute of what was given, with the length of its header and payload.
     ///
-    /// Refused where a field is missing, the payload has no wire bytes, or the length passes 65535.
+    /// Refused where a field is missing, and the first one is named; then where the payload has no wire bytes;
+    /// then where the length passes 65535. Out of memory may stand in place of the last two.
     pub fn build(self, alloc: Global) -> Result<Rtattr<T, Buffer>, RtattrBuilderError>
         ensures built { IfOk result (λ a. built_rtattr P.wire self ≡ Ok a) }
         ensures refused { IfErr result (IsWhyNot (built_rtattr P.wire self)) }

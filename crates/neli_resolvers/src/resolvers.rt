@@ -65,7 +65,8 @@ fn match_in(alloc: Global, message: &CtrlMessage, name: &str) -> Result<Option<u
 /// in that message. A group without a readable name and number is passed over.
 ///
 /// Refused with the first error among the items; else with the refusal of the first payload of
-/// which the groups can't be read; else, where no group has the name, with a text that names both.
+/// which the groups can't be read; else, where no group has the name, with a text that names both. Where
+/// no item is an error, memory may run out.
 pub fn resolve_nl_mcast_group(
     alloc: Global,
     family: &str,
@@ -131,7 +132,8 @@ fn names_in(
 /// Refused with the first failure, item by item, and in an item first the family's name, then group
 /// by group: an item that is an error; a payload without a readable name of the family; a group
 /// that can't be read, where the list of groups can; the group with the number, where its name
-/// can't be read. Where the number isn't found, refused with a text.
+/// can't be read. Where the number isn't found, refused with a text. Where a message has a payload, memory
+/// may run out.
 pub fn lookup_id(
     alloc: Global,
     id: u32,
