@@ -85,7 +85,7 @@ impl NetlinkBitArray {
         resize_words(&mut self.words, bytes.div_ceil(WORD_BITS / 8))
     }
 
-    /// Whether the number is set. 0 never is.
+    /// Whether the number, at most [`NetlinkBitArray::len_bits`], is set. 0 never is.
     pub fn is_set(&self, n: usize) -> bool
         requires { n ≤ self.now.capacity }
         ensures value { result ≡ has self.now.numbers n }
@@ -93,7 +93,7 @@ impl NetlinkBitArray {
         n != 0 && word_has_bit(self.words[(n - 1) / WORD_BITS], (n - 1) % WORD_BITS)
     }
 
-    /// Sets a number. Of 0 nothing is changed.
+    /// Sets a number, at most [`NetlinkBitArray::len_bits`]. Of 0 nothing is changed.
     pub fn set(&mut self, n: usize)
         requires { n ≤ self.old.capacity }
         ensures value { self.new ≡ with_number n self.old }

@@ -10,7 +10,7 @@ use crate::{Cursor, DeError, FromBytesWithInput, alignto};
 use std::alloc::Global;
 
 /// Reads what follows a header of `size` bytes that states `len` for the whole frame: the payload and
-/// the padding to four bytes, whatever the padding holds.
+/// the padding to four bytes, whatever the padding holds. `len`, rounded up to four, fits a usize.
 ///
 /// A length below the header's own is `InvalidInput(len)`; one past the bytes `InvalidInput(len - size)`;
 /// then comes the payload's refusal, and `Io(UnexpectedEof)` where padding is missing. A refusal leaves

@@ -4,7 +4,7 @@ ghost use Rattle.std.specs.Prelude.{◌≡◌, ◌≤◌, ℕ, min};
 ghost use Rattle.neli_wire.specs.Sizes.{align, IsRounded};
 
 /// A length rounded up to four, as the kernel's `NLMSG_ALIGN`, `NLA_ALIGN` and `RTA_ALIGN` do
-/// (`linux/netlink.h`, `linux/rtnetlink.h`).
+/// (`linux/netlink.h`, `linux/rtnetlink.h`). The rounded length fits a usize.
 pub const fn alignto(len: usize) -> usize
     requires { align len ≤ usize.MAX }
     ensures { result ≡ align len }

@@ -46,8 +46,8 @@ pub trait ToBytes: Size + Debug {
     ghost no_memory: { (v : Self) → wire v ≡ Err ser.Memory → ⊥ };
 }
 
-/// Appends zeros until what stands from `start` on is a multiple of four long. A refusal leaves the
-/// buffer as it was.
+/// Appends zeros until what stands from `start` on is a multiple of four long; `start` is at most the
+/// buffer's length. A refusal leaves the buffer as it was.
 pub fn pad_from(buffer: &mut Vec<u8>, start: usize) -> Result<(), AllocError>
     requires { start ≤ length buffer.old.items }
     ensures ok { OnOk result (buffer.new.items
