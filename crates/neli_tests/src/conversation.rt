@@ -15,7 +15,7 @@ pub struct Talk {
     /// The router's port, and the request's number.
     pub port: u32,
     pub number: u32,
-    /// The request. Its port is not compared: who recorded it wrote 0.
+    /// The request. Its port is not compared: the recorded request has port 0 there.
     pub request: &'static str,
     /// The datagrams that answer it.
     pub answers: &'static [&'static str],
