@@ -15,6 +15,7 @@ pub enum Af {
     Inet,
     /// Version 6.
     Inet6,
+    /// A number without a name.
     UnrecognizedConst(u8),
 }
 
@@ -82,22 +83,29 @@ impl Constant for Af {
 pub enum RtAddrFamily {
     /// Every family, in a request for a dump.
     Unspecified,
+    /// Within the host.
     UnixOrLocal,
     /// Version 4 of the internet protocol.
     Inet,
     /// Version 6 of the internet protocol.
     Inet6,
+    /// IPX.
     Ipx,
+    /// Netlink.
     Netlink,
+    /// X.25.
     X25,
+    /// AX.25, of amateur radio.
     Ax25,
     /// Permanent virtual circuits of ATM.
     Atmpvc,
+    /// AppleTalk.
     Appletalk,
     /// Frames as they are on the link.
     Packet,
     /// The kernel's cipher and digest functions.
     Alg,
+    /// A number without a name.
     UnrecognizedConst(u8),
 }
 

@@ -12,9 +12,11 @@ use neli_wire::Constant;
 pub enum Arphrd {
     /// NET/ROM, a network of amateur radio.
     Netrom,
+    /// Ethernet.
     Ether,
     /// Experimental Ethernet.
     Eether,
+    /// AX.25, of amateur radio.
     AX25,
     /// PROnet token ring.
     Pronet,
@@ -22,21 +24,29 @@ pub enum Arphrd {
     Chaos,
     /// IEEE 802.2 Ethernet, token ring or token bus.
     Ieee802,
+    /// ARCNET.
     Arcnet,
+    /// AppleTalk.
     Appletlk,
     /// Frame relay.
     Dlci,
     /// The number of [`Arphrd::Appletlk`], as which 8 is read. The kernel's own is 19.
     Atm,
+    /// Metricom's radio (STRIP).
     Metricom,
+    /// IEEE 1394, FireWire.
     Ieee1394,
+    /// EUI-64.
     Eui64,
+    /// InfiniBand.
     Infiniband,
+    /// The loopback link.
     Loopback,
     /// Nothing is known of the kind.
     Void,
     /// There is no hardware address.
     None,
+    /// A number without a name.
     UnrecognizedConst(u16),
 }
 

@@ -11,54 +11,103 @@ use neli_wire::Constant;
 /// `Del..`, and answers `Get..` with `New..`.
 #[derive(Clone, Copy, Debug, PartialEq, Eq)]
 pub enum Rtm {
+    /// Makes or changes a link, or tells of one.
     Newlink,
+    /// Removes a link, or tells that one is gone.
     Dellink,
+    /// Asks for links.
     Getlink,
+    /// Changes a link.
     Setlink,
+    /// Adds or changes an address, or tells of one.
     Newaddr,
+    /// Removes an address, or tells that one is gone.
     Deladdr,
+    /// Asks for addresses.
     Getaddr,
+    /// Adds or changes a route, or tells of one.
     Newroute,
+    /// Removes a route, or tells that one is gone.
     Delroute,
+    /// Asks for routes, or for the route to an address.
     Getroute,
+    /// Adds or changes a neighbour, or tells of one.
     Newneigh,
+    /// Removes a neighbour, or tells that one is gone.
     Delneigh,
+    /// Asks for neighbours.
     Getneigh,
+    /// Adds a routing rule, or tells of one.
     Newrule,
+    /// Removes a routing rule, or tells that one is gone.
     Delrule,
+    /// Asks for routing rules.
     Getrule,
+    /// Adds or changes a queueing discipline, or tells of one.
     Newqdisc,
+    /// Removes a queueing discipline, or tells that one is gone.
     Delqdisc,
+    /// Asks for queueing disciplines.
     Getqdisc,
+    /// Adds or changes a class of a queueing discipline, or tells of one.
     Newtclass,
+    /// Removes a class of a queueing discipline, or tells that one is gone.
     Deltclass,
+    /// Asks for classes of a queueing discipline.
     Gettclass,
+    /// Adds or changes a filter of packets, or tells of one.
     Newtfilter,
+    /// Removes a filter of packets, or tells that one is gone.
     Deltfilter,
+    /// Asks for filters of packets.
     Gettfilter,
+    /// Adds or changes an action of filters, or tells of one.
     Newaction,
+    /// Removes an action of filters, or tells that one is gone.
     Delaction,
+    /// Asks for actions of filters.
     Getaction,
+    /// Tells of a prefix that a router announced.
     Newprefix,
+    /// Asks for multicast addresses.
     Getmulticast,
+    /// Asks for anycast addresses.
     Getanycast,
+    /// Tells of a table of neighbours and its parameters.
     Newneightbl,
+    /// Asks for the tables of neighbours.
     Getneightbl,
+    /// Changes the parameters of a table of neighbours.
     Setneightbl,
+    /// Tells of options that a router announced, for programs.
     Newnduseropt,
+    /// Adds or changes a label by which addresses are chosen (RFC 6724), or tells of one.
     Newaddrlabel,
+    /// Removes such a label, or tells that one is gone.
     Deladdrlabel,
+    /// Asks for such labels.
     Getaddrlabel,
+    /// Asks for the settings of data center bridging.
     Getdcb,
+    /// Changes the settings of data center bridging.
     Setdcb,
+    /// Tells of a link's settings of the internet protocol.
     Newnetconf,
+    /// Asks for links' settings of the internet protocol.
     Getnetconf,
+    /// Adds an entry to the multicast database of a bridge, or tells of one.
     Newmdb,
+    /// Removes an entry of the multicast database of a bridge, or tells that one is gone.
     Delmdb,
+    /// Asks for the multicast databases of bridges.
     Getmdb,
+    /// Gives a number to a network namespace, or tells of one.
     Newnsid,
+    /// Tells that the number of a network namespace is gone.
     Delnsid,
+    /// Asks for the numbers of network namespaces.
     Getnsid,
+    /// A number without a name.
     UnrecognizedConst(u16),
 }
 

@@ -13,6 +13,7 @@ use neli_wire::Constant;
 /// What a route does with a packet: `RTN_*` of `linux/rtnetlink.h`.
 #[derive(Clone, Copy, Debug, PartialEq, Eq)]
 pub enum Rtn {
+    /// Not said.
     Unspec,
     /// On to a gateway, or to the host itself on a link.
     Unicast,
@@ -22,6 +23,7 @@ pub enum Rtn {
     Broadcast,
     /// To this host, sent as unicast.
     Anycast,
+    /// To the members of a group.
     Multicast,
     /// Dropped without an answer.
     Blackhole,
@@ -35,6 +37,7 @@ pub enum Rtn {
     Nat,
     /// By an outside resolver.
     Xresolve,
+    /// A number without a name.
     UnrecognizedConst(u8),
 }
 
@@ -120,14 +123,17 @@ impl Constant for Rtn {
 /// Who made a route: `RTPROT_*` of `linux/rtnetlink.h`.
 #[derive(Clone, Copy, Debug, PartialEq, Eq)]
 pub enum Rtprot {
+    /// Not said.
     Unspec,
     /// A redirect message (ICMP).
     Redirect,
+    /// The kernel.
     Kernel,
     /// Set up while the system started.
     Boot,
     /// An administrator.
     Static,
+    /// A number without a name.
     UnrecognizedConst(u8),
 }
 
@@ -209,6 +215,7 @@ pub enum RtScope {
     Host,
     /// No place: the destination doesn't exist.
     Nowhere,
+    /// A number without a name.
     UnrecognizedConst(u8),
 }
 
@@ -280,14 +287,17 @@ impl Constant for RtScope {
 /// Routing tables: `RT_TABLE_*` of `linux/rtnetlink.h`.
 #[derive(Clone, Copy, Debug, PartialEq, Eq)]
 pub enum RtTable {
+    /// Not said.
     Unspec,
     /// The number is above 255 and stands in an attribute.
     Compat,
+    /// The last one that is searched, by the kernel's own rules.
     Default,
     /// Where routes go that name no table.
     Main,
     /// Addresses of this host, kept by the kernel.
     Local,
+    /// A number without a name.
     UnrecognizedConst(u8),
 }
 

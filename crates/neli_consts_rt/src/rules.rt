@@ -10,6 +10,7 @@ use neli_wire::Constant;
 /// What a routing rule does with a packet: `FR_ACT_*` of `linux/fib_rules.h`.
 #[derive(Clone, Copy, Debug, PartialEq, Eq)]
 pub enum FrAct {
+    /// Not said.
     Unspec,
     /// Look it up in the rule's table.
     FrActToTbl,
@@ -29,6 +30,7 @@ pub enum FrAct {
     FrActProhibit,
     /// One above the last action (`__FR_ACT_MAX`).
     FrActMax,
+    /// A number without a name.
     UnrecognizedConst(u8),
 }
 
