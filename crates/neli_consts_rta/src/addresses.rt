@@ -10,6 +10,7 @@ use neli_wire::Constant;
 /// Attributes of an address: `IFA_*` of `linux/if_addr.h`.
 #[derive(Clone, Copy, Debug, PartialEq, Eq)]
 pub enum Ifa {
+    /// No attribute: 0 stands for none.
     Unspec,
     /// The address; on a link between two hosts that of the other end.
     Address,
@@ -17,13 +18,17 @@ pub enum Ifa {
     Local,
     /// The name of the link, as it is shown with the address.
     Label,
+    /// The address of broadcasts.
     Broadcast,
+    /// The anycast address.
     Anycast,
     /// How long it is preferred and valid.
     Cacheinfo,
+    /// The multicast address.
     Multicast,
     /// The flags, in four bytes.
     Flags,
+    /// A number without a name.
     UnrecognizedConst(u16),
 }
 

@@ -12,15 +12,19 @@ use neli_wire::Constant;
 /// Attributes inside [`Ifla::Linkinfo`]: `IFLA_INFO_*` of `linux/if_link.h`.
 #[derive(Clone, Copy, Debug, PartialEq, Eq)]
 pub enum IflaInfo {
+    /// No attribute: 0 stands for none.
     Unspec,
     /// The kind of link, by name, as `vlan`.
     Kind,
     /// The attributes of that kind.
     Data,
+    /// The counters of that kind.
     Xstats,
     /// The kind of its master.
     SlaveKind,
+    /// The attributes that the master's kind has for the link.
     SlaveData,
+    /// A number without a name.
     UnrecognizedConst(u16),
 }
 
@@ -94,7 +98,9 @@ impl Constant for IflaInfo {
 /// Attributes inside [`IflaInfo::Data`] of a virtual LAN: `IFLA_VLAN_*` of `linux/if_link.h`.
 #[derive(Clone, Copy, Debug, PartialEq, Eq)]
 pub enum IflaVlan {
+    /// No attribute: 0 stands for none.
     Unspec,
+    /// The number of the virtual LAN.
     Id,
     /// A value and a mask of flags.
     Flags,
@@ -104,6 +110,7 @@ pub enum IflaVlan {
     IngressQos,
     /// The type of Ethernet frame that carries the tag.
     Protocol,
+    /// A number without a name.
     UnrecognizedConst(u16),
 }
 
@@ -178,9 +185,11 @@ impl Constant for IflaVlan {
 /// `linux/if_link.h`.
 #[derive(Clone, Copy, Debug, PartialEq, Eq)]
 pub enum IflaVlanQos {
+    /// No attribute: 0 stands for none.
     Unspec,
     /// A priority and the one that it is turned into.
     Mapping,
+    /// A number without a name.
     UnrecognizedConst(u16),
 }
 

@@ -10,6 +10,7 @@ use neli_wire::Constant;
 /// Attributes of a link: `IFLA_*` of `linux/if_link.h`.
 #[derive(Clone, Copy, Debug, PartialEq, Eq)]
 pub enum Ifla {
+    /// No attribute: 0 stands for none.
     Unspec,
     /// The hardware address.
     Address,
@@ -29,6 +30,7 @@ pub enum Ifla {
     Priority,
     /// The index of the link that it belongs to.
     Master,
+    /// An event of the wireless extensions.
     Wireless,
     /// What a protocol keeps of the link.
     Protinfo,
@@ -39,6 +41,7 @@ pub enum Ifla {
     Weight,
     /// How far the link is able to work (RFC 2863).
     Operstate,
+    /// How far the link goes up by itself: fully, or to dormant (RFC 2863).
     Linkmode,
     /// Attributes of [`IflaInfo`].
     Linkinfo,
@@ -52,10 +55,13 @@ pub enum Ifla {
     VfinfoList,
     /// Counters of 64 bits.
     Stats64,
+    /// The ports of the virtual functions.
     VfPorts,
+    /// The port of the link itself.
     PortSelf,
     /// What each address family keeps of the link.
     AfSpec,
+    /// The group that the link belongs to.
     Group,
     /// A descriptor of the network namespace that the link is to move to.
     NetNsFd,
@@ -63,18 +69,27 @@ pub enum Ifla {
     ExtMask,
     /// How often somebody asked for all packets.
     Promiscuity,
+    /// The number of queues of packets to send.
     NumTxQueues,
+    /// The number of queues of packets that come in.
     NumRxQueues,
+    /// Whether the link has a carrier.
     Carrier,
+    /// What tells the physical port from others.
     PhysPortId,
+    /// How often the carrier came or went.
     CarrierChanges,
+    /// What tells the switch that the port is on from others.
     PhysSwitchId,
     /// The network namespace of the link that it stands on.
     LinkNetnsid,
+    /// The name of the physical port.
     PhysPortName,
     /// A protocol keeps the link down.
     ProtoDown,
+    /// The most segments of a packet that is cut when it is sent (GSO).
     GsoMaxSegs,
+    /// The largest packet that is cut when it is sent (GSO), in bytes.
     GsoMaxSize,
     /// No attribute: it aligns the next one to eight bytes.
     Pad,
@@ -82,13 +97,19 @@ pub enum Ifla {
     Xdp,
     /// What made the kernel announce the link.
     Event,
+    /// The network namespace that the link moved to.
     NewNetnsid,
     /// The namespace that the request is about, now `IFLA_TARGET_NETNSID`.
     IfNetnsid,
+    /// How often the carrier came.
     CarrierUpCount,
+    /// How often the carrier went.
     CarrierDownCount,
+    /// The index of the link in the network namespace that it moves to.
     NewIfindex,
+    /// The least that [`Ifla::Mtu`] can be.
     MinMtu,
+    /// The most that [`Ifla::Mtu`] can be.
     MaxMtu,
     /// Attributes [`Ifla::AltIfname`].
     PropList,
@@ -96,7 +117,9 @@ pub enum Ifla {
     AltIfname,
     /// The hardware address that the device was made with.
     PermAddress,
+    /// Why a protocol keeps the link down.
     ProtoDownReason,
+    /// A number without a name.
     UnrecognizedConst(u16),
 }
 

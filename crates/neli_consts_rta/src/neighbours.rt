@@ -10,6 +10,7 @@ use neli_wire::Constant;
 /// Attributes of a neighbour: `NDA_*` of `linux/neighbour.h`.
 #[derive(Clone, Copy, Debug, PartialEq, Eq)]
 pub enum Nda {
+    /// No attribute: 0 stands for none.
     Unspec,
     /// Its address on the network.
     Dst,
@@ -19,15 +20,21 @@ pub enum Nda {
     Cacheinfo,
     /// How often it was asked.
     Probes,
+    /// The virtual LAN.
     Vlan,
+    /// The port of a tunnel's other end (VXLAN).
     Port,
     /// The network of a tunnel (VXLAN).
     Vni,
+    /// The index of the link that a tunnel goes out by (VXLAN).
     Ifindex,
     /// The index of the link's master.
     Master,
+    /// The network namespace of that link.
     LinkNetnsid,
+    /// The network that the entry belongs to (VXLAN).
     SrcVni,
+    /// A number without a name.
     UnrecognizedConst(u16),
 }
 

@@ -10,12 +10,15 @@ use neli_wire::Constant;
 /// Attributes of a queueing discipline, a class or a filter: `TCA_*` of `linux/rtnetlink.h`.
 #[derive(Clone, Copy, Debug, PartialEq, Eq)]
 pub enum Tca {
+    /// No attribute: 0 stands for none.
     Unspec,
     /// The kind, by name, as `fq_codel`.
     Kind,
     /// The attributes of that kind.
     Options,
+    /// The counters.
     Stats,
+    /// The counters of that kind.
     Xstats,
     /// The rate estimator.
     Rate,
@@ -24,6 +27,7 @@ pub enum Tca {
     Stats2,
     /// The table of packet sizes.
     Stab,
+    /// A number without a name.
     UnrecognizedConst(u16),
 }
 

@@ -10,14 +10,19 @@ use neli_wire::Constant;
 /// Attributes of a route: `RTA_*` of `linux/rtnetlink.h`.
 #[derive(Clone, Copy, Debug, PartialEq, Eq)]
 pub enum Rta {
+    /// No attribute: 0 stands for none.
     Unspec,
+    /// The destination address.
     Dst,
+    /// The source address.
     Src,
     /// The index of the link that packets come in by.
     Iif,
     /// The index of the link that packets go out by.
     Oif,
+    /// The address of the next hop.
     Gateway,
+    /// The metric: of several routes the one with the lowest is taken.
     Priority,
     /// The source address to prefer.
     Prefsrc,
@@ -29,6 +34,7 @@ pub enum Rta {
     Protoinfo,
     /// The realms of the route.
     Flow,
+    /// How the route is used, and when it ends.
     Cacheinfo,
     /// No longer used by the kernel.
     Session,
@@ -36,6 +42,7 @@ pub enum Rta {
     MpAlgo,
     /// The table's number, where it needs more than a byte.
     Table,
+    /// The mark of packets.
     Mark,
     /// Counters of a multicast route.
     MfcStats,
@@ -45,13 +52,19 @@ pub enum Rta {
     Newdst,
     /// The preference of a router.
     Pref,
+    /// How packets are wrapped.
     EncapType,
+    /// The attributes of that wrapping.
     Encap,
+    /// In how many seconds the route ends.
     Expires,
     /// No attribute: it aligns the next one to eight bytes.
     Pad,
+    /// The user that a look-up is made for.
     Uid,
+    /// Whether the time to live is carried over, in MPLS.
     TtlPropagate,
+    /// A number without a name.
     UnrecognizedConst(u16),
 }
 

@@ -54,15 +54,25 @@ impl RtaType for RtaTypeWrapper {}
 /// is meant, so a later table is read by its own type.
 #[derive(Clone, Copy, Debug, PartialEq, Eq)]
 pub enum RtaTypeWrapper {
+    /// An attribute of a link.
     Ifla(Ifla),
+    /// An attribute of an address.
     Ifa(Ifa),
+    /// An attribute of a route.
     Rta(Rta),
+    /// An attribute of a queueing discipline, a class or a filter.
     Tca(Tca),
+    /// An attribute of a neighbour.
     Nda(Nda),
+    /// An attribute of a kind of link.
     IflaInfo(IflaInfo),
+    /// An attribute of a virtual LAN.
     IflaVlan(IflaVlan),
+    /// An attribute of a virtual LAN's priorities.
     IflaVlanQos(IflaVlanQos),
+    /// An attribute of a routing rule.
     Frattr(Frattr),
+    /// A number that none of these has a name for.
     UnrecognizedConst(u16),
 }
 

@@ -10,8 +10,11 @@ use neli_wire::Constant;
 /// Attributes of a routing rule: `FRA_*` of `linux/fib_rules.h`.
 #[derive(Clone, Copy, Debug, PartialEq, Eq)]
 pub enum Frattr {
+    /// No attribute: 0 stands for none.
     Unspec,
+    /// The destination address.
     Dst,
+    /// The source address.
     Src,
     /// The name of the link that packets come in by.
     Iifname,
@@ -19,17 +22,25 @@ pub enum Frattr {
     Ifname,
     /// The rule to go on with.
     Goto,
+    /// Not used.
     Unused2,
+    /// The place among the rules: the lowest comes first.
     Priority,
+    /// Not used.
     Unused3,
+    /// Not used.
     Unused4,
+    /// Not used.
     Unused5,
     /// The mark of a packet.
     Fwmark,
     /// The realms of a route.
     Flow,
+    /// The key of the tunnel that a packet came by.
     TunId,
+    /// The group of links by which no route is taken.
     SuppressIfgroup,
+    /// Routes with a prefix of at most this length are not taken.
     SuppressPrefixlen,
     /// The table's number, where it needs more than a byte.
     Table,
@@ -39,21 +50,33 @@ pub enum Frattr {
     Oifname,
     /// No attribute: it aligns the next one to eight bytes.
     Pad,
+    /// The table is that of the link's layer 3 master, a VRF.
     L3mdev,
+    /// The users whose packets are meant, from the first to the last.
     UidRange,
     /// Who made the rule.
     Protocol,
+    /// The protocol inside the internet protocol, as TCP.
     IpProto,
+    /// The source ports, from the first to the last.
     SportRange,
+    /// The destination ports, from the first to the last.
     DportRange,
+    /// The differentiated services code point of a packet.
     Dscp,
+    /// The flow label of a packet (IPv6).
     Flowlabel,
+    /// The bits of the flow label that count.
     FlowlabelMask,
+    /// The bits of the source port that count.
     SportMask,
+    /// The bits of the destination port that count.
     DportMask,
+    /// The bits of [`Frattr::Dscp`] that count.
     DscpMask,
     /// One above the last of these (`__FRA_MAX`); a later kernel may have an attribute there.
     Max,
+    /// A number without a name.
     UnrecognizedConst(u16),
 }
 
