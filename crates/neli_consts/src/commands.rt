@@ -59,7 +59,9 @@ impl LogCfgCmd for LogCfgCmdWrapper {}
 /// A command of a logging configuration, by the one table that there is.
 #[derive(Clone, Copy, Debug, PartialEq, Eq)]
 pub enum LogCfgCmdWrapper {
+    /// A command of this table.
     LogCmd(LogCmd),
+    /// A number that it has no name for.
     UnrecognizedConst(u8),
 }
 

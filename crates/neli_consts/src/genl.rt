@@ -20,6 +20,7 @@ pub enum GenlId {
     VfsDquot,
     /// Events of a storage controller.
     Pmcraid,
+    /// A number without a name.
     UnrecognizedConst(u16),
 }
 
@@ -88,16 +89,27 @@ impl Constant for GenlId {
 /// announces with `New..` and `Del..`, and answers `Get..` with `New..`.
 #[derive(Clone, Copy, Debug, PartialEq, Eq)]
 pub enum CtrlCmd {
+    /// No command: 0 stands for none.
     Unspec,
+    /// Tells of a family.
     Newfamily,
+    /// Tells that a family is gone.
     Delfamily,
+    /// Asks for families.
     Getfamily,
+    /// Tells of a family's commands.
     Newops,
+    /// Tells that commands of a family are gone.
     Delops,
+    /// Asks for a family's commands.
     Getops,
+    /// Tells of a multicast group of a family.
     NewmcastGrp,
+    /// Tells that a multicast group of a family is gone.
     DelmcastGrp,
+    /// Not used by the kernel.
     GetmcastGrp,
+    /// A number without a name.
     UnrecognizedConst(u8),
 }
 
@@ -179,11 +191,13 @@ impl Constant for CtrlCmd {
 /// Attributes of a family of generic netlink: `CTRL_ATTR_*` of `linux/genetlink.h`.
 #[derive(Clone, Copy, Debug, PartialEq, Eq)]
 pub enum CtrlAttr {
+    /// No attribute: 0 stands for none.
     Unspec,
     /// The type of the family's messages, in two bytes.
     FamilyId,
     /// The family's name, with a zero at its end.
     FamilyName,
+    /// The version of the family.
     Version,
     /// The size of the family's own header, in bytes.
     Hdrsize,
@@ -193,6 +207,7 @@ pub enum CtrlAttr {
     Ops,
     /// Its multicast groups: a list of lists of [`CtrlAttrMcastGrp`].
     McastGroups,
+    /// A number without a name.
     UnrecognizedConst(u16),
 }
 
@@ -271,11 +286,13 @@ impl Constant for CtrlAttr {
 /// `linux/genetlink.h`.
 #[derive(Clone, Copy, Debug, PartialEq, Eq)]
 pub enum CtrlAttrMcastGrp {
+    /// No attribute: 0 stands for none.
     Unspec,
     /// The group's name, with a zero at its end.
     Name,
     /// The group's number, in four bytes.
     Id,
+    /// A number without a name.
     UnrecognizedConst(u16),
 }
 

@@ -49,12 +49,19 @@ impl NlAttrType for NlAttrTypeWrapper {}
 /// Every number is an [`Index`]: a `NlmsgerrAttr` or an `UnrecognizedConst` is made by hand alone.
 #[derive(Clone, Copy, Debug, PartialEq, Eq)]
 pub enum NlAttrTypeWrapper {
+    /// An attribute of a family.
     CtrlAttr(CtrlAttr),
+    /// An attribute of a multicast group.
     CtrlAttrMcastGrp(CtrlAttrMcastGrp),
+    /// An attribute of a logged packet.
     NfLogAttr(NfLogAttr),
+    /// An attribute of a logging configuration.
     NfLogCfg(NfLogCfg),
+    /// The place of an attribute in a list.
     Index(Index),
+    /// An attribute of an error or an acknowledgement.
     NlmsgerrAttr(NlmsgerrAttr),
+    /// A number that none of these has a name for.
     UnrecognizedConst(u16),
 }
 

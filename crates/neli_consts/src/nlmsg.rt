@@ -20,6 +20,7 @@ pub enum Nlmsg {
     Done,
     /// Messages were lost.
     Overrun,
+    /// A number without a name.
     UnrecognizedConst(u16),
 }
 
@@ -89,6 +90,7 @@ impl Constant for Nlmsg {
 /// Attributes of an error or an acknowledgement: `NLMSGERR_ATTR_*` of `linux/netlink.h`.
 #[derive(Clone, Copy, Debug, PartialEq, Eq)]
 pub enum NlmsgerrAttr {
+    /// No attribute: 0 stands for none.
     Unused,
     /// A text that says what was wrong, with a zero at its end.
     Msg,
@@ -98,6 +100,7 @@ pub enum NlmsgerrAttr {
     Cookie,
     /// What the kernel would have taken there.
     Policy,
+    /// A number without a name.
     UnrecognizedConst(u16),
 }
 

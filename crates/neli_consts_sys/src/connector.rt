@@ -15,6 +15,7 @@ use neli_wire::Constant;
 pub enum CnMsgIdx {
     /// Events of processes.
     Proc,
+    /// The file system CIFS.
     Cifs,
     /// The 1-wire bus.
     W1,
@@ -32,6 +33,7 @@ pub enum CnMsgIdx {
     Kvp,
     /// Snapshots of Hyper-V.
     Vss,
+    /// A number without a name.
     UnrecognizedConst(u32),
 }
 
@@ -115,15 +117,25 @@ impl Constant for CnMsgIdx {
 /// it tells them apart.
 #[derive(Clone, Copy, Debug, PartialEq, Eq)]
 pub enum CnMsgVal {
+    /// Beside [`CnMsgIdx::Proc`].
     Proc,
+    /// Beside [`CnMsgIdx::Cifs`].
     Cifs,
+    /// Beside [`CnMsgIdx::W1`].
     W1,
+    /// Beside [`CnMsgIdx::V86d`].
     V86dUvesafb,
+    /// Beside [`CnMsgIdx::Dst`].
     Dst,
+    /// Beside [`CnMsgIdx::Dm`].
     DmUserspaceLog,
+    /// Beside [`CnMsgIdx::Drbd`].
     Drbd,
+    /// Beside [`CnMsgIdx::Kvp`].
     Kvp,
+    /// Beside [`CnMsgIdx::Vss`].
     Vss,
+    /// A number without a name.
     UnrecognizedConst(u32),
 }
 
@@ -198,7 +210,9 @@ impl Constant for CnMsgVal {
 pub enum ProcEventType {
     /// Nothing: the answer to a request to listen.
     None,
+    /// It made a process or a thread.
     Fork,
+    /// It runs another program.
     Exec,
     /// It took another user.
     Uid,
@@ -212,8 +226,11 @@ pub enum ProcEventType {
     Comm,
     /// It ended with a status other than 0.
     NonzeroExit,
+    /// It wrote its memory to a file.
     Coredump,
+    /// It ended.
     Exit,
+    /// A number without a name.
     UnrecognizedConst(u32),
 }
 
@@ -301,6 +318,7 @@ pub enum ProcCnMcastOp {
     Listen,
     /// Send no more.
     Ignore,
+    /// A number without a name.
     UnrecognizedConst(u32),
 }
 

@@ -14,8 +14,11 @@ use neli_wire::Constant;
 /// Attributes of a logged packet: `NFULA_*` of `linux/netfilter/nfnetlink_log.h`.
 #[derive(Clone, Copy, Debug, PartialEq, Eq)]
 pub enum NfLogAttr {
+    /// Its protocol, and the hook where it was logged.
     PacketHdr,
+    /// Its mark.
     Mark,
+    /// When it came.
     Timestamp,
     /// The link that it came in by.
     IfindexIndev,
@@ -49,6 +52,7 @@ pub enum NfLogAttr {
     Ct,
     /// How it stands to its connection.
     CtInfo,
+    /// A number without a name.
     UnrecognizedConst(u16),
 }
 
@@ -158,7 +162,9 @@ pub enum NfLogCfg {
     Timeout,
     /// How many packets the kernel collects.
     QThresh,
+    /// Flags: what else is told of a packet.
     Flags,
+    /// A number without a name.
     UnrecognizedConst(u16),
 }
 
@@ -237,6 +243,7 @@ pub enum NetfilterMsg {
     LogPacket,
     /// A logging configuration, to the kernel.
     LogConfig,
+    /// A number without a name.
     UnrecognizedConst(u16),
 }
 
@@ -304,10 +311,13 @@ impl Constant for NetfilterMsg {
 pub enum LogCmd {
     /// Take the packets of a group.
     Bind,
+    /// Take them no longer.
     Unbind,
     /// Log the packets of an address family.
     PfBind,
+    /// Log them no longer.
     PfUnbind,
+    /// A number without a name.
     UnrecognizedConst(u8),
 }
 
@@ -377,11 +387,13 @@ impl Constant for LogCmd {
 /// How much of each packet is logged: `NFULNL_COPY_*` of `linux/netfilter/nfnetlink_log.h`.
 #[derive(Clone, Copy, Debug, PartialEq, Eq)]
 pub enum LogCopyMode {
+    /// Nothing.
     None,
     /// What is known of the packet, without its bytes.
     Meta,
     /// The bytes too.
     Packet,
+    /// A number without a name.
     UnrecognizedConst(u8),
 }
 

@@ -11,22 +11,29 @@ use neli_wire::Constant;
 /// Address families: `AF_*` of `linux/socket.h`.
 #[derive(Clone, Copy, Debug, PartialEq, Eq)]
 pub enum AddrFamily {
+    /// Within the host.
     UnixOrLocal,
     /// Version 4 of the internet protocol.
     Inet,
     /// Version 6 of the internet protocol.
     Inet6,
+    /// IPX.
     Ipx,
+    /// Netlink.
     Netlink,
+    /// X.25.
     X25,
+    /// AX.25, of amateur radio.
     Ax25,
     /// Permanent virtual circuits of ATM.
     Atmpvc,
+    /// AppleTalk.
     Appletalk,
     /// Frames as they are on the link.
     Packet,
     /// The kernel's cipher and digest functions.
     Alg,
+    /// A number without a name.
     UnrecognizedConst(i32),
 }
 
@@ -110,7 +117,9 @@ impl Constant for AddrFamily {
 /// Netlink's families, the protocols of its sockets: `NETLINK_*` of `linux/netlink.h`.
 #[derive(Clone, Copy, Debug, PartialEq, Eq)]
 pub enum NlFamily {
+    /// Links, addresses, routes and what belongs to them.
     Route,
+    /// Not used.
     Unused,
     /// For programs, among themselves.
     Usersock,
@@ -122,22 +131,35 @@ pub enum NlFamily {
     Nflog,
     /// IPsec.
     Xfrm,
+    /// Events of SELinux.
     Selinux,
+    /// iSCSI.
     Iscsi,
+    /// Auditing.
     Audit,
+    /// Look-ups in the routing tables.
     FibLookup,
+    /// The connector: events of processes, among others.
     Connector,
+    /// Netfilter: filters of packets, connections, logging.
     Netfilter,
+    /// No longer used by the kernel.
     Ip6Fw,
     /// DECnet routing.
     Dnrtmsg,
     /// The kernel's announcements of devices, which are texts.
     KobjectUevent,
+    /// Generic netlink.
     Generic,
+    /// SCSI transports.
     Scsitransport,
+    /// The file system eCryptfs.
     Ecryptfs,
+    /// Remote direct memory access.
     Rdma,
+    /// The kernel's cipher and digest functions.
     Crypto,
+    /// A number without a name.
     UnrecognizedConst(i32),
 }
 
