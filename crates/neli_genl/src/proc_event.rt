@@ -16,66 +16,100 @@ use neli_wire::Size;
 pub enum ProcEvent {
     /// The answer to a request, with an error number or 0.
     Ack {
+        /// The error number, or 0.
         err: u32,
     },
     /// A process or a thread began.
     Fork {
+        /// The parent's thread.
         parent_pid: i32,
+        /// The parent's process.
         parent_tgid: i32,
+        /// The child's thread.
         child_pid: i32,
+        /// The child's process.
         child_tgid: i32,
     },
     /// A process runs another program.
     Exec {
+        /// The thread.
         process_pid: i32,
+        /// Its process.
         process_tgid: i32,
     },
     /// A process has other user numbers, the real one and the effective one.
     Uid {
+        /// The thread.
         process_pid: i32,
+        /// Its process.
         process_tgid: i32,
+        /// The real user.
         ruid: u32,
+        /// The effective user.
         euid: u32,
     },
     /// A process has other group numbers, the real one and the effective one.
     Gid {
+        /// The thread.
         process_pid: i32,
+        /// Its process.
         process_tgid: i32,
+        /// The real group.
         rgid: u32,
+        /// The effective group.
         egid: u32,
     },
     /// A process began a session.
     Sid {
+        /// The thread.
         process_pid: i32,
+        /// Its process.
         process_tgid: i32,
     },
     /// A process is traced, or no longer where the tracer's numbers are 0.
     Ptrace {
+        /// The thread.
         process_pid: i32,
+        /// Its process.
         process_tgid: i32,
+        /// The tracer's thread, or 0.
         tracer_pid: i32,
+        /// The tracer's process, or 0.
         tracer_tgid: i32,
     },
     /// A thread has another name: 16 bytes, with zeros after it.
     Comm {
+        /// The thread.
         process_pid: i32,
+        /// Its process.
         process_tgid: i32,
+        /// The name, with zeros after it.
         comm: [u8; 16],
     },
     /// A process wrote its memory to a file.
     Coredump {
+        /// The thread.
         process_pid: i32,
+        /// Its process.
         process_tgid: i32,
+        /// The parent's thread.
         parent_pid: i32,
+        /// The parent's process.
         parent_tgid: i32,
     },
     /// A thread ended, with the status and the signal that its parent gets.
     Exit {
+        /// The thread.
         process_pid: i32,
+        /// Its process.
         process_tgid: i32,
+        /// The status, as wait(2) gives it.
         exit_code: u32,
+        /// The signal that the parent gets.
         exit_signal: u32,
+        /// The parent's thread.
         parent_pid: i32,
+        /// The parent's process.
         parent_tgid: i32,
     },
 }
