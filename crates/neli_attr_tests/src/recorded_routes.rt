@@ -1,5 +1,6 @@
 //! The attributes of datagrams that were recorded from Linux 6.18, against what libmnl and pyroute2 read
-//! there. Each row is the part of a message after the header of its body.
+//! there. Each row is the part of a message after the header of its body, named by the number of its datagram in
+//! docs/RECORDINGS.md.
 
 use crate::support::{assert_is, assert_is_at};
 use neli::consts::genl::{CtrlAttr, CtrlAttrMcastGrp, Index, NlAttrType};

@@ -1,6 +1,6 @@
 //! Recorded netlink datagrams, read by the paths of `neli`: tests only.
 //!
-//! The datagrams were recorded from Linux 6.18 on x86-64, in network namespaces with virtual links. What
+//! The datagrams were recorded from Linux 6.18 on x86-64, as docs/RECORDINGS.md says. What
 //! each of them holds was read by libmnl: for each message the type, the flags, the sequence number, the
 //! port and how many bytes its length leaves for the payload. Those without a fault are written again, and compared
 //! with what a walk over their lengths takes for padding.

@@ -25,7 +25,7 @@ pub type Header = (u16, u16, u32, u32, usize);
 
 #[derive(Clone, Copy, Debug)]
 pub struct Row {
-    /// A label: the recordings were numbered as they were made.
+    /// A label: the number of the datagram, as docs/RECORDINGS.md has it.
     pub file: &'static str,
     pub hex: &'static str,
     pub messages: &'static [Header],

@@ -1,5 +1,5 @@
 //! A link and a route that were recorded from Linux 6.18, against what libmnl reads in their headers and pyroute2 in
-//! their attributes, and a request of iproute2 against its command line.
+//! their attributes, and a request of iproute2 against its command line. Numbers are those of docs/RECORDINGS.md.
 
 use crate::support::{assert_is_at, message};
 use neli::consts::rtnl::{Ifla, IflaInfo, Rta, RtaType, Rtm};
@@ -9,7 +9,7 @@ use neli::rtnl::{Ifinfomsg, Rtmsg};
 use std::alloc::Global;
 use std::process::Abort;
 
-/// A bridge port, as it was listed: recording 0152.
+/// A bridge port, as it was listed: datagram 0152.
 const LINK: &str = "\
     a801000010000200eb0300000e61baa0070001000200000043100100000000000a000300766574683100000008000a00\
     0500000008000400dc05000005001000060000000a0001000200000000020000080005000300000050010c8005000100\
@@ -21,13 +21,13 @@ const LINK: &str = "\
     0000000005002b00000000000c00150000000000000000000c00160000000000000000000c0017000000000000000000\
     050019000100000008002500000200000800260000000000080029000500000008002a0000000000";
 
-/// What a lookup of 10.7.2.3 was answered with: recording 0202.
+/// What a lookup of 10.7.2.3 was answered with: datagram 0202.
 const ROUTE: &str = "\
     700000001800000017040000fa0598c602200000fe0000010002000008000f00fe000000080001000a07020308000400\
     0300000008000700c000020108000500c0000209080019000000000024000c0002000000000000000000000000000000\
     00000000000000000000000000000000";
 
-/// `ip link add mac0 link veth0 type macvlan mode private`: recording 1092.
+/// `ip link add mac0 link veth0 type macvlan mode private`: datagram 1092.
 const REQUEST: &str = "\
     50000000100005066b99026b00000000000000000000000000000000000000000800050003000000090003006d616330\
     000000001c0012000b0001006d6163766c616e000c0002000800010001000000";
