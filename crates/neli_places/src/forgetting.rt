@@ -26,6 +26,7 @@ impl<T: Drop> Places<T> {
                 Some(p) => p.from <= self.base,
             },
             Route::Numbers => {
+                // The prover learns here that no number has two places.
                 let _ = self.numbers.len();
                 match self.shared.front() {
                     None => false,

@@ -80,6 +80,7 @@ impl<T: Drop> Places<T> {
             → pending_of self.new w ≡ pending_of self.old w }
         ensures sound { IsSound self.new }
     {
+        // The prover learns here that a count of places fits: there are fewer than 2^63 numbers.
         let _ = self.numbers.len();
         let i = (p.seen - self.shared_base) as usize;
         lower(&mut self.shared, &mut self.caught_up, i);

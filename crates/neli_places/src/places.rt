@@ -91,6 +91,7 @@ impl<T: Drop> Places<T> {
             → pending_of self.new w ≡ pending_of self.old w) }
         ensures trimmed { IsTrimmed self.new }
     {
+        // The prover learns here that the count of places fits: there are fewer than 2^63 numbers.
         let _ = self.numbers.len();
         let from = self.base + self.entries.len() as u64;
         let seen = self.shared_base + self.shared.len() as u64;
