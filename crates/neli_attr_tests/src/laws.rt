@@ -1,4 +1,4 @@
-//! The laws, called: they do nothing when they run.
+//! That each law can be called at real types. The calls do nothing when they run.
 
 use neli::attr::laws::{
     built_generic_attribute_reads_back, built_routing_attribute_reads_back, list_is_its_frames,

@@ -1,4 +1,4 @@
-//! The laws, called: they do nothing when they run.
+//! That each law can be called at real types. The calls do nothing when they run.
 
 use neli::connector::laws::{cn_msg_is_read_back, proc_event_is_read_back};
 use neli::consts::genl::{CtrlAttr, CtrlCmd};

@@ -1,4 +1,4 @@
-//! Values are equal where they are the same variant, whatever their numbers.
+//! Values are equal where they are the same variant, whatever their numbers; and the laws that say so can be called.
 
 use neli::consts::connector::CnMsgVal;
 use neli::consts::rtnl::{Arphrd, Frattr};

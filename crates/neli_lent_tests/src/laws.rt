@@ -1,4 +1,4 @@
-//! The laws, called: they do nothing when they run.
+//! That each law can be called at real types. The calls do nothing when they run.
 
 use neli::consts::genl::CtrlAttr;
 use neli::consts::rtnl::Ifla;

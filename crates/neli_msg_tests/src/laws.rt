@@ -1,4 +1,4 @@
-//! The laws, called: they do nothing when they run.
+//! That each law can be called at real types. The calls do nothing when they run.
 
 use neli::nl::laws::{
     has_a_cut, has_few_messages, has_one_cut, rewritten_datagram_is_zeroed, typed_reading_agrees,

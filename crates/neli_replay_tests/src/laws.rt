@@ -1,4 +1,4 @@
-//! The laws, called: they do nothing when they run.
+//! That each law can be called. The calls do nothing when they run.
 
 use neli_replay::laws::{has_good_lines, names_the_first_bad_line};
 

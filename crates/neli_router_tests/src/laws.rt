@@ -1,4 +1,4 @@
-//! The laws, called: they do nothing when they run.
+//! That each law can be called at real types. The calls do nothing when they run.
 
 use neli::router::synchronous::laws::{
     answers_only_grow, cuts_join, deliveries_only_grow, reads_of_others_change_nothing,

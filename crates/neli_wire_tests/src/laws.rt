@@ -1,4 +1,4 @@
-//! The laws, called: they do nothing when they run.
+//! That each law can be called at real types. The calls do nothing when they run.
 
 use neli::consts::nl::Nlmsg;
 use neli::laws::{bytes_of_number, constant_is_read_back, list_is_its_elements};
