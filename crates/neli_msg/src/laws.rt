@@ -55,7 +55,8 @@ pub fn typed_reading_agrees<T: NlType, P: FromBytesWithInput>()
 /// is as long as it was, and is read as the same messages.
 pub fn rewritten_datagram_is_zeroed()
     ensures written { (b : List ℕ) (ms : List (Message ℕ (List ℕ))) → AreBytes b
-        → Cuts untyped_layout b ms None → All HasNoTail ms → untyped_wires ms ≡ Ok (datagram_zeroed b) }
+        → Cuts untyped_layout b ms None → All HasNoTail ms
+        → untyped_wires ms ≡ Ok (datagram_zeroed b) }
     ensures read_again { (b : List ℕ) (ms : List (Message ℕ (List ℕ)))
         → Cuts untyped_layout b ms None → Cuts untyped_layout (datagram_zeroed b) ms None }
     ensures as_long { (b : List ℕ) (ms : List (Message ℕ (List ℕ)))

@@ -114,10 +114,12 @@ pub fn regrouping_leaves_deliveries<ST, SP, RT, RP>()
         ≡ deliveries port k (later ++ history_with groups cs before) }
     ensures live { (k : ℕ) (groups : List ℕ) (bs cs : List Bytes)
         (before later : History ST SP RT RP)
-        → is_live k (later ++ history_with groups bs before) ≡ is_live k (later ++ history_with groups cs before) }
+        → is_live k (later ++ history_with groups bs before)
+        ≡ is_live k (later ++ history_with groups cs before) }
     ensures open { (q : ℕ) (groups : List ℕ) (bs cs : List Bytes)
         (before later : History ST SP RT RP)
-        → is_open q (later ++ history_with groups bs before) ≡ is_open q (later ++ history_with groups cs before) }
+        → is_open q (later ++ history_with groups bs before)
+        ≡ is_open q (later ++ history_with groups cs before) }
 {}
 
 /// So what is right for a run to answer after the old datagrams, to any commands, is right after the new ones.
