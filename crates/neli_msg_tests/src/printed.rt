@@ -114,6 +114,12 @@ fn errors_of_a_router_print_their_cause(rt: HostRuntime) {
         RouterError::from(SocketError::De(DeError::InvalidInput(15))),
         "Socket error: Deserialization error: Invalid input was provided: 15",
     );
+    assert_router(
+        &rt,
+        alloc,
+        RouterError::from(DeError::Msg(MsgError::from_static("no such attribute"))),
+        "Deserialization failed: no such attribute",
+    );
 }
 
 #[test]
@@ -142,6 +148,59 @@ fn errors_of_a_router_print_where_a_text_ends(rt: HostRuntime) {
     let text = words_and(&rt, alloc, "Deserialization failed: UTF8 error: ", &cause);
     for place in [Utf8::Str(cause), Utf8::String(cause)] {
         assert_router(&rt, alloc, RouterError::De(DeError::Utf8(place)), &text);
+    }
+}
+
+/// Asserts that a router's error over this one prints these words and then the cause, and its copy too.
+fn assert_socket<C: Display>(
+    rt: &impl Abort,
+    alloc: Global,
+    error: SocketError,
+    words: &str,
+    cause: &C,
+) {
+    let text = words_and(rt, alloc, words, cause);
+    assert_router(rt, alloc, RouterError::Socket(error), &text);
+}
+
+#[test]
+fn errors_of_a_link_in_a_router_print_a_failure(rt: HostRuntime) {
+    for kind in &KINDS {
+        assert_socket(
+            &rt,
+            rt.alloc(),
+            SocketError::Ser(SerError::Io(*kind)),
+            "Socket error: Serialization error: IO error: ",
+            kind,
+        );
+        assert_socket(
+            &rt,
+            rt.alloc(),
+            SocketError::De(DeError::Io(*kind)),
+            "Socket error: Deserialization error: IO error: ",
+            kind,
+        );
+    }
+}
+
+#[test]
+fn errors_of_a_link_in_a_router_print_where_a_text_ends(rt: HostRuntime) {
+    let cause = str::from_utf8(b"abc\xff").err().expect(&rt, "no text");
+    for place in [Utf8::Str(cause), Utf8::String(cause)] {
+        assert_socket(
+            &rt,
+            rt.alloc(),
+            SocketError::Ser(SerError::Utf8(place)),
+            "Socket error: Serialization error: UTF error: ",
+            &cause,
+        );
+        assert_socket(
+            &rt,
+            rt.alloc(),
+            SocketError::De(DeError::Utf8(place)),
+            "Socket error: Deserialization error: UTF8 error: ",
+            &cause,
+        );
     }
 }
 
