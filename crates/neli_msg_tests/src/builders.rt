@@ -1,7 +1,8 @@
 //! What builders make, and what is written.
 
 use crate::kinds::ERROR;
-use crate::support::{assert_is, assert_prints, assert_written};
+use crate::reading::ONE;
+use crate::support::{Raw, assert_is, assert_prints, assert_written};
 use neli::consts::nl::{NlmF, NlmsgerrAttr};
 use neli::err::{
     BuildError, Nlmsgerr, NlmsgerrBuilder, NlmsghdrAck, NlmsghdrAckBuilder, NlmsghdrErrBuilder,
@@ -45,6 +46,17 @@ fn what_is_read_is_written(rt: HostRuntime) {
         let raw: Nlmsghdr<u16, Buffer> = read.expect(&rt, "a message");
         assert_written(&rt, alloc, &raw, &ERROR);
     }
+}
+
+// Of a payload of one byte too: its three padding bytes were ff.
+#[test]
+fn padding_is_written_as_zeros(rt: HostRuntime) {
+    let read = Raw::from_bytes(rt.alloc(), &mut Cursor::new(&ONE));
+    let message = read.expect(&rt, "a message");
+    let want = [
+        0x11, 0, 0, 0, 0, 4, 0, 0, 0, 0, 0, 0, 0, 0, 0, 0, 0x61, 0, 0, 0,
+    ];
+    assert_written(&rt, rt.alloc(), &message, &want);
 }
 
 /// The field that a builder names as missing.

@@ -29,7 +29,7 @@ pub fn refusal_of(error: &DeError) -> Refusal {
 }
 
 /// One message of type 1024 with the payload `61`, and three padding bytes of any value.
-const ONE: [u8; 20] = [
+pub const ONE: [u8; 20] = [
     17, 0, 0, 0, 0, 4, 0, 0, 0, 0, 0, 0, 0, 0, 0, 0, 0x61, 0xff, 0xff, 0xff,
 ];
 
