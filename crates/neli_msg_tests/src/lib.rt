@@ -4,8 +4,8 @@
 //!   [`parts`]: headers, echoes and answers by themselves.
 //! - [`retyping`]: untyped messages as other types, and the calls that take a payload out or put one in.
 //!   [`typed_errors`]: a router's errors as ones of other types.
-//! - [`builders`]: what builders make, and what is written. [`printed`]: what errors print, and their
-//!   causes.
+//! - [`builders`]: what builders make, and what is written. [`lists`]: lists of messages. [`printed`]: what
+//!   errors print, and their causes.
 //! - [`out_of_memory`]: what calls answer where an allocation is refused. [`laws`]: the laws, called.
 //! - [`support`]: what the tests share.
 //!
@@ -19,6 +19,8 @@ mod builders;
 mod kinds;
 #[cfg(test)]
 mod laws;
+#[cfg(test)]
+mod lists;
 #[cfg(test)]
 mod out_of_memory;
 #[cfg(test)]

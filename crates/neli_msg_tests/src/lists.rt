@@ -1,0 +1,53 @@
+//! Lists of messages.
+
+use crate::support::{Raw, assert_is, assert_written};
+use neli::types::{Buffer, NlBuffer};
+use neli::{Cursor, FromBytes, FromBytesWithInput};
+use std::alloc::Global;
+use std::process::Abort;
+
+/// A message of type 16 without a payload, with the number 5 and the port 7, and one of type 1024 with the
+/// payload `61`, and three padding bytes of any value.
+const TWO: [u8; 36] = [
+    0x10, 0, 0, 0, 0x10, 0, 2, 0xf0, 5, 0, 0, 0, 7, 0, 0, 0, //
+    0x11, 0, 0, 0, 0, 4, 0, 0, 0, 0, 0, 0, 0, 0, 0, 0, 0x61, 0xff, 0xff, 0xff,
+];
+
+/// A message of type 1024 with the payload `abcde` and three zeros.
+const MORE: [u8; 24] = [
+    0x18, 0, 0, 0, 0, 4, 1, 0, 0, 0, 0, 0, 0, 0, 0, 0, 0x61, 0x62, 0x63, 0x64, 0x65, 0, 0, 0,
+];
+
+/// [`TWO`] with zeros for padding, and then [`MORE`].
+const THREE: [u8; 60] = [
+    0x10, 0, 0, 0, 0x10, 0, 2, 0xf0, 5, 0, 0, 0, 7, 0, 0, 0, //
+    0x11, 0, 0, 0, 0, 4, 0, 0, 0, 0, 0, 0, 0, 0, 0, 0, 0x61, 0, 0, 0, //
+    0x18, 0, 0, 0, 0, 4, 1, 0, 0, 0, 0, 0, 0, 0, 0, 0, 0x61, 0x62, 0x63, 0x64, 0x65, 0, 0, 0,
+];
+
+/// The list of the messages in [`TWO`].
+fn two(rt: &impl Abort, alloc: Global) -> NlBuffer<u16, Buffer> {
+    let read = NlBuffer::from_bytes_with_input(alloc, &mut Cursor::new(&TWO), 36);
+    read.expect(rt, "two messages")
+}
+
+#[test]
+fn a_list_has_its_messages_in_their_order(rt: HostRuntime) {
+    let list = two(&rt, rt.alloc());
+    assert_is(&rt, list.len(), 2);
+    for (message, (fields, count)) in list.iter().zip([((16, 5, 7), 0), ((1024, 0, 0), 1)]) {
+        let found = (*message.nl_type(), *message.nl_seq(), *message.nl_pid());
+        assert_is(&rt, found, fields);
+        let body = message.get_payload().expect(&rt, "a payload");
+        assert_is(&rt, body.len(), count);
+    }
+}
+
+#[test]
+fn a_list_is_written_with_one_message_more(rt: HostRuntime) {
+    let mut list = two(&rt, rt.alloc());
+    let read = Raw::from_bytes(rt.alloc(), &mut Cursor::new(&MORE));
+    list.push(read.expect(&rt, "a message"))
+        .expect(&rt, "memory");
+    assert_written(&rt, rt.alloc(), &list, &THREE);
+}
