@@ -115,24 +115,27 @@ fn an_error_item_is_the_answer(rt: HostRuntime) -> Result<(), Fail> {
 #[test]
 fn names_are_refused_with_the_first_failure(rt: HostRuntime) -> Result<(), Fail> {
     let alloc = rt.alloc();
-    let rows: [(&[&[u8]], &str); 3] = [
+    let rows: [(&[&[u8]], Cause, &str); 3] = [
         (
             &[&NLCTRL, &THREE_GROUPS, &NAMELESS],
+            Cause::DeInput(2),
             "Deserialization failed: Invalid input was provided: 2",
         ),
         (
             &[&NAMELESS, &THREE_GROUPS],
+            Cause::DeMsg,
             "Deserialization failed: Failed to find specified attribute",
         ),
         (
             &[&NLCTRL, &NUMBER],
+            Cause::DeMsg,
             "Deserialization failed: Failed to find specified attribute",
         ),
     ];
-    for (frames, want) in rows {
+    for (frames, cause, want) in rows {
         let mut list = items(alloc, frames)?;
         list.push(Err(RouterError::NoAck))?;
-        assert_refused(&rt, alloc, lookup_id(alloc, 5, list), Cause::De, want);
+        assert_refused(&rt, alloc, lookup_id(alloc, 5, list), cause, want);
     }
     Ok(())
 }

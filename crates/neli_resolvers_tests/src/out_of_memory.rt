@@ -79,7 +79,7 @@ fn no_group_or_out_of_memory(rt: HostRuntime) {
     assert_cause(
         &rt,
         resolve_nl_mcast_group(alloc, "nlctrl", "x", list),
-        Cause::De,
+        Cause::DeMsg,
     );
 }
 

@@ -1,6 +1,6 @@
 //! What the controller's answer for `nlctrl` does not tell.
 
-use crate::support::{Cause, NLCTRL, NUMBER, assert_refused, items};
+use crate::support::{ACK, Cause, NLCTRL, NUMBER, assert_refused, items};
 use neli::router::synchronous::{lookup_id, resolve_genl_family, resolve_nl_mcast_group};
 use std::test::Fail;
 
@@ -37,15 +37,15 @@ fn a_payload_without_what_is_looked_up_is_refused(rt: HostRuntime) -> Result<(),
     assert_refused(
         &rt,
         alloc,
-        resolve_nl_mcast_group(alloc, "nlctrl", "notify", items(alloc, &[&NUMBER])?),
-        Cause::De,
+        resolve_nl_mcast_group(alloc, "nlctrl", "notify", items(alloc, &[&NUMBER, &ACK])?),
+        Cause::DeMsg,
         "Deserialization failed: Couldn't find specified attribute",
     );
     assert_refused(
         &rt,
         alloc,
         lookup_id(alloc, 5, items(alloc, &[&NUMBER])?),
-        Cause::De,
+        Cause::DeMsg,
         "Deserialization failed: Failed to find specified attribute",
     );
     Ok(())

@@ -1,6 +1,6 @@
 //! What the tests share.
 
-use neli::err::RouterError;
+use neli::err::{DeError, RouterError};
 use neli::nl::Nlmsghdr;
 use neli::router::synchronous::{CtrlError, CtrlItem};
 use neli::{Cursor, FromBytes};
@@ -62,7 +62,10 @@ pub fn items(alloc: Global, frames: &[&[u8]]) -> Result<Vec<CtrlItem>, CtrlError
 pub enum Cause {
     Memory,
     Msg,
-    De,
+    /// What is told cannot be read: the text that says why.
+    DeMsg,
+    /// It cannot be read: a count that does not fit.
+    DeInput(usize),
     NoAck,
     Other,
 }
@@ -72,7 +75,8 @@ pub fn cause_of(error: &CtrlError) -> Cause {
     match error {
         RouterError::Memory => Cause::Memory,
         RouterError::Msg(_) => Cause::Msg,
-        RouterError::De(_) => Cause::De,
+        RouterError::De(DeError::Msg(_)) => Cause::DeMsg,
+        RouterError::De(DeError::InvalidInput(count)) => Cause::DeInput(*count),
         RouterError::NoAck => Cause::NoAck,
         _ => Cause::Other,
     }
