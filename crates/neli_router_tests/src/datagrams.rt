@@ -16,7 +16,7 @@ const ZERO: &str = "10000000100000000000000000000000";
 const PORT_5: &str = "10000000100000000000000005000000";
 
 /// Datagrams, and what is read of multicast and of the handles of numbers 0 and 1.
-const SCRIPTS: [(&str, &[(Step, Told)]); 10] = [
+const SCRIPTS: [(&str, &[(Step, Told)]); 9] = [
     (
         "an empty datagram",
         &[
@@ -118,7 +118,7 @@ const SCRIPTS: [(&str, &[(Step, Told)]); 10] = [
         ],
     ),
     (
-        "a message for each of two handles, and one that is for none",
+        "a message for each of two handles, one for none, and news until multicast is closed",
         &[
             (Send(16, 0, ""), Sent(0, 0)),
             (Send(16, 0, ""), Sent(1, 0)),
@@ -127,20 +127,13 @@ const SCRIPTS: [(&str, &[(Step, Told)]); 10] = [
             (Read(1), Stray(9, 0)),
             (Read(2), Message(16, 1, 0)),
             (Read(2), Stray(9, 0)),
-            (Read(1), End),
-            (Read(2), End),
             (Read(0), Waits),
-        ],
-    ),
-    (
-        "news that waits while multicast is closed",
-        &[
-            (Send(16, 0, ""), Sent(0, 0)),
             (Come(ONE, 1), Done),
             (Close(0), Done),
             (Come(ONE, 1), Done),
             (Read(0), NoHandle),
-            (Read(1), Waits),
+            (Read(1), End),
+            (Read(2), End),
         ],
     ),
 ];

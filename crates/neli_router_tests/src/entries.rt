@@ -44,23 +44,17 @@ fn come(
     kept(router)
 }
 
+// What comes to a group at the end is kept until multicast is closed, and not at all after that.
 #[test]
 fn an_entry_goes_with_the_last_handle_that_waits_for_it(rt: HostRuntime) {
     let alloc = rt.alloc();
-    let (mut router, _multicast) = NlRouter::<Log>::new(alloc, 0);
+    let (mut router, multicast) = NlRouter::<Log>::new(alloc, 0);
     let mut handles = [send(&rt, alloc, &mut router), send(&rt, alloc, &mut router)];
     assert_eq!(rt; come(&rt, alloc, &mut router, THREE, 0), [3, 48]);
     for (k, item, left) in READS {
         assert_eq!(rt; read(&rt, alloc, &mut router, &mut handles[k]), item);
         assert_eq!(rt; kept(&router), left, "after {item:?}");
     }
-}
-
-#[test]
-fn news_are_kept_while_multicast_is_open(rt: HostRuntime) {
-    let alloc = rt.alloc();
-    let (mut router, multicast) = NlRouter::<Log>::new(alloc, 0);
-    let _first = send(&rt, alloc, &mut router);
     assert_eq!(rt; come(&rt, alloc, &mut router, ONE, 1), [1, 16]);
     router.close(multicast);
     assert_eq!(rt; kept(&router), [0, 0]);
