@@ -1,12 +1,15 @@
 //! Recorded netlink datagrams, read by the paths of `neli`: tests only.
 //!
-//! The datagrams were recorded from Linux 6.18 on x86-64, as docs/RECORDINGS.md says. What
-//! each of them holds was read by libmnl: for each message the type, the flags, the sequence number, the
-//! port and how many bytes its length leaves for the payload. Those without a fault are written again, and compared
-//! with what a walk over their lengths takes for padding.
+//! - [`datagrams`]: for each message the type, the flags, the sequence number, the port and how many bytes
+//!   its length leaves for the payload.
+//! - [`rewritten`]: the datagrams without a fault are written again, and compared with what a walk over
+//!   their lengths takes for padding.
+//!
+//! The datagrams were recorded from Linux 6.18 on x86-64, as docs/RECORDINGS.md says. What each of them holds was
+//! read by libmnl.
 #![tactic(auto)]
 
 #[cfg(test)]
-mod rewritten;
+mod datagrams;
 #[cfg(test)]
-mod tests;
+mod rewritten;

@@ -1,6 +1,6 @@
 //! Recorded datagrams that are written again: themselves, but for their padding.
 
-use crate::tests::{Fault, ROWS, Row};
+use crate::datagrams::{Fault, ROWS, Row};
 use neli::ToBytes;
 use neli::iter::cut;
 use neli::nl::{NlPayload, Nlmsghdr};

@@ -2,7 +2,7 @@
 //!
 //! - [`messages`], [`attributes`], [`lookup`]: each call with its answer. [`owned`]: what takes memory.
 //! - [`datagrams`], [`lists`]: the same bytes read lent and as owned values, with their faults.
-//! - [`recorded`]: messages that were recorded, against what other libraries read there.
+//! - [`links_and_routes`]: messages that were recorded, against what other libraries read there.
 //! - [`laws`]: the laws, called. [`support`]: what the tests share.
 //!
 //! The layouts are those of RFC 3549 sections 2.3.2 and 3.1, of `struct nlmsghdr` and `struct nlattr` of
@@ -18,6 +18,8 @@ mod datagrams;
 #[cfg(test)]
 mod laws;
 #[cfg(test)]
+mod links_and_routes;
+#[cfg(test)]
 mod lists;
 #[cfg(test)]
 mod lookup;
@@ -25,7 +27,5 @@ mod lookup;
 mod messages;
 #[cfg(test)]
 mod owned;
-#[cfg(test)]
-mod recorded;
 #[cfg(test)]
 mod support;

@@ -6,7 +6,7 @@
 //! - [`datagrams`]: who gets what of a datagram. [`faults`]: faults of the link.
 //! - [`handles`]: handles that another router made, and closed ones. [`many`]: thousands of requests.
 //! - [`requests`]: requests to the controller of generic netlink, and what comes of its answers.
-//! - [`recorded`]: conversations with a kernel.
+//! - [`conversations`]: conversations with a kernel, as they were recorded.
 //! - [`random`]: scripts that a generator makes, over both stores. [`entries`]: what the log keeps.
 //! - [`out_of_memory`]: each allocation refused in turn. [`refusing`]: a store that is always refused.
 //! - [`laws`]: the laws of runs, called.
@@ -17,6 +17,8 @@
 
 #[cfg(test)]
 mod answers;
+#[cfg(test)]
+mod conversations;
 #[cfg(test)]
 mod datagrams;
 #[cfg(test)]
@@ -35,8 +37,6 @@ mod numbers;
 mod out_of_memory;
 #[cfg(test)]
 mod random;
-#[cfg(test)]
-mod recorded;
 #[cfg(test)]
 mod refusing;
 #[cfg(test)]

@@ -1,29 +1,29 @@
 //! Tests of the whole library by the paths of `neli`, as a program uses it.
 //!
-//! - [`values`], [`bodies`]: worked examples of numbers, texts and bodies. [`zeros`]: lengths past 32 bits, by a payload of a
-//!   type of its own. Worked examples of attributes, messages, constants, groups, resolvers and the router stand in crates of
-//!   tests of their own, which use the same paths.
-//! - [`recorded`]: conversations with a kernel. [`conversation`]: how one is played. [`store`]: what is kept meanwhile.
+//! - [`values`], [`bodies`]: worked examples of numbers, texts and bodies. [`zeros`]: lengths past 32 bits, by a
+//!   payload of a type of its own. Worked examples of attributes, messages, constants, groups, resolvers and the
+//!   router stand in crates of tests of their own, which use the same paths.
+//! - [`conversations`]: conversations with a kernel. [`talk`]: how one is played. [`store`]: what is kept meanwhile.
 //! - [`readme`], [`tour`]: the examples of the README and of the page of `neli`, line by line.
 //! - [`support`]: what the tests share.
 //!
 //! The layouts are those of RFC 3549 section 2.3.2, of linux/netlink.h, linux/genetlink.h, linux/rtnetlink.h and
-//! linux/cn_proc.h. Expected values are worked out by hand from these, unless a comment names a recording: those are from
-//! Linux 6.18 on x86-64, read by libmnl and pyroute2.
+//! linux/cn_proc.h. Expected values are worked out by hand from these, unless a comment names a recording: those are
+//! from Linux 6.18 on x86-64, read by libmnl and pyroute2.
 #![tactic(auto)]
 
 #[cfg(test)]
 mod bodies;
 #[cfg(test)]
-mod conversation;
+mod conversations;
 #[cfg(test)]
 mod readme;
-#[cfg(test)]
-mod recorded;
 #[cfg(test)]
 mod store;
 #[cfg(test)]
 mod support;
+#[cfg(test)]
+mod talk;
 #[cfg(test)]
 mod tour;
 #[cfg(test)]

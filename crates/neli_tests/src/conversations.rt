@@ -1,7 +1,7 @@
 //! Conversations with a kernel, Linux 6.18 on x86-64, as they were recorded: the request that a program sent, and each
 //! datagram that came for it. What the messages hold was read by libmnl and pyroute2.
 
-use crate::conversation::{Item, Talk, answered, payload_of};
+use crate::talk::{Item, Talk, answered, payload_of};
 use neli::consts::genl::{CtrlAttr, CtrlCmd, NlAttrType};
 use neli::consts::nl::{GenlId, NlmF, NlmsgerrAttr};
 use neli::consts::rtnl::{Ifa, RtAddrFamily, RtScope, Rtm};
