@@ -75,6 +75,11 @@ fn recorded_datagrams_are_read_as_libmnl_reads_them(rt: HostRuntime) -> Result<(
     Ok(())
 }
 
+/// The answer to a dump of no such table: recording 0372.
+pub const NO_TABLE: &str =
+    "3800000003002202a7040000ebd2b981feffffff23000100697076343a20464942207461626c6520\
+    646f6573206e6f742065786973740000";
+
 pub const ROWS: [Row; 19] = [
     Row {
         // route: IPv4 settings of a link, told to a group when loopback was set up
@@ -146,8 +151,7 @@ pub const ROWS: [Row; 19] = [
     Row {
         // route: a Done with a code and a text, the answer to a dump of no such table
         file: "0372",
-        hex: "3800000003002202a7040000ebd2b981feffffff23000100697076343a20464942207461626c6520\
-            646f6573206e6f742065786973740000",
+        hex: NO_TABLE,
         messages: &[(3, 0x0222, 1191, 2176439019, 40)],
         fault: Fault::None,
     },

@@ -2,6 +2,7 @@
 //!
 //! - [`datagrams`]: for each message the type, the flags, the sequence number, the port and how many bytes
 //!   its length leaves for the payload.
+//! - [`reasons`]: the attributes after an error, and after the end of a dump.
 //! - [`rewritten`]: the datagrams without a fault are written again, and compared with what a walk over
 //!   their lengths takes for padding.
 //!
@@ -11,5 +12,7 @@
 
 #[cfg(test)]
 mod datagrams;
+#[cfg(test)]
+mod reasons;
 #[cfg(test)]
 mod rewritten;
