@@ -2,7 +2,7 @@
 //! datagram that came for it. What the messages hold was read by libmnl and pyroute2.
 
 use crate::talk::{Item, Talk, answered, payload_of};
-use neli::consts::genl::{CtrlAttr, CtrlCmd, NlAttrType};
+use neli::consts::genl::{CtrlAttr, CtrlCmd, Index, NlAttrType};
 use neli::consts::nl::{GenlId, NlmF, NlmsgerrAttr};
 use neli::consts::rtnl::{Ifa, RtAddrFamily, RtScope, Rtm};
 use neli::err::RouterError;
@@ -185,6 +185,7 @@ fn an_error_says_why(rt: HostRuntime) {
     };
     assert_eq!(rt; (*answer.error(), *answer.nlmsg().nl_seq()), (-22, 1107));
     assert_why(&rt, alloc, answer.ext_ack());
+    assert_policy(&rt, alloc, answer.ext_ack());
 }
 
 /// Asserts what the kernel's three attributes say.
@@ -198,4 +199,21 @@ fn assert_why(rt: &impl Abort, alloc: Global, ext_ack: &GenlBuffer<NlmsgerrAttr,
         (attrs.get_attrs().len(), said, place),
         (3, Some("Attribute failed policy validation\0"), Some(20))
     );
+}
+
+/// Asserts what the third attribute says that the kernel takes: a text that ends in a zero (`NL_ATTR_TYPE_NUL_STRING`,
+/// 12), of 15 bytes at most. The numbers are those of linux/netlink.h.
+fn assert_policy(rt: &impl Abort, alloc: Global, ext_ack: &GenlBuffer<NlmsgerrAttr, Buffer>) {
+    let attrs = ext_ack.get_attr_handle();
+    let policy = attrs
+        .get_attribute(NlmsgerrAttr::Policy)
+        .expect(rt, "a policy");
+    let count = policy.nla_payload().len();
+    let said = policy
+        .get_attr_handle::<Index>(alloc)
+        .expect(rt, "attributes");
+    let kind: Option<u32> = said.get_attr_payload_as(alloc, Index::from(1)).ok();
+    let longest: Option<u32> = said.get_attr_payload_as(alloc, Index::from(7)).ok();
+    let found = (*policy.nla_type().nla_nested(), count, kind, longest);
+    assert_eq!(rt; found, (true, 16, Some(12), Some(15)));
 }
