@@ -4,7 +4,8 @@
 //!   payload of a type of its own. Worked examples of attributes, messages, constants, groups, resolvers and the
 //!   router stand in crates of tests of their own, which use the same paths.
 //! - [`conversations`]: conversations with a kernel. [`talk`]: how one is played. [`store`]: what is kept meanwhile.
-//! - [`readme`], [`tour`]: the examples of the README and of the page of `neli`, line by line.
+//! - [`readme`], [`tour`], [`pages`]: the examples of the README, of the page of `neli`, and of the pages on
+//!   attributes, the router and groups, line by line.
 //! - [`support`]: what the tests share.
 //!
 //! The layouts are those of RFC 3549 section 2.3.2, of linux/netlink.h, linux/genetlink.h, linux/rtnetlink.h and
@@ -16,6 +17,8 @@
 mod bodies;
 #[cfg(test)]
 mod conversations;
+#[cfg(test)]
+mod pages;
 #[cfg(test)]
 mod readme;
 #[cfg(test)]

@@ -1,0 +1,115 @@
+//! The examples of the pages of docs on attributes, the router and groups, line by line.
+
+use crate::support::{assert_written, bytes_of};
+use neli::ToBytes;
+use neli::consts::genl::{CtrlAttr, CtrlAttrMcastGrp, Index, NlAttrType};
+use neli::genl::{AttrType, Nlattr, NlattrBuilder, NlattrBuilderError};
+use neli::nl::Nlmsghdr;
+use neli::types::Buffer;
+use neli::utils::Groups;
+use std::alloc::Global;
+use std::test::Fail;
+
+/// A generic attribute without flags.
+pub fn generic<T: NlAttrType, P: ToBytes + Drop>(
+    alloc: Global,
+    kind: T,
+    payload: P,
+) -> Result<Nlattr<T, Buffer>, NlattrBuilderError> {
+    NlattrBuilder::default()
+        .nla_type(AttrType::from(kind.to_number()))
+        .nla_payload(payload)
+        .build(alloc)
+}
+
+/// The groups of a family: one, made from the inside out.
+fn groups_of_a_family(alloc: Global) -> Result<Nlattr<CtrlAttr, Buffer>, Fail> {
+    let group = generic(alloc, Index::from(1), ())?
+        .nest(&generic(alloc, CtrlAttrMcastGrp::Name, "notify")?)?
+        .nest(&generic(alloc, CtrlAttrMcastGrp::Id, 5u32)?)?;
+    let groups = generic(alloc, CtrlAttr::McastGroups, ())?.nest(&group)?;
+    Ok(groups)
+}
+
+#[test]
+fn nested_attributes(rt: HostRuntime) -> Result<(), Fail> {
+    let groups = groups_of_a_family(rt.alloc())?;
+    let want = "1c000780180001800b0001006e6f7469667900000800020005000000";
+    assert_written(&rt, rt.alloc(), "groups", &groups, want);
+    Ok(())
+}
+
+/// A request to the controller of generic netlink, and the first reply of a datagram.
+fn first_reply(
+    alloc: Global,
+    port: u32,
+    payload: Buffer,
+    datagram: &[u8],
+) -> Result<(Vec<u8>, Option<Nlmsghdr<u16, Buffer>>), Fail> {
+    use neli::consts::nl::{GenlId, NlmF};
+    use neli::nl::NlPayload;
+    use neli::router::synchronous::{Log, NlRouter, Reply};
+    use neli::types::Buffer;
+    use neli::utils::Groups;
+
+    let (mut router, _multicast) = NlRouter::<Log>::new(alloc, port);
+    let body = NlPayload::Payload(payload);
+    let (request, mut handle) = router.send::<_, _, u16, Buffer>(
+        alloc,
+        GenlId::Ctrl,
+        NlmF::ACK,
+        body,
+    )?;
+    // Your link sends `request`, and `datagram` comes back.
+    router.processing_loop(datagram, &Groups::empty(alloc))?;
+    let reply = match router.next_typed::<u16, Buffer, _, _>(alloc, &mut handle)? {
+        Reply::Item(Ok(message)) => Some(message), // the next reply
+        Reply::Item(Err(error)) => return Err(error.into()), // an error, a stray, a fault: the last item
+        Reply::End => None, // no item comes any more
+        Reply::Waits => None, // none is here yet
+    };
+    router.close(handle);
+    Ok((request, reply))
+}
+
+// The controller is asked for `nlctrl`, and tells the number 16.
+#[test]
+fn the_first_reply_of_a_datagram(rt: HostRuntime) -> Result<(), Fail> {
+    let alloc = rt.alloc();
+    let payload = bytes_of(&rt, alloc, "030200000b0002006e6c6374726c0000");
+    let datagram = bytes_of(
+        &rt,
+        alloc,
+        "1c000000100000000000000000000000010200000600010010000000",
+    );
+    let (request, reply) = first_reply(alloc, 0, Buffer::from(payload), &datagram)?;
+    let want = bytes_of(
+        &rt,
+        alloc,
+        "20000000100005000000000000000000030200000b0002006e6c6374726c0000",
+    );
+    let reply = reply.expect(&rt, "a reply");
+    let told = reply.get_payload().map(|body| body.as_ref());
+    assert_eq!(rt;
+        (request.as_slice(), told),
+        (want.as_slice(), datagram.get(16..))
+    );
+    Ok(())
+}
+
+/// Groups that are added and removed.
+fn groups(alloc: Global) -> Result<Groups, Fail> {
+    use neli::utils::Groups;
+
+    let mut groups = Groups::new_bitmask(alloc, 0x8000_0001)?; // 1, 32
+    groups.add_groups(&[40, 1])?; // 1, 32, 40
+    groups.remove_bitmask(1); // 32, 40
+    Ok(groups)
+}
+
+#[test]
+fn groups_come_and_go(rt: HostRuntime) -> Result<(), Fail> {
+    let groups = groups(rt.alloc())?.into_groups();
+    assert_eq!(rt; groups.as_slice(), [32, 40].as_slice());
+    Ok(())
+}
