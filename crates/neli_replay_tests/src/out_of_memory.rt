@@ -2,37 +2,14 @@
 //! the whole report or that memory ran out, and the status says which.
 
 use crate::answers::ACKNOWLEDGED;
+use crate::writers::Kept;
 use neli_log::Log;
 use neli_queues::Queues;
 use neli_replay::replay::replay;
 use neli_router::Deliveries;
 use neli_tool_base::status::Status;
 use std::alloc::Global;
-use std::io;
-use std::io::Write;
 use std::process::Abort;
-
-/// A writer that keeps a byte at each call, without taking memory.
-#[derive(Drop)]
-struct Kept {
-    bytes: [u8; 256],
-    count: usize,
-}
-
-impl Write for Kept {
-    fn write(&mut self, buf: &[u8]) -> io::Result<usize> {
-        if buf.is_empty() || self.count >= 256 {
-            return Ok(0);
-        }
-        self.bytes[self.count] = buf[0];
-        self.count += 1;
-        Ok(1)
-    }
-
-    fn flush(&mut self) -> io::Result<()> {
-        Ok(())
-    }
-}
 
 /// Asserts that the script is answered over deliveries that are kept in a `D`, or that memory ran out.
 fn answers_or_out_of_memory<D: Deliveries + Drop, R: Abort>(rt: &R, alloc: Global) {

@@ -1,36 +1,11 @@
 //! Outputs and inputs that fail.
 
+use crate::writers::Narrow;
 use neli_queues::Queues;
 use neli_replay::replay::replay;
 use neli_tool_base::status::Status;
 use std::io;
-use std::io::{ErrorKind, Read, Write};
-
-/// A writer that takes so many bytes and then fails, and of which a flush may fail.
-#[derive(Drop)]
-struct Narrow {
-    room: usize,
-    flushes: bool,
-}
-
-impl Write for Narrow {
-    fn write(&mut self, buf: &[u8]) -> io::Result<usize> {
-        if self.room == 0 {
-            return Err(io::Error::from(ErrorKind::StorageFull));
-        }
-        let count = buf.len().min(self.room);
-        self.room -= count;
-        Ok(count)
-    }
-
-    fn flush(&mut self) -> io::Result<()> {
-        if self.flushes {
-            Ok(())
-        } else {
-            Err(io::Error::from(ErrorKind::StorageFull))
-        }
-    }
-}
+use std::io::{ErrorKind, Read};
 
 /// A reader that gives its bytes, and fails where they end.
 #[derive(Drop)]

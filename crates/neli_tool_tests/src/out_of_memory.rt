@@ -3,10 +3,9 @@
 
 use crate::support::assert_is;
 use neli_queues::Queues;
+use neli_replay_tests::writers::Kept;
 use neli_tool_base::status::Status;
 use neli_tool_run::run::run;
-use std::io;
-use std::io::Write;
 
 /// Three messages: type 16 without a payload, type 1024 with the payload `61`, type 16 without a payload.
 const THREE: [u8; 52] = [
@@ -14,28 +13,6 @@ const THREE: [u8; 52] = [
     0x11, 0, 0, 0, 0, 4, 0, 0, 0, 0, 0, 0, 0, 0, 0, 0, 0x61, 0xff, 0xff, 0xff, //
     0x10, 0, 0, 0, 0x10, 0, 0, 0, 6, 0, 0, 0, 7, 0, 0, 0,
 ];
-
-/// A writer that keeps a byte at each call, without taking memory.
-#[derive(Drop)]
-struct Kept {
-    bytes: [u8; 256],
-    count: usize,
-}
-
-impl Write for Kept {
-    fn write(&mut self, buf: &[u8]) -> io::Result<usize> {
-        if buf.is_empty() || self.count >= 256 {
-            return Ok(0);
-        }
-        self.bytes[self.count] = buf[0];
-        self.count += 1;
-        Ok(1)
-    }
-
-    fn flush(&mut self) -> io::Result<()> {
-        Ok(())
-    }
-}
 
 #[test]
 fn listed_or_out_of_memory(rt: HostRuntime) {

@@ -1,36 +1,9 @@
 //! Outputs that fail.
 
 use crate::support::{assert_is_at, decoded};
+use neli_replay_tests::writers::Narrow;
 use neli_tool_base::listing::{list, out_of_memory};
 use neli_tool_base::status::Status;
-use std::io;
-use std::io::{ErrorKind, Write};
-
-/// A writer that takes so many bytes and then fails, and of which a flush may fail.
-#[derive(Drop)]
-pub struct Narrow {
-    pub room: usize,
-    pub flushes: bool,
-}
-
-impl Write for Narrow {
-    fn write(&mut self, buf: &[u8]) -> io::Result<usize> {
-        if self.room == 0 {
-            return Err(io::Error::from(ErrorKind::StorageFull));
-        }
-        let count = buf.len().min(self.room);
-        self.room -= count;
-        Ok(count)
-    }
-
-    fn flush(&mut self) -> io::Result<()> {
-        if self.flushes {
-            Ok(())
-        } else {
-            Err(io::Error::from(ErrorKind::StorageFull))
-        }
-    }
-}
 
 #[test]
 fn a_listing_that_is_not_written_is_no_output(rt: HostRuntime) {

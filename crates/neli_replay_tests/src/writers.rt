@@ -1,0 +1,52 @@
+//! Writers that take little at a time, or fail.
+
+use std::io;
+use std::io::{ErrorKind, Write};
+
+/// A writer that keeps a byte at each call, 256 in all, without taking memory.
+#[derive(Drop)]
+pub struct Kept {
+    pub bytes: [u8; 256],
+    pub count: usize,
+}
+
+impl Write for Kept {
+    fn write(&mut self, buf: &[u8]) -> io::Result<usize> {
+        if buf.is_empty() || self.count >= 256 {
+            return Ok(0);
+        }
+        self.bytes[self.count] = buf[0];
+        self.count += 1;
+        Ok(1)
+    }
+
+    fn flush(&mut self) -> io::Result<()> {
+        Ok(())
+    }
+}
+
+/// A writer that takes so many bytes and then fails, and of which a flush may fail.
+#[derive(Drop)]
+pub struct Narrow {
+    pub room: usize,
+    pub flushes: bool,
+}
+
+impl Write for Narrow {
+    fn write(&mut self, buf: &[u8]) -> io::Result<usize> {
+        if self.room == 0 {
+            return Err(io::Error::from(ErrorKind::StorageFull));
+        }
+        let count = buf.len().min(self.room);
+        self.room -= count;
+        Ok(count)
+    }
+
+    fn flush(&mut self) -> io::Result<()> {
+        if self.flushes {
+            Ok(())
+        } else {
+            Err(io::Error::from(ErrorKind::StorageFull))
+        }
+    }
+}
