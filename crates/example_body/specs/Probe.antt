@@ -1,8 +1,8 @@
 -- Probes: their bytes, and what their builder makes.
 use Rattle.std.specs.Prelude.{codes, unwrap_or, Ok}
-use Rattle.neli_wire.specs.Numbers.{little_bytes}
-use Rattle.neli_wire.specs.Writing.{Wire, ◌+++◌}
-use Rattle.neli_attr.specs.Builders.{Outcome, require_field}
+use Rattle.neli.specs.wire.Numbers.{little_bytes}
+use Rattle.neli.specs.wire.Writing.{Wire, ◌+++◌}
+use Rattle.neli.specs.attr.Builders.{Outcome, require_field}
 use Rattle.example_body.specs.declared.probe.Probe.{Probe}
 use Rattle.example_body.specs.declared.probe.ProbeBuilder.{ProbeBuilder}
 

@@ -1,10 +1,10 @@
 -- A port and its levels on the wire.
 use Rattle.std.specs.Prelude.{ℕ, ◌+◌, ◌<◌, List, Ok, Result, length, sum_by}
-use Rattle.neli_wire.specs.Numbers.{little_bytes}
-use Rattle.neli_wire.specs.DeError.{DeError}
-use Rattle.neli_wire.specs.Reading.{◌>>=◌, IfRead, number_at, map_refusal, refusal_within}
-use Rattle.neli_wire.specs.laws.Elements.{elements}
-use Rattle.neli_wire.specs.Writing.{Wire, ◌+++◌, wire_all}
+use Rattle.neli.specs.wire.Numbers.{little_bytes}
+use Rattle.neli.specs.wire.DeError.{DeError}
+use Rattle.neli.specs.wire.Reading.{◌>>=◌, IfRead, number_at, map_refusal, refusal_within}
+use Rattle.neli.specs.wire.laws.Elements.{elements}
+use Rattle.neli.specs.wire.Writing.{Wire, ◌+++◌, wire_all}
 use Rattle.example_body.specs.declared.watch.Watch.{Watch}
 
 -- what is seen of a watch

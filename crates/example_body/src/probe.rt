@@ -1,14 +1,14 @@
 //! A body with a builder: a probe of a port.
 
 ghost use Rattle.std.specs.Prelude.{◌≡◌, ◌+◌, Some, None, Ok, IfOk, IfErr, OnOk, OnErr, length, take};
-ghost use Rattle.neli_wire.specs.Writing.{RefusesWrite, append_wire};
-ghost use Rattle.neli_attr.specs.Builders.{IsWhyNot};
+ghost use Rattle.neli.specs.wire.Writing.{RefusesWrite, append_wire};
+ghost use Rattle.neli.specs.attr.Builders.{IsWhyNot};
 ghost use Rattle.example_body.specs.Probe.{probe_wire, built_probe};
 ghost use Rattle.example_body.specs.laws.Probe.{probe_wire-length, probe_wire-no_memory};
 
-use neli_attr::BuildError;
-use neli_wire::implementing::undo_on_refusal;
-use neli_wire::{Header, SerError, Size, ToBytes, UninitializedFieldError};
+use neli::err::{BuildError, SerError, UninitializedFieldError};
+use neli::implementing::undo_on_refusal;
+use neli::{Header, Size, ToBytes};
 
 /// The size of a probe's header, in bytes.
 const HEADER_SIZE: usize = 4;
@@ -63,7 +63,7 @@ impl<P> Probe<P> {
 }
 
 impl<P: Size> Size for Probe<P> {
-    ghost use Rattle.neli_wire.specs.laws.Sizes.{unpadded-rounded};
+    ghost use Rattle.neli.specs.wire.laws.Sizes.{unpadded-rounded};
 
     ghost unpadded_length = { λ p. 4 + P.wire_length p.payload };
 
@@ -81,7 +81,7 @@ impl<P: Size> Size for Probe<P> {
 }
 
 /// Appends the header's fields and the payload. A refusal leaves some of them after what was there.
-#[tactic(auto, using(neli_wire::specs::laws::Writing::append_wire_both))]
+#[tactic(auto, using(neli::specs::laws::Writing::append_wire_both))]
 fn write_fields<P: ToBytes>(probe: &Probe<P>, buffer: &mut Vec<u8>) -> Result<(), SerError>
     ensures appended { OnOk result (append_wire buffer.old.items (probe_wire P.wire probe.now)
         ≡ Ok buffer.new.items) }
@@ -96,7 +96,7 @@ fn write_fields<P: ToBytes>(probe: &Probe<P>, buffer: &mut Vec<u8>) -> Result<()
 }
 
 impl<P: ToBytes> ToBytes for Probe<P> {
-    ghost use Rattle.neli_wire.specs.laws.Sizes.{unpadded-zeros};
+    ghost use Rattle.neli.specs.wire.laws.Sizes.{unpadded-zeros};
 
     ghost wire = { probe_wire P.wire };
 

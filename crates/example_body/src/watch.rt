@@ -1,14 +1,15 @@
 //! A port and the levels that are watched there.
 
 ghost use Rattle.std.specs.Prelude.{◌≡◌, ◌+◌, ◌<◌, ℕ, List, Ok, Err, IfOk, IfErr, OnOk, OnErr, length, take};
-ghost use Rattle.neli_wire.specs.Place.{whole};
-ghost use Rattle.neli_wire.specs.Refusals.{Refuses};
-ghost use Rattle.neli_wire.specs.Writing.{RefusesWrite, append_wire};
+ghost use Rattle.neli.specs.wire.Place.{whole};
+ghost use Rattle.neli.specs.wire.Refusals.{Refuses};
+ghost use Rattle.neli.specs.wire.Writing.{RefusesWrite, append_wire};
 ghost use Rattle.example_body.specs.Watch.{Seen, seen, watch_wire, watch_size, watch_fields, watch_takes, watch_of};
 ghost use Rattle.example_body.specs.laws.Watch.{watch_wire-length, watch_wire-no_memory, watch_of-no_memory, watch_of-never_short};
 
-use neli_wire::implementing::{read_all, undo_on_refusal, within_input};
-use neli_wire::{Cursor, DeError, FromBytes, FromBytesWithInput, SerError, Size, ToBytes};
+use neli::err::{DeError, SerError};
+use neli::implementing::{read_all, undo_on_refusal, within_input};
+use neli::{Cursor, FromBytes, FromBytesWithInput, Size, ToBytes};
 use std::alloc::Global;
 
 /// A port and the levels that are watched there: 2 bytes, and then 4 for each level.
@@ -20,7 +21,7 @@ pub struct Watch {
 
 impl Size for Watch {
     ghost use Rattle.example_body.specs.Watch.{watch_size};
-    ghost use Rattle.neli_wire.specs.laws.Sizes.{unpadded-rounded};
+    ghost use Rattle.neli.specs.wire.laws.Sizes.{unpadded-rounded};
 
     ghost unpadded_length = { watch_size };
 
@@ -40,7 +41,7 @@ impl Size for Watch {
 }
 
 /// Appends the port and the levels. A refusal leaves some of them after what was there.
-#[tactic(auto, using(neli_wire::specs::laws::Writing::append_wire_both))]
+#[tactic(auto, using(neli::specs::laws::Writing::append_wire_both))]
 fn write_fields(watch: &Watch, buffer: &mut Vec<u8>) -> Result<(), SerError>
     ensures appended { OnOk result (append_wire buffer.old.items (watch_wire watch.now)
         ≡ Ok buffer.new.items) }
@@ -53,7 +54,7 @@ fn write_fields(watch: &Watch, buffer: &mut Vec<u8>) -> Result<(), SerError>
 }
 
 impl ToBytes for Watch {
-    ghost use Rattle.neli_wire.specs.laws.Sizes.{unpadded-zeros};
+    ghost use Rattle.neli.specs.wire.laws.Sizes.{unpadded-zeros};
 
     ghost wire = { watch_wire };
 
@@ -72,7 +73,7 @@ impl ToBytes for Watch {
 }
 
 /// The port and the levels that all of the bytes spell.
-#[tactic(auto, using(neli_wire::specs::laws::Reading::refused_first), unfolding(crate::specs::Watch::watch_fields, crate::specs::Watch::watch_takes))]
+#[tactic(auto, using(neli::specs::laws::Reading::refused_first), unfolding(crate::specs::Watch::watch_fields, crate::specs::Watch::watch_takes))]
 fn read_fields(alloc: Global, bytes: &[u8]) -> Result<Watch, DeError>
     ensures value { IfOk result (λ w. watch_fields bytes.now ≡ Ok (seen w)) }
     ensures refused { IfErr result (Refuses (watch_fields bytes.now) (watch_takes bytes.now)) }

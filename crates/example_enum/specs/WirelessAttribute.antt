@@ -1,6 +1,6 @@
 -- The numbers of `WirelessAttribute`.
 use Rattle.std.specs.Prelude.{ℕ, List, [], ◌∷◌}
-use Rattle.neli_wire.specs.Constants.{first_with}
+use Rattle.neli.specs.wire.Constants.{first_with}
 use Rattle.example_enum.specs.declared.attribute.WirelessAttribute.{WirelessAttribute}
 use Rattle.example_enum.specs.declared.attribute.WirelessAttribute.TheVariants.{Ifindex, Ifname, Mac, UnrecognizedConst}
 

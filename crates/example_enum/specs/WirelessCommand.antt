@@ -1,6 +1,6 @@
 -- The numbers of `WirelessCommand`.
 use Rattle.std.specs.Prelude.{ℕ, List, [], ◌∷◌}
-use Rattle.neli_wire.specs.Constants.{first_with}
+use Rattle.neli.specs.wire.Constants.{first_with}
 use Rattle.example_enum.specs.declared.command.WirelessCommand.{WirelessCommand}
 use Rattle.example_enum.specs.declared.command.WirelessCommand.TheVariants.{GetInterface, NewInterface, GetScan, TriggerScan, UnrecognizedConst}
 

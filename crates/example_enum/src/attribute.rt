@@ -2,10 +2,10 @@
 
 ghost use Rattle.std.proofs.Common.{rules};
 ghost use Rattle.example_enum.specs.WirelessAttribute.{wireless_attribute_number, wireless_attribute_of};
-ghost use Rattle.neli_wire.specs.laws.Constants.{first_with-number};
+ghost use Rattle.neli.specs.wire.laws.Constants.{first_with-number};
 
-use neli_consts::NlAttrType;
-use neli_wire::Constant;
+use neli::consts::Constant;
+use neli::consts::genl::NlAttrType;
 
 /// Attributes of wireless links: `NL80211_ATTR_*` of `linux/nl80211.h`, a few of them.
 #[derive(Clone, Copy, Debug, PartialEq, Eq)]

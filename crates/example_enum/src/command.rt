@@ -2,10 +2,10 @@
 
 ghost use Rattle.std.proofs.Common.{rules};
 ghost use Rattle.example_enum.specs.WirelessCommand.{wireless_command_number, wireless_command_of};
-ghost use Rattle.neli_wire.specs.laws.Constants.{first_with-number};
+ghost use Rattle.neli.specs.wire.laws.Constants.{first_with-number};
 
-use neli_consts::Cmd;
-use neli_wire::Constant;
+use neli::consts::Constant;
+use neli::consts::genl::Cmd;
 
 /// Commands of wireless links: `NL80211_CMD_*` of `linux/nl80211.h`, a few of them.
 #[derive(Clone, Copy, Debug, PartialEq, Eq)]

@@ -2,8 +2,8 @@
 //! commands and attributes of `nl80211`, the kernel's family for wireless links.
 //! `docs/EXTENDING.md` explains it.
 //!
-//! - `command`: an enum of commands, a [`neli_consts::Cmd`]
-//! - `attribute`: an enum of attributes, a [`neli_consts::NlAttrType`]
+//! - `command`: an enum of commands, a [`neli::consts::genl::Cmd`]
+//! - `attribute`: an enum of attributes, a [`neli::consts::genl::NlAttrType`]
 #![tactic(auto)]
 
 mod attribute;

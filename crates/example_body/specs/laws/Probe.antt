@@ -1,11 +1,11 @@
 -- Laws of probes, from those of their payloads.
 use Rattle.std.proofs.Common.{◌≡◌, ◌≢◌, ℕ, ◌+◌, List, ◌++◌, length, Ok, Err, ap, arith, length-append}
-use Rattle.neli_wire.specs.Numbers.{little_bytes}
-use Rattle.neli_wire.specs.laws.Numbers.{count-unsigned}
-use Rattle.neli_wire.specs.laws.Lists.{both_written, both-no_memory}
-use Rattle.neli_wire.specs.Writing.{Wire}
-use Rattle.neli_wire.specs.laws.Writing.{written-length, written-no_memory}
-use Rattle.neli_wire.specs.SerError.TheVariants.{Memory}
+use Rattle.neli.specs.wire.Numbers.{little_bytes}
+use Rattle.neli.specs.wire.laws.Numbers.{count-unsigned}
+use Rattle.neli.specs.wire.laws.Lists.{both_written, both-no_memory}
+use Rattle.neli.specs.wire.Writing.{Wire}
+use Rattle.neli.specs.wire.laws.Writing.{written-length, written-no_memory}
+use Rattle.neli.specs.wire.SerError.TheVariants.{Memory}
 use Rattle.example_body.specs.declared.probe.Probe.{Probe}
 use Rattle.example_body.specs.Probe.{probe_wire}
 

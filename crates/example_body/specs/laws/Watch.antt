@@ -1,16 +1,16 @@
 -- Laws of a watch, from those of its fields.
 use Rattle.std.proofs.Common.{◌≡◌, ◌≢◌, ℕ, List, length, Ok, Err, ap, arith, length-append}
-use Rattle.neli_wire.specs.Numbers.{little_bytes}
-use Rattle.neli_wire.specs.laws.Lists.{both_written, both-no_memory, wire_all-length, wire_all-no_memory, elements-no_memory, map_refusal-no_memory, map_refusal-never_short}
-use Rattle.neli_wire.specs.laws.Numbers.{count-unsigned}
-use Rattle.neli_wire.specs.Bytes.{short}
-use Rattle.neli_wire.specs.Reading.{number_at}
-use Rattle.neli_wire.specs.laws.Elements.{elements}
-use Rattle.neli_wire.specs.laws.Reading.{bind-not, number_at-no_memory}
-use Rattle.neli_wire.specs.Writing.{wire_all}
-use Rattle.neli_wire.specs.laws.Writing.{written-length, written-no_memory}
-use Rattle.neli_wire.specs.DeError.TheVariants.{Memory}
-use Rattle.neli_wire.specs.SerError.TheVariants as ser
+use Rattle.neli.specs.wire.Numbers.{little_bytes}
+use Rattle.neli.specs.wire.laws.Lists.{both_written, both-no_memory, wire_all-length, wire_all-no_memory, elements-no_memory, map_refusal-no_memory, map_refusal-never_short}
+use Rattle.neli.specs.wire.laws.Numbers.{count-unsigned}
+use Rattle.neli.specs.wire.Bytes.{short}
+use Rattle.neli.specs.wire.Reading.{number_at}
+use Rattle.neli.specs.wire.laws.Elements.{elements}
+use Rattle.neli.specs.wire.laws.Reading.{bind-not, number_at-no_memory}
+use Rattle.neli.specs.wire.Writing.{wire_all}
+use Rattle.neli.specs.wire.laws.Writing.{written-length, written-no_memory}
+use Rattle.neli.specs.wire.DeError.TheVariants.{Memory}
+use Rattle.neli.specs.wire.SerError.TheVariants as ser
 use Rattle.example_body.specs.declared.watch.Watch.{Watch}
 use Rattle.example_body.specs.Watch.{level_wire, watch_wire, watch_size, watch_fields, watch_of}
 

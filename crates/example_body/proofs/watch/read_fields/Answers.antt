@@ -1,9 +1,9 @@
 use Rattle.std.proofs.Common.{◌<◌, length, refl, Ok}
 use Rattle.std.proofs.lemmas.List.{map-id}
 use Rattle.std.proofs.lemmas.Result.{err_from_is_err_and}
-use Rattle.neli_wire.specs.Reading.{number_at}
-use Rattle.neli_wire.specs.laws.Elements.{elements}
-use Rattle.neli_wire.specs.laws.Reading.{refused_first}
+use Rattle.neli.specs.wire.Reading.{number_at}
+use Rattle.neli.specs.wire.laws.Elements.{elements}
+use Rattle.neli.specs.wire.laws.Reading.{refused_first}
 use Rattle.example_body.specs.Watch.{watch_fields, watch_takes}
 use Rattle.example_body.proofs.watch.read_fields.Goals as goal
 
