@@ -18,6 +18,7 @@ use Rattle.neli_places.proofs.Pops.{b_or, found_from}
 use Rattle.neli_places.proofs.Waits.{eqb_refl, eqb_same}
 use Rattle.std.specs.Map.{lookup}
 use Rattle.std.proofs.Common.{length-append, length-drop}
+use Rattle.neli_places.proofs.Changes.{drop_end}
 use Rattle.neli_places.proofs.Nexts.{found_none, slice_get_drop, slice_get_end, own_unshared}
 use Rattle.std.proofs.lemmas.List.{drop-append-le, take-append-le}
 use Rattle.neli_places.specs.Places.{with_last, links_with}
@@ -62,12 +63,6 @@ get_set_other (y ∷ l) zero zero x h = absurd (h refl)
 get_set_other (y ∷ l) zero (suc j) x h = refl
 get_set_other (y ∷ l) (suc i) zero x h = refl
 get_set_other (y ∷ l) (suc i) (suc j) x h = get_set_other l i j x (λ e. h (ap suc e))
-
-drop_end : {T : Type 0} (es : List (Entry T)) (n : ℕ) → length es ≤ n → drop n es ≡ []
-drop_end [] zero h = refl
-drop_end [] (suc n) h = refl
-drop_end (e ∷ es) zero h = absurd (omega arith)
-drop_end (e ∷ es) (suc n) h = drop_end es n (omega arith)
 
 long_push : {T : Type 0} (es : List (Entry T)) (e : Entry T) → length (es ++ e ∷ []) ≡ length es + 1
 long_push [] e = omega arith

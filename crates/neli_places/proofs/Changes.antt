@@ -14,6 +14,7 @@ use Rattle.neli_places.specs.Routes.{is_shared, shared_positions, shared_count}
 use Rattle.neli_places.specs.Places.{IsPlace, IsSeen, AreSound, BeginsAwaited, standing_at, waiting_count}
 use Rattle.neli_places.proofs.Pops.{b_or}
 use Rattle.neli_places.proofs.Waits.{eqb_refl, eqb_same, lookup_counts}
+use Rattle.neli_places.proofs.Nexts.{slice_get_end}
 use Rattle.std.specs.HashMap.{HashMap, PutsEntry, get, values}
 use Rattle.std.specs.List.Sorted.{IsPermutation}
 use Rattle.std.specs.Map.{remove_entry}
@@ -141,7 +142,7 @@ removed place place' n none some (Some q) p is = elim (b_or (nat_eq n q)) [
 ]
 
 -- a new place after the last entry
-drop_end : {T : Type 0} (es : List (Entry T)) (n : ℕ) → length es ≤ n → drop n es ≡ []
+pub drop_end : {T : Type 0} (es : List (Entry T)) (n : ℕ) → length es ≤ n → drop n es ≡ []
 drop_end [] zero h = refl
 drop_end [] (suc n) h = refl
 drop_end (e ∷ es) zero h = absurd (omega arith)
@@ -152,11 +153,6 @@ take_end [] zero h = refl
 take_end [] (suc n) h = refl
 take_end (e ∷ es) zero h = absurd (omega arith)
 take_end (e ∷ es) (suc n) h = ap (λ l. e ∷ l) (take_end es n (omega arith))
-
-slice_get_end : {A : Type 0} (es : List A) (i : ℕ) (e : A) → slice_get es i ≡ Some e → i < length es
-slice_get_end [] i e h = cc
-slice_get_end (x ∷ es) zero e h = omega arith
-slice_get_end (x ∷ es) (suc i) e h = let f = slice_get_end es i e h in omega arith
 
 pub positions_count : {T : Type 0} (n : ℕ) (es : List (Entry T)) → length (shared_positions n es) ≡ shared_count es
 positions_count n [] = refl

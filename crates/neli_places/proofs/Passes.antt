@@ -48,10 +48,6 @@ count_one (suc b) (x ∷ es) e at it h =
     let off : is_shared x.route ≡ false = h 0 x (omega arith) refl in
     rw off (count_one b es e at it (λ j y lt there. h (suc j) y (omega arith) there))
 
--- the two tests of an entry that goes to a list
-pub own_of_to : (w : Option ℕ) (r : Route) → leads w r ≡ false → leads_only w r ≡ false
-own_of_to = not_own
-
 upto : {T : Type 0} (p : Route → Bool) (i : ℕ) (l : List (Entry T)) (e : Entry T) → slice_get l i ≡ Some e → p e.route ≡ false → ((j : ℕ) (x : Entry T) → j < i → slice_get l j ≡ Some x → p x.route ≡ false) → (j : ℕ) (x : Entry T) → j < suc i → slice_get l j ≡ Some x → p x.route ≡ false
 upto p i l e at off before j x lt there = elim (cases_lt j i) [
   | inl less ↦ before j x less there

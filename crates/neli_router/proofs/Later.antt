@@ -1,5 +1,5 @@
 -- What comes later adds deliveries alone, and takes no answer back.
-use Rattle.std.proofs.Common.{ℕ, ◌≡◌, ◌≢◌, Bool, List, [], ◌∷◌, ◌++◌, Result, sym, ap, ◌∙◌, absurd, append_assoc, tt}
+use Rattle.std.proofs.Common.{ℕ, ◌≡◌, ◌≢◌, Bool, List, [], ◌∷◌, ◌++◌, Result, sym, ap, ◌∙◌, absurd, append_assoc}
 use Rattle.std.specs.Prelude.{if◌then◌else◌}
 use Rattle.std.proofs.lemmas.List.{append-nil}
 use Rattle.neli_wire.specs.DeError.{DeError}
@@ -9,8 +9,9 @@ use Rattle.neli_router_base.specs.declared.reply.Reply.{Reply}
 use Rattle.neli_router_base.specs.declared.reply.Reply.TheVariants as reply
 use Rattle.neli_router.specs.Deliveries.{deliveries, gain}
 use Rattle.neli_router.specs.History.{History, is_live}
-use Rattle.neli_router.specs.Outcomes.{AreReadings, IsNextAnswer}
+use Rattle.neli_router.specs.Outcomes.{IsNextAnswer}
 use Rattle.neli_router.specs.laws.Deliveries.{deliveries-more}
+use Rattle.neli_router.proofs.Readings.{readings_append}
 
 module _ {ST SP RT RP : Type 0} (port k : ℕ) where
   pub deliveries-later : (before later : History ST SP RT RP) → (more : List Delivery) × (deliveries port k (later ++ before) ≡ deliveries port k before ++ more)
@@ -21,12 +22,7 @@ module _ {ST SP RT RP : Type 0} (port k : ℕ) where
       (first.0 ++ last, deliveries-more port k e (later ++ before) ∙ ap (λ ds. ds ++ last) first.1 ∙ append_assoc (deliveries port k before) first.0 last)
 
 module _ {K P V : Type 0} (type_of : ℕ → K) (number_of : K → ℕ) (view : P → V) (size : P → ℕ) (read : List ℕ → Result V DeError) where
-  readings-more : (ds more : List Delivery) (items : List (Item K P)) → AreReadings type_of view size read ds items → AreReadings type_of view size read (ds ++ more) items
-  readings-more ds more [] h = tt
-  readings-more [] more (item ∷ items) h = absurd h
-  readings-more (d ∷ ds) more (item ∷ items) h = (h.0, readings-more ds more items h.1)
-
   -- an answer other than a wait stays with more deliveries
   pub answer-more : (needs numbered : Bool) (ds more : List Delivery) (given : List (Item K P)) (r : Reply K P) → r ≢ reply.Waits
       → IsNextAnswer type_of number_of view size read needs numbered ds given r → IsNextAnswer type_of number_of view size read needs numbered (ds ++ more) given r
-  answer-more needs numbered ds more given r other h = (h.0, readings-more ds more h.0 h.1, h.2, h.3, λ waits. absurd (other waits))
+  answer-more needs numbered ds more given r other h = (h.0, readings_append type_of view size read ds more h.0 h.1, h.2, h.3, λ waits. absurd (other waits))

@@ -7,10 +7,10 @@ use Rattle.std.proofs.lemmas.Bool.Decides.{nat_tests}
 use Rattle.neli_wire.specs.DeError.{DeError}
 use Rattle.neli_consts.specs.declared.nlm_f.NlmF.{NlmF}
 use Rattle.neli_msg.specs.Agreement.{untyped_layout}
-use Rattle.neli_msg.specs.Cuts.{Cut, cut_of}
+use Rattle.neli_msg.specs.Cuts.{cut_of}
 use Rattle.neli_msg.specs.NlPayload.{NlPayload}
 use Rattle.neli_deliveries.specs.declared.delivery.Delivery.{Delivery}
-use Rattle.neli_deliveries.specs.Deliveries.{Untyped, fault_share, message_to, messages_to, datagram_share}
+use Rattle.neli_deliveries.specs.Deliveries.{fault_share, datagram_share}
 use Rattle.neli_deliveries.specs.Readings.{IsReading, Item}
 use Rattle.neli_router_base.specs.declared.handle.HandleState.{HandleState}
 use Rattle.neli_router_base.specs.declared.reply.Reply.TheVariants as reply
@@ -24,6 +24,7 @@ use Rattle.neli_router.specs.History.{History, any_upto, base, is_closed, is_liv
 use Rattle.neli_router.specs.Outcomes.{is_numbered}
 use Rattle.neli_router.specs.laws.Deliveries.{delivered}
 use Rattle.neli_router.specs.laws.Kept.{Agrees, IsFresh, IsKept, IsOwned, IsSlot, Pending, multicast}
+use Rattle.neli_router.proofs.Alike.{received_same}
 use Rattle.neli_router.proofs.Places.{lt_zero}
 use Rattle.neli_router.proofs.Readings.{answer_push, drop_append, drop_rest, drop_within, last_push, length_push, readings_append, readings_push, single_push, were_grow, were_push}
 
@@ -114,20 +115,6 @@ any_true (suc n) p k le e = elim (same_or k n) [
 any_false : (n : ℕ) (p : ℕ → Bool) → ((k : ℕ) → p (suc k) ≡ false) → any_upto n p ≡ false
 any_false zero p none = refl
 any_false (suc n) p none = rw (none n, any_false n p none) refl
-
--- what a datagram hands over is the same where the same numbers are open
-message_same : (port q : ℕ) (test test' : ℕ → Bool) → ((n : ℕ) → test n ≡ test' n) → (m : Untyped) → message_to port test q m ≡ message_to port test' q m
-message_same port q test test' same m = rw (same m.0.sequence_number) refl
-
-messages_same : (port q : ℕ) (test test' : ℕ → Bool) → ((n : ℕ) → test n ≡ test' n) → (ms : List Untyped) → messages_to port test q ms ≡ messages_to port test' q ms
-messages_same port q test test' same [] = refl
-messages_same port q test test' same (m ∷ ms) = rw (message_same port q test test' same m, messages_same port q test test' same ms) refl
-
-received_same : (port : ℕ) (test test' : ℕ → Bool) → ((n : ℕ) → test n ≡ test' n) → (w : Option ℕ) (cut : Cut Untyped) (groups : List ℕ) → datagram_share port test w cut groups ≡ datagram_share port test' w cut groups
-received_same port test test' same None cut [] = refl
-received_same port test test' same None cut (g ∷ groups) = refl
-received_same port test test' same (Some q) cut [] = rw (messages_same port q test test' same cut.0) refl
-received_same port test test' same (Some q) cut (g ∷ groups) = refl
 
 abbrev no_items : {K P : Type 0} → List (Item K P)
 no_items = []
