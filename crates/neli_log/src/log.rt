@@ -1,10 +1,8 @@
 //! The log as a store of deliveries.
 
-ghost use Rattle.std.specs.Prelude.{◌≡◌, ◌↔◌, ◌+◌, ◌≤◌, ℕ, List, [], Option, None, Some, IsOk, OnErr, OnOk};
+ghost use Rattle.std.specs.Prelude.{◌≡◌, ◌↔◌, ℕ, List, [], Option, Some};
 ghost use Rattle.neli_deliveries.specs.declared.delivery.Delivery.{Delivery as Waiting};
-ghost use Rattle.neli_places.specs.declared.entry.Entry.{Entry};
-ghost use Rattle.neli_log.specs.declared.content.Content.{Content};
-ghost use Rattle.neli_log.specs.Log.{IsLeft, Keeps, byte_count, entry_count, pending_of};
+ghost use Rattle.neli_log.specs.Log.{byte_count, entry_count, pending_of};
 
 use crate::store::Store;
 use neli_consts::NlType;
@@ -77,9 +75,7 @@ impl Deliveries for Log {
         self.store.is_open(whose)
     }
 
-    fn open(&mut self, number: u32) -> Result<(), NoMemory>
-        ensures left { IsLeft self.old self.new }
-    {
+    fn open(&mut self, number: u32) -> Result<(), NoMemory> {
         self.store.open(number)
     }
 
@@ -87,20 +83,11 @@ impl Deliveries for Log {
         self.store.close(whose);
     }
 
-    fn datagram(&mut self, bytes: &[u8], groups: &Groups) -> Result<(), NoMemory>
-        ensures kept { OnOk result
-            ((es : List (Entry Content)) × Keeps self.old self.new bytes.now es) }
-        ensures left { OnErr result (IsLeft self.old self.new) }
-    {
+    fn datagram(&mut self, bytes: &[u8], groups: &Groups) -> Result<(), NoMemory> {
         self.store.datagram(bytes, groups)
     }
 
-    fn fault(&mut self, error: SocketError) -> Result<(), NoMemory>
-        ensures unawaited { ((q : ℕ) → pending_of self.old (Some q) ≡ None) → IsOk result }
-        ensures kept { OnOk result ((es : List (Entry Content)) × Keeps self.old self.new [] es) }
-        ensures once { entry_count self.new ≤ 1 + entry_count self.old }
-        ensures left { OnErr result (IsLeft self.old self.new) }
-    {
+    fn fault(&mut self, error: SocketError) -> Result<(), NoMemory> {
         self.store.fault(error)
     }
 
