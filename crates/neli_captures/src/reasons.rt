@@ -78,19 +78,24 @@ fn check_attributes(rt: &impl Abort, row: &Row, reasons: &Reasons) {
     }
 }
 
+fn are_same(found: &str, want: &str) -> bool {
+    found == want
+}
+
 fn check_row(rt: &impl Abort, alloc: Global, row: &Row) {
     let file = row.file;
     let bytes = hex::decode(alloc, row.hex).expect(rt, file);
     let (messages, _) = cut::<u16, Vec<u8>>(alloc, &bytes).expect(rt, file);
     let (code, reasons) = refusal_of(rt, messages.first().expect(rt, file));
     check_attributes(rt, row, reasons);
-    let handle = reasons.get_attr_handle();
-    let text: Option<&str> = handle
-        .get_attr_payload_as_with_len_borrowed(NlmsgerrAttr::Msg)
-        .ok();
-    let found = (code, reasons.len(), text);
-    let want = (row.code, row.attributes.len(), Some(row.text));
+    let found = (code, reasons.len());
+    let want = (row.code, row.attributes.len());
     assert_eq!(rt; found, want, "{file}");
+    let handle = reasons.get_attr_handle();
+    let text: &str = handle
+        .get_attr_payload_as_with_len_borrowed(NlmsgerrAttr::Msg)
+        .expect(rt, file);
+    assert!(rt; are_same(text, row.text), "{file}: {text}");
 }
 
 #[test]
