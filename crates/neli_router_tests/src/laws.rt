@@ -1,8 +1,9 @@
 //! That each law can be called at real types. The calls do nothing when they run.
 
 use neli::router::synchronous::laws::{
-    answers_only_grow, cuts_join, deliveries_only_grow, reads_of_others_change_nothing,
-    reads_of_others_leave_outcomes, regrouping_leaves_deliveries, regrouping_leaves_outcomes,
+    answers_only_grow, cuts_join, deliveries_only_grow, later_commands_leave_answers,
+    reads_of_others_change_nothing, reads_of_others_leave_outcomes, regrouping_leaves_deliveries,
+    regrouping_leaves_outcomes,
 };
 use neli::types::Buffer;
 
@@ -10,6 +11,7 @@ use neli::types::Buffer;
 fn laws_are_called() {
     answers_only_grow::<u16, Buffer>();
     deliveries_only_grow::<u16, Buffer, u16, Buffer>();
+    later_commands_leave_answers::<u16, Buffer, u16, Buffer>();
     reads_of_others_change_nothing::<u16, Buffer, u16, Buffer>();
     reads_of_others_leave_outcomes::<u16, Buffer, u16, Buffer>();
     cuts_join::<u16, Buffer>();
