@@ -1,6 +1,6 @@
 //! Builders: what they make of their fields, and what is missing.
 
-use crate::support::{assert_is, assert_is_at, assert_written};
+use crate::support::{assert_is_at, made, read_whole, written};
 use neli::connector::{CnMsg, CnMsgBuilder, CnMsgBuilderError, ProcEvent, ProcEventHeader};
 use neli::consts::connector::{CnMsgIdx, CnMsgVal, ProcEventType};
 use neli::consts::genl::{CtrlAttr, CtrlCmd};
@@ -27,12 +27,10 @@ fn a_link_set_up(rt: HostRuntime) {
         .ifi_family(RtAddrFamily::Unspecified)
         .ifi_index(3)
         .up()
-        .build(alloc)
-        .expect(&rt, "a link");
+        .build(alloc);
     let bytes = [0, 0, 0, 0, 3, 0, 0, 0, 1, 0, 0, 0, 1, 0, 0, 0];
-    assert_written(&rt, alloc, "a link", &up, &bytes);
-    let copy = up.try_clone().expect(&rt, "memory");
-    assert_written(&rt, alloc, "its copy", &copy, &bytes);
+    let up = made(&rt, alloc, "a link", up, &bytes);
+    let _copy = made(&rt, alloc, "its copy", up.try_clone(), &bytes);
 }
 
 #[test]
@@ -43,12 +41,11 @@ fn a_link_set_down(rt: HostRuntime) {
         .ifi_index(3)
         .ifi_flags(Iff::UP | Iff::MULTICAST)
         .down()
-        .build(alloc)
-        .expect(&rt, "a link");
+        .build(alloc);
     let bytes = [0, 0, 0, 0, 3, 0, 0, 0, 0, 0x10, 0, 0, 1, 0, 0, 0];
-    assert_written(&rt, alloc, "a link", &down, &bytes);
-    assert_is(&rt, *down.ifi_flags(), Iff::MULTICAST);
-    assert_is(&rt, *down.ifi_change(), Iff::UP);
+    let down = made(&rt, alloc, "a link", down, &bytes);
+    assert_is_at(&rt, "flags", *down.ifi_flags(), Iff::MULTICAST);
+    assert_is_at(&rt, "change", *down.ifi_change(), Iff::UP);
 }
 
 /// A list of one routing attribute.
@@ -74,14 +71,12 @@ fn a_link_with_attributes(rt: HostRuntime) {
     let link = IfinfomsgBuilder::default()
         .ifi_family(RtAddrFamily::Inet)
         .rtattrs(one_attribute(&rt, alloc, Ifla::Mtu, 1500))
-        .build(alloc)
-        .expect(&rt, "a link");
+        .build(alloc);
     let bytes = [
         2u8, 0, 0, 0, 0, 0, 0, 0, 0, 0, 0, 0, 0, 0, 0, 0, 8, 0, 4, 0, 0xdc, 5, 0, 0,
     ];
-    assert_written(&rt, alloc, "a link", &link, &bytes);
-    let copy = link.try_clone().expect(&rt, "memory");
-    assert_written(&rt, alloc, "its copy", &copy, &bytes);
+    let link = made(&rt, alloc, "a link", link, &bytes);
+    let _copy = made(&rt, alloc, "its copy", link.try_clone(), &bytes);
 }
 
 #[test]
@@ -93,12 +88,10 @@ fn an_address(rt: HostRuntime) {
         .ifa_flags(IfaF::PERMANENT)
         .ifa_scope(RtScope::Link)
         .ifa_index(0x0102_0304)
-        .build(alloc)
-        .expect(&rt, "an address");
+        .build(alloc);
     let bytes = [10, 64, 0x80, 253, 4, 3, 2, 1];
-    assert_written(&rt, alloc, "an address", &address, &bytes);
-    let copy = address.try_clone().expect(&rt, "memory");
-    assert_written(&rt, alloc, "its copy", &copy, &bytes);
+    let address = made(&rt, alloc, "an address", address, &bytes);
+    let _copy = made(&rt, alloc, "its copy", address.try_clone(), &bytes);
 }
 
 #[test]
@@ -110,10 +103,9 @@ fn a_neighbour(rt: HostRuntime) {
         .ndm_state(Nud::STALE)
         .ndm_flags(Ntf::SELF)
         .ndm_type(Rtn::Unicast)
-        .build(alloc)
-        .expect(&rt, "a neighbour");
+        .build(alloc);
     let bytes = [2, 0, 0, 0, 0xfe, 0xff, 0xff, 0xff, 4, 0, 2, 1];
-    assert_written(&rt, alloc, "a neighbour", &neighbour, &bytes);
+    let _neighbour = made(&rt, alloc, "a neighbour", neighbour, &bytes);
 }
 
 #[test]
@@ -124,18 +116,18 @@ fn a_cache_entry(rt: HostRuntime) {
         .ndm_used(2)
         .ndm_updated(3)
         .ndm_refcnt(4)
-        .build()
-        .expect(&rt, "an entry");
+        .build();
     let bytes = [1, 0, 0, 0, 2, 0, 0, 0, 3, 0, 0, 0, 4, 0, 0, 0];
-    assert_written(&rt, alloc, "an entry", &entry, &bytes);
+    let _entry = made(&rt, alloc, "what is built", entry, &bytes);
     let mut cursor = Cursor::new(&bytes);
-    let entry = NdaCacheinfo::from_bytes(alloc, &mut cursor).expect(&rt, "an entry");
-    let read = (
+    let read = NdaCacheinfo::from_bytes(alloc, &mut cursor);
+    let entry = made(&rt, alloc, "what is read", read, &bytes);
+    let fields = (
         *entry.ndm_confirmed(),
         *entry.ndm_refcnt(),
         cursor.position(),
     );
-    assert_is(&rt, read, (1, 4, 16));
+    assert_is_at(&rt, "fields", fields, (1, 4, 16));
 }
 
 #[test]
@@ -144,27 +136,22 @@ fn flags_of_a_vlan(rt: HostRuntime) {
     let flags = IflaVlanFlagsBuilder::default()
         .flags(VlanFlags::GVRP)
         .mask(VlanFlags::GVRP | VlanFlags::MVRP)
-        .build()
-        .expect(&rt, "flags");
-    assert_written(&rt, alloc, "what is built", &flags, &[2, 10]);
+        .build();
+    let _built = made(&rt, alloc, "what is built", flags, &[2, 10]);
     let read = IflaVlanFlags::from_bytes(alloc, &mut Cursor::new(&[0xffu8, 1]));
-    let flags = read.expect(&rt, "flags");
-    assert_written(&rt, alloc, "what is read", &flags, &[0xff, 1]);
+    let _read = made(&rt, alloc, "what is read", read, &[0xff, 1]);
 }
 
 #[test]
 fn a_priority_of_a_vlan(rt: HostRuntime) {
     let alloc = rt.alloc();
-    let mapping = IflaVlanQosMappingBuilder::default()
-        .from(7)
-        .to(3)
-        .build()
-        .expect(&rt, "a mapping");
+    let mapping = IflaVlanQosMappingBuilder::default().from(7).to(3).build();
     let bytes = [7, 0, 0, 0, 3, 0, 0, 0];
-    assert_written(&rt, alloc, "a mapping", &mapping, &bytes);
+    let _built = made(&rt, alloc, "what is built", mapping, &bytes);
     let mut cursor = Cursor::new(&[1u8, 0, 0, 0, 2, 0, 0, 0, 9]);
-    let mapping = IflaVlanQosMapping::from_bytes(alloc, &mut cursor).expect(&rt, "a mapping");
-    assert_is(&rt, (*mapping.from(), *mapping.to()), (1, 2));
+    let read = IflaVlanQosMapping::from_bytes(alloc, &mut cursor);
+    let mapping = made(&rt, alloc, "what is read", read, &[1, 0, 0, 0, 2, 0, 0, 0]);
+    assert_is_at(&rt, "fields", (*mapping.from(), *mapping.to()), (1, 2));
 }
 
 #[test]
@@ -181,14 +168,12 @@ fn a_route(rt: HostRuntime) {
         .rtm_type(Rtn::Unicast)
         .rtm_flags(RtmF::NOTIFY)
         .rtattrs(one_attribute(&rt, alloc, Rta::Oif, 3))
-        .build(alloc)
-        .expect(&rt, "a route");
+        .build(alloc);
     let bytes = [
         2u8, 24, 1, 2, 254, 4, 0, 1, 0, 1, 0, 0, 8, 0, 4, 0, 3, 0, 0, 0,
     ];
-    assert_written(&rt, alloc, "a route", &route, &bytes);
-    let copy = route.try_clone().expect(&rt, "memory");
-    assert_written(&rt, alloc, "its copy", &copy, &bytes);
+    let route = made(&rt, alloc, "a route", route, &bytes);
+    let _copy = made(&rt, alloc, "its copy", route.try_clone(), &bytes);
 }
 
 #[test]
@@ -202,10 +187,9 @@ fn a_rule(rt: HostRuntime) {
         .fib_table(RtTable::Local)
         .fib_action(FrAct::FrActToTbl)
         .fib_flags(Frf::INVERT)
-        .build(alloc)
-        .expect(&rt, "a rule");
+        .build(alloc);
     let bytes = [2, 8, 16, 0, 255, 0, 0, 1, 2, 0, 0, 0];
-    assert_written(&rt, alloc, "a rule", &rule, &bytes);
+    let _rule = made(&rt, alloc, "a rule", rule, &bytes);
 }
 
 #[test]
@@ -213,9 +197,8 @@ fn a_request_by_family(rt: HostRuntime) {
     let alloc = rt.alloc();
     let request = RtgenmsgBuilder::default()
         .rtgen_family(RtAddrFamily::Inet)
-        .build(alloc)
-        .expect(&rt, "a request");
-    assert_written(&rt, alloc, "a request", &request, &[2, 0, 0, 0]);
+        .build(alloc);
+    let _request = made(&rt, alloc, "a request", request, &[2, 0, 0, 0]);
 }
 
 #[test]
@@ -227,14 +210,12 @@ fn a_queueing_discipline(rt: HostRuntime) {
         .tcm_handle(0x10000)
         .tcm_parent(0xffff_ffff)
         .tcm_info(2)
-        .build(alloc)
-        .expect(&rt, "a discipline");
+        .build(alloc);
     let bytes = [
         0, 0, 0, 0, 0xff, 0xff, 0xff, 0xff, 0, 0, 1, 0, 0xff, 0xff, 0xff, 0xff, 2, 0, 0, 0,
     ];
-    assert_written(&rt, alloc, "a discipline", &queue, &bytes);
-    let copy = queue.try_clone().expect(&rt, "memory");
-    assert_written(&rt, alloc, "its copy", &copy, &bytes);
+    let queue = made(&rt, alloc, "a discipline", queue, &bytes);
+    let _copy = made(&rt, alloc, "its copy", queue.try_clone(), &bytes);
 }
 
 /// The field that a builder names as missing.
@@ -259,7 +240,7 @@ fn missing_fields_are_named_in_order(rt: HostRuntime) {
         (missing_of(queue.build(alloc)), "tcm_handle"),
     ];
     for (missing, want) in rows {
-        assert_is(&rt, missing, want);
+        assert_is_at(&rt, want, missing, want);
     }
 }
 
@@ -275,43 +256,42 @@ fn missing_fields_of_generic_messages_are_named(rt: HostRuntime) {
         (missing_of(message.build()), "idx"),
     ];
     for (missing, want) in rows {
-        assert_is(&rt, missing, want);
+        assert_is_at(&rt, want, missing, want);
+    }
+}
+
+/// Why a builder makes nothing of its fields, in words.
+fn invalid_of<T: Drop, const OF: u8>(built: Result<T, BuildError<OF>>) -> &'static str {
+    match built {
+        Err(BuildError::ValidationError(text)) => text,
+        _ => "no text",
     }
 }
 
 #[test]
 fn a_generic_message_with_a_header(rt: HostRuntime) {
     let alloc = rt.alloc();
-    let message: Genlmsghdr<CtrlCmd, u16, u32> = GenlmsghdrBuilder::default()
+    let message = GenlmsghdrBuilder::default()
         .cmd(CtrlCmd::Newfamily)
         .version(1)
         .header(7)
-        .build_with_header(alloc)
-        .expect(&rt, "a message");
+        .build_with_header(alloc);
     let bytes = [1, 1, 0, 0, 7, 0, 0, 0];
-    assert_written(&rt, alloc, "a message", &message, &bytes);
-    let copy = message.try_clone().expect(&rt, "memory");
-    assert_written(&rt, alloc, "its copy", &copy, &bytes);
-    assert_is(
-        &rt,
-        <Genlmsghdr<CtrlCmd, u16, u32> as Header>::header_size(),
-        8,
-    );
+    let message: Genlmsghdr<CtrlCmd, u16, u32> = made(&rt, alloc, "a message", message, &bytes);
+    let _copy = made(&rt, alloc, "its copy", message.try_clone(), &bytes);
+    let size = <Genlmsghdr<CtrlCmd, u16, u32> as Header>::header_size();
+    assert_is_at(&rt, "its header", size, 8);
 }
 
 #[test]
 fn a_generic_message_with_a_header_of_two_bytes(rt: HostRuntime) {
-    let short: Result<Genlmsghdr<CtrlCmd, u16, u16>, _> = GenlmsghdrBuilder::default()
+    let short: GenlmsghdrBuilder<CtrlCmd, u16, u16> = GenlmsghdrBuilder::default()
         .cmd(CtrlCmd::Newfamily)
         .version(1)
-        .header(7)
-        .build_with_header(rt.alloc());
-    assert!(rt;
-        matches!(
-            short,
-            Err(BuildError::ValidationError("Header size is not a multiple of four"))
-        )
-    );
+        .header(7);
+    let why = invalid_of(short.build_with_header(rt.alloc()));
+    let want = "Header size is not a multiple of four";
+    assert_is_at(&rt, "two bytes", why, want);
 }
 
 /// A list of the name `nlctrl`.
@@ -333,75 +313,74 @@ fn name_of_a_family(rt: &impl Abort, alloc: Global) -> GenlBuffer<CtrlAttr, Buff
 #[test]
 fn a_generic_message_with_attributes(rt: HostRuntime) {
     let alloc = rt.alloc();
-    let request: Genlmsghdr<CtrlCmd, CtrlAttr> = GenlmsghdrBuilder::default()
+    let request = GenlmsghdrBuilder::default()
         .cmd(CtrlCmd::Getfamily)
         .version(2)
         .attrs(name_of_a_family(&rt, alloc))
-        .build(alloc)
-        .expect(&rt, "a request");
+        .build(alloc);
     let bytes = [
         3u8, 2, 0, 0, 0x0b, 0, 2, 0, 0x6e, 0x6c, 0x63, 0x74, 0x72, 0x6c, 0, 0,
     ];
-    assert_written(&rt, alloc, "a request", &request, &bytes);
-    let read = Genlmsghdr::from_bytes_with_input(alloc, &mut Cursor::new(&bytes), 16);
-    let again: Genlmsghdr<CtrlCmd, CtrlAttr> = read.expect(&rt, "a request");
-    assert_is(&rt, &again, &request);
+    let request: Genlmsghdr<CtrlCmd, CtrlAttr> = made(&rt, alloc, "a request", request, &bytes);
+    let again = Genlmsghdr::from_bytes_with_input(alloc, &mut Cursor::new(&bytes), 16);
+    let again: Genlmsghdr<CtrlCmd, CtrlAttr> = made(&rt, alloc, "what is read", again, &bytes);
+    assert_is_at(&rt, "the same", &again, &request);
 }
 
-/// A connector message of so many bytes, or why there is none.
-fn connector(
+/// A connector message of so many bytes that are all the same, or why there is none.
+fn connector<P: From<Vec<u8>> + ToBytes + Drop>(
     rt: &impl Abort,
     alloc: Global,
+    byte: u8,
     count: usize,
-) -> Result<CnMsg<Buffer>, CnMsgBuilderError> {
-    let bytes = vec![in alloc; 0x5au8; count].expect(rt, "memory");
+) -> Result<CnMsg<P>, CnMsgBuilderError> {
+    let bytes = vec![in alloc; byte; count].expect(rt, "memory");
     CnMsgBuilder::default()
         .idx(CnMsgIdx::Proc)
         .val(CnMsgVal::Proc)
-        .payload(Buffer::from(bytes))
+        .payload(P::from(bytes))
         .build()
+}
+
+/// Asserts that a connector message has 65535 bytes at most.
+fn assert_longest<P: From<Vec<u8>> + ToBytes + Drop>(
+    rt: &impl Abort,
+    alloc: Global,
+    label: &str,
+    byte: u8,
+) {
+    let longest: Option<CnMsg<P>> = connector(rt, alloc, byte, 65535).ok();
+    let sizes = longest.map(|message| (*message.len(), message.written_size()));
+    assert_is_at(rt, label, sizes, Some((65535, 65555)));
+    let why = invalid_of(connector::<P>(rt, alloc, byte, 65536));
+    assert_is_at(rt, label, why, "Length does not fit its field");
 }
 
 #[test]
 fn lengths_of_connector_messages(rt: HostRuntime) {
-    let message = connector(&rt, rt.alloc(), 65535).expect(&rt, "a message");
-    assert_is(
-        &rt,
-        (*message.len(), message.written_size()),
-        (65535, 65555),
-    );
-    let long = connector(&rt, rt.alloc(), 65536);
-    assert!(rt;
-        matches!(
-            long,
-            Err(BuildError::ValidationError("Length does not fit its field"))
-        )
-    );
+    assert_longest::<Buffer>(&rt, rt.alloc(), "Buffer", 0x5a);
+    assert_longest::<Vec<u8>>(&rt, rt.alloc(), "Vec", 0);
 }
 
-/// The bytes of a process event.
-fn bytes_of(rt: &impl Abort, alloc: Global, event: &ProcEventHeader) -> Vec<u8> {
-    let mut bytes = Vec::new(alloc);
-    event.to_bytes(&mut bytes).expect(rt, "memory");
-    bytes
+/// The code of the exit that the bytes spell.
+fn code_of(rt: &impl Abort, alloc: Global, bytes: &[u8]) -> Option<u32> {
+    let header: ProcEventHeader = read_whole(rt, alloc, "an exit", bytes);
+    match header.event {
+        ProcEvent::Exit { exit_code, .. } => Some(exit_code),
+        _ => None,
+    }
 }
 
-/// The process event that 40 bytes spell.
-fn event_of(rt: &impl Abort, alloc: Global, bytes: &[u8]) -> ProcEventHeader {
-    ProcEventHeader::from_bytes_with_input(alloc, &mut Cursor::new(bytes), 40).expect(
-        rt, "an event",
-    )
-}
-
-/// Exits, each by its code, with the type that it has and the four bytes that it starts with.
-const EXITS: [(u32, ProcEventType, [u8; 4]); 2] = [
-    (256, ProcEventType::NonzeroExit, [0, 0, 0, 0x20]),
-    (0, ProcEventType::Exit, [0, 0, 0, 0x80]),
+/// Exits, each by its code and its time, with the type that it has and the four bytes that it starts with.
+const EXITS: [(u32, u64, ProcEventType, [u8; 4]); 3] = [
+    (256, 0, ProcEventType::NonzeroExit, [0, 0, 0, 0x20]),
+    (256, 1, ProcEventType::NonzeroExit, [0, 0, 0, 0x20]),
+    (0, 1, ProcEventType::Exit, [0, 0, 0, 0x80]),
 ];
 
 #[test]
 fn exits_by_their_codes(rt: HostRuntime) {
-    for (exit_code, kind, first) in EXITS {
+    for (exit_code, timestamp_ns, kind, first) in EXITS {
         let event = ProcEvent::Exit {
             process_pid: 1,
             process_tgid: 1,
@@ -410,26 +389,31 @@ fn exits_by_their_codes(rt: HostRuntime) {
             parent_pid: 2,
             parent_tgid: 2,
         };
-        assert_is(&rt, ProcEventType::from(&event), kind);
-        assert_is_at(&rt, exit_code, event.unpadded_size(), 24);
+        let found = (ProcEventType::from(&event), event.unpadded_size());
+        assert_is_at(&rt, exit_code, found, (kind, 24));
         let header = ProcEventHeader {
             cpu: 0,
-            timestamp_ns: 1,
+            timestamp_ns,
             event,
         };
-        let bytes = bytes_of(&rt, rt.alloc(), &header);
-        assert_is_at(&rt, exit_code, bytes.get(..4), Some(first.as_slice()));
-        assert_is_at(
-            &rt,
-            exit_code,
-            (bytes.len(), header.written_size()),
-            (40, 40),
-        );
-        let again = event_of(&rt, rt.alloc(), &bytes);
-        assert!(rt;
-            matches!(again.event, ProcEvent::Exit { exit_code: code, .. } if code == exit_code),
-            "code {exit_code}"
-        );
+        let bytes = written(&rt, rt.alloc(), "an event", &header);
+        let found = (bytes.len(), bytes.get(..4));
+        assert_is_at(&rt, exit_code, found, (40, Some(first.as_slice())));
+        let code = code_of(&rt, rt.alloc(), &bytes);
+        assert_is_at(&rt, exit_code, code, Some(exit_code));
+    }
+}
+
+/// The thread group and the name that the bytes spell.
+fn name_of(rt: &impl Abort, alloc: Global, bytes: &[u8]) -> Option<(i32, [u8; 16])> {
+    let header: ProcEventHeader = read_whole(rt, alloc, "a name", bytes);
+    match header.event {
+        ProcEvent::Comm {
+            process_tgid,
+            comm,
+            ..
+        } => Some((process_tgid, comm)),
+        _ => None,
     }
 }
 
@@ -445,11 +429,13 @@ fn a_name_of_a_thread(rt: HostRuntime) {
             comm,
         },
     };
-    let bytes = bytes_of(&rt, rt.alloc(), &header);
-    assert_is(&rt, bytes.len(), 40);
-    assert_is(&rt, bytes.get(24..), Some(comm.as_slice()));
-    let again = event_of(&rt, rt.alloc(), &bytes);
-    assert!(rt;
-        matches!(again.event, ProcEvent::Comm { process_tgid: 6, comm: name, .. } if name == comm)
+    let bytes = written(&rt, rt.alloc(), "an event", &header);
+    let found = (bytes.len(), bytes.get(24..));
+    assert_is_at(&rt, "a name", found, (40, Some(comm.as_slice())));
+    assert_is_at(
+        &rt,
+        "a name",
+        name_of(&rt, rt.alloc(), &bytes),
+        Some((6, comm)),
     );
 }

@@ -1,22 +1,22 @@
 //! Bodies that are cut: each worked example at each length, with the refusal that it has there and the
 //! cursor where it was.
 
-use crate::support::{assert_is, assert_is_at, recorded};
+use crate::support::{assert_is_at, bytes_of, count_of, read_whole, recorded};
 use neli::connector::{CnMsg, ProcEvent, ProcEventHeader};
 use neli::consts::connector::{CnMsgIdx, CnMsgVal};
 use neli::err::DeError;
 use neli::genl::Genlmsghdr;
 use neli::rtnl::{Fibmsg, Ifaddrmsg, Ifinfomsg, NdaCacheinfo, Ndmsg, Rtgenmsg, Rtmsg, Tcmsg};
 use neli::types::Buffer;
-use neli::{Cursor, FromBytes, FromBytesWithInput, Size, ToBytes};
+use neli::{Cursor, FromBytes, FromBytesWithInput, Size};
 use std::alloc::Global;
+use std::fmt::Display;
 use std::io::ErrorKind;
 use std::process::Abort;
 
-const EXEC: [u8; 44] = [
-    1, 0, 0, 0, 1, 0, 0, 0, 0x83, 2, 0, 0, 0, 0, 0, 0, 0x28, 0, 0, 0, 2, 0, 0, 0, 1, 0, 0, 0, 0xb8,
-    0x34, 0x54, 0x19, 0x47, 2, 0, 0, 0x7f, 0x16, 0, 0, 0x7f, 0x16, 0, 0,
-];
+/// A process begins to run a program, as the connector tells it.
+const EXEC: &str = "01000000010000008302000000000000280000000200000001000000b834541947020000\
+    7f1600007f160000";
 
 /// Asserts that a read with input `n` is refused with `InvalidInput` of `want`, and that the cursor stays.
 fn assert_refused<B: FromBytesWithInput>(
@@ -28,13 +28,9 @@ fn assert_refused<B: FromBytesWithInput>(
     want: usize,
 ) {
     let mut cursor = Cursor::new(bytes);
-    let refused = B::from_bytes_with_input(alloc, &mut cursor, n);
-    assert!(rt;
-        matches!(refused, Err(DeError::InvalidInput(k)) if k == want),
-        "{what} of {} bytes with input {n}",
-        bytes.len()
-    );
-    assert_is_at(rt, (what, bytes.len(), n), cursor.position(), 0);
+    let refused = B::from_bytes_with_input(alloc, &mut cursor, n).err();
+    let found = (refused.and_then(count_of), cursor.position());
+    assert_is_at(rt, (what, bytes.len(), n), found, (Some(want), 0));
 }
 
 /// Asserts that the first k bytes, read with input k, are refused with `InvalidInput` of `want`; and with
@@ -47,69 +43,54 @@ fn cut<B: FromBytesWithInput>(
     k: usize,
     want: usize,
 ) {
-    assert!(rt; k < bytes.len(), "nothing is cut off of {what} at {k}");
-    assert_refused::<B>(rt, alloc, what, &bytes[..k], k, want);
-    assert_refused::<B>(rt, alloc, what, &bytes[..k], k + 1, k + 1);
+    let part = bytes.get(..k).expect(rt, what);
+    let more = k.saturating_add(1);
+    assert_refused::<B>(rt, alloc, what, part, k, want);
+    assert_refused::<B>(rt, alloc, what, part, more, more);
 }
 
+// It is written again as it was.
 #[test]
 fn a_process_event(rt: HostRuntime) {
-    let alloc = rt.alloc();
-    let mut cursor = Cursor::new(&EXEC);
-    let read = CnMsg::from_bytes_with_input(alloc, &mut cursor, 44);
-    let m: CnMsg<ProcEventHeader> = read.expect(&rt, "a message");
-    assert_is(
-        &rt,
-        (*m.idx(), *m.val(), *m.seq(), *m.len()),
-        (CnMsgIdx::Proc, CnMsgVal::Proc, 643, 40),
-    );
+    let m: CnMsg<ProcEventHeader> = recorded(&rt, rt.alloc(), "an event", EXEC);
+    let to = (*m.idx(), *m.val(), *m.seq(), *m.len());
+    let want = (CnMsgIdx::Proc, CnMsgVal::Proc, 643, 40);
+    assert_is_at(&rt, "its header", to, want);
     let event = m.payload();
-    assert_is(&rt, (event.cpu, event.timestamp_ns), (1, 2504390882488));
-    assert!(rt;
-        matches!(
-            event.event,
-            ProcEvent::Exec {
-                process_pid: 5759,
-                process_tgid: 5759
-            }
-        )
+    let found = (event.cpu, event.timestamp_ns);
+    assert_is_at(&rt, "its time", found, (1, 2504390882488));
+    let is_exec = matches!(
+        event.event,
+        ProcEvent::Exec {
+            process_pid: 5759,
+            process_tgid: 5759
+        }
     );
-}
-
-#[test]
-fn a_process_event_written_again(rt: HostRuntime) {
-    let alloc = rt.alloc();
-    let mut cursor = Cursor::new(&EXEC);
-    let read = CnMsg::from_bytes_with_input(alloc, &mut cursor, 44);
-    let m: CnMsg<ProcEventHeader> = read.expect(&rt, "a message");
-    let mut written = Vec::new(alloc);
-    m.to_bytes(&mut written).expect(&rt, "memory");
-    assert_is(&rt, written.as_slice(), EXEC.as_slice());
+    assert_is_at(&rt, "its fields", is_exec, true);
 }
 
 // What is read of a process event that is cut to `k` bytes.
 #[test]
 fn a_process_event_that_is_cut(rt: HostRuntime) {
-    for k in 0..44 {
+    let bytes = bytes_of(&rt, rt.alloc(), "an event", EXEC);
+    for k in 0..44usize {
         let want = if k < 20 { k } else { k - 20 };
-        cut::<CnMsg<ProcEventHeader>>(&rt, rt.alloc(), "an event", &EXEC, k, want);
+        cut::<CnMsg<ProcEventHeader>>(&rt, rt.alloc(), "an event", &bytes, k, want);
     }
 }
 
 // The payload is what the input leaves of it, whatever the header states.
 #[test]
 fn a_process_event_as_bytes(rt: HostRuntime) {
-    let read = CnMsg::from_bytes_with_input(rt.alloc(), &mut Cursor::new(&EXEC), 44);
-    let m: CnMsg<Buffer> = read.expect(&rt, "a message");
-    assert_is(&rt, m.payload().len(), 24);
+    let m: CnMsg<Buffer> = recorded(&rt, rt.alloc(), "Buffer", EXEC);
+    assert_is_at(&rt, "Buffer", m.payload().len(), 24);
+    let m: CnMsg<Vec<u8>> = recorded(&rt, rt.alloc(), "Vec", EXEC);
+    assert_is_at(&rt, "Vec", m.payload().len(), 24);
 }
 
 /// A header of `size` bytes and an attribute of 8.
 fn header_and_attribute(rt: &impl Abort, alloc: Global, size: u8) -> Vec<u8> {
-    let mut bytes = Vec::new(alloc);
-    for _ in 0..size {
-        bytes.push(0x77u8).expect(rt, "memory");
-    }
+    let mut bytes = vec![in alloc; 0x77u8; usize::from(size)].expect(rt, "memory");
     bytes
         .extend_from_slice(&[8, 0, 1, 0, 1, 2, 3, 4])
         .expect(rt, "memory");
@@ -169,15 +150,17 @@ fn skipped_bytes_are_written_as_they_were(rt: HostRuntime) {
     let _command: Genlmsghdr<u8, u16> = recorded(&rt, alloc, "Genlmsghdr", "09080706");
 }
 
-// A family's own header that is no multiple of four is refused whatever the bytes are.
+// A request by family that lacks a byte; and a family's own header that is no multiple of four, which is refused
+// whatever the bytes are.
 #[test]
-fn a_header_of_two_bytes(rt: HostRuntime) {
+fn headers_that_are_too_short(rt: HostRuntime) {
+    assert_refused::<Rtgenmsg>(&rt, rt.alloc(), "Rtgenmsg", b"\x02\0\0", 3, 3);
     for n in 0..7 {
         assert_refused::<Genlmsghdr<u8, u16, u16>>(
             &rt,
             rt.alloc(),
             "Genlmsghdr",
-            &[1, 1, 0, 0, 7, 0],
+            b"\x01\x01\0\0\x07\0",
             n,
             n,
         );
@@ -186,34 +169,35 @@ fn a_header_of_two_bytes(rt: HostRuntime) {
 
 #[test]
 fn payloads_of_fixed_size(rt: HostRuntime) {
-    let alloc = rt.alloc();
     let bytes = [0u8; 16];
     for k in 0..16 {
         let mut cursor = Cursor::new(&bytes[..k]);
-        let read = NdaCacheinfo::from_bytes(alloc, &mut cursor);
-        assert!(rt;
-            matches!(read, Err(DeError::Io(ErrorKind::UnexpectedEof))),
-            "cut to {k}"
-        );
-        assert_is_at(&rt, k, cursor.position(), 0);
+        let read = NdaCacheinfo::from_bytes(rt.alloc(), &mut cursor);
+        let is_short = matches!(&read, Err(DeError::Io(ErrorKind::UnexpectedEof)));
+        assert_is_at(&rt, k, (is_short, cursor.position()), (true, 0));
     }
+}
+
+/// Asserts that the value prints this text.
+fn assert_prints<D: Display>(rt: &impl Abort, alloc: Global, value: &D, want: &str) {
+    let text = value.to_string(alloc).expect(rt, want);
+    assert_is_at(rt, "the text", text.as_str(), want);
 }
 
 #[test]
 fn an_event_without_a_name(rt: HostRuntime) {
     let alloc = rt.alloc();
-    let bytes = [3u8, 0, 0, 0, 0, 0, 0, 0, 0, 0, 0, 0, 0, 0, 0, 0];
+    let bytes = *b"\x03\0\0\0\0\0\0\0\0\0\0\0\0\0\0\0";
     let mut cursor = Cursor::new(&bytes);
     let read = ProcEventHeader::from_bytes_with_input(alloc, &mut cursor, 16);
-    match read {
-        Err(DeError::Msg(text)) => assert_is(
-            &rt,
-            text.to_string(alloc).expect(&rt, "memory").as_str(),
-            "Unrecognized Proc event type: 3 (raw value: 3)",
-        ),
-        _ => assert!(rt; false, "an event without a name is read"),
+    let error = read.err().expect(&rt, "a refusal");
+    assert_is_at(&rt, "the cursor", cursor.position(), 0);
+    let want = "Unrecognized Proc event type: 3 (raw value: 3)";
+    assert_prints(&rt, alloc, &error, want);
+    match &error {
+        DeError::Msg(text) => assert_prints(&rt, alloc, text, want),
+        _ => rt.panic("another refusal"),
     }
-    assert_is(&rt, cursor.position(), 0);
     // Before the event's header is there, its type is not looked at.
     assert_refused::<ProcEventHeader>(&rt, alloc, "an event", &bytes, 15, 15);
 }
@@ -244,9 +228,7 @@ fn events_past_their_input(rt: HostRuntime) {
         for n in 0..end {
             assert_refused::<ProcEventHeader>(&rt, alloc, name, &bytes, n, n);
         }
-        let mut cursor = Cursor::new(&bytes);
-        let read = ProcEventHeader::from_bytes_with_input(alloc, &mut cursor, 40);
-        assert_is_at(&rt, name, cursor.position(), 40);
-        assert_is_at(&rt, name, read.expect(&rt, name).written_size(), end);
+        let event: ProcEventHeader = read_whole(&rt, alloc, name, &bytes);
+        assert_is_at(&rt, name, event.written_size(), end);
     }
 }

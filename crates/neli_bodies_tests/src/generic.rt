@@ -1,14 +1,14 @@
 //! Recorded messages of generic netlink's controller and of the connector: the fields that other readers
 //! find in each, and the same bytes when they are written again.
 
-use crate::support::{Row, assert_is_at, assert_written, recorded};
+use crate::support::{Row, assert_is_at, assert_written, bytes_of, made, read_whole, recorded};
+use neli::Size;
 use neli::connector::{CnMsg, ProcEvent, ProcEventHeader};
 use neli::consts::Constant;
 use neli::consts::connector::{CnMsgIdx, CnMsgVal, ProcEventType};
 use neli::consts::genl::{CtrlAttr, CtrlCmd};
 use neli::genl::Genlmsghdr;
 use neli::types::Buffer;
-use neli::{Cursor, FromBytesWithInput, Size};
 use std::alloc::Global;
 use std::process::Abort;
 
@@ -151,14 +151,6 @@ const HELD: [Held; 7] = [
     ),
 ];
 
-/// The message that all of the bytes spell.
-fn message_of(rt: &impl Abort, alloc: Global, label: &str, bytes: &[u8]) -> CnMsg<ProcEventHeader> {
-    let mut cursor = Cursor::new(bytes);
-    let read = CnMsg::from_bytes_with_input(alloc, &mut cursor, bytes.len());
-    assert_is_at(rt, label, cursor.position(), bytes.len());
-    read.expect(rt, label)
-}
-
 /// Asserts the fields of the message and of its event's header.
 fn assert_fields(rt: &impl Abort, m: &CnMsg<ProcEventHeader>, row: Event) {
     let (label, _, seq, cpu, time) = row;
@@ -200,17 +192,12 @@ fn events(rt: HostRuntime) {
     let alloc = rt.alloc();
     for (row, held) in EVENTS.iter().zip(HELD.iter()) {
         let (label, digits, ..) = *row;
-        let bytes = hex::decode(alloc, digits).expect(&rt, label);
-        let m = message_of(&rt, alloc, label, &bytes);
+        let bytes = bytes_of(&rt, alloc, label, digits);
+        let m: CnMsg<ProcEventHeader> = read_whole(&rt, alloc, label, &bytes);
         assert_fields(&rt, &m, *row);
         assert_held(&rt, alloc, label, m.payload(), *held);
-        assert_written(
-            &rt,
-            alloc,
-            label,
-            &m,
-            &bytes_again(&rt, alloc, &bytes, *held),
-        );
+        let again = bytes_again(&rt, alloc, &bytes, *held);
+        assert_written(&rt, alloc, label, &m, &again);
     }
 }
 
@@ -221,13 +208,7 @@ fn events_as_bytes(rt: HostRuntime) {
     for (label, digits, ..) in EVENTS {
         let m: CnMsg<Buffer> = recorded(&rt, alloc, label, digits);
         assert_is_at(&rt, label, m.payload().len(), 40);
-        let bytes = hex::decode(alloc, digits).expect(&rt, label);
-        assert_written(
-            &rt,
-            alloc,
-            label,
-            &m.try_clone().expect(&rt, "memory"),
-            &bytes,
-        );
+        let bytes = bytes_of(&rt, alloc, label, digits);
+        let _copy = made(&rt, alloc, label, m.try_clone(), &bytes);
     }
 }

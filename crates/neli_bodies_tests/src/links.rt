@@ -1,11 +1,12 @@
 //! Recorded links, addresses and neighbours, with the fields that pyroute2 reads in each, and the same
 //! bytes when they are written again.
 
-use crate::support::{Row, assert_is_at, recorded};
+use crate::support::{Row, assert_is_at, bytes_of, read_whole, recorded, written};
 use neli::consts::Constant;
 use neli::consts::rtnl::Nda;
 use neli::rtnl::{Ifaddrmsg, Ifinfomsg, NdaCacheinfo, Ndmsg};
-use neli::{Cursor, FromBytesWithInput, ToBytes};
+use std::alloc::Global;
+use std::process::Abort;
 
 /// Links.
 const LINKS: [Row<(u8, u16, i32, u32, u32)>; 3] = [
@@ -262,19 +263,21 @@ const CACHE_ENTRIES: [(&str, &str, (u32, u32, u32, u32)); 3] = [
     ),
 ];
 
+/// The cache entry of the neighbour that the digits spell.
+fn cache_entry_of(rt: &impl Abort, alloc: Global, label: &str, digits: &str) -> NdaCacheinfo {
+    let bytes = bytes_of(rt, alloc, label, digits);
+    let m: Ndmsg = read_whole(rt, alloc, label, &bytes);
+    m.rtattrs()
+        .get_attr_handle()
+        .get_attr_payload_as(alloc, Nda::Cacheinfo)
+        .expect(rt, label)
+}
+
 // What the neighbours' `NDA_CACHEINFO` say.
 #[test]
 fn cache_entries(rt: HostRuntime) {
-    let alloc = rt.alloc();
     for (label, digits, times) in CACHE_ENTRIES {
-        let bytes = hex::decode(alloc, digits).expect(&rt, "digits");
-        let m = Ndmsg::from_bytes_with_input(alloc, &mut Cursor::new(&bytes), bytes.len()).expect(
-            &rt, "a value",
-        );
-        let handle = m.rtattrs().get_attr_handle();
-        let info: NdaCacheinfo = handle
-            .get_attr_payload_as(alloc, Nda::Cacheinfo)
-            .expect(&rt, "an attribute");
+        let info = cache_entry_of(&rt, rt.alloc(), label, digits);
         let read = (
             *info.ndm_confirmed(),
             *info.ndm_used(),
@@ -282,8 +285,6 @@ fn cache_entries(rt: HostRuntime) {
             *info.ndm_refcnt(),
         );
         assert_is_at(&rt, label, read, times);
-        let mut written = Vec::new(alloc);
-        info.to_bytes(&mut written).expect(&rt, "memory");
-        assert_is_at(&rt, label, written.len(), 16);
+        assert_is_at(&rt, label, written(&rt, rt.alloc(), label, &info).len(), 16);
     }
 }

@@ -4,8 +4,6 @@
 use crate::support::{Row, assert_is_at, recorded};
 use neli::consts::Constant;
 use neli::rtnl::{Fibmsg, Rtgenmsg, Rtmsg, Tcmsg};
-use std::alloc::Global;
-use std::process::Abort;
 
 /// Routes.
 const ROUTES: [Row<(u8, u8, u8, u8, u8, u8, u8, u8, u32)>; 5] = [
@@ -126,27 +124,9 @@ fn rules(rt: HostRuntime) {
 /// The fields of a queueing discipline, a filter or a class.
 type Queue = (u8, i32, u32, u32, u32);
 
-/// Asserts that this is read of the row, and written again as it was.
-fn assert_queue(rt: &impl Abort, alloc: Global, row: Row<Queue>) {
-    let (label, digits, fields, attributes) = row;
-    let m: Tcmsg = recorded(rt, alloc, label, digits);
-    assert_is_at(
-        rt,
-        label,
-        (
-            *m.tcm_family(),
-            *m.tcm_ifindex(),
-            *m.tcm_handle(),
-            *m.tcm_parent(),
-            *m.tcm_info(),
-        ),
-        fields,
-    );
-    assert_is_at(rt, label, m.rtattrs().len(), attributes);
-}
-
-/// Queueing disciplines.
-const QUEUES: [Row<Queue>; 3] = [
+/// Queueing disciplines, filters and classes.
+const QUEUES: [Row<Queue>; 8] = [
+    // Queueing disciplines.
     (
         "0171",
         "000000000100000000000000ffffffff020000000c0001006e6f71756575650005000c0000000000\
@@ -174,17 +154,7 @@ const QUEUES: [Row<Queue>; 3] = [
         (0, 3, 1048576, 65552, 1),
         5,
     ),
-];
-
-#[test]
-fn queueing_disciplines(rt: HostRuntime) {
-    for row in QUEUES {
-        assert_queue(&rt, rt.alloc(), row);
-    }
-}
-
-/// Filters.
-const FILTERS: [Row<Queue>; 3] = [
+    // Filters.
     (
         "0177",
         "0000000003000000000000000000010008000500080001007533320008000b0000000000",
@@ -206,17 +176,7 @@ const FILTERS: [Row<Queue>; 3] = [
         (0, 3, 2147485696, 65536, 327688),
         3,
     ),
-];
-
-#[test]
-fn filters(rt: HostRuntime) {
-    for row in FILTERS {
-        assert_queue(&rt, rt.alloc(), row);
-    }
-}
-
-/// Classes.
-const CLASSES: [Row<Queue>; 2] = [
+    // Classes.
     (
         "0174",
         "00000000030000001000010001000100000010000800010068746200340002003000010000010000\
@@ -242,9 +202,18 @@ const CLASSES: [Row<Queue>; 2] = [
 ];
 
 #[test]
-fn classes(rt: HostRuntime) {
-    for row in CLASSES {
-        assert_queue(&rt, rt.alloc(), row);
+fn queueing_disciplines_filters_and_classes(rt: HostRuntime) {
+    for (label, digits, fields, attributes) in QUEUES {
+        let m: Tcmsg = recorded(&rt, rt.alloc(), label, digits);
+        let found = (
+            *m.tcm_family(),
+            *m.tcm_ifindex(),
+            *m.tcm_handle(),
+            *m.tcm_parent(),
+            *m.tcm_info(),
+        );
+        assert_is_at(&rt, label, found, fields);
+        assert_is_at(&rt, label, m.rtattrs().len(), attributes);
     }
 }
 

@@ -1,6 +1,7 @@
 //! Conversations with a kernel, Linux 6.18 on x86-64, as they were recorded: the request that a program sent, and each
 //! datagram that came for it. What the messages hold was read by libmnl and pyroute2.
 
+use crate::support::assert_is;
 use crate::talk::{Item, Talk, answered, payload_of};
 use neli::consts::genl::{CtrlAttr, CtrlCmd, Index, NlAttrType};
 use neli::consts::nl::{GenlId, NlmF, NlmsgerrAttr};
@@ -59,9 +60,9 @@ fn a_family_is_resolved(rt: HostRuntime) {
         NlmF::ACK,
         request,
     );
-    assert_eq!(rt; items.len(), 2);
+    assert_is(&rt, items.len(), 2);
     let number = resolve_genl_family(alloc, "tcp_metrics", items);
-    assert_eq!(rt; number.ok(), Some(27));
+    assert_is(&rt, number.ok(), Some(27));
 }
 
 /// The controller's own family, with its group.
@@ -86,10 +87,10 @@ fn nlctrl(rt: &impl Abort, alloc: Global) -> Vec<Item<GenlId, Ctrl>> {
 fn a_group_is_resolved(rt: HostRuntime) {
     let alloc = rt.alloc();
     let number = resolve_nl_mcast_group(alloc, "nlctrl", "notify", nlctrl(&rt, alloc));
-    assert_eq!(rt; number.ok(), Some(16));
+    assert_is(&rt, number.ok(), Some(16));
     let names = lookup_id(alloc, 16, nlctrl(&rt, alloc));
     let (family, group) = names.ok().expect(&rt, "names");
-    assert_eq!(rt; (family.as_str(), group.as_str()), ("nlctrl", "notify"));
+    assert_is(&rt, (family.as_str(), group.as_str()), ("nlctrl", "notify"));
 }
 
 /// A dump of the IPv4 addresses of one link, strictly checked.
@@ -130,17 +131,15 @@ fn assert_address(
     let attrs = body.rtattrs().get_attr_handle();
     let own: Option<&str> = attrs.get_attr_payload_as_with_len_borrowed(Ifa::Label).ok();
     let address: Option<[u8; 4]> = attrs.get_attr_payload_as(alloc, Ifa::Local).ok();
-    assert_eq!(rt;
-        (*body.ifa_prefixlen(), *body.ifa_index(), own, address),
-        (24, 3, Some(label), Some([192, 0, 2, last]))
-    );
+    let found = (*body.ifa_prefixlen(), *body.ifa_index(), own, address);
+    assert_is(rt, found, (24, 3, Some(label), Some([192, 0, 2, last])));
 }
 
 #[test]
 fn a_dump_is_read_to_its_end(rt: HostRuntime) {
     let alloc = rt.alloc();
     let items = addresses(&rt, alloc);
-    assert_eq!(rt; items.len(), 3);
+    assert_is(&rt, items.len(), 3);
     for (item, (label, last)) in items.iter().zip([("veth0\0", 1), ("veth0:x\0", 2)]) {
         assert_address(&rt, alloc, item, label, last);
     }
@@ -150,7 +149,7 @@ fn a_dump_is_read_to_its_end(rt: HostRuntime) {
     let NlPayload::DumpExtAck(done) = end.nl_payload() else {
         return rt.panic("another payload");
     };
-    assert_eq!(rt; (*done.error(), done.ext_ack().len()), (0, 0));
+    assert_is(&rt, (*done.error(), done.ext_ack().len()), (0, 0));
 }
 
 /// A name that is too long for a family, refused with an extended acknowledgement.
@@ -179,11 +178,15 @@ fn an_error_says_why(rt: HostRuntime) {
         NlmF::ACK,
         request,
     );
-    assert_eq!(rt; items.len(), 1);
+    assert_is(&rt, items.len(), 1);
     let Some(Err(RouterError::Nlmsgerr(answer))) = items.first() else {
         return rt.panic("no error of the kernel");
     };
-    assert_eq!(rt; (*answer.error(), *answer.nlmsg().nl_seq()), (-22, 1107));
+    assert_is(
+        &rt,
+        (*answer.error(), *answer.nlmsg().nl_seq()),
+        (-22, 1107),
+    );
     assert_why(&rt, alloc, answer.ext_ack());
     assert_policy(&rt, alloc, answer.ext_ack());
 }
@@ -195,9 +198,11 @@ fn assert_why(rt: &impl Abort, alloc: Global, ext_ack: &GenlBuffer<NlmsgerrAttr,
         .get_attr_payload_as_with_len_borrowed(NlmsgerrAttr::Msg)
         .ok();
     let place: Option<u32> = attrs.get_attr_payload_as(alloc, NlmsgerrAttr::Offset).ok();
-    assert_eq!(rt;
-        (attrs.get_attrs().len(), said, place),
-        (3, Some("Attribute failed policy validation\0"), Some(20))
+    let found = (attrs.get_attrs().len(), said, place);
+    assert_is(
+        rt,
+        found,
+        (3, Some("Attribute failed policy validation\0"), Some(20)),
     );
 }
 
@@ -215,5 +220,5 @@ fn assert_policy(rt: &impl Abort, alloc: Global, ext_ack: &GenlBuffer<NlmsgerrAt
     let kind: Option<u32> = said.get_attr_payload_as(alloc, Index::from(1)).ok();
     let longest: Option<u32> = said.get_attr_payload_as(alloc, Index::from(7)).ok();
     let found = (*policy.nla_type().nla_nested(), count, kind, longest);
-    assert_eq!(rt; found, (true, 16, Some(12), Some(15)));
+    assert_is(rt, found, (true, 16, Some(12), Some(15)));
 }

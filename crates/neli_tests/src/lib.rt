@@ -1,8 +1,8 @@
 //! Tests of the whole library by the paths of `neli`, as a program uses it.
 //!
-//! - [`values`], [`bodies`]: worked examples of numbers, texts and bodies. [`zeros`]: lengths past 32 bits, by a
-//!   payload of a type of its own. Worked examples of attributes, messages, constants, groups, resolvers and the
-//!   router stand in crates of tests of their own, which use the same paths.
+//! - [`values`]: worked examples of numbers and texts. [`zeros`]: lengths past 32 bits, by a payload of a type of its
+//!   own. Worked examples of bodies, attributes, messages, constants, groups, resolvers and the router stand in crates
+//!   of tests of their own, which use the same paths.
 //! - [`conversations`]: conversations with a kernel. [`talk`]: how one is played. [`store`]: what is kept meanwhile.
 //! - [`readme`], [`tour`], [`pages`]: the examples of the README, of the page of `neli`, and of the pages on
 //!   attributes, the router and groups, line by line.
@@ -13,8 +13,6 @@
 //! from Linux 6.18 on x86-64, read by libmnl and pyroute2.
 #![tactic(auto)]
 
-#[cfg(test)]
-mod bodies;
 #[cfg(test)]
 mod conversations;
 #[cfg(test)]

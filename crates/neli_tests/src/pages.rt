@@ -1,6 +1,6 @@
 //! The examples of the pages of docs on attributes, the router and groups, line by line.
 
-use crate::support::{assert_written, bytes_of};
+use crate::support::{assert_is, assert_spelled, assert_written, bytes_of};
 use neli::ToBytes;
 use neli::consts::genl::{CtrlAttr, CtrlAttrMcastGrp, Index, NlAttrType};
 use neli::genl::{AttrType, Nlattr, NlattrBuilder, NlattrBuilderError};
@@ -35,7 +35,7 @@ fn groups_of_a_family(alloc: Global) -> Result<Nlattr<CtrlAttr, Buffer>, Fail> {
 fn nested_attributes(rt: HostRuntime) -> Result<(), Fail> {
     let groups = groups_of_a_family(rt.alloc())?;
     let want = "1c000780180001800b0001006e6f7469667900000800020005000000";
-    assert_written(&rt, rt.alloc(), "groups", &groups, want);
+    assert_written(&rt, rt.alloc(), &groups, want);
     Ok(())
 }
 
@@ -83,17 +83,11 @@ fn the_first_reply_of_a_datagram(rt: HostRuntime) -> Result<(), Fail> {
         "1c000000100000000000000000000000010200000600010010000000",
     );
     let (request, reply) = first_reply(alloc, 0, Buffer::from(payload), &datagram)?;
-    let want = bytes_of(
-        &rt,
-        alloc,
-        "20000000100005000000000000000000030200000b0002006e6c6374726c0000",
-    );
+    let want = "20000000100005000000000000000000030200000b0002006e6c6374726c0000";
+    assert_spelled(&rt, alloc, &request, want);
     let reply = reply.expect(&rt, "a reply");
     let told = reply.get_payload().map(|body| body.as_ref());
-    assert_eq!(rt;
-        (request.as_slice(), told),
-        (want.as_slice(), datagram.get(16..))
-    );
+    assert_is(&rt, told, datagram.get(16..));
     Ok(())
 }
 
@@ -110,6 +104,6 @@ fn groups(alloc: Global) -> Result<Groups, Fail> {
 #[test]
 fn groups_come_and_go(rt: HostRuntime) -> Result<(), Fail> {
     let groups = groups(rt.alloc())?.into_groups();
-    assert_eq!(rt; groups.as_slice(), [32, 40].as_slice());
+    assert_is(&rt, groups.as_slice(), [32, 40].as_slice());
     Ok(())
 }

@@ -1,6 +1,6 @@
 //! The examples of the README, line by line.
 
-use crate::support::bytes_of;
+use crate::support::{assert_is, assert_spelled, bytes_of};
 use std::alloc::Global;
 use std::test::Fail;
 
@@ -54,15 +54,9 @@ fn addresses_of_a_link(rt: HostRuntime) -> Result<(), Fail> {
         0a0003007665746830000000080008008000000014000600ffffffffffffffff4473030044730300",
     );
     let (request, address) = first_address(alloc, 4136408453, &datagram)?;
-    let want = bytes_of(
-        &rt,
-        alloc,
-        "18000000160001030000000085958cf60200000003000000",
-    );
-    assert_eq!(rt;
-        (request.as_slice(), address),
-        (want.as_slice(), Some([192, 0, 2, 1]))
-    );
+    let want = "18000000160001030000000085958cf60200000003000000";
+    assert_spelled(&rt, alloc, &request, want);
+    assert_is(&rt, address, Some([192, 0, 2, 1]));
     Ok(())
 }
 
@@ -98,8 +92,8 @@ fn gateway(alloc: Global) -> Result<(Vec<u8>, [u8; 4]), Fail> {
 #[test]
 fn gateway_of_a_route(rt: HostRuntime) -> Result<(), Fail> {
     let (bytes, address) = gateway(rt.alloc())?;
-    assert_eq!(rt; bytes.as_slice(), [8u8, 0, 5, 0, 0xc0, 0, 2, 1].as_slice());
-    assert_eq!(rt; address, [192, 0, 2, 1]);
+    assert_spelled(&rt, rt.alloc(), &bytes, "08000500c0000201");
+    assert_is(&rt, address, [192, 0, 2, 1]);
     Ok(())
 }
 
@@ -130,6 +124,6 @@ const LINKS: &str =
 fn names_of_links(rt: HostRuntime) -> Result<(), Fail> {
     let datagram = bytes_of(&rt, rt.alloc(), LINKS);
     let names = names_of(rt.alloc(), &datagram)?;
-    assert_eq!(rt; names.as_slice(), ["lo", "veth0"].as_slice());
+    assert_is(&rt, names.as_slice(), ["lo", "veth0"].as_slice());
     Ok(())
 }

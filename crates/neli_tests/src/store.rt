@@ -1,6 +1,6 @@
 //! What the shared store keeps after each read: the run that docs/ROUTER.md draws, and a fault.
 
-use crate::support::bytes_of;
+use crate::support::{assert_is, bytes_of};
 use neli::consts::nl::NlmF;
 use neli::nl::NlPayload;
 use neli::router::synchronous::{Log, NlRouter, NlRouterReceiverHandle, Reply};
@@ -41,7 +41,7 @@ fn take<R: Abort>(rt: &R, alloc: Global, router: &mut NlRouter, digits: &str, ma
 /// Asserts that so many entries are kept, and so many bytes.
 fn assert_kept<R: Abort>(rt: &R, router: &NlRouter, want: (usize, usize)) {
     let store = router.deliveries();
-    assert_eq!(rt; (store.kept(), store.kept_bytes()), want);
+    assert_is(rt, (store.kept(), store.kept_bytes()), want);
 }
 
 /// Reads an item of a handle. Then so many entries are kept, and so many bytes.
@@ -53,7 +53,7 @@ fn read<T, P, R: Abort>(
     want: (usize, usize),
 ) {
     let reply = router.next_typed::<u16, Buffer, _, _>(alloc, handle);
-    assert!(rt; matches!(&reply, Ok(Reply::Item(_))));
+    assert_is(rt, matches!(&reply, Ok(Reply::Item(_))), true);
     assert_kept(rt, router, want);
 }
 

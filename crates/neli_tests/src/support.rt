@@ -1,55 +1,36 @@
-//! What the tests share: bytes as hexadecimal digits, refusals that can be compared, what is written.
+//! What the tests share: what is wanted, bytes as hexadecimal digits, what is written and printed.
 
-use neli::err::DeError;
-use neli::{Cursor, FromBytesWithInput, ToBytes};
+use neli::ToBytes;
 use std::alloc::Global;
-use std::io::ErrorKind;
+use std::fmt::{Debug, Display};
 use std::process::Abort;
+
+/// Asserts that this is what is wanted.
+pub fn assert_is<T: Copy + PartialEq + Debug>(rt: &impl Abort, got: T, want: T) {
+    assert_eq!(rt; got, want);
+}
 
 /// The bytes that hexadecimal digits spell.
 pub fn bytes_of(rt: &impl Abort, alloc: Global, digits: &str) -> Vec<u8> {
     hex::decode(alloc, digits).expect(rt, "hexadecimal digits")
 }
 
-/// Why bytes are not read, by what the tables compare of it.
-#[derive(Clone, Copy, Debug, PartialEq, Eq)]
-pub enum Fault {
-    /// The bytes end too early.
-    Short,
-    /// A count of bytes that does not fit.
-    Input(usize),
-    /// Any other.
-    Other,
-}
-
-/// The fault that a refusal names.
-pub fn fault_of(error: &DeError) -> Fault {
-    match error {
-        DeError::Io(ErrorKind::UnexpectedEof) => Fault::Short,
-        DeError::InvalidInput(count) => Fault::Input(*count),
-        _ => Fault::Other,
-    }
-}
-
-/// The value that all of the bytes spell.
-pub fn read_whole<V: FromBytesWithInput>(alloc: Global, bytes: &[u8]) -> Result<V, Fault> {
-    match V::from_bytes_with_input(alloc, &mut Cursor::new(bytes), bytes.len()) {
-        Ok(value) => Ok(value),
-        Err(error) => Err(fault_of(&error)),
-    }
+/// Asserts that these are the bytes that the digits spell.
+pub fn assert_spelled(rt: &impl Abort, alloc: Global, bytes: &[u8], digits: &str) {
+    let want = bytes_of(rt, alloc, digits);
+    assert_is(rt, bytes, want.as_slice());
 }
 
 /// Asserts that the value is written as the bytes that these digits spell.
-pub fn assert_written<V: ToBytes>(
-    rt: &impl Abort,
-    alloc: Global,
-    row: &str,
-    value: &V,
-    digits: &str,
-) {
+pub fn assert_written<V: ToBytes>(rt: &impl Abort, alloc: Global, value: &V, digits: &str) {
     let mut bytes = Vec::new(alloc);
-    value.to_bytes(&mut bytes).expect(rt, row);
-    let want = bytes_of(rt, alloc, digits);
-    assert_eq!(rt; bytes.as_slice(), want.as_slice(), "{row}");
-    assert_eq!(rt; value.written_size(), want.len(), "{row}");
+    value.to_bytes(&mut bytes).expect(rt, digits);
+    assert_spelled(rt, alloc, &bytes, digits);
+    assert_is(rt, value.written_size(), bytes.len());
+}
+
+/// Asserts that the value prints this text.
+pub fn assert_prints<D: Display>(rt: &impl Abort, alloc: Global, value: &D, want: &str) {
+    let text = value.to_string(alloc).expect(rt, want);
+    assert_is(rt, text.as_str(), want);
 }

@@ -1,6 +1,6 @@
 //! A conversation: one request, the datagrams that answer it, and the items that its handle gives.
 
-use crate::support::bytes_of;
+use crate::support::{assert_is, bytes_of};
 use neli::consts::nl::{NlType, NlmF};
 use neli::err::RouterError;
 use neli::nl::{NlPayload, Nlmsghdr};
@@ -27,8 +27,8 @@ pub type Item<T, P> = Result<Nlmsghdr<T, P>, RouterError<T, P>>;
 /// Asserts that these bytes are the recorded ones, but for the port.
 fn assert_asked(rt: &impl Abort, alloc: Global, bytes: &[u8], digits: &str) {
     let want = bytes_of(rt, alloc, digits);
-    assert_eq!(rt; bytes.get(..12), want.get(..12), "{digits}");
-    assert_eq!(rt; bytes.get(16..), want.get(16..), "{digits}");
+    assert_is(rt, bytes.get(..12), want.get(..12));
+    assert_is(rt, bytes.get(16..), want.get(16..));
 }
 
 /// All items of a handle, up to the end.

@@ -1,6 +1,6 @@
 //! The tour of the page of `neli`: the code of each of its sections stands there, line by line.
 
-use crate::support::{assert_written, bytes_of};
+use crate::support::{assert_is, assert_spelled, assert_written, bytes_of};
 use neli::connector::CnMsg;
 use neli::consts::connector::ProcCnMcastOp;
 use neli::consts::rtnl::RtAddrFamily;
@@ -49,12 +49,9 @@ fn a_link_tool(rt: HostRuntime) -> Result<(), Fail> {
         "24000000020000011e0400002b3100000000000020000000130005001e04000000000000",
     );
     let (request, is_up) = set_up(alloc, &mut router, &acknowledgement)?;
-    let want = bytes_of(
-        &rt,
-        alloc,
-        "20000000130005001e0400002b31000000000000030000000100000001000000",
-    );
-    assert_eq!(rt; (request.as_slice(), is_up), (want.as_slice(), true));
+    let want = "20000000130005001e0400002b31000000000000030000000100000001000000";
+    assert_spelled(&rt, alloc, &request, want);
+    assert_is(&rt, is_up, true);
     Ok(())
 }
 
@@ -102,8 +99,13 @@ fn a_generic_client(rt: HostRuntime) -> Result<(), Fail> {
         05000d0000002c000600140001000800010001000000080002000e000000140002000800010002000000080002000b000000",
     );
     let (family, request) = resolve(alloc, &mut router, &told)?;
-    let want = bytes_of(&rt, alloc, "140000001b000103f20300004943000001010000");
-    assert_eq!(rt; (family, request.as_slice()), (27, want.as_slice()));
+    assert_spelled(
+        &rt,
+        alloc,
+        &request,
+        "140000001b000103f20300004943000001010000",
+    );
+    assert_is(&rt, family, 27);
     Ok(())
 }
 
@@ -146,8 +148,8 @@ fn process_events(rt: HostRuntime) -> Result<(), Fail> {
     );
     let (request, ended) = listen(alloc, &datagram)?;
     let want = "010000000100000000000000000000000400000001000000";
-    assert_written(&rt, alloc, "the request", &request, want);
-    assert_eq!(rt; ended.as_slice(), [(17289, 768u32)].as_slice());
+    assert_written(&rt, alloc, &request, want);
+    assert_is(&rt, ended.as_slice(), [(17289, 768u32)].as_slice());
     Ok(())
 }
 
@@ -185,11 +187,7 @@ fn a_simulator(rt: HostRuntime) -> Result<(), Fail> {
         .ifi_index(3)
         .build(alloc)?;
     let datagram = answer(alloc, &asked, link)?;
-    let want = bytes_of(
-        &rt,
-        alloc,
-        "2000000010000000070000000900000000000000030000000000000000000000",
-    );
-    assert_eq!(rt; datagram.as_slice(), want.as_slice());
+    let want = "2000000010000000070000000900000000000000030000000000000000000000";
+    assert_spelled(&rt, alloc, &datagram, want);
     Ok(())
 }

@@ -1,5 +1,6 @@
 //! Payloads whose message passes 32 bits: a type of a user's own, that writes zeros and takes no memory itself.
 
+use crate::support::{assert_is, assert_prints};
 use neli::consts::nl::NlmF;
 use neli::err::{RouterError, SerError};
 use neli::nl::{NlPayload, Nlmsghdr, NlmsghdrBuilder};
@@ -70,10 +71,9 @@ fn a_request_past_32_bits_takes_no_number(rt: HostRuntime) {
     let sent: Result<(Vec<u8>, NlRouterReceiverHandle<u16, Buffer>), RouterError<u16, Zeros>> =
         router.send(alloc, 16u16, NlmF::empty(), long);
     let error = sent.err().expect(&rt, "a refusal");
-    assert!(rt; matches!(&error, RouterError::Msg(_)));
-    let text = error.to_string(alloc).expect(&rt, "memory");
-    assert_eq!(rt; text.as_str(), "Length does not fit its field");
-    assert_eq!(rt; next_number(&rt, alloc, &mut router), Some(0));
+    assert_is(&rt, matches!(&error, RouterError::Msg(_)), true);
+    assert_prints(&rt, alloc, &error, "Length does not fit its field");
+    assert_is(&rt, next_number(&rt, alloc, &mut router), Some(0));
 }
 
 /// A message with three zeros.
@@ -92,8 +92,7 @@ fn a_payload_past_32_bits_is_not_put_in(rt: HostRuntime) {
     let mut message = three(&rt);
     let refused = message.set_payload(NlPayload::Payload(Zeros { count: PAST }));
     let error = refused.err().expect(&rt, "a refusal");
-    let text = error.to_string(rt.alloc()).expect(&rt, "memory");
-    assert_eq!(rt; text.as_str(), "Length does not fit its field");
+    assert_prints(&rt, rt.alloc(), &error, "Length does not fit its field");
     let kept = message.get_payload().map(|zeros| zeros.count);
-    assert_eq!(rt; (*message.nl_len(), kept), (20, Some(3)));
+    assert_is(&rt, (*message.nl_len(), kept), (20, Some(3)));
 }

@@ -1,12 +1,12 @@
 //! A table of recorded datagrams and of what libmnl reads in each.
 
+use crate::support::{assert_is_at, bytes_of};
 use neli::err::{DeError, SocketError};
 use neli::iter::NlBufferIter;
 use neli::nl::Nlmsghdr;
 use std::alloc::Global;
 use std::io::ErrorKind;
 use std::process::Abort;
-use std::test::Fail;
 
 /// What stands after the last message that libmnl walks. It names no fault: which one it is follows from
 /// the first four bytes there, by hand.
@@ -23,7 +23,7 @@ pub enum Fault {
 /// A message as libmnl reads it: type, flags, sequence number, port, and the payload's length.
 pub type Header = (u16, u16, u32, u32, usize);
 
-#[derive(Clone, Copy, Debug)]
+/// A datagram, what it holds, and what stands after that.
 pub struct Row {
     /// A label: the number of the datagram, as docs/RECORDINGS.md has it.
     pub file: &'static str,
@@ -32,18 +32,26 @@ pub struct Row {
     pub fault: Fault,
 }
 
-fn header_of(message: &Nlmsghdr<u16, Vec<u8>>) -> Header {
+/// What the reader of a datagram gives.
+type Item = Option<Result<Nlmsghdr<u16, Vec<u8>>, SocketError>>;
+
+/// The header of the message that is read.
+fn header_of(item: Item) -> Option<Header> {
+    let Some(Ok(message)) = item else {
+        return None;
+    };
     let length = *message.nl_len() as usize;
-    (
+    Some((
         *message.nl_type(),
         u16::from(*message.nl_flags()),
         *message.nl_seq(),
         *message.nl_pid(),
         length.saturating_sub(16),
-    )
+    ))
 }
 
-fn fault_of(item: Option<Result<Nlmsghdr<u16, Vec<u8>>, SocketError>>) -> Option<Fault> {
+/// The fault that is read.
+fn fault_of(item: Item) -> Option<Fault> {
     match item {
         None => Some(Fault::None),
         Some(Err(SocketError::De(DeError::InvalidInput(n)))) => Some(Fault::Input(n)),
@@ -52,27 +60,23 @@ fn fault_of(item: Option<Result<Nlmsghdr<u16, Vec<u8>>, SocketError>>) -> Option
     }
 }
 
-fn check_row(rt: &impl Abort, alloc: Global, row: &Row) -> Result<(), Fail> {
+/// Asserts that the datagram is read as libmnl reads it, and that nothing is read after its fault.
+fn check_row(rt: &impl Abort, alloc: Global, row: &Row) {
     let file = row.file;
-    let bytes = hex::decode(alloc, row.hex)?;
+    let bytes = bytes_of(rt, alloc, file, row.hex);
     let mut found: NlBufferIter<'_, u16, Vec<u8>> = NlBufferIter::new(&bytes);
     for want in row.messages {
-        let Some(Ok(message)) = found.next(alloc) else {
-            return Err(Fail::new(file));
-        };
-        assert_eq!(rt; header_of(&message), *want, "{file}");
+        assert_is_at(rt, file, header_of(found.next(alloc)), Some(*want));
     }
-    assert_eq!(rt; fault_of(found.next(alloc)), Some(row.fault), "{file}");
-    assert!(rt; found.next(alloc).is_none(), "{file}");
-    Ok(())
+    assert_is_at(rt, file, fault_of(found.next(alloc)), Some(row.fault));
+    assert_is_at(rt, file, found.next(alloc).is_none(), true);
 }
 
 #[test]
-fn recorded_datagrams_are_read_as_libmnl_reads_them(rt: HostRuntime) -> Result<(), Fail> {
+fn recorded_datagrams_are_read_as_libmnl_reads_them(rt: HostRuntime) {
     for row in &ROWS {
-        check_row(&rt, rt.alloc(), row)?;
+        check_row(&rt, rt.alloc(), row);
     }
-    Ok(())
 }
 
 /// The answer to a dump of no such table: recording 0372.

@@ -1,6 +1,7 @@
 //! Why the kernel refuses: the attributes after an error's echo, and after the code of a dump's end.
 
 use crate::datagrams::NO_TABLE;
+use crate::support::{assert_is_at, bytes_of};
 use neli::consts::nl::NlmsgerrAttr;
 use neli::iter::cut;
 use neli::nl::{NlPayload, Nlmsghdr};
@@ -74,28 +75,24 @@ fn check_attributes(rt: &impl Abort, row: &Row, reasons: &Reasons) {
             attribute.nla_payload().len(),
             *kind.nla_nested(),
         );
-        assert_eq!(rt; found, *want, "{file}");
+        assert_is_at(rt, file, found, *want);
     }
-}
-
-fn are_same(found: &str, want: &str) -> bool {
-    found == want
 }
 
 fn check_row(rt: &impl Abort, alloc: Global, row: &Row) {
     let file = row.file;
-    let bytes = hex::decode(alloc, row.hex).expect(rt, file);
+    let bytes = bytes_of(rt, alloc, file, row.hex);
     let (messages, _) = cut::<u16, Vec<u8>>(alloc, &bytes).expect(rt, file);
     let (code, reasons) = refusal_of(rt, messages.first().expect(rt, file));
     check_attributes(rt, row, reasons);
     let found = (code, reasons.len());
     let want = (row.code, row.attributes.len());
-    assert_eq!(rt; found, want, "{file}");
+    assert_is_at(rt, file, found, want);
     let handle = reasons.get_attr_handle();
     let text: &str = handle
         .get_attr_payload_as_with_len_borrowed(NlmsgerrAttr::Msg)
         .expect(rt, file);
-    assert!(rt; are_same(text, row.text), "{file}: {text}");
+    assert_is_at(rt, file, text, row.text);
 }
 
 #[test]
