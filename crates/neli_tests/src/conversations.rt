@@ -1,13 +1,14 @@
 //! Conversations with a kernel, Linux 6.18 on x86-64, as they were recorded: the request that a program sent, and each
 //! datagram that came for it. What the messages hold was read by libmnl and pyroute2.
 
+use crate::pages::generic;
 use crate::support::assert_is;
 use crate::talk::{Item, Talk, answered, payload_of};
-use neli::consts::genl::{CtrlAttr, CtrlCmd, Index, NlAttrType};
+use neli::consts::genl::{CtrlAttr, CtrlCmd, Index};
 use neli::consts::nl::{GenlId, NlmF, NlmsgerrAttr};
 use neli::consts::rtnl::{Ifa, RtAddrFamily, RtScope, Rtm};
 use neli::err::RouterError;
-use neli::genl::{AttrType, Genlmsghdr, GenlmsghdrBuilder, NlattrBuilder};
+use neli::genl::{Genlmsghdr, GenlmsghdrBuilder};
 use neli::nl::NlPayload;
 use neli::router::synchronous::{lookup_id, resolve_genl_family, resolve_nl_mcast_group};
 use neli::rtnl::{Ifaddrmsg, IfaddrmsgBuilder};
@@ -19,20 +20,28 @@ use std::process::Abort;
 type Ctrl = Genlmsghdr<CtrlCmd, CtrlAttr>;
 
 /// A request for the family of this name.
-fn family(rt: &impl Abort, alloc: Global, name: &str, version: u8) -> Ctrl {
-    let name = NlattrBuilder::default()
-        .nla_type(AttrType::from(CtrlAttr::FamilyName.to_number()))
-        .nla_payload(name)
-        .build(alloc)
-        .expect(rt, "a name");
+fn family(rt: &impl Abort, alloc: Global, name: &str) -> Ctrl {
+    let name = generic(alloc, CtrlAttr::FamilyName, name).expect(rt, "a name");
     let mut attrs = GenlBuffer::new(alloc);
     attrs.push(name).expect(rt, "memory");
     GenlmsghdrBuilder::default()
         .cmd(CtrlCmd::Getfamily)
-        .version(version)
+        .version(1)
         .attrs(attrs)
         .build(alloc)
         .expect(rt, "a request")
+}
+
+/// What the controller answers to a request for the family of this name.
+fn controller(
+    rt: &impl Abort,
+    alloc: Global,
+    talk: &Talk,
+    flags: NlmF,
+    name: &str,
+) -> Vec<Item<GenlId, Ctrl>> {
+    let request = family(rt, alloc, name);
+    answered(rt, alloc, talk, GenlId::Ctrl, flags, request)
 }
 
 /// The family `tcp_metrics`, acknowledged.
@@ -51,15 +60,7 @@ const TCP_METRICS: Talk = Talk {
 #[test]
 fn a_family_is_resolved(rt: HostRuntime) {
     let alloc = rt.alloc();
-    let request = family(&rt, alloc, "tcp_metrics", 1);
-    let items: Vec<Item<GenlId, Ctrl>> = answered(
-        &rt,
-        alloc,
-        &TCP_METRICS,
-        GenlId::Ctrl,
-        NlmF::ACK,
-        request,
-    );
+    let items = controller(&rt, alloc, &TCP_METRICS, NlmF::ACK, "tcp_metrics");
     assert_is(&rt, items.len(), 2);
     let number = resolve_genl_family(alloc, "tcp_metrics", items);
     assert_is(&rt, number.ok(), Some(27));
@@ -79,8 +80,7 @@ const NLCTRL: Talk = Talk {
 
 /// What the controller told of itself.
 fn nlctrl(rt: &impl Abort, alloc: Global) -> Vec<Item<GenlId, Ctrl>> {
-    let request = family(rt, alloc, "nlctrl", 1);
-    answered(rt, alloc, &NLCTRL, GenlId::Ctrl, NlmF::empty(), request)
+    controller(rt, alloc, &NLCTRL, NlmF::empty(), "nlctrl")
 }
 
 #[test]
@@ -169,15 +169,8 @@ const TOO_LONG: Talk = Talk {
 #[test]
 fn an_error_says_why(rt: HostRuntime) {
     let alloc = rt.alloc();
-    let request = family(&rt, alloc, "a-name-far-too-long-for-a-family", 1);
-    let items: Vec<Item<GenlId, Ctrl>> = answered(
-        &rt,
-        alloc,
-        &TOO_LONG,
-        GenlId::Ctrl,
-        NlmF::ACK,
-        request,
-    );
+    let name = "a-name-far-too-long-for-a-family";
+    let items = controller(&rt, alloc, &TOO_LONG, NlmF::ACK, name);
     assert_is(&rt, items.len(), 1);
     let Some(Err(RouterError::Nlmsgerr(answer))) = items.first() else {
         return rt.panic("no error of the kernel");

@@ -5,6 +5,7 @@ use neli::ToBytes;
 use neli::consts::genl::{CtrlAttr, CtrlAttrMcastGrp, Index, NlAttrType};
 use neli::genl::{AttrType, Nlattr, NlattrBuilder, NlattrBuilderError};
 use neli::nl::Nlmsghdr;
+use neli::router::synchronous::{NlRouter, NlRouterReceiverHandle};
 use neli::types::Buffer;
 use neli::utils::Groups;
 use std::alloc::Global;
@@ -22,18 +23,26 @@ pub fn generic<T: NlAttrType, P: ToBytes + Drop>(
         .build(alloc)
 }
 
-/// The groups of a family: one, made from the inside out.
-fn groups_of_a_family(alloc: Global) -> Result<Nlattr<CtrlAttr, Buffer>, Fail> {
+/// A group of a family, made from the inside out.
+fn group_of_a_family(alloc: Global) -> Result<Nlattr<Index, Buffer>, Fail> {
     let group = generic(alloc, Index::from(1), ())?
         .nest(&generic(alloc, CtrlAttrMcastGrp::Name, "notify")?)?
         .nest(&generic(alloc, CtrlAttrMcastGrp::Id, 5u32)?)?;
+    Ok(group)
+}
+
+/// The groups of a family: this one.
+fn groups_of_a_family(
+    alloc: Global,
+    group: Nlattr<Index, Buffer>,
+) -> Result<Nlattr<CtrlAttr, Buffer>, Fail> {
     let groups = generic(alloc, CtrlAttr::McastGroups, ())?.nest(&group)?;
     Ok(groups)
 }
 
 #[test]
 fn nested_attributes(rt: HostRuntime) -> Result<(), Fail> {
-    let groups = groups_of_a_family(rt.alloc())?;
+    let groups = groups_of_a_family(rt.alloc(), group_of_a_family(rt.alloc())?)?;
     let want = "1c000780180001800b0001006e6f7469667900000800020005000000";
     assert_written(&rt, rt.alloc(), &groups, want);
     Ok(())
@@ -60,6 +69,20 @@ fn first_reply(
         NlmF::ACK,
         body,
     )?;
+    let reply = reply_in(alloc, &mut router, handle, datagram)?;
+    Ok((request, reply))
+}
+
+/// The first reply of the datagram: the last lines of the example.
+fn reply_in(
+    alloc: Global,
+    router: &mut NlRouter,
+    mut handle: NlRouterReceiverHandle<u16, Buffer>,
+    datagram: &[u8],
+) -> Result<Option<Nlmsghdr<u16, Buffer>>, Fail> {
+    use neli::router::synchronous::Reply;
+    use neli::utils::Groups;
+
     // Your link sends `request`, and `datagram` comes back.
     router.processing_loop(datagram, &Groups::empty(alloc))?;
     let reply = match router.next_typed::<u16, Buffer, _, _>(alloc, &mut handle)? {
@@ -69,7 +92,7 @@ fn first_reply(
         Reply::Waits => None, // none is here yet
     };
     router.close(handle);
-    Ok((request, reply))
+    Ok(reply)
 }
 
 // The controller is asked for `nlctrl`, and tells the number 16.

@@ -1,22 +1,25 @@
 //! The examples of the README, line by line.
 
 use crate::support::{assert_is, assert_spelled, bytes_of};
+use neli::consts::nl::NlmF;
+use neli::consts::rtnl::{Ifa, RtAddrFamily, RtScope, Rtm};
+use neli::nl::NlPayload;
+use neli::router::synchronous::{Log, NlRouter, Reply};
+use neli::rtnl::{Ifaddrmsg, IfaddrmsgBuilder};
+use neli::utils::Groups;
 use std::alloc::Global;
 use std::test::Fail;
 
-/// What the kernel is asked for the addresses of a link, and the first of them in its answer.
+/// Reads the answers to the request.
+type Handle = neli::router::synchronous::NlRouterReceiverHandle<Rtm, Ifaddrmsg>;
+
+/// What the kernel is asked for the addresses of a link, and the first of them in its answer. The first lines of the
+/// example stand at the top of this page, the last ones below.
 fn first_address(
     alloc: Global,
     port: u32,
     datagram: &[u8],
 ) -> Result<(Vec<u8>, Option<[u8; 4]>), Fail> {
-    use neli::consts::nl::NlmF;
-    use neli::consts::rtnl::{Ifa, RtAddrFamily, RtScope, Rtm};
-    use neli::nl::NlPayload;
-    use neli::router::synchronous::{Log, NlRouter, Reply};
-    use neli::rtnl::{Ifaddrmsg, IfaddrmsgBuilder};
-    use neli::utils::Groups;
-
     let (mut router, _multicast) = NlRouter::<Log>::new(alloc, port);
     let asked = IfaddrmsgBuilder::default()
         .ifa_family(RtAddrFamily::Inet)
@@ -31,6 +34,17 @@ fn first_address(
         NlmF::DUMP,
         body,
     )?;
+    let address = first_answer(alloc, &mut router, handle, datagram)?;
+    Ok((request, address))
+}
+
+/// The first address in the kernel's answer.
+fn first_answer(
+    alloc: Global,
+    router: &mut NlRouter,
+    mut handle: Handle,
+    datagram: &[u8],
+) -> Result<Option<[u8; 4]>, Fail> {
     // Your link sends `request`, and `datagram` comes back.
     router.processing_loop(datagram, &Groups::empty(alloc))?;
     let mut address: Option<[u8; 4]> = None;
@@ -40,7 +54,7 @@ fn first_address(
             address = Some(attrs.get_attr_payload_as(alloc, Ifa::Local)?); // 192.0.2.1
         }
     }
-    Ok((request, address))
+    Ok(address)
 }
 
 // Recorded from Linux 6.18, but for the number, which was 1179: one of the addresses of veth0.

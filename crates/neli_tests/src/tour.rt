@@ -3,8 +3,9 @@
 use crate::support::{assert_is, assert_spelled, assert_written, bytes_of};
 use neli::connector::CnMsg;
 use neli::consts::connector::ProcCnMcastOp;
-use neli::consts::rtnl::RtAddrFamily;
-use neli::router::synchronous::{Log, NlRouter};
+use neli::consts::rtnl::{RtAddrFamily, Rtm};
+use neli::nl::Nlmsghdr;
+use neli::router::synchronous::{Log, NlRouter, NlRouterReceiverHandle};
 use neli::rtnl::{Ifinfomsg, IfinfomsgBuilder};
 use std::alloc::Global;
 use std::test::Fail;
@@ -30,11 +31,25 @@ fn set_up(alloc: Global, router: &mut NlRouter, datagram: &[u8]) -> Result<(Vec<
         NlmF::ACK,
         body,
     )?;
+    let is_up = is_set_up(alloc, router, handle, datagram)?;
+    Ok((request, is_up))
+}
+
+/// Whether the kernel did it: the last lines of the example.
+fn is_set_up(
+    alloc: Global,
+    router: &mut NlRouter,
+    mut handle: NlRouterReceiverHandle<Rtm, Ifinfomsg>,
+    datagram: &[u8],
+) -> Result<bool, Fail> {
+    use neli::router::synchronous::Reply;
+    use neli::utils::Groups;
+
     // Your link sends `request`, and `datagram` comes back.
     router.processing_loop(datagram, &Groups::empty(alloc))?;
     let answer = router.next_typed::<Rtm, Ifinfomsg, _, _>(alloc, &mut handle)?;
     let is_up = matches!(answer, Reply::Item(Ok(_)));
-    Ok((request, is_up))
+    Ok(is_up)
 }
 
 // Recorded from Linux 6.18: veth0 is set up, acknowledged.
@@ -71,6 +86,16 @@ fn resolve(alloc: Global, router: &mut NlRouter, datagram: &[u8]) -> Result<(u16
         items.push(item)?;
     }
     let family = resolve_genl_family(alloc, "tcp_metrics", items)?;
+    let request = command(alloc, router, family)?;
+    Ok((family, request))
+}
+
+/// A request to the family: the last lines of the example.
+fn command(alloc: Global, router: &mut NlRouter, family: u16) -> Result<Vec<u8>, Fail> {
+    use neli::consts::nl::NlmF;
+    use neli::genl::{Genlmsghdr, GenlmsghdrBuilder};
+    use neli::nl::NlPayload;
+
     // Command 1 of the family, whose number is the type of the message.
     let command = GenlmsghdrBuilder::<u8, u16>::default()
         .cmd(1)
@@ -83,7 +108,7 @@ fn resolve(alloc: Global, router: &mut NlRouter, datagram: &[u8]) -> Result<(u16
         NlmF::DUMP,
         body,
     )?;
-    Ok((family, request))
+    Ok(request)
 }
 
 // Recorded from Linux 6.18: the controller tells of `tcp_metrics`, whose number was 27.
@@ -162,6 +187,19 @@ fn answer(alloc: Global, asked: &[u8], link: Ifinfomsg) -> Result<Vec<u8>, Fail>
     use neli::{Cursor, FromBytes, ToBytes};
 
     let request = Nlmsghdr::<Rtm, Ifinfomsg>::from_bytes(alloc, &mut Cursor::new(asked))?;
+    reply_with(alloc, &request, link)
+}
+
+/// The link, as the answer to a request: the last lines of the example.
+fn reply_with(
+    alloc: Global,
+    request: &Nlmsghdr<Rtm, Ifinfomsg>,
+    link: Ifinfomsg,
+) -> Result<Vec<u8>, Fail> {
+    use neli::consts::nl::NlmF;
+    use neli::nl::{NlPayload, NlmsghdrBuilder};
+    use neli::ToBytes;
+
     let reply = NlmsghdrBuilder::default()
         .nl_type(Rtm::Newlink)
         .nl_flags(NlmF::empty())

@@ -1,5 +1,6 @@
 //! Payloads whose message passes 32 bits: a type of a user's own, that writes zeros and takes no memory itself.
 
+use crate::store::asked;
 use crate::support::{assert_is, assert_prints};
 use neli::consts::nl::NlmF;
 use neli::err::{RouterError, SerError};
@@ -57,10 +58,7 @@ const PAST: usize = 4294967277;
 
 /// The number of the handle that an empty request gets.
 fn next_number(rt: &impl Abort, alloc: Global, router: &mut NlRouter<Log>) -> Option<u32> {
-    let (_bytes, handle): (Vec<u8>, NlRouterReceiverHandle<u16, Buffer>) = router
-        .send(alloc, 16u16, NlmF::empty(), NlPayload::<u16, Buffer>::Empty)
-        .expect(rt, "a request");
-    handle.state().number
+    asked(rt, alloc, router).state().number
 }
 
 #[test]
