@@ -2,15 +2,14 @@
 
 use crate::kinds::ERROR;
 use crate::reading::ONE;
-use crate::support::{Raw, assert_is, assert_prints, assert_written};
+use crate::support::{assert_is, assert_is_at, assert_prints, assert_written, raw_message};
+use neli::Size;
 use neli::consts::nl::{NlmF, NlmsgerrAttr};
 use neli::err::{
     BuildError, Nlmsgerr, NlmsgerrBuilder, NlmsghdrAck, NlmsghdrAckBuilder, NlmsghdrErrBuilder,
 };
-use neli::nl::{NlPayload, Nlmsghdr, NlmsghdrBuilder};
+use neli::nl::{NlPayload, NlmsghdrBuilder};
 use neli::types::{Buffer, GenlBuffer};
-use neli::{Cursor, FromBytes, Size};
-use std::process::Abort;
 
 // `NLMSG_ALIGN` of linux/netlink.h: a body of five bytes takes eight.
 #[test]
@@ -34,29 +33,32 @@ fn a_length_is_rounded_up(rt: HostRuntime) {
     );
 }
 
-// Padding of any value is written as zeros.
-#[test]
-fn what_is_read_is_written(rt: HostRuntime) {
-    let alloc = rt.alloc();
-    let mut noisy = ERROR;
-    noisy[41] = 7;
-    noisy[43] = 9;
-    for bytes in [&ERROR, &noisy] {
-        let read = Nlmsghdr::from_bytes(alloc, &mut Cursor::new(bytes));
-        let raw: Nlmsghdr<u16, Buffer> = read.expect(&rt, "a message");
-        assert_written(&rt, alloc, &raw, &ERROR);
-    }
-}
+/// [`ERROR`] with other values in the first and the last byte of padding after the echo.
+const NOISY: [u8; 52] = [
+    0x34, 0, 0, 0, 2, 0, 0, 2, 0, 0, 0, 0, 0, 0, 0, 0, 0xea, 0xff, 0xff, 0xff, 0x15, 0, 0, 0, 0, 4,
+    5, 0, 0, 0, 0, 0, 0, 0, 0, 0, 0x61, 0x62, 0x63, 0x64, 0x65, 7, 0, 9, 8, 0, 1, 0, 0x62, 0x61,
+    0x64, 0,
+];
 
-// Of a payload of one byte too: its three padding bytes were ff.
+/// [`ONE`] with zeros for padding.
+const ONE_WITH_ZEROS: [u8; 20] = [
+    0x11, 0, 0, 0, 0, 4, 0, 0, 0, 0, 0, 0, 0, 0, 0, 0, 0x61, 0, 0, 0,
+];
+
+/// Messages, and what each is written as after it is read: padding of any value is written as zeros.
+const WRITTEN: [(&[u8], &[u8]); 3] = [
+    (&ERROR, &ERROR),
+    (&NOISY, &ERROR),
+    // A payload of one byte, whose three padding bytes were ff.
+    (&ONE, &ONE_WITH_ZEROS),
+];
+
 #[test]
-fn padding_is_written_as_zeros(rt: HostRuntime) {
-    let read = Raw::from_bytes(rt.alloc(), &mut Cursor::new(&ONE));
-    let message = read.expect(&rt, "a message");
-    let want = [
-        0x11, 0, 0, 0, 0, 4, 0, 0, 0, 0, 0, 0, 0, 0, 0, 0, 0x61, 0, 0, 0,
-    ];
-    assert_written(&rt, rt.alloc(), &message, &want);
+fn what_is_read_is_written_with_zeros_for_padding(rt: HostRuntime) {
+    for (bytes, want) in WRITTEN {
+        let message = raw_message(&rt, rt.alloc(), bytes);
+        assert_written(&rt, rt.alloc(), &message, want);
+    }
 }
 
 /// The field that a builder names as missing.
@@ -73,38 +75,29 @@ fn the_first_missing_field_is_named(rt: HostRuntime) {
     let answer = NlmsgerrBuilder::<()>::default().error(-22);
     let message = NlmsghdrBuilder::<u16, Vec<u8>>::default().nl_type(1);
     let rows = [
-        (missing_of(echo.build()), "nl_payload"),
-        (missing_of(answer.build(rt.alloc())), "nlmsg"),
-        (missing_of(message.build()), "nl_flags"),
+        ("an echo", missing_of(echo.build()), "nl_payload"),
+        ("an answer", missing_of(answer.build(rt.alloc())), "nlmsg"),
+        ("a message", missing_of(message.build()), "nl_flags"),
     ];
-    for (missing, want) in rows {
-        assert_is(&rt, missing, want);
+    for (row, missing, want) in rows {
+        assert_is_at(&rt, row, missing, want);
     }
-}
-
-#[test]
-fn a_missing_field_is_printed(rt: HostRuntime) {
     let header = NlmsghdrAckBuilder::<u16>::default().build();
     let error = header.err().expect(&rt, "a field is missing");
     assert_prints(&rt, rt.alloc(), &error, "`nl_len` must be initialized");
 }
 
-/// The header that an acknowledgement repeats.
-fn repeated(rt: &impl Abort) -> NlmsghdrAck<u16> {
-    NlmsghdrAckBuilder::default()
+#[test]
+fn an_acknowledgement_is_built(rt: HostRuntime) {
+    let alloc = rt.alloc();
+    let header = NlmsghdrAckBuilder::default()
         .nl_len(32)
         .nl_type(16u16)
         .nl_flags(NlmF::ACK)
         .nl_seq(1)
         .nl_pid(2)
         .build()
-        .expect(rt, "a header")
-}
-
-#[test]
-fn an_acknowledgement_is_built(rt: HostRuntime) {
-    let alloc = rt.alloc();
-    let header = repeated(&rt);
+        .expect(&rt, "a header");
     assert_is(&rt, header.written_size(), 16);
     let answer: Nlmsgerr<NlmsghdrAck<u16>> = NlmsgerrBuilder::default()
         .error(-1)

@@ -1,7 +1,8 @@
 //! The kinds of payload, by type, flags, code and length.
 
-use crate::reading::{Refusal, refusal_of};
-use crate::support::{RawError, assert_is, assert_is_at, error_in, read_error};
+use crate::support::{
+    Raw, RawError, Refusal, assert_is, assert_is_at, error_in, read_error, refusal_in, refusal_of,
+};
 use neli::consts::nl::{NlmF, NlmsgerrAttr};
 use neli::err::{DeError, Nlmsgerr, NlmsghdrAck, NlmsghdrErr};
 use neli::iter::cut;
@@ -147,24 +148,25 @@ fn a_payload_is_of_its_kind(rt: HostRuntime) {
     }
 }
 
+/// The words of the error that the message carries.
+pub fn words_in(rt: &impl Abort, alloc: Global, message: &Raw) -> Vec<u8> {
+    error_in(rt, message)
+        .ext_ack()
+        .get_attr_handle()
+        .get_attr_payload_as_with_len(alloc, NlmsgerrAttr::Msg)
+        .expect(rt, "words")
+}
+
 #[test]
-fn an_error_has_its_echo(rt: HostRuntime) {
+fn an_error_has_its_echo_and_its_attributes(rt: HostRuntime) {
     let message = read_error(&rt, rt.alloc());
     let echo = error_in(&rt, &message).nlmsg();
     let fields = (*echo.nl_len(), *echo.nl_type(), u16::from(*echo.nl_flags()));
     assert_is(&rt, fields, (21, 1024, 5));
     assert_is(&rt, (*echo.nl_seq(), *echo.nl_pid()), (0, 0));
     assert_is(&rt, echo.nl_payload().as_ref(), b"abcde".as_slice());
-}
-
-#[test]
-fn an_error_has_its_attributes(rt: HostRuntime) {
-    let message = read_error(&rt, rt.alloc());
-    let handle = error_in(&rt, &message).ext_ack().get_attr_handle();
-    let text: Vec<u8> = handle
-        .get_attr_payload_as_with_len(rt.alloc(), NlmsgerrAttr::Msg)
-        .expect(&rt, "words");
-    assert_is(&rt, text.as_slice(), b"bad\0".as_slice());
+    let words = words_in(&rt, rt.alloc(), &message);
+    assert_is(&rt, words.as_slice(), b"bad\0".as_slice());
 }
 
 /// The bytes of [`ERROR`] from this place on.
@@ -175,17 +177,21 @@ fn error_from(rt: &impl Abort, place: usize) -> Cursor<'static> {
     cursor
 }
 
+/// A payload that is read by itself.
+type Read = Result<NlPayload<u16, Buffer>, DeError>;
+
 // What follows the place of each part: the payload of `ERROR` by itself, its first 20 bytes, and its echo.
 #[test]
 fn payloads_are_read_by_themselves(rt: HostRuntime) {
     let mut cursor = error_from(&rt, 16);
-    let read = NlPayload::from_parts(rt.alloc(), &mut cursor, 2, NlmF::empty(), 36);
-    let payload: NlPayload<u16, Buffer> = read.expect(&rt, "a payload");
-    assert_is(
-        &rt,
-        (kind_of(&payload), cursor.position()),
-        (Kind::Error(-22, 5, 1), 52),
-    );
+    let read: Read = NlPayload::from_parts(rt.alloc(), &mut cursor, 2, NlmF::empty(), 36);
+    let kind = kind_of(&read.expect(&rt, "a payload"));
+    let want = Kind::Error(-22, 5, 1);
+    assert_is(&rt, (kind, cursor.position()), (want, 52));
+    // Past the bytes.
+    let mut cursor = error_from(&rt, 44);
+    let read: Read = NlPayload::from_parts(rt.alloc(), &mut cursor, 16, NlmF::empty(), 9);
+    assert_is(&rt, refusal_in(read), Some(Refusal::Input(9)));
 }
 
 #[test]
@@ -212,16 +218,4 @@ fn echoes_are_read_by_themselves(rt: HostRuntime) {
     let read = NlmsghdrErr::<u16, Buffer>::from_bytes(alloc, &mut cursor);
     let echo = read.expect(&rt, "an echo");
     assert_is(&rt, (echo.nl_payload().len(), cursor.position()), (5, 44));
-}
-
-#[test]
-fn a_payload_past_the_bytes_is_refused(rt: HostRuntime) {
-    let short: Result<NlPayload<u16, Buffer>, DeError> = NlPayload::from_parts(
-        rt.alloc(),
-        &mut error_from(&rt, 44),
-        16,
-        NlmF::empty(),
-        9,
-    );
-    assert!(rt; matches!(short, Err(DeError::InvalidInput(9))));
 }

@@ -1,10 +1,8 @@
 //! Lists of messages.
 
-use crate::support::{Raw, assert_is, assert_written};
+use crate::support::{assert_is, assert_written, raw_message};
 use neli::types::{Buffer, NlBuffer};
-use neli::{Cursor, FromBytes, FromBytesWithInput};
-use std::alloc::Global;
-use std::process::Abort;
+use neli::{Cursor, FromBytesWithInput};
 
 /// A message of type 16 without a payload, with the number 5 and the port 7, and one of type 1024 with the
 /// payload `61`, and three padding bytes of any value.
@@ -25,15 +23,10 @@ const THREE: [u8; 60] = [
     0x18, 0, 0, 0, 0, 4, 1, 0, 0, 0, 0, 0, 0, 0, 0, 0, 0x61, 0x62, 0x63, 0x64, 0x65, 0, 0, 0,
 ];
 
-/// The list of the messages in [`TWO`].
-fn two(rt: &impl Abort, alloc: Global) -> NlBuffer<u16, Buffer> {
-    let read = NlBuffer::from_bytes_with_input(alloc, &mut Cursor::new(&TWO), 36);
-    read.expect(rt, "two messages")
-}
-
 #[test]
-fn a_list_has_its_messages_in_their_order(rt: HostRuntime) {
-    let list = two(&rt, rt.alloc());
+fn a_list_has_its_messages_in_their_order_and_takes_one_more(rt: HostRuntime) {
+    let read = NlBuffer::from_bytes_with_input(rt.alloc(), &mut Cursor::new(&TWO), 36);
+    let mut list: NlBuffer<u16, Buffer> = read.expect(&rt, "two messages");
     assert_is(&rt, list.len(), 2);
     for (message, (fields, count)) in list.iter().zip([((16, 5, 7), 0), ((1024, 0, 0), 1)]) {
         let found = (*message.nl_type(), *message.nl_seq(), *message.nl_pid());
@@ -41,13 +34,7 @@ fn a_list_has_its_messages_in_their_order(rt: HostRuntime) {
         let body = message.get_payload().expect(&rt, "a payload");
         assert_is(&rt, body.len(), count);
     }
-}
-
-#[test]
-fn a_list_is_written_with_one_message_more(rt: HostRuntime) {
-    let mut list = two(&rt, rt.alloc());
-    let read = Raw::from_bytes(rt.alloc(), &mut Cursor::new(&MORE));
-    list.push(read.expect(&rt, "a message"))
+    list.push(raw_message(&rt, rt.alloc(), &MORE))
         .expect(&rt, "memory");
     assert_written(&rt, rt.alloc(), &list, &THREE);
 }

@@ -2,10 +2,9 @@
 //! changed. They are run with each allocation refused in turn.
 
 use crate::kinds::ERROR;
-use crate::support::{Cause, Raw, assert_is, cause_of};
+use crate::support::{Raw, Refusal, assert_is, error_in, router_refusal};
 use neli::err::{DeError, SerError, SocketError};
 use neli::iter::NlBufferIter;
-use neli::nl::NlPayload;
 use neli::types::Buffer;
 use neli::{Cursor, FromBytes, ToBytes};
 use std::alloc::Global;
@@ -22,14 +21,6 @@ fn taken(
     }
 }
 
-// The code of an error.
-fn code_of(message: &Raw) -> i32 {
-    match message.nl_payload() {
-        NlPayload::Err(answer) => *answer.error(),
-        _ => 0,
-    }
-}
-
 #[test]
 fn a_message_or_out_of_memory_and_then_the_message(rt: HostRuntime) {
     let alloc = rt.alloc();
@@ -41,7 +32,8 @@ fn a_message_or_out_of_memory_and_then_the_message(rt: HostRuntime) {
             taken(alloc, &mut messages).expect(&rt, "refused again")
         }
     };
-    assert_is(&rt, code_of(&message.expect(&rt, "a message")), -22);
+    let message = message.expect(&rt, "a message");
+    assert_is(&rt, *error_in(&rt, &message).error(), -22);
     assert!(rt; messages.next(alloc).is_none());
 }
 
@@ -68,7 +60,7 @@ fn a_typed_message_or_out_of_memory(rt: HostRuntime) {
     };
     match raw.to_typed::<u16, Vec<u8>>(rt.alloc()) {
         Ok(typed) => assert_is(&rt, *typed.nl_len(), 52),
-        Err(error) => assert_is(&rt, cause_of(error), Cause::Memory),
+        Err(error) => assert_is(&rt, router_refusal(error), Refusal::Memory),
     }
 }
 

@@ -1,11 +1,11 @@
-//! The parts of messages by themselves: a header, an echoed message, and answers.
+//! The parts of messages by themselves: a header, and answers.
 
-use crate::support::{Cause, Raw, assert_is, cause_of, error_in, read_error};
-use neli::consts::netfilter::NetfilterMsg;
+use crate::support::{Raw, assert_is};
 use neli::consts::nl::{GenlId, NlTypeWrapper, NlmF};
-use neli::err::{Nlmsgerr, NlmsghdrAck, NlmsghdrErr};
+use neli::err::{Nlmsgerr, NlmsghdrAck};
 use neli::nl::{NlPayload, Nlmsghdr};
-use neli::{Cursor, FromBytesWithInput};
+use neli::types::Buffer;
+use neli::{Cursor, FromBytesWithInput, Header};
 use std::process::Abort;
 
 /// A code that is no error, and the header of a message of 32 bytes, type 16, REQUEST and ACK, number 3,
@@ -24,24 +24,23 @@ fn fields_of<T>(header: &NlmsghdrAck<T>) -> (u32, u16, u32, u32) {
 }
 
 #[test]
-fn a_header_is_read_of_bytes(rt: HostRuntime) {
+fn a_header_is_read_of_bytes_and_typed(rt: HostRuntime) {
     let header = header(&rt);
     assert_is(&rt, *header.nl_type(), 16);
     assert_is(&rt, fields_of(&header), (32, 5, 3, 7));
     assert!(rt; NlmsghdrAck::<u16>::of_bytes(&ANSWER[5..]).is_none());
-}
-
-#[test]
-fn a_header_is_typed(rt: HostRuntime) {
-    let typed = header(&rt).to_typed::<NlTypeWrapper>();
+    let typed = header.to_typed::<NlTypeWrapper>();
     assert_is(&rt, *typed.nl_type(), NlTypeWrapper::GenlId(GenlId::Ctrl));
     assert_is(&rt, fields_of(&typed), (32, 5, 3, 7));
+    assert_is(&rt, <Raw as Header>::header_size(), 16);
 }
 
 // The length stays, whatever the payload is.
 #[test]
 fn a_message_has_the_header_that_is_given(rt: HostRuntime) {
-    let message: Raw = Nlmsghdr::from_header(header(&rt), NlPayload::Empty);
+    let empty: NlPayload<u16, Buffer> = NlPayload::Empty;
+    assert!(rt; matches!(empty, NlPayload::Empty));
+    let message: Raw = Nlmsghdr::from_header(header(&rt), empty);
     assert!(rt; matches!(message.nl_payload(), NlPayload::Empty));
     assert_is(&rt, (*message.nl_len(), *message.nl_type()), (32, 16));
     assert_is(&rt, *message.nl_flags(), NlmF::REQUEST | NlmF::ACK);
@@ -58,52 +57,6 @@ fn an_acknowledgement_is_typed(rt: HostRuntime) {
     let header = typed.nlmsg();
     assert_is(&rt, *header.nl_type(), NlTypeWrapper::GenlId(GenlId::Ctrl));
     assert_is(&rt, fields_of(header), (32, 5, 3, 7));
-}
-
-/// Asserts that this is the echo in [`ERROR`](crate::kinds::ERROR), with a type that is known and a length
-/// that is rounded up.
-fn assert_echo(rt: &impl Abort, echo: &NlmsghdrErr<NlTypeWrapper, Vec<u8>>) {
-    let log = NlTypeWrapper::NetfilterMsg(NetfilterMsg::LogPacket);
-    assert_is(rt, (*echo.nl_len(), *echo.nl_type()), (24, log));
-    assert_is(rt, *echo.nl_flags(), NlmF::REQUEST | NlmF::ACK);
-    assert_is(rt, (*echo.nl_seq(), *echo.nl_pid()), (0, 0));
-    assert_is(rt, echo.nl_payload().as_slice(), b"abcde".as_slice());
-}
-
-#[test]
-fn an_echo_is_typed(rt: HostRuntime) {
-    let raw = read_error(&rt, rt.alloc());
-    let typed = error_in(&rt, &raw).nlmsg().to_typed(rt.alloc());
-    assert_echo(&rt, &typed.expect(&rt, "an echo"));
-}
-
-#[test]
-fn an_error_is_typed(rt: HostRuntime) {
-    let raw = read_error(&rt, rt.alloc());
-    let typed = error_in(&rt, &raw).to_typed(rt.alloc());
-    let answer = typed.expect(&rt, "an error");
-    assert_echo(&rt, answer.nlmsg());
-    assert_is(&rt, (*answer.error(), answer.ext_ack().len()), (-22, 1));
-}
-
-// Five bytes are no numbers of four.
-#[test]
-fn an_echo_is_refused_as_its_payload_is(rt: HostRuntime) {
-    let alloc = rt.alloc();
-    let raw = read_error(&rt, alloc);
-    let answer = error_in(&rt, &raw);
-    let echo = answer.nlmsg().to_typed::<u16, Vec<u32>>(alloc).err();
-    assert_is(
-        &rt,
-        cause_of(echo.expect(&rt, "a refusal")),
-        Cause::Input(5),
-    );
-    let error = answer.to_typed::<u16, Vec<u32>>(alloc).err();
-    assert_is(
-        &rt,
-        cause_of(error.expect(&rt, "a refusal")),
-        Cause::Input(5),
-    );
 }
 
 #[test]

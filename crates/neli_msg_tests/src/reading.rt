@@ -1,32 +1,15 @@
 //! One message, and a whole datagram.
 
-use crate::kinds::ERROR;
-use crate::support::{Raw, assert_is, assert_is_at, error_in};
-use neli::consts::nl::{NlmF, Nlmsg, NlmsgerrAttr};
+use crate::kinds::{ERROR, words_in};
+use crate::support::{Raw, Refusal, assert_is, assert_is_at, raw_message, refusal_in, refusal_of};
+use neli::consts::nl::{NlmF, Nlmsg};
 use neli::err::{DeError, SocketError};
 use neli::iter::{NlBufferIter, cut};
 use neli::nl::{NlPayload, Nlmsghdr};
-use neli::{Cursor, FromBytes, Header};
+use neli::types::Buffer;
+use neli::{Cursor, FromBytes};
 use std::alloc::Global;
-use std::io::ErrorKind;
 use std::process::Abort;
-
-/// What reading answers where it refuses.
-#[derive(Clone, Copy, Debug, PartialEq, Eq)]
-pub enum Refusal {
-    Short,
-    Input(usize),
-    Other,
-}
-
-/// The refusal of a read.
-pub fn refusal_of(error: &DeError) -> Refusal {
-    match error {
-        DeError::Io(ErrorKind::UnexpectedEof) => Refusal::Short,
-        DeError::InvalidInput(n) => Refusal::Input(*n),
-        _ => Refusal::Other,
-    }
-}
 
 /// One message of type 1024 with the payload `61`, and three padding bytes of any value.
 pub const ONE: [u8; 20] = [
@@ -94,11 +77,13 @@ const REQUEST: [u8; 32] = [
     0x74, 0x72, 0x6c, 0, 0,
 ];
 
-/// The refusal of a reader's item.
-fn fault_of(item: Option<Result<Raw, SocketError>>) -> Option<Refusal> {
-    match &item {
-        Some(Err(SocketError::De(error))) => Some(refusal_of(error)),
-        _ => None,
+/// What the next item of a datagram is: a message, or why there is none.
+fn item_of<M: Drop>(item: Option<Result<M, SocketError>>) -> Option<Result<(), Refusal>> {
+    match item {
+        None => None,
+        Some(Ok(_)) => Some(Ok(())),
+        Some(Err(SocketError::De(error))) => Some(Err(refusal_of(&error))),
+        Some(Err(_)) => Some(Err(Refusal::Other)),
     }
 }
 
@@ -106,37 +91,28 @@ fn fault_of(item: Option<Result<Raw, SocketError>>) -> Option<Refusal> {
 /// and nothing else.
 fn assert_refused(rt: &impl Abort, alloc: Global, bytes: &[u8], want: Refusal) {
     let mut cursor = Cursor::new(bytes);
-    let read = Raw::from_bytes(alloc, &mut cursor).err();
-    let refusal = read.map(|error| refusal_of(&error));
+    let refusal = refusal_in(Raw::from_bytes(alloc, &mut cursor));
     assert_is_at(rt, bytes, (refusal, cursor.position()), (Some(want), 0));
-    let mut messages = NlBufferIter::new(bytes);
-    let fault = fault_of(messages.next(alloc));
-    let ended = messages.next(alloc).is_none();
-    assert_is_at(rt, bytes, (fault, ended), (Some(want), true));
+    let mut messages: NlBufferIter<'_, u16, Buffer> = NlBufferIter::new(bytes);
+    let fault = item_of(messages.next(alloc));
+    let rest = item_of(messages.next(alloc));
+    assert_is_at(rt, bytes, (fault, rest), (Some(Err(want)), None));
 }
 
-// Of 52 bytes 36 are the payload: they are missed where the header is there.
-#[test]
-fn an_error_that_is_cut_is_refused(rt: HostRuntime) {
-    for k in 1..52 {
-        let want = if k < 16 {
-            Refusal::Short
-        } else {
-            Refusal::Input(36)
-        };
-        assert_refused(&rt, rt.alloc(), &ERROR[..k], want);
-    }
-}
+/// Messages, and the count of bytes in the payload: they are missed where the header is there.
+const CUT: [(&[u8], usize); 2] = [(&ERROR, 36), (&REQUEST, 16)];
 
 #[test]
-fn a_request_that_is_cut_is_refused(rt: HostRuntime) {
-    for k in 1..32 {
-        let want = if k < 16 {
-            Refusal::Short
-        } else {
-            Refusal::Input(16)
-        };
-        assert_refused(&rt, rt.alloc(), &REQUEST[..k], want);
+fn a_message_that_is_cut_is_refused(rt: HostRuntime) {
+    for (bytes, missed) in CUT {
+        for k in 1..bytes.len() {
+            let want = if k < 16 {
+                Refusal::Short
+            } else {
+                Refusal::Input(missed)
+            };
+            assert_refused(&rt, rt.alloc(), &bytes[..k], want);
+        }
     }
 }
 
@@ -177,101 +153,52 @@ fn an_error_with_a_wrong_length_is_refused(rt: HostRuntime) {
 #[test]
 fn an_attribute_of_three_bytes_is_read(rt: HostRuntime) {
     let bytes = changed(&rt, ATTRIBUTE, [7, 0, 1, 0]);
-    let read = Raw::from_bytes(rt.alloc(), &mut Cursor::new(&bytes));
-    let message = read.expect(&rt, "a message");
-    let handle = error_in(&rt, &message).ext_ack().get_attr_handle();
-    let text: Vec<u8> = handle
-        .get_attr_payload_as_with_len(rt.alloc(), NlmsgerrAttr::Msg)
-        .expect(&rt, "words");
-    assert_is(&rt, text.as_slice(), b"bad".as_slice());
+    let message = raw_message(&rt, rt.alloc(), &bytes);
+    let words = words_in(&rt, rt.alloc(), &message);
+    assert_is(&rt, words.as_slice(), b"bad".as_slice());
 }
 
 /// A datagram of the end of a dump, the message [`ONE`], and nine zeros.
-fn datagram() -> [u8; 45] {
-    let mut bytes = [0; 45];
-    bytes[..16].copy_from_slice(&[16, 0, 0, 0, 3, 0, 2, 0xf0, 5, 0, 0, 0, 7, 0, 0, 0]);
-    bytes[16..36].copy_from_slice(&ONE);
-    bytes
-}
-
-/// The ends of a datagram, and whether there is a fault before them.
-const ENDS: [(&str, usize, bool); 2] = [
-    ("nothing after it", 36, false),
-    ("zeros after it", 45, true),
+const DATAGRAM: [u8; 45] = [
+    16, 0, 0, 0, 3, 0, 2, 0xf0, 5, 0, 0, 0, 7, 0, 0, 0, //
+    17, 0, 0, 0, 0, 4, 0, 0, 0, 0, 0, 0, 0, 0, 0, 0, 0x61, 0xff, 0xff, 0xff, //
+    0, 0, 0, 0, 0, 0, 0, 0, 0,
 ];
 
-#[test]
-fn the_first_message_of_a_datagram_is_typed(rt: HostRuntime) {
-    let bytes = datagram();
-    for (row, end, _) in ENDS {
-        let end = bytes.get(..end).expect(&rt, row);
-        let mut messages: NlBufferIter<'_, u16, Vec<u8>> = NlBufferIter::new(end);
-        let first = messages
-            .next_typed::<Nlmsg, Vec<u16>>(rt.alloc())
-            .expect(&rt, "a message")
-            .expect(&rt, row);
-        let header = (
-            *first.nl_len(),
-            *first.nl_type(),
-            u16::from(*first.nl_flags()),
-            *first.nl_seq(),
-            *first.nl_pid(),
-        );
-        assert_is_at(&rt, row, header, (16, Nlmsg::Done, 0xf002, 5, 7));
-        assert!(rt; matches!(first.nl_payload(), NlPayload::Empty), "{row}");
-    }
-}
+/// The ends of [`DATAGRAM`], and the fault before them.
+const ENDS: [(&str, usize, Option<Result<(), Refusal>>); 2] = [
+    ("nothing after it", 36, None),
+    ("zeros after it", 45, Some(Err(Refusal::Short))),
+];
 
-/// What the next item of a datagram is.
-#[derive(Clone, Copy, Debug, PartialEq, Eq)]
-enum Item {
-    Message,
-    Short,
-    Other,
-    End,
-}
-
-fn item_of<M: Drop>(item: Option<Result<M, SocketError>>) -> Item {
-    match item {
-        None => Item::End,
-        Some(Ok(_)) => Item::Message,
-        Some(Err(SocketError::De(DeError::Io(ErrorKind::UnexpectedEof)))) => Item::Short,
-        Some(Err(_)) => Item::Other,
-    }
+/// Asserts that this is the end of a dump in [`DATAGRAM`].
+fn assert_end(rt: &impl Abort, row: &str, first: &Nlmsghdr<Nlmsg, Vec<u16>>) {
+    let header = (
+        *first.nl_len(),
+        *first.nl_type(),
+        u16::from(*first.nl_flags()),
+        *first.nl_seq(),
+        *first.nl_pid(),
+    );
+    assert_is_at(rt, row, header, (16, Nlmsg::Done, 0xf002, 5, 7));
+    assert!(rt; matches!(first.nl_payload(), NlPayload::Empty), "{row}");
 }
 
 #[test]
-fn a_datagram_ends_or_has_one_fault(rt: HostRuntime) {
+fn a_datagram_has_two_messages_and_ends_or_has_one_fault(rt: HostRuntime) {
     let alloc = rt.alloc();
-    let bytes = datagram();
     for (row, end, fault) in ENDS {
-        let end = bytes.get(..end).expect(&rt, row);
-        let mut messages: NlBufferIter<'_, u16, Vec<u8>> = NlBufferIter::new(end);
-        let first = item_of(messages.next_typed::<Nlmsg, Vec<u16>>(alloc));
-        let second = item_of(messages.next(alloc));
-        assert_is_at(&rt, row, (first, second), (Item::Message, Item::Message));
+        let bytes = DATAGRAM.get(..end).expect(&rt, row);
+        let mut messages: NlBufferIter<'_, u16, Vec<u8>> = NlBufferIter::new(bytes);
+        let first = messages.next_typed::<Nlmsg, Vec<u16>>(alloc);
+        assert_end(&rt, row, &first.expect(&rt, "a message").expect(&rt, row));
+        let second = messages.next(alloc).expect(&rt, "a second message");
+        let flags = *second.expect(&rt, row).nl_flags();
+        assert_is_at(&rt, row, flags, NlmF::empty());
         let third = item_of(messages.next(alloc));
-        let want = if fault { Item::Short } else { Item::End };
-        assert_is_at(&rt, row, third, want);
         let rest = item_of(messages.next(alloc));
         let typed = item_of(messages.next_typed::<Nlmsg, Vec<u8>>(alloc));
-        assert_is_at(&rt, row, (rest, typed), (Item::End, Item::End));
-    }
-}
-
-#[test]
-fn the_second_message_of_a_datagram_has_no_flags(rt: HostRuntime) {
-    let bytes = datagram();
-    for (row, end, _) in ENDS {
-        let end = bytes.get(..end).expect(&rt, row);
-        let mut messages: NlBufferIter<'_, u16, Vec<u8>> = NlBufferIter::new(end);
-        let first = item_of(messages.next(rt.alloc()));
-        assert_is_at(&rt, row, first, Item::Message);
-        let second = messages
-            .next(rt.alloc())
-            .expect(&rt, "a second message")
-            .expect(&rt, row);
-        assert_is_at(&rt, row, *second.nl_flags(), NlmF::empty());
+        assert_is_at(&rt, row, [third, rest, typed], [fault, None, None]);
     }
 }
 
@@ -279,8 +206,8 @@ fn the_second_message_of_a_datagram_has_no_flags(rt: HostRuntime) {
 #[test]
 fn a_payload_is_refused_before_its_padding_is_missed(rt: HostRuntime) {
     let mut messages: NlBufferIter<'_, u16, Vec<u16>> = NlBufferIter::new(&ONE[..17]);
-    let item = messages.next(rt.alloc());
-    assert!(rt; matches!(item, Some(Err(SocketError::De(DeError::InvalidInput(1))))));
+    let item = item_of(messages.next(rt.alloc()));
+    assert_is(&rt, item, Some(Err(Refusal::Input(1))));
 }
 
 #[test]
@@ -295,9 +222,4 @@ fn a_datagram_is_cut(rt: HostRuntime) {
         );
         assert_is_at(&rt, row, (messages.len(), found.is_some()), (count, fault));
     }
-}
-
-#[test]
-fn the_header_has_16_bytes(rt: HostRuntime) {
-    assert_is(&rt, <Raw as Header>::header_size(), 16);
 }

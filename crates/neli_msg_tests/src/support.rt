@@ -1,12 +1,16 @@
-//! What the tests share.
+//! What the tests share: refusals that can be compared, one comparison for all, and what is read from bytes.
 
 use crate::kinds::ERROR;
+use neli::consts::Constant;
+use neli::consts::nl::NlType;
 use neli::err::{DeError, Nlmsgerr, NlmsghdrErr, RouterError};
+use neli::lent::{LentAttr, LentMessage};
 use neli::nl::{NlPayload, Nlmsghdr};
 use neli::types::Buffer;
-use neli::{Cursor, FromBytes, ToBytes};
+use neli::{Cursor, FromBytes, FromBytesWithInput, Size, ToBytes};
 use std::alloc::Global;
 use std::fmt::{Debug, Display};
+use std::io::ErrorKind;
 use std::process::Abort;
 
 /// Asserts that this is what is wanted.
@@ -24,40 +28,92 @@ pub fn assert_is_at<R: Copy + Debug, T: Copy + PartialEq + Debug>(
     assert_eq!(rt; got, want, "at {row:?}");
 }
 
+/// What a call is refused with.
+#[derive(Clone, Copy, Debug, PartialEq, Eq)]
+pub enum Refusal {
+    /// The bytes end too early.
+    Short,
+    /// A count of bytes that does not fit.
+    Input(usize),
+    /// Memory ran out.
+    Memory,
+    Other,
+}
+
+/// The refusal of a read.
+pub fn refusal_of(error: &DeError) -> Refusal {
+    match error {
+        DeError::Io(ErrorKind::UnexpectedEof) => Refusal::Short,
+        DeError::InvalidInput(n) => Refusal::Input(*n),
+        DeError::Memory => Refusal::Memory,
+        _ => Refusal::Other,
+    }
+}
+
+/// The refusal of a read, or None where there is a value.
+pub fn refusal_in<T: Drop>(read: Result<T, DeError>) -> Option<Refusal> {
+    match read {
+        Ok(_) => None,
+        Err(error) => Some(refusal_of(&error)),
+    }
+}
+
+/// The refusal that a router's error is.
+pub fn router_refusal<T: Drop, P: Drop>(error: RouterError<T, P>) -> Refusal {
+    match error {
+        RouterError::Memory => Refusal::Memory,
+        RouterError::De(DeError::InvalidInput(n)) => Refusal::Input(n),
+        _ => Refusal::Other,
+    }
+}
+
+/// The attribute of these bytes.
+pub fn lent_attr<'b, K: Constant<Number = u16>>(
+    rt: &impl Abort,
+    bytes: &'b [u8],
+) -> LentAttr<'b, K> {
+    LentAttr::lend(&mut Cursor::new(bytes)).expect(rt, "an attribute")
+}
+
+/// The first message of these bytes.
+pub fn lent_message<'b, T: NlType>(rt: &impl Abort, bytes: &'b [u8]) -> LentMessage<'b, T> {
+    LentMessage::lend(&mut Cursor::new(bytes)).expect(rt, "a message")
+}
+
 /// A message that no type is given to.
 pub type Raw = Nlmsghdr<u16, Buffer>;
 
 /// An error with the message that it echoes.
 pub type RawError = Nlmsgerr<NlmsghdrErr<u16, Buffer>>;
 
+/// The first message of these bytes.
+pub fn raw_message(rt: &impl Abort, alloc: Global, bytes: &[u8]) -> Raw {
+    Raw::from_bytes(alloc, &mut Cursor::new(bytes)).expect(rt, "a message")
+}
+
 /// The message of [`ERROR`].
 pub fn read_error(rt: &impl Abort, alloc: Global) -> Raw {
-    Raw::from_bytes(alloc, &mut Cursor::new(&ERROR)).expect(rt, "a message")
+    raw_message(rt, alloc, &ERROR)
 }
 
 /// The error that the message carries.
-pub fn error_in<'a>(rt: &impl Abort, message: &'a Raw) -> &'a RawError {
+pub fn error_in<'a, T, P>(
+    rt: &impl Abort,
+    message: &'a Nlmsghdr<T, P>,
+) -> &'a Nlmsgerr<NlmsghdrErr<T, P>> {
     match message.nl_payload() {
         NlPayload::Err(answer) => answer,
         _ => rt.panic("no error"),
     }
 }
 
-/// Why a router refuses, by what the tests compare of it.
-#[derive(Clone, Copy, Debug, PartialEq, Eq)]
-pub enum Cause {
-    Memory,
-    Input(usize),
-    Other,
-}
-
-/// The cause of a router's error.
-pub fn cause_of<T: Drop, P: Drop>(error: RouterError<T, P>) -> Cause {
-    match error {
-        RouterError::Memory => Cause::Memory,
-        RouterError::De(DeError::InvalidInput(count)) => Cause::Input(count),
-        _ => Cause::Other,
-    }
+/// The error as one of other types.
+pub fn typed_error<T: NlType, P: FromBytesWithInput + Size>(
+    rt: &impl Abort,
+    alloc: Global,
+    error: &RouterError<u16, Buffer>,
+) -> RouterError<T, P> {
+    error.to_typed(alloc).expect(rt, "a typed error")
 }
 
 /// Asserts that the value is written as these bytes.

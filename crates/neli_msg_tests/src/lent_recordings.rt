@@ -1,7 +1,7 @@
 //! A link and a route that were recorded from Linux 6.18, against what libmnl reads in their headers and pyroute2 in
 //! their attributes, and a request of iproute2 against its command line. Numbers are those of docs/RECORDINGS.md.
 
-use crate::support::{assert_is_at, message};
+use crate::support::{assert_is_at, lent_message};
 use neli::consts::rtnl::{Ifla, IflaInfo, Rta, RtaType, Rtm};
 use neli::err::DeError;
 use neli::lent::{LentAttr, LentAttrs, LentMessage, LentMessages};
@@ -45,22 +45,32 @@ fn one_message<'b>(rt: &impl Abort, bytes: &'b [u8]) -> LentMessage<'b, Rtm> {
     message.expect(rt, "a message")
 }
 
+/// The length, the type, the flags, the number and the port of a message.
+type Fields = (u32, Rtm, u16, u32, u32);
+
+/// Recorded messages, each with the fields of its header.
+const HEADERS: [(&str, &str, Fields); 2] = [
+    ("a link", LINK, (424, Rtm::Newlink, 2, 1003, 2696569102)),
+    ("a route", ROUTE, (112, Rtm::Newroute, 0, 1047, 3331851770)),
+];
+
 #[test]
-fn a_link_has_a_header(rt: HostRuntime) {
-    let datagram = decoded(&rt, rt.alloc(), LINK);
-    let message = one_message(&rt, &datagram);
-    let flags = u16::from(*message.nl_flags());
-    let fields = (*message.nl_len(), *message.nl_type(), flags);
-    assert_is_at(&rt, "fields", fields, (424, Rtm::Newlink, 2));
-    let numbers = (*message.nl_seq(), *message.nl_pid());
-    assert_is_at(&rt, "numbers", numbers, (1003, 2696569102));
-    let payload = datagram.get(16..);
-    assert_is_at(&rt, "payload", Some(message.nl_payload()), payload);
+fn a_recorded_message_has_a_header(rt: HostRuntime) {
+    for (row, digits, want) in HEADERS {
+        let datagram = decoded(&rt, rt.alloc(), digits);
+        let message = one_message(&rt, &datagram);
+        let flags = u16::from(*message.nl_flags());
+        let (length, kind) = (*message.nl_len(), *message.nl_type());
+        let fields = (length, kind, flags, *message.nl_seq(), *message.nl_pid());
+        assert_is_at(&rt, row, fields, want);
+        let payload = datagram.get(16..);
+        assert_is_at(&rt, row, Some(message.nl_payload()), payload);
+    }
 }
 
 /// The attributes of a link.
 fn link_attrs<'b>(rt: &impl Abort, bytes: &'b [u8]) -> LentAttrs<'b, Ifla> {
-    message::<u16>(rt, bytes)
+    lent_message::<u16>(rt, bytes)
         .get_attrs::<Ifinfomsg, Ifla>()
         .expect(rt, "attributes")
 }
@@ -77,12 +87,17 @@ fn text<'b, T: RtaType>(rt: &impl Abort, attr: &LentAttr<'b, T>) -> &'b str {
 }
 
 #[test]
-fn a_link_has_a_name(rt: HostRuntime) {
+fn a_link_has_a_name_an_address_and_a_port(rt: HostRuntime) {
     let datagram = decoded(&rt, rt.alloc(), LINK);
     let attrs = link_attrs(&rt, &datagram);
     assert_is_at(&rt, "attributes", attrs.try_count().ok(), Some(7));
     let name = text(&rt, &found(&rt, &attrs, Ifla::Ifname));
     assert_is_at(&rt, "a name", name, "veth1\0");
+    let address = found(&rt, &attrs, Ifla::Address);
+    assert_is_at(&rt, "address", address.attr_payload(), &[2, 0, 0, 0, 0, 2]);
+    // The port's own attributes are marked as nested, which a routing attribute's type keeps.
+    let port = found(&rt, &attrs, Ifla::UnrecognizedConst(0x800c)).get_attrs::<u16>();
+    assert_is_at(&rt, "a port", port.try_count().ok(), Some(39));
 }
 
 #[test]
@@ -100,27 +115,6 @@ fn a_link_has_numbers(rt: HostRuntime) {
     }
 }
 
-#[test]
-fn a_link_has_an_address(rt: HostRuntime) {
-    let datagram = decoded(&rt, rt.alloc(), LINK);
-    let attrs = link_attrs(&rt, &datagram);
-    let address = found(&rt, &attrs, Ifla::Address);
-    assert_is_at(&rt, "address", address.attr_payload(), &[2, 0, 0, 0, 0, 2]);
-    // The port's own attributes are marked as nested, which a routing attribute's type keeps.
-    let port = found(&rt, &attrs, Ifla::UnrecognizedConst(0x800c)).get_attrs::<u16>();
-    assert_is_at(&rt, "a port", port.try_count().ok(), Some(39));
-}
-
-#[test]
-fn a_route_has_a_header(rt: HostRuntime) {
-    let datagram = decoded(&rt, rt.alloc(), ROUTE);
-    let message = message::<Rtm>(&rt, &datagram);
-    let fields = (*message.nl_len(), *message.nl_type());
-    assert_is_at(&rt, "fields", fields, (112, Rtm::Newroute));
-    let numbers = (*message.nl_seq(), *message.nl_pid());
-    assert_is_at(&rt, "numbers", numbers, (1047, 3331851770));
-}
-
 /// Attributes of the route, with what pyroute2 reads there.
 const OF_THE_ROUTE: [(&str, Rta, &[u8]); 5] = [
     ("destination", Rta::Dst, &[10, 7, 2, 3]),
@@ -133,7 +127,7 @@ const OF_THE_ROUTE: [(&str, Rta, &[u8]); 5] = [
 #[test]
 fn a_route_has_addresses(rt: HostRuntime) {
     let datagram = decoded(&rt, rt.alloc(), ROUTE);
-    let attrs = message::<Rtm>(&rt, &datagram)
+    let attrs = lent_message::<Rtm>(&rt, &datagram)
         .get_attrs::<Rtmsg, Rta>()
         .expect(&rt, "attributes");
     assert_is_at(&rt, "attributes", attrs.try_count().ok(), Some(7));

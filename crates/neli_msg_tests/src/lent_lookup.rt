@@ -1,6 +1,6 @@
 //! Looking up the attributes that are left of a walk.
 
-use crate::support::{Fault, assert_is_at, fault_in, fault_of};
+use crate::support::{Refusal, assert_is_at, refusal_in, refusal_of};
 use neli::consts::genl::CtrlAttr;
 use neli::consts::rtnl::Rta;
 use neli::genl::AttrType;
@@ -13,35 +13,60 @@ const ROUTE: [u8; 28] = [
 ];
 
 /// The payload of what is found, or the fault.
-fn looked_up<'b>(attrs: &LentRtattrs<'b, Rta>, kind: Rta) -> Result<Option<&'b [u8]>, Fault> {
+fn looked_up<'b>(attrs: &LentRtattrs<'b, Rta>, kind: Rta) -> Result<Option<&'b [u8]>, Refusal> {
     match attrs.get_attribute(kind) {
         Ok(found) => Ok(found.map(|attr| attr.attr_payload())),
-        Err(error) => Err(fault_of(&error)),
+        Err(error) => Err(refusal_of(&error)),
+    }
+}
+
+/// Attributes, a type, and the payload of the first of that type, or the fault before it.
+type Row = (
+    &'static str,
+    &'static [u8],
+    Rta,
+    Result<Option<&'static [u8]>, Refusal>,
+);
+
+#[test]
+fn the_first_of_its_type_is_found_or_the_fault_before_it(rt: HostRuntime) {
+    let rows: [Row; 6] = [
+        (
+            "a gateway",
+            &ROUTE[..24],
+            Rta::Gateway,
+            Ok(Some(&[192, 0, 2, 1])),
+        ),
+        ("no link", &ROUTE[..24], Rta::Oif, Ok(None)),
+        ("a destination", &ROUTE, Rta::Dst, Ok(Some(&[10, 0, 0, 0]))),
+        ("a link", &ROUTE, Rta::Oif, Err(Refusal::Input(3))),
+        // A routing attribute has no flags.
+        ("without flags", &[4, 0, 1, 0x80], Rta::Dst, Ok(None)),
+        (
+            "with flags",
+            &[4, 0, 1, 0x80],
+            Rta::UnrecognizedConst(0x8001),
+            Ok(Some(&[])),
+        ),
+    ];
+    for (row, bytes, kind, want) in rows {
+        let attrs = LentRtattrs::<'_, Rta>::new(bytes);
+        assert_is_at(&rt, row, looked_up(&attrs, kind), want);
     }
 }
 
 #[test]
-fn the_first_of_its_type_is_found(rt: HostRuntime) {
-    let mut attrs = LentRtattrs::<'_, Rta>::new(&ROUTE[..24]);
+fn what_is_left_of_a_walk_is_looked_up(rt: HostRuntime) {
+    let mut attrs = LentRtattrs::<'_, Rta>::new(&ROUTE);
+    let refused = refusal_in(attrs.try_count());
+    assert_is_at(&rt, "a count", refused, Some(Refusal::Input(3)));
     let found = looked_up(&attrs, Rta::Gateway);
     assert_is_at(&rt, "a gateway", found, Ok(Some(&[192, 0, 2, 1])));
-    assert_is_at(&rt, "no link", looked_up(&attrs, Rta::Oif), Ok(None));
     let stayed = attrs.next().expect(&rt, "the first attribute");
     let stayed = stayed.expect(&rt, "the first attribute");
     assert_is_at(&rt, "the first", stayed.attr_payload(), &[192, 0, 2, 1]);
     let left = looked_up(&attrs, Rta::Gateway);
     assert_is_at(&rt, "what is left", left, Ok(Some(&[192, 0, 2, 2])));
-}
-
-#[test]
-fn a_fault_is_answered_where_nothing_is_found_before_it(rt: HostRuntime) {
-    let attrs = LentRtattrs::<'_, Rta>::new(&ROUTE);
-    let found = looked_up(&attrs, Rta::Dst);
-    assert_is_at(&rt, "a destination", found, Ok(Some(&[10, 0, 0, 0])));
-    let refused = looked_up(&attrs, Rta::Oif);
-    assert_is_at(&rt, "a link", refused, Err(Fault::Input(3)));
-    let refused = fault_in(attrs.try_count());
-    assert_is_at(&rt, "a count", refused, Some(Fault::Input(3)));
 }
 
 /// Whether the bytes have a generic attribute of this type.
@@ -60,16 +85,8 @@ fn the_flags_of_a_generic_attribute_are_passed_over(rt: HostRuntime) {
             has(&rt, &bytes, CtrlAttr::FamilyName),
             has(&rt, &bytes, CtrlAttr::FamilyId),
         );
-        assert_eq!(rt; found, (true, false), "at {flags}");
+        assert_is_at(&rt, flags, found, (true, false));
     }
-}
-
-#[test]
-fn a_routing_attribute_has_no_flags(rt: HostRuntime) {
-    let attrs = LentRtattrs::<'_, Rta>::new(&[4, 0, 1, 0x80]);
-    assert_is_at(&rt, "without flags", looked_up(&attrs, Rta::Dst), Ok(None));
-    let whole = looked_up(&attrs, Rta::UnrecognizedConst(0x8001));
-    assert_is_at(&rt, "with flags", whole, Ok(Some(&[])));
 }
 
 #[test]

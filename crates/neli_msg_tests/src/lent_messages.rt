@@ -1,10 +1,11 @@
 //! The calls of lent messages and of walks over them.
 
-use crate::support::{Fault, assert_is_at, fault_in, message};
+use crate::support::{Refusal, assert_is_at, lent_message, refusal_in};
 use neli::Cursor;
 use neli::consts::nl::{NlmF, Nlmsg};
 use neli::consts::rtnl::Ifla;
-use neli::lent::{LentMessage, LentMessages};
+use neli::err::DeError;
+use neli::lent::{LentAttrs, LentMessage, LentMessages};
 use neli::rtnl::Ifinfomsg;
 use std::process::Abort;
 
@@ -25,12 +26,7 @@ fn a_message_has_a_header_and_a_payload(rt: HostRuntime) {
     let numbers = (*message.nl_seq(), *message.nl_pid());
     assert_is_at(&rt, "numbers", numbers, (5, 7));
     assert_is_at(&rt, "payload", message.nl_payload(), &DATAGRAM[16..17]);
-}
-
-#[test]
-fn a_message_of_a_header_alone(rt: HostRuntime) {
-    let mut cursor = Cursor::new(&DATAGRAM);
-    cursor.set_position(20);
+    // And then a header alone.
     let last = LentMessage::<'_, Nlmsg>::lend(&mut cursor).expect(&rt, "a message");
     assert_is_at(&rt, "the place", cursor.position(), 36);
     let fields = (*last.nl_type(), *last.nl_flags());
@@ -45,22 +41,22 @@ fn a_body_is_plain_by_its_type(rt: HostRuntime) {
     for (number, want) in rows {
         let [low, high] = number.to_le_bytes();
         let bytes = [16, 0, 0, 0, low, high, 0, 0, 0, 0, 0, 0, 0, 0, 0, 0];
-        let plain = message::<u16>(&rt, &bytes).has_plain_body();
+        let plain = lent_message::<u16>(&rt, &bytes).has_plain_body();
         assert_is_at(&rt, "plain", (number, plain), (number, want));
     }
 }
 
 #[test]
 fn a_refused_message_leaves_the_cursor(rt: HostRuntime) {
-    let rows: [(&str, &[u8], Fault); 4] = [
-        ("no header", &DATAGRAM[..15], Fault::Short),
-        ("length 0", &[0; 16], Fault::Input(0)),
-        ("a byte missing", &DATAGRAM[..16], Fault::Input(1)),
-        ("padding missing", &DATAGRAM[..17], Fault::Short),
+    let rows: [(&str, &[u8], Refusal); 4] = [
+        ("no header", &DATAGRAM[..15], Refusal::Short),
+        ("length 0", &[0; 16], Refusal::Input(0)),
+        ("a byte missing", &DATAGRAM[..16], Refusal::Input(1)),
+        ("padding missing", &DATAGRAM[..17], Refusal::Short),
     ];
     for (row, bytes, want) in rows {
         let mut cursor = Cursor::new(bytes);
-        let refused = fault_in(LentMessage::<'_, u16>::lend(&mut cursor));
+        let refused = refusal_in(LentMessage::<'_, u16>::lend(&mut cursor));
         assert_is_at(&rt, row, (refused, cursor.position()), (Some(want), 0));
     }
 }
@@ -95,18 +91,10 @@ fn a_walk_is_taken_step_by_step(rt: HostRuntime) {
 
 #[test]
 fn a_message_has_the_type_that_its_number_means(rt: HostRuntime) {
-    let typed = message::<u16>(&rt, &DATAGRAM[20..]).to_typed::<Nlmsg>();
+    let typed = lent_message::<u16>(&rt, &DATAGRAM[20..]).to_typed::<Nlmsg>();
     let fields = (*typed.nl_len(), *typed.nl_type(), *typed.nl_seq());
     assert_is_at(&rt, "fields", fields, (16, Nlmsg::Done, 6));
     assert_is_at(&rt, "payload", typed.nl_payload(), &[]);
-}
-
-/// A message of this length whose type is that of links, and zeros for the link.
-fn link(message_length: u8) -> [u8; 40] {
-    let mut bytes = [0; 40];
-    bytes[0] = message_length;
-    bytes[4] = 16;
-    bytes
 }
 
 /// A link without an index, and its MTU of 1500.
@@ -116,31 +104,37 @@ const LINK_WITH_MTU: [u8; 40] = [
     8, 0, 4, 0, 0xdc, 5, 0, 0,
 ];
 
+/// A link without attributes, and eight zeros after it.
+const LINK: [u8; 40] = [
+    32, 0, 0, 0, 16, 0, 0, 0, 0, 0, 0, 0, 0, 0, 0, 0, //
+    0, 0, 0, 0, 0, 0, 0, 0, 0, 0, 0, 0, 0, 0, 0, 0, //
+    0, 0, 0, 0, 0, 0, 0, 0,
+];
+
+/// The same bytes, but the message states one byte less than the header of a link has.
+const SHORT_LINK: [u8; 40] = [
+    31, 0, 0, 0, 16, 0, 0, 0, 0, 0, 0, 0, 0, 0, 0, 0, //
+    0, 0, 0, 0, 0, 0, 0, 0, 0, 0, 0, 0, 0, 0, 0, 0, //
+    0, 0, 0, 0, 0, 0, 0, 0,
+];
+
+/// The attributes after the header of a link.
+fn link_attrs<'b>(rt: &impl Abort, bytes: &'b [u8]) -> Result<LentAttrs<'b, Ifla>, DeError> {
+    lent_message::<u16>(rt, bytes).get_attrs::<Ifinfomsg, Ifla>()
+}
+
 #[test]
 fn attributes_follow_the_header_of_a_body(rt: HostRuntime) {
-    let message = message::<u16>(&rt, &LINK_WITH_MTU);
-    let mut attrs = message
-        .get_attrs::<Ifinfomsg, Ifla>()
-        .expect(&rt, "attributes");
+    let mut attrs = link_attrs(&rt, &LINK_WITH_MTU).expect(&rt, "attributes");
     let mtu = attrs.next().expect(&rt, "an attribute");
     let mtu = mtu.expect(&rt, "an attribute");
     assert_is_at(&rt, "the type", *mtu.attr_type(), Ifla::Mtu);
     assert_is_at(&rt, "payload", mtu.attr_payload(), &[0xdc, 5, 0, 0]);
     assert!(rt; attrs.next().is_none());
-}
-
-#[test]
-fn a_body_without_attributes(rt: HostRuntime) {
-    let whole = link(32);
-    let mut attrs = message::<u16>(&rt, &whole)
-        .get_attrs::<Ifinfomsg, Ifla>()
-        .expect(&rt, "attributes");
+    // A body without attributes.
+    let mut attrs = link_attrs(&rt, &LINK).expect(&rt, "attributes");
     assert!(rt; attrs.next().is_none());
-}
-
-#[test]
-fn a_body_without_its_header(rt: HostRuntime) {
-    let short = link(31);
-    let attrs = message::<u16>(&rt, &short).get_attrs::<Ifinfomsg, Ifla>();
-    assert_is_at(&rt, "refused", fault_in(attrs), Some(Fault::Input(15)));
+    // A body without its header.
+    let refused = refusal_in(link_attrs(&rt, &SHORT_LINK));
+    assert_is_at(&rt, "refused", refused, Some(Refusal::Input(15)));
 }

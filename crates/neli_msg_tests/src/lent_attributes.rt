@@ -1,6 +1,6 @@
 //! The calls of lent attributes and of walks over them.
 
-use crate::support::{Fault, assert_is_at, fault_in, lent};
+use crate::support::{Refusal, assert_is_at, lent_attr, refusal_in};
 use neli::Cursor;
 use neli::consts::genl::{CtrlAttr, CtrlAttrMcastGrp, Index, NlAttrType};
 use neli::consts::rtnl::Rta;
@@ -25,12 +25,7 @@ fn an_attribute_has_a_length_a_type_and_a_payload(rt: HostRuntime) {
     let fields = (*first.attr_len(), *first.attr_type(), cursor.position());
     assert_is_at(&rt, "fields", fields, (8, Rta::Dst, 8));
     assert_is_at(&rt, "a payload", first.attr_payload(), &BYTES[4..8]);
-}
-
-#[test]
-fn a_generic_attribute_has_a_length_a_type_and_a_payload(rt: HostRuntime) {
-    let mut cursor = Cursor::new(&BYTES);
-    cursor.set_position(8);
+    // And then a generic one.
     let second = LentNlattr::<'_, CtrlAttr>::lend(&mut cursor).expect(&rt, "an attribute");
     let kind = *second.attr_type().nla_type();
     let fields = (*second.attr_len(), kind, cursor.position());
@@ -40,15 +35,15 @@ fn a_generic_attribute_has_a_length_a_type_and_a_payload(rt: HostRuntime) {
 
 #[test]
 fn a_refused_attribute_leaves_the_cursor(rt: HostRuntime) {
-    let rows: [(&str, &[u8], Fault); 4] = [
-        ("no header", &BYTES[..3], Fault::Short),
-        ("length 3", &[3, 0, 1, 0], Fault::Input(3)),
-        ("a byte missing", &BYTES[..7], Fault::Input(4)),
-        ("padding missing", &BYTES[8..15], Fault::Short),
+    let rows: [(&str, &[u8], Refusal); 4] = [
+        ("no header", &BYTES[..3], Refusal::Short),
+        ("length 3", &[3, 0, 1, 0], Refusal::Input(3)),
+        ("a byte missing", &BYTES[..7], Refusal::Input(4)),
+        ("padding missing", &BYTES[8..15], Refusal::Short),
     ];
     for (row, bytes, want) in rows {
         let mut cursor = Cursor::new(bytes);
-        let refused = fault_in(LentAttr::<'_, u16>::lend(&mut cursor));
+        let refused = refusal_in(LentAttr::<'_, u16>::lend(&mut cursor));
         assert_is_at(&rt, row, (refused, cursor.position()), (Some(want), 0));
     }
 }
@@ -85,23 +80,18 @@ fn a_walk_is_taken_step_by_step(rt: HostRuntime) {
 }
 
 #[test]
-fn a_walk_has_the_payloads(rt: HostRuntime) {
-    let mut attrs = LentRtattrs::<'_, Rta>::new(&BYTES);
-    next_type(&rt, &mut attrs).expect(&rt, "the first attribute");
-    let second = attrs.next().expect(&rt, "the second attribute");
-    let second = second.expect(&rt, "the second attribute");
-    assert_is_at(&rt, "a payload", second.attr_payload(), &[5]);
-}
-
-#[test]
 fn a_walk_is_a_loop(rt: HostRuntime) {
     let mut last = 0;
+    let mut payload = BYTES.as_slice();
     for attr in LentAttrs::<'_, u16>::new(&BYTES) {
-        let kind = *attr.expect(&rt, "an attribute").attr_type();
+        let attr = attr.expect(&rt, "an attribute");
+        let kind = *attr.attr_type();
         assert!(rt; last < kind, "in their order");
         last = kind;
+        payload = attr.attr_payload();
     }
     assert_is_at(&rt, "the last", last, 4);
+    assert_is_at(&rt, "a payload", payload, &[5]);
 }
 
 /// The attribute of this type.
@@ -132,35 +122,24 @@ fn attributes_inside_attributes(rt: HostRuntime) {
 }
 
 #[test]
-fn a_payload_is_read_as_a_value(rt: HostRuntime) {
-    let attr: LentAttr<'_, Rta> = lent(&rt, &BYTES);
+fn a_payload_is_read_as_a_value_or_refused(rt: HostRuntime) {
+    let attr: LentAttr<'_, Rta> = lent_attr(&rt, &BYTES);
     let number: u16 = attr.get_payload_as(rt.alloc()).expect(&rt, "a number");
     assert_is_at(&rt, "what the payload begins with", number, 0x0107);
     let bytes: &[u8] = attr.get_payload_as_with_len_borrowed().expect(&rt, "bytes");
     assert_is_at(&rt, "bytes", bytes, &[7, 1, 9, 9]);
-}
-
-#[test]
-fn a_payload_is_no_such_value(rt: HostRuntime) {
-    let attr: LentAttr<'_, Rta> = lent(&rt, &BYTES);
     let number: Result<u64, DeError> = attr.get_payload_as(rt.alloc());
-    assert_is_at(&rt, "a number", fault_in(number), Some(Fault::Short));
+    assert_is_at(&rt, "a number", refusal_in(number), Some(Refusal::Short));
     let nothing: Result<(), DeError> = attr.get_payload_as_with_len(rt.alloc());
-    assert_is_at(&rt, "nothing", fault_in(nothing), Some(Fault::Input(4)));
+    assert_is_at(&rt, "nothing", refusal_in(nothing), Some(Refusal::Input(4)));
 }
 
 #[test]
-fn a_payload_is_lent_as_a_text(rt: HostRuntime) {
-    let name: LentAttr<'_, u16> = lent(&rt, &GROUPS[8..]);
-    let text: &str = name
-        .get_payload_as_with_len_borrowed()
-        .expect(&rt, "a text");
-    assert_is_at(&rt, "its zero too", text, "notify\0");
-}
-
-#[test]
-fn a_payload_that_is_no_text(rt: HostRuntime) {
-    let bad: LentAttr<'_, u16> = lent(&rt, &[5, 0, 1, 0, 0x80, 0, 0, 0]);
+fn a_payload_is_lent_as_a_text_or_refused(rt: HostRuntime) {
+    let name: LentAttr<'_, u16> = lent_attr(&rt, &GROUPS[8..]);
+    let text: Result<&str, DeError> = name.get_payload_as_with_len_borrowed();
+    assert_is_at(&rt, "its zero too", text.ok(), Some("notify\0"));
+    let bad: LentAttr<'_, u16> = lent_attr(&rt, &[5, 0, 1, 0, 0x80, 0, 0, 0]);
     let refused: Result<&str, DeError> = bad.get_payload_as_with_len_borrowed();
     assert!(rt; matches!(refused, Err(DeError::Utf8(_))));
 }
