@@ -2,6 +2,7 @@
 
 use crate::kinds::ERROR;
 use crate::reading::ONE;
+use crate::retyping::assert_copy;
 use crate::support::{assert_is, assert_is_at, assert_prints, assert_written, raw_message};
 use neli::Size;
 use neli::consts::nl::{NlmF, NlmsgerrAttr};
@@ -26,11 +27,8 @@ fn a_length_is_rounded_up(rt: HostRuntime) {
         0x18, 0, 0, 0, 0, 4, 1, 0, 0, 0, 0, 0, 0, 0, 0, 0, 0x61, 0x62, 0x63, 0x64, 0x65, 0, 0, 0,
     ];
     assert_written(&rt, alloc, &message, &want);
-    assert_is(
-        &rt,
-        (message.unpadded_size(), message.padded_size()),
-        (21, 24),
-    );
+    assert_is(&rt, message.unpadded_size(), 21);
+    assert_is(&rt, message.padded_size(), 24);
 }
 
 /// [`ERROR`] with other values in the first and the last byte of padding after the echo.
@@ -110,7 +108,7 @@ fn an_acknowledgement_is_built(rt: HostRuntime) {
     ];
     assert_written(&rt, alloc, &answer, &want);
     assert_prints(&rt, alloc, &answer, "netlink error -1");
-    assert_is(&rt, &answer.try_clone().expect(&rt, "memory"), &answer);
+    assert_copy(&rt, answer.try_clone(), &answer);
 }
 
 #[test]
@@ -123,6 +121,6 @@ fn an_echo_is_built(rt: HostRuntime) {
         .nl_payload(7u8)
         .build()
         .expect(&rt, "an echo");
-    let fields = (*echo.nl_len(), *echo.nl_seq(), *echo.nl_pid());
-    assert_is(&rt, fields, (20, 3, 4));
+    let numbers = [*echo.nl_len(), *echo.nl_seq(), *echo.nl_pid()];
+    assert_is(&rt, numbers, [20, 3, 4]);
 }

@@ -1,7 +1,7 @@
 //! The kinds of payload, by type, flags, code and length.
 
 use crate::support::{
-    Raw, RawError, Refusal, assert_is, assert_is_at, error_in, read_error, refusal_in, refusal_of,
+    Raw, RawError, Refusal, assert_is, assert_is_at, error_in, raw_message, refusal_in, refusal_of,
 };
 use neli::consts::nl::{NlmF, NlmsgerrAttr};
 use neli::err::{DeError, Nlmsgerr, NlmsghdrAck, NlmsghdrErr};
@@ -10,6 +10,7 @@ use neli::nl::NlPayload;
 use neli::types::Buffer;
 use neli::{Cursor, FromBytes, FromBytesWithInput};
 use std::alloc::Global;
+use std::fmt::Debug;
 use std::process::Abort;
 
 /// The kind of a payload with its code, and how many attributes or bytes it has.
@@ -159,11 +160,12 @@ pub fn words_in(rt: &impl Abort, alloc: Global, message: &Raw) -> Vec<u8> {
 
 #[test]
 fn an_error_has_its_echo_and_its_attributes(rt: HostRuntime) {
-    let message = read_error(&rt, rt.alloc());
+    let message = raw_message(&rt, rt.alloc(), &ERROR);
     let echo = error_in(&rt, &message).nlmsg();
-    let fields = (*echo.nl_len(), *echo.nl_type(), u16::from(*echo.nl_flags()));
-    assert_is(&rt, fields, (21, 1024, 5));
-    assert_is(&rt, (*echo.nl_seq(), *echo.nl_pid()), (0, 0));
+    let numbers = [*echo.nl_len(), *echo.nl_seq(), *echo.nl_pid()];
+    assert_is(&rt, numbers, [21, 0, 0]);
+    let numbers = [*echo.nl_type(), u16::from(*echo.nl_flags())];
+    assert_is(&rt, numbers, [1024, 5]);
     assert_is(&rt, echo.nl_payload().as_ref(), b"abcde".as_slice());
     let words = words_in(&rt, rt.alloc(), &message);
     assert_is(&rt, words.as_slice(), b"bad\0".as_slice());
@@ -186,26 +188,45 @@ fn payloads_are_read_by_themselves(rt: HostRuntime) {
     let mut cursor = error_from(&rt, 16);
     let read: Read = NlPayload::from_parts(rt.alloc(), &mut cursor, 2, NlmF::empty(), 36);
     let kind = kind_of(&read.expect(&rt, "a payload"));
-    let want = Kind::Error(-22, 5, 1);
-    assert_is(&rt, (kind, cursor.position()), (want, 52));
+    assert_is(&rt, kind, Kind::Error(-22, 5, 1));
+    assert_is(&rt, cursor.position(), 52);
     // Past the bytes.
     let mut cursor = error_from(&rt, 44);
     let read: Read = NlPayload::from_parts(rt.alloc(), &mut cursor, 16, NlmF::empty(), 9);
     assert_is(&rt, refusal_in(read), Some(Refusal::Input(9)));
 }
 
+/// Asserts the code of an error, and how many attributes it has.
+pub fn assert_error<M: Drop, E: Debug + Drop>(
+    rt: &impl Abort,
+    read: Result<Nlmsgerr<M>, E>,
+    code: i32,
+    count: usize,
+) {
+    let error = read.expect(rt, "an error");
+    assert_is(rt, *error.error(), code);
+    assert_is(rt, error.ext_ack().len(), count);
+}
+
 #[test]
 fn errors_are_read_by_themselves(rt: HostRuntime) {
     let alloc = rt.alloc();
-    let read = Nlmsgerr::from_bytes_with_input(alloc, &mut error_from(&rt, 16), 36);
-    let error: RawError = read.expect(&rt, "an error");
-    assert_is(&rt, (*error.error(), error.ext_ack().len()), (-22, 1));
+    let error: Result<RawError, DeError> = Nlmsgerr::from_bytes_with_input(
+        alloc,
+        &mut error_from(&rt, 16),
+        36,
+    );
+    assert_error(&rt, error, -22, 1);
+    let end: Result<Nlmsgerr<()>, DeError> = Nlmsgerr::from_bytes_with_input(
+        alloc,
+        &mut error_from(&rt, 40),
+        12,
+    );
+    assert_error(&rt, end, 0x65, 1);
     let read = Nlmsgerr::from_bytes_with_input(alloc, &mut error_from(&rt, 16), 36);
     let ack: Nlmsgerr<NlmsghdrAck<u16>> = read.expect(&rt, "an acknowledgement");
-    assert_is(&rt, (*ack.nlmsg().nl_len(), ack.ext_ack().len()), (21, 0));
-    let read = Nlmsgerr::from_bytes_with_input(alloc, &mut error_from(&rt, 40), 12);
-    let end: Nlmsgerr<()> = read.expect(&rt, "an end");
-    assert_is(&rt, (*end.error(), end.ext_ack().len()), (0x65, 1));
+    assert_is(&rt, *ack.nlmsg().nl_len(), 21);
+    assert_is(&rt, ack.ext_ack().len(), 0);
 }
 
 #[test]
@@ -213,9 +234,11 @@ fn echoes_are_read_by_themselves(rt: HostRuntime) {
     let alloc = rt.alloc();
     let read = NlmsghdrAck::<u16>::from_bytes(alloc, &mut error_from(&rt, 20));
     let header = read.expect(&rt, "a header");
-    assert_is(&rt, (*header.nl_len(), *header.nl_type()), (21, 1024));
+    assert_is(&rt, *header.nl_len(), 21);
+    assert_is(&rt, *header.nl_type(), 1024);
     let mut cursor = error_from(&rt, 20);
     let read = NlmsghdrErr::<u16, Buffer>::from_bytes(alloc, &mut cursor);
     let echo = read.expect(&rt, "an echo");
-    assert_is(&rt, (echo.nl_payload().len(), cursor.position()), (5, 44));
+    assert_is(&rt, echo.nl_payload().len(), 5);
+    assert_is(&rt, cursor.position(), 44);
 }

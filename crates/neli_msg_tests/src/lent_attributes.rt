@@ -22,14 +22,16 @@ const GROUPS: [u8; 28] = [
 fn an_attribute_has_a_length_a_type_and_a_payload(rt: HostRuntime) {
     let mut cursor = Cursor::new(&BYTES);
     let first = LentAttr::<'_, Rta>::lend(&mut cursor).expect(&rt, "an attribute");
-    let fields = (*first.attr_len(), *first.attr_type(), cursor.position());
-    assert_is_at(&rt, "fields", fields, (8, Rta::Dst, 8));
+    assert_is_at(&rt, "the length", *first.attr_len(), 8);
+    assert_is_at(&rt, "the type", *first.attr_type(), Rta::Dst);
+    assert_is_at(&rt, "the place", cursor.position(), 8);
     assert_is_at(&rt, "a payload", first.attr_payload(), &BYTES[4..8]);
     // And then a generic one.
     let second = LentNlattr::<'_, CtrlAttr>::lend(&mut cursor).expect(&rt, "an attribute");
     let kind = *second.attr_type().nla_type();
-    let fields = (*second.attr_len(), kind, cursor.position());
-    assert_is_at(&rt, "fields", fields, (5, CtrlAttr::Hdrsize, 16));
+    assert_is_at(&rt, "the length", *second.attr_len(), 5);
+    assert_is_at(&rt, "the type", kind, CtrlAttr::Hdrsize);
+    assert_is_at(&rt, "the place", cursor.position(), 16);
     assert_is_at(&rt, "a payload", second.attr_payload(), &BYTES[12..13]);
 }
 
@@ -44,7 +46,8 @@ fn a_refused_attribute_leaves_the_cursor(rt: HostRuntime) {
     for (row, bytes, want) in rows {
         let mut cursor = Cursor::new(bytes);
         let refused = refusal_in(LentAttr::<'_, u16>::lend(&mut cursor));
-        assert_is_at(&rt, row, (refused, cursor.position()), (Some(want), 0));
+        assert_is_at(&rt, row, refused, Some(want));
+        assert_is_at(&rt, row, cursor.position(), 0);
     }
 }
 

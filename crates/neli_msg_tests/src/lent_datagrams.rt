@@ -1,9 +1,9 @@
 //! Datagrams, good and bad, each read lent and as owned messages: the same messages, and the same fault.
 
-use crate::support::{Raw, Refusal, assert_is_at, refusal_of};
+use crate::support::{Raw, Refusal, assert_is_at, lent_numbers, numbers_of, refusal_of};
 use neli::err::DeError;
 use neli::iter::cut;
-use neli::lent::{LentMessage, LentMessages};
+use neli::lent::LentMessages;
 use std::alloc::Global;
 use std::process::Abort;
 
@@ -80,7 +80,8 @@ fn lent_and_owned_messages_are_the_same(rt: HostRuntime) {
     for (row, datagram, count, fault) in ROWS {
         let bytes = hex::decode(rt.alloc(), datagram).expect(&rt, row);
         let (messages, owned_fault) = owned(&rt, rt.alloc(), &bytes);
-        assert_is_at(&rt, row, (messages.len(), owned_fault), (count, fault));
+        assert_is_at(&rt, row, messages.len(), count);
+        assert_is_at(&rt, row, owned_fault, fault);
         assert_all_same(&rt, row, &bytes, &messages, fault);
     }
 }
@@ -88,7 +89,10 @@ fn lent_and_owned_messages_are_the_same(rt: HostRuntime) {
 /// The messages of the bytes as owned ones, and the fault after them.
 fn owned(rt: &impl Abort, alloc: Global, bytes: &[u8]) -> (Vec<Raw>, Option<Refusal>) {
     let (messages, fault): (Vec<Raw>, Option<DeError>) = cut(alloc, bytes).expect(rt, "memory");
-    (messages, fault.as_ref().map(refusal_of))
+    match &fault {
+        None => (messages, None),
+        Some(error) => (messages, Some(refusal_of(error))),
+    }
 }
 
 /// Asserts that a walk of the bytes gives what is read from them as owned messages, then the fault once, and then
@@ -103,7 +107,11 @@ fn assert_all_same(
     let mut lent = LentMessages::<'_, u16>::new(bytes);
     for owned in messages {
         let message = lent.next().expect(rt, "a message less");
-        assert_same(rt, row, &message.expect(rt, row), owned);
+        let message = message.expect(rt, row);
+        assert_is_at(rt, row, *message.nl_type(), *owned.nl_type());
+        assert_is_at(rt, row, lent_numbers(&message), numbers_of(owned));
+        let payload = owned.get_payload().expect(rt, "a payload");
+        assert_is_at(rt, row, message.nl_payload(), payload.as_ref());
     }
     if let Some(last) = lent.next() {
         let refusal = last.err().expect(rt, "a message more");
@@ -112,14 +120,4 @@ fn assert_all_same(
         assert_is_at(rt, row, None, fault);
     }
     assert!(rt; lent.next().is_none(), "{row}: a fault comes once");
-}
-
-fn assert_same(rt: &impl Abort, row: &str, lent: &LentMessage<'_, u16>, owned: &Raw) {
-    let sizes = (*lent.nl_len(), *lent.nl_type(), *lent.nl_flags());
-    let want = (*owned.nl_len(), *owned.nl_type(), *owned.nl_flags());
-    assert_is_at(rt, row, sizes, want);
-    let numbers = (*lent.nl_seq(), *lent.nl_pid());
-    assert_is_at(rt, row, numbers, (*owned.nl_seq(), *owned.nl_pid()));
-    let payload = owned.get_payload().map(|payload| payload.as_ref());
-    assert_is_at(rt, row, Some(lent.nl_payload()), payload);
 }

@@ -51,13 +51,16 @@ type Raw = RtBuffer<u16, Buffer>;
 fn lent_and_owned_attributes_are_the_same(rt: HostRuntime) {
     for (row, text, count, fault) in ROWS {
         let bytes = hex::decode(rt.alloc(), text).expect(&rt, row);
-        assert_is_at(&rt, row, given(&bytes), (count, fault));
-        let counts = (
-            lent_count(&bytes),
-            owned_count(&rt, rt.alloc(), row, &bytes),
-        );
-        let want = fault.map_or(Ok(count), Err);
-        assert_is_at(&rt, row, counts, (want, want));
+        let (given_count, given_fault) = given(&bytes);
+        assert_is_at(&rt, row, given_count, count);
+        assert_is_at(&rt, row, given_fault, fault);
+        let lent = lent_count(&bytes);
+        let owned = owned_count(&rt, rt.alloc(), row, &bytes);
+        let want = match fault {
+            None => Ok(count),
+            Some(fault) => Err(fault),
+        };
+        assert_is_at(&rt, row, [lent, owned], [want, want]);
     }
 }
 
@@ -98,8 +101,8 @@ fn assert_all_same(rt: &impl Abort, row: &str, bytes: &[u8], list: &Raw) {
     for owned in list.iter() {
         let lent = attrs.next().expect(rt, "an attribute less");
         let lent = lent.expect(rt, row);
-        let header = (*lent.attr_len(), *lent.attr_type());
-        assert_is_at(rt, row, header, (*owned.rta_len(), *owned.rta_type()));
+        let header = [*lent.attr_len(), *lent.attr_type()];
+        assert_is_at(rt, row, header, [*owned.rta_len(), *owned.rta_type()]);
         let payload = owned.rta_payload().as_ref();
         assert_is_at(rt, row, lent.attr_payload(), payload);
     }

@@ -15,7 +15,8 @@ const ROUTE: [u8; 28] = [
 /// The payload of what is found, or the fault.
 fn looked_up<'b>(attrs: &LentRtattrs<'b, Rta>, kind: Rta) -> Result<Option<&'b [u8]>, Refusal> {
     match attrs.get_attribute(kind) {
-        Ok(found) => Ok(found.map(|attr| attr.attr_payload())),
+        Ok(None) => Ok(None),
+        Ok(Some(attr)) => Ok(Some(attr.attr_payload())),
         Err(error) => Err(refusal_of(&error)),
     }
 }
@@ -81,11 +82,11 @@ fn has(rt: &impl Abort, bytes: &[u8], kind: CtrlAttr) -> bool {
 fn the_flags_of_a_generic_attribute_are_passed_over(rt: HostRuntime) {
     for flags in [0u8, 0x40, 0x80, 0xc0] {
         let bytes = [4, 0, 2, flags];
-        let found = (
+        let found = [
             has(&rt, &bytes, CtrlAttr::FamilyName),
             has(&rt, &bytes, CtrlAttr::FamilyId),
-        );
-        assert_is_at(&rt, flags, found, (true, false));
+        ];
+        assert_is_at(&rt, flags, found, [true, false]);
     }
 }
 

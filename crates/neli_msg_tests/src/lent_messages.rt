@@ -1,8 +1,8 @@
 //! The calls of lent messages and of walks over them.
 
-use crate::support::{Refusal, assert_is_at, lent_message, refusal_in};
+use crate::support::{Refusal, assert_is_at, lent_message, lent_numbers, refusal_in};
 use neli::Cursor;
-use neli::consts::nl::{NlmF, Nlmsg};
+use neli::consts::nl::Nlmsg;
 use neli::consts::rtnl::Ifla;
 use neli::err::DeError;
 use neli::lent::{LentAttrs, LentMessage, LentMessages};
@@ -20,17 +20,20 @@ fn a_message_has_a_header_and_a_payload(rt: HostRuntime) {
     let mut cursor = Cursor::new(&DATAGRAM);
     let message = LentMessage::<'_, u16>::lend(&mut cursor).expect(&rt, "a message");
     assert_is_at(&rt, "the place", cursor.position(), 20);
-    let flags = u16::from(*message.nl_flags());
-    let fields = (*message.nl_len(), *message.nl_type(), flags);
-    assert_is_at(&rt, "fields", fields, (17, 1024, 0xf002));
-    let numbers = (*message.nl_seq(), *message.nl_pid());
-    assert_is_at(&rt, "numbers", numbers, (5, 7));
+    assert_is_at(&rt, "the type", *message.nl_type(), 1024);
+    let numbers = lent_numbers(&message);
+    assert_is_at(&rt, "numbers", numbers, [17, 0xf002, 5, 7]);
     assert_is_at(&rt, "payload", message.nl_payload(), &DATAGRAM[16..17]);
-    // And then a header alone.
+}
+
+#[test]
+fn a_message_of_a_header_alone(rt: HostRuntime) {
+    let mut cursor = Cursor::new(&DATAGRAM);
+    cursor.set_position(20);
     let last = LentMessage::<'_, Nlmsg>::lend(&mut cursor).expect(&rt, "a message");
     assert_is_at(&rt, "the place", cursor.position(), 36);
-    let fields = (*last.nl_type(), *last.nl_flags());
-    assert_is_at(&rt, "fields", fields, (Nlmsg::Done, NlmF::empty()));
+    assert_is_at(&rt, "the type", *last.nl_type(), Nlmsg::Done);
+    assert_is_at(&rt, "numbers", lent_numbers(&last), [16, 0, 6, 0]);
     assert_is_at(&rt, "payload", last.nl_payload(), &[]);
 }
 
@@ -42,7 +45,7 @@ fn a_body_is_plain_by_its_type(rt: HostRuntime) {
         let [low, high] = number.to_le_bytes();
         let bytes = [16, 0, 0, 0, low, high, 0, 0, 0, 0, 0, 0, 0, 0, 0, 0];
         let plain = lent_message::<u16>(&rt, &bytes).has_plain_body();
-        assert_is_at(&rt, "plain", (number, plain), (number, want));
+        assert_is_at(&rt, number, plain, want);
     }
 }
 
@@ -57,7 +60,8 @@ fn a_refused_message_leaves_the_cursor(rt: HostRuntime) {
     for (row, bytes, want) in rows {
         let mut cursor = Cursor::new(bytes);
         let refused = refusal_in(LentMessage::<'_, u16>::lend(&mut cursor));
-        assert_is_at(&rt, row, (refused, cursor.position()), (Some(want), 0));
+        assert_is_at(&rt, row, refused, Some(want));
+        assert_is_at(&rt, row, cursor.position(), 0);
     }
 }
 
@@ -92,8 +96,8 @@ fn a_walk_is_taken_step_by_step(rt: HostRuntime) {
 #[test]
 fn a_message_has_the_type_that_its_number_means(rt: HostRuntime) {
     let typed = lent_message::<u16>(&rt, &DATAGRAM[20..]).to_typed::<Nlmsg>();
-    let fields = (*typed.nl_len(), *typed.nl_type(), *typed.nl_seq());
-    assert_is_at(&rt, "fields", fields, (16, Nlmsg::Done, 6));
+    assert_is_at(&rt, "the type", *typed.nl_type(), Nlmsg::Done);
+    assert_is_at(&rt, "numbers", lent_numbers(&typed), [16, 0, 6, 0]);
     assert_is_at(&rt, "payload", typed.nl_payload(), &[]);
 }
 
@@ -119,7 +123,7 @@ const SHORT_LINK: [u8; 40] = [
 ];
 
 /// The attributes after the header of a link.
-fn link_attrs<'b>(rt: &impl Abort, bytes: &'b [u8]) -> Result<LentAttrs<'b, Ifla>, DeError> {
+pub fn link_attrs<'b>(rt: &impl Abort, bytes: &'b [u8]) -> Result<LentAttrs<'b, Ifla>, DeError> {
     lent_message::<u16>(rt, bytes).get_attrs::<Ifinfomsg, Ifla>()
 }
 
@@ -131,10 +135,12 @@ fn attributes_follow_the_header_of_a_body(rt: HostRuntime) {
     assert_is_at(&rt, "the type", *mtu.attr_type(), Ifla::Mtu);
     assert_is_at(&rt, "payload", mtu.attr_payload(), &[0xdc, 5, 0, 0]);
     assert!(rt; attrs.next().is_none());
-    // A body without attributes.
+}
+
+#[test]
+fn a_body_without_attributes_or_without_its_header(rt: HostRuntime) {
     let mut attrs = link_attrs(&rt, &LINK).expect(&rt, "attributes");
     assert!(rt; attrs.next().is_none());
-    // A body without its header.
     let refused = refusal_in(link_attrs(&rt, &SHORT_LINK));
     assert_is_at(&rt, "refused", refused, Some(Refusal::Input(15)));
 }

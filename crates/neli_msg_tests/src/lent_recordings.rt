@@ -1,11 +1,12 @@
 //! A link and a route that were recorded from Linux 6.18, against what libmnl reads in their headers and pyroute2 in
 //! their attributes, and a request of iproute2 against its command line. Numbers are those of docs/RECORDINGS.md.
 
-use crate::support::{assert_is_at, lent_message};
+use crate::lent_messages::link_attrs;
+use crate::support::{assert_is_at, lent_message, lent_numbers};
 use neli::consts::rtnl::{Ifla, IflaInfo, Rta, RtaType, Rtm};
 use neli::err::DeError;
-use neli::lent::{LentAttr, LentAttrs, LentMessage, LentMessages};
-use neli::rtnl::{Ifinfomsg, Rtmsg};
+use neli::lent::{LentAttr, LentAttrs, LentMessages};
+use neli::rtnl::Rtmsg;
 use std::alloc::Global;
 use std::process::Abort;
 
@@ -37,42 +38,24 @@ fn decoded(rt: &impl Abort, alloc: Global, digits: &str) -> Vec<u8> {
     hex::decode(alloc, digits).expect(rt, "digits")
 }
 
-/// The message that the bytes are, and nothing after it.
-fn one_message<'b>(rt: &impl Abort, bytes: &'b [u8]) -> LentMessage<'b, Rtm> {
-    let mut messages = LentMessages::new(bytes);
-    let message = messages.next().expect(rt, "a message");
-    assert!(rt; messages.next().is_none());
-    message.expect(rt, "a message")
-}
-
-/// The length, the type, the flags, the number and the port of a message.
-type Fields = (u32, Rtm, u16, u32, u32);
-
-/// Recorded messages, each with the fields of its header.
-const HEADERS: [(&str, &str, Fields); 2] = [
-    ("a link", LINK, (424, Rtm::Newlink, 2, 1003, 2696569102)),
-    ("a route", ROUTE, (112, Rtm::Newroute, 0, 1047, 3331851770)),
+/// Recorded messages, each with its type, and its length, flags, number and port.
+const HEADERS: [(&str, &str, Rtm, [u32; 4]); 2] = [
+    ("a link", LINK, Rtm::Newlink, [424, 2, 1003, 2696569102]),
+    ("a route", ROUTE, Rtm::Newroute, [112, 0, 1047, 3331851770]),
 ];
 
 #[test]
 fn a_recorded_message_has_a_header(rt: HostRuntime) {
-    for (row, digits, want) in HEADERS {
+    for (row, digits, kind, numbers) in HEADERS {
         let datagram = decoded(&rt, rt.alloc(), digits);
-        let message = one_message(&rt, &datagram);
-        let flags = u16::from(*message.nl_flags());
-        let (length, kind) = (*message.nl_len(), *message.nl_type());
-        let fields = (length, kind, flags, *message.nl_seq(), *message.nl_pid());
-        assert_is_at(&rt, row, fields, want);
-        let payload = datagram.get(16..);
-        assert_is_at(&rt, row, Some(message.nl_payload()), payload);
+        let mut messages = LentMessages::<'_, Rtm>::new(&datagram);
+        let message = messages.next().expect(&rt, row).expect(&rt, row);
+        assert_is_at(&rt, row, *message.nl_type(), kind);
+        assert_is_at(&rt, row, lent_numbers(&message), numbers);
+        let payload = datagram.get(16..).expect(&rt, row);
+        assert_is_at(&rt, row, message.nl_payload(), payload);
+        assert!(rt; messages.next().is_none(), "{row}: a message more");
     }
-}
-
-/// The attributes of a link.
-fn link_attrs<'b>(rt: &impl Abort, bytes: &'b [u8]) -> LentAttrs<'b, Ifla> {
-    lent_message::<u16>(rt, bytes)
-        .get_attrs::<Ifinfomsg, Ifla>()
-        .expect(rt, "attributes")
 }
 
 /// The attribute of this type.
@@ -89,22 +72,27 @@ fn text<'b, T: RtaType>(rt: &impl Abort, attr: &LentAttr<'b, T>) -> &'b str {
 #[test]
 fn a_link_has_a_name_an_address_and_a_port(rt: HostRuntime) {
     let datagram = decoded(&rt, rt.alloc(), LINK);
-    let attrs = link_attrs(&rt, &datagram);
-    assert_is_at(&rt, "attributes", attrs.try_count().ok(), Some(7));
+    let attrs = link_attrs(&rt, &datagram).expect(&rt, "attributes");
+    assert_is_at(
+        &rt,
+        "attributes",
+        attrs.try_count().expect(&rt, "a count"),
+        7,
+    );
     let name = text(&rt, &found(&rt, &attrs, Ifla::Ifname));
     assert_is_at(&rt, "a name", name, "veth1\0");
     let address = found(&rt, &attrs, Ifla::Address);
     assert_is_at(&rt, "address", address.attr_payload(), &[2, 0, 0, 0, 0, 2]);
     // The port's own attributes are marked as nested, which a routing attribute's type keeps.
     let port = found(&rt, &attrs, Ifla::UnrecognizedConst(0x800c)).get_attrs::<u16>();
-    assert_is_at(&rt, "a port", port.try_count().ok(), Some(39));
+    assert_is_at(&rt, "a port", port.try_count().expect(&rt, "a count"), 39);
 }
 
 #[test]
 fn a_link_has_numbers(rt: HostRuntime) {
     let alloc = rt.alloc();
     let datagram = decoded(&rt, alloc, LINK);
-    let attrs = link_attrs(&rt, &datagram);
+    let attrs = link_attrs(&rt, &datagram).expect(&rt, "attributes");
     for (row, kind, want) in [
         ("master", Ifla::Master, 5),
         ("mtu", Ifla::Mtu, 1500),
@@ -130,7 +118,12 @@ fn a_route_has_addresses(rt: HostRuntime) {
     let attrs = lent_message::<Rtm>(&rt, &datagram)
         .get_attrs::<Rtmsg, Rta>()
         .expect(&rt, "attributes");
-    assert_is_at(&rt, "attributes", attrs.try_count().ok(), Some(7));
+    assert_is_at(
+        &rt,
+        "attributes",
+        attrs.try_count().expect(&rt, "a count"),
+        7,
+    );
     for (row, kind, want) in OF_THE_ROUTE {
         assert_is_at(&rt, row, found(&rt, &attrs, kind).attr_payload(), want);
     }
@@ -139,7 +132,7 @@ fn a_route_has_addresses(rt: HostRuntime) {
 #[test]
 fn a_request_names_a_kind_of_link(rt: HostRuntime) {
     let datagram = decoded(&rt, rt.alloc(), REQUEST);
-    let attrs = link_attrs(&rt, &datagram);
+    let attrs = link_attrs(&rt, &datagram).expect(&rt, "attributes");
     let name = found(&rt, &attrs, Ifla::Ifname);
     assert_is_at(&rt, "a name", name.attr_payload(), b"mac0\0");
     let info = found(&rt, &attrs, Ifla::Linkinfo).get_attrs::<IflaInfo>();

@@ -1,12 +1,17 @@
 //! Lent values that become owned ones. Each allocation may be refused in these tests: then the answer is that
 //! memory ran out, and the lent value is still there.
 
-use crate::support::{Raw, Refusal, assert_is_at, lent_attr, lent_message, refusal_in, refusal_of};
+use crate::support::{
+    Raw, Refusal, assert_is_at, lent_attr, lent_message, numbers_of, refusal_in, refusal_of,
+};
+use neli::FromBytesWithInput;
 use neli::consts::rtnl::Rta;
 use neli::err::DeError;
 use neli::lent::LentAttr;
 use neli::nl::{NlPayload, Nlmsghdr};
 use neli::rtnl::Ifinfomsg;
+use neli::types::Buffer;
+use std::alloc::Global;
 use std::process::Abort;
 
 /// A link with index 3, without attributes.
@@ -15,13 +20,19 @@ const LINK: [u8; 32] = [
     0,
 ];
 
+/// The message of these bytes, lent and then owned.
+fn owned<P: FromBytesWithInput>(
+    rt: &impl Abort,
+    alloc: Global,
+    bytes: &[u8],
+) -> Result<Nlmsghdr<u16, P>, DeError> {
+    lent_message::<u16>(rt, bytes).to_nlmsghdr(alloc)
+}
+
 /// Asserts the fields and the payload of [`LINK`].
 fn assert_link(rt: &impl Abort, owned: &Raw) {
-    let flags = u16::from(*owned.nl_flags());
-    let fields = (*owned.nl_len(), *owned.nl_type(), flags);
-    assert_is_at(rt, "fields", fields, (32, 16, 2));
-    let numbers = (*owned.nl_seq(), *owned.nl_pid());
-    assert_is_at(rt, "numbers", numbers, (5, 7));
+    assert_is_at(rt, "the type", *owned.nl_type(), 16);
+    assert_is_at(rt, "numbers", numbers_of(owned), [32, 2, 5, 7]);
     let payload = owned.get_payload().expect(rt, "a payload");
     assert_is_at(rt, "payload", payload.as_ref(), &LINK[16..]);
 }
@@ -48,22 +59,24 @@ const ACK: [u8; 36] = [
     0, 0, 0, 0, 0,
 ];
 
-// None of these takes memory: a link without attributes, a payload that is refused, and a header.
+// A link without attributes takes no memory.
 #[test]
-fn a_message_with_a_payload_by_its_type(rt: HostRuntime) {
-    let owned = lent_message::<u16>(&rt, &LINK).to_nlmsghdr(rt.alloc());
-    let owned: Nlmsghdr<u16, Ifinfomsg> = owned.expect(&rt, "a message");
-    let link = owned.get_payload().expect(&rt, "a payload");
-    let fields = (*link.ifi_index(), link.rtattrs().len());
-    assert_is_at(&rt, "a link", fields, (3, 0));
-    // An error is lent whatever its payload is, and is refused only as an owned message.
-    let message = lent_message::<u16>(&rt, &ERROR);
-    assert_is_at(&rt, "payload", message.nl_payload(), &ERROR[16..]);
-    let owned: Result<Raw, DeError> = message.to_nlmsghdr(rt.alloc());
-    assert_is_at(&rt, "refused", refusal_in(owned), Some(Refusal::Input(4)));
-    let owned = lent_message::<u16>(&rt, &ACK).to_nlmsghdr(rt.alloc());
-    let owned: Raw = owned.expect(&rt, "a message");
-    assert!(rt; matches!(owned.nl_payload(), NlPayload::Ack(_)));
+fn a_message_with_a_body(rt: HostRuntime) {
+    let message = owned::<Ifinfomsg>(&rt, rt.alloc(), &LINK).expect(&rt, "a message");
+    let link = message.get_payload().expect(&rt, "a payload");
+    assert_is_at(&rt, "an index", *link.ifi_index(), 3);
+    assert_is_at(&rt, "attributes", link.rtattrs().len(), 0);
+}
+
+// An error is lent whatever its payload is, and is refused only as an owned message.
+#[test]
+fn a_message_of_another_kind_or_refused(rt: HostRuntime) {
+    let payload = lent_message::<u16>(&rt, &ERROR).nl_payload();
+    assert_is_at(&rt, "payload", payload, &ERROR[16..]);
+    let refused = refusal_in(owned::<Buffer>(&rt, rt.alloc(), &ERROR));
+    assert_is_at(&rt, "refused", refused, Some(Refusal::Input(4)));
+    let answer = owned::<Buffer>(&rt, rt.alloc(), &ACK).expect(&rt, "a message");
+    assert!(rt; matches!(answer.nl_payload(), NlPayload::Ack(_)));
 }
 
 #[test]

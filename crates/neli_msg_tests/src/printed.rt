@@ -1,6 +1,8 @@
 //! What errors print, and what they are made of.
 
-use crate::support::{Refusal, assert_is, assert_prints, read_error, router_refusal, typed_error};
+use crate::kinds::ERROR;
+use crate::retyping::typed_error;
+use crate::support::{Refusal, assert_is, assert_prints, raw_message, router_refusal};
 use neli::consts::nl::NlTypeWrapper;
 use neli::err::{
     BuildError, BuilderError, DeError, MsgError, NoMemory, RouterError, SerError, SocketError,
@@ -8,16 +10,34 @@ use neli::err::{
 };
 use neli::types::Buffer;
 use std::alloc::{AllocError, AllocFailed, Global};
-use std::fmt::Display;
+use std::fmt::{Debug, Display};
 use std::io;
 use std::io::ErrorKind;
 use std::process::Abort;
 
 type Error = RouterError<u16, Buffer>;
 
+type Typed = RouterError<NlTypeWrapper, Vec<u8>>;
+
 /// The words of ours, and then what a cause prints by itself: no contract says what that is.
 fn words_and<C: Display>(rt: &impl Abort, alloc: Global, words: &str, cause: &C) -> String {
     format!(in alloc; "{words}{cause}").expect(rt, "memory")
+}
+
+/// Asserts that what was made of an error prints this.
+fn made_prints<D: Display + Drop, E: Debug + Drop>(
+    rt: &impl Abort,
+    alloc: Global,
+    made: Result<D, E>,
+    want: &str,
+) {
+    assert_prints(rt, alloc, &made.expect(rt, "an error of this one"), want);
+}
+
+/// Asserts that the error prints this, and its copy too.
+fn link_prints(rt: &impl Abort, alloc: Global, error: SocketError, want: &str) {
+    assert_prints(rt, alloc, &error, want);
+    made_prints(rt, alloc, error.try_clone(), want);
 }
 
 /// Asserts that the error prints these words and then the cause, and its copy too.
@@ -29,19 +49,21 @@ fn assert_link<C: Display>(
     cause: &C,
 ) {
     let text = words_and(rt, alloc, words, cause);
-    assert_prints(rt, alloc, &error, &text);
-    let copy = error.try_clone().expect(rt, "memory");
-    assert_prints(rt, alloc, &copy, &text);
+    link_prints(rt, alloc, error, &text);
+}
+
+/// Asserts that the error prints this, and so do its copy and the error of other types.
+fn router_prints(rt: &impl Abort, alloc: Global, error: Error, want: &str) {
+    assert_prints(rt, alloc, &error, want);
+    made_prints(rt, alloc, error.try_clone(), want);
+    let typed: Result<Typed, Refusal> = typed_error(alloc, &error);
+    made_prints(rt, alloc, typed, want);
 }
 
 /// Asserts that the error prints these words and then the cause, and so do its copy and the error of other types.
 fn assert_router<C: Display>(rt: &impl Abort, alloc: Global, error: Error, words: &str, cause: &C) {
     let text = words_and(rt, alloc, words, cause);
-    assert_prints(rt, alloc, &error, &text);
-    let copy = error.try_clone().expect(rt, "memory");
-    assert_prints(rt, alloc, &copy, &text);
-    let typed: RouterError<NlTypeWrapper, Vec<u8>> = typed_error(rt, alloc, &error);
-    assert_prints(rt, alloc, &typed, &text);
+    router_prints(rt, alloc, error, &text);
 }
 
 /// Kinds of failures of a link, an input or an output.
@@ -102,11 +124,6 @@ fn errors_of_a_router_print_where_a_text_ends(rt: HostRuntime) {
     }
 }
 
-/// Asserts that the error prints this, and its copy too.
-fn link_prints(rt: &impl Abort, alloc: Global, error: SocketError, want: &str) {
-    assert_link(rt, alloc, error, want, &"");
-}
-
 #[test]
 fn errors_of_a_link_print_words_or_their_cause(rt: HostRuntime) {
     let alloc = rt.alloc();
@@ -124,11 +141,6 @@ fn errors_of_a_link_print_words_or_their_cause(rt: HostRuntime) {
     let cause = DeError::InvalidInput(15);
     let want = "Deserialization error: Invalid input was provided: 15";
     link_prints(&rt, alloc, SocketError::from(cause), want);
-}
-
-/// Asserts that the error prints this, and so do its copy and the error of other types.
-fn router_prints(rt: &impl Abort, alloc: Global, error: Error, want: &str) {
-    assert_router(rt, alloc, error, want, &"");
 }
 
 #[test]
@@ -169,7 +181,7 @@ fn errors_of_a_router_print_what_happened(rt: HostRuntime) {
 #[test]
 fn errors_of_a_router_print_what_was_received(rt: HostRuntime) {
     let alloc = rt.alloc();
-    let mut message = read_error(&rt, alloc);
+    let mut message = raw_message(&rt, alloc, &ERROR);
     let answer = message.get_err().expect(&rt, "an error");
     let want = "Application error was returned by netlink: netlink error -22";
     router_prints(&rt, alloc, RouterError::Nlmsgerr(answer), want);
@@ -187,7 +199,7 @@ fn errors_of_builders_become_words(rt: HostRuntime) {
     let error = BuilderError::from(BuildError::<{ of::NLATTR }>::ValidationError("too long"));
     assert_prints(&rt, alloc, &DeError::from(error), "too long");
     let error = BuilderError::from(BuildError::<{ of::NLMSGERR }>::Memory);
-    assert_is(&rt, router_refusal(Error::from(error)), Refusal::Memory);
+    assert_is(&rt, router_refusal(&Error::from(error)), Refusal::Memory);
 }
 
 /// Whether the error says that memory ran out.
@@ -196,25 +208,23 @@ fn is_memory(error: SocketError) -> bool {
 }
 
 #[test]
-fn causes_of_errors_are_kept(rt: HostRuntime) {
+fn causes_of_errors_of_a_link_are_kept(rt: HostRuntime) {
     let link = SocketError::from(io::Error::from(ErrorKind::ConnectionReset));
     assert!(rt; matches!(link, SocketError::Io(ErrorKind::ConnectionReset)));
+    assert!(rt; is_memory(SocketError::from(NoMemory)));
+    assert!(rt; is_memory(SocketError::from(AllocError)));
+    assert!(rt; is_memory(SocketError::from(AllocFailed { value: 7u8 })));
+}
+
+#[test]
+fn causes_of_errors_of_a_router_are_kept(rt: HostRuntime) {
     let memory = [
-        is_memory(SocketError::from(NoMemory)),
-        is_memory(SocketError::from(AllocError)),
-        is_memory(SocketError::from(AllocFailed { value: 7u8 })),
-    ];
-    assert_is(&rt, memory, [true; 3]);
-    let memory = [
-        router_refusal(Error::from(NoMemory)),
-        router_refusal(Error::from(AllocError)),
-        router_refusal(Error::from(AllocFailed { value: 7u8 })),
+        router_refusal(&Error::from(NoMemory)),
+        router_refusal(&Error::from(AllocError)),
+        router_refusal(&Error::from(AllocFailed { value: 7u8 })),
     ];
     assert_is(&rt, memory, [Refusal::Memory; 3]);
-    let failed: RouterError<NlTypeWrapper, Vec<u8>> = typed_error(
-        &rt,
-        rt.alloc(),
-        &RouterError::Io(ErrorKind::UnexpectedEof),
-    );
-    assert!(rt; matches!(failed, RouterError::Io(ErrorKind::UnexpectedEof)));
+    let failed = RouterError::Io(ErrorKind::UnexpectedEof);
+    let typed: Result<Typed, Refusal> = typed_error(rt.alloc(), &failed);
+    assert!(rt; matches!(typed, Ok(RouterError::Io(ErrorKind::UnexpectedEof))));
 }

@@ -1,7 +1,9 @@
 //! One message, and a whole datagram.
 
 use crate::kinds::{ERROR, words_in};
-use crate::support::{Raw, Refusal, assert_is, assert_is_at, raw_message, refusal_in, refusal_of};
+use crate::support::{
+    Raw, Refusal, assert_is, assert_is_at, numbers_of, raw_message, refusal_in, refusal_of,
+};
 use neli::consts::nl::{NlmF, Nlmsg};
 use neli::err::{DeError, SocketError};
 use neli::iter::{NlBufferIter, cut};
@@ -58,16 +60,22 @@ const MESSAGES: [(&str, &[u8], Result<&[u8], Refusal>); 8] = [
 fn one_message_is_read_or_refused(rt: HostRuntime) {
     for (row, bytes, want) in MESSAGES {
         let mut cursor = Cursor::new(bytes);
-        let found: Result<Raw, DeError> = Nlmsghdr::from_bytes(rt.alloc(), &mut cursor);
+        let read = Raw::from_bytes(rt.alloc(), &mut cursor);
         let place = cursor.position();
-        let (got, end) = match &found {
-            Ok(message) => {
-                let body = message.get_payload().map(|body| body.as_ref());
-                (body.ok_or(Refusal::Other), bytes.len())
-            }
-            Err(error) => (Err(refusal_of(error)), 0),
-        };
-        assert_is_at(&rt, row, (got, place), (want, end));
+        assert_is_at(&rt, row, body_of(&read), want);
+        let end = if want.is_ok() { bytes.len() } else { 0 };
+        assert_is_at(&rt, row, place, end);
+    }
+}
+
+/// The payload that was read, or why it is refused.
+fn body_of(read: &Result<Raw, DeError>) -> Result<&[u8], Refusal> {
+    match read {
+        Ok(message) => match message.get_payload() {
+            Some(body) => Ok(body.as_ref()),
+            None => Err(Refusal::Other),
+        },
+        Err(error) => Err(refusal_of(error)),
     }
 }
 
@@ -77,12 +85,14 @@ const REQUEST: [u8; 32] = [
     0x74, 0x72, 0x6c, 0, 0,
 ];
 
-/// What the next item of a datagram is: a message, or why there is none.
-fn item_of<M: Drop>(item: Option<Result<M, SocketError>>) -> Option<Result<(), Refusal>> {
-    match item {
+/// What the next item of a datagram is: the numbers in a message's header, or why there is no message.
+type Item = Option<Result<[u32; 4], Refusal>>;
+
+fn item_of<T: Drop, P: Drop>(item: Option<Result<Nlmsghdr<T, P>, SocketError>>) -> Item {
+    match &item {
         None => None,
-        Some(Ok(_)) => Some(Ok(())),
-        Some(Err(SocketError::De(error))) => Some(Err(refusal_of(&error))),
+        Some(Ok(message)) => Some(Ok(numbers_of(message))),
+        Some(Err(SocketError::De(error))) => Some(Err(refusal_of(error))),
         Some(Err(_)) => Some(Err(Refusal::Other)),
     }
 }
@@ -92,11 +102,12 @@ fn item_of<M: Drop>(item: Option<Result<M, SocketError>>) -> Option<Result<(), R
 fn assert_refused(rt: &impl Abort, alloc: Global, bytes: &[u8], want: Refusal) {
     let mut cursor = Cursor::new(bytes);
     let refusal = refusal_in(Raw::from_bytes(alloc, &mut cursor));
-    assert_is_at(rt, bytes, (refusal, cursor.position()), (Some(want), 0));
+    assert_is_at(rt, bytes, refusal, Some(want));
+    assert_is_at(rt, bytes, cursor.position(), 0);
     let mut messages: NlBufferIter<'_, u16, Buffer> = NlBufferIter::new(bytes);
     let fault = item_of(messages.next(alloc));
     let rest = item_of(messages.next(alloc));
-    assert_is_at(rt, bytes, (fault, rest), (Some(Err(want)), None));
+    assert_is_at(rt, bytes, [fault, rest], [Some(Err(want)), None]);
 }
 
 /// Messages, and the count of bytes in the payload: they are missed where the header is there.
@@ -166,21 +177,19 @@ const DATAGRAM: [u8; 45] = [
 ];
 
 /// The ends of [`DATAGRAM`], and the fault before them.
-const ENDS: [(&str, usize, Option<Result<(), Refusal>>); 2] = [
+const ENDS: [(&str, usize, Item); 2] = [
     ("nothing after it", 36, None),
     ("zeros after it", 45, Some(Err(Refusal::Short))),
 ];
 
-/// Asserts that this is the end of a dump in [`DATAGRAM`].
-fn assert_end(rt: &impl Abort, row: &str, first: &Nlmsghdr<Nlmsg, Vec<u16>>) {
-    let header = (
-        *first.nl_len(),
-        *first.nl_type(),
-        u16::from(*first.nl_flags()),
-        *first.nl_seq(),
-        *first.nl_pid(),
-    );
-    assert_is_at(rt, row, header, (16, Nlmsg::Done, 0xf002, 5, 7));
+type Messages<'b> = NlBufferIter<'b, u16, Vec<u8>>;
+
+/// Asserts that the next message is the end of a dump in [`DATAGRAM`].
+fn assert_done(rt: &impl Abort, alloc: Global, row: &str, messages: &mut Messages<'_>) {
+    let first = messages.next_typed::<Nlmsg, Vec<u16>>(alloc);
+    let first = first.expect(rt, "a message").expect(rt, row);
+    assert_is_at(rt, row, *first.nl_type(), Nlmsg::Done);
+    assert_is_at(rt, row, numbers_of(&first), [16, 0xf002, 5, 7]);
     assert!(rt; matches!(first.nl_payload(), NlPayload::Empty), "{row}");
 }
 
@@ -188,16 +197,13 @@ fn assert_end(rt: &impl Abort, row: &str, first: &Nlmsghdr<Nlmsg, Vec<u16>>) {
 fn a_datagram_has_two_messages_and_ends_or_has_one_fault(rt: HostRuntime) {
     let alloc = rt.alloc();
     for (row, end, fault) in ENDS {
-        let bytes = DATAGRAM.get(..end).expect(&rt, row);
-        let mut messages: NlBufferIter<'_, u16, Vec<u8>> = NlBufferIter::new(bytes);
-        let first = messages.next_typed::<Nlmsg, Vec<u16>>(alloc);
-        assert_end(&rt, row, &first.expect(&rt, "a message").expect(&rt, row));
-        let second = messages.next(alloc).expect(&rt, "a second message");
-        let flags = *second.expect(&rt, row).nl_flags();
-        assert_is_at(&rt, row, flags, NlmF::empty());
+        let mut messages = Messages::new(DATAGRAM.get(..end).expect(&rt, row));
+        assert_done(&rt, alloc, row, &mut messages);
+        let second = item_of(messages.next(alloc));
         let third = item_of(messages.next(alloc));
         let rest = item_of(messages.next(alloc));
         let typed = item_of(messages.next_typed::<Nlmsg, Vec<u8>>(alloc));
+        assert_is_at(&rt, row, second, Some(Ok([17, 0, 0, 0])));
         assert_is_at(&rt, row, [third, rest, typed], [fault, None, None]);
     }
 }
@@ -220,6 +226,7 @@ fn a_datagram_is_cut(rt: HostRuntime) {
         let (messages, found): (Vec<Raw>, Option<DeError>) = cut(rt.alloc(), &ONE[..end]).expect(
             &rt, "messages",
         );
-        assert_is_at(&rt, row, (messages.len(), found.is_some()), (count, fault));
+        assert_is_at(&rt, row, messages.len(), count);
+        assert_is_at(&rt, row, found.is_some(), fault);
     }
 }

@@ -1,13 +1,12 @@
 //! What the tests share: refusals that can be compared, one comparison for all, and what is read from bytes.
 
-use crate::kinds::ERROR;
 use neli::consts::Constant;
 use neli::consts::nl::NlType;
 use neli::err::{DeError, Nlmsgerr, NlmsghdrErr, RouterError};
 use neli::lent::{LentAttr, LentMessage};
 use neli::nl::{NlPayload, Nlmsghdr};
 use neli::types::Buffer;
-use neli::{Cursor, FromBytes, FromBytesWithInput, Size, ToBytes};
+use neli::{Cursor, FromBytes, ToBytes};
 use std::alloc::Global;
 use std::fmt::{Debug, Display};
 use std::io::ErrorKind;
@@ -59,10 +58,10 @@ pub fn refusal_in<T: Drop>(read: Result<T, DeError>) -> Option<Refusal> {
 }
 
 /// The refusal that a router's error is.
-pub fn router_refusal<T: Drop, P: Drop>(error: RouterError<T, P>) -> Refusal {
+pub fn router_refusal<T, P>(error: &RouterError<T, P>) -> Refusal {
     match error {
         RouterError::Memory => Refusal::Memory,
-        RouterError::De(DeError::InvalidInput(n)) => Refusal::Input(n),
+        RouterError::De(DeError::InvalidInput(n)) => Refusal::Input(*n),
         _ => Refusal::Other,
     }
 }
@@ -91,9 +90,26 @@ pub fn raw_message(rt: &impl Abort, alloc: Global, bytes: &[u8]) -> Raw {
     Raw::from_bytes(alloc, &mut Cursor::new(bytes)).expect(rt, "a message")
 }
 
-/// The message of [`ERROR`].
-pub fn read_error(rt: &impl Abort, alloc: Global) -> Raw {
-    raw_message(rt, alloc, &ERROR)
+/// The numbers in a header but its type: length, flags, number and port.
+pub fn numbers_of<T, P>(message: &Nlmsghdr<T, P>) -> [u32; 4] {
+    let flags = u32::from(u16::from(*message.nl_flags()));
+    [
+        *message.nl_len(),
+        flags,
+        *message.nl_seq(),
+        *message.nl_pid(),
+    ]
+}
+
+/// The same of a lent message.
+pub fn lent_numbers<T>(message: &LentMessage<'_, T>) -> [u32; 4] {
+    let flags = u32::from(u16::from(*message.nl_flags()));
+    [
+        *message.nl_len(),
+        flags,
+        *message.nl_seq(),
+        *message.nl_pid(),
+    ]
 }
 
 /// The error that the message carries.
@@ -105,15 +121,6 @@ pub fn error_in<'a, T, P>(
         NlPayload::Err(answer) => answer,
         _ => rt.panic("no error"),
     }
-}
-
-/// The error as one of other types.
-pub fn typed_error<T: NlType, P: FromBytesWithInput + Size>(
-    rt: &impl Abort,
-    alloc: Global,
-    error: &RouterError<u16, Buffer>,
-) -> RouterError<T, P> {
-    error.to_typed(alloc).expect(rt, "a typed error")
 }
 
 /// Asserts that the value is written as these bytes.
