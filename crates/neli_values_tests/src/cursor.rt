@@ -1,6 +1,6 @@
 //! The place in bytes that reads go through.
 
-use crate::refusal::{Refusal, assert_is, assert_is_at, refusal_of};
+use crate::support::{Refusal, assert_is, assert_is_at, refusal_of};
 use neli::Cursor;
 
 const BYTES: [u8; 5] = [1, 2, 3, 4, 5];

@@ -1,6 +1,6 @@
 //! Texts, borrowed and owned. An owned text is read without its last byte, whatever that is.
 
-use crate::refusal::{Refusal, assert_is, assert_is_at, refusal_of};
+use crate::support::{Refusal, assert_is, assert_is_at, refusal_of};
 use neli::err::DeError;
 use neli::{Cursor, FromBytesWithInput, FromBytesWithInputBorrowed, Size, ToBytes};
 

@@ -3,7 +3,7 @@
 //! No contract states what the standard library prints of an `ErrorKind` or of a `Utf8Error`, so here the
 //! cause itself is printed and compared with what stands after the prefix.
 
-use crate::refusal::assert_is_at;
+use crate::support::assert_is_at;
 use neli::err::{
     BuildError, DeError, MsgError, NoMemory, SerError, SocketError, UninitializedFieldError, Utf8,
 };

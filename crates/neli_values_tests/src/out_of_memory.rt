@@ -1,7 +1,7 @@
 //! What the calls answer where an allocation is refused. `rt try --test --fail-alloc N` refuses the Nth one
 //! of each test; the tests of this file pass with every N, and without.
 
-use crate::refusal::{Refusal, assert_is, assert_is_at, refusal_of};
+use crate::support::{Refusal, assert_is, assert_is_at, refusal_of};
 use neli::err::{DeError, MsgError, SerError, UninitializedFieldError};
 use neli::implementing::{read_all, write_all};
 use neli::{Cursor, FromBytes, FromBytesWithInput, FromBytesWithInputBorrowed, ToBytes};

@@ -1,6 +1,6 @@
 //! Lists of values, one after the other.
 
-use crate::refusal::{Refusal, assert_is, assert_is_at, refusal_of};
+use crate::support::{Refusal, assert_is, assert_is_at, refusal_of};
 use neli::err::DeError;
 use neli::implementing::{read_all, size_of_all, write_all};
 use neli::{Cursor, FromBytesWithInput, Size, ToBytes};

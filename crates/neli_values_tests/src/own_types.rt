@@ -1,6 +1,6 @@
 //! A user's own types, those of `example_body`.
 
-use crate::refusal::{Refusal, assert_is, assert_is_at, refusal_of};
+use crate::support::{Refusal, assert_is, assert_is_at, refusal_of};
 use example_body::{Probe, ProbeBuilder, ProbeBuilderError, Watch};
 use neli::err::BuildError;
 use neli::{Cursor, FromBytesWithInput, Header, Size, ToBytes};

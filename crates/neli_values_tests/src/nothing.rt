@@ -1,6 +1,6 @@
 //! Values that take no bytes.
 
-use crate::refusal::{Refusal, assert_is, assert_is_at, refusal_of};
+use crate::support::{Refusal, assert_is, assert_is_at, refusal_of};
 use neli::{Cursor, FromBytes, FromBytesWithInput, Size, ToBytes, TypeSize};
 use std::marker::PhantomData;
 

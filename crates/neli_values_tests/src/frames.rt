@@ -1,6 +1,6 @@
 //! What follows a header that states the length of the whole: the payload and its padding.
 
-use crate::refusal::{Refusal, assert_is, assert_is_at, refusal_of};
+use crate::support::{Refusal, assert_is, assert_is_at, refusal_of};
 use neli::Cursor;
 use neli::err::DeError;
 use neli::implementing::{read_padded_payload, within_input};

@@ -1,6 +1,6 @@
 //! The integer types.
 
-use crate::refusal::{Refusal, assert_is, assert_is_at, refusal_of};
+use crate::support::{Refusal, assert_is, assert_is_at, refusal_of};
 use neli::consts::{Constant, WireNumber};
 use neli::err::DeError;
 use neli::{BeU64, Cursor, FromBytes, Size, ToBytes, TypeSize};

@@ -1,6 +1,6 @@
 //! What refusals are made of.
 
-use crate::refusal::assert_is;
+use crate::support::assert_is;
 use neli::err::{DeError, MsgError, NoMemory, SerError, UninitializedFieldError, Utf8};
 use std::alloc::{AllocError, AllocFailed, Global};
 use std::io;

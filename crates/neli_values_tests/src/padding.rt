@@ -1,6 +1,6 @@
 //! Lengths rounded up to four, zeros that are written, and bytes that are passed over.
 
-use crate::refusal::{Refusal, assert_is, assert_is_at, refusal_of};
+use crate::support::{Refusal, assert_is, assert_is_at, refusal_of};
 use neli::consts::alignto;
 use neli::err::{DeError, SerError};
 use neli::implementing::{pad_from, padded_length, strip_to_four, undo_on_refusal};

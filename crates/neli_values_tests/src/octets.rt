@@ -1,6 +1,6 @@
 //! Slices and arrays of bytes.
 
-use crate::refusal::{Refusal, assert_is, assert_is_at, refusal_of};
+use crate::support::{Refusal, assert_is, assert_is_at, refusal_of};
 use neli::err::DeError;
 use neli::{Cursor, FromBytes, FromBytesWithInputBorrowed, Size, ToBytes};
 
