@@ -1,124 +1,153 @@
 //! Bit arrays.
 
+use crate::support::{assert_is, assert_is_at};
 use neli::err::SerError;
 use neli::utils::NetlinkBitArray;
 use std::alloc::Global;
-use std::test::Fail;
+use std::process::Abort;
 
 // The array with these numbers set, of those that it has room for.
-fn array_with(alloc: Global, bits: usize, numbers: &[u32]) -> Result<NetlinkBitArray, SerError> {
-    let mut array = NetlinkBitArray::new(alloc, bits)?;
+fn array_with(rt: &impl Abort, alloc: Global, bits: usize, numbers: &[u32]) -> NetlinkBitArray {
+    let mut array = NetlinkBitArray::new(alloc, bits).expect(rt, "memory");
     for n in numbers {
         let n = *n as usize;
         if n <= array.len_bits() {
             array.set(n);
         }
     }
-    Ok(array)
+    array
+}
+
+// The lengths of the array in bytes and in bits, and the numbers that are set.
+fn assert_array(
+    rt: &impl Abort,
+    alloc: Global,
+    array: &NetlinkBitArray,
+    lengths: (usize, usize),
+    numbers: &[u32],
+) {
+    assert_is(rt, (array.len(), array.len_bits()), lengths);
+    let list = array.to_vec(alloc).expect(rt, "memory");
+    assert_is(rt, list.as_slice(), numbers);
 }
 
 #[test]
-fn lengths(rt: HostRuntime) -> Result<(), Fail> {
-    let rows: [(usize, usize, usize); 6] = [
-        (0, 0, 0),
-        (1, 4, 32),
-        (7, 4, 32),
-        (32, 4, 32),
-        (33, 8, 64),
-        (96, 12, 96),
+fn lengths(rt: HostRuntime) {
+    let rows = [
+        (0, (0, 0)),
+        (1, (4, 32)),
+        (7, (4, 32)),
+        (32, (4, 32)),
+        (33, (8, 64)),
+        (96, (12, 96)),
     ];
-    for (bits, bytes, capacity) in rows {
-        let array = NetlinkBitArray::new(rt.alloc(), bits)?;
-        assert_eq!(rt; array.len(), bytes, "of {bits} bits");
-        assert_eq!(rt; array.len_bits(), capacity, "of {bits} bits");
-        assert_eq!(rt; array.to_vec(rt.alloc())?.len(), 0, "of {bits} bits");
+    for (bits, lengths) in rows {
+        let array = array_with(&rt, rt.alloc(), bits, &[]);
+        assert_array(&rt, rt.alloc(), &array, lengths, &[]);
     }
-    Ok(())
 }
 
 #[test]
-fn set_numbers(rt: HostRuntime) -> Result<(), Fail> {
-    let rows: [(usize, &[u32], &[u32]); 5] = [
-        (7, &[4], &[4]),
-        (96, &[68, 4, 36], &[4, 36, 68]),
-        (32, &[32, 1, 32], &[1, 32]),
-        (64, &[33, 64], &[33, 64]),
-        (32, &[0], &[]),
+fn set_numbers(rt: HostRuntime) {
+    let rows: [(usize, (usize, usize), &[u32], &[u32]); 5] = [
+        (7, (4, 32), &[4], &[4]),
+        (96, (12, 96), &[68, 4, 36], &[4, 36, 68]),
+        (32, (4, 32), &[32, 1, 32], &[1, 32]),
+        (64, (8, 64), &[33, 64], &[33, 64]),
+        (32, (4, 32), &[0], &[]),
     ];
-    for (bits, numbers, want) in rows {
-        let array = array_with(rt.alloc(), bits, numbers)?;
-        let list = array.to_vec(rt.alloc())?;
-        assert_eq!(rt; list.as_slice(), want, "{numbers:?} of {bits} bits");
-        for n in 0..array.len_bits() {
-            let wanted = want.contains(&(n as u32));
-            assert_eq!(rt; array.is_set(n), wanted, "{n} of {numbers:?}");
+    for (bits, lengths, numbers, want) in rows {
+        let array = array_with(&rt, rt.alloc(), bits, numbers);
+        assert_array(&rt, rt.alloc(), &array, lengths, want);
+        for n in 0u32..100 {
+            let place = n as usize;
+            let is_set = place <= array.len_bits() && array.is_set(place);
+            assert_is_at(&rt, (numbers, n), is_set, want.contains(&n));
         }
-        assert_eq!(rt;
-            array.is_set(array.len_bits()),
-            want.contains(&(array.len_bits() as u32))
-        );
     }
-    Ok(())
 }
 
-#[test]
-fn resized_by_bytes(rt: HostRuntime) -> Result<(), Fail> {
-    let mut array = NetlinkBitArray::new(rt.alloc(), 33)?;
-    assert_eq!(rt; array.len(), 8);
-    array.resize(1)?;
-    assert_eq!(rt; array.len(), 4);
-    array.resize(9)?;
-    assert_eq!(rt; array.len(), 12);
-    array.resize(0)?;
-    assert_eq!(rt; array.len_bits(), 0);
-    Ok(())
+/// A length that an array is given.
+#[derive(Clone, Copy)]
+enum Length {
+    Bytes(usize),
+    Bits(usize),
 }
 
-#[test]
-fn resized_by_bits(rt: HostRuntime) -> Result<(), Fail> {
-    let mut array = NetlinkBitArray::new(rt.alloc(), 32)?;
-    assert_eq!(rt; array.len(), 4);
-    array.resize_bits(33)?;
-    assert_eq!(rt; array.len(), 8);
-    array.resize_bits(1)?;
-    assert_eq!(rt; array.len(), 4);
-    Ok(())
+fn resize(array: &mut NetlinkBitArray, length: Length) -> Result<(), SerError> {
+    match length {
+        Length::Bytes(bytes) => array.resize(bytes),
+        Length::Bits(bits) => array.resize_bits(bits),
+    }
 }
+
+/// What an array is resized to, its lengths then, and the numbers that are still set.
+type Step = (Length, (usize, usize), &'static [u32]);
 
 // A number stays where the new capacity has it, and what was cut off does not come back.
+const RESIZED: [(usize, &[u32], [Step; 3]); 3] = [
+    (
+        33,
+        &[],
+        [
+            (Length::Bytes(1), (4, 32), &[]),
+            (Length::Bytes(9), (12, 96), &[]),
+            (Length::Bytes(0), (0, 0), &[]),
+        ],
+    ),
+    (
+        32,
+        &[],
+        [
+            (Length::Bits(32), (4, 32), &[]),
+            (Length::Bits(33), (8, 64), &[]),
+            (Length::Bits(1), (4, 32), &[]),
+        ],
+    ),
+    (
+        96,
+        &[4, 36, 68],
+        [
+            (Length::Bytes(12), (12, 96), &[4, 36, 68]),
+            (Length::Bits(33), (8, 64), &[4, 36]),
+            (Length::Bytes(12), (12, 96), &[4, 36]),
+        ],
+    ),
+];
+
 #[test]
-fn numbers_after_a_resize(rt: HostRuntime) -> Result<(), Fail> {
-    let mut array = array_with(rt.alloc(), 96, &[4, 36, 68])?;
-    array.resize_bits(33)?;
-    assert_eq!(rt; array.to_vec(rt.alloc())?.as_slice(), [4u32, 36].as_slice());
-    array.resize(12)?;
-    assert_eq!(rt; array.to_vec(rt.alloc())?.as_slice(), [4u32, 36].as_slice());
-    Ok(())
+fn resized(rt: HostRuntime) {
+    for (bits, numbers, steps) in RESIZED {
+        let mut array = array_with(&rt, rt.alloc(), bits, numbers);
+        for (length, lengths, want) in steps {
+            resize(&mut array, length).expect(&rt, "memory");
+            assert_array(&rt, rt.alloc(), &array, lengths, want);
+        }
+    }
 }
 
-// What a refusal prints.
-fn refusal<T: Drop>(alloc: Global, tried: Result<T, SerError>) -> Result<String, Fail> {
-    match tried {
-        Ok(_made) => Err(Fail::new("not refused")),
-        Err(error) => Ok(error.to_string(alloc)?),
-    }
+fn assert_too_long<T: Drop>(rt: &impl Abort, alloc: Global, tried: Result<T, SerError>) {
+    let error = tried.err().expect(rt, "it is not refused");
+    let text = error.to_string(alloc).expect(rt, "memory");
+    assert_is(rt, text.as_str(), "bit array too long");
 }
 
 // 134217727 words are 4294967264 bits, or 536870908 bytes.
 #[test]
-fn too_long(rt: HostRuntime) -> Result<(), Fail> {
-    let mut array = array_with(rt.alloc(), 32, &[5])?;
+fn too_long(rt: HostRuntime) {
+    let alloc = rt.alloc();
     for bits in [4294967265usize, 4294967296, usize::MAX] {
-        let text = refusal(rt.alloc(), NetlinkBitArray::new(rt.alloc(), bits))?;
-        assert_eq!(rt; text.as_str(), "bit array too long", "{bits} bits");
-        let text = refusal(rt.alloc(), array.resize_bits(bits))?;
-        assert_eq!(rt; text.as_str(), "bit array too long", "{bits} bits");
-        assert_eq!(rt; array.to_vec(rt.alloc())?.as_slice(), [5u32].as_slice());
+        assert_too_long(&rt, alloc, NetlinkBitArray::new(alloc, bits));
     }
-    for bytes in [536870909usize, usize::MAX] {
-        let text = refusal(rt.alloc(), array.resize(bytes))?;
-        assert_eq!(rt; text.as_str(), "bit array too long", "{bytes} bytes");
-        assert_eq!(rt; array.to_vec(rt.alloc())?.as_slice(), [5u32].as_slice());
+    let mut array = array_with(&rt, alloc, 32, &[5]);
+    for length in [
+        Length::Bits(4294967265),
+        Length::Bits(4294967296),
+        Length::Bits(usize::MAX),
+        Length::Bytes(536870909),
+        Length::Bytes(usize::MAX),
+    ] {
+        assert_too_long(&rt, alloc, resize(&mut array, length));
+        assert_array(&rt, alloc, &array, (4, 32), &[5]);
     }
-    Ok(())
 }

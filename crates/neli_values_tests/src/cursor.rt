@@ -1,23 +1,23 @@
 //! The place in bytes that reads go through.
 
-use crate::support::{Refusal, assert_is, assert_is_at, refusal_of};
+use crate::support::{Refusal, SHORT, assert_is, assert_is_at, cursor_at, outcome_of};
 use neli::Cursor;
 
 const BYTES: [u8; 5] = [1, 2, 3, 4, 5];
 
 #[test]
 fn places(rt: HostRuntime) {
-    for position in [0usize, 1, 4, 5] {
-        let mut cursor = Cursor::new(&BYTES);
-        assert_is(&rt, cursor.position(), 0);
-        cursor.set_position(position);
-        assert_is(&rt, cursor.position(), position);
-        assert_is_at(
-            &rt,
-            position,
-            (cursor.rest(), cursor.get_ref()),
-            (&BYTES[position..], BYTES.as_slice()),
-        );
+    assert_is(&rt, Cursor::new(&BYTES).position(), 0);
+    let rows: [(usize, &[u8]); 4] = [
+        (0, &[1, 2, 3, 4, 5]),
+        (1, &[2, 3, 4, 5]),
+        (4, &[5]),
+        (5, &[]),
+    ];
+    for (place, rest) in rows {
+        let cursor = cursor_at(&rt, &BYTES, place);
+        let got = (cursor.position(), cursor.rest(), cursor.get_ref());
+        assert_is(&rt, got, (place, rest, BYTES.as_slice()));
     }
 }
 
@@ -28,14 +28,13 @@ fn next_bytes(rt: HostRuntime) {
         (0, Ok(&[]), Ok(&[]), 2),
         (2, Ok(&[3, 4]), Ok(&[3, 4]), 4),
         (3, Ok(&[3, 4, 5]), Ok(&[3, 4, 5]), 5),
-        (4, Err(Refusal::Short), Err(Refusal::Input(4)), 2),
+        (4, Err(SHORT), Err(Refusal::Input(4)), 2),
     ];
     for (n, read, shown, place) in rows {
-        let mut cursor = Cursor::new(&BYTES);
-        cursor.set_position(2);
-        let input = cursor.input(n).map_err(|error| refusal_of(&error));
+        let mut cursor = cursor_at(&rt, &BYTES, 2);
+        let input = outcome_of(cursor.input(n));
         assert_is_at(&rt, n, (input, cursor.position()), (shown, 2));
-        let bytes = cursor.bytes(n).map_err(|error| refusal_of(&error));
+        let bytes = outcome_of(cursor.bytes(n));
         assert_is_at(&rt, n, (bytes, cursor.position()), (read, place));
     }
 }

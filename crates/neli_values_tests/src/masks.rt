@@ -1,11 +1,18 @@
 //! Masks of groups. Group 32 has the highest bit.
 
+use crate::groups::{assert_groups, list_of};
+use crate::support::{assert_is, assert_is_at};
 use neli::err::SerError;
 use neli::utils::Groups;
-use std::test::Fail;
+use std::alloc::Global;
+use std::process::Abort;
+
+fn assert_mask(rt: &impl Abort, alloc: Global, groups: &Groups, want: u32) {
+    assert_is(rt, groups.as_bitmask(alloc).expect(rt, "a mask"), want);
+}
 
 #[test]
-fn groups_of_masks(rt: HostRuntime) -> Result<(), Fail> {
+fn groups_of_masks(rt: HostRuntime) {
     let rows: [(u32, &[u32]); 5] = [
         (0, &[]),
         (1, &[1]),
@@ -14,15 +21,14 @@ fn groups_of_masks(rt: HostRuntime) -> Result<(), Fail> {
         (0x8001_0001, &[1, 17, 32]),
     ];
     for (mask, want) in rows {
-        let groups = Groups::new_bitmask(rt.alloc(), mask)?;
-        assert_eq!(rt; groups.as_bitmask(rt.alloc())?, mask);
-        assert_eq!(rt; groups.into_groups().as_slice(), want, "of {mask}");
+        let groups = Groups::new_bitmask(rt.alloc(), mask).expect(&rt, "memory");
+        assert_mask(&rt, rt.alloc(), &groups, mask);
+        assert_groups(&rt, rt.alloc(), groups, want);
     }
-    Ok(())
 }
 
 #[test]
-fn masks_of_lists(rt: HostRuntime) -> Result<(), Fail> {
+fn masks_of_lists(rt: HostRuntime) {
     let rows: [(&[u32], u32); 4] = [
         (&[0, 0, 0, 0], 0),
         (&[32, 1], 0x8000_0001),
@@ -30,15 +36,20 @@ fn masks_of_lists(rt: HostRuntime) -> Result<(), Fail> {
         (&[17, 2], 0x1_0002),
     ];
     for (given, want) in rows {
-        let groups = Groups::new_groups(rt.alloc(), given)?;
-        assert_eq!(rt; groups.as_bitmask(rt.alloc())?, want, "of {given:?}");
+        let groups = list_of(&rt, rt.alloc(), given);
+        assert_mask(&rt, rt.alloc(), &groups, want);
     }
-    Ok(())
+}
+
+fn assert_refused(rt: &impl Abort, alloc: Global, given: &[u32], error: &SerError, want: &str) {
+    assert!(rt; matches!(error, SerError::Msg(_)));
+    let text = error.to_string(alloc).expect(rt, "memory");
+    assert_is_at(rt, given, text.as_str(), want);
 }
 
 // The first group above 32 is named.
 #[test]
-fn lists_without_a_mask(rt: HostRuntime) -> Result<(), Fail> {
+fn lists_without_a_mask(rt: HostRuntime) {
     let rows: [(&[u32], &str); 3] = [
         (
             &[33],
@@ -54,31 +65,8 @@ fn lists_without_a_mask(rt: HostRuntime) -> Result<(), Fail> {
         ),
     ];
     for (given, want) in rows {
-        let groups = Groups::new_groups(rt.alloc(), given)?;
-        let refused = groups.as_bitmask(rt.alloc());
-        assert!(rt; matches!(&refused, Err(SerError::Msg(_))), "of {given:?}");
-        if let Err(error) = refused {
-            let text = error.to_string(rt.alloc())?;
-            assert_eq!(rt; text.as_str(), want);
-        }
+        let refused = list_of(&rt, rt.alloc(), given).as_bitmask(rt.alloc());
+        let error = refused.err().expect(&rt, "it has a mask");
+        assert_refused(&rt, rt.alloc(), given, &error, want);
     }
-    Ok(())
-}
-
-#[test]
-fn masks_added_and_removed(rt: HostRuntime) -> Result<(), Fail> {
-    let mut groups = Groups::new_groups(rt.alloc(), &[2, 40, 2])?;
-    groups.add_bitmask(0x8000_0003)?;
-    assert_eq!(rt;
-        groups.as_groups(rt.alloc())?.as_slice(),
-        [2u32, 40, 2, 1, 32].as_slice()
-    );
-    groups.remove_bitmask(0x8000_0002);
-    assert_eq!(rt;
-        groups.as_groups(rt.alloc())?.as_slice(),
-        [40u32, 1].as_slice()
-    );
-    groups.remove_bitmask(0xffff_ffff);
-    assert_eq!(rt; groups.into_groups().as_slice(), [40u32].as_slice());
-    Ok(())
 }

@@ -1,14 +1,13 @@
 //! The integer types.
 
-use crate::support::{Refusal, assert_is, assert_is_at, refusal_of};
+use crate::support::{Refusal, SHORT, assert_is, assert_is_at, assert_read, assert_written};
 use neli::consts::{Constant, WireNumber};
-use neli::err::DeError;
-use neli::{BeU64, Cursor, FromBytes, Size, ToBytes, TypeSize};
+use neli::{BeU64, Size, TypeSize};
 use std::alloc::Global;
 use std::process::Abort;
 
 /// A number of one of the types.
-#[derive(Clone, Copy, Debug)]
+#[derive(Clone, Copy)]
 enum Number {
     U8(u8),
     U16(u16),
@@ -28,46 +27,39 @@ fn by_traits<T: Constant + PartialEq>(rt: &impl Abort, alloc: Global, value: T, 
     let sizes = (value.unpadded_size(), value.written_size(), T::type_size());
     let n = bytes.len();
     assert_is_at(rt, value, sizes, (n, n, n));
-    let mut buffer = Vec::from_slice(alloc, b"...").expect(rt, "memory");
-    value.to_bytes(&mut buffer).expect(rt, "memory");
-    assert_is_at(rt, value, buffer.get(3..), Some(bytes));
-    let mut cursor = Cursor::new(bytes);
-    let read: T = T::from_bytes(alloc, &mut cursor).expect(rt, "a number");
-    assert_is(rt, (read, cursor.position()), (value, n));
+    assert_written(rt, alloc, &value, bytes);
+    assert_read(rt, alloc, bytes, Ok(value), n);
 }
 
-// The number by the calls of its own type.
-fn by_its_type<N: WireNumber + PartialEq>(rt: &impl Abort, alloc: Global, value: N, bytes: &[u8]) {
-    assert_eq!(rt; N::count(), bytes.len(), "of {value:?}");
+// The number by the calls of its own type, and by those of the traits.
+fn check<N: WireNumber + PartialEq>(rt: &impl Abort, alloc: Global, value: N, bytes: &[u8]) {
+    assert!(rt; N::count() == bytes.len());
     assert_is(rt, N::number(bytes), value);
     let mut buffer = Vec::new(alloc);
     value.append(&mut buffer).expect(rt, "memory");
     assert_is_at(rt, value, buffer.as_slice(), bytes);
-}
-
-fn both<N: WireNumber + PartialEq>(rt: &impl Abort, alloc: Global, value: N, bytes: &[u8]) {
-    by_its_type(rt, alloc, value, bytes);
     by_traits(rt, alloc, value, bytes);
 }
 
 fn check_row(rt: &impl Abort, alloc: Global, number: Number, bytes: &[u8]) {
     match number {
-        Number::U8(n) => both(rt, alloc, n, bytes),
-        Number::U16(n) => both(rt, alloc, n, bytes),
-        Number::U32(n) => both(rt, alloc, n, bytes),
-        Number::U64(n) => both(rt, alloc, n, bytes),
-        Number::U128(n) => both(rt, alloc, n, bytes),
-        Number::I8(n) => both(rt, alloc, n, bytes),
-        Number::I16(n) => both(rt, alloc, n, bytes),
-        Number::I32(n) => both(rt, alloc, n, bytes),
-        Number::I64(n) => both(rt, alloc, n, bytes),
-        Number::I128(n) => both(rt, alloc, n, bytes),
-        Number::Be(n) => both(rt, alloc, n, bytes),
+        Number::U8(n) => check(rt, alloc, n, bytes),
+        Number::U16(n) => check(rt, alloc, n, bytes),
+        Number::U32(n) => check(rt, alloc, n, bytes),
+        Number::U64(n) => check(rt, alloc, n, bytes),
+        Number::U128(n) => check(rt, alloc, n, bytes),
+        Number::I8(n) => check(rt, alloc, n, bytes),
+        Number::I16(n) => check(rt, alloc, n, bytes),
+        Number::I32(n) => check(rt, alloc, n, bytes),
+        Number::I64(n) => check(rt, alloc, n, bytes),
+        Number::I128(n) => check(rt, alloc, n, bytes),
+        Number::Be(n) => check(rt, alloc, n, bytes),
     }
 }
 
-/// Numbers of neli's own tests; their bytes as two's complement gives them.
-const FROM_NELI: [(Number, &[u8]); 7] = [
+/// Numbers of neli's own tests, their bytes as two's complement gives them; and then, by hand, a one at the lowest
+/// place and at the highest, and negative numbers.
+const NUMBERS: [(Number, &[u8]); 17] = [
     (Number::U8(5), &[5]),
     (Number::U16(6000), &[112, 23]),
     (Number::U32(600_000), &[192, 39, 9, 0]),
@@ -83,10 +75,6 @@ const FROM_NELI: [(Number, &[u8]); 7] = [
             21, 129, 57, 174, 40, 163, 223, 170, 197, 254, 21, 96, 165, 233, 224, 92,
         ],
     ),
-];
-
-/// A one at the lowest place and at the highest, and negative numbers, by hand.
-const BY_HAND: [(Number, &[u8]); 10] = [
     (Number::U8(0x81), &[0x81]),
     (Number::U16(0x8102), &[2, 0x81]),
     (Number::U32(0x8102_0304), &[4, 3, 2, 0x81]),
@@ -103,15 +91,8 @@ const BY_HAND: [(Number, &[u8]); 10] = [
 ];
 
 #[test]
-fn numbers_of_neli(rt: HostRuntime) {
-    for (number, bytes) in FROM_NELI {
-        check_row(&rt, rt.alloc(), number, bytes);
-    }
-}
-
-#[test]
-fn numbers_by_hand(rt: HostRuntime) {
-    for (number, bytes) in BY_HAND {
+fn numbers(rt: HostRuntime) {
+    for (number, bytes) in NUMBERS {
         check_row(&rt, rt.alloc(), number, bytes);
     }
 }
@@ -141,15 +122,9 @@ fn numbers_mean_themselves(rt: HostRuntime) {
 
 #[test]
 fn missing_bytes(rt: HostRuntime) {
-    for n in 0usize..4 {
-        let mut cursor = Cursor::new(&[1u8, 2, 3][..n]);
-        let read: Result<u32, DeError> = u32::from_bytes(rt.alloc(), &mut cursor);
-        let refused = read.map_err(|error| refusal_of(&error));
-        assert_is_at(
-            &rt,
-            n,
-            (refused, cursor.position()),
-            (Err(Refusal::Short), 0),
-        );
+    let rows: [&[u8]; 4] = [&[], &[1], &[1, 2], &[1, 2, 3]];
+    let short: Result<u32, Refusal> = Err(SHORT);
+    for bytes in rows {
+        assert_read(&rt, rt.alloc(), bytes, short, 0);
     }
 }

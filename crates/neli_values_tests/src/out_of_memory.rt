@@ -1,10 +1,10 @@
 //! What the calls answer where an allocation is refused. `rt try --test --fail-alloc N` refuses the Nth one
 //! of each test; the tests of this file pass with every N, and without.
 
-use crate::support::{Refusal, assert_is, assert_is_at, refusal_of};
+use crate::support::{Refusal, assert_is, assert_lent, assert_list, assert_read, assert_text};
 use neli::err::{DeError, MsgError, SerError, UninitializedFieldError};
 use neli::implementing::{read_all, write_all};
-use neli::{Cursor, FromBytes, FromBytesWithInput, FromBytesWithInputBorrowed, ToBytes};
+use neli::{Cursor, FromBytesWithInput, ToBytes};
 use std::alloc::{AllocError, Global};
 use std::marker::PhantomData;
 use std::process::Abort;
@@ -12,12 +12,8 @@ use std::process::Abort;
 // The value is written as nothing, whatever memory is there.
 fn check_nothing<T: ToBytes>(rt: &impl Abort, alloc: Global, value: &T) {
     let mut buffer = Vec::new(alloc);
-    assert!(rt;
-        value.to_bytes(&mut buffer).is_ok(),
-        "{value:?} takes no memory"
-    );
-    assert_is(rt, buffer.len(), 0);
-    assert!(rt; value.pad(&mut buffer).is_ok(), "no zeros take no memory");
+    assert!(rt; value.to_bytes(&mut buffer).is_ok());
+    assert!(rt; value.pad(&mut buffer).is_ok());
     assert_is(rt, buffer.len(), 0);
 }
 
@@ -39,90 +35,73 @@ fn nothing_to_write_takes_no_memory(rt: HostRuntime) {
 
 #[test]
 fn reads_that_take_no_memory(rt: HostRuntime) {
-    let mut cursor = Cursor::new(b"\x01\x02ab");
-    let number: Result<u16, DeError> = u16::from_bytes(rt.alloc(), &mut cursor);
-    assert_is(&rt, number.map_err(|error| refusal_of(&error)), Ok(0x0201));
-    let lent: Result<&str, DeError> = <&str>::from_bytes_with_input(&mut cursor, 2);
-    assert_is(&rt, lent.map_err(|error| refusal_of(&error)), Ok("ab"));
-    let array: Result<[u8; 2], DeError> = <[u8; 2]>::from_bytes(rt.alloc(), &mut cursor);
-    assert_is(&rt, array.map_err(|error| refusal_of(&error)), Ok(*b"ab"));
+    assert_read(&rt, rt.alloc(), b"\x01\x02ab", Ok(0x0201u16), 2);
+    assert_lent(&rt, b"ab", 2, Ok("ab"));
+    assert_read(&rt, rt.alloc(), b"ab", Ok(*b"ab"), 2);
 }
 
+// An empty list is read without memory. An input past the bytes, or of no byte where a text needs one, is refused
+// before memory is asked for.
 #[test]
-fn an_empty_list_read_takes_no_memory(rt: HostRuntime) {
+fn inputs_that_take_no_memory(rt: HostRuntime) {
     let mut cursor = Cursor::new(b"ab");
-    let list: Result<Vec<u16>, DeError> = Vec::from_bytes_with_input(rt.alloc(), &mut cursor, 0);
-    let count = list.map(|list| list.len());
-    assert_is(&rt, count.map_err(|error| refusal_of(&error)), Ok(0));
-}
-
-// An input past the bytes, or of no byte where a text needs one, is refused before memory is asked for.
-#[test]
-fn refusals_that_take_no_memory(rt: HostRuntime) {
-    let mut cursor = Cursor::new(b"ab");
-    for n in [0usize, 3] {
-        let text: Result<String, DeError> = String::from_bytes_with_input(
-            rt.alloc(),
-            &mut cursor,
-            n,
-        );
-        let refused = text.map_err(|error| refusal_of(&error));
-        assert!(rt;
-            matches!(refused, Err(Refusal::Input(k)) if k == n),
-            "input {n}"
-        );
+    for (n, want) in [(0usize, Ok([].as_slice())), (3, Err(Refusal::Input(3)))] {
+        let list: Result<Vec<u8>, DeError> = Vec::from_bytes_with_input(rt.alloc(), &mut cursor, n);
+        assert_list(&rt, &list, want);
+        let text = String::from_bytes_with_input(rt.alloc(), &mut cursor, n);
+        assert_text(&rt, &text, Err(Refusal::Input(n)));
     }
-    let list: Result<Vec<u8>, DeError> = Vec::from_bytes_with_input(rt.alloc(), &mut cursor, 3);
-    let refused = list.map_err(|error| refusal_of(&error));
-    assert!(rt; matches!(refused, Err(Refusal::Input(3))));
+}
+
+fn check_copy(rt: &impl Abort, words: MsgError) {
+    assert!(rt; words.try_clone().is_ok());
 }
 
 #[test]
 fn fixed_words_take_no_memory(rt: HostRuntime) {
-    assert!(rt; MsgError::from_static("too long").try_clone().is_ok());
-    let missing = MsgError::from(UninitializedFieldError::new("nla_type"));
-    assert!(rt; missing.try_clone().is_ok());
+    check_copy(&rt, MsgError::from_static("too long"));
+    check_copy(&rt, UninitializedFieldError::new("nla_type").into());
+}
+
+// This was read, or memory ran out and the cursor stayed.
+fn read_or_out_of_memory<T: Copy>(
+    is_memory: bool,
+    value: T,
+    place: usize,
+) -> (Result<T, Refusal>, usize) {
+    if is_memory {
+        (Err(Refusal::Memory), 0)
+    } else {
+        (Ok(value), place)
+    }
 }
 
 #[test]
 fn a_list_read_or_out_of_memory(rt: HostRuntime) {
     let mut cursor = Cursor::new(&[1u8, 0, 2, 0]);
     let read: Result<Vec<u16>, DeError> = Vec::from_bytes_with_input(rt.alloc(), &mut cursor, 4);
-    match &read {
-        Ok(list) => {
-            assert_is(&rt, list.as_slice(), [1u16, 2].as_slice());
-            assert_is(&rt, cursor.position(), 4);
-        }
-        Err(error) => {
-            assert_is(&rt, refusal_of(error), Refusal::Memory);
-            assert_is(&rt, cursor.position(), 0);
-        }
-    }
+    let is_memory = matches!(&read, Err(DeError::Memory));
+    let (want, place) = read_or_out_of_memory(is_memory, [1u16, 2].as_slice(), 4);
+    assert_list(&rt, &read, want);
+    assert_is(&rt, cursor.position(), place);
 }
 
 #[test]
 fn all_bytes_read_or_out_of_memory(rt: HostRuntime) {
     let read: Result<Vec<u32>, DeError> = read_all(rt.alloc(), &[1, 0, 0, 0]);
-    match &read {
-        Ok(list) => assert_is(&rt, list.as_slice(), [1u32].as_slice()),
-        Err(error) => assert_is(&rt, refusal_of(error), Refusal::Memory),
-    }
+    let is_memory = matches!(&read, Err(DeError::Memory));
+    let (want, _) = read_or_out_of_memory(is_memory, [1u32].as_slice(), 4);
+    assert_list(&rt, &read, want);
 }
 
 #[test]
 fn a_text_read_or_out_of_memory(rt: HostRuntime) {
     let mut cursor = Cursor::new(b"AAAAA\0");
     let read = String::from_bytes_with_input(rt.alloc(), &mut cursor, 6);
-    match &read {
-        Ok(text) => {
-            assert_is(&rt, text.as_str(), "AAAAA");
-            assert_is(&rt, cursor.position(), 6);
-        }
-        Err(error) => {
-            assert_is(&rt, refusal_of(error), Refusal::Memory);
-            assert_is(&rt, cursor.position(), 0);
-        }
-    }
+    let is_memory = matches!(&read, Err(DeError::Memory));
+    let (want, place) = read_or_out_of_memory(is_memory, "AAAAA", 6);
+    assert_text(&rt, &read, want);
+    assert_is(&rt, cursor.position(), place);
 }
 
 // The value is written as these bytes after one that stands there, or memory ran out and the buffer is as it
@@ -131,31 +110,23 @@ fn check_written<T: ToBytes>(rt: &impl Abort, alloc: Global, value: &T, want: &[
     let Ok(mut buffer) = Vec::from_slice(alloc, b"x") else {
         return;
     };
-    match value.to_bytes(&mut buffer) {
-        Ok(()) => {
-            assert!(rt; buffer.len() > 0);
-            assert_is_at(rt, value, &buffer.as_slice()[1..], want);
-        }
+    let written = match value.to_bytes(&mut buffer) {
+        Ok(()) => want.len(),
         Err(error) => {
-            assert!(rt; matches!(error, SerError::Memory), "of {value:?}");
-            assert_is_at(rt, value, buffer.as_slice(), b"x".as_slice());
+            assert!(rt; matches!(error, SerError::Memory));
+            0
         }
-    }
+    };
+    let parts = (buffer.get(..1), buffer.get(1..));
+    assert_is(rt, parts, (Some(b"x".as_slice()), want.get(..written)));
 }
 
 #[test]
-fn a_number_written_or_out_of_memory(rt: HostRuntime) {
-    check_written(&rt, rt.alloc(), &0x0102u16, &[2, 1]);
-}
-
-#[test]
-fn an_array_written_or_out_of_memory(rt: HostRuntime) {
-    check_written(&rt, rt.alloc(), b"CCCCCCCCCCCC", b"CCCCCCCCCCCC");
-}
-
-#[test]
-fn a_text_written_or_out_of_memory(rt: HostRuntime) {
-    check_written(&rt, rt.alloc(), &"AAAAAAAAAAAA", b"AAAAAAAAAAAA\0");
+fn values_written_or_out_of_memory(rt: HostRuntime) {
+    let alloc = rt.alloc();
+    check_written(&rt, alloc, &0x0102u16, &[2, 1]);
+    check_written(&rt, alloc, b"CCCCCCCCCCCC", b"CCCCCCCCCCCC");
+    check_written(&rt, alloc, &"AAAAAAAAAAAA", b"AAAAAAAAAAAA\0");
 }
 
 #[test]

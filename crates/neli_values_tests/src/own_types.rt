@@ -1,9 +1,9 @@
 //! A user's own types, those of `example_body`.
 
-use crate::support::{Refusal, assert_is, assert_is_at, refusal_of};
+use crate::support::{Refusal, assert_is, assert_is_at, assert_sizes, assert_written, refusal_of};
 use example_body::{Probe, ProbeBuilder, ProbeBuilderError, Watch};
 use neli::err::BuildError;
-use neli::{Cursor, FromBytesWithInput, Header, Size, ToBytes};
+use neli::{Cursor, FromBytesWithInput, Header};
 
 /// The port 1337 and the levels 1 and 2.
 const WATCH: [u8; 10] = [0x39, 5, 1, 0, 0, 0, 2, 0, 0, 0];
@@ -12,12 +12,10 @@ const WATCH: [u8; 10] = [0x39, 5, 1, 0, 0, 0, 2, 0, 0, 0];
 fn a_watch_both_ways(rt: HostRuntime) {
     let mut cursor = Cursor::new(&WATCH);
     let watch = Watch::from_bytes_with_input(rt.alloc(), &mut cursor, 10).expect(&rt, "a value");
-    assert_is(&rt, watch.port, 1337);
-    assert_is(&rt, watch.levels.as_slice(), [1u32, 2].as_slice());
-    assert_is(&rt, (watch.unpadded_size(), watch.written_size()), (10, 10));
-    let mut buffer = Vec::new(rt.alloc());
-    watch.to_bytes(&mut buffer).expect(&rt, "memory");
-    assert_is(&rt, buffer.as_slice(), WATCH.as_slice());
+    let fields = (watch.port, watch.levels.as_slice());
+    assert_is(&rt, fields, (1337, [1u32, 2].as_slice()));
+    assert_sizes(&rt, &watch, (10, 12, 10));
+    assert_written(&rt, rt.alloc(), &watch, &WATCH);
 }
 
 #[test]
@@ -30,10 +28,10 @@ fn a_watch_refused(rt: HostRuntime) {
         let mut cursor = Cursor::new(&WATCH);
         let read = Watch::from_bytes_with_input(rt.alloc(), &mut cursor, n);
         let refused = match &read {
-            Ok(_) => Refusal::Other,
-            Err(error) => refusal_of(error),
+            Ok(_) => None,
+            Err(error) => Some(refusal_of(error)),
         };
-        assert_is_at(&rt, n, (refused, cursor.position()), (want, 0));
+        assert_is_at(&rt, n, (refused, cursor.position()), (Some(want), 0));
     }
 }
 
@@ -47,17 +45,11 @@ fn a_probe_of_all_fields(rt: HostRuntime) {
         .payload("up")
         .build()
         .expect(&rt, "all fields");
-    assert_is(
-        &rt,
-        (*probe.hops(), *probe.kind(), *probe.port()),
-        (3, 7, 1337),
-    );
-    assert_is(&rt, *probe.payload(), "up");
-    assert_is(&rt, (probe.unpadded_size(), probe.written_size()), (7, 7));
+    let numbers = (*probe.hops(), *probe.kind(), *probe.port());
+    assert_is(&rt, (numbers, *probe.payload()), ((3, 7, 1337), "up"));
+    assert_sizes(&rt, &probe, (7, 8, 7));
     assert_is(&rt, Probe::<&str>::header_size(), 4);
-    let mut buffer = Vec::new(rt.alloc());
-    probe.to_bytes(&mut buffer).expect(&rt, "memory");
-    assert_is(&rt, buffer.as_slice(), b"\x03\x07\x39\x05up\0".as_slice());
+    assert_written(&rt, rt.alloc(), &probe, b"\x03\x07\x39\x05up\0");
 }
 
 #[test]
@@ -68,9 +60,7 @@ fn a_probe_of_default_hops(rt: HostRuntime) {
         .payload(())
         .build()
         .expect(&rt, "all fields");
-    let mut buffer = Vec::new(rt.alloc());
-    probe.to_bytes(&mut buffer).expect(&rt, "memory");
-    assert_is(&rt, buffer.as_slice(), [64u8, 7, 0x39, 5].as_slice());
+    assert_written(&rt, rt.alloc(), &probe, &[64, 7, 0x39, 5]);
 }
 
 // The field that the error names.

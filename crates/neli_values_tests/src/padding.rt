@@ -1,10 +1,11 @@
 //! Lengths rounded up to four, zeros that are written, and bytes that are passed over.
 
-use crate::support::{Refusal, assert_is, assert_is_at, refusal_of};
+use crate::support::{SHORT, assert_is, assert_is_at, cursor_at, outcome_of};
 use neli::consts::alignto;
 use neli::err::{DeError, SerError};
 use neli::implementing::{pad_from, padded_length, strip_to_four, undo_on_refusal};
 use neli::{Cursor, FromBytes, FromBytesWithInput, FromBytesWithInputBorrowed, ToBytes};
+use std::alloc::Global;
 use std::process::Abort;
 
 #[test]
@@ -37,6 +38,13 @@ fn padded_lengths(rt: HostRuntime) {
     }
 }
 
+fn check_padded<T: ToBytes>(rt: &impl Abort, alloc: Global, value: &T, text: &[u8], want: &[u8]) {
+    let mut buffer = Vec::from_slice(alloc, text).expect(rt, "memory");
+    value.pad(&mut buffer).expect(rt, "memory");
+    assert_is_at(rt, text, buffer.as_slice(), want);
+}
+
+// By a number and by an array.
 #[test]
 fn zeros_after_a_buffer(rt: HostRuntime) {
     for (text, want) in [
@@ -45,12 +53,8 @@ fn zeros_after_a_buffer(rt: HostRuntime) {
         (b"1234", b"1234"),
         (b"12345", b"12345\0\0\0"),
     ] {
-        let mut buffer = Vec::from_slice(rt.alloc(), text).expect(&rt, "memory");
-        7u16.pad(&mut buffer).expect(&rt, "memory");
-        assert_is_at(&rt, text, buffer.as_slice(), want);
-        let mut buffer = Vec::from_slice(rt.alloc(), text).expect(&rt, "memory");
-        [9u8; 3].pad(&mut buffer).expect(&rt, "memory");
-        assert_is_at(&rt, (text, "by an array"), buffer.as_slice(), want);
+        check_padded(&rt, rt.alloc(), &7u16, text, want);
+        check_padded(&rt, rt.alloc(), &[9u8; 3], text, want);
     }
 }
 
@@ -82,7 +86,7 @@ fn a_number_a_text_and_zeros(rt: HostRuntime) {
 }
 
 /// What bytes are passed over for.
-#[derive(Clone, Copy, Debug)]
+#[derive(Clone, Copy)]
 enum Kind {
     Any,
     Number,
@@ -92,13 +96,13 @@ enum Kind {
     Text,
 }
 
-const KINDS: [Kind; 6] = [
-    Kind::Any,
-    Kind::Number,
-    Kind::Array,
-    Kind::List,
-    Kind::Bytes,
-    Kind::Text,
+const KINDS: [(&str, Kind); 6] = [
+    ("any", Kind::Any),
+    ("a number", Kind::Number),
+    ("an array", Kind::Array),
+    ("a list", Kind::List),
+    ("bytes", Kind::Bytes),
+    ("a text", Kind::Text),
 ];
 
 fn strip<'a>(kind: Kind, cursor: &mut Cursor<'a>) -> Result<(), DeError> {
@@ -113,25 +117,24 @@ fn strip<'a>(kind: Kind, cursor: &mut Cursor<'a>) -> Result<(), DeError> {
 }
 
 // From position 1 the next multiple of four is 4; from position 5 it is 8, which is not there.
-fn check_strip(rt: &impl Abort, kind: Kind) {
+fn check_strip(rt: &impl Abort, name: &str, kind: Kind) {
     let rows = [
         (0usize, Ok(()), 0usize),
         (1, Ok(()), 4),
         (4, Ok(()), 4),
-        (5, Err(Refusal::Short), 5),
+        (5, Err(SHORT), 5),
     ];
     for (start, want, place) in rows {
-        let mut cursor = Cursor::new(b"12345");
-        cursor.set_position(start);
-        let got = strip(kind, &mut cursor).map_err(|error| refusal_of(&error));
-        assert_is_at(rt, (kind, start), (got, cursor.position()), (want, place));
+        let mut cursor = cursor_at(rt, b"12345", start);
+        let got = outcome_of(strip(kind, &mut cursor));
+        assert_is_at(rt, (name, start), (got, cursor.position()), (want, place));
     }
 }
 
 #[test]
 fn strips(rt: HostRuntime) {
-    for kind in KINDS {
-        check_strip(&rt, kind);
+    for (name, kind) in KINDS {
+        check_strip(&rt, name, kind);
     }
 }
 

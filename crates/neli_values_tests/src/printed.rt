@@ -14,10 +14,10 @@ use std::process::Abort;
 use std::str::Utf8Error;
 
 // Asserts that the value prints the prefix and then what its cause prints.
-fn check<D: Display, C: Display>(
+fn check<D: Display + Drop, C: Display>(
     rt: &impl Abort,
     alloc: Global,
-    value: &D,
+    value: D,
     prefix: &str,
     cause: &C,
 ) {
@@ -26,39 +26,31 @@ fn check<D: Display, C: Display>(
     assert_is_at(rt, prefix, text.strip_prefix(prefix), Some(cause.as_str()));
 }
 
-/// Kinds of failures of a link or of a file.
-const KINDS: [ErrorKind; 5] = [
-    ErrorKind::UnexpectedEof,
-    ErrorKind::BrokenPipe,
-    ErrorKind::WouldBlock,
-    ErrorKind::ConnectionReset,
-    ErrorKind::Other,
-];
+const WRITTEN: &str = "Serialization error: IO error: ";
 
-#[test]
-fn failures_of_what_lies_below(rt: HostRuntime) {
-    let alloc = rt.alloc();
-    for kind in &KINDS {
-        check(&rt, alloc, &SerError::Io(*kind), "IO error: ", kind);
-        check(&rt, alloc, &DeError::Io(*kind), "IO error: ", kind);
-        check(&rt, alloc, &SocketError::Io(*kind), "IO error: ", kind);
-    }
+const READ: &str = "Deserialization error: IO error: ";
+
+// A failure of a link or of a file, alone and below a reader or a writer.
+fn check_failure(rt: &impl Abort, alloc: Global, kind: ErrorKind) {
+    check(rt, alloc, SerError::Io(kind), "IO error: ", &kind);
+    check(rt, alloc, DeError::Io(kind), "IO error: ", &kind);
+    check(rt, alloc, SocketError::Io(kind), "IO error: ", &kind);
+    let written = SocketError::Ser(SerError::Io(kind));
+    check(rt, alloc, written, WRITTEN, &kind);
+    let read = SocketError::De(DeError::Io(kind));
+    check(rt, alloc, read, READ, &kind);
 }
 
 #[test]
-fn failures_below_a_reader_or_a_writer(rt: HostRuntime) {
-    let alloc = rt.alloc();
-    for kind in &KINDS {
-        let written = SocketError::Ser(SerError::Io(*kind));
-        check(
-            &rt,
-            alloc,
-            &written,
-            "Serialization error: IO error: ",
-            kind,
-        );
-        let read = SocketError::De(DeError::Io(*kind));
-        check(&rt, alloc, &read, "Deserialization error: IO error: ", kind);
+fn failures(rt: HostRuntime) {
+    for kind in [
+        ErrorKind::UnexpectedEof,
+        ErrorKind::BrokenPipe,
+        ErrorKind::WouldBlock,
+        ErrorKind::ConnectionReset,
+        ErrorKind::Other,
+    ] {
+        check_failure(&rt, rt.alloc(), kind);
     }
 }
 
@@ -68,25 +60,15 @@ fn no_text(rt: &impl Abort, bytes: &[u8]) -> Utf8Error {
 }
 
 fn check_texts(rt: &impl Abort, alloc: Global, text: Utf8, cause: Utf8Error) {
-    check(rt, alloc, &text, "", &cause);
-    check(rt, alloc, &SerError::Utf8(text), "UTF error: ", &cause);
-    check(rt, alloc, &DeError::Utf8(text), "UTF8 error: ", &cause);
+    check(rt, alloc, text, "", &cause);
+    check(rt, alloc, SerError::Utf8(text), "UTF error: ", &cause);
+    check(rt, alloc, DeError::Utf8(text), "UTF8 error: ", &cause);
     let written = SocketError::Ser(SerError::Utf8(text));
-    check(
-        rt,
-        alloc,
-        &written,
-        "Serialization error: UTF error: ",
-        &cause,
-    );
+    let prefix = "Serialization error: UTF error: ";
+    check(rt, alloc, written, prefix, &cause);
     let read = SocketError::De(DeError::Utf8(text));
-    check(
-        rt,
-        alloc,
-        &read,
-        "Deserialization error: UTF8 error: ",
-        &cause,
-    );
+    let prefix = "Deserialization error: UTF8 error: ";
+    check(rt, alloc, read, prefix, &cause);
 }
 
 #[test]
@@ -98,70 +80,47 @@ fn texts_that_are_no_text(rt: HostRuntime) {
     }
 }
 
-// The words of a `MsgError`, alone and in each refusal that can hold it.
-fn check_words(rt: &impl Abort, alloc: Global, words: &MsgError, want: &str) {
-    check(rt, alloc, words, "", &want);
-    let copy = words.try_clone().expect(rt, "memory");
-    check(rt, alloc, &SerError::Msg(copy), "", &want);
-    let copy = words.try_clone().expect(rt, "memory");
-    check(rt, alloc, &DeError::Msg(copy), "", &want);
-    let copy = words.try_clone().expect(rt, "memory");
-    check(rt, alloc, &SocketError::Msg(copy), "", &want);
+fn copy_of(rt: &impl Abort, words: &MsgError) -> MsgError {
+    words.try_clone().expect(rt, "memory")
 }
 
-fn check_words_within(rt: &impl Abort, alloc: Global, words: &MsgError, want: &str) {
-    let written = SocketError::Ser(SerError::Msg(words.try_clone().expect(rt, "memory")));
-    check(rt, alloc, &written, "Serialization error: ", &want);
-    let read = SocketError::De(DeError::Msg(words.try_clone().expect(rt, "memory")));
-    check(rt, alloc, &read, "Deserialization error: ", &want);
+// The words of a `MsgError`, alone and in each refusal that can hold it.
+fn check_words(rt: &impl Abort, alloc: Global, words: &MsgError, want: &str) {
+    check(rt, alloc, copy_of(rt, words), "", &want);
+    let written = SerError::Msg(copy_of(rt, words));
+    check(rt, alloc, written, "", &want);
+    let read = DeError::Msg(copy_of(rt, words));
+    check(rt, alloc, read, "", &want);
+    let socket = SocketError::Msg(copy_of(rt, words));
+    check(rt, alloc, socket, "", &want);
+    let written = SocketError::Ser(SerError::Msg(copy_of(rt, words)));
+    check(rt, alloc, written, "Serialization error: ", &want);
+    let read = SocketError::De(DeError::Msg(copy_of(rt, words)));
+    check(rt, alloc, read, "Deserialization error: ", &want);
 }
 
 // Fixed words, words that were made, and those that name a missing field.
 #[test]
 fn words(rt: HostRuntime) {
     let alloc = rt.alloc();
-    let rows = [
-        (MsgError::from_static("too long"), "too long"),
-        (
-            MsgError::new(alloc, "no such family").expect(&rt, "memory"),
-            "no such family",
-        ),
-        (MsgError::new(alloc, 7u8).expect(&rt, "memory"), "7"),
-        (
-            MsgError::from(UninitializedFieldError::new("nla_type")),
-            "`nla_type` must be initialized",
-        ),
-    ];
-    for (words, want) in &rows {
-        check_words(&rt, alloc, words, want);
-        check_words_within(&rt, alloc, words, want);
-    }
+    check_words(&rt, alloc, &MsgError::from_static("too long"), "too long");
+    let made = MsgError::new(alloc, "no such family").expect(&rt, "memory");
+    check_words(&rt, alloc, &made, "no such family");
+    let made = MsgError::new(alloc, 7u8).expect(&rt, "memory");
+    check_words(&rt, alloc, &made, "7");
+    let missing = MsgError::from(UninitializedFieldError::new("nla_type"));
+    check_words(&rt, alloc, &missing, "`nla_type` must be initialized");
 }
 
 #[test]
 fn words_of_each_refusal(rt: HostRuntime) {
     let alloc = rt.alloc();
-    check(
-        &rt,
-        alloc,
-        &SerError::new(alloc, 7u8).expect(&rt, "memory"),
-        "",
-        &"7",
-    );
-    check(
-        &rt,
-        alloc,
-        &DeError::new(alloc, 7u8).expect(&rt, "memory"),
-        "",
-        &"7",
-    );
-    check(
-        &rt,
-        alloc,
-        &SocketError::new(alloc, 7u8).expect(&rt, "memory"),
-        "",
-        &"7",
-    );
+    let written = SerError::new(alloc, 7u8).expect(&rt, "memory");
+    check(&rt, alloc, written, "", &"7");
+    let read = DeError::new(alloc, 7u8).expect(&rt, "memory");
+    check(&rt, alloc, read, "", &"7");
+    let socket = SocketError::new(alloc, 7u8).expect(&rt, "memory");
+    check(&rt, alloc, socket, "", &"7");
 }
 
 #[test]
@@ -169,40 +128,31 @@ fn counts_that_do_not_fit(rt: HostRuntime) {
     let alloc = rt.alloc();
     for count in [0usize, 20, usize::MAX] {
         let prefix = "Invalid input was provided: ";
-        check(&rt, alloc, &DeError::InvalidInput(count), prefix, &count);
+        check(&rt, alloc, DeError::InvalidInput(count), prefix, &count);
         let read = SocketError::De(DeError::InvalidInput(count));
         let prefix = "Deserialization error: Invalid input was provided: ";
-        check(&rt, alloc, &read, prefix, &count);
+        check(&rt, alloc, read, prefix, &count);
     }
 }
 
 #[test]
 fn memory_that_ran_out(rt: HostRuntime) {
     let alloc = rt.alloc();
-    check(&rt, alloc, &NoMemory, "Out of memory", &"");
-    check(&rt, alloc, &SerError::Memory, "Out of memory", &"");
-    check(&rt, alloc, &DeError::Memory, "Out of memory", &"");
-    check(&rt, alloc, &SocketError::Memory, "Out of memory", &"");
+    check(&rt, alloc, NoMemory, "Out of memory", &"");
+    check(&rt, alloc, SerError::Memory, "Out of memory", &"");
+    check(&rt, alloc, DeError::Memory, "Out of memory", &"");
+    check(&rt, alloc, SocketError::Memory, "Out of memory", &"");
     let builder: BuildError<1> = BuildError::Memory;
-    check(&rt, alloc, &builder, "Out of memory", &"");
+    check(&rt, alloc, builder, "Out of memory", &"");
 }
 
 #[test]
 fn errors_of_builders(rt: HostRuntime) {
     let alloc = rt.alloc();
-    let rows: [(BuildError<1>, &str); 2] = [
-        (
-            BuildError::UninitializedField("nla_type"),
-            "`nla_type` must be initialized",
-        ),
-        (
-            BuildError::ValidationError("Length does not fit its field"),
-            "Length does not fit its field",
-        ),
-    ];
-    for (error, want) in &rows {
-        check(&rt, alloc, error, "", want);
-    }
+    let missing: BuildError<1> = BuildError::UninitializedField("nla_type");
+    check(&rt, alloc, missing, "", &"`nla_type` must be initialized");
+    let invalid: BuildError<1> = BuildError::ValidationError("Length does not fit its field");
+    check(&rt, alloc, invalid, "", &"Length does not fit its field");
     let missing = UninitializedFieldError::new("nla_type");
-    check(&rt, alloc, &missing, "", &"`nla_type` must be initialized");
+    check(&rt, alloc, missing, "", &"`nla_type` must be initialized");
 }

@@ -1,11 +1,10 @@
 //! Flags as sets.
 
-use crate::support::{assert_is, assert_is_at};
+use crate::support::{assert_is, assert_is_at, assert_written};
 use neli::consts::Flags;
 use neli::consts::nl::NlmF;
 use neli::consts::rtnl::Ntf;
-use neli::{Cursor, FromBytes, ToBytes};
-use std::test::Fail;
+use neli::{Cursor, FromBytes};
 
 // 0x300 is two bits, and each of the two is a flag too.
 #[test]
@@ -26,13 +25,10 @@ fn flags_of_two_bits(rt: HostRuntime) {
 
 // 0x40 has no name among the flags of neighbours.
 #[test]
-fn bits_without_a_name(rt: HostRuntime) -> Result<(), Fail> {
+fn bits_without_a_name(rt: HostRuntime) {
     assert_is(&rt, Ntf::from(0xff).bits(), 0xbf);
     let mut cursor = Cursor::new(b"\xff");
-    let read = Ntf::from_bytes(rt.alloc(), &mut cursor)?;
+    let read = Ntf::from_bytes(rt.alloc(), &mut cursor).expect(&rt, "flags");
     assert_is(&rt, read.bits(), 0xff);
-    let mut bytes = Vec::new(rt.alloc());
-    read.to_bytes(&mut bytes)?;
-    assert_is(&rt, bytes.as_slice(), b"\xff".as_slice());
-    Ok(())
+    assert_written(&rt, rt.alloc(), &read, b"\xff");
 }
