@@ -2,7 +2,7 @@
 //! linux/netlink.h and linux/rtnetlink.h, worked out by hand.
 
 use crate::support::{
-    Refusal, assert_is, assert_is_at, assert_prints, assert_written, generic, refusal_of, routing,
+    Refusal, assert_is, assert_is_at, assert_refused, assert_written, generic, refusal_of, routing,
     zeros,
 };
 use neli::attr::Attribute;
@@ -19,14 +19,9 @@ use std::process::Abort;
 /// An attribute of type 1 with the payload `07 01 09 09`.
 const BYTES: [u8; 8] = [8, 0, 1, 0, 7, 1, 9, 9];
 
-/// It, as a generic one.
-fn read_generic(alloc: Global) -> Result<Nlattr<CtrlAttr, Buffer>, DeError> {
-    Nlattr::from_bytes(alloc, &mut Cursor::new(&BYTES))
-}
-
-/// It, as a routing one.
-fn read_routing(alloc: Global) -> Result<Rtattr<Rta, Buffer>, DeError> {
-    Rtattr::from_bytes(alloc, &mut Cursor::new(&BYTES))
+/// It, read.
+fn read<A: FromBytes>(rt: &impl Abort, alloc: Global) -> A {
+    A::from_bytes(alloc, &mut Cursor::new(&BYTES)).expect(rt, "an attribute")
 }
 
 // The frame of `struct rtattr` (the kernel's linux/rtnetlink.h).
@@ -34,23 +29,13 @@ fn read_routing(alloc: Global) -> Result<Rtattr<Rta, Buffer>, DeError> {
 fn an_empty_routing_attribute(rt: HostRuntime) {
     assert_is(&rt, Rtattr::<Rta, Buffer>::header_size(), 4);
     let mut cursor = Cursor::new(&[4, 0, 0, 0]);
-    let read = Rtattr::from_bytes(rt.alloc(), &mut cursor);
-    let empty: Rtattr<Rta, Buffer> = read.expect(&rt, "an attribute");
+    let empty: Rtattr<Rta, Buffer> = Rtattr::from_bytes(rt.alloc(), &mut cursor).expect(
+        &rt,
+        "an attribute",
+    );
     let fields = (*empty.rta_len(), *empty.rta_type(), cursor.position());
     assert_is(&rt, fields, (4, Rta::Unspec, 4));
     assert!(rt; empty.rta_payload().is_empty());
-}
-
-// A length below the header.
-#[test]
-fn a_routing_attribute_of_three_bytes(rt: HostRuntime) {
-    let mut cursor = Cursor::new(&[3, 0, 0, 0]);
-    let short: Result<Rtattr<Rta, Buffer>, DeError> = Rtattr::from_bytes(rt.alloc(), &mut cursor);
-    assert_is(
-        &rt,
-        (refusal_of(short), cursor.position()),
-        (Some(Refusal::Input(3)), 0),
-    );
 }
 
 #[test]
@@ -75,21 +60,22 @@ const FAULTS: [(&[u8], Refusal); 7] = [
     (&[5, 0, 1, 0, 9], Refusal::Short),
 ];
 
+/// Asserts that this is the fault of the bytes, and that the cursor stays.
+fn check_fault<A: FromBytes>(rt: &impl Abort, alloc: Global, bytes: &[u8], want: Refusal) {
+    let mut cursor = Cursor::new(bytes);
+    let read: Result<A, DeError> = A::from_bytes(alloc, &mut cursor);
+    let fault = (refusal_of(read), cursor.position());
+    assert_is_at(rt, bytes, fault, (Some(want), 0));
+}
+
+// The last is of a length below the header.
 #[test]
 fn faults_of_one_attribute(rt: HostRuntime) {
+    let alloc = rt.alloc();
     for (bytes, want) in FAULTS {
-        let mut cursor = Cursor::new(bytes);
-        let read: Result<Nlattr<u16, Buffer>, DeError> = Nlattr::from_bytes(
-            rt.alloc(),
-            &mut cursor,
-        );
-        assert_is_at(
-            &rt,
-            bytes,
-            (refusal_of(read), cursor.position()),
-            (Some(want), 0),
-        );
+        check_fault::<Nlattr<u16, Buffer>>(&rt, alloc, bytes, want);
     }
+    check_fault::<Rtattr<Rta, Buffer>>(&rt, alloc, &[3, 0, 0, 0], Refusal::Input(3));
 }
 
 // A length of 65535 is the last that its field of 16 bits holds.
@@ -125,8 +111,8 @@ fn nesting_at_the_limit(rt: HostRuntime) {
     let alloc = rt.alloc();
     let four = generic(&rt, alloc, 2u16, 4u32);
     let full = generic(&rt, alloc, 1u16, zeros(&rt, alloc, 65528));
-    let refusal = full.nest(&four).err().expect(&rt, "it fits");
-    assert_prints(&rt, alloc, &refusal, "Length does not fit its field");
+    let too_long = full.nest(&four);
+    assert_refused(&rt, alloc, too_long, "Length does not fit its field");
 }
 
 // A payload that is refused, and one that is not.
@@ -148,16 +134,13 @@ fn assert_payload<T, A: Attribute<T> + Size>(rt: &impl Abort, alloc: Global, att
     assert_is(rt, attr.payload().as_ref(), [7u8, 1, 9, 9].as_slice());
     let first: u16 = attr.get_payload_as(alloc).expect(rt, "a number");
     let whole: Vec<u8> = attr.get_payload_as_with_len(alloc).expect(rt, "bytes");
-    assert_is(
-        rt,
-        (first, whole.as_slice()),
-        (0x0107, [7u8, 1, 9, 9].as_slice()),
-    );
+    let payload = (first, whole.as_slice());
+    assert_is(rt, payload, (0x0107, [7u8, 1, 9, 9].as_slice()));
 }
 
 #[test]
 fn payloads_of_generic_attributes(rt: HostRuntime) {
-    let attr = read_generic(rt.alloc()).expect(&rt, "an attribute");
+    let attr: Nlattr<CtrlAttr, Buffer> = read(&rt, rt.alloc());
     assert_is(&rt, Nlattr::<CtrlAttr, Buffer>::header_size(), 4);
     assert_payload(&rt, rt.alloc(), &attr);
     let lent: &[u8] = attr.get_payload_as_with_len_borrowed().expect(&rt, "bytes");
@@ -167,7 +150,7 @@ fn payloads_of_generic_attributes(rt: HostRuntime) {
 #[test]
 fn copies_of_generic_attributes(rt: HostRuntime) {
     let alloc = rt.alloc();
-    let attr = read_generic(alloc).expect(&rt, "an attribute");
+    let attr: Nlattr<CtrlAttr, Buffer> = read(&rt, alloc);
     let mut other = attr.try_clone().expect(&rt, "memory");
     assert!(rt; other == attr);
     other
@@ -178,7 +161,7 @@ fn copies_of_generic_attributes(rt: HostRuntime) {
 
 #[test]
 fn payloads_of_routing_attributes(rt: HostRuntime) {
-    let attr = read_routing(rt.alloc()).expect(&rt, "an attribute");
+    let attr: Rtattr<Rta, Buffer> = read(&rt, rt.alloc());
     assert_payload(&rt, rt.alloc(), &attr);
     let lent: &[u8] = attr.get_payload_as_with_len_borrowed().expect(&rt, "bytes");
     assert_is(&rt, lent, [7u8, 1, 9, 9].as_slice());

@@ -1,8 +1,8 @@
 //! Bytes that a value owns.
 
-use crate::support::assert_is;
+use crate::support::{assert_is, assert_written};
 use neli::types::Buffer;
-use neli::{Cursor, FromBytesWithInput, Size, ToBytes};
+use neli::{Cursor, FromBytesWithInput, Size};
 use std::alloc::Global;
 use std::process::Abort;
 
@@ -39,16 +39,7 @@ fn copies_of_buffers(rt: HostRuntime) {
     let buffer = three_bytes(&rt, alloc);
     assert!(rt; buffer.try_clone().expect(&rt, "memory") == buffer);
     assert!(rt; Buffer::from_slice(alloc, b"xx").expect(&rt, "memory") != buffer);
-}
-
-#[test]
-fn buffers_written(rt: HostRuntime) {
-    let alloc = rt.alloc();
-    let mut written = Vec::from_slice(alloc, b"..").expect(&rt, "memory");
-    three_bytes(&rt, alloc)
-        .to_bytes(&mut written)
-        .expect(&rt, "memory");
-    assert_is(&rt, written.as_slice(), b"..xxx".as_slice());
+    assert_written(&rt, alloc, &buffer, b"xxx");
 }
 
 #[test]

@@ -1,18 +1,24 @@
 //! What builders answer where they make nothing.
 
-use crate::support::{assert_is, assert_is_at, assert_prints};
+use crate::support::{assert_is, assert_is_at, assert_prints, assert_refused};
 use neli::err::{BuildError, NoMemory, SerError, UninitializedFieldError, of};
 use neli::genl::{AttrTypeBuilder, NlattrBuilder, NlattrBuilderError};
 use neli::rtnl::RtattrBuilder;
 use std::alloc::{AllocError, AllocFailed};
 use std::io::ErrorKind;
+use std::process::Abort;
 
-/// The field that a builder names as missing.
-fn missing_of<T: Drop, const OF: u8>(built: Result<T, BuildError<OF>>) -> &'static str {
-    match built {
+/// Asserts that the builder names this field as missing.
+fn assert_missing<T: Drop, const OF: u8>(
+    rt: &impl Abort,
+    built: Result<T, BuildError<OF>>,
+    want: &str,
+) {
+    let missing = match built {
         Err(BuildError::UninitializedField(name)) => name,
         _ => "no field",
-    }
+    };
+    assert_is(rt, missing, want);
 }
 
 // The names of missing fields, the first in the order of the fields.
@@ -20,62 +26,44 @@ fn missing_of<T: Drop, const OF: u8>(built: Result<T, BuildError<OF>>) -> &'stat
 fn missing_fields(rt: HostRuntime) {
     let alloc = rt.alloc();
     let field = AttrTypeBuilder::<u16>::default();
+    assert_missing(&rt, field.build(), "nla_type");
     let neither = NlattrBuilder::<u16, u8>::default();
+    assert_missing(&rt, neither.build(alloc), "nla_type");
     let untyped = NlattrBuilder::<u16, u8>::default().nla_payload(1);
+    assert_missing(&rt, untyped.build(alloc), "nla_type");
     let bare = RtattrBuilder::<u16, u8>::default().rta_type(1);
-    let rows = [
-        (missing_of(field.build()), "nla_type"),
-        (missing_of(neither.build(alloc)), "nla_type"),
-        (missing_of(untyped.build(alloc)), "nla_type"),
-        (missing_of(bare.build(alloc)), "rta_payload"),
-    ];
-    for (missing, want) in rows {
-        assert_is(&rt, missing, want);
-    }
+    assert_missing(&rt, bare.build(alloc), "rta_payload");
 }
 
 #[test]
 fn errors_print_the_missing_field(rt: HostRuntime) {
     let alloc = rt.alloc();
     let bare = RtattrBuilder::<u16, u8>::default().rta_type(1).build(alloc);
-    let error = bare.err().expect(&rt, "a field is missing");
-    assert_prints(&rt, alloc, &error, "`rta_payload` must be initialized");
+    assert_refused(&rt, alloc, bare, "`rta_payload` must be initialized");
     let error = NlattrBuilderError::from(UninitializedFieldError::new("nla_payload"));
     assert_prints(&rt, alloc, &error, "`nla_payload` must be initialized");
     assert_prints(&rt, alloc, &NlattrBuilderError::Memory, "Out of memory");
 }
 
+/// What a build error says, and whether memory ran out.
+fn cause_of(error: NlattrBuilderError) -> (&'static str, bool) {
+    match error {
+        NlattrBuilderError::UninitializedField(_) => ("a field", false),
+        NlattrBuilderError::ValidationError(words) => (words, false),
+        NlattrBuilderError::Memory => ("", true),
+    }
+}
+
 #[test]
 fn causes_of_build_errors(rt: HostRuntime) {
+    let words = "Could not convert payload to binary representation";
     let unwritten = NlattrBuilderError::from(SerError::Io(ErrorKind::Other));
-    assert!(rt;
-        matches!(
-            unwritten,
-            NlattrBuilderError::ValidationError(
-                "Could not convert payload to binary representation"
-            )
-        )
-    );
-    assert!(rt;
-        matches!(
-            NlattrBuilderError::from(SerError::Memory),
-            NlattrBuilderError::Memory
-        )
-    );
-    assert!(rt;
-        matches!(
-            NlattrBuilderError::from(NoMemory),
-            NlattrBuilderError::Memory
-        )
-    );
-    assert!(rt;
-        matches!(
-            NlattrBuilderError::from(AllocError),
-            NlattrBuilderError::Memory
-        )
-    );
-    let refused = NlattrBuilderError::from(AllocFailed { value: 7u8 });
-    assert!(rt; matches!(refused, NlattrBuilderError::Memory));
+    assert_is(&rt, cause_of(unwritten), (words, false));
+    let failed = AllocFailed { value: 7u8 };
+    assert_is(&rt, cause_of(SerError::Memory.into()), ("", true));
+    assert_is(&rt, cause_of(NoMemory.into()), ("", true));
+    assert_is(&rt, cause_of(AllocError.into()), ("", true));
+    assert_is(&rt, cause_of(failed.into()), ("", true));
 }
 
 /// The numbers that tell the errors of one builder from those of another.
@@ -105,8 +93,9 @@ const BUILDERS: [(&str, u8); 19] = [
 #[test]
 fn numbers_of_builders_differ(rt: HostRuntime) {
     for (name, number) in BUILDERS {
-        let same = BUILDERS.iter().filter(|row| row.1 == number).count();
-        assert_is_at(&rt, name, same, 1);
-        assert!(rt; number < 128, "at {name}");
+        for (other, its_number) in BUILDERS {
+            assert_is_at(&rt, (name, other), number == its_number, name == other);
+        }
+        assert_is_at(&rt, name, number < 128, true);
     }
 }

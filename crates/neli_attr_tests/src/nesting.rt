@@ -1,26 +1,49 @@
 //! Attributes inside attributes.
 
-use crate::support::{assert_is, assert_written, generic, routing, routing_list};
+use crate::support::{
+    Handle, assert_is, assert_lent, assert_number, assert_text, assert_written, generic, read_list,
+    routing,
+};
 use neli::attr::AttrHandle;
-use neli::consts::genl::{CtrlAttr, CtrlAttrMcastGrp, Index};
-use neli::consts::rtnl::{Frattr, Rta};
-use neli::err::DeError;
-use neli::genl::{GenlAttrHandle, Nlattr};
+use neli::consts::genl::{CtrlAttr, CtrlAttrMcastGrp, Index, NlAttrType};
+use neli::consts::rtnl::{Frattr, Rta, RtaType};
+use neli::genl::Nlattr;
 use neli::rtnl::{RtAttrHandle, Rtattr};
 use neli::types::{Buffer, GenlBuffer, RtBuffer};
 use std::alloc::Global;
 use std::process::Abort;
 
+/// A generic attribute with another one nested in it, behind what it has.
+fn with_generic<T: NlAttrType, S: NlAttrType>(
+    rt: &impl Abort,
+    outer: Nlattr<T, Buffer>,
+    inner: Nlattr<S, Buffer>,
+) -> Nlattr<T, Buffer> {
+    outer.nest(&inner).expect(rt, "a nested attribute")
+}
+
+/// A routing attribute with a number nested in it.
+fn with_number<T: RtaType, S: RtaType>(
+    rt: &impl Abort,
+    alloc: Global,
+    outer: T,
+    inner: S,
+    number: u32,
+) -> Rtattr<T, Buffer> {
+    let inner = routing(rt, alloc, inner, number);
+    routing(rt, alloc, outer, ())
+        .nest(&inner)
+        .expect(rt, "a nested attribute")
+}
+
 /// The groups of a generic family, made from the inside out.
 fn groups(rt: &impl Abort, alloc: Global) -> Nlattr<CtrlAttr, Buffer> {
-    let group = generic(rt, alloc, Index::from(1), ())
-        .nest(&generic(rt, alloc, CtrlAttrMcastGrp::Name, "notify"))
-        .expect(rt, "a name")
-        .nest(&generic(rt, alloc, CtrlAttrMcastGrp::Id, 5u32))
-        .expect(rt, "a number");
-    generic(rt, alloc, CtrlAttr::McastGroups, ())
-        .nest(&group)
-        .expect(rt, "a group")
+    let group = generic(rt, alloc, Index::from(1), ());
+    let name = generic(rt, alloc, CtrlAttrMcastGrp::Name, "notify");
+    let group = with_generic(rt, group, name);
+    let id = generic(rt, alloc, CtrlAttrMcastGrp::Id, 5u32);
+    let group = with_generic(rt, group, id);
+    with_generic(rt, generic(rt, alloc, CtrlAttr::McastGroups, ()), group)
 }
 
 #[test]
@@ -33,17 +56,14 @@ fn nested_groups_written(rt: HostRuntime) {
 }
 
 /// Asserts the name and the number of a group.
-fn assert_group(rt: &impl Abort, alloc: Global, group: &GenlAttrHandle<'_, CtrlAttrMcastGrp>) {
-    let name: String = group
-        .get_attr_payload_as_with_len(alloc, CtrlAttrMcastGrp::Name)
-        .expect(rt, "a name");
-    let lent: &str = group
-        .get_attr_payload_as_with_len_borrowed(CtrlAttrMcastGrp::Name)
-        .expect(rt, "a name");
-    let id: u32 = group
-        .get_attr_payload_as(alloc, CtrlAttrMcastGrp::Id)
-        .expect(rt, "a number");
-    assert_is(rt, (name.as_str(), lent, id), ("notify", "notify\0", 5));
+fn assert_group(
+    rt: &impl Abort,
+    alloc: Global,
+    group: &Handle<'_, Nlattr<CtrlAttrMcastGrp, Buffer>>,
+) {
+    assert_text(rt, alloc, group, CtrlAttrMcastGrp::Name, "notify");
+    assert_lent(rt, group, CtrlAttrMcastGrp::Name, b"notify\0");
+    assert_number(rt, alloc, group, CtrlAttrMcastGrp::Id, 5u32);
 }
 
 #[test]
@@ -64,17 +84,10 @@ fn nested_groups_looked_up(rt: HostRuntime) {
     assert_group(&rt, alloc, &group);
 }
 
-/// A routing attribute with a number in it.
-fn with_a_number(rt: &impl Abort, alloc: Global) -> Rtattr<Frattr, Buffer> {
-    routing(rt, alloc, Frattr::Dst, ())
-        .nest(&routing(rt, alloc, Rta::Oif, 4u32))
-        .expect(rt, "a nested attribute")
-}
-
 // Nested routing attributes, lent.
 #[test]
 fn nested_routing_attributes(rt: HostRuntime) {
-    let nested = with_a_number(&rt, rt.alloc());
+    let nested = with_number(&rt, rt.alloc(), Frattr::Dst, Rta::Oif, 4);
     let inner = nested
         .get_attr_handle::<Rta>(rt.alloc())
         .expect(&rt, "attributes");
@@ -85,15 +98,26 @@ fn nested_routing_attributes(rt: HostRuntime) {
 #[test]
 fn nested_routing_attributes_of_an_owner(rt: HostRuntime) {
     let alloc = rt.alloc();
-    let nested = with_a_number(&rt, alloc).try_clone().expect(&rt, "memory");
+    let nested = with_number(&rt, alloc, Frattr::Dst, Rta::Oif, 4)
+        .try_clone()
+        .expect(&rt, "memory");
     let mut list = RtBuffer::new(alloc);
     list.push(nested).expect(&rt, "memory");
     let owned: RtAttrHandle<'_, Frattr> = AttrHandle::new(list);
     let found = owned
         .get_nested_attributes::<Rta>(alloc, Frattr::Dst)
         .expect(&rt, "attributes");
-    let number: Result<u32, DeError> = found.get_attr_payload_as(alloc, Rta::Oif);
-    assert_is(&rt, number.expect(&rt, "a number"), 4);
+    assert_number(&rt, alloc, &found, Rta::Oif, 4u32);
+}
+
+/// The attribute of type 1 inside another.
+fn inner_of(rt: &impl Abort, alloc: Global, attr: Nlattr<u16, Buffer>) -> Nlattr<u16, Buffer> {
+    attr.get_attr_handle::<u16>(alloc)
+        .expect(rt, "attributes")
+        .get_attribute(1)
+        .expect(rt, "a level")
+        .try_clone()
+        .expect(rt, "memory")
 }
 
 // Each level is read by a call of its own, so the depth of the input is no depth of the stack.
@@ -102,20 +126,11 @@ fn a_thousand_levels(rt: HostRuntime) {
     let alloc = rt.alloc();
     let mut attr = generic(&rt, alloc, 1u16, ());
     for _ in 0..1000 {
-        attr = generic(&rt, alloc, 1u16, ())
-            .nest(&attr)
-            .expect(&rt, "a nested attribute");
+        attr = with_generic(&rt, generic(&rt, alloc, 1u16, ()), attr);
     }
     assert_is(&rt, *attr.nla_len(), 4004);
     for _ in 0..1000 {
-        let inner = attr
-            .get_attr_handle::<u16>(alloc)
-            .expect(&rt, "attributes")
-            .get_attribute(1)
-            .expect(&rt, "a level")
-            .try_clone()
-            .expect(&rt, "memory");
-        attr = inner;
+        attr = inner_of(&rt, alloc, attr);
     }
     assert_is(&rt, *attr.nla_len(), 4);
     assert!(rt; attr.nla_payload().is_empty());
@@ -130,13 +145,13 @@ const ROUTE: [u8; 20] = [
 #[test]
 fn a_list_that_is_made(rt: HostRuntime) {
     let alloc = rt.alloc();
-    let gateway = routing(&rt, alloc, Rta::Gateway, [192u8, 0, 2, 1]);
-    let metrics = routing(&rt, alloc, Rta::Metrics, ())
-        .nest(&routing(&rt, alloc, 2u16, 1500u32))
-        .expect(&rt, "a nested attribute");
     let mut attrs = RtBuffer::new(alloc);
-    attrs.push(gateway).expect(&rt, "memory");
-    attrs.push(metrics).expect(&rt, "memory");
+    attrs
+        .push(routing(&rt, alloc, Rta::Gateway, [192u8, 0, 2, 1]))
+        .expect(&rt, "memory");
+    attrs
+        .push(with_number(&rt, alloc, Rta::Metrics, 2u16, 1500))
+        .expect(&rt, "memory");
     assert_written(&rt, alloc, &attrs, &ROUTE);
 }
 
@@ -144,20 +159,11 @@ fn a_list_that_is_made(rt: HostRuntime) {
 #[test]
 fn a_list_that_is_looked_up(rt: HostRuntime) {
     let alloc = rt.alloc();
-    let read = routing_list::<Rta>(alloc, &ROUTE).expect(&rt, "a list");
+    let read: RtBuffer<Rta, Buffer> = read_list(&rt, alloc, &ROUTE);
     let handle = read.get_attr_handle();
-    let address: [u8; 4] = handle
-        .get_attr_payload_as(alloc, Rta::Gateway)
-        .expect(&rt, "an address");
+    assert_number(&rt, alloc, &handle, Rta::Gateway, [192u8, 0, 2, 1]);
     let metrics = handle
         .get_nested_attributes::<u16>(alloc, Rta::Metrics)
         .expect(&rt, "metrics");
-    let mtu: u32 = metrics
-        .get_attr_payload_as(alloc, 2)
-        .expect(&rt, "a number");
-    assert_is(
-        &rt,
-        (address.as_slice(), mtu),
-        ([192u8, 0, 2, 1].as_slice(), 1500),
-    );
+    assert_number(&rt, alloc, &metrics, 2, 1500u32);
 }

@@ -2,13 +2,15 @@
 //! there. Each row is the part of a message after the header of its body, named by the number of its datagram in
 //! docs/RECORDINGS.md.
 
-use crate::support::{assert_is, assert_is_at};
-use neli::consts::genl::{CtrlAttr, CtrlAttrMcastGrp, Index, NlAttrType};
-use neli::consts::rtnl::{Ifa, Ifla, Rta, RtaType};
+use crate::support::{
+    assert_is, assert_is_at, assert_lent, assert_number, assert_text, assert_written, read_list,
+};
+use neli::consts::genl::{CtrlAttr, CtrlAttrMcastGrp, Index};
+use neli::consts::rtnl::{Ifa, Ifla, Rta};
 use neli::err::DeError;
 use neli::genl::Nlattr;
-use neli::types::{Buffer, GenlBuffer, RtBuffer};
-use neli::{Cursor, FromBytesWithInput, ToBytes};
+use neli::types::{Buffer, FrameList, GenlBuffer, RtBuffer};
+use neli::{FromBytes, ToBytes};
 use std::alloc::Global;
 use std::process::Abort;
 
@@ -219,30 +221,20 @@ const ROWS: [Row; 13] = [
     R0004, R0005, R0017, R0024, R0205, R0277, R0281, R0396, R0402, R0152, R0821, R0867, R0869,
 ];
 
-/// The generic attributes of a row.
-fn family<T: NlAttrType>(rt: &impl Abort, alloc: Global, row: Row) -> GenlBuffer<T, Buffer> {
-    let bytes = decoded(rt, alloc, row.1);
-    let mut cursor = Cursor::new(bytes.as_slice());
-    GenlBuffer::from_bytes_with_input(alloc, &mut cursor, bytes.len()).expect(rt, "a list")
+/// The attributes of a row.
+fn read_row<I: FromBytes>(rt: &impl Abort, alloc: Global, row: Row) -> FrameList<I> {
+    read_list(rt, alloc, &decoded(rt, alloc, row.1))
 }
 
-/// The routing attributes of a row.
-fn routes<T: RtaType>(rt: &impl Abort, alloc: Global, row: Row) -> RtBuffer<T, Buffer> {
-    let bytes = decoded(rt, alloc, row.1);
-    let mut cursor = Cursor::new(bytes.as_slice());
-    RtBuffer::from_bytes_with_input(alloc, &mut cursor, bytes.len()).expect(rt, "a list")
+/// The same, which is written as the row's bytes.
+fn both_ways<I: FromBytes + ToBytes>(rt: &impl Abort, alloc: Global, row: Row) -> FrameList<I> {
+    let list = read_row(rt, alloc, row);
+    assert_written(rt, alloc, &list, &decoded(rt, alloc, row.1));
+    list
 }
 
-/// Asserts that the list is written as the row's bytes.
-fn assert_written<T: ToBytes>(rt: &impl Abort, alloc: Global, list: &T, row: Row) {
-    let mut again = Vec::new(alloc);
-    list.to_bytes(&mut again).expect(rt, "memory");
-    let bytes = decoded(rt, alloc, row.1);
-    assert_is_at(rt, row.0, again.as_slice(), bytes.as_slice());
-}
-
-/// What the rows compare of attributes.
-fn seen_in(rt: &impl Abort, alloc: Global, list: &GenlBuffer<u16, Buffer>) -> Vec<Seen> {
+/// Asserts that these are the attributes of a row, as libmnl reads them.
+fn assert_seen(rt: &impl Abort, alloc: Global, list: GenlBuffer<u16, Buffer>, row: Row) {
     let mut seen = Vec::new(alloc);
     for attr in list.iter() {
         let field = attr.nla_type();
@@ -250,102 +242,63 @@ fn seen_in(rt: &impl Abort, alloc: Global, list: &GenlBuffer<u16, Buffer>) -> Ve
         seen.push((*field.nla_type(), length, *field.nla_nested()))
             .expect(rt, "memory");
     }
-    seen
+    assert_is_at(rt, row.0, seen.as_slice(), row.2);
 }
 
-// Every attribute of each row, as a generic one, and written again.
+// Every attribute of each row, as a generic one and as a routing one, and written again.
 #[test]
 fn attributes_are_as_libmnl_reads_them(rt: HostRuntime) {
     let alloc = rt.alloc();
     for row in ROWS {
-        let list = family::<u16>(&rt, alloc, row);
-        let seen = seen_in(&rt, alloc, &list);
-        assert_is_at(&rt, row.0, seen.as_slice(), row.2);
-        assert_written(&rt, alloc, &list, row);
-    }
-}
-
-// The same as routing ones.
-#[test]
-fn attributes_are_as_many_as_libmnl_reads(rt: HostRuntime) {
-    let alloc = rt.alloc();
-    for row in ROWS {
-        let list = routes::<u16>(&rt, alloc, row);
-        assert_is_at(&rt, row.0, list.len(), row.2.len());
-        assert_written(&rt, alloc, &list, row);
+        assert_seen(&rt, alloc, both_ways(&rt, alloc, row), row);
+        let routes: RtBuffer<u16, Buffer> = both_ways(&rt, alloc, row);
+        assert_is_at(&rt, row.0, routes.len(), row.2.len());
     }
 }
 
 // Values that pyroute2 reads in an address.
 #[test]
 fn values_of_an_address(rt: HostRuntime) {
-    let address = routes::<Ifa>(&rt, rt.alloc(), R0004);
+    let alloc = rt.alloc();
+    let address: RtBuffer<Ifa, Buffer> = read_row(&rt, alloc, R0004);
     let handle = address.get_attr_handle();
-    let local: &[u8] = handle
-        .get_attr_payload_as_with_len_borrowed(Ifa::Local)
-        .expect(&rt, "an address");
-    assert_is(&rt, local, [127, 0, 0, 1].as_slice());
-    let label: String = handle
-        .get_attr_payload_as_with_len(rt.alloc(), Ifa::Label)
-        .expect(&rt, "a label");
-    let flags: u32 = handle
-        .get_attr_payload_as(rt.alloc(), Ifa::Flags)
-        .expect(&rt, "flags");
-    assert_is(&rt, (label.as_str(), flags), ("lo", 128));
+    assert_lent(&rt, &handle, Ifa::Local, &[127, 0, 0, 1]);
+    assert_text(&rt, alloc, &handle, Ifa::Label, "lo");
+    assert_number(&rt, alloc, &handle, Ifa::Flags, 128u32);
 }
 
 // Values that pyroute2 reads in a route.
 #[test]
-fn numbers_of_a_route(rt: HostRuntime) {
-    let route = routes::<Rta>(&rt, rt.alloc(), R0277);
+fn values_of_a_route(rt: HostRuntime) {
+    let alloc = rt.alloc();
+    let route: RtBuffer<Rta, Buffer> = read_row(&rt, alloc, R0277);
     let handle = route.get_attr_handle();
-    for (kind, want) in [(Rta::Table, 254), (Rta::Priority, 1024), (Rta::Oif, 3)] {
-        let number: Result<u32, DeError> = handle.get_attr_payload_as(rt.alloc(), kind);
-        assert_is_at(&rt, kind, number.expect(&rt, "a number"), want);
-    }
-}
-
-#[test]
-fn a_gateway_of_a_route(rt: HostRuntime) {
-    let route = routes::<Rta>(&rt, rt.alloc(), R0277);
-    let handle = route.get_attr_handle();
-    let gateway: &[u8] = handle
-        .get_attr_payload_as_with_len_borrowed(Rta::Gateway)
-        .expect(&rt, "a gateway");
-    assert_is(
-        &rt,
-        gateway,
-        b"\x20\x01\x0d\xb8\0\0\0\0\0\0\0\0\0\0\0\x09".as_slice(),
-    );
+    assert_number(&rt, alloc, &handle, Rta::Table, 254u32);
+    assert_number(&rt, alloc, &handle, Rta::Priority, 1024u32);
+    assert_number(&rt, alloc, &handle, Rta::Oif, 3u32);
+    let gateway = b"\x20\x01\x0d\xb8\0\0\0\0\0\0\0\0\0\0\0\x09";
+    assert_lent(&rt, &handle, Rta::Gateway, gateway);
     assert!(rt; handle.get_attribute(Rta::Metrics).is_none());
 }
 
 // Values that pyroute2 reads in a link.
 #[test]
 fn values_of_a_link(rt: HostRuntime) {
-    let port = routes::<Ifla>(&rt, rt.alloc(), R0152);
+    let alloc = rt.alloc();
+    let port: RtBuffer<Ifla, Buffer> = read_row(&rt, alloc, R0152);
     let handle = port.get_attr_handle();
-    let name: String = handle
-        .get_attr_payload_as_with_len(rt.alloc(), Ifla::Ifname)
-        .expect(&rt, "a name");
-    let mtu: u32 = handle
-        .get_attr_payload_as(rt.alloc(), Ifla::Mtu)
-        .expect(&rt, "a number");
-    assert_is(&rt, (name.as_str(), mtu), ("veth1", 1500));
+    assert_text(&rt, alloc, &handle, Ifla::Ifname, "veth1");
+    assert_number(&rt, alloc, &handle, Ifla::Mtu, 1500u32);
 }
 
 // Values that pyroute2 reads in the family IOAM6.
 #[test]
 fn values_of_a_generic_family(rt: HostRuntime) {
-    let family = family::<CtrlAttr>(&rt, rt.alloc(), R0867);
+    let alloc = rt.alloc();
+    let family: GenlBuffer<CtrlAttr, Buffer> = read_row(&rt, alloc, R0867);
     let handle = family.get_attr_handle();
-    let name: String = handle
-        .get_attr_payload_as_with_len(rt.alloc(), CtrlAttr::FamilyName)
-        .expect(&rt, "a name");
-    let id: u16 = handle
-        .get_attr_payload_as(rt.alloc(), CtrlAttr::FamilyId)
-        .expect(&rt, "a number");
-    assert_is(&rt, (name.as_str(), id), ("IOAM6", 30));
+    assert_text(&rt, alloc, &handle, CtrlAttr::FamilyName, "IOAM6");
+    assert_number(&rt, alloc, &handle, CtrlAttr::FamilyId, 30u16);
 }
 
 /// Two numbers of a nested attribute.
@@ -356,22 +309,19 @@ fn numbers(rt: &impl Abort, alloc: Global, attr: &Nlattr<Index, Buffer>) -> (u32
     (first.expect(rt, "a number"), second.expect(rt, "a number"))
 }
 
-// The operations of the family IOAM6, each a number and its flags.
-#[test]
-fn operations_of_a_generic_family(rt: HostRuntime) {
-    let alloc = rt.alloc();
-    let family = family::<CtrlAttr>(&rt, alloc, R0867);
-    let handle = family.get_attr_handle();
-    let operations = handle
-        .get_nested_attributes::<Index>(alloc, CtrlAttr::Ops)
-        .expect(&rt, "operations");
+/// Asserts that these are the operations.
+fn assert_operations(
+    rt: &impl Abort,
+    alloc: Global,
+    operations: &[Nlattr<Index, Buffer>],
+    want: &[(u32, u32)],
+) {
     let mut seen = Vec::new(alloc);
-    for operation in operations.iter() {
-        seen.push(numbers(&rt, alloc, operation))
-            .expect(&rt, "memory");
+    for operation in operations {
+        seen.push(numbers(rt, alloc, operation))
+            .expect(rt, "memory");
     }
-    let want: [(u32, u32); 7] = [(1, 11), (2, 11), (3, 5), (4, 11), (5, 11), (6, 5), (7, 11)];
-    assert_is(&rt, seen.as_slice(), want.as_slice());
+    assert_is(rt, seen.as_slice(), want);
 }
 
 /// Asserts the number and the name of the group `ioam6_events`.
@@ -379,19 +329,26 @@ fn assert_group(rt: &impl Abort, alloc: Global, group: &Nlattr<Index, Buffer>) {
     let fields = group
         .get_attr_handle::<CtrlAttrMcastGrp>(alloc)
         .expect(rt, "a list");
-    let id: u32 = fields
-        .get_attr_payload_as(alloc, CtrlAttrMcastGrp::Id)
-        .expect(rt, "a number");
-    let name: String = fields
-        .get_attr_payload_as_with_len(alloc, CtrlAttrMcastGrp::Name)
-        .expect(rt, "a name");
-    assert_is(rt, (id, name.as_str()), (10, "ioam6_events"));
+    assert_number(rt, alloc, &fields, CtrlAttrMcastGrp::Id, 10u32);
+    assert_text(rt, alloc, &fields, CtrlAttrMcastGrp::Name, "ioam6_events");
+}
+
+// The operations of the family IOAM6, each a number and its flags.
+#[test]
+fn operations_of_a_generic_family(rt: HostRuntime) {
+    let family: GenlBuffer<CtrlAttr, Buffer> = read_row(&rt, rt.alloc(), R0867);
+    let handle = family.get_attr_handle();
+    let operations = handle
+        .get_nested_attributes::<Index>(rt.alloc(), CtrlAttr::Ops)
+        .expect(&rt, "operations");
+    let want = [(1, 11), (2, 11), (3, 5), (4, 11), (5, 11), (6, 5), (7, 11)];
+    assert_operations(&rt, rt.alloc(), operations.get_attrs(), &want);
 }
 
 // The multicast group of the family IOAM6.
 #[test]
 fn groups_of_a_generic_family(rt: HostRuntime) {
-    let family = family::<CtrlAttr>(&rt, rt.alloc(), R0867);
+    let family: GenlBuffer<CtrlAttr, Buffer> = read_row(&rt, rt.alloc(), R0867);
     let handle = family.get_attr_handle();
     let groups = handle
         .get_nested_attributes::<Index>(rt.alloc(), CtrlAttr::McastGroups)

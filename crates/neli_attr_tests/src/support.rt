@@ -1,16 +1,20 @@
 //! What the tests share: attributes that are built, lists that are read, and values that are written.
 
+use neli::attr::{AttrHandle, TypedPayload};
 use neli::consts::genl::NlAttrType;
 use neli::consts::rtnl::RtaType;
 use neli::err::DeError;
 use neli::genl::{AttrType, Nlattr, NlattrBuilder};
 use neli::rtnl::{Rtattr, RtattrBuilder};
-use neli::types::{Buffer, GenlBuffer, RtBuffer};
-use neli::{Cursor, FromBytesWithInput, ToBytes};
+use neli::types::{Buffer, FrameList};
+use neli::{Cursor, FromBytes, FromBytesWithInput, ToBytes};
 use std::alloc::Global;
 use std::fmt::{Debug, Display};
 use std::io::ErrorKind;
 use std::process::Abort;
+
+/// A list of attributes in which they are looked up.
+pub type Handle<'a, I> = AttrHandle<'a, FrameList<I>, I>;
 
 /// Asserts that this is what is wanted.
 pub fn assert_is<T: Copy + PartialEq + Debug>(rt: &impl Abort, got: T, want: T) {
@@ -18,13 +22,13 @@ pub fn assert_is<T: Copy + PartialEq + Debug>(rt: &impl Abort, got: T, want: T) 
 }
 
 /// Asserts that this is what is wanted, in the row of a table that has this name or input.
-pub fn assert_is_at<R: Copy + Debug, T: Copy + PartialEq + Debug>(
+pub fn assert_is_at<R: Copy + PartialEq + Debug, T: Copy + PartialEq + Debug>(
     rt: &impl Abort,
     row: R,
     got: T,
     want: T,
 ) {
-    assert_eq!(rt; got, want, "at {row:?}");
+    assert_is(rt, (row, got), (row, want));
 }
 
 /// A generic attribute without flags.
@@ -59,8 +63,8 @@ pub fn routing<T: RtaType, P: ToBytes + Drop>(
 pub fn assert_written<T: ToBytes>(rt: &impl Abort, alloc: Global, value: &T, bytes: &[u8]) {
     let mut buffer = Vec::from_slice(alloc, b"..").expect(rt, "memory");
     value.to_bytes(&mut buffer).expect(rt, "memory");
-    assert_is(rt, buffer.get(2..), Some(bytes));
-    assert_is(rt, value.written_size(), bytes.len());
+    let written = (buffer.get(2..), value.written_size());
+    assert_is(rt, written, (Some(bytes), bytes.len()));
 }
 
 /// Asserts that the value prints this text.
@@ -69,20 +73,63 @@ pub fn assert_prints<D: Display>(rt: &impl Abort, alloc: Global, value: &D, text
     assert_is(rt, printed.as_str(), text);
 }
 
-/// The list of generic attributes that all of the bytes spell.
-pub fn generic_list<T: NlAttrType>(
+/// Asserts that this was refused, and that the refusal prints this text.
+pub fn assert_refused<T: Drop, E: Display + Drop>(
+    rt: &impl Abort,
     alloc: Global,
-    bytes: &[u8],
-) -> Result<GenlBuffer<T, Buffer>, DeError> {
-    GenlBuffer::from_bytes_with_input(alloc, &mut Cursor::new(bytes), bytes.len())
+    tried: Result<T, E>,
+    text: &str,
+) {
+    let error = tried.err().expect(rt, "it is not refused");
+    assert_prints(rt, alloc, &error, text);
 }
 
-/// The list of routing attributes that all of the bytes spell.
-pub fn routing_list<T: RtaType>(
+/// The list of attributes that all of the bytes spell.
+pub fn read_list<I: FromBytes>(rt: &impl Abort, alloc: Global, bytes: &[u8]) -> FrameList<I> {
+    FrameList::from_bytes_with_input(alloc, &mut Cursor::new(bytes), bytes.len()).expect(
+        rt, "a list",
+    )
+}
+
+/// Asserts that the first attribute of this type has this number.
+pub fn assert_number<I: TypedPayload, R: FromBytes + Copy + PartialEq>(
+    rt: &impl Abort,
     alloc: Global,
-    bytes: &[u8],
-) -> Result<RtBuffer<T, Buffer>, DeError> {
-    RtBuffer::from_bytes_with_input(alloc, &mut Cursor::new(bytes), bytes.len())
+    handle: &Handle<'_, I>,
+    kind: I::Kind,
+    want: R,
+) {
+    let number: R = handle
+        .get_attr_payload_as(alloc, kind)
+        .expect(rt, "a number");
+    assert_is(rt, number, want);
+}
+
+/// Asserts that the first attribute of this type has this text, which ends with a zero there.
+pub fn assert_text<I: TypedPayload>(
+    rt: &impl Abort,
+    alloc: Global,
+    handle: &Handle<'_, I>,
+    kind: I::Kind,
+    want: &str,
+) {
+    let text: String = handle
+        .get_attr_payload_as_with_len(alloc, kind)
+        .expect(rt, "a text");
+    assert_is(rt, text.as_str(), want);
+}
+
+/// Asserts that the first attribute of this type lends these bytes.
+pub fn assert_lent<I: TypedPayload>(
+    rt: &impl Abort,
+    handle: &Handle<'_, I>,
+    kind: I::Kind,
+    want: &[u8],
+) {
+    let lent: &[u8] = handle
+        .get_attr_payload_as_with_len_borrowed(kind)
+        .expect(rt, "bytes");
+    assert_is(rt, lent, want);
 }
 
 /// Why a value is not read, by what the tables compare of it.
