@@ -2,7 +2,7 @@
 
 use crate::support::assert_is_at;
 use neli_queues::Queues;
-use neli_replay_tests::writers::Narrow;
+use crate::writers::Narrow;
 use neli_tool_base::status::Status;
 use neli_tool_run::run::{Request, requested, run};
 use std::alloc::Global;

@@ -3,7 +3,7 @@
 
 use crate::support::assert_is;
 use neli_queues::Queues;
-use neli_replay_tests::writers::Kept;
+use crate::writers::Kept;
 use neli_tool_base::status::Status;
 use neli_tool_run::run::run;
 

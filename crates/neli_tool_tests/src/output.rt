@@ -1,7 +1,7 @@
 //! Outputs that fail.
 
 use crate::support::{assert_is_at, decoded};
-use neli_replay_tests::writers::Narrow;
+use crate::writers::Narrow;
 use neli_tool_base::listing::{list, out_of_memory};
 use neli_tool_base::status::Status;
 

@@ -1,6 +1,6 @@
 //! Scripts and what is answered.
 
-use crate::support::answers;
+use crate::scripts::answers;
 
 #[test]
 fn a_request_has_a_body_and_one_answer(rt: HostRuntime) {

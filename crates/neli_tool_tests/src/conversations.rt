@@ -1,6 +1,6 @@
 //! Conversations: several requests, and what comes for each of them.
 
-use crate::support::answers;
+use crate::scripts::answers;
 
 #[test]
 fn a_dump_and_an_acknowledgement_end(rt: HostRuntime) {
