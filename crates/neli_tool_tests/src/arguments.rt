@@ -1,8 +1,8 @@
 //! What the arguments ask for, and what is answered.
 
-use crate::support::assert_is_at;
-use neli_queues::Queues;
+use crate::support::{assert_is, assert_is_at};
 use crate::writers::Narrow;
+use neli_queues::Queues;
 use neli_tool_base::status::Status;
 use neli_tool_run::run::{Request, requested, run};
 use std::alloc::Global;
@@ -25,173 +25,96 @@ fn words(rt: &impl Abort, alloc: Global, given: &[&str]) -> io::Result<Vec<Strin
     Ok(words)
 }
 
+/// What words ask for, how that ends, its exit status, what is printed, and what is complained of.
+type Answer = (Request, Status, u8, &'static str, &'static str);
+
+const WRONG_USE: Answer = (Request::Usage, Status::Usage, 2, "", USAGE);
+
+const WORDS: [(&[&str], Answer); 14] = [
+    (
+        &["list"],
+        (Request::List, Status::Fault, 1, "fault: short\n", ""),
+    ),
+    (&[], WRONG_USE),
+    (&[""], WRONG_USE),
+    (&["lists"], WRONG_USE),
+    (&["List"], WRONG_USE),
+    (&["list", "list"], WRONG_USE),
+    (
+        &["list", "zero"],
+        (Request::Zero, Status::Fault, 1, "fault: short\n", ""),
+    ),
+    (&["list", "zeros"], WRONG_USE),
+    (&["list", "zero", "zero"], WRONG_USE),
+    (
+        &["replay"],
+        (Request::Replay, Status::BadLine, 2, "bad line 1\n", ""),
+    ),
+    (&["replays"], WRONG_USE),
+    (&["replay", "zero"], WRONG_USE),
+    (&["list", "replay"], WRONG_USE),
+    (&["zero", "list"], WRONG_USE),
+];
+
+/// Asserts what these words ask for, what comes of it, and how much of the input is left.
+fn assert_answer(
+    rt: &impl Abort,
+    alloc: Global,
+    words: &io::Result<Vec<String>>,
+    want: Answer,
+    left: usize,
+) {
+    let mut input = SHORT.as_slice();
+    let mut output = Vec::new(alloc);
+    let mut complaints = Vec::new(alloc);
+    let status = run::<Queues, _, _, _>(alloc, words, &mut input, &mut output, &mut complaints);
+    let ended = (requested(words), status, status.code());
+    assert_is(rt, (ended, input.len()), ((want.0, want.1, want.2), left));
+    let printed = (output.as_slice(), complaints.as_slice());
+    assert_is(rt, printed, (want.3.as_bytes(), want.4.as_bytes()));
+}
+
 #[test]
 fn words_ask_for_a_listing_or_a_script_or_are_wrong_use(rt: HostRuntime) {
-    let alloc = rt.alloc();
-    let rows: [(&[&str], Request, Status, u8, &str, &str); 14] = [
-        (
-            &["list"],
-            Request::List,
-            Status::Fault,
-            1,
-            "fault: short\n",
-            "",
-        ),
-        (&[], Request::Usage, Status::Usage, 2, "", USAGE),
-        (&[""], Request::Usage, Status::Usage, 2, "", USAGE),
-        (&["lists"], Request::Usage, Status::Usage, 2, "", USAGE),
-        (&["List"], Request::Usage, Status::Usage, 2, "", USAGE),
-        (
-            &["list", "list"],
-            Request::Usage,
-            Status::Usage,
-            2,
-            "",
-            USAGE,
-        ),
-        (
-            &["list", "zero"],
-            Request::Zero,
-            Status::Fault,
-            1,
-            "fault: short\n",
-            "",
-        ),
-        (
-            &["list", "zeros"],
-            Request::Usage,
-            Status::Usage,
-            2,
-            "",
-            USAGE,
-        ),
-        (
-            &["list", "zero", "zero"],
-            Request::Usage,
-            Status::Usage,
-            2,
-            "",
-            USAGE,
-        ),
-        (
-            &["replay"],
-            Request::Replay,
-            Status::BadLine,
-            2,
-            "bad line 1\n",
-            "",
-        ),
-        (&["replays"], Request::Usage, Status::Usage, 2, "", USAGE),
-        (
-            &["replay", "zero"],
-            Request::Usage,
-            Status::Usage,
-            2,
-            "",
-            USAGE,
-        ),
-        (
-            &["list", "replay"],
-            Request::Usage,
-            Status::Usage,
-            2,
-            "",
-            USAGE,
-        ),
-        (
-            &["zero", "list"],
-            Request::Usage,
-            Status::Usage,
-            2,
-            "",
-            USAGE,
-        ),
-    ];
-    for (given, request, want, code, text, complaint) in rows {
-        let words = words(&rt, alloc, given);
-        assert_is_at(&rt, given, requested(&words), request);
-        let mut input = SHORT.as_slice();
-        let mut output = Vec::new(alloc);
-        let mut complaints = Vec::new(alloc);
-        let status = run::<Queues, _, _, _>(
-            alloc,
-            &words,
-            &mut input,
-            &mut output,
-            &mut complaints,
-        );
-        assert_is_at(&rt, given, status, want);
-        assert_is_at(&rt, given, status.code(), code);
-        assert_is_at(&rt, given, output.as_slice(), text.as_bytes());
-        assert_is_at(&rt, given, complaints.as_slice(), complaint.as_bytes());
-        assert_is_at(&rt, given, input.is_empty(), request != Request::Usage);
+    for (given, want) in WORDS {
+        let left = if want.0 == Request::Usage { 1 } else { 0 };
+        let words = words(&rt, rt.alloc(), given);
+        assert_answer(&rt, rt.alloc(), &words, want, left);
     }
 }
 
 #[test]
 fn words_that_are_not_read(rt: HostRuntime) {
-    let alloc = rt.alloc();
-    let rows = [
-        (
-            ErrorKind::OutOfMemory,
-            Request::Memory,
-            Status::Memory,
-            "fault: memory\n",
-            "",
-        ),
-        (
-            ErrorKind::InvalidData,
-            Request::Usage,
-            Status::Usage,
-            "",
-            USAGE,
-        ),
-    ];
-    for (kind, request, want, text, complaint) in rows {
-        let words: io::Result<Vec<String>> = Err(io::Error::from(kind));
-        assert_is_at(&rt, kind, requested(&words), request);
-        let mut input = SHORT.as_slice();
-        let mut output = Vec::new(alloc);
-        let mut complaints = Vec::new(alloc);
-        let status = run::<Queues, _, _, _>(
-            alloc,
-            &words,
-            &mut input,
-            &mut output,
-            &mut complaints,
-        );
-        assert_is_at(&rt, kind, status, want);
-        assert_is_at(&rt, kind, output.as_slice(), text.as_bytes());
-        assert_is_at(&rt, kind, complaints.as_slice(), complaint.as_bytes());
-        assert_is_at(&rt, kind, input.len(), 1);
-    }
+    let memory = (Request::Memory, Status::Memory, 1, "fault: memory\n", "");
+    let words = Err(io::Error::from(ErrorKind::OutOfMemory));
+    assert_answer(&rt, rt.alloc(), &words, memory, 1);
+    let words = Err(io::Error::from(ErrorKind::InvalidData));
+    assert_answer(&rt, rt.alloc(), &words, WRONG_USE, 1);
 }
 
+/// Asserts how wrong use ends where the complaint has so much room.
+fn assert_complained(rt: &impl Abort, alloc: Global, room: usize, flushes: bool, want: Status) {
+    let words = words(rt, alloc, &[]);
+    let mut input = SHORT.as_slice();
+    let mut output = Vec::new(alloc);
+    let mut complaints = Narrow { room, flushes };
+    let status = run::<Queues, _, _, _>(alloc, &words, &mut input, &mut output, &mut complaints);
+    let ended = (status, status.code(), output.len());
+    assert_is_at(rt, (room, flushes), ended, (want, 2, 0));
+}
+
+// No room, room for a part, a flush that fails, and room for all.
 #[test]
 fn complaints_that_fail_are_still_wrong_use(rt: HostRuntime) {
-    let alloc = rt.alloc();
-    let words = words(&rt, alloc, &[]);
     let whole = USAGE.len();
     let rows = [
-        ("no room", 0, true, Status::NoUsage),
-        ("room for a part", whole - 1, true, Status::NoUsage),
-        ("a flush that fails", whole, false, Status::NoUsage),
-        ("room for all", whole, true, Status::Usage),
+        (0, true, Status::NoUsage),
+        (whole - 1, true, Status::NoUsage),
+        (whole, false, Status::NoUsage),
+        (whole, true, Status::Usage),
     ];
-    for (row, room, flushes, want) in rows {
-        let mut input = SHORT.as_slice();
-        let mut output = Vec::new(alloc);
-        let mut complaints = Narrow { room, flushes };
-        let status = run::<Queues, _, _, _>(
-            alloc,
-            &words,
-            &mut input,
-            &mut output,
-            &mut complaints,
-        );
-        assert_is_at(&rt, row, status, want);
-        assert_is_at(&rt, row, status.code(), 2);
-        assert!(rt; output.is_empty(), "{row}");
+    for (room, flushes, want) in rows {
+        assert_complained(&rt, rt.alloc(), room, flushes, want);
     }
 }
 

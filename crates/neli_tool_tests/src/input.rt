@@ -1,5 +1,6 @@
 //! Inputs of many lengths, inputs that fail, and inputs that do not end.
 
+use crate::readers::{Drip, Trickle};
 use crate::support::{assert_is, assert_is_at};
 use neli_tool_base::input::{InputError, read_whole};
 use neli_tool_base::listing::list;
@@ -8,49 +9,6 @@ use std::alloc::{AllocError, Global};
 use std::io;
 use std::io::{ErrorKind, Read};
 use std::process::Abort;
-
-/// A reader that gives one of its bytes at each call.
-#[derive(Drop)]
-struct ByteByByte<'b> {
-    rest: &'b [u8],
-}
-
-impl Read for ByteByByte<'_> {
-    fn read(&mut self, buf: &mut [u8]) -> io::Result<usize> {
-        if self.rest.is_empty() || buf.is_empty() {
-            return Ok(0);
-        }
-        buf[0] = self.rest[0];
-        self.rest = &self.rest[1..];
-        Ok(1)
-    }
-}
-
-/// A reader that gives a zero byte at each call, until it ends or fails at a call.
-#[derive(Drop)]
-struct Trickle {
-    calls: u32,
-    last: u32,
-    fails: bool,
-}
-
-impl Read for Trickle {
-    fn read(&mut self, buf: &mut [u8]) -> io::Result<usize> {
-        self.calls = self.calls.saturating_add(1);
-        if self.calls >= self.last {
-            return if self.fails {
-                Err(io::Error::from(ErrorKind::Other))
-            } else {
-                Ok(0)
-            };
-        }
-        if buf.is_empty() {
-            return Ok(0);
-        }
-        buf[0] = 0;
-        Ok(1)
-    }
-}
 
 /// So many bytes, which count up from 1 and over again.
 fn counting(rt: &impl Abort, alloc: Global, count: usize) -> Vec<u8> {
@@ -78,7 +36,10 @@ fn an_input_is_read_to_its_end(rt: HostRuntime) {
         let bytes = counting(&rt, alloc, count);
         assert_is(&rt, bytes.len(), count);
         assert_read(&rt, alloc, "by pieces", &mut bytes.as_slice(), &bytes);
-        let mut one_by_one = ByteByByte { rest: &bytes };
+        let mut one_by_one = Drip {
+            rest: &bytes,
+            fails: false,
+        };
         assert_read(&rt, alloc, "one by one", &mut one_by_one, &bytes);
     }
 }
@@ -92,44 +53,49 @@ fn a_read_that_fails_is_told(rt: HostRuntime) {
             fails: true,
         };
         let failed = matches!(read_whole(rt.alloc(), &mut input), Err(InputError::Failed));
-        assert!(rt; failed, "{last}");
-        assert_is(&rt, input.calls, last);
+        assert_is_at(&rt, last, (failed, input.calls), (true, last));
     }
     let failed = InputError::from(io::Error::from(ErrorKind::Other));
-    assert_is(&rt, failed, InputError::Failed);
-    assert_is(&rt, InputError::from(AllocError), InputError::Memory);
+    let memory = InputError::from(AllocError);
+    assert_is(
+        &rt,
+        (failed, memory),
+        (InputError::Failed, InputError::Memory),
+    );
 }
+
+/// Inputs, the call at which each ends or fails, and what comes of it after how many calls.
+const TRICKLES: [(&str, u32, bool, Status, &str, u32); 4] = [
+    ("fails in the middle", 3, true, Status::NoInput, "", 3),
+    (
+        "fails at the last call",
+        1000000,
+        true,
+        Status::NoInput,
+        "",
+        1000000,
+    ),
+    (
+        "ends at the last call",
+        1000000,
+        false,
+        Status::Fault,
+        "fault: input 0\n",
+        1000000,
+    ),
+    (
+        "ends one call later",
+        1000001,
+        false,
+        Status::NoInput,
+        "",
+        1000000,
+    ),
+];
 
 #[test]
 fn an_input_ends_within_a_million_calls(rt: HostRuntime) {
-    let rows = [
-        ("fails in the middle", 3, true, Status::NoInput, "", 3),
-        (
-            "fails at the last call",
-            1000000,
-            true,
-            Status::NoInput,
-            "",
-            1000000,
-        ),
-        (
-            "ends at the last call",
-            1000000,
-            false,
-            Status::Fault,
-            "fault: input 0\n",
-            1000000,
-        ),
-        (
-            "ends one call later",
-            1000001,
-            false,
-            Status::NoInput,
-            "",
-            1000000,
-        ),
-    ];
-    for (row, last, fails, want, text, calls) in rows {
+    for (row, last, fails, want, text, calls) in TRICKLES {
         let mut input = Trickle {
             calls: 0,
             last,
@@ -137,8 +103,7 @@ fn an_input_ends_within_a_million_calls(rt: HostRuntime) {
         };
         let mut output = Vec::new(rt.alloc());
         let status = list(rt.alloc(), &mut input, &mut output);
-        assert_is_at(&rt, row, status, want);
-        assert_is_at(&rt, row, output.as_slice(), text.as_bytes());
-        assert_is_at(&rt, row, input.calls, calls);
+        let got = (status, output.as_slice(), input.calls);
+        assert_is_at(&rt, row, got, (want, text.as_bytes(), calls));
     }
 }

@@ -1,6 +1,6 @@
 //! Tests of the program's crates, a file a subject: of `neli_tool_base` and `neli_tool_run`, which list datagrams and
 //! write them again, and of `neli_replay`, which answers scripts. They call `run`, `replay` and what these are made of,
-//! over readers and [`writers`] of their own, and scripts over both stores of deliveries.
+//! over [`readers`] and [`writers`] of their own, and scripts over both stores of deliveries.
 //!
 //! - [`arguments`]: what the words of a command line ask for. [`input`], [`output`]: what is read and written, where it
 //!   fails too. [`listing`], [`rewriting`]: lines of datagrams, and datagrams that are written again.
@@ -30,6 +30,8 @@ mod listing;
 mod out_of_memory;
 #[cfg(test)]
 mod output;
+#[cfg(test)]
+mod readers;
 #[cfg(test)]
 mod rewriting;
 #[cfg(test)]

@@ -34,8 +34,7 @@ fn a_listing_that_is_not_written_is_no_output(rt: HostRuntime) {
     for (row, room, flushes, want) in rows {
         let mut output = Narrow { room, flushes };
         let status = list(alloc, &mut datagram.as_slice(), &mut output);
-        assert_is_at(&rt, row, status, want);
-        assert_is_at(&rt, row, output.room, 0);
+        assert_is_at(&rt, row, (status, output.room), (want, 0));
     }
 }
 
@@ -50,7 +49,7 @@ fn out_of_memory_that_is_not_written_is_no_output(rt: HostRuntime) {
     ];
     for (row, room, flushes, want) in rows {
         let mut output = Narrow { room, flushes };
-        assert_is_at(&rt, row, out_of_memory(&mut output), want);
-        assert_is_at(&rt, row, output.room, 0);
+        let status = out_of_memory(&mut output);
+        assert_is_at(&rt, row, (status, output.room), (want, 0));
     }
 }

@@ -86,8 +86,8 @@ fn assert_rewritten(rt: &impl Abort, alloc: Global, row: &str, datagram: &str, w
     let want = decoded(rt, alloc, want);
     let mut output = Vec::new(alloc);
     let status = list_zero(alloc, &mut bytes.as_slice(), &mut output);
-    assert_is_at(rt, row, status, Status::Whole);
-    assert_is_at(rt, row, output.as_slice(), want.as_slice());
+    let written = (output.as_slice(), status);
+    assert_is_at(rt, row, written, (want.as_slice(), Status::Whole));
     assert_same_lines(rt, alloc, row, &bytes, &output);
     assert_is_zeroed(rt, alloc, row, &output);
 }
@@ -112,15 +112,15 @@ fn assert_same_lines(rt: &impl Abort, alloc: Global, row: &str, first: &[u8], se
     let mut two = Vec::new(alloc);
     let first_ends = list(alloc, &mut &*first, &mut one);
     let second_ends = list(alloc, &mut &*second, &mut two);
-    assert_is_at(rt, row, first_ends, second_ends);
-    assert_is_at(rt, row, one.as_slice(), two.as_slice());
+    let first = (one.as_slice(), first_ends);
+    assert_is_at(rt, row, first, (two.as_slice(), second_ends));
 }
 
 // Written once more, nothing changes.
 fn assert_is_zeroed(rt: &impl Abort, alloc: Global, row: &str, bytes: &[u8]) {
     let again = rewriting_of(alloc, bytes);
-    assert_is_at(rt, row, again.ending, Ending::Whole);
-    assert_is_at(rt, row, again.bytes.as_slice(), bytes);
+    let written = (again.bytes.as_slice(), again.ending);
+    assert_is_at(rt, row, written, (bytes, Ending::Whole));
 }
 
 #[test]
@@ -153,7 +153,7 @@ fn faults_are_lines_alone(rt: HostRuntime) {
         let bytes = decoded(&rt, alloc, datagram);
         let mut output = Vec::new(alloc);
         let status = list_zero(alloc, &mut bytes.as_slice(), &mut output);
-        assert_is_at(&rt, row, output.as_slice(), want.as_bytes());
-        assert_is_at(&rt, row, status, Status::Fault);
+        let written = (output.as_slice(), status);
+        assert_is_at(&rt, row, written, (want.as_bytes(), Status::Fault));
     }
 }

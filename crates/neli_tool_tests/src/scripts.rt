@@ -1,5 +1,6 @@
-//! What the tests share: a script, answered over both stores of deliveries.
+//! What the tests of scripts share: a script, answered over both stores of deliveries.
 
+use crate::support::assert_is_at;
 use neli_log::Log;
 use neli_queues::Queues;
 use neli_replay::replay::replay;
@@ -18,8 +19,8 @@ fn answers_over<D: Deliveries + Drop, R: Abort>(
 ) {
     let mut output = Vec::new(alloc);
     let status = replay::<D, _, _>(alloc, &mut script.as_bytes(), &mut output);
-    assert_eq!(rt; output.as_slice(), want.as_bytes(), "{row}");
-    assert_eq!(rt; status, Status::Whole, "{row}");
+    let answered = (output.as_slice(), status);
+    assert_is_at(rt, row, answered, (want.as_bytes(), Status::Whole));
 }
 
 /// Asserts that this script is answered by these lines, over each store.
@@ -27,3 +28,6 @@ pub fn answers<R: Abort>(rt: &R, alloc: Global, row: &str, script: &str, want: &
     answers_over::<Log, R>(rt, alloc, row, script, want);
     answers_over::<Queues, R>(rt, alloc, row, script, want);
 }
+
+/// Scripts with their names, and what is answered.
+pub type Row = (&'static str, &'static str, &'static str);

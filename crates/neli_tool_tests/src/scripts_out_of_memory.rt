@@ -1,7 +1,8 @@
 //! Any one allocation may be refused in these tests (`rt try --test --fail-alloc N`). What is printed is then
 //! the whole report or that memory ran out, and the status says which.
 
-use crate::answers::ACKNOWLEDGED;
+use crate::answers::{ACKNOWLEDGED, ANSWERED};
+use crate::support::assert_is;
 use crate::writers::Kept;
 use neli_log::Log;
 use neli_queues::Queues;
@@ -13,31 +14,22 @@ use std::process::Abort;
 
 /// Asserts that the script is answered over deliveries that are kept in a `D`, or that memory ran out.
 fn answers_or_out_of_memory<D: Deliveries + Drop, R: Abort>(rt: &R, alloc: Global) {
-    let whole = "sent 1 10000000100005000000000000000000\n\
-        waits\n\
-        ok\n\
-        item type 16 flags 0x0000 number 0 port 0 payload 0\n\
-        error noack\n\
-        end\n\
-        ok\n\
-        no handle\n\
-        ok\n\
-        item type 16 flags 0x0000 number 0 port 0 payload 0\n\
-        waits\n";
     let mut output = Kept {
         bytes: [0; 256],
         count: 0,
     };
     let status = replay::<D, _, _>(alloc, &mut ACKNOWLEDGED.as_bytes(), &mut output);
     let want = if status == Status::Memory {
-        "memory\n"
+        (Status::Memory, "memory\n")
     } else {
-        assert_eq!(rt; status, Status::Whole);
-        whole
+        (Status::Whole, ANSWERED)
     };
-    let count = output.count;
-    assert!(rt; count <= 256);
-    assert_eq!(rt; &output.bytes[..count], want.as_bytes());
+    assert_is(rt, status, want.0);
+    assert_is(
+        rt,
+        output.bytes.get(..output.count),
+        Some(want.1.as_bytes()),
+    );
 }
 
 #[test]

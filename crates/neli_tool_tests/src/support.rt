@@ -10,13 +10,13 @@ pub fn assert_is<T: Copy + PartialEq + Debug>(rt: &impl Abort, got: T, want: T) 
 }
 
 /// Asserts that this is what is wanted, in the row of a table that has this name or input.
-pub fn assert_is_at<R: Copy + Debug, T: Copy + PartialEq + Debug>(
+pub fn assert_is_at<R: Copy + PartialEq + Debug, T: Copy + PartialEq + Debug>(
     rt: &impl Abort,
     row: R,
     got: T,
     want: T,
 ) {
-    assert_eq!(rt; got, want, "at {row:?}");
+    assert_is(rt, (row, got), (row, want));
 }
 
 /// The bytes of these hexadecimal digits.
