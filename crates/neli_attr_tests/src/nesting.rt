@@ -1,8 +1,7 @@
 //! Attributes inside attributes.
 
 use crate::support::{
-    Handle, assert_is, assert_lent, assert_number, assert_text, assert_written, generic, read_list,
-    routing,
+    assert_is, assert_lent, assert_number, assert_text, assert_written, generic, read_list, routing,
 };
 use neli::attr::AttrHandle;
 use neli::consts::genl::{CtrlAttr, CtrlAttrMcastGrp, Index, NlAttrType};
@@ -56,14 +55,13 @@ fn nested_groups_written(rt: HostRuntime) {
 }
 
 /// Asserts the name and the number of a group.
-fn assert_group(
-    rt: &impl Abort,
-    alloc: Global,
-    group: &Handle<'_, Nlattr<CtrlAttrMcastGrp, Buffer>>,
-) {
-    assert_text(rt, alloc, group, CtrlAttrMcastGrp::Name, "notify");
-    assert_lent(rt, group, CtrlAttrMcastGrp::Name, b"notify\0");
-    assert_number(rt, alloc, group, CtrlAttrMcastGrp::Id, 5u32);
+fn assert_group(rt: &impl Abort, alloc: Global, group: &Nlattr<Index, Buffer>) {
+    let handle = group
+        .get_attr_handle::<CtrlAttrMcastGrp>(alloc)
+        .expect(rt, "attributes");
+    assert_text(rt, alloc, &handle, CtrlAttrMcastGrp::Name, "notify");
+    assert_lent(rt, &handle, CtrlAttrMcastGrp::Name, b"notify\0");
+    assert_number(rt, alloc, &handle, CtrlAttrMcastGrp::Id, 5u32);
 }
 
 #[test]
@@ -76,12 +74,8 @@ fn nested_groups_looked_up(rt: HostRuntime) {
         .get_nested_attributes::<Index>(alloc, CtrlAttr::McastGroups)
         .expect(&rt, "groups");
     assert_is(&rt, indexed.iter().count(), 1);
-    let group = indexed
-        .get_attribute(Index::from(1))
-        .expect(&rt, "a group")
-        .get_attr_handle::<CtrlAttrMcastGrp>(alloc)
-        .expect(&rt, "attributes");
-    assert_group(&rt, alloc, &group);
+    let group = indexed.get_attribute(Index::from(1)).expect(&rt, "a group");
+    assert_group(&rt, alloc, group);
 }
 
 // Nested routing attributes, lent.

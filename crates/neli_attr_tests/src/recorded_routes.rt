@@ -5,10 +5,12 @@
 use crate::support::{
     assert_is, assert_is_at, assert_lent, assert_number, assert_text, assert_written, read_list,
 };
+use neli::attr::TypedPayload;
 use neli::consts::genl::{CtrlAttr, CtrlAttrMcastGrp, Index};
 use neli::consts::rtnl::{Ifa, Ifla, Rta};
 use neli::err::DeError;
 use neli::genl::Nlattr;
+use neli::rtnl::Rtattr;
 use neli::types::{Buffer, FrameList, GenlBuffer, RtBuffer};
 use neli::{FromBytes, ToBytes};
 use std::alloc::Global;
@@ -18,13 +20,8 @@ use std::process::Abort;
 fn decoded(rt: &impl Abort, alloc: Global, lines: &[&str]) -> Vec<u8> {
     let mut bytes = Vec::new(alloc);
     for line in lines {
-        for pair in line.as_bytes().chunks(2) {
-            if let [high, low] = pair {
-                let high = char::from(*high).to_digit(16).expect(rt, "a digit");
-                let low = char::from(*low).to_digit(16).expect(rt, "a digit");
-                bytes.push((high * 16 + low) as u8).expect(rt, "memory");
-            }
-        }
+        let part = hex::decode(alloc, *line).expect(rt, "digits");
+        bytes.extend_from_slice(&part).expect(rt, "memory");
     }
     bytes
 }
@@ -256,15 +253,53 @@ fn attributes_are_as_libmnl_reads_them(rt: HostRuntime) {
     }
 }
 
-// Values that pyroute2 reads in an address.
+/// Asserts a text and a number in the attributes of a row.
+fn assert_values<I: FromBytes + TypedPayload, R: FromBytes + Copy + PartialEq>(
+    rt: &impl Abort,
+    alloc: Global,
+    row: Row,
+    text: (I::Kind, &str),
+    number: (I::Kind, R),
+) {
+    let list: FrameList<I> = read_row(rt, alloc, row);
+    let handle = list.get_attr_handle();
+    assert_text(rt, alloc, &handle, text.0, text.1);
+    assert_number(rt, alloc, &handle, number.0, number.1);
+}
+
+// Values that pyroute2 reads in an address, in a link, and in the family IOAM6.
 #[test]
-fn values_of_an_address(rt: HostRuntime) {
+fn names_and_numbers(rt: HostRuntime) {
     let alloc = rt.alloc();
-    let address: RtBuffer<Ifa, Buffer> = read_row(&rt, alloc, R0004);
+    assert_values::<Rtattr<Ifa, Buffer>, u32>(
+        &rt,
+        alloc,
+        R0004,
+        (Ifa::Label, "lo"),
+        (Ifa::Flags, 128),
+    );
+    assert_values::<Rtattr<Ifla, Buffer>, u32>(
+        &rt,
+        alloc,
+        R0152,
+        (Ifla::Ifname, "veth1"),
+        (Ifla::Mtu, 1500),
+    );
+    assert_values::<Nlattr<CtrlAttr, Buffer>, u16>(
+        &rt,
+        alloc,
+        R0867,
+        (CtrlAttr::FamilyName, "IOAM6"),
+        (CtrlAttr::FamilyId, 30),
+    );
+}
+
+// The address itself.
+#[test]
+fn a_local_address(rt: HostRuntime) {
+    let address: RtBuffer<Ifa, Buffer> = read_row(&rt, rt.alloc(), R0004);
     let handle = address.get_attr_handle();
     assert_lent(&rt, &handle, Ifa::Local, &[127, 0, 0, 1]);
-    assert_text(&rt, alloc, &handle, Ifa::Label, "lo");
-    assert_number(&rt, alloc, &handle, Ifa::Flags, 128u32);
 }
 
 // Values that pyroute2 reads in a route.
@@ -279,26 +314,6 @@ fn values_of_a_route(rt: HostRuntime) {
     let gateway = b"\x20\x01\x0d\xb8\0\0\0\0\0\0\0\0\0\0\0\x09";
     assert_lent(&rt, &handle, Rta::Gateway, gateway);
     assert!(rt; handle.get_attribute(Rta::Metrics).is_none());
-}
-
-// Values that pyroute2 reads in a link.
-#[test]
-fn values_of_a_link(rt: HostRuntime) {
-    let alloc = rt.alloc();
-    let port: RtBuffer<Ifla, Buffer> = read_row(&rt, alloc, R0152);
-    let handle = port.get_attr_handle();
-    assert_text(&rt, alloc, &handle, Ifla::Ifname, "veth1");
-    assert_number(&rt, alloc, &handle, Ifla::Mtu, 1500u32);
-}
-
-// Values that pyroute2 reads in the family IOAM6.
-#[test]
-fn values_of_a_generic_family(rt: HostRuntime) {
-    let alloc = rt.alloc();
-    let family: GenlBuffer<CtrlAttr, Buffer> = read_row(&rt, alloc, R0867);
-    let handle = family.get_attr_handle();
-    assert_text(&rt, alloc, &handle, CtrlAttr::FamilyName, "IOAM6");
-    assert_number(&rt, alloc, &handle, CtrlAttr::FamilyId, 30u16);
 }
 
 /// Two numbers of a nested attribute.
