@@ -134,12 +134,16 @@ fn assert_too_long<T: Drop>(rt: &impl Abort, alloc: Global, tried: Result<T, Ser
 
 // 134217727 words are 4294967264 bits, or 536870908 bytes.
 #[test]
-fn too_long(rt: HostRuntime) {
-    let alloc = rt.alloc();
+fn too_long_from_the_start(rt: HostRuntime) {
     for bits in [4294967265usize, 4294967296, usize::MAX] {
-        assert_too_long(&rt, alloc, NetlinkBitArray::new(alloc, bits));
+        let made = NetlinkBitArray::new(rt.alloc(), bits);
+        assert_too_long(&rt, rt.alloc(), made);
     }
-    let mut array = array_with(&rt, alloc, 32, &[5]);
+}
+
+#[test]
+fn too_long_when_resized(rt: HostRuntime) {
+    let mut array = array_with(&rt, rt.alloc(), 32, &[5]);
     for length in [
         Length::Bits(4294967265),
         Length::Bits(4294967296),
@@ -147,7 +151,7 @@ fn too_long(rt: HostRuntime) {
         Length::Bytes(536870909),
         Length::Bytes(usize::MAX),
     ] {
-        assert_too_long(&rt, alloc, resize(&mut array, length));
-        assert_array(&rt, alloc, &array, (4, 32), &[5]);
+        assert_too_long(&rt, rt.alloc(), resize(&mut array, length));
+        assert_array(&rt, rt.alloc(), &array, (4, 32), &[5]);
     }
 }

@@ -5,6 +5,7 @@ use neli::Cursor;
 
 const BYTES: [u8; 5] = [1, 2, 3, 4, 5];
 
+// A second cursor moves by itself.
 #[test]
 fn places(rt: HostRuntime) {
     assert_is(&rt, Cursor::new(&BYTES).position(), 0);
@@ -19,6 +20,12 @@ fn places(rt: HostRuntime) {
         let got = (cursor.position(), cursor.rest(), cursor.get_ref());
         assert_is(&rt, got, (place, rest, BYTES.as_slice()));
     }
+    let mut cursor = Cursor::new(&BYTES);
+    cursor.advance(1);
+    let mut ahead = cursor.ahead();
+    ahead.advance(2);
+    assert_is(&rt, ahead.rest(), [4u8, 5].as_slice());
+    assert_is(&rt, cursor.rest(), [2u8, 3, 4, 5].as_slice());
 }
 
 // A read moves past the bytes, an input only shows them; what is not there is refused by each in its way.
@@ -37,14 +44,4 @@ fn next_bytes(rt: HostRuntime) {
         let bytes = outcome_of(cursor.bytes(n));
         assert_is_at(&rt, n, (bytes, cursor.position()), (read, place));
     }
-}
-
-#[test]
-fn a_second_cursor(rt: HostRuntime) {
-    let mut cursor = Cursor::new(&BYTES);
-    cursor.advance(1);
-    let mut ahead = cursor.ahead();
-    ahead.advance(2);
-    assert_is(&rt, ahead.rest(), [4u8, 5].as_slice());
-    assert_is(&rt, cursor.rest(), [2u8, 3, 4, 5].as_slice());
 }

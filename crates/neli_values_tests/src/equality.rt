@@ -4,6 +4,7 @@ use crate::support::{assert_is, assert_is_at};
 use neli::consts::connector::CnMsgVal;
 use neli::consts::rtnl::{Arphrd, Frattr};
 
+// The older name is never read.
 #[test]
 fn names_of_one_number(rt: HostRuntime) {
     let equal = (
@@ -13,10 +14,6 @@ fn names_of_one_number(rt: HostRuntime) {
         Frattr::UnrecognizedConst(1) == Frattr::Dst,
     );
     assert_is(&rt, equal, (false, false, false, false));
-}
-
-#[test]
-fn an_older_name_is_never_read(rt: HostRuntime) {
     for number in 0..=u16::MAX {
         let is_older = Frattr::from(number) == Frattr::Ifname;
         assert_is_at(&rt, number, is_older, false);

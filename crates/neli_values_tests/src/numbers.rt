@@ -19,7 +19,7 @@ enum Number {
     I32(i32),
     I64(i64),
     I128(i128),
-    Be(BeU64),
+    Be(u64),
 }
 
 // The number by the calls of the wire traits: its sizes, its bytes after others, and what is read.
@@ -53,13 +53,17 @@ fn check_row(rt: &impl Abort, alloc: Global, number: Number, bytes: &[u8]) {
         Number::I32(n) => check(rt, alloc, n, bytes),
         Number::I64(n) => check(rt, alloc, n, bytes),
         Number::I128(n) => check(rt, alloc, n, bytes),
-        Number::Be(n) => check(rt, alloc, n, bytes),
+        Number::Be(n) => {
+            let big = BeU64::new(n);
+            assert_is(rt, big.as_ne_u64(), n);
+            check(rt, alloc, big, bytes);
+        }
     }
 }
 
 /// Numbers of neli's own tests, their bytes as two's complement gives them; and then, by hand, a one at the lowest
 /// place and at the highest, and negative numbers.
-const NUMBERS: [(Number, &[u8]); 17] = [
+const NUMBERS: [(Number, &[u8]); 19] = [
     (Number::U8(5), &[5]),
     (Number::U16(6000), &[112, 23]),
     (Number::U32(600_000), &[192, 39, 9, 0]),
@@ -88,26 +92,18 @@ const NUMBERS: [(Number, &[u8]); 17] = [
     ),
     (Number::I128(-1), &[0xff; 16]),
     (Number::U128(0), &[0; 16]),
+    // The highest byte first: a number of neli's own tests with its bytes, and one by hand.
+    (
+        Number::Be(571_987_654),
+        &[0, 0, 0, 0, 0x22, 0x17, 0xd6, 0xc6],
+    ),
+    (Number::Be(0x81), &[0, 0, 0, 0, 0, 0, 0, 0x81]),
 ];
 
 #[test]
 fn numbers(rt: HostRuntime) {
     for (number, bytes) in NUMBERS {
         check_row(&rt, rt.alloc(), number, bytes);
-    }
-}
-
-// The first number is of neli's own tests, with its bytes; the second by hand.
-#[test]
-fn the_highest_byte_first(rt: HostRuntime) {
-    let rows: [(u64, &[u8]); 2] = [
-        (571_987_654, &[0, 0, 0, 0, 0x22, 0x17, 0xd6, 0xc6]),
-        (0x81, &[0, 0, 0, 0, 0, 0, 0, 0x81]),
-    ];
-    for (number, bytes) in rows {
-        let big = BeU64::new(number);
-        assert_is(&rt, big.as_ne_u64(), number);
-        check_row(&rt, rt.alloc(), Number::Be(big), bytes);
     }
 }
 

@@ -18,14 +18,10 @@ fn lent_bytes(rt: HostRuntime) {
 }
 
 #[test]
-fn arrays(rt: HostRuntime) {
+fn arrays_and_slices(rt: HostRuntime) {
     let long: Result<[u8; 4], Refusal> = Err(SHORT);
     assert_read(&rt, rt.alloc(), &BYTES, long, 0);
     assert_read(&rt, rt.alloc(), &BYTES, Ok([1u8, 2]), 2);
-}
-
-#[test]
-fn written_bytes(rt: HostRuntime) {
     assert_written(&rt, rt.alloc(), &b"BB".as_slice(), b"BB");
     assert_written(&rt, rt.alloc(), b"CCC", b"CCC");
     assert_sizes(&rt, &b"BBBBB".as_slice(), (5, 8, 5));

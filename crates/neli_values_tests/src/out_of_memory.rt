@@ -127,14 +127,9 @@ fn values_written_or_out_of_memory(rt: HostRuntime) {
     check_written(&rt, alloc, &0x0102u16, &[2, 1]);
     check_written(&rt, alloc, b"CCCCCCCCCCCC", b"CCCCCCCCCCCC");
     check_written(&rt, alloc, &"AAAAAAAAAAAA", b"AAAAAAAAAAAA\0");
-}
-
-#[test]
-fn a_list_written_or_out_of_memory(rt: HostRuntime) {
-    let Ok(list) = Vec::from_slice(rt.alloc(), &["AAAA", "BBBBBBBBBB", "C"]) else {
-        return;
-    };
-    check_written(&rt, rt.alloc(), &list, b"AAAA\0BBBBBBBBBB\0C\0");
+    if let Ok(list) = Vec::from_slice(alloc, &["AAAA", "BBBBBBBBBB", "C"]) {
+        check_written(&rt, alloc, &list, b"AAAA\0BBBBBBBBBB\0C\0");
+    }
 }
 
 // Nothing but out of memory stops a message and its copy from being made.

@@ -8,8 +8,9 @@ use neli::{Cursor, FromBytes, FromBytesWithInput, FromBytesWithInputBorrowed, To
 use std::alloc::Global;
 use std::process::Abort;
 
+// A padded length is rounded as far as a `usize` can hold it.
 #[test]
-fn alignment(rt: HostRuntime) {
+fn rounded_lengths(rt: HostRuntime) {
     for (len, want) in [
         (0usize, 0usize),
         (1, 4),
@@ -20,11 +21,6 @@ fn alignment(rt: HostRuntime) {
     ] {
         assert_is_at(&rt, len, alignto(len), want);
     }
-}
-
-// As far as a `usize` can hold it.
-#[test]
-fn padded_lengths(rt: HostRuntime) {
     for (size, want) in [
         (0usize, 0usize),
         (1, 4),

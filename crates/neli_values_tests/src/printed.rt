@@ -136,7 +136,7 @@ fn counts_that_do_not_fit(rt: HostRuntime) {
 }
 
 #[test]
-fn memory_that_ran_out(rt: HostRuntime) {
+fn missing_memory_and_fields(rt: HostRuntime) {
     let alloc = rt.alloc();
     check(&rt, alloc, NoMemory, "Out of memory", &"");
     check(&rt, alloc, SerError::Memory, "Out of memory", &"");
@@ -144,11 +144,6 @@ fn memory_that_ran_out(rt: HostRuntime) {
     check(&rt, alloc, SocketError::Memory, "Out of memory", &"");
     let builder: BuildError<1> = BuildError::Memory;
     check(&rt, alloc, builder, "Out of memory", &"");
-}
-
-#[test]
-fn errors_of_builders(rt: HostRuntime) {
-    let alloc = rt.alloc();
     let missing: BuildError<1> = BuildError::UninitializedField("nla_type");
     check(&rt, alloc, missing, "", &"`nla_type` must be initialized");
     let invalid: BuildError<1> = BuildError::ValidationError("Length does not fit its field");

@@ -39,21 +39,13 @@ fn check_logging<T: LogCfgCmd>(rt: &impl Abort, value: T, number: u8) {
 }
 
 #[test]
-fn types_of_messages(rt: HostRuntime) {
+fn types(rt: HostRuntime) {
     check_message(&rt, Rtm::Getlink, 18);
     check_message(&rt, NlTypeWrapper::GenlId(GenlId::Ctrl), 16);
     check_message(&rt, 65535u16, 65535);
-}
-
-#[test]
-fn types_of_attributes(rt: HostRuntime) {
     check_attribute(&rt, NfLogAttr::Seq, 12);
     check_attribute(&rt, Index::from(7), 7);
     check_attribute(&rt, 7u16, 7);
-}
-
-#[test]
-fn types_in_routing_messages(rt: HostRuntime) {
     check_routing(&rt, Frattr::Iifname, 3);
     check_routing(&rt, RtaTypeWrapper::Ifla(Ifla::Ifname), 3);
     check_routing(&rt, 9u16, 9);
@@ -67,7 +59,8 @@ fn commands(rt: HostRuntime) {
     check_logging(&rt, 9u8, 9);
 }
 
+// Of a buffer for a datagram.
 #[test]
-fn size_of_a_buffer(rt: HostRuntime) {
+fn the_longest_datagram(rt: HostRuntime) {
     assert_is(&rt, MAX_NL_LENGTH, 32 * 1024);
 }

@@ -9,7 +9,7 @@ use neli::consts::rtnl::{
 };
 
 #[test]
-fn types_of_messages(rt: HostRuntime) {
+fn types_of_messages_and_commands(rt: HostRuntime) {
     let rows: [(u16, NlTypeWrapper); 8] = [
         (3, Nlmsg::Done.into()),
         (5, NlTypeWrapper::UnrecognizedConst(5)),
@@ -23,6 +23,15 @@ fn types_of_messages(rt: HostRuntime) {
     for (number, wanted) in rows {
         assert_is_at(&rt, number, NlTypeWrapper::from(number), wanted);
         assert_is_at(&rt, wanted, u16::from(wanted), number);
+    }
+    let commands: [(u8, LogCfgCmdWrapper); 3] = [
+        (1, LogCfgCmdWrapper::LogCmd(LogCmd::Bind)),
+        (4, LogCmd::PfUnbind.into()),
+        (5, LogCfgCmdWrapper::UnrecognizedConst(5)),
+    ];
+    for (number, wanted) in commands {
+        assert_is_at(&rt, number, LogCfgCmdWrapper::from(number), wanted);
+        assert_is_at(&rt, wanted, u8::from(&wanted), number);
     }
 }
 
@@ -77,18 +86,5 @@ fn types_in_routing_messages(rt: HostRuntime) {
     for (value, number, is_read) in rows {
         assert_is_at(&rt, value, u16::from(&value), number);
         assert_is_at(&rt, number, RtaTypeWrapper::from(number) == value, is_read);
-    }
-}
-
-#[test]
-fn logging_commands(rt: HostRuntime) {
-    let rows: [(u8, LogCfgCmdWrapper); 3] = [
-        (1, LogCfgCmdWrapper::LogCmd(LogCmd::Bind)),
-        (4, LogCmd::PfUnbind.into()),
-        (5, LogCfgCmdWrapper::UnrecognizedConst(5)),
-    ];
-    for (number, wanted) in rows {
-        assert_is_at(&rt, number, LogCfgCmdWrapper::from(number), wanted);
-        assert_is_at(&rt, wanted, u8::from(&wanted), number);
     }
 }
