@@ -1,4 +1,5 @@
-//! Tests of the router by the paths of `neli`, over both stores: plain lists and the shared log.
+//! Tests of the router and of the resolvers by the paths of `neli`; of the router over both stores: plain lists and
+//! the shared log.
 //!
 //! - [`script`]: a list of steps with what each of them answers, played over each store by one run, and by the
 //!   router's own calls, as [`steps`] makes them. The other files are tables of scripts.
@@ -6,6 +7,8 @@
 //! - [`datagrams`]: who gets what of a datagram. [`faults`]: faults of the link.
 //! - [`handles`]: handles that another router made, and closed ones. [`many`]: thousands of requests.
 //! - [`requests`]: requests to the controller of generic netlink, and what comes of its answers.
+//! - [`resolvers`]: what the resolvers find in lists of answers of the controller. [`refused`]: what is not found.
+//!   [`no_memory`]: what they answer where an allocation is refused. [`controller`]: what these three share.
 //! - [`conversations`]: conversations with a kernel, as they were recorded.
 //! - [`random`]: scripts that a generator makes, over both stores. [`entries`]: what the log keeps.
 //! - [`out_of_memory`]: each allocation refused in turn. [`refusing`]: a store that is always refused.
@@ -17,6 +20,8 @@
 
 #[cfg(test)]
 mod answers;
+#[cfg(test)]
+mod controller;
 #[cfg(test)]
 mod conversations;
 #[cfg(test)]
@@ -32,15 +37,21 @@ mod laws;
 #[cfg(test)]
 mod many;
 #[cfg(test)]
+mod no_memory;
+#[cfg(test)]
 mod numbers;
 #[cfg(test)]
 mod out_of_memory;
 #[cfg(test)]
 mod random;
 #[cfg(test)]
+mod refused;
+#[cfg(test)]
 mod refusing;
 #[cfg(test)]
 mod requests;
+#[cfg(test)]
+mod resolvers;
 #[cfg(test)]
 mod script;
 #[cfg(test)]

@@ -1,6 +1,6 @@
 //! What the controller's answer for `nlctrl` does not tell.
 
-use crate::support::{ACK, Cause, NLCTRL, NUMBER, assert_refused, items};
+use crate::controller::{ACK, Cause, NLCTRL, NUMBER, assert_refused, items};
 use neli::router::synchronous::{lookup_id, resolve_genl_family, resolve_nl_mcast_group};
 use std::test::Fail;
 

@@ -1,7 +1,7 @@
 //! Any one allocation may be refused in these tests (`rt try --test --fail-alloc N`). The answer is then
 //! that memory ran out, or the answer of the run without a refusal.
 
-use crate::support::{Cause, NLCTRL, NUMBER, assert_is, cause_of, items};
+use crate::controller::{Cause, NLCTRL, NUMBER, assert_is, cause_of, items};
 use neli::router::synchronous::{
     CtrlError, lookup_id, resolve_genl_family, resolve_nl_mcast_group,
 };

@@ -1,6 +1,8 @@
 //! Lists of one item, and of several.
 
-use crate::support::{ACK, Cause, NLCTRL, NUMBER, assert_is, assert_is_at, assert_refused, items};
+use crate::controller::{
+    ACK, Cause, NLCTRL, NUMBER, assert_is, assert_is_at, assert_refused, items,
+};
 use neli::err::RouterError;
 use neli::router::synchronous::{lookup_id, resolve_genl_family, resolve_nl_mcast_group};
 use std::test::Fail;
