@@ -1,10 +1,10 @@
 //! Where the answers of a handle end, and what the last of them is.
 
+use crate::script::Script;
 use crate::script::Step::{Come, Read, Send};
 use crate::script::Told::{
     Ack, Done, DumpEnd, End, Message, NoAck, Refused, Sent, UnexpectedAck, Waits,
 };
-use crate::script::{Step, Told, play};
 
 /// A reply to number 0.
 const REPLY: &str = "10000000100000000000000000000000";
@@ -19,9 +19,10 @@ const ACK: &str = "2400000002000001000000000000000000000000100000001000050000000
 const ERROR: &str = "24000000020000010000000000000000eaffffff10000000100005000000000000000000";
 
 /// Flags, datagrams and reads of one request.
-const SCRIPTS: [(&str, &[(Step, Told)]); 11] = [
+pub const SCRIPTS: [Script; 11] = [
     (
         "a dump",
+        0,
         &[
             (Send(16, 0x300, ""), Sent(0, 0)),
             (Come(TWO, 0), Done),
@@ -34,6 +35,7 @@ const SCRIPTS: [(&str, &[(Step, Told)]); 11] = [
     ),
     (
         "a dump that ends with a code",
+        0,
         &[
             (Send(16, 0x300, ""), Sent(0, 0)),
             (Come(TWO, 0), Done),
@@ -46,6 +48,7 @@ const SCRIPTS: [(&str, &[(Step, Told)]); 11] = [
     ),
     (
         "a dump that has not ended",
+        0,
         &[
             (Send(16, 0x300, ""), Sent(0, 0)),
             (Come(TWO, 0), Done),
@@ -56,6 +59,7 @@ const SCRIPTS: [(&str, &[(Step, Told)]); 11] = [
     ),
     (
         "one reply, and no acknowledgement asked for",
+        0,
         &[
             (Send(16, 0, ""), Sent(0, 0)),
             (Come(REPLY, 0), Done),
@@ -65,6 +69,7 @@ const SCRIPTS: [(&str, &[(Step, Told)]); 11] = [
     ),
     (
         "a reply in place of the acknowledgement",
+        0,
         &[
             (Send(16, 4, ""), Sent(0, 0)),
             (Come(REPLY, 0), Done),
@@ -76,6 +81,7 @@ const SCRIPTS: [(&str, &[(Step, Told)]); 11] = [
     ),
     (
         "a reply and the acknowledgement",
+        0,
         &[
             (Send(16, 4, ""), Sent(0, 0)),
             (Come(REPLY, 0), Done),
@@ -88,6 +94,7 @@ const SCRIPTS: [(&str, &[(Step, Told)]); 11] = [
     ),
     (
         "the acknowledgement alone",
+        0,
         &[
             (Send(16, 4, ""), Sent(0, 0)),
             (Come(ACK, 0), Done),
@@ -97,6 +104,7 @@ const SCRIPTS: [(&str, &[(Step, Told)]); 11] = [
     ),
     (
         "an error",
+        0,
         &[
             (Send(16, 0, ""), Sent(0, 0)),
             (Come(ERROR, 0), Done),
@@ -106,6 +114,7 @@ const SCRIPTS: [(&str, &[(Step, Told)]); 11] = [
     ),
     (
         "an error in place of the acknowledgement",
+        0,
         &[
             (Send(16, 4, ""), Sent(0, 0)),
             (Come(ERROR, 0), Done),
@@ -115,6 +124,7 @@ const SCRIPTS: [(&str, &[(Step, Told)]); 11] = [
     ),
     (
         "an error after a reply",
+        0,
         &[
             (Send(16, 4, ""), Sent(0, 0)),
             (Come(REPLY, 0), Done),
@@ -126,6 +136,7 @@ const SCRIPTS: [(&str, &[(Step, Told)]); 11] = [
     ),
     (
         "an acknowledgement of a dump",
+        0,
         &[
             (Send(16, 0x304, ""), Sent(0, 0)),
             (Come(ACK, 0), Done),
@@ -134,10 +145,3 @@ const SCRIPTS: [(&str, &[(Step, Told)]); 11] = [
         ],
     ),
 ];
-
-#[test]
-fn answers_end_as_flags_and_messages_say(rt: HostRuntime) {
-    for (row, steps) in SCRIPTS {
-        play(&rt, rt.alloc(), row, 0, steps);
-    }
-}

@@ -1,66 +1,29 @@
-//! What the tests share.
+//! What is looked up in messages of the controller of generic netlink.
 
-use neli::err::{DeError, RouterError};
+use neli::err::{DeError, NoMemory, RouterError};
 use neli::nl::Nlmsghdr;
-use neli::router::synchronous::{CtrlError, CtrlItem};
+use neli::router::synchronous::{
+    CtrlError, CtrlItem, lookup_id, resolve_genl_family, resolve_nl_mcast_group,
+};
 use neli::{Cursor, FromBytes};
 use std::alloc::Global;
-use std::fmt::Debug;
-use std::process::Abort;
 
-/// Asserts that this is what is wanted.
-pub fn assert_is<T: Copy + PartialEq + Debug>(rt: &impl Abort, got: T, want: T) {
-    assert_eq!(rt; got, want);
+/// What is looked up.
+#[derive(Clone, Copy)]
+pub enum Lookup {
+    /// The number of a family.
+    Family(&'static str),
+    /// The number of a group: of this family, by its name.
+    Group(&'static str, &'static str),
+    /// The names of a family and of its group with this number.
+    Names(u32),
 }
 
-/// Asserts that this is what is wanted, in the row of a table that has this name or input.
-pub fn assert_is_at<R: Copy + Debug, T: Copy + PartialEq + Debug>(
-    rt: &impl Abort,
-    row: R,
-    got: T,
-    want: T,
-) {
-    assert_eq!(rt; got, want, "at {row:?}");
-}
-
-/// The controller's answer for the family `nlctrl`: its number is 16, and its group 1 is `notify`, with
-/// the number 5.
-pub const NLCTRL: [u8; 68] = [
-    0x44, 0, 0, 0, 0x10, 0, 0, 0, 0, 0, 0, 0, 0, 0, 0, 0, // the header: 68 bytes, type 16
-    1, 2, 0, 0, // a new family, version 2
-    0x0b, 0, 2, 0, 0x6e, 0x6c, 0x63, 0x74, 0x72, 0x6c, 0, 0, // FamilyName "nlctrl"
-    6, 0, 1, 0, 0x10, 0, 0, 0, // FamilyId 16
-    0x1c, 0, 7, 0x80, // McastGroups
-    0x18, 0, 1, 0x80, // its group 1
-    0x0b, 0, 1, 0, 0x6e, 0x6f, 0x74, 0x69, 0x66, 0x79, 0, 0, // Name "notify"
-    8, 0, 2, 0, 5, 0, 0, 0, // Id 5
-];
-
-/// An answer with the number 16 alone.
-pub const NUMBER: [u8; 28] = [
-    0x1c, 0, 0, 0, 0x10, 0, 0, 0, 0, 0, 0, 0, 0, 0, 0, 0, 1, 2, 0, 0, 6, 0, 1, 0, 0x10, 0, 0, 0,
-];
-
-/// An acknowledgement.
-pub const ACK: [u8; 36] = [
-    0x24, 0, 0, 0, 2, 0, 0, 1, 0, 0, 0, 0, 0, 0, 0, 0, 0, 0, 0, 0, 0x20, 0, 0, 0, 0x10, 0, 5, 0, 0,
-    0, 0, 0, 0, 0, 0, 0,
-];
-
-/// The items that these bytes are, each a message.
-pub fn items(alloc: Global, frames: &[&[u8]]) -> Result<Vec<CtrlItem>, CtrlError> {
-    let mut list = Vec::new(alloc);
-    for frame in frames {
-        let message = Nlmsghdr::from_bytes(alloc, &mut Cursor::new(frame))?;
-        list.push(Ok(message))?;
-    }
-    Ok(list)
-}
-
-/// Why a resolver refuses.
+/// What comes of a lookup.
 #[derive(Clone, Copy, Debug, PartialEq, Eq)]
 pub enum Cause {
-    Memory,
+    /// It is found.
+    Found,
     Msg,
     /// What is told cannot be read: the text that says why.
     DeMsg,
@@ -70,10 +33,43 @@ pub enum Cause {
     Other,
 }
 
+/// The items that these bytes are, each a message, and after them so many errors: `NoAck`, and `ClosedChannel`.
+pub fn items(alloc: Global, frames: &[&[u8]], errors: usize) -> Result<Vec<CtrlItem>, CtrlError> {
+    let mut list = Vec::new(alloc);
+    for frame in frames {
+        let message = Nlmsghdr::from_bytes(alloc, &mut Cursor::new(frame))?;
+        list.push(Ok(message))?;
+    }
+    if 0 < errors {
+        list.push(Err(RouterError::NoAck))?;
+    }
+    if 1 < errors {
+        list.push(Err(RouterError::ClosedChannel))?;
+    }
+    Ok(list)
+}
+
+/// What is found in these items, in words.
+fn look_up(alloc: Global, lookup: Lookup, list: Vec<CtrlItem>) -> Result<String, CtrlError> {
+    match lookup {
+        Lookup::Family(name) => {
+            let number = resolve_genl_family(alloc, name, list)?;
+            Ok(number.to_string(alloc)?)
+        }
+        Lookup::Group(family, name) => {
+            let number = resolve_nl_mcast_group(alloc, family, name, list)?;
+            Ok(number.to_string(alloc)?)
+        }
+        Lookup::Names(number) => {
+            let (family, group) = lookup_id(alloc, number, list)?;
+            Ok(format!(in alloc; "{family} {group}")?)
+        }
+    }
+}
+
 /// The cause of a resolver's error.
-pub fn cause_of(error: &CtrlError) -> Cause {
+fn cause_of(error: &CtrlError) -> Cause {
     match error {
-        RouterError::Memory => Cause::Memory,
         RouterError::Msg(_) => Cause::Msg,
         RouterError::De(DeError::Msg(_)) => Cause::DeMsg,
         RouterError::De(DeError::InvalidInput(count)) => Cause::DeInput(*count),
@@ -82,20 +78,17 @@ pub fn cause_of(error: &CtrlError) -> Cause {
     }
 }
 
-/// Asserts that an outcome is a refusal of this cause, which prints this text.
-pub fn assert_refused<V: Drop>(
-    rt: &impl Abort,
+/// What comes of a lookup in these items, and the text of what is found or of the error.
+///
+/// Refused only where memory runs out.
+pub fn answer(
     alloc: Global,
-    outcome: Result<V, CtrlError>,
-    cause: Cause,
-    want: &str,
-) {
-    match outcome {
-        Ok(_) => rt.panic("no refusal"),
-        Err(error) => {
-            assert_is_at(rt, want, cause_of(&error), cause);
-            let text = error.to_string(alloc).expect(rt, "memory");
-            assert_is(rt, text.as_str(), want);
-        }
+    lookup: Lookup,
+    list: Vec<CtrlItem>,
+) -> Result<(Cause, String), NoMemory> {
+    match look_up(alloc, lookup, list) {
+        Ok(found) => Ok((Cause::Found, found)),
+        Err(RouterError::Memory) => Err(NoMemory),
+        Err(error) => Ok((cause_of(&error), error.to_string(alloc)?)),
     }
 }

@@ -1,13 +1,12 @@
 //! Conversations with a kernel, as they were recorded from Linux 6.18 on x86-64. What each datagram holds
 //! was read by libmnl.
 
+use crate::script::Script;
 use crate::script::Step::{Come, Next, Read, Send};
 use crate::script::Told::{Ack, Done, DumpEnd, End, Message, Refused, Sent, Waits};
-use crate::script::{Step, Told, bytes_of, outcomes, play, sent_at};
-use neli::router::synchronous::Log;
 
 /// What was asked, and the script with the port of the socket.
-const SCRIPTS: [(&str, u32, &[(Step, Told)]); 4] = [
+pub const SCRIPTS: [Script; 4] = [
     (
         // Two datagrams of a strict dump; each message has the flag DUMP_FILTERED too.
         "IPv4 addresses of a link",
@@ -95,61 +94,3 @@ const SCRIPTS: [(&str, u32, &[(Step, Told)]); 4] = [
         ],
     ),
 ];
-
-#[test]
-fn recorded_conversations_are_answered_as_libmnl_reads_them(rt: HostRuntime) {
-    for (row, port, steps) in SCRIPTS {
-        play(&rt, rt.alloc(), row, port, steps);
-    }
-}
-
-/// Requests that a program built byte by byte, for port 0: number, type, flags without REQUEST, body, and
-/// the bytes that it sent.
-const REQUESTS: [(&str, u32, u16, u16, &str, &str); 4] = [
-    (
-        "IPv4 addresses of a link",
-        1179,
-        22,
-        0x300,
-        "0200000003000000",
-        "18000000160001039b040000000000000200000003000000",
-    ),
-    (
-        "a link set up",
-        1054,
-        19,
-        4,
-        "00000000030000000100000001000000",
-        "20000000130005001e0400000000000000000000030000000100000001000000",
-    ),
-    (
-        "an unknown type",
-        1001,
-        100,
-        4,
-        "00000000",
-        "1400000064000500e90300000000000000000000",
-    ),
-    (
-        "no operation",
-        1109,
-        1,
-        4,
-        "",
-        "10000000010005005504000000000000",
-    ),
-];
-
-#[test]
-fn requests_are_written_as_they_were_recorded(rt: HostRuntime) {
-    let alloc = rt.alloc();
-    for (row, number, nl_type, flags, body, text) in REQUESTS {
-        let steps = [
-            (Next(number), Done),
-            (Send(nl_type, flags, body), Sent(number, 0)),
-        ];
-        let came = outcomes::<Log>(&rt, alloc, 0, &steps);
-        let want = bytes_of(&rt, alloc, text);
-        assert_eq!(rt; sent_at(&came, 1), want.as_slice(), "{row}");
-    }
-}

@@ -1,9 +1,9 @@
 //! Who gets what of a datagram.
 
 use crate::entries::{ONE, THREE};
+use crate::script::Script;
 use crate::script::Step::{Close, Come, Read, Send};
 use crate::script::Told::{Done, End, Message, NoHandle, Sent, Short, Stray, Waits};
-use crate::script::{Step, Told, play};
 
 /// Fifteen bytes: one less than a header.
 const FIFTEEN: &str = "100000001000000000000000000000";
@@ -16,9 +16,10 @@ const ZERO: &str = "10000000100000000000000000000000";
 const PORT_5: &str = "10000000100000000000000005000000";
 
 /// Datagrams, and what is read of multicast and of the handles of numbers 0 and 1.
-const SCRIPTS: [(&str, &[(Step, Told)]); 9] = [
+pub const SCRIPTS: [Script; 9] = [
     (
         "an empty datagram",
+        0,
         &[
             (Send(16, 0, ""), Sent(0, 0)),
             (Send(16, 0, ""), Sent(1, 0)),
@@ -30,6 +31,7 @@ const SCRIPTS: [(&str, &[(Step, Told)]); 9] = [
     ),
     (
         "15 bytes to no group",
+        0,
         &[
             (Send(16, 0, ""), Sent(0, 0)),
             (Send(16, 0, ""), Sent(1, 0)),
@@ -43,6 +45,7 @@ const SCRIPTS: [(&str, &[(Step, Told)]); 9] = [
     ),
     (
         "15 bytes to a group",
+        0,
         &[
             (Send(16, 0, ""), Sent(0, 0)),
             (Send(16, 0, ""), Sent(1, 0)),
@@ -56,6 +59,7 @@ const SCRIPTS: [(&str, &[(Step, Told)]); 9] = [
     ),
     (
         "a number that no request has",
+        0,
         &[
             (Send(16, 0, ""), Sent(0, 0)),
             (Send(16, 0, ""), Sent(1, 0)),
@@ -69,6 +73,7 @@ const SCRIPTS: [(&str, &[(Step, Told)]); 9] = [
     ),
     (
         "a number that no request has, and a closed handle",
+        0,
         &[
             (Send(16, 0, ""), Sent(0, 0)),
             (Send(16, 0, ""), Sent(1, 0)),
@@ -81,6 +86,7 @@ const SCRIPTS: [(&str, &[(Step, Told)]); 9] = [
     ),
     (
         "the number of a closed handle",
+        0,
         &[
             (Send(16, 0, ""), Sent(0, 0)),
             (Send(16, 0, ""), Sent(1, 0)),
@@ -93,6 +99,7 @@ const SCRIPTS: [(&str, &[(Step, Told)]); 9] = [
     ),
     (
         "another port",
+        0,
         &[
             (Send(16, 0, ""), Sent(0, 0)),
             (Send(16, 0, ""), Sent(1, 0)),
@@ -105,6 +112,7 @@ const SCRIPTS: [(&str, &[(Step, Told)]); 9] = [
     ),
     (
         "group 32",
+        0,
         &[
             (Send(16, 0, ""), Sent(0, 0)),
             (Come(ZERO, 0x8000_0000), Done),
@@ -119,6 +127,7 @@ const SCRIPTS: [(&str, &[(Step, Told)]); 9] = [
     ),
     (
         "a message for each of two handles, one for none, and news until multicast is closed",
+        0,
         &[
             (Send(16, 0, ""), Sent(0, 0)),
             (Send(16, 0, ""), Sent(1, 0)),
@@ -137,10 +146,3 @@ const SCRIPTS: [(&str, &[(Step, Told)]); 9] = [
         ],
     ),
 ];
-
-#[test]
-fn a_datagram_goes_to_whom_it_is_for(rt: HostRuntime) {
-    for (row, steps) in SCRIPTS {
-        play(&rt, rt.alloc(), row, 0, steps);
-    }
-}

@@ -1,10 +1,15 @@
-//! What the shared store keeps after each step: entries, and bytes of datagrams. That both stores answer these steps
+//! What the shared store keeps after each step: entries, and bytes of datagrams. That both stores answer such steps
 //! alike is tested in [`crate::datagrams`].
+//!
+//! Any one allocation may be refused in this test (`rt try --test --fail-alloc N`). A call of the router that is
+//! refused changes nothing, and gives what it would have given when it is made again.
 
-use crate::handles::{read, send};
-use crate::script::{Told, bytes_of};
-use neli::router::synchronous::{Log, NlRouter};
-use neli::utils::Groups;
+use crate::script::Step::{Close, Come, Read, Send};
+use crate::script::Told::{Done, Message, Refused, Sent, Stray};
+use crate::script::{Came, Step, Told, kind_of};
+use crate::steps::Asker;
+use crate::support::assert_is_at;
+use neli::router::synchronous::Log;
 use std::alloc::Global;
 use std::process::Abort;
 
@@ -16,57 +21,83 @@ pub const THREE: &str = "10000000100002000000000000000000\
 /// A message of type 16.
 pub const ONE: &str = "10000000100000000000000000000000";
 
-/// Which of the two handles is read, its item, and what is kept then.
-const READS: [(usize, Told, [usize; 2]); 4] = [
-    (0, Told::Message(16, 0, 0), [2, 48]),
-    (0, Told::Stray(9, 0), [2, 48]),
-    (1, Told::Message(16, 1, 0), [1, 48]),
-    (1, Told::Stray(9, 0), [0, 0]),
+/// A message of a dump with number 0 and four bytes, and the error -22 to number 1 with the request's header and
+/// body and an attribute.
+pub const ECHO: &str = "1400000010000200000000000000000001020304\
+    34000000020000020100000000000000eaffffff\
+    150000000004050001000000000000006162636465000000\
+    0800010062616400";
+
+/// Scripts: steps, what each of them answers, and how many entries and bytes are kept then.
+const SCRIPTS: [(&str, &[(Step, Told, [usize; 2])]); 3] = [
+    (
+        // What comes to a group at the end is kept until multicast is closed, and not at all after that.
+        "an entry goes with the last handle that waits for it",
+        &[
+            (Send(16, 0, ""), Sent(0, 0), [0, 0]),
+            (Send(16, 0, ""), Sent(1, 0), [0, 0]),
+            (Come(THREE, 0), Done, [3, 48]),
+            (Read(1), Message(16, 0, 0), [2, 48]),
+            (Read(1), Stray(9, 0), [2, 48]),
+            (Read(2), Message(16, 1, 0), [1, 48]),
+            (Read(2), Stray(9, 0), [0, 0]),
+            (Come(ONE, 1), Done, [1, 16]),
+            (Close(0), Done, [0, 0]),
+            (Come(ONE, 1), Done, [0, 0]),
+        ],
+    ),
+    (
+        "a fault is one entry without bytes",
+        &[
+            (Send(16, 0, ""), Sent(0, 0), [0, 0]),
+            (Send(16, 0, ""), Sent(1, 0), [0, 0]),
+            (Come("100000001000000000000000000000", 0), Done, [1, 0]),
+        ],
+    ),
+    (
+        "a refused call changes nothing",
+        &[
+            (Send(16, 0, ""), Sent(0, 0), [0, 0]),
+            (Send(16, 0, ""), Sent(1, 0), [0, 0]),
+            (Come(ECHO, 0), Done, [2, 72]),
+            (Read(1), Message(16, 0, 4), [1, 72]),
+            (Read(2), Refused(-22, 1024), [0, 0]),
+        ],
+    ),
 ];
 
 /// How many entries a router keeps, and how many bytes of datagrams.
-pub fn kept(router: &NlRouter<Log>) -> [usize; 2] {
-    let log = router.deliveries();
+fn kept(asker: &Asker<Log>) -> [usize; 2] {
+    let log = asker.router.deliveries();
     [log.kept(), log.kept_bytes()]
 }
 
-/// Hands in a datagram, in hexadecimal, that came to the groups of a mask, and gives what is kept then.
-fn come(
-    rt: &impl Abort,
-    alloc: Global,
-    router: &mut NlRouter<Log>,
-    text: &str,
-    mask: u32,
-) -> [usize; 2] {
-    let bytes = bytes_of(rt, alloc, text);
-    let groups = Groups::new_bitmask(alloc, mask).expect(rt, "memory");
-    router.processing_loop(&bytes, &groups).expect(rt, "memory");
-    kept(router)
-}
-
-// What comes to a group at the end is kept until multicast is closed, and not at all after that.
-#[test]
-fn an_entry_goes_with_the_last_handle_that_waits_for_it(rt: HostRuntime) {
-    let alloc = rt.alloc();
-    let (mut router, multicast) = NlRouter::<Log>::new(alloc, 0);
-    let mut handles = [send(&rt, alloc, &mut router), send(&rt, alloc, &mut router)];
-    assert_eq!(rt; come(&rt, alloc, &mut router, THREE, 0), [3, 48]);
-    for (k, item, left) in READS {
-        assert_eq!(rt; read(&rt, alloc, &mut router, &mut handles[k]), item);
-        assert_eq!(rt; kept(&router), left, "after {item:?}");
+/// Does a step, again where memory ran out.
+fn step(rt: &impl Abort, alloc: Global, row: &str, asker: &mut Asker<Log>, step: Step) -> Came {
+    let before = kept(asker);
+    if let Ok(outcome) = asker.step(alloc, step) {
+        return outcome;
     }
-    assert_eq!(rt; come(&rt, alloc, &mut router, ONE, 1), [1, 16]);
-    router.close(multicast);
-    assert_eq!(rt; kept(&router), [0, 0]);
-    assert_eq!(rt; come(&rt, alloc, &mut router, ONE, 1), [0, 0]);
+    assert_is_at(rt, row, kept(asker), before);
+    asker.step(alloc, step).expect(rt, "memory")
+}
+
+/// A new router, again where memory ran out.
+fn start(rt: &impl Abort, alloc: Global) -> Asker<Log> {
+    if let Ok(asker) = Asker::new(alloc, 0) {
+        return asker;
+    }
+    Asker::new(alloc, 0).expect(rt, "memory")
 }
 
 #[test]
-fn a_fault_is_one_entry_without_bytes(rt: HostRuntime) {
-    let alloc = rt.alloc();
-    let (mut router, _multicast) = NlRouter::<Log>::new(alloc, 0);
-    let _first = send(&rt, alloc, &mut router);
-    let _second = send(&rt, alloc, &mut router);
-    let fifteen = "100000001000000000000000000000";
-    assert_eq!(rt; come(&rt, alloc, &mut router, fifteen, 0), [1, 0]);
+fn entries_are_kept_while_they_are_waited_for(rt: HostRuntime) {
+    for (row, steps) in SCRIPTS {
+        let mut asker = start(&rt, rt.alloc());
+        for (place, (doing, want, left)) in steps.iter().enumerate() {
+            let outcome = step(&rt, rt.alloc(), row, &mut asker, *doing);
+            assert_is_at(&rt, (row, place), kind_of(&outcome), *want);
+            assert_is_at(&rt, (row, place), kept(&asker), *left);
+        }
+    }
 }

@@ -1,112 +1,69 @@
-//! Handles that another router made, and multicast, by the router's own calls over both stores.
+//! Handles that another router made, over both stores.
 
-use crate::script::{Raw, Refusal, Told, bytes_of, item};
-use neli::consts::nl::NlmF;
-use neli::nl::NlPayload;
-use neli::router::synchronous::{Deliveries, Log, NlRouter, NlRouterReceiverHandle, Queues, Reply};
-use neli::types::Buffer;
-use neli::utils::Groups;
+use crate::script::Step::{Close, Come, Read, Send};
+use crate::script::Told::{Closed, Done, End, Message, Sent, Waits};
+use crate::script::{Step, Told, assert_told};
+use crate::steps::Asker;
+use crate::support::assert_is_at;
+use neli::router::synchronous::{Deliveries, Log, NlRouter, Queues};
 use std::alloc::Global;
+use std::mem::swap;
 use std::process::Abort;
 
-/// A handle of these tests.
-pub type Handle = NlRouterReceiverHandle<u16, Buffer>;
+/// Parts of scripts that are played in turn by two routers of port 7. Their handles for multicast are 0 and 1.
+const SCRIPTS: [(&str, &[&[(Step, Told)]]); 2] = [
+    (
+        "a handle of another router is closed here",
+        &[
+            &[(Send(16, 0, ""), Sent(0, 7))],
+            &[(Read(2), Closed), (Read(2), End)],
+            &[(Read(2), End)],
+        ],
+    ),
+    (
+        // The second router has no request of the number of that handle.
+        "closing a handle of another router changes nothing",
+        &[
+            &[(Send(16, 0, ""), Sent(0, 7)), (Send(16, 0, ""), Sent(1, 7))],
+            &[
+                (Send(16, 0, ""), Sent(0, 7)),
+                (Close(3), Done),
+                (Read(4), Waits),
+                (Read(1), Waits),
+                (Come("10000000100000000000000007000000", 0), Done),
+                (Read(4), Message(16, 0, 0)),
+                (Read(4), End),
+                (Send(16, 0, ""), Sent(1, 7)),
+            ],
+        ],
+    ),
+];
 
-/// Sends an empty request of type 16, and gives its handle.
-pub fn send<D: Deliveries>(rt: &impl Abort, alloc: Global, router: &mut NlRouter<D>) -> Handle {
-    let sent: Result<(Vec<u8>, Handle), Refusal> = router.send(
-        alloc,
-        16u16,
-        NlmF::empty(),
-        NlPayload::Payload(Buffer::new(alloc)),
-    );
-    let (_bytes, handle) = sent.expect(rt, "bytes to be sent");
-    handle
-}
-
-/// What a reply is.
-pub fn told(reply: &Reply<u16, Buffer>) -> Told {
-    match reply {
-        Reply::Item(found) => item(found),
-        Reply::End => Told::End,
-        Reply::Waits => Told::Waits,
+/// Plays the parts of a script in turn by two routers over this store.
+fn play_in_turn<D: Deliveries + Drop>(
+    rt: &impl Abort,
+    alloc: Global,
+    row: &str,
+    parts: &[&[(Step, Told)]],
+) {
+    let mut asker = Asker::<D>::new(alloc, 7).expect(rt, "memory");
+    let (mut other, multicast) = NlRouter::<D>::new(alloc, 7);
+    asker
+        .handles
+        .push(Some(multicast.retyped()))
+        .expect(rt, "memory");
+    for steps in parts {
+        let came = asker.steps(alloc, steps).expect(rt, "memory");
+        assert_told(rt, row, &came, steps);
+        assert_is_at(rt, row, asker.router.pid(), 7);
+        swap(&mut asker.router, &mut other);
     }
 }
 
-/// Reads a handle's next item.
-pub fn read<D: Deliveries, RT, RP>(
-    rt: &impl Abort,
-    alloc: Global,
-    router: &mut NlRouter<D>,
-    handle: &mut NlRouterReceiverHandle<RT, RP>,
-) -> Told {
-    let reply = router
-        .next_typed::<u16, Buffer, _, _>(alloc, handle)
-        .expect(rt, "memory");
-    told(&reply)
-}
-
-/// Reads a handle in a new router with the port of the one that made it.
-fn read_elsewhere<D: Deliveries + Drop>(rt: &impl Abort, alloc: Global) {
-    let (mut a, _) = NlRouter::<D>::new(alloc, 7);
-    let (mut b, _) = NlRouter::<D>::new(alloc, 7);
-    let mut first = send(rt, alloc, &mut a);
-    assert_eq!(rt; read(rt, alloc, &mut b, &mut first), Told::Closed);
-    assert_eq!(rt; read(rt, alloc, &mut b, &mut first), Told::End);
-    assert_eq!(rt; read(rt, alloc, &mut a, &mut first), Told::End);
-}
-
 #[test]
-fn a_handle_of_another_router_is_closed_here(rt: HostRuntime) {
-    read_elsewhere::<Queues>(&rt, rt.alloc());
-    read_elsewhere::<Log>(&rt, rt.alloc());
-}
-
-/// Closes a handle in a router that has no request of its number, and reads the router's own.
-fn close_elsewhere<D: Deliveries + Drop>(rt: &impl Abort, alloc: Global) {
-    let (mut a, _) = NlRouter::<D>::new(alloc, 7);
-    let (mut b, mut multicast) = NlRouter::<D>::new(alloc, 7);
-    let mut of_b = send(rt, alloc, &mut b);
-    let _first = send(rt, alloc, &mut a);
-    let second = send(rt, alloc, &mut a);
-    b.close(second);
-    assert_eq!(rt; b.pid(), 7);
-    assert_eq!(rt; read(rt, alloc, &mut b, &mut of_b), Told::Waits);
-    assert_eq!(rt; read(rt, alloc, &mut b, &mut multicast), Told::Waits);
-    let reply = bytes_of(rt, alloc, "10000000100000000000000007000000");
-    b.processing_loop(&reply, &Groups::empty(alloc))
-        .expect(rt, "memory");
-    assert_eq!(rt; read(rt, alloc, &mut b, &mut of_b), Told::Message(16, 0, 0));
-    assert_eq!(rt; read(rt, alloc, &mut b, &mut of_b), Told::End);
-    let next = send(rt, alloc, &mut b);
-    assert_eq!(rt; next.state().number, Some(1));
-}
-
-#[test]
-fn closing_a_handle_of_another_router_changes_nothing(rt: HostRuntime) {
-    close_elsewhere::<Queues>(&rt, rt.alloc());
-    close_elsewhere::<Log>(&rt, rt.alloc());
-}
-
-/// Hands in a message that came to group 32 twice: with multicast open, and closed.
-fn tell_a_group<D: Deliveries + Drop>(rt: &impl Abort, alloc: Global) {
-    let (mut router, mut multicast) = NlRouter::<D>::new(alloc, 0);
-    let mut handle = send(rt, alloc, &mut router);
-    let groups = Groups::new_bitmask(alloc, 0x8000_0000).expect(rt, "memory");
-    let news = bytes_of(rt, alloc, "10000000100000000000000000000000");
-    router.processing_loop(&news, &groups).expect(rt, "memory");
-    assert_eq!(rt; read(rt, alloc, &mut router, &mut handle), Told::Waits);
-    assert_eq!(rt;
-        read(rt, alloc, &mut router, &mut multicast),
-        Told::Message(16, 0, 0)
-    );
-    router.close(multicast);
-    router.processing_loop(&news, &groups).expect(rt, "memory");
-    assert_eq!(rt; read(rt, alloc, &mut router, &mut handle), Told::Waits);
-}
-
-#[test]
-fn multicast_alone_gets_what_comes_to_a_group(rt: HostRuntime) {
-    tell_a_group::<Queues>(&rt, rt.alloc());
-    tell_a_group::<Log>(&rt, rt.alloc());
+fn a_handle_belongs_to_its_router(rt: HostRuntime) {
+    for (row, parts) in SCRIPTS {
+        play_in_turn::<Queues>(&rt, rt.alloc(), row, parts);
+        play_in_turn::<Log>(&rt, rt.alloc(), row, parts);
+    }
 }

@@ -5,14 +5,13 @@
 //!   router's own calls, as [`steps`] makes them. The other files are tables of scripts.
 //! - [`numbers`]: requests as bytes, and which number each has. [`answers`]: where a handle's answers end.
 //! - [`datagrams`]: who gets what of a datagram. [`faults`]: faults of the link.
-//! - [`handles`]: handles that another router made, and closed ones. [`many`]: thousands of requests.
+//! - [`handles`]: handles that another router made. [`many`]: thousands of requests.
 //! - [`requests`]: requests to the controller of generic netlink, and what comes of its answers.
-//! - [`resolvers`]: what the resolvers find in lists of answers of the controller. [`refused`]: what is not found.
-//!   [`no_memory`]: what they answer where an allocation is refused. [`controller`]: what these three share.
+//! - [`resolvers`]: what the resolvers find in lists of answers, as [`controller`] looks it up.
 //! - [`conversations`]: conversations with a kernel, as they were recorded.
 //! - [`random`]: scripts that a generator makes, over both stores. [`entries`]: what the log keeps.
-//! - [`out_of_memory`]: each allocation refused in turn. [`refusing`]: a store that is always refused.
-//! - [`laws`]: the laws of runs, called.
+//! - [`out_of_memory`]: each allocation of a run refused in turn. [`refusing`]: a store that is always refused.
+//! - [`laws`]: the laws of runs, called. [`support`]: what the tests share.
 //!
 //! Expected values are worked out by hand from RFC 3549 section 2.3.2 and the headers of Linux; those of
 //! the recorded conversations are what libmnl reads in them.
@@ -37,15 +36,11 @@ mod laws;
 #[cfg(test)]
 mod many;
 #[cfg(test)]
-mod no_memory;
-#[cfg(test)]
 mod numbers;
 #[cfg(test)]
 mod out_of_memory;
 #[cfg(test)]
 mod random;
-#[cfg(test)]
-mod refused;
 #[cfg(test)]
 mod refusing;
 #[cfg(test)]
@@ -56,3 +51,5 @@ mod resolvers;
 mod script;
 #[cfg(test)]
 mod steps;
+#[cfg(test)]
+mod support;

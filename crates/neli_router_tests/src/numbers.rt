@@ -2,32 +2,11 @@
 
 use crate::script::Step::{Close, Come, Next, Read, Send};
 use crate::script::Told::{Done, End, InUse, Message, NoHandle, Sent, Stray, Waits};
-use crate::script::{Raw, Step, Told, outcomes, play, sent_at};
-use neli::consts::nl::NlmF;
-use neli::nl::NlPayload;
-use neli::router::synchronous::{Log, NlRouter, NlRouterReceiverHandle, Queues};
-use neli::types::Buffer;
+use crate::script::{Raw, Script, Step, Told, bytes_of, message, outcomes, sent_at};
+use crate::steps::called;
+use crate::support::assert_is_at;
+use neli::router::synchronous::{Log, Queues};
 use neli::{Cursor, FromBytes};
-
-/// The first request of a router with port 0: type 1024, REQUEST, the body `61 62 63 64 65` and three
-/// bytes of padding. The length states the padding too.
-const REQUEST: [u8; 24] = [
-    24, 0, 0, 0, 0, 4, 1, 0, 0, 0, 0, 0, 0, 0, 0, 0, 0x61, 0x62, 0x63, 0x64, 0x65, 0, 0, 0,
-];
-
-#[test]
-fn a_request_is_padded_and_its_length_states_that(rt: HostRuntime) {
-    let alloc = rt.alloc();
-    let (mut router, _multicast) = NlRouter::<Queues>::new(alloc, 0);
-    let body = Buffer::from_slice(alloc, b"abcde").expect(&rt, "memory");
-    let (bytes, _handle): (Vec<u8>, NlRouterReceiverHandle<u16, Buffer>) = router
-        .send(alloc, 1024u16, NlmF::empty(), NlPayload::Payload(body))
-        .expect(&rt, "bytes to be sent");
-    assert_eq!(rt; bytes.as_slice(), REQUEST.as_slice());
-    let message = Raw::from_bytes(alloc, &mut Cursor::new(&bytes)).expect(&rt, "a message");
-    let length = message.get_payload().map(|body| body.len());
-    assert_eq!(rt; length, Some(8));
-}
 
 /// A request and its reply.
 const REQUEST_AND_REPLY: [(Step, Told); 6] = [
@@ -39,14 +18,8 @@ const REQUEST_AND_REPLY: [(Step, Told); 6] = [
     (Read(2), NoHandle),
 ];
 
-#[test]
-fn a_run_answers_the_bytes_to_be_sent(rt: HostRuntime) {
-    let came = outcomes::<Log>(&rt, rt.alloc(), 0, &REQUEST_AND_REPLY);
-    assert_eq!(rt; sent_at(&came, 0), REQUEST.as_slice());
-}
-
 /// Numbers and handles: what is done, and the script with its port.
-const SCRIPTS: [(&str, u32, &[(Step, Told)]); 3] = [
+pub const SCRIPTS: [Script; 3] = [
     ("a request and its reply", 0, &REQUEST_AND_REPLY),
     (
         "numbers wrap, and one in use is refused",
@@ -93,9 +66,69 @@ const SCRIPTS: [(&str, u32, &[(Step, Told)]); 3] = [
     ),
 ];
 
+/// Requests: a script, at which place of it which bytes are to be sent, and what these are as a message.
+const WRITTEN: [(&str, &[(Step, Told)], usize, &str, Told); 5] = [
+    (
+        // Type 1024, REQUEST, the body `61 62 63 64 65` and three bytes of padding. The length states the padding too.
+        "a request is padded, and its length states that",
+        &REQUEST_AND_REPLY,
+        0,
+        "180000000004010000000000000000006162636465000000",
+        Message(1024, 0, 8),
+    ),
+    // The others were recorded: a program built them byte by byte.
+    (
+        "IPv4 addresses of a link",
+        &[
+            (Next(1179), Done),
+            (Send(22, 0x300, "0200000003000000"), Sent(1179, 0)),
+        ],
+        1,
+        "18000000160001039b040000000000000200000003000000",
+        Message(22, 1179, 8),
+    ),
+    (
+        "a link set up",
+        &[
+            (Next(1054), Done),
+            (
+                Send(19, 4, "00000000030000000100000001000000"),
+                Sent(1054, 0),
+            ),
+        ],
+        1,
+        "20000000130005001e0400000000000000000000030000000100000001000000",
+        Message(19, 1054, 16),
+    ),
+    (
+        "an unknown type",
+        &[
+            (Next(1001), Done),
+            (Send(100, 4, "00000000"), Sent(1001, 0)),
+        ],
+        1,
+        "1400000064000500e90300000000000000000000",
+        Message(100, 1001, 4),
+    ),
+    (
+        "no operation",
+        &[(Next(1109), Done), (Send(1, 4, ""), Sent(1109, 0))],
+        1,
+        "10000000010005005504000000000000",
+        Message(1, 1109, 0),
+    ),
+];
+
 #[test]
-fn each_request_has_its_number(rt: HostRuntime) {
-    for (row, port, steps) in SCRIPTS {
-        play(&rt, rt.alloc(), row, port, steps);
+fn requests_are_written_as_they_were_recorded(rt: HostRuntime) {
+    let alloc = rt.alloc();
+    for (row, steps, at, text, told) in WRITTEN {
+        let want = bytes_of(alloc, text).expect(&rt, "memory");
+        let of_run = outcomes::<Log>(alloc, 0, steps).expect(&rt, "memory");
+        assert_is_at(&rt, row, sent_at(&of_run, at), want.as_slice());
+        let of_calls = called::<Queues>(alloc, 0, steps).expect(&rt, "memory");
+        assert_is_at(&rt, row, sent_at(&of_calls, at), want.as_slice());
+        let read = Raw::from_bytes(alloc, &mut Cursor::new(&want)).expect(&rt, "a message");
+        assert_is_at(&rt, row, message(&read), told);
     }
 }

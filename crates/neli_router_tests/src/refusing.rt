@@ -3,16 +3,14 @@
 ghost use Rattle.neli.specs.queues.Queues.{kept_port, pending_of};
 
 use crate::entries::ONE;
-use crate::script::bytes_of;
+use crate::script::{Step, Told, outcomes};
 use neli::consts::nl::NlType;
 use neli::err::{NoMemory, RouterError, SocketError};
 use neli::nl::Nlmsghdr;
-use neli::router::synchronous::{Command, Deliveries, Queues, run};
-use neli::types::Buffer;
+use neli::router::synchronous::{Deliveries, Queues};
 use neli::utils::Groups;
 use neli::{FromBytesWithInput, Size};
 use std::alloc::Global;
-use std::process::Abort;
 
 /// Plain lists that no datagram comes to: memory runs out at each that is not empty.
 #[derive(Drop)]
@@ -73,17 +71,12 @@ impl Deliveries for Refusing {
 }
 
 /// Whether a run over that store takes in a datagram, in hexadecimal, that came to group 1.
-fn takes_in(rt: &impl Abort, alloc: Global, text: &str) -> bool {
-    let groups = Groups::new_bitmask(alloc, 1).expect(rt, "memory");
-    let mut commands = Vec::new(alloc);
-    commands
-        .push(Command::Datagram(bytes_of(rt, alloc, text), groups))
-        .expect(rt, "memory");
-    run::<Refusing, u16, Buffer, u16, Buffer>(alloc, 0, commands).is_ok()
+fn takes_in(alloc: Global, text: &'static str) -> bool {
+    outcomes::<Refusing>(alloc, 0, &[(Step::Come(text, 1), Told::Done)]).is_ok()
 }
 
 #[test]
 fn a_run_is_refused_where_the_store_has_no_memory(rt: HostRuntime) {
-    assert!(rt; !takes_in(&rt, rt.alloc(), ONE));
-    assert!(rt; takes_in(&rt, rt.alloc(), ""));
+    assert!(rt; !takes_in(rt.alloc(), ONE));
+    assert!(rt; takes_in(rt.alloc(), ""));
 }

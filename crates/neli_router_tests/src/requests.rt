@@ -1,15 +1,16 @@
 //! Requests to the controller of generic netlink, and what comes of its answers.
 
-use crate::handles::send;
+use crate::many::send;
 use crate::script::bytes_of;
+use crate::support::assert_is_at;
 use neli::consts::genl::{CtrlAttr, CtrlCmd};
 use neli::consts::nl::GenlId;
 use neli::err::RouterError;
 use neli::genl::Genlmsghdr;
 use neli::nl::NlPayload;
 use neli::router::synchronous::{
-    CtrlError, CtrlItem, Deliveries, HandleState, Log, NlRouter, NlRouterReceiverHandle, Queues,
-    Reply, resolve_genl_family,
+    CtrlItem, Deliveries, HandleState, Log, NlRouter, NlRouterReceiverHandle, Queues, Reply,
+    resolve_genl_family,
 };
 use neli::utils::Groups;
 use std::alloc::Global;
@@ -20,9 +21,6 @@ type Ctrl = Genlmsghdr<CtrlCmd, CtrlAttr>;
 
 /// A handle for what the controller answers.
 type Handle = NlRouterReceiverHandle<GenlId, Ctrl>;
-
-/// What comes of a request: bytes to be sent and a handle, or a refusal.
-type Asked = Result<(Vec<u8>, Handle), CtrlError>;
 
 /// The first request of a router with port 0 for the family `nlctrl`.
 const FAMILY: [u8; 32] = [
@@ -45,34 +43,124 @@ const LONG: [u8; 26] = [
 /// The last bytes of that request: of the name, its zero byte and one of padding.
 const LONG_END: [u8; 4] = [0x61, 0x61, 0, 0];
 
-/// The bytes from one place to another; none where they are not all there.
-fn part(bytes: &[u8], from: usize, to: usize) -> &[u8] {
-    bytes.get(from..to).unwrap_or(&[])
+/// The first request of a router with port 0 that has type 16 and no body.
+const EMPTY: [u8; 16] = [0x10, 0, 0, 0, 0x10, 0, 1, 0, 0, 0, 0, 0, 0, 0, 0, 0];
+
+/// The number of the family `nlctrl` in an answer of the controller.
+const NUMBER: &str = "1c000000100000000000000000000000010200000600010010000000";
+
+/// The acknowledgement of the request.
+const ACK: &str = "240000000200000100000000000000000000000020000000100005000000000000000000";
+
+/// Both, one after the other.
+const BOTH: &str = "1c000000100000000000000000000000010200000600010010000000\
+    240000000200000100000000000000000000000020000000100005000000000000000000";
+
+/// The families 16 and 17, and the end of the dump.
+const DUMP: &str = "1c000000100002000000000000000000010200000600010010000000\
+    1c000000100002000000000000000000010200000600010011000000\
+    1400000003000200000000000000000000000000";
+
+/// What is asked.
+#[derive(Clone, Copy)]
+enum Asked {
+    /// For the family `nlctrl`.
+    Family,
+    /// For all families.
+    Families,
+    /// For answers that are meant to be bytes. The handle is then retyped.
+    Bytes,
 }
 
-/// A name of so many bytes.
-fn name_of(rt: &impl Abort, alloc: Global, count: usize) -> String {
-    let mut name = String::new(alloc);
-    for _ in 0..count {
-        name.push_str("a").expect(rt, "memory");
-    }
-    name
+/// A request and its answers.
+struct Exchange {
+    name: &'static str,
+    asked: Asked,
+    /// The request, and whether an acknowledgement is asked for.
+    bytes: &'static [u8],
+    needs_ack: bool,
+    datagrams: &'static [&'static str],
+    /// How many items the answers are, and whether the last has a body, and whether it is an acknowledgement. The
+    /// first has a body.
+    count: usize,
+    last: (bool, bool),
+    /// A family, and the number that is found for it.
+    family: &'static str,
+    number: u16,
 }
 
-/// Asserts that a request is refused with this text.
-fn assert_refused(rt: &impl Abort, alloc: Global, asked: Asked, want: &str) {
+/// Requests to a new router.
+const EXCHANGES: [Exchange; 4] = [
+    Exchange {
+        name: "a family is found by its name",
+        asked: Asked::Family,
+        bytes: &FAMILY,
+        needs_ack: true,
+        datagrams: &[NUMBER, ACK],
+        count: 2,
+        last: (false, true),
+        family: "nlctrl",
+        number: 16,
+    },
+    Exchange {
+        name: "a family is found in one datagram",
+        asked: Asked::Family,
+        bytes: &FAMILY,
+        needs_ack: true,
+        datagrams: &[BOTH],
+        count: 2,
+        last: (false, true),
+        family: "nlctrl",
+        number: 16,
+    },
+    Exchange {
+        name: "a retyped handle reads its answers typed",
+        asked: Asked::Bytes,
+        bytes: &EMPTY,
+        needs_ack: false,
+        datagrams: &[NUMBER],
+        count: 1,
+        last: (true, false),
+        family: "nlctrl",
+        number: 16,
+    },
+    Exchange {
+        name: "all families come as a dump",
+        asked: Asked::Families,
+        bytes: &FAMILIES,
+        needs_ack: false,
+        datagrams: &[DUMP],
+        count: 3,
+        last: (false, false),
+        family: "the last",
+        number: 17,
+    },
+];
+
+/// Sends a request, and gives its bytes and its handle.
+fn request<D: Deliveries>(
+    rt: &impl Abort,
+    alloc: Global,
+    router: &mut NlRouter<D>,
+    asked: Asked,
+) -> (Vec<u8>, Handle) {
     match asked {
-        Ok(_) => rt.panic("no refusal"),
-        Err(error) => {
-            let text = error.to_string(alloc).expect(rt, "memory");
-            assert_eq!(rt; text.as_str(), want);
+        Asked::Family => router
+            .request_genl_family(alloc, "nlctrl")
+            .expect(rt, "bytes to be sent"),
+        Asked::Families => router
+            .request_families(alloc)
+            .expect(rt, "bytes to be sent"),
+        Asked::Bytes => {
+            let (bytes, handle) = send(rt, alloc, router);
+            (bytes, handle.retyped())
         }
     }
 }
 
 /// Hands in a datagram, in hexadecimal, that came to no group.
 fn come<D: Deliveries>(rt: &impl Abort, alloc: Global, router: &mut NlRouter<D>, text: &str) {
-    let bytes = bytes_of(rt, alloc, text);
+    let bytes = bytes_of(alloc, text).expect(rt, "memory");
     router
         .processing_loop(&bytes, &Groups::empty(alloc))
         .expect(rt, "memory");
@@ -99,52 +187,86 @@ fn items<D: Deliveries>(
     rt.panic("too many items")
 }
 
-/// Whether an item is a message with a body.
-fn has_body(item: &CtrlItem) -> bool {
+/// Whether an item is a message with a body, and whether it is an acknowledgement.
+fn kind(item: Option<&CtrlItem>) -> (bool, bool) {
     match item {
-        Ok(message) => message.get_payload().is_some(),
-        Err(_) => false,
+        Some(Ok(message)) => (
+            message.get_payload().is_some(),
+            matches!(message.nl_payload(), NlPayload::Ack(_)),
+        ),
+        _ => (false, false),
     }
 }
 
-/// Whether an item is an acknowledgement.
-fn is_ack(item: &CtrlItem) -> bool {
-    match item {
-        Ok(message) => matches!(message.nl_payload(), NlPayload::Ack(_)),
-        Err(_) => false,
-    }
+/// Asserts that these are the items of an exchange, and that its number is found in them.
+fn assert_found(rt: &impl Abort, alloc: Global, row: &Exchange, list: Vec<CtrlItem>) {
+    assert_is_at(rt, row.name, list.len(), row.count);
+    assert_is_at(rt, row.name, kind(list.first()), (true, false));
+    assert_is_at(rt, row.name, kind(list.last()), row.last);
+    let found = resolve_genl_family(alloc, row.family, list).expect(rt, "a number");
+    assert_is_at(rt, row.name, found, row.number);
 }
 
-/// Asks for the family `nlctrl`, which the kernel is to acknowledge, and in another router for all families.
-fn ask<D: Deliveries + Drop>(rt: &impl Abort, alloc: Global) {
+/// Sends a request to a new router, hands in the datagrams that answer it, and reads these.
+fn play<D: Deliveries + Drop>(rt: &impl Abort, alloc: Global, row: &Exchange) {
     let (mut router, _multicast) = NlRouter::<D>::new(alloc, 0);
-    let (bytes, handle) = router
-        .request_genl_family(alloc, "nlctrl")
-        .expect(rt, "bytes to be sent");
-    assert_eq!(rt; bytes.as_slice(), FAMILY.as_slice());
-    let asking = HandleState {
+    let (bytes, mut handle) = request(rt, alloc, &mut router, row.asked);
+    assert_is_at(rt, row.name, bytes.as_slice(), row.bytes);
+    let state = HandleState {
         number: Some(0),
-        needs_ack: true,
+        needs_ack: row.needs_ack,
         single_given: false,
         ended: false,
     };
-    assert_eq!(rt; handle.state(), asking);
-    let (mut router, _multicast) = NlRouter::<D>::new(alloc, 0);
-    let (bytes, handle) = router
-        .request_families(alloc)
-        .expect(rt, "bytes to be sent");
-    assert_eq!(rt; bytes.as_slice(), FAMILIES.as_slice());
-    let dumping = HandleState {
-        needs_ack: false,
-        ..asking
-    };
-    assert_eq!(rt; handle.state(), dumping);
+    assert_is_at(rt, row.name, handle.state(), state);
+    for text in row.datagrams {
+        come(rt, alloc, &mut router, text);
+    }
+    let list = items(rt, alloc, &mut router, &mut handle);
+    assert_found(rt, alloc, row, list);
 }
 
 #[test]
-fn requests_are_these_bytes(rt: HostRuntime) {
-    ask::<Queues>(&rt, rt.alloc());
-    ask::<Log>(&rt, rt.alloc());
+fn requests_are_answered(rt: HostRuntime) {
+    for row in &EXCHANGES {
+        play::<Queues>(&rt, rt.alloc(), row);
+        play::<Log>(&rt, rt.alloc(), row);
+    }
+}
+
+/// The bytes from one place to another; none where they are not all there.
+fn part(bytes: &[u8], from: usize, to: usize) -> &[u8] {
+    bytes.get(from..to).unwrap_or(&[])
+}
+
+/// A name of so many bytes.
+fn name_of(rt: &impl Abort, alloc: Global, count: usize) -> String {
+    let mut name = String::new(alloc);
+    for _ in 0..count {
+        name.push_str("a").expect(rt, "memory");
+    }
+    name
+}
+
+/// Asserts that a request for a family, or for all families, is refused with this text.
+fn assert_refused(
+    rt: &impl Abort,
+    alloc: Global,
+    router: &mut NlRouter<Queues>,
+    family: Option<&str>,
+    want: &str,
+) {
+    let asked = match family {
+        Some(name) => router.request_genl_family(alloc, name),
+        None => router.request_families(alloc),
+    };
+    match asked {
+        Ok(_) => rt.panic("no refusal"),
+        Err(error) => {
+            let text = error.to_string(alloc).expect(rt, "memory");
+            assert_is_at(rt, want, text.as_str(), want);
+        }
+    }
 }
 
 #[test]
@@ -152,118 +274,42 @@ fn a_name_that_does_not_fit_its_attribute_is_refused(rt: HostRuntime) {
     let alloc = rt.alloc();
     let (mut router, _multicast) = NlRouter::<Queues>::new(alloc, 0);
     let name = name_of(&rt, alloc, 65531);
-    let asked = router.request_genl_family(alloc, &name);
-    assert_refused(&rt, alloc, asked, "Length does not fit its field");
+    assert_refused(
+        &rt,
+        alloc,
+        &mut router,
+        Some(&name),
+        "Length does not fit its field",
+    );
     let name = name_of(&rt, alloc, 65530);
     let (bytes, handle) = router
         .request_genl_family(alloc, &name)
         .expect(&rt, "bytes to be sent");
-    assert_eq!(rt; handle.state().number, Some(0));
-    assert_eq!(rt; bytes.len(), 65556);
-    assert_eq!(rt; part(&bytes, 0, 26), LONG.as_slice());
-    assert_eq!(rt; part(&bytes, 65552, 65556), LONG_END.as_slice());
+    assert_is_at(&rt, "number", handle.state().number, Some(0));
+    assert_is_at(&rt, "length", bytes.len(), 65556);
+    assert_is_at(&rt, "front", part(&bytes, 0, 26), LONG.as_slice());
+    assert_is_at(&rt, "end", part(&bytes, 65552, 65556), LONG_END.as_slice());
 }
 
 #[test]
 fn a_number_in_use_is_refused_before_a_name(rt: HostRuntime) {
     let alloc = rt.alloc();
     let (mut router, _multicast) = NlRouter::<Queues>::new(alloc, 0);
-    let (_bytes, handle) = router
-        .request_families(alloc)
-        .expect(&rt, "bytes to be sent");
+    let (_bytes, handle) = request(&rt, alloc, &mut router, Asked::Families);
     router.set_next_seq(0);
     let name = name_of(&rt, alloc, 65531);
-    for text in ["nlctrl", name.as_str()] {
-        let asked = router.request_genl_family(alloc, text);
-        assert_refused(&rt, alloc, asked, "Sequence number 0 is in use");
+    for family in [Some("nlctrl"), Some(name.as_str()), None] {
+        assert_refused(
+            &rt,
+            alloc,
+            &mut router,
+            family,
+            "Sequence number 0 is in use",
+        );
     }
-    let asked = router.request_families(alloc);
-    assert_refused(&rt, alloc, asked, "Sequence number 0 is in use");
     router.close(handle);
-    let (bytes, _handle) = router
-        .request_genl_family(alloc, "nlctrl")
-        .expect(&rt, "bytes to be sent");
-    assert_eq!(rt; bytes.as_slice(), FAMILY.as_slice());
-}
-
-/// The number of the family `nlctrl` in an answer of the controller.
-const NUMBER: &str = "1c000000100000000000000000000000010200000600010010000000";
-
-/// The acknowledgement of the request.
-const ACK: &str = "240000000200000100000000000000000000000020000000100005000000000000000000";
-
-/// Asks for the family `nlctrl`, which these datagrams answer: its number, and an acknowledgement.
-fn find<D: Deliveries + Drop>(rt: &impl Abort, alloc: Global, datagrams: &[&str]) {
-    let (mut router, _multicast) = NlRouter::<D>::new(alloc, 0);
-    let (_bytes, mut handle) = router
-        .request_genl_family(alloc, "nlctrl")
-        .expect(rt, "bytes to be sent");
-    for text in datagrams {
-        come(rt, alloc, &mut router, text);
-    }
-    let list = items(rt, alloc, &mut router, &mut handle);
-    assert_eq!(rt; list.len(), 2);
-    assert_eq!(rt; list.first().is_some_and(has_body), true);
-    assert_eq!(rt; list.last().is_some_and(is_ack), true);
-    let found = resolve_genl_family(alloc, "nlctrl", list);
-    assert_eq!(rt; found.expect(rt, "a number"), 16);
-}
-
-#[test]
-fn a_family_is_found_by_its_name(rt: HostRuntime) {
-    find::<Queues>(&rt, rt.alloc(), &[NUMBER, ACK]);
-    find::<Log>(&rt, rt.alloc(), &[NUMBER, ACK]);
-}
-
-#[test]
-fn a_family_is_found_in_one_datagram(rt: HostRuntime) {
-    let alloc = rt.alloc();
-    let both = format!(in alloc; "{NUMBER}{ACK}").expect(&rt, "memory");
-    assert_eq!(rt; both.len(), 128);
-    find::<Queues>(&rt, alloc, &[&both]);
-    find::<Log>(&rt, alloc, &[&both]);
-}
-
-/// Sends a request whose answers are meant to be bytes, and reads its answer as the controller's.
-fn retype<D: Deliveries + Drop>(rt: &impl Abort, alloc: Global) {
-    let (mut router, _multicast) = NlRouter::<D>::new(alloc, 0);
-    let of_bytes = send(rt, alloc, &mut router);
-    let state = of_bytes.state();
-    come(rt, alloc, &mut router, NUMBER);
-    let mut handle: Handle = of_bytes.retyped();
-    assert_eq!(rt; handle.state(), state);
-    let list = items(rt, alloc, &mut router, &mut handle);
-    assert_eq!(rt; list.len(), 1);
-    let found = resolve_genl_family(alloc, "nlctrl", list);
-    assert_eq!(rt; found.expect(rt, "a number"), 16);
-}
-
-#[test]
-fn a_retyped_handle_reads_its_answers_typed(rt: HostRuntime) {
-    retype::<Queues>(&rt, rt.alloc());
-    retype::<Log>(&rt, rt.alloc());
-}
-
-/// Asks for all families, which a datagram answers: the families 16 and 17, and the end of the dump.
-fn dump<D: Deliveries + Drop>(rt: &impl Abort, alloc: Global) {
-    let (mut router, _multicast) = NlRouter::<D>::new(alloc, 0);
-    let (_bytes, mut handle) = router
-        .request_families(alloc)
-        .expect(rt, "bytes to be sent");
-    let dump = "1c000000100002000000000000000000010200000600010010000000\
-        1c000000100002000000000000000000010200000600010011000000\
-        1400000003000200000000000000000000000000";
-    come(rt, alloc, &mut router, dump);
-    let list = items(rt, alloc, &mut router, &mut handle);
-    assert_eq!(rt; list.len(), 3);
-    let found = resolve_genl_family(alloc, "the last", list);
-    assert_eq!(rt; found.expect(rt, "a number"), 17);
-}
-
-#[test]
-fn all_families_come_as_a_dump(rt: HostRuntime) {
-    dump::<Queues>(&rt, rt.alloc());
-    dump::<Log>(&rt, rt.alloc());
+    let (bytes, _handle) = request(&rt, alloc, &mut router, Asked::Family);
+    assert_is_at(&rt, "family", bytes.as_slice(), FAMILY.as_slice());
 }
 
 /// Any one allocation may be refused in this test (`rt try --test --fail-alloc N`): then the number
@@ -277,5 +323,5 @@ fn asked_again_where_memory_ran_out(rt: HostRuntime) {
         asked => asked,
     };
     let (bytes, _handle) = asked.expect(&rt, "bytes to be sent");
-    assert_eq!(rt; bytes.as_slice(), FAMILY.as_slice());
+    assert_is_at(&rt, "family", bytes.as_slice(), FAMILY.as_slice());
 }

@@ -1,11 +1,37 @@
-//! Lists of one item, and of several.
+//! Lists of answers of the controller, and what the resolvers find in them.
+//!
+//! The messages lie as `struct nlmsghdr` and `struct nlattr` of linux/netlink.h and
+//! `struct genlmsghdr` of linux/genetlink.h say. Expected values are worked out by hand from these.
 
-use crate::controller::{
-    ACK, Cause, NLCTRL, NUMBER, assert_is, assert_is_at, assert_refused, items,
-};
-use neli::err::RouterError;
-use neli::router::synchronous::{lookup_id, resolve_genl_family, resolve_nl_mcast_group};
-use std::test::Fail;
+use crate::controller::Cause::{DeInput, DeMsg, Found, Msg, NoAck};
+use crate::controller::Lookup::{Family, Group, Names};
+use crate::controller::{Cause, Lookup, answer, items};
+use crate::support::assert_is_at;
+use neli::router::synchronous::resolve_genl_family;
+
+/// The controller's answer for the family `nlctrl`: its number is 16, and its group 1 is `notify`, with
+/// the number 5.
+pub const NLCTRL: [u8; 68] = [
+    0x44, 0, 0, 0, 0x10, 0, 0, 0, 0, 0, 0, 0, 0, 0, 0, 0, // the header: 68 bytes, type 16
+    1, 2, 0, 0, // a new family, version 2
+    0x0b, 0, 2, 0, 0x6e, 0x6c, 0x63, 0x74, 0x72, 0x6c, 0, 0, // FamilyName "nlctrl"
+    6, 0, 1, 0, 0x10, 0, 0, 0, // FamilyId 16
+    0x1c, 0, 7, 0x80, // McastGroups
+    0x18, 0, 1, 0x80, // its group 1
+    0x0b, 0, 1, 0, 0x6e, 0x6f, 0x74, 0x69, 0x66, 0x79, 0, 0, // Name "notify"
+    8, 0, 2, 0, 5, 0, 0, 0, // Id 5
+];
+
+/// An answer with the number 16 alone.
+pub const NUMBER: [u8; 28] = [
+    0x1c, 0, 0, 0, 0x10, 0, 0, 0, 0, 0, 0, 0, 0, 0, 0, 0, 1, 2, 0, 0, 6, 0, 1, 0, 0x10, 0, 0, 0,
+];
+
+/// An acknowledgement.
+pub const ACK: [u8; 36] = [
+    0x24, 0, 0, 0, 2, 0, 0, 1, 0, 0, 0, 0, 0, 0, 0, 0, 0, 0, 0, 0, 0x20, 0, 0, 0, 0x10, 0, 5, 0, 0,
+    0, 0, 0, 0, 0, 0, 0,
+];
 
 /// An answer with the number 17 alone.
 const OTHER_NUMBER: [u8; 28] = [
@@ -38,106 +64,232 @@ const NAMELESS: [u8; 44] = [
     8, 0, 2, 0, 5, 0, 0, 0, // Id 5
 ];
 
-#[test]
-fn one_answer_tells_a_group_and_its_names(rt: HostRuntime) -> Result<(), Fail> {
-    let alloc = rt.alloc();
-    let found = resolve_nl_mcast_group(alloc, "nlctrl", "notify", items(alloc, &[&NLCTRL])?)?;
-    assert_is(&rt, found, 5);
-    let (family, group) = lookup_id(alloc, 5, items(alloc, &[&NLCTRL])?)?;
-    assert_is(&rt, family.as_str(), "nlctrl");
-    assert_is(&rt, group.as_str(), "notify");
-    Ok(())
-}
-
-#[test]
-fn the_last_number_of_a_family_wins(rt: HostRuntime) -> Result<(), Fail> {
-    let alloc = rt.alloc();
-    let rows: [(&[&[u8]], u16); 3] = [
-        (&[&NLCTRL, &OTHER_NUMBER], 17),
-        (&[&OTHER_NUMBER, &ACK, &NUMBER], 16),
-        (&[&OTHER_NUMBER, &OTHER_NAMES], 17),
-    ];
-    for (frames, want) in rows {
-        assert_is(
-            &rt,
-            resolve_genl_family(alloc, "nlctrl", items(alloc, frames)?)?,
-            want,
-        );
-    }
-    Ok(())
-}
-
-#[test]
-fn the_first_match_of_the_last_message_wins(rt: HostRuntime) -> Result<(), Fail> {
-    let alloc = rt.alloc();
-    let rows: [(&[&[u8]], &str, u32); 4] = [
-        (&[&THREE_GROUPS], "b", 5),
-        (&[&NLCTRL, &THREE_GROUPS], "notify", 5),
-        (&[&THREE_GROUPS, &ACK, &NLCTRL], "b", 5),
-        (&[&OTHER_NAMES, &NAMELESS], "b", 5),
-    ];
-    for (frames, name, want) in rows {
-        let found = resolve_nl_mcast_group(alloc, "a", name, items(alloc, frames)?)?;
-        assert_is_at(&rt, name, found, want);
-    }
-    Ok(())
-}
-
-#[test]
-fn the_last_names_win(rt: HostRuntime) -> Result<(), Fail> {
-    let alloc = rt.alloc();
-    let (family, group) = lookup_id(alloc, 5, items(alloc, &[&NLCTRL, &ACK, &OTHER_NAMES])?)?;
-    assert_is(&rt, family.as_str(), "a");
-    assert_is(&rt, group.as_str(), "b");
-    let (family, group) = lookup_id(alloc, 5, items(alloc, &[&OTHER_NAMES, &NLCTRL])?)?;
-    assert_is(&rt, family.as_str(), "nlctrl");
-    assert_is(&rt, group.as_str(), "notify");
-    Ok(())
-}
-
-#[test]
-fn an_error_item_is_the_answer(rt: HostRuntime) -> Result<(), Fail> {
-    let alloc = rt.alloc();
-    let mut list = items(alloc, &[&NLCTRL, &NUMBER])?;
-    list.push(Err(RouterError::NoAck))?;
-    list.push(Err(RouterError::ClosedChannel))?;
-    let outcome = resolve_nl_mcast_group(alloc, "nlctrl", "notify", list);
-    assert_refused(&rt, alloc, outcome, Cause::NoAck, "No ACK received");
-    let mut list = items(alloc, &[&NLCTRL])?;
-    list.push(Err(RouterError::NoAck))?;
-    let outcome = resolve_genl_family(alloc, "nlctrl", list);
-    assert_refused(&rt, alloc, outcome, Cause::NoAck, "No ACK received");
-    let mut list = items(alloc, &[&NLCTRL])?;
-    list.push(Err(RouterError::NoAck))?;
-    let outcome = lookup_id(alloc, 5, list);
-    assert_refused(&rt, alloc, outcome, Cause::NoAck, "No ACK received");
-    Ok(())
-}
-
-#[test]
-fn names_are_refused_with_the_first_failure(rt: HostRuntime) -> Result<(), Fail> {
-    let alloc = rt.alloc();
-    let rows: [(&[&[u8]], Cause, &str); 3] = [
+/// Lookups: in which answers and after them how many errors, what comes of it, and its text: a number, the names
+/// of a family and a group, or the error.
+const LOOKUPS: [(&str, Lookup, (&[&[u8]], usize), (Cause, &str)); 27] = [
+    (
+        "a family, by one answer",
+        Family("nlctrl"),
+        (&[&NLCTRL], 0),
+        (Found, "16"),
+    ),
+    (
+        "a group, by one answer",
+        Group("nlctrl", "notify"),
+        (&[&NLCTRL], 0),
+        (Found, "5"),
+    ),
+    (
+        "names, by one answer",
+        Names(5),
+        (&[&NLCTRL], 0),
+        (Found, "nlctrl notify"),
+    ),
+    (
+        "the last number of a family wins",
+        Family("nlctrl"),
+        (&[&NLCTRL, &OTHER_NUMBER], 0),
+        (Found, "17"),
+    ),
+    (
+        "the last number of a family wins, beside an acknowledgement",
+        Family("nlctrl"),
+        (&[&OTHER_NUMBER, &ACK, &NUMBER], 0),
+        (Found, "16"),
+    ),
+    (
+        "the last number of a family wins, before an answer without one",
+        Family("nlctrl"),
+        (&[&OTHER_NUMBER, &OTHER_NAMES], 0),
+        (Found, "17"),
+    ),
+    (
+        "the first match of a message wins",
+        Group("a", "b"),
+        (&[&THREE_GROUPS], 0),
+        (Found, "5"),
+    ),
+    (
+        "the only match wins",
+        Group("a", "notify"),
+        (&[&NLCTRL, &THREE_GROUPS], 0),
+        (Found, "5"),
+    ),
+    (
+        "the only match wins, before an acknowledgement",
+        Group("a", "b"),
+        (&[&THREE_GROUPS, &ACK, &NLCTRL], 0),
+        (Found, "5"),
+    ),
+    (
+        "a match before a group without a name",
+        Group("a", "b"),
+        (&[&OTHER_NAMES, &NAMELESS], 0),
+        (Found, "5"),
+    ),
+    (
+        "the last names win",
+        Names(5),
+        (&[&NLCTRL, &ACK, &OTHER_NAMES], 0),
+        (Found, "a b"),
+    ),
+    (
+        "the last names win, the other way round",
+        Names(5),
+        (&[&OTHER_NAMES, &NLCTRL], 0),
+        (Found, "nlctrl notify"),
+    ),
+    (
+        "the first error item is the answer, for a group",
+        Group("nlctrl", "notify"),
+        (&[&NLCTRL, &NUMBER], 2),
+        (NoAck, "No ACK received"),
+    ),
+    (
+        "an error item is the answer, for a family",
+        Family("nlctrl"),
+        (&[&NLCTRL], 1),
+        (NoAck, "No ACK received"),
+    ),
+    (
+        "an error item is the answer, for names",
+        Names(5),
+        (&[&NLCTRL], 1),
+        (NoAck, "No ACK received"),
+    ),
+    (
+        "names are refused with the first failure: a group that lists no attributes",
+        Names(5),
+        (&[&NLCTRL, &THREE_GROUPS, &NAMELESS], 1),
         (
-            &[&NLCTRL, &THREE_GROUPS, &NAMELESS],
-            Cause::DeInput(2),
+            DeInput(2),
             "Deserialization failed: Invalid input was provided: 2",
         ),
+    ),
+    (
+        "names are refused with the first failure: a group without a name",
+        Names(5),
+        (&[&NAMELESS, &THREE_GROUPS], 1),
         (
-            &[&NAMELESS, &THREE_GROUPS],
-            Cause::DeMsg,
+            DeMsg,
             "Deserialization failed: Failed to find specified attribute",
         ),
+    ),
+    (
+        "names are refused with the first failure: an answer without names",
+        Names(5),
+        (&[&NLCTRL, &NUMBER], 1),
         (
-            &[&NLCTRL, &NUMBER],
-            Cause::DeMsg,
+            DeMsg,
             "Deserialization failed: Failed to find specified attribute",
         ),
-    ];
-    for (frames, cause, want) in rows {
-        let mut list = items(alloc, frames)?;
-        list.push(Err(RouterError::NoAck))?;
-        assert_refused(&rt, alloc, lookup_id(alloc, 5, list), cause, want);
+    ),
+    (
+        "no family is told",
+        Family("nlctrl"),
+        (&[], 0),
+        (Msg, "Generic netlink family nlctrl was not found"),
+    ),
+    (
+        "no group is found: another name",
+        Group("nlctrl", "x"),
+        (&[&NLCTRL], 0),
+        (
+            Msg,
+            "Failed to resolve multicast group ID for family name nlctrl, multicast group name x",
+        ),
+    ),
+    (
+        "no group is found: the front of a name",
+        Group("nlctrl", "not"),
+        (&[&NLCTRL], 0),
+        (
+            Msg,
+            "Failed to resolve multicast group ID for family name nlctrl, multicast group name not",
+        ),
+    ),
+    (
+        "no group is found: a longer name",
+        Group("nlctrl", "notify2"),
+        (&[&NLCTRL], 0),
+        (
+            Msg,
+            "Failed to resolve multicast group ID for family name nlctrl, multicast group name notify2",
+        ),
+    ),
+    (
+        "no group is found: no name",
+        Group("nlctrl", ""),
+        (&[&NLCTRL], 0),
+        (
+            Msg,
+            "Failed to resolve multicast group ID for family name nlctrl, multicast group name ",
+        ),
+    ),
+    (
+        "no group has the number",
+        Names(6),
+        (&[&NLCTRL], 0),
+        (Msg, "ID does not correspond to a multicast group"),
+    ),
+    (
+        "an answer without groups",
+        Group("nlctrl", "notify"),
+        (&[&NUMBER, &ACK], 0),
+        (
+            DeMsg,
+            "Deserialization failed: Couldn't find specified attribute",
+        ),
+    ),
+    (
+        "an answer without groups, for another name",
+        Group("nlctrl", "x"),
+        (&[&NUMBER], 0),
+        (
+            DeMsg,
+            "Deserialization failed: Couldn't find specified attribute",
+        ),
+    ),
+    (
+        "an answer without a family's name",
+        Names(5),
+        (&[&NUMBER], 0),
+        (
+            DeMsg,
+            "Deserialization failed: Failed to find specified attribute",
+        ),
+    ),
+];
+
+#[test]
+fn lookups_are_answered(rt: HostRuntime) {
+    let alloc = rt.alloc();
+    for (row, lookup, (frames, errors), want) in LOOKUPS {
+        let list = items(alloc, frames, errors).expect(&rt, "messages");
+        let (cause, text) = answer(alloc, lookup, list).expect(&rt, "memory");
+        assert_is_at(&rt, row, (cause, text.as_str()), want);
     }
-    Ok(())
+}
+
+// Any one allocation may be refused in the following tests (`rt try --test --fail-alloc N`).
+
+#[test]
+fn lookups_or_out_of_memory(rt: HostRuntime) {
+    let alloc = rt.alloc();
+    for (row, lookup, (frames, errors), want) in LOOKUPS {
+        if let Ok(list) = items(alloc, frames, errors) {
+            if let Ok((cause, text)) = answer(alloc, lookup, list) {
+                assert_is_at(&rt, row, (cause, text.as_str()), want);
+            }
+        }
+    }
+}
+
+#[test]
+fn a_family_takes_no_memory_where_it_is_found(rt: HostRuntime) {
+    let alloc = rt.alloc();
+    if let Ok(list) = items(alloc, &[&NLCTRL], 0) {
+        let found = resolve_genl_family(alloc, "nlctrl", list).ok();
+        assert_is_at(&rt, "nlctrl", found, Some(16));
+    }
 }

@@ -1,8 +1,10 @@
 //! Scripts: steps and what each of them answers, by a run and by calls.
 
 use crate::steps::called;
+use crate::support::assert_is_at;
+use crate::{answers, conversations, datagrams, faults, numbers};
 use neli::consts::nl::NlmF;
-use neli::err::{DeError, RouterError, SocketError};
+use neli::err::{DeError, NoMemory, RouterError, SocketError};
 use neli::nl::{NlPayload, Nlmsghdr};
 use neli::router::synchronous::{Command, Deliveries, Log, Outcome, Queues, run};
 use neli::types::Buffer;
@@ -12,7 +14,7 @@ use std::io::ErrorKind;
 use std::process::Abort;
 
 /// What is done.
-#[derive(Clone, Copy, Debug)]
+#[derive(Clone, Copy)]
 pub enum Step {
     /// The number of the next request is set.
     Next(u32),
@@ -60,6 +62,9 @@ pub enum Told {
     Other,
 }
 
+/// A script: its name, the port of the router, and steps with what each of them answers.
+pub type Script = (&'static str, u32, &'static [(Step, Told)]);
+
 /// A message that no type is given to.
 pub type Raw = Nlmsghdr<u16, Buffer>;
 
@@ -70,7 +75,7 @@ pub type Refusal = RouterError<u16, Buffer>;
 pub type Came = Outcome<u16, Buffer, u16, Buffer>;
 
 /// What a message is.
-fn message(message: &Raw) -> Told {
+pub fn message(message: &Raw) -> Told {
     match message.nl_payload() {
         NlPayload::Payload(body) => Told::Message(
             *message.nl_type(),
@@ -156,7 +161,7 @@ fn are_alike(rt: &impl Abort, alloc: Global, a: &Came, b: &Came) -> bool {
 
 /// Asserts that the outcomes of two runs are equal, one by one.
 pub fn assert_alike(rt: &impl Abort, alloc: Global, row: &str, plain: &[Came], shared: &[Came]) {
-    assert_eq!(rt; plain.len(), shared.len(), "{row}");
+    assert_is_at(rt, row, plain.len(), shared.len());
     for (place, (a, b)) in plain.iter().zip(shared).enumerate() {
         assert!(rt; are_alike(rt, alloc, a, b), "{row}, at {place}");
     }
@@ -170,76 +175,87 @@ pub fn sent_at(came: &[Came], at: usize) -> &[u8] {
     }
 }
 
-/// The bytes of a hexadecimal text.
-pub fn bytes_of(rt: &impl Abort, alloc: Global, text: &str) -> Vec<u8> {
-    hex::decode(alloc, text).expect(rt, "hexadecimal text")
+/// The bytes of a hexadecimal text. Refused where memory runs out.
+pub fn bytes_of(alloc: Global, text: &str) -> Result<Vec<u8>, NoMemory> {
+    match hex::decode(alloc, text) {
+        Ok(bytes) => Ok(bytes),
+        Err(_) => Err(NoMemory),
+    }
 }
 
-/// The command of a step.
-fn command(rt: &impl Abort, alloc: Global, step: Step) -> Command<u16, Buffer> {
-    match step {
+/// The command of a step. Refused where memory runs out.
+fn command(alloc: Global, step: Step) -> Result<Command<u16, Buffer>, NoMemory> {
+    Ok(match step {
         Step::Next(number) => Command::SetNextSeq(number),
         Step::Send(nl_type, flags, body) => {
-            let body = Buffer::from(bytes_of(rt, alloc, body));
+            let body = Buffer::from(bytes_of(alloc, body)?);
             Command::Send(nl_type, NlmF::from(flags), NlPayload::Payload(body))
         }
         Step::Come(text, mask) => {
-            let groups = Groups::new_bitmask(alloc, mask).expect(rt, "memory");
-            Command::Datagram(bytes_of(rt, alloc, text), groups)
+            let groups = Groups::new_bitmask(alloc, mask)?;
+            Command::Datagram(bytes_of(alloc, text)?, groups)
         }
         Step::Fail(kind) => Command::Fault(SocketError::Io(kind)),
         Step::Read(k) => Command::Read(k),
         Step::Close(k) => Command::Close(k),
-    }
+    })
 }
 
-/// Does these steps in their order with a new router of this port, over this store.
+/// Does these steps in their order by one run with a router of this port, over this store. Refused where memory
+/// runs out.
 pub fn outcomes<D: Deliveries + Drop>(
-    rt: &impl Abort,
     alloc: Global,
     port: u32,
     steps: &[(Step, Told)],
-) -> Vec<Came> {
+) -> Result<Vec<Came>, NoMemory> {
     let mut commands = Vec::new(alloc);
     for (step, _) in steps {
-        commands
-            .push(command(rt, alloc, *step))
-            .expect(rt, "memory");
+        commands.push(command(alloc, *step)?)?;
     }
-    run::<D, u16, Buffer, u16, Buffer>(alloc, port, commands).expect(rt, "memory")
+    run::<D, u16, Buffer, u16, Buffer>(alloc, port, commands)
 }
 
 /// Asserts that each of these outcomes is what stands beside its step.
-fn assert_told(rt: &impl Abort, row: &str, came: &[Came], steps: &[(Step, Told)]) {
-    assert_eq!(rt; came.len(), steps.len(), "{row}");
-    for (outcome, (step, want)) in came.iter().zip(steps) {
-        assert_eq!(rt; kind_of(outcome), *want, "{row}, at {step:?}");
+pub fn assert_told(rt: &impl Abort, row: &str, came: &[Came], steps: &[(Step, Told)]) {
+    assert_is_at(rt, row, came.len(), steps.len());
+    for (place, (outcome, (_, want))) in came.iter().zip(steps).enumerate() {
+        assert_is_at(rt, (row, place), kind_of(outcome), *want);
     }
 }
 
-/// Does these steps by the router's own calls over this store. Asserts that each answers what stands beside it, and
-/// that the outcomes are equal to those of a run.
-fn play_by_calls<D: Deliveries + Drop>(
-    rt: &impl Abort,
-    alloc: Global,
-    row: &str,
-    port: u32,
-    steps: &[(Step, Told)],
-    of_run: &[Came],
-) {
-    let came = called::<D>(rt, alloc, port, steps);
-    assert_told(rt, row, &came, steps);
-    assert_alike(rt, alloc, row, of_run, &came);
+/// Does the steps of a script over this store: by one run, and by the router's own calls. Asserts that each answers
+/// what stands beside it, and that both have equal outcomes, which it gives.
+fn play_over<D: Deliveries + Drop>(rt: &impl Abort, alloc: Global, script: Script) -> Vec<Came> {
+    let (row, port, steps) = script;
+    let of_run = outcomes::<D>(alloc, port, steps).expect(rt, "memory");
+    let of_calls = called::<D>(alloc, port, steps).expect(rt, "memory");
+    assert_told(rt, row, &of_run, steps);
+    assert_told(rt, row, &of_calls, steps);
+    assert_alike(rt, alloc, row, &of_run, &of_calls);
+    of_run
 }
 
-/// Does these steps with a new router of this port, over each store: by one run, and by the router's own calls.
-/// Asserts that each answers what stands beside it, and that all four have equal outcomes.
-pub fn play(rt: &impl Abort, alloc: Global, row: &str, port: u32, steps: &[(Step, Told)]) {
-    let plain = outcomes::<Queues>(rt, alloc, port, steps);
-    assert_told(rt, row, &plain, steps);
-    let shared = outcomes::<Log>(rt, alloc, port, steps);
-    assert_told(rt, row, &shared, steps);
-    assert_alike(rt, alloc, row, &plain, &shared);
-    play_by_calls::<Queues>(rt, alloc, row, port, steps, &plain);
-    play_by_calls::<Log>(rt, alloc, row, port, steps, &plain);
+/// Plays a script over each store, and asserts that the outcomes over both are equal.
+fn play(rt: &impl Abort, alloc: Global, script: Script) {
+    let plain = play_over::<Queues>(rt, alloc, script);
+    let shared = play_over::<Log>(rt, alloc, script);
+    assert_alike(rt, alloc, script.0, &plain, &shared);
+}
+
+/// The scripts.
+const TABLES: [&[Script]; 5] = [
+    &numbers::SCRIPTS,
+    &answers::SCRIPTS,
+    &datagrams::SCRIPTS,
+    &faults::SCRIPTS,
+    &conversations::SCRIPTS,
+];
+
+#[test]
+fn scripts_are_answered(rt: HostRuntime) {
+    for scripts in TABLES {
+        for script in scripts {
+            play(&rt, rt.alloc(), *script);
+        }
+    }
 }
