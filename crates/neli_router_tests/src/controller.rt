@@ -7,6 +7,7 @@ use neli::router::synchronous::{
 };
 use neli::{Cursor, FromBytes};
 use std::alloc::Global;
+use std::fmt::Display;
 
 /// What is looked up.
 #[derive(Clone, Copy)]
@@ -49,24 +50,6 @@ pub fn items(alloc: Global, frames: &[&[u8]], errors: usize) -> Result<Vec<CtrlI
     Ok(list)
 }
 
-/// What is found in these items, in words.
-fn look_up(alloc: Global, lookup: Lookup, list: Vec<CtrlItem>) -> Result<String, CtrlError> {
-    match lookup {
-        Lookup::Family(name) => {
-            let number = resolve_genl_family(alloc, name, list)?;
-            Ok(number.to_string(alloc)?)
-        }
-        Lookup::Group(family, name) => {
-            let number = resolve_nl_mcast_group(alloc, family, name, list)?;
-            Ok(number.to_string(alloc)?)
-        }
-        Lookup::Names(number) => {
-            let (family, group) = lookup_id(alloc, number, list)?;
-            Ok(format!(in alloc; "{family} {group}")?)
-        }
-    }
-}
-
 /// The cause of a resolver's error.
 fn cause_of(error: &CtrlError) -> Cause {
     match error {
@@ -78,6 +61,26 @@ fn cause_of(error: &CtrlError) -> Cause {
     }
 }
 
+/// The names of a family and of its group, in words.
+fn names(alloc: Global, number: u32, list: Vec<CtrlItem>) -> Result<String, CtrlError> {
+    let (family, group) = lookup_id(alloc, number, list)?;
+    Ok(format!(in alloc; "{family} {group}")?)
+}
+
+/// An outcome, and the text of what is found or of the error.
+///
+/// Refused only where memory runs out.
+fn said<T: Display + Drop>(
+    alloc: Global,
+    outcome: Result<T, CtrlError>,
+) -> Result<(Cause, String), NoMemory> {
+    match outcome {
+        Ok(found) => Ok((Cause::Found, found.to_string(alloc)?)),
+        Err(RouterError::Memory) => Err(NoMemory),
+        Err(error) => Ok((cause_of(&error), error.to_string(alloc)?)),
+    }
+}
+
 /// What comes of a lookup in these items, and the text of what is found or of the error.
 ///
 /// Refused only where memory runs out.
@@ -86,9 +89,11 @@ pub fn answer(
     lookup: Lookup,
     list: Vec<CtrlItem>,
 ) -> Result<(Cause, String), NoMemory> {
-    match look_up(alloc, lookup, list) {
-        Ok(found) => Ok((Cause::Found, found)),
-        Err(RouterError::Memory) => Err(NoMemory),
-        Err(error) => Ok((cause_of(&error), error.to_string(alloc)?)),
+    match lookup {
+        Lookup::Family(name) => said(alloc, resolve_genl_family(alloc, name, list)),
+        Lookup::Group(family, name) => {
+            said(alloc, resolve_nl_mcast_group(alloc, family, name, list))
+        }
+        Lookup::Names(number) => said(alloc, names(alloc, number, list)),
     }
 }

@@ -53,7 +53,7 @@ fn play_in_turn<D: Deliveries + Drop>(
         .push(Some(multicast.retyped()))
         .expect(rt, "memory");
     for steps in parts {
-        let came = asker.steps(alloc, steps).expect(rt, "memory");
+        let came = asker.steps(rt, alloc, steps);
         assert_told(rt, row, &came, steps);
         assert_is_at(rt, row, asker.router.pid(), 7);
         swap(&mut asker.router, &mut other);
@@ -62,7 +62,7 @@ fn play_in_turn<D: Deliveries + Drop>(
 
 #[test]
 fn a_handle_belongs_to_its_router(rt: HostRuntime) {
-    for (row, parts) in SCRIPTS {
+    for (row, parts) in &SCRIPTS {
         play_in_turn::<Queues>(&rt, rt.alloc(), row, parts);
         play_in_turn::<Log>(&rt, rt.alloc(), row, parts);
     }

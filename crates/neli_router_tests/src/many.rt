@@ -1,13 +1,9 @@
 //! Many requests at once: each reply in a datagram of its own, and each handle reads its own.
 
-use crate::script::{Refusal, Told, item};
-use crate::steps::Handle;
+use crate::script::{Told, kind_of};
+use crate::steps::Asker;
 use crate::support::assert_is_at;
-use neli::consts::nl::NlmF;
-use neli::nl::NlPayload;
-use neli::router::synchronous::{Deliveries, Log, NlRouter, NlRouterReceiverHandle, Queues, Reply};
-use neli::types::Buffer;
-use neli::utils::Groups;
+use neli::router::synchronous::{Deliveries, Log, Queues};
 use std::alloc::Global;
 use std::process::Abort;
 
@@ -17,67 +13,36 @@ fn reply(number: u32) -> [u8; 16] {
     [16, 0, 0, 0, 16, 0, 0, 0, a, b, c, d, 0, 0, 0, 0]
 }
 
-/// Sends an empty request of type 16, and gives its bytes and its handle.
-pub fn send<D: Deliveries>(
-    rt: &impl Abort,
-    alloc: Global,
-    router: &mut NlRouter<D>,
-) -> (Vec<u8>, Handle) {
-    let sent: Result<(Vec<u8>, Handle), Refusal> = router.send(
-        alloc,
-        16u16,
-        NlmF::empty(),
-        NlPayload::Payload(Buffer::new(alloc)),
-    );
-    sent.expect(rt, "bytes to be sent")
+/// Sends an empty request of type 16.
+fn send<D: Deliveries + Drop>(rt: &impl Abort, alloc: Global, asker: &mut Asker<D>) {
+    asker.send(alloc, 16, 0, "").expect(rt, "memory");
 }
 
-/// Reads a handle's next item.
-fn read<D: Deliveries, RT, RP>(
-    rt: &impl Abort,
-    alloc: Global,
-    router: &mut NlRouter<D>,
-    handle: &mut NlRouterReceiverHandle<RT, RP>,
-) -> Told {
-    let reply = router
-        .next_typed::<u16, Buffer, _, _>(alloc, handle)
-        .expect(rt, "memory");
-    match &reply {
-        Reply::Item(found) => item(found),
-        Reply::End => Told::End,
-        Reply::Waits => Told::Waits,
-    }
+/// Hands in the reply to the request of this number.
+fn answer<D: Deliveries + Drop>(rt: &impl Abort, alloc: Global, asker: &mut Asker<D>, number: u32) {
+    asker.hand_in(alloc, &reply(number), 0).expect(rt, "memory");
+}
+
+/// Reads the handle of the request of this number, which has to give its reply.
+fn read<D: Deliveries + Drop>(rt: &impl Abort, alloc: Global, asker: &mut Asker<D>, number: u32) {
+    let k = (number as usize).wrapping_add(1);
+    assert_is_at(rt, number, asker.number(k), Some(number));
+    let came = asker.read(alloc, k).expect(rt, "memory");
+    assert_is_at(rt, number, kind_of(&came), Told::Message(16, number, 0));
 }
 
 /// Sends so many requests, hands in their replies, and reads each from its handle.
 fn round<D: Deliveries + Drop>(rt: &impl Abort, alloc: Global, count: u32) {
-    let (mut router, mut multicast) = NlRouter::<D>::new(alloc, 0);
-    let mut handles = Vec::new(alloc);
+    let mut asker = Asker::<D>::new(alloc, 0).expect(rt, "memory");
     for _ in 0..count {
-        let (_bytes, handle) = send(rt, alloc, &mut router);
-        handles.push(handle).expect(rt, "memory");
+        send(rt, alloc, &mut asker);
     }
-    let no_groups = Groups::empty(alloc);
     for number in 0..count {
-        router
-            .processing_loop(&reply(number), &no_groups)
-            .expect(rt, "memory");
+        answer(rt, alloc, &mut asker, number);
     }
-    let mut number = 0u32;
-    for handle in handles.iter_mut() {
-        assert_is_at(rt, count, handle.state().number, Some(number));
-        let told = read(rt, alloc, &mut router, handle);
-        assert_is_at(rt, count, told, Told::Message(16, number, 0));
-        number = number.wrapping_add(1);
+    for number in 0..count {
+        read(rt, alloc, &mut asker, number);
     }
-    assert_is_at(rt, count, number, count);
-    assert_is_at(
-        rt,
-        count,
-        read(rt, alloc, &mut router, &mut multicast),
-        Told::Waits,
-    );
-    router.close(multicast);
 }
 
 #[test]

@@ -2,11 +2,13 @@
 
 use crate::script::Step::{Close, Come, Next, Read, Send};
 use crate::script::Told::{Done, End, InUse, Message, NoHandle, Sent, Stray, Waits};
-use crate::script::{Raw, Script, Step, Told, bytes_of, message, outcomes, sent_at};
+use crate::script::{Came, Raw, Script, Step, Told, bytes_of, message, outcomes, sent_at};
 use crate::steps::called;
 use crate::support::assert_is_at;
 use neli::router::synchronous::{Log, Queues};
 use neli::{Cursor, FromBytes};
+use std::alloc::Global;
+use std::process::Abort;
 
 /// A request and its reply.
 const REQUEST_AND_REPLY: [(Step, Told); 6] = [
@@ -66,8 +68,17 @@ pub const SCRIPTS: [Script; 3] = [
     ),
 ];
 
-/// Requests: a script, at which place of it which bytes are to be sent, and what these are as a message.
-const WRITTEN: [(&str, &[(Step, Told)], usize, &str, Told); 5] = [
+/// A request: a script, at which place of it which bytes are to be sent, and what these are as a message.
+type Written = (
+    &'static str,
+    &'static [(Step, Told)],
+    usize,
+    &'static str,
+    Told,
+);
+
+/// Requests, in routers of port 0.
+const WRITTEN: [Written; 5] = [
     (
         // Type 1024, REQUEST, the body `61 62 63 64 65` and three bytes of padding. The length states the padding too.
         "a request is padded, and its length states that",
@@ -119,16 +130,30 @@ const WRITTEN: [(&str, &[(Step, Told)], usize, &str, Told); 5] = [
     ),
 ];
 
+/// Asserts that these bytes are to be sent by the outcome at a place.
+fn assert_sent(rt: &impl Abort, row: &str, came: &[Came], at: usize, want: &[u8]) {
+    assert_is_at(rt, row, sent_at(came, at), want);
+}
+
+/// Asserts that these bytes are this message.
+fn assert_reads(rt: &impl Abort, alloc: Global, row: &str, bytes: &[u8], want: Told) {
+    let read = Raw::from_bytes(alloc, &mut Cursor::new(bytes)).expect(rt, "a message");
+    assert_is_at(rt, row, message(&read), want);
+}
+
+/// Sends a request by a run over the log, and by calls over plain lists.
+fn write(rt: &impl Abort, alloc: Global, written: &Written) {
+    let (row, steps, at, text, told) = *written;
+    let want = bytes_of(alloc, text).expect(rt, "memory");
+    let of_run = outcomes::<Log>(alloc, 0, steps).expect(rt, "memory");
+    assert_sent(rt, row, &of_run, at, &want);
+    assert_sent(rt, row, &called::<Queues>(rt, alloc, 0, steps), at, &want);
+    assert_reads(rt, alloc, row, &want, told);
+}
+
 #[test]
 fn requests_are_written_as_they_were_recorded(rt: HostRuntime) {
-    let alloc = rt.alloc();
-    for (row, steps, at, text, told) in WRITTEN {
-        let want = bytes_of(alloc, text).expect(&rt, "memory");
-        let of_run = outcomes::<Log>(alloc, 0, steps).expect(&rt, "memory");
-        assert_is_at(&rt, row, sent_at(&of_run, at), want.as_slice());
-        let of_calls = called::<Queues>(alloc, 0, steps).expect(&rt, "memory");
-        assert_is_at(&rt, row, sent_at(&of_calls, at), want.as_slice());
-        let read = Raw::from_bytes(alloc, &mut Cursor::new(&want)).expect(&rt, "a message");
-        assert_is_at(&rt, row, message(&read), told);
+    for written in &WRITTEN {
+        write(&rt, rt.alloc(), written);
     }
 }

@@ -1,7 +1,6 @@
 //! Requests to the controller of generic netlink, and what comes of its answers.
 
-use crate::many::send;
-use crate::script::bytes_of;
+use crate::steps::Asker;
 use crate::support::assert_is_at;
 use neli::consts::genl::{CtrlAttr, CtrlCmd};
 use neli::consts::nl::GenlId;
@@ -9,10 +8,9 @@ use neli::err::RouterError;
 use neli::genl::Genlmsghdr;
 use neli::nl::NlPayload;
 use neli::router::synchronous::{
-    CtrlItem, Deliveries, HandleState, Log, NlRouter, NlRouterReceiverHandle, Queues, Reply,
-    resolve_genl_family,
+    CtrlError, CtrlItem, Deliveries, HandleState, Log, NlRouter, NlRouterReceiverHandle, Queues,
+    Reply, resolve_genl_family,
 };
-use neli::utils::Groups;
 use std::alloc::Global;
 use std::process::Abort;
 
@@ -61,21 +59,20 @@ const DUMP: &str = "1c000000100002000000000000000000010200000600010010000000\
     1c000000100002000000000000000000010200000600010011000000\
     1400000003000200000000000000000000000000";
 
-/// What is asked.
+/// What the controller is asked for.
 #[derive(Clone, Copy)]
-enum Asked {
-    /// For the family `nlctrl`.
-    Family,
-    /// For all families.
+enum Asked<'a> {
+    /// A family, by its name.
+    Family(&'a str),
+    /// All families.
     Families,
-    /// For answers that are meant to be bytes. The handle is then retyped.
-    Bytes,
 }
 
 /// A request and its answers.
 struct Exchange {
     name: &'static str,
-    asked: Asked,
+    /// What the controller is asked for. None: answers that are meant to be bytes, and the handle is retyped.
+    asked: Option<Asked<'static>>,
     /// The request, and whether an acknowledgement is asked for.
     bytes: &'static [u8],
     needs_ack: bool,
@@ -93,7 +90,7 @@ struct Exchange {
 const EXCHANGES: [Exchange; 4] = [
     Exchange {
         name: "a family is found by its name",
-        asked: Asked::Family,
+        asked: Some(Asked::Family("nlctrl")),
         bytes: &FAMILY,
         needs_ack: true,
         datagrams: &[NUMBER, ACK],
@@ -104,7 +101,7 @@ const EXCHANGES: [Exchange; 4] = [
     },
     Exchange {
         name: "a family is found in one datagram",
-        asked: Asked::Family,
+        asked: Some(Asked::Family("nlctrl")),
         bytes: &FAMILY,
         needs_ack: true,
         datagrams: &[BOTH],
@@ -115,7 +112,7 @@ const EXCHANGES: [Exchange; 4] = [
     },
     Exchange {
         name: "a retyped handle reads its answers typed",
-        asked: Asked::Bytes,
+        asked: None,
         bytes: &EMPTY,
         needs_ack: false,
         datagrams: &[NUMBER],
@@ -126,7 +123,7 @@ const EXCHANGES: [Exchange; 4] = [
     },
     Exchange {
         name: "all families come as a dump",
-        asked: Asked::Families,
+        asked: Some(Asked::Families),
         bytes: &FAMILIES,
         needs_ack: false,
         datagrams: &[DUMP],
@@ -137,33 +134,48 @@ const EXCHANGES: [Exchange; 4] = [
     },
 ];
 
-/// Sends a request, and gives its bytes and its handle.
-fn request<D: Deliveries>(
-    rt: &impl Abort,
+/// Sends a request.
+fn ask<D: Deliveries + Drop>(
     alloc: Global,
-    router: &mut NlRouter<D>,
-    asked: Asked,
-) -> (Vec<u8>, Handle) {
+    asker: &mut Asker<D>,
+    asked: Asked<'_>,
+) -> Result<(Vec<u8>, Handle), CtrlError> {
     match asked {
-        Asked::Family => router
-            .request_genl_family(alloc, "nlctrl")
-            .expect(rt, "bytes to be sent"),
-        Asked::Families => router
-            .request_families(alloc)
-            .expect(rt, "bytes to be sent"),
-        Asked::Bytes => {
-            let (bytes, handle) = send(rt, alloc, router);
-            (bytes, handle.retyped())
-        }
+        Asked::Family(name) => asker.router.request_genl_family(alloc, name),
+        Asked::Families => asker.router.request_families(alloc),
     }
 }
 
-/// Hands in a datagram, in hexadecimal, that came to no group.
-fn come<D: Deliveries>(rt: &impl Abort, alloc: Global, router: &mut NlRouter<D>, text: &str) {
-    let bytes = bytes_of(alloc, text).expect(rt, "memory");
-    router
-        .processing_loop(&bytes, &Groups::empty(alloc))
-        .expect(rt, "memory");
+/// Sends a request, and gives its bytes and its handle.
+fn request<D: Deliveries + Drop>(
+    rt: &impl Abort,
+    alloc: Global,
+    asker: &mut Asker<D>,
+    asked: Asked<'_>,
+) -> (Vec<u8>, Handle) {
+    ask(alloc, asker, asked).expect(rt, "bytes to be sent")
+}
+
+/// Sends an empty request of type 16, and gives its bytes and its handle, which is retyped.
+fn request_bytes<D: Deliveries + Drop>(
+    rt: &impl Abort,
+    alloc: Global,
+    asker: &mut Asker<D>,
+) -> (Vec<u8>, Handle) {
+    let (bytes, handle) = asker
+        .request(alloc, 16, 0, "")
+        .expect(rt, "bytes to be sent");
+    (bytes, handle.retyped())
+}
+
+/// Reads the next item of a handle.
+fn next<D: Deliveries, RT, RP>(
+    rt: &impl Abort,
+    alloc: Global,
+    router: &mut NlRouter<D>,
+    handle: &mut NlRouterReceiverHandle<RT, RP>,
+) -> Reply<GenlId, Ctrl> {
+    router.next_typed(alloc, handle).expect(rt, "memory")
 }
 
 /// The items of a handle, which has to end after at most seven.
@@ -175,10 +187,7 @@ fn items<D: Deliveries>(
 ) -> Vec<CtrlItem> {
     let mut list = Vec::new(alloc);
     for _ in 0..8 {
-        let reply = router
-            .next_typed::<GenlId, Ctrl, _, _>(alloc, handle)
-            .expect(rt, "memory");
-        match reply {
+        match next(rt, alloc, router, handle) {
             Reply::Item(item) => list.push(item).expect(rt, "memory"),
             Reply::End => return list,
             Reply::Waits => rt.panic("an item is missing"),
@@ -207,10 +216,17 @@ fn assert_found(rt: &impl Abort, alloc: Global, row: &Exchange, list: Vec<CtrlIt
     assert_is_at(rt, row.name, found, row.number);
 }
 
-/// Sends a request to a new router, hands in the datagrams that answer it, and reads these.
-fn play<D: Deliveries + Drop>(rt: &impl Abort, alloc: Global, row: &Exchange) {
-    let (mut router, _multicast) = NlRouter::<D>::new(alloc, 0);
-    let (bytes, mut handle) = request(rt, alloc, &mut router, row.asked);
+/// Sends the request of an exchange.
+fn start<D: Deliveries + Drop>(
+    rt: &impl Abort,
+    alloc: Global,
+    asker: &mut Asker<D>,
+    row: &Exchange,
+) -> Handle {
+    let (bytes, handle) = match row.asked {
+        Some(asked) => request(rt, alloc, asker, asked),
+        None => request_bytes(rt, alloc, asker),
+    };
     assert_is_at(rt, row.name, bytes.as_slice(), row.bytes);
     let state = HandleState {
         number: Some(0),
@@ -219,10 +235,17 @@ fn play<D: Deliveries + Drop>(rt: &impl Abort, alloc: Global, row: &Exchange) {
         ended: false,
     };
     assert_is_at(rt, row.name, handle.state(), state);
+    handle
+}
+
+/// Sends a request to a new router, hands in the datagrams that answer it, and reads these.
+fn play<D: Deliveries + Drop>(rt: &impl Abort, alloc: Global, row: &Exchange) {
+    let mut asker = Asker::<D>::new(alloc, 0).expect(rt, "memory");
+    let mut handle = start(rt, alloc, &mut asker, row);
     for text in row.datagrams {
-        come(rt, alloc, &mut router, text);
+        asker.come(alloc, text, 0).expect(rt, "memory");
     }
-    let list = items(rt, alloc, &mut router, &mut handle);
+    let list = items(rt, alloc, &mut asker.router, &mut handle);
     assert_found(rt, alloc, row, list);
 }
 
@@ -232,6 +255,20 @@ fn requests_are_answered(rt: HostRuntime) {
         play::<Queues>(&rt, rt.alloc(), row);
         play::<Log>(&rt, rt.alloc(), row);
     }
+}
+
+/// Reads multicast as it is given, which waits, and closes it.
+fn read_multicast<D: Deliveries + Drop>(rt: &impl Abort, alloc: Global) {
+    let (mut router, mut multicast) = NlRouter::<D>::new(alloc, 7);
+    let waits = matches!(next(rt, alloc, &mut router, &mut multicast), Reply::Waits);
+    assert_is_at(rt, "multicast", waits, true);
+    router.close(multicast);
+}
+
+#[test]
+fn multicast_is_read_as_it_is_given(rt: HostRuntime) {
+    read_multicast::<Queues>(&rt, rt.alloc());
+    read_multicast::<Log>(&rt, rt.alloc());
 }
 
 /// The bytes from one place to another; none where they are not all there.
@@ -248,19 +285,20 @@ fn name_of(rt: &impl Abort, alloc: Global, count: usize) -> String {
     name
 }
 
-/// Asserts that a request for a family, or for all families, is refused with this text.
+/// A router of port 0 over plain lists.
+fn asker(rt: &impl Abort, alloc: Global) -> Asker<Queues> {
+    Asker::new(alloc, 0).expect(rt, "memory")
+}
+
+/// Asserts that a request is refused with this text.
 fn assert_refused(
     rt: &impl Abort,
     alloc: Global,
-    router: &mut NlRouter<Queues>,
-    family: Option<&str>,
+    asker: &mut Asker<Queues>,
+    asked: Asked<'_>,
     want: &str,
 ) {
-    let asked = match family {
-        Some(name) => router.request_genl_family(alloc, name),
-        None => router.request_families(alloc),
-    };
-    match asked {
+    match ask(alloc, asker, asked) {
         Ok(_) => rt.panic("no refusal"),
         Err(error) => {
             let text = error.to_string(alloc).expect(rt, "memory");
@@ -272,19 +310,18 @@ fn assert_refused(
 #[test]
 fn a_name_that_does_not_fit_its_attribute_is_refused(rt: HostRuntime) {
     let alloc = rt.alloc();
-    let (mut router, _multicast) = NlRouter::<Queues>::new(alloc, 0);
+    let mut asker = asker(&rt, alloc);
     let name = name_of(&rt, alloc, 65531);
+    let asked = Asked::Family(&name);
     assert_refused(
         &rt,
         alloc,
-        &mut router,
-        Some(&name),
+        &mut asker,
+        asked,
         "Length does not fit its field",
     );
     let name = name_of(&rt, alloc, 65530);
-    let (bytes, handle) = router
-        .request_genl_family(alloc, &name)
-        .expect(&rt, "bytes to be sent");
+    let (bytes, handle) = request(&rt, alloc, &mut asker, Asked::Family(&name));
     assert_is_at(&rt, "number", handle.state().number, Some(0));
     assert_is_at(&rt, "length", bytes.len(), 65556);
     assert_is_at(&rt, "front", part(&bytes, 0, 26), LONG.as_slice());
@@ -294,34 +331,36 @@ fn a_name_that_does_not_fit_its_attribute_is_refused(rt: HostRuntime) {
 #[test]
 fn a_number_in_use_is_refused_before_a_name(rt: HostRuntime) {
     let alloc = rt.alloc();
-    let (mut router, _multicast) = NlRouter::<Queues>::new(alloc, 0);
-    let (_bytes, handle) = request(&rt, alloc, &mut router, Asked::Families);
-    router.set_next_seq(0);
+    let mut asker = asker(&rt, alloc);
+    let (_bytes, handle) = request(&rt, alloc, &mut asker, Asked::Families);
+    asker.router.set_next_seq(0);
     let name = name_of(&rt, alloc, 65531);
-    for family in [Some("nlctrl"), Some(name.as_str()), None] {
-        assert_refused(
-            &rt,
-            alloc,
-            &mut router,
-            family,
-            "Sequence number 0 is in use",
-        );
+    for asked in [
+        Asked::Family("nlctrl"),
+        Asked::Family(&name),
+        Asked::Families,
+    ] {
+        assert_refused(&rt, alloc, &mut asker, asked, "Sequence number 0 is in use");
     }
-    router.close(handle);
-    let (bytes, _handle) = request(&rt, alloc, &mut router, Asked::Family);
+    asker.router.close(handle);
+    let (bytes, _handle) = request(&rt, alloc, &mut asker, Asked::Family("nlctrl"));
     assert_is_at(&rt, "family", bytes.as_slice(), FAMILY.as_slice());
 }
 
-/// Any one allocation may be refused in this test (`rt try --test --fail-alloc N`): then the number
-/// is not used up.
+/// Asks for the family `nlctrl`, again where memory ran out.
+fn request_again(rt: &impl Abort, alloc: Global, asker: &mut Asker<Queues>) -> (Vec<u8>, Handle) {
+    let mut sent = ask(alloc, asker, Asked::Family("nlctrl"));
+    if matches!(&sent, Err(RouterError::Memory)) {
+        sent = ask(alloc, asker, Asked::Family("nlctrl"));
+    }
+    sent.expect(rt, "bytes to be sent")
+}
+
+/// Any one allocation of the router's may be refused in this test (`rt try --test --fail-alloc N`, with N above 1):
+/// then the number is not used up.
 #[test]
 fn asked_again_where_memory_ran_out(rt: HostRuntime) {
-    let alloc = rt.alloc();
-    let (mut router, _multicast) = NlRouter::<Queues>::new(alloc, 0);
-    let asked = match router.request_genl_family(alloc, "nlctrl") {
-        Err(RouterError::Memory) => router.request_genl_family(alloc, "nlctrl"),
-        asked => asked,
-    };
-    let (bytes, _handle) = asked.expect(&rt, "bytes to be sent");
+    let mut asker = asker(&rt, rt.alloc());
+    let (bytes, _handle) = request_again(&rt, rt.alloc(), &mut asker);
     assert_is_at(&rt, "family", bytes.as_slice(), FAMILY.as_slice());
 }

@@ -8,6 +8,8 @@ use crate::controller::Lookup::{Family, Group, Names};
 use crate::controller::{Cause, Lookup, answer, items};
 use crate::support::assert_is_at;
 use neli::router::synchronous::resolve_genl_family;
+use std::alloc::Global;
+use std::process::Abort;
 
 /// The controller's answer for the family `nlctrl`: its number is 16, and its group 1 is `notify`, with
 /// the number 5.
@@ -64,9 +66,17 @@ const NAMELESS: [u8; 44] = [
     8, 0, 2, 0, 5, 0, 0, 0, // Id 5
 ];
 
-/// Lookups: in which answers and after them how many errors, what comes of it, and its text: a number, the names
+/// A lookup: in which answers and after them how many errors; what comes of it, and its text: a number, the names
 /// of a family and a group, or the error.
-const LOOKUPS: [(&str, Lookup, (&[&[u8]], usize), (Cause, &str)); 27] = [
+type Row = (
+    &'static str,
+    Lookup,
+    (&'static [&'static [u8]], usize),
+    (Cause, &'static str),
+);
+
+/// Lookups.
+const LOOKUPS: [Row; 27] = [
     (
         "a family, by one answer",
         Family("nlctrl"),
@@ -261,27 +271,37 @@ const LOOKUPS: [(&str, Lookup, (&[&[u8]], usize), (Cause, &str)); 27] = [
     ),
 ];
 
+/// Looks up, and asserts the answer.
+fn look_up(rt: &impl Abort, alloc: Global, row: &Row) {
+    let (name, lookup, (frames, errors), want) = *row;
+    let list = items(alloc, frames, errors).expect(rt, "messages");
+    let (cause, text) = answer(alloc, lookup, list).expect(rt, "memory");
+    assert_is_at(rt, name, (cause, text.as_str()), want);
+}
+
 #[test]
 fn lookups_are_answered(rt: HostRuntime) {
-    let alloc = rt.alloc();
-    for (row, lookup, (frames, errors), want) in LOOKUPS {
-        let list = items(alloc, frames, errors).expect(&rt, "messages");
-        let (cause, text) = answer(alloc, lookup, list).expect(&rt, "memory");
-        assert_is_at(&rt, row, (cause, text.as_str()), want);
+    for row in &LOOKUPS {
+        look_up(&rt, rt.alloc(), row);
     }
 }
 
 // Any one allocation may be refused in the following tests (`rt try --test --fail-alloc N`).
 
+/// Looks up, and asserts the answer, unless memory runs out.
+fn look_up_or_out_of_memory(rt: &impl Abort, alloc: Global, row: &Row) {
+    let (name, lookup, (frames, errors), want) = *row;
+    if let Ok(list) = items(alloc, frames, errors) {
+        if let Ok((cause, text)) = answer(alloc, lookup, list) {
+            assert_is_at(rt, name, (cause, text.as_str()), want);
+        }
+    }
+}
+
 #[test]
 fn lookups_or_out_of_memory(rt: HostRuntime) {
-    let alloc = rt.alloc();
-    for (row, lookup, (frames, errors), want) in LOOKUPS {
-        if let Ok(list) = items(alloc, frames, errors) {
-            if let Ok((cause, text)) = answer(alloc, lookup, list) {
-                assert_is_at(&rt, row, (cause, text.as_str()), want);
-            }
-        }
+    for row in &LOOKUPS {
+        look_up_or_out_of_memory(&rt, rt.alloc(), row);
     }
 }
 

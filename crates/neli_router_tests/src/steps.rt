@@ -8,6 +8,7 @@ use neli::router::synchronous::{Deliveries, NlRouter, NlRouterReceiverHandle, Ou
 use neli::types::Buffer;
 use neli::utils::Groups;
 use std::alloc::Global;
+use std::process::Abort;
 
 /// A handle of these tests.
 pub type Handle = NlRouterReceiverHandle<u16, Buffer>;
@@ -31,20 +32,29 @@ impl<D: Deliveries + Drop> Asker<D> {
         Ok(Asker { router, handles })
     }
 
-    /// Sends a request of this type, with these flags and this body in hexadecimal.
-    fn send(
+    /// Sends a request of this type, with these flags and this body in hexadecimal, and gives its bytes and its
+    /// handle.
+    pub fn request(
+        &mut self,
+        alloc: Global,
+        nl_type: u16,
+        flags: u16,
+        body: &str,
+    ) -> Result<(Vec<u8>, Handle), Refusal> {
+        let body = NlPayload::Payload(Buffer::from(bytes_of(alloc, body)?));
+        self.router.send(alloc, nl_type, NlmF::from(flags), body)
+    }
+
+    /// Sends such a request, and keeps its handle.
+    pub fn send(
         &mut self,
         alloc: Global,
         nl_type: u16,
         flags: u16,
         body: &str,
     ) -> Result<Came, NoMemory> {
-        let body = NlPayload::Payload(Buffer::from(bytes_of(alloc, body)?));
         self.handles.reserve(1)?;
-        let sent: Result<(Vec<u8>, Handle), Refusal> = self
-            .router
-            .send(alloc, nl_type, NlmF::from(flags), body);
-        match sent {
+        match self.request(alloc, nl_type, flags, body) {
             Ok((bytes, handle)) => {
                 self.handles.push(Some(handle))?;
                 Ok(Outcome::Sent(bytes))
@@ -54,16 +64,29 @@ impl<D: Deliveries + Drop> Asker<D> {
         }
     }
 
-    /// Hands in a datagram, in hexadecimal, that came to the groups of a mask.
-    fn come(&mut self, alloc: Global, text: &str, mask: u32) -> Result<Came, NoMemory> {
-        let bytes = bytes_of(alloc, text)?;
+    /// Hands in a datagram that came to the groups of a mask.
+    pub fn hand_in(&mut self, alloc: Global, bytes: &[u8], mask: u32) -> Result<(), NoMemory> {
         let groups = Groups::new_bitmask(alloc, mask)?;
-        self.router.processing_loop(&bytes, &groups)?;
+        self.router.processing_loop(bytes, &groups)
+    }
+
+    /// Hands in a datagram, in hexadecimal, that came to the groups of a mask.
+    pub fn come(&mut self, alloc: Global, text: &str, mask: u32) -> Result<Came, NoMemory> {
+        let bytes = bytes_of(alloc, text)?;
+        self.hand_in(alloc, &bytes, mask)?;
         Ok(Outcome::Done)
     }
 
+    /// The number of a handle.
+    pub fn number(&self, k: usize) -> Option<u32> {
+        match self.handles.get(k) {
+            Some(Some(handle)) => handle.state().number,
+            _ => None,
+        }
+    }
+
     /// Reads the next item of a handle.
-    fn read(&mut self, alloc: Global, k: usize) -> Result<Came, NoMemory> {
+    pub fn read(&mut self, alloc: Global, k: usize) -> Result<Came, NoMemory> {
         let Some(Some(handle)) = self.handles.get_mut(k) else {
             return Ok(Outcome::NoHandle);
         };
@@ -107,20 +130,23 @@ impl<D: Deliveries + Drop> Asker<D> {
     }
 
     /// Does these steps in their order.
-    pub fn steps(&mut self, alloc: Global, steps: &[(Step, Told)]) -> Result<Vec<Came>, NoMemory> {
+    pub fn steps(&mut self, rt: &impl Abort, alloc: Global, steps: &[(Step, Told)]) -> Vec<Came> {
         let mut came = Vec::new(alloc);
         for (step, _) in steps {
-            came.push(self.step(alloc, *step)?)?;
+            let outcome = self.step(alloc, *step).expect(rt, "memory");
+            came.push(outcome).expect(rt, "memory");
         }
-        Ok(came)
+        came
     }
 }
 
 /// Does these steps in their order with a new router of this port, over this store, a call each.
 pub fn called<D: Deliveries + Drop>(
+    rt: &impl Abort,
     alloc: Global,
     port: u32,
     steps: &[(Step, Told)],
-) -> Result<Vec<Came>, NoMemory> {
-    Asker::<D>::new(alloc, port)?.steps(alloc, steps)
+) -> Vec<Came> {
+    let mut asker = Asker::<D>::new(alloc, port).expect(rt, "memory");
+    asker.steps(rt, alloc, steps)
 }
