@@ -1,6 +1,10 @@
 //! What is looked up in messages of the controller of generic netlink.
 
+use crate::script::bytes_of;
+use neli::consts::genl::{CtrlAttr, CtrlCmd};
+use neli::consts::nl::GenlId;
 use neli::err::{DeError, NoMemory, RouterError};
+use neli::genl::Genlmsghdr;
 use neli::nl::Nlmsghdr;
 use neli::router::synchronous::{
     CtrlError, CtrlItem, lookup_id, resolve_genl_family, resolve_nl_mcast_group,
@@ -8,6 +12,9 @@ use neli::router::synchronous::{
 use neli::{Cursor, FromBytes};
 use std::alloc::Global;
 use std::fmt::Display;
+
+/// A message of the controller.
+type CtrlMessage = Nlmsghdr<GenlId, Genlmsghdr<CtrlCmd, CtrlAttr>>;
 
 /// What is looked up.
 #[derive(Clone, Copy)]
@@ -34,12 +41,17 @@ pub enum Cause {
     Other,
 }
 
+/// The message that these bytes are, in hexadecimal.
+fn message_of(alloc: Global, text: &str) -> Result<CtrlMessage, CtrlError> {
+    let bytes = bytes_of(alloc, text)?;
+    Ok(Nlmsghdr::from_bytes(alloc, &mut Cursor::new(&bytes))?)
+}
+
 /// The items that these bytes are, each a message, and after them so many errors: `NoAck`, and `ClosedChannel`.
-pub fn items(alloc: Global, frames: &[&[u8]], errors: usize) -> Result<Vec<CtrlItem>, CtrlError> {
+pub fn items(alloc: Global, frames: &[&str], errors: usize) -> Result<Vec<CtrlItem>, CtrlError> {
     let mut list = Vec::new(alloc);
     for frame in frames {
-        let message = Nlmsghdr::from_bytes(alloc, &mut Cursor::new(frame))?;
-        list.push(Ok(message))?;
+        list.push(Ok(message_of(alloc, frame)?))?;
     }
     if 0 < errors {
         list.push(Err(RouterError::NoAck))?;

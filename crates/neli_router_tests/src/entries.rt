@@ -6,7 +6,7 @@
 
 use crate::script::Step::{Close, Come, Read, Send};
 use crate::script::Told::{Done, Message, Refused, Sent, Stray};
-use crate::script::{Came, Step, Told, kind_of};
+use crate::script::{Came, Step, Told, kind_once};
 use crate::steps::Asker;
 use crate::support::assert_is_at;
 use neli::router::synchronous::Log;
@@ -82,20 +82,12 @@ fn step(rt: &impl Abort, alloc: Global, row: &str, asker: &mut Asker<Log>, step:
     asker.step(alloc, step).expect(rt, "memory")
 }
 
-/// A new router, again where memory ran out.
-fn start(rt: &impl Abort, alloc: Global) -> Asker<Log> {
-    if let Ok(asker) = Asker::new(alloc, 0) {
-        return asker;
-    }
-    Asker::new(alloc, 0).expect(rt, "memory")
-}
-
 /// Plays a script, and asserts what each step answers and what is kept then.
 fn play(rt: &impl Abort, alloc: Global, row: &str, steps: &[(Step, Told, [usize; 2])]) {
-    let mut asker = start(rt, alloc);
+    let mut asker = Asker::<Log>::new(rt, alloc, 0);
     for (doing, want, left) in steps {
         let outcome = step(rt, alloc, row, &mut asker, *doing);
-        assert_is_at(rt, row, kind_of(&outcome), *want);
+        assert_is_at(rt, row, kind_once(outcome), *want);
         assert_is_at(rt, row, kept(&asker), *left);
     }
 }

@@ -46,7 +46,7 @@ fn play_in_turn<D: Deliveries + Drop>(
     row: &str,
     parts: &[&[(Step, Told)]],
 ) {
-    let mut asker = Asker::<D>::new(alloc, 7).expect(rt, "memory");
+    let mut asker = Asker::<D>::new(rt, alloc, 7);
     let (mut other, multicast) = NlRouter::<D>::new(alloc, 7);
     asker
         .handles

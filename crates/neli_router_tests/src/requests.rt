@@ -1,5 +1,6 @@
 //! Requests to the controller of generic netlink, and what comes of its answers.
 
+use crate::script::{Told, kind_once};
 use crate::steps::Asker;
 use crate::support::assert_is_at;
 use neli::consts::genl::{CtrlAttr, CtrlCmd};
@@ -240,10 +241,11 @@ fn start<D: Deliveries + Drop>(
 
 /// Sends a request to a new router, hands in the datagrams that answer it, and reads these.
 fn play<D: Deliveries + Drop>(rt: &impl Abort, alloc: Global, row: &Exchange) {
-    let mut asker = Asker::<D>::new(alloc, 0).expect(rt, "memory");
+    let mut asker = Asker::<D>::new(rt, alloc, 0);
     let mut handle = start(rt, alloc, &mut asker, row);
     for text in row.datagrams {
-        asker.come(alloc, text, 0).expect(rt, "memory");
+        let came = asker.come(alloc, text, 0).expect(rt, "memory");
+        assert_is_at(rt, row.name, kind_once(came), Told::Done);
     }
     let list = items(rt, alloc, &mut asker.router, &mut handle);
     assert_found(rt, alloc, row, list);
@@ -257,11 +259,16 @@ fn requests_are_answered(rt: HostRuntime) {
     }
 }
 
+/// Whether a handle waits.
+fn waits(reply: Reply<GenlId, Ctrl>) -> bool {
+    matches!(&reply, Reply::Waits)
+}
+
 /// Reads multicast as it is given, which waits, and closes it.
 fn read_multicast<D: Deliveries + Drop>(rt: &impl Abort, alloc: Global) {
     let (mut router, mut multicast) = NlRouter::<D>::new(alloc, 7);
-    let waits = matches!(next(rt, alloc, &mut router, &mut multicast), Reply::Waits);
-    assert_is_at(rt, "multicast", waits, true);
+    let reply = next(rt, alloc, &mut router, &mut multicast);
+    assert_is_at(rt, "multicast", waits(reply), true);
     router.close(multicast);
 }
 
@@ -285,9 +292,10 @@ fn name_of(rt: &impl Abort, alloc: Global, count: usize) -> String {
     name
 }
 
-/// A router of port 0 over plain lists.
-fn asker(rt: &impl Abort, alloc: Global) -> Asker<Queues> {
-    Asker::new(alloc, 0).expect(rt, "memory")
+/// Asserts that an error has this text.
+fn assert_text(rt: &impl Abort, alloc: Global, error: &CtrlError, want: &str) {
+    let text = error.to_string(alloc).expect(rt, "memory");
+    assert_is_at(rt, want, text.as_str(), want);
 }
 
 /// Asserts that a request is refused with this text.
@@ -300,17 +308,14 @@ fn assert_refused(
 ) {
     match ask(alloc, asker, asked) {
         Ok(_) => rt.panic("no refusal"),
-        Err(error) => {
-            let text = error.to_string(alloc).expect(rt, "memory");
-            assert_is_at(rt, want, text.as_str(), want);
-        }
+        Err(error) => assert_text(rt, alloc, &error, want),
     }
 }
 
 #[test]
 fn a_name_that_does_not_fit_its_attribute_is_refused(rt: HostRuntime) {
     let alloc = rt.alloc();
-    let mut asker = asker(&rt, alloc);
+    let mut asker = Asker::<Queues>::new(&rt, alloc, 0);
     let name = name_of(&rt, alloc, 65531);
     let asked = Asked::Family(&name);
     assert_refused(
@@ -331,7 +336,7 @@ fn a_name_that_does_not_fit_its_attribute_is_refused(rt: HostRuntime) {
 #[test]
 fn a_number_in_use_is_refused_before_a_name(rt: HostRuntime) {
     let alloc = rt.alloc();
-    let mut asker = asker(&rt, alloc);
+    let mut asker = Asker::<Queues>::new(&rt, alloc, 0);
     let (_bytes, handle) = request(&rt, alloc, &mut asker, Asked::Families);
     asker.router.set_next_seq(0);
     let name = name_of(&rt, alloc, 65531);
@@ -347,20 +352,24 @@ fn a_number_in_use_is_refused_before_a_name(rt: HostRuntime) {
     assert_is_at(&rt, "family", bytes.as_slice(), FAMILY.as_slice());
 }
 
+/// Whether memory ran out.
+fn ran_out(sent: &Result<(Vec<u8>, Handle), CtrlError>) -> bool {
+    matches!(sent, Err(RouterError::Memory))
+}
+
 /// Asks for the family `nlctrl`, again where memory ran out.
 fn request_again(rt: &impl Abort, alloc: Global, asker: &mut Asker<Queues>) -> (Vec<u8>, Handle) {
-    let mut sent = ask(alloc, asker, Asked::Family("nlctrl"));
-    if matches!(&sent, Err(RouterError::Memory)) {
-        sent = ask(alloc, asker, Asked::Family("nlctrl"));
+    let sent = ask(alloc, asker, Asked::Family("nlctrl"));
+    if ran_out(&sent) {
+        return request(rt, alloc, asker, Asked::Family("nlctrl"));
     }
     sent.expect(rt, "bytes to be sent")
 }
 
-/// Any one allocation of the router's may be refused in this test (`rt try --test --fail-alloc N`, with N above 1):
-/// then the number is not used up.
+/// Any one allocation may be refused in this test (`rt try --test --fail-alloc N`): then the number is not used up.
 #[test]
 fn asked_again_where_memory_ran_out(rt: HostRuntime) {
-    let mut asker = asker(&rt, rt.alloc());
+    let mut asker = Asker::<Queues>::new(&rt, rt.alloc(), 0);
     let (bytes, _handle) = request_again(&rt, rt.alloc(), &mut asker);
     assert_is_at(&rt, "family", bytes.as_slice(), FAMILY.as_slice());
 }

@@ -13,65 +13,59 @@ use std::process::Abort;
 
 /// The controller's answer for the family `nlctrl`: its number is 16, and its group 1 is `notify`, with
 /// the number 5.
-pub const NLCTRL: [u8; 68] = [
-    0x44, 0, 0, 0, 0x10, 0, 0, 0, 0, 0, 0, 0, 0, 0, 0, 0, // the header: 68 bytes, type 16
-    1, 2, 0, 0, // a new family, version 2
-    0x0b, 0, 2, 0, 0x6e, 0x6c, 0x63, 0x74, 0x72, 0x6c, 0, 0, // FamilyName "nlctrl"
-    6, 0, 1, 0, 0x10, 0, 0, 0, // FamilyId 16
-    0x1c, 0, 7, 0x80, // McastGroups
-    0x18, 0, 1, 0x80, // its group 1
-    0x0b, 0, 1, 0, 0x6e, 0x6f, 0x74, 0x69, 0x66, 0x79, 0, 0, // Name "notify"
-    8, 0, 2, 0, 5, 0, 0, 0, // Id 5
-];
+///
+/// Its lines: the header: 68 bytes, type 16; a new family, version 2; FamilyName "nlctrl"; FamilyId 16;
+/// McastGroups; its group 1; Name "notify"; Id 5.
+const NLCTRL: &str = "44000000100000000000000000000000\
+    01020000\
+    0b0002006e6c6374726c0000\
+    0600010010000000\
+    1c000780\
+    18000180\
+    0b0001006e6f746966790000\
+    0800020005000000";
 
 /// An answer with the number 16 alone.
-pub const NUMBER: [u8; 28] = [
-    0x1c, 0, 0, 0, 0x10, 0, 0, 0, 0, 0, 0, 0, 0, 0, 0, 0, 1, 2, 0, 0, 6, 0, 1, 0, 0x10, 0, 0, 0,
-];
+const NUMBER: &str = "1c000000100000000000000000000000010200000600010010000000";
 
 /// An acknowledgement.
-pub const ACK: [u8; 36] = [
-    0x24, 0, 0, 0, 2, 0, 0, 1, 0, 0, 0, 0, 0, 0, 0, 0, 0, 0, 0, 0, 0x20, 0, 0, 0, 0x10, 0, 5, 0, 0,
-    0, 0, 0, 0, 0, 0, 0,
-];
+const ACK: &str = "240000000200000100000000000000000000000020000000100005000000000000000000";
 
 /// An answer with the number 17 alone.
-const OTHER_NUMBER: [u8; 28] = [
-    0x1c, 0, 0, 0, 0x10, 0, 0, 0, 0, 0, 0, 0, 0, 0, 0, 0, 1, 2, 0, 0, 6, 0, 1, 0, 0x11, 0, 0, 0,
-];
+const OTHER_NUMBER: &str = "1c000000100000000000000000000000010200000600010011000000";
 
 /// The family `a`, of which group 1 is `b`, with the number 5.
-const OTHER_NAMES: [u8; 52] = [
-    0x34, 0, 0, 0, 0x10, 0, 0, 0, 0, 0, 0, 0, 0, 0, 0, 0, 1, 2, 0, 0, //
-    6, 0, 2, 0, 0x61, 0, 0, 0, // FamilyName "a"
-    0x18, 0, 7, 0x80, 0x14, 0, 1, 0x80, // McastGroups and its group 1
-    6, 0, 1, 0, 0x62, 0, 0, 0, 8, 0, 2, 0, 5, 0, 0, 0, // Name "b", Id 5
-];
+///
+/// Its lines: the headers; FamilyName "a"; McastGroups and its group 1; Name "b", Id 5.
+const OTHER_NAMES: &str = "3400000010000000000000000000000001020000\
+    0600020061000000\
+    1800078014000180\
+    06000100620000000800020005000000";
 
 /// The family `a`: its group 1 is two bytes that list no attributes, its groups 2 and 3 are both `b`,
 /// with the numbers 5 and 6.
-const THREE_GROUPS: [u8; 80] = [
-    0x50, 0, 0, 0, 0x10, 0, 0, 0, 0, 0, 0, 0, 0, 0, 0, 0, 1, 2, 0, 0, //
-    6, 0, 2, 0, 0x61, 0, 0, 0, // FamilyName "a"
-    0x34, 0, 7, 0x80, 6, 0, 1, 0x80, 1, 2, 0, 0, // McastGroups and its group 1
-    0x14, 0, 2, 0x80, 6, 0, 1, 0, 0x62, 0, 0, 0, 8, 0, 2, 0, 5, 0, 0, 0, // "b", 5
-    0x14, 0, 3, 0x80, 6, 0, 1, 0, 0x62, 0, 0, 0, 8, 0, 2, 0, 6, 0, 0, 0, // "b", 6
-];
+///
+/// Its lines: the headers; FamilyName "a"; McastGroups and its group 1; "b", 5; "b", 6.
+const THREE_GROUPS: &str = "5000000010000000000000000000000001020000\
+    0600020061000000\
+    340007800600018001020000\
+    1400028006000100620000000800020005000000\
+    1400038006000100620000000800020006000000";
 
 /// The family `a`, of which group 1 has the number 5 and no name.
-const NAMELESS: [u8; 44] = [
-    0x2c, 0, 0, 0, 0x10, 0, 0, 0, 0, 0, 0, 0, 0, 0, 0, 0, 1, 2, 0, 0, //
-    6, 0, 2, 0, 0x61, 0, 0, 0, // FamilyName "a"
-    0x10, 0, 7, 0x80, 0x0c, 0, 1, 0x80, // McastGroups and its group 1
-    8, 0, 2, 0, 5, 0, 0, 0, // Id 5
-];
+///
+/// Its lines: the headers; FamilyName "a"; McastGroups and its group 1; Id 5.
+const NAMELESS: &str = "2c00000010000000000000000000000001020000\
+    0600020061000000\
+    100007800c000180\
+    0800020005000000";
 
 /// A lookup: in which answers and after them how many errors; what comes of it, and its text: a number, the names
 /// of a family and a group, or the error.
 type Row = (
     &'static str,
     Lookup,
-    (&'static [&'static [u8]], usize),
+    (&'static [&'static str], usize),
     (Cause, &'static str),
 );
 
@@ -80,97 +74,97 @@ const LOOKUPS: [Row; 27] = [
     (
         "a family, by one answer",
         Family("nlctrl"),
-        (&[&NLCTRL], 0),
+        (&[NLCTRL], 0),
         (Found, "16"),
     ),
     (
         "a group, by one answer",
         Group("nlctrl", "notify"),
-        (&[&NLCTRL], 0),
+        (&[NLCTRL], 0),
         (Found, "5"),
     ),
     (
         "names, by one answer",
         Names(5),
-        (&[&NLCTRL], 0),
+        (&[NLCTRL], 0),
         (Found, "nlctrl notify"),
     ),
     (
         "the last number of a family wins",
         Family("nlctrl"),
-        (&[&NLCTRL, &OTHER_NUMBER], 0),
+        (&[NLCTRL, OTHER_NUMBER], 0),
         (Found, "17"),
     ),
     (
         "the last number of a family wins, beside an acknowledgement",
         Family("nlctrl"),
-        (&[&OTHER_NUMBER, &ACK, &NUMBER], 0),
+        (&[OTHER_NUMBER, ACK, NUMBER], 0),
         (Found, "16"),
     ),
     (
         "the last number of a family wins, before an answer without one",
         Family("nlctrl"),
-        (&[&OTHER_NUMBER, &OTHER_NAMES], 0),
+        (&[OTHER_NUMBER, OTHER_NAMES], 0),
         (Found, "17"),
     ),
     (
         "the first match of a message wins",
         Group("a", "b"),
-        (&[&THREE_GROUPS], 0),
+        (&[THREE_GROUPS], 0),
         (Found, "5"),
     ),
     (
         "the only match wins",
         Group("a", "notify"),
-        (&[&NLCTRL, &THREE_GROUPS], 0),
+        (&[NLCTRL, THREE_GROUPS], 0),
         (Found, "5"),
     ),
     (
         "the only match wins, before an acknowledgement",
         Group("a", "b"),
-        (&[&THREE_GROUPS, &ACK, &NLCTRL], 0),
+        (&[THREE_GROUPS, ACK, NLCTRL], 0),
         (Found, "5"),
     ),
     (
         "a match before a group without a name",
         Group("a", "b"),
-        (&[&OTHER_NAMES, &NAMELESS], 0),
+        (&[OTHER_NAMES, NAMELESS], 0),
         (Found, "5"),
     ),
     (
         "the last names win",
         Names(5),
-        (&[&NLCTRL, &ACK, &OTHER_NAMES], 0),
+        (&[NLCTRL, ACK, OTHER_NAMES], 0),
         (Found, "a b"),
     ),
     (
         "the last names win, the other way round",
         Names(5),
-        (&[&OTHER_NAMES, &NLCTRL], 0),
+        (&[OTHER_NAMES, NLCTRL], 0),
         (Found, "nlctrl notify"),
     ),
     (
         "the first error item is the answer, for a group",
         Group("nlctrl", "notify"),
-        (&[&NLCTRL, &NUMBER], 2),
+        (&[NLCTRL, NUMBER], 2),
         (NoAck, "No ACK received"),
     ),
     (
         "an error item is the answer, for a family",
         Family("nlctrl"),
-        (&[&NLCTRL], 1),
+        (&[NLCTRL], 1),
         (NoAck, "No ACK received"),
     ),
     (
         "an error item is the answer, for names",
         Names(5),
-        (&[&NLCTRL], 1),
+        (&[NLCTRL], 1),
         (NoAck, "No ACK received"),
     ),
     (
         "names are refused with the first failure: a group that lists no attributes",
         Names(5),
-        (&[&NLCTRL, &THREE_GROUPS, &NAMELESS], 1),
+        (&[NLCTRL, THREE_GROUPS, NAMELESS], 1),
         (
             DeInput(2),
             "Deserialization failed: Invalid input was provided: 2",
@@ -179,7 +173,7 @@ const LOOKUPS: [Row; 27] = [
     (
         "names are refused with the first failure: a group without a name",
         Names(5),
-        (&[&NAMELESS, &THREE_GROUPS], 1),
+        (&[NAMELESS, THREE_GROUPS], 1),
         (
             DeMsg,
             "Deserialization failed: Failed to find specified attribute",
@@ -188,7 +182,7 @@ const LOOKUPS: [Row; 27] = [
     (
         "names are refused with the first failure: an answer without names",
         Names(5),
-        (&[&NLCTRL, &NUMBER], 1),
+        (&[NLCTRL, NUMBER], 1),
         (
             DeMsg,
             "Deserialization failed: Failed to find specified attribute",
@@ -203,7 +197,7 @@ const LOOKUPS: [Row; 27] = [
     (
         "no group is found: another name",
         Group("nlctrl", "x"),
-        (&[&NLCTRL], 0),
+        (&[NLCTRL], 0),
         (
             Msg,
             "Failed to resolve multicast group ID for family name nlctrl, multicast group name x",
@@ -212,7 +206,7 @@ const LOOKUPS: [Row; 27] = [
     (
         "no group is found: the front of a name",
         Group("nlctrl", "not"),
-        (&[&NLCTRL], 0),
+        (&[NLCTRL], 0),
         (
             Msg,
             "Failed to resolve multicast group ID for family name nlctrl, multicast group name not",
@@ -221,7 +215,7 @@ const LOOKUPS: [Row; 27] = [
     (
         "no group is found: a longer name",
         Group("nlctrl", "notify2"),
-        (&[&NLCTRL], 0),
+        (&[NLCTRL], 0),
         (
             Msg,
             "Failed to resolve multicast group ID for family name nlctrl, multicast group name notify2",
@@ -230,7 +224,7 @@ const LOOKUPS: [Row; 27] = [
     (
         "no group is found: no name",
         Group("nlctrl", ""),
-        (&[&NLCTRL], 0),
+        (&[NLCTRL], 0),
         (
             Msg,
             "Failed to resolve multicast group ID for family name nlctrl, multicast group name ",
@@ -239,13 +233,13 @@ const LOOKUPS: [Row; 27] = [
     (
         "no group has the number",
         Names(6),
-        (&[&NLCTRL], 0),
+        (&[NLCTRL], 0),
         (Msg, "ID does not correspond to a multicast group"),
     ),
     (
         "an answer without groups",
         Group("nlctrl", "notify"),
-        (&[&NUMBER, &ACK], 0),
+        (&[NUMBER, ACK], 0),
         (
             DeMsg,
             "Deserialization failed: Couldn't find specified attribute",
@@ -254,7 +248,7 @@ const LOOKUPS: [Row; 27] = [
     (
         "an answer without groups, for another name",
         Group("nlctrl", "x"),
-        (&[&NUMBER], 0),
+        (&[NUMBER], 0),
         (
             DeMsg,
             "Deserialization failed: Couldn't find specified attribute",
@@ -263,7 +257,7 @@ const LOOKUPS: [Row; 27] = [
     (
         "an answer without a family's name",
         Names(5),
-        (&[&NUMBER], 0),
+        (&[NUMBER], 0),
         (
             DeMsg,
             "Deserialization failed: Failed to find specified attribute",
@@ -308,7 +302,7 @@ fn lookups_or_out_of_memory(rt: HostRuntime) {
 #[test]
 fn a_family_takes_no_memory_where_it_is_found(rt: HostRuntime) {
     let alloc = rt.alloc();
-    if let Ok(list) = items(alloc, &[&NLCTRL], 0) {
+    if let Ok(list) = items(alloc, &[NLCTRL], 0) {
         let found = resolve_genl_family(alloc, "nlctrl", list).ok();
         assert_is_at(&rt, "nlctrl", found, Some(16));
     }

@@ -21,15 +21,17 @@ pub struct Asker<D> {
     pub handles: Vec<Option<Handle>>,
 }
 
-// Each call is refused only where memory runs out, and has then done nothing that is seen when it is made again.
+// A call that is refused, as it is where memory runs out, has done nothing that is seen when it is made again.
 impl<D: Deliveries + Drop> Asker<D> {
-    /// A new router of this port and its handle for multicast.
-    pub fn new(alloc: Global, port: u32) -> Result<Asker<D>, NoMemory> {
+    /// A new router of this port and its handle for multicast. Any one allocation may be refused here.
+    pub fn new(rt: &impl Abort, alloc: Global, port: u32) -> Asker<D> {
         let mut handles = Vec::new(alloc);
-        handles.reserve(1)?;
+        if handles.reserve(1).is_err() {
+            handles.reserve(1).expect(rt, "memory");
+        }
         let (router, multicast) = NlRouter::<D>::new(alloc, port);
-        handles.push(Some(multicast.retyped()))?;
-        Ok(Asker { router, handles })
+        handles.push(Some(multicast.retyped())).expect(rt, "memory");
+        Asker { router, handles }
     }
 
     /// Sends a request of this type, with these flags and this body in hexadecimal, and gives its bytes and its
@@ -147,6 +149,5 @@ pub fn called<D: Deliveries + Drop>(
     port: u32,
     steps: &[(Step, Told)],
 ) -> Vec<Came> {
-    let mut asker = Asker::<D>::new(alloc, port).expect(rt, "memory");
-    asker.steps(rt, alloc, steps)
+    Asker::<D>::new(rt, alloc, port).steps(rt, alloc, steps)
 }
