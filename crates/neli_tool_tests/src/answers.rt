@@ -132,13 +132,13 @@ const ONE_REQUEST: [Row; 8] = [
 
 #[test]
 fn scripts_are_answered(rt: HostRuntime) {
-    for (row, script, want) in WORKED {
-        answers(&rt, rt.alloc(), row, script, want);
+    for row in WORKED {
+        answers(&rt, rt.alloc(), row);
     }
-    for (row, script, want) in WITHOUT_REQUEST {
-        answers(&rt, rt.alloc(), row, script, want);
+    for row in WITHOUT_REQUEST {
+        answers(&rt, rt.alloc(), row);
     }
-    for (row, script, want) in ONE_REQUEST {
-        answers(&rt, rt.alloc(), row, script, want);
+    for row in ONE_REQUEST {
+        answers(&rt, rt.alloc(), row);
     }
 }

@@ -120,13 +120,13 @@ const NUMBERS: [Row; 4] = [
 
 #[test]
 fn conversations_are_answered(rt: HostRuntime) {
-    for (row, script, want) in ENDS {
-        answers(&rt, rt.alloc(), row, script, want);
+    for row in ENDS {
+        answers(&rt, rt.alloc(), row);
     }
-    for (row, script, want) in RECEIVERS {
-        answers(&rt, rt.alloc(), row, script, want);
+    for row in RECEIVERS {
+        answers(&rt, rt.alloc(), row);
     }
-    for (row, script, want) in NUMBERS {
-        answers(&rt, rt.alloc(), row, script, want);
+    for row in NUMBERS {
+        answers(&rt, rt.alloc(), row);
     }
 }

@@ -15,8 +15,11 @@ const ONE: &str = "1100000000040000000000000000000061ffffff";
 
 const ONE_LINE: &str = "type 1024 flags 0x0000 number 0 port 0 payload 1\n";
 
-/// Datagrams, what is printed of them, and how that ends.
-const DATAGRAMS: [(&str, &str, &str, Status); 9] = [
+/// A datagram with its name, what is printed of it, and how that ends.
+type Row = (&'static str, &'static str, &'static str, Status);
+
+/// Datagrams of messages.
+const DATAGRAMS: [Row; 9] = [
     ("nothing", "", "", Status::Whole),
     ("a payload of one byte", ONE, ONE_LINE, Status::Whole),
     (
@@ -65,7 +68,7 @@ const DATAGRAMS: [(&str, &str, &str, Status); 9] = [
 ];
 
 /// Errors, acknowledgements and ends of dumps.
-const ANSWERS: [(&str, &str, &str, Status); 7] = [
+const ANSWERS: [Row; 7] = [
     (
         "an error with an echo of five bytes and an attribute",
         "34000000020000020000000000000000eaffffff1500000000040500000000000000000061626364\
@@ -112,32 +115,21 @@ const ANSWERS: [(&str, &str, &str, Status); 7] = [
 ];
 
 /// Asserts that this is printed of the datagram, and that the listing ends so.
-fn assert_listed(
-    rt: &impl Abort,
-    alloc: Global,
-    row: &str,
-    datagram: &str,
-    text: &str,
-    want: Status,
-) {
-    let bytes = decoded(rt, alloc, datagram);
+fn assert_listed(rt: &impl Abort, alloc: Global, row: Row) {
+    let bytes = decoded(rt, alloc, row.1);
     let mut output = Vec::new(alloc);
     let status = list(alloc, &mut bytes.as_slice(), &mut output);
-    assert_is_at(
-        rt,
-        row,
-        (output.as_slice(), status),
-        (text.as_bytes(), want),
-    );
+    let listed = (output.as_slice(), status);
+    assert_is_at(rt, row.0, listed, (row.2.as_bytes(), row.3));
 }
 
 #[test]
 fn datagrams_are_listed(rt: HostRuntime) {
-    for (row, datagram, text, want) in DATAGRAMS {
-        assert_listed(&rt, rt.alloc(), row, datagram, text, want);
+    for row in DATAGRAMS {
+        assert_listed(&rt, rt.alloc(), row);
     }
-    for (row, datagram, text, want) in ANSWERS {
-        assert_listed(&rt, rt.alloc(), row, datagram, text, want);
+    for row in ANSWERS {
+        assert_listed(&rt, rt.alloc(), row);
     }
 }
 

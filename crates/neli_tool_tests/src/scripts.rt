@@ -9,25 +9,19 @@ use neli_tool_base::status::Status;
 use std::alloc::Global;
 use std::process::Abort;
 
+/// A script with its name, and what is answered.
+pub type Row = (&'static str, &'static str, &'static str);
+
 /// Asserts that this script is answered by these lines, over deliveries that are kept in a `D`.
-fn answers_over<D: Deliveries + Drop, R: Abort>(
-    rt: &R,
-    alloc: Global,
-    row: &str,
-    script: &str,
-    want: &str,
-) {
+fn answers_over<D: Deliveries + Drop, R: Abort>(rt: &R, alloc: Global, row: Row) {
     let mut output = Vec::new(alloc);
-    let status = replay::<D, _, _>(alloc, &mut script.as_bytes(), &mut output);
+    let status = replay::<D, _, _>(alloc, &mut row.1.as_bytes(), &mut output);
     let answered = (output.as_slice(), status);
-    assert_is_at(rt, row, answered, (want.as_bytes(), Status::Whole));
+    assert_is_at(rt, row.0, answered, (row.2.as_bytes(), Status::Whole));
 }
 
 /// Asserts that this script is answered by these lines, over each store.
-pub fn answers<R: Abort>(rt: &R, alloc: Global, row: &str, script: &str, want: &str) {
-    answers_over::<Log, R>(rt, alloc, row, script, want);
-    answers_over::<Queues, R>(rt, alloc, row, script, want);
+pub fn answers<R: Abort>(rt: &R, alloc: Global, row: Row) {
+    answers_over::<Log, R>(rt, alloc, row);
+    answers_over::<Queues, R>(rt, alloc, row);
 }
-
-/// Scripts with their names, and what is answered.
-pub type Row = (&'static str, &'static str, &'static str);
