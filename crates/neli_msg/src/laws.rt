@@ -49,10 +49,11 @@ pub fn typed_reading_agrees<T: NlType, P: FromBytesWithInput>()
         → IsOk (typed_message T.wire_value P.read m) ↔ AreRead P.read m }
 {}
 
-/// Where a datagram has no fault, and no acknowledgement in it has bytes after the header that it
-/// answers, its messages are written as the same bytes, with zeros for the padding: after each message,
-/// after each attribute of an error or of the end of a dump, and after an echoed payload. So written, it
-/// is as long as it was, and is read as the same messages.
+/// Where a datagram has no fault, and no message in it has a tail that is not read, which an acknowledgement
+/// or a capped error has after the header that it echoes where its flags are not both CAPPED and ACK_TLVS, its
+/// messages are written as the same bytes, with zeros for the padding: after each message, after each
+/// attribute of an error, an acknowledgement or the end of a dump, and after an echoed payload. So written,
+/// it is as long as it was, and is read as the same messages.
 pub fn rewritten_datagram_is_zeroed()
     ensures written { (b : List ℕ) (ms : List (Message ℕ (List ℕ))) → AreBytes b
         → Cuts untyped_layout b ms None → All HasNoTail ms

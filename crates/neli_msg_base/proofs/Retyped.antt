@@ -15,6 +15,7 @@ module _ {K V : Type 0} (type_of : ℕ → K) (read : List ℕ → Result V DeEr
   first-all (payload.Payload bytes) = rw (le-ltb (length bytes) (length bytes) (omega arith), take_all (length bytes) bytes (omega arith)) refl
   first-all (payload.Err e) = refl
   first-all (payload.Ack e) = refl
+  first-all (payload.Capped e) = refl
   first-all (payload.DumpExtAck e) = refl
   first-all payload.Empty = refl
 
@@ -29,6 +30,7 @@ refuses-more one two less more router.Memory same f h = tt
 refuses-more one two less more (router.Io k) same f h = h
 refuses-more one two less more (router.Socket x) same f h = h
 refuses-more one two less more (router.Nlmsgerr x) same f h = h
+refuses-more one two less more (router.Capped x) same f h = h
 refuses-more one two less more (router.BadSeqOrPid x) same f h = h
 refuses-more one two less more router.NoAck same f h = h
 refuses-more one two less more router.UnexpectedAck same f h = h

@@ -16,6 +16,8 @@ use Rattle.neli_attr.specs.AttrType.{AttrType}
 use Rattle.neli_attr.specs.declared.nlattr.Nlattr.{Nlattr}
 use Rattle.neli_msg_base.specs.declared.echo.NlmsghdrErr.{NlmsghdrErr}
 use Rattle.neli_msg_base.specs.declared.answer.Nlmsgerr.{Nlmsgerr}
+use Rattle.neli_msg_base.specs.declared.answer.Tail.{Tail}
+use Rattle.neli_msg_base.specs.declared.answer.Tail.TheVariants.{Unread, Attributes as Listed}
 use Rattle.neli_msg_base.specs.Headers.{Header, header_in}
 
 -- ---- attributes
@@ -82,11 +84,31 @@ dump_end_in s = do
   attrs ← ext_ack_in rest
   Ok (answer (code_in s) tt attrs)
 
--- an acknowledgement: a code and the header that is answered; what follows it is not read
+-- the attributes of a tail; none where it is not read
+abbrev pub tail_in : Tail → List ℕ → Result Attributes DeError
+tail_in Unread s = Ok []
+tail_in Listed s = ext_ack_in s
+
+-- where reading a tail takes memory
+abbrev pub tail_takes : Tail → List ℕ → Type 0
+tail_takes Unread s = ⊥
+tail_takes Listed s = 0 < length s
+
+-- where the attributes begin of an answer that echoes a header alone
+abbrev pub tail_at : Tail → List ℕ → ℕ
+tail_at Unread s = length s
+tail_at Listed s = 20
+
+-- an answer that echoes a header alone: a code, the header, and its tail
+abbrev pub headed_in : {K : Type 0} → (ℕ → K) → Tail → List ℕ → Result (Nlmsgerr (Header K)) DeError
+headed_in type_of tail s = do
+  rest ← after 20 s
+  attrs ← tail_in tail rest
+  Ok (answer (code_in s) (header_in type_of (drop 4 s)) attrs)
+
+-- such an answer by itself, without the flags that say what its tail is
 abbrev pub acknowledgement_in : {K : Type 0} → (ℕ → K) → List ℕ → Result (Nlmsgerr (Header K)) DeError
-acknowledgement_in type_of s = do
-  unread ← after 20 s
-  Ok (answer (code_in s) (header_in type_of (drop 4 s)) [])
+acknowledgement_in type_of = headed_in type_of Unread
 
 -- an error: a code, the message that it answers, and attributes; `read` is the reading of a body
 abbrev pub failure_in : {K V : Type 0} → (ℕ → K) → (List ℕ → Result V DeError) → List ℕ → Result (Nlmsgerr (NlmsghdrErr K V)) DeError

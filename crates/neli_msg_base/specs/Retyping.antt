@@ -28,7 +28,7 @@ typed_header type_of h = record {
   port = h.port;
 }
 
--- an acknowledgement
+-- an acknowledgement or a capped error: its code, its header's length and its attributes stay
 abbrev pub typed_acknowledgement : {K : Type 0} → (ℕ → K) → Nlmsgerr (Header ℕ) → Nlmsgerr (Header K)
 typed_acknowledgement type_of e = answer e.error (typed_header type_of e.nlmsg) e.ext_ack
 
@@ -50,6 +50,7 @@ module _ {K V : Type 0} (type_of : ℕ → K) (read : List ℕ → Result V DeEr
   typed_payload (payload.Payload bytes) = read bytes >>= λ v. Ok (payload.Payload v)
   typed_payload (payload.Err e) = typed_failure e >>= λ f. Ok (payload.Err f)
   typed_payload (payload.Ack e) = Ok (payload.Ack (typed_acknowledgement type_of e))
+  typed_payload (payload.Capped e) = Ok (payload.Capped (typed_acknowledgement type_of e))
   typed_payload (payload.DumpExtAck e) = Ok (payload.DumpExtAck e)
   typed_payload payload.Empty = Ok payload.Empty
 
@@ -98,6 +99,7 @@ abbrev pub payload_stating : {K P V : Type 0} → ℕ → (P → V) → NlPayloa
 payload_stating len view (payload.Payload p) = payload.Payload (view p)
 payload_stating len view (payload.Err e) = payload.Err (failure_stating len view e)
 payload_stating len view (payload.Ack e) = payload.Ack e
+payload_stating len view (payload.Capped e) = payload.Capped e
 payload_stating len view (payload.DumpExtAck e) = payload.DumpExtAck e
 payload_stating len view payload.Empty = payload.Empty
 
@@ -160,6 +162,7 @@ module _ {K P V : Type 0} (type_of : ℕ → K) (view : P → V) (size : P → �
   IsTypedError (router.Nlmsgerr e) (router.Nlmsgerr f) =
       (typed_failure type_of read e ≡ Ok (failure_stating e.nlmsg.header.len view f)) × HasOwnLength size f.nlmsg
   IsTypedError (router.Nlmsgerr e) f = ⊥
+  IsTypedError (router.Capped e) f = f ≡ router.Capped (typed_acknowledgement type_of e)
   IsTypedError (router.BadSeqOrPid u) (router.BadSeqOrPid m) = IsTyped u m
   IsTypedError (router.BadSeqOrPid u) f = ⊥
   IsTypedError (router.Msg text) f = f ≡ router.Msg text
@@ -177,6 +180,7 @@ module _ {K P V : Type 0} (type_of : ℕ → K) (view : P → V) (size : P → �
   RefusesTypingError (router.Nlmsgerr e) why =
       RefusesTyping (typed_failure type_of read e) (IsTooLong view size read e.nlmsg.payload) why
   RefusesTypingError (router.BadSeqOrPid u) why = RefusesTypingMessage u why
+  RefusesTypingError (router.Capped e) why = why ≡ router.Memory
   RefusesTypingError (router.Msg text) why = why ≡ router.Memory
   RefusesTypingError (router.De e) why = why ≡ router.Memory
   RefusesTypingError (router.Socket e) why = why ≡ router.Memory
@@ -194,6 +198,11 @@ abbrev pub failure_of : {K P : Type 0} → NlPayload K P → Option (Nlmsgerr (N
 failure_of (payload.Err e) = Some e
 failure_of p = None
 
+-- the capped error, where there is one
+abbrev pub capped_of : {K P : Type 0} → NlPayload K P → Option (Nlmsgerr (Header K))
+capped_of (payload.Capped e) = Some e
+capped_of p = None
+
 -- the message with another payload and another length
 abbrev pub with_payload : {K P : Type 0} → Nlmsghdr K P → ℕ → NlPayload K P → Nlmsghdr K P
 with_payload m len p = record { header = with_len m.header len; payload = p }
@@ -206,3 +215,11 @@ left_of m p = m
 -- what is left of a message where its error is taken out
 abbrev pub without_failure : {K P : Type 0} → Nlmsghdr K P → Nlmsghdr K P
 without_failure m = left_of m m.payload
+
+-- the same where its capped error is taken out
+abbrev pub left_of_capped : {K P : Type 0} → Nlmsghdr K P → NlPayload K P → Nlmsghdr K P
+left_of_capped m (payload.Capped e) = with_payload m 16 payload.Empty
+left_of_capped m p = m
+
+abbrev pub without_capped : {K P : Type 0} → Nlmsghdr K P → Nlmsghdr K P
+without_capped m = left_of_capped m m.payload

@@ -7,7 +7,7 @@ use Rattle.neli_wire.specs.ErrorTexts.{de_text}
 use Rattle.neli_msg_base.specs.declared.socket_error.SocketError.{SocketError}
 use Rattle.neli_msg_base.specs.declared.socket_error.SocketError.TheVariants as socket
 use Rattle.neli_msg_base.specs.declared.router_error.RouterError.{RouterError}
-use Rattle.neli_msg_base.specs.declared.router_error.RouterError.TheVariants.{Msg, Io, De, Socket, Nlmsgerr as Answer, BadSeqOrPid, NoAck, UnexpectedAck, ClosedChannel, SeqInUse, Memory}
+use Rattle.neli_msg_base.specs.declared.router_error.RouterError.TheVariants.{Msg, Io, De, Socket, Nlmsgerr as Answer, Capped, BadSeqOrPid, NoAck, UnexpectedAck, ClosedChannel, SeqInUse, Memory}
 use Rattle.neli_msg_base.specs.SocketErrors.{socket_text}
 use Rattle.neli_msg_base.specs.Answers.{answer_text}
 
@@ -34,6 +34,7 @@ router_text (Io kind) = None
 router_text (De e) = option_map (λ text. codes "Deserialization failed: " ++ text) (de_text e)
 router_text (Socket e) = option_map (λ text. codes "Socket error: " ++ text) (socket_text e)
 router_text (Answer e) = Some (codes "Application error was returned by netlink: " ++ answer_text e)
+router_text (Capped e) = Some (codes "Application error was returned by netlink: " ++ answer_text e)
 router_text (BadSeqOrPid m) =
     Some (codes "A bad sequence number or PID was received: number " ++ decimal m.header.sequence_number ++ codes ", port " ++ decimal m.header.port)
 router_text NoAck = Some (codes "No ACK received")

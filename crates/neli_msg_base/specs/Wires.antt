@@ -32,6 +32,7 @@ module _ {K P : Type 0} (number_of : K → ℕ) (wire : P → Wire) where
   -- the bytes of a payload
   abbrev pub payload_wire : NlPayload K P → Wire
   payload_wire (payload.Ack e) = answer_wire (header_wire number_of) e
+  payload_wire (payload.Capped e) = answer_wire (header_wire number_of) e
   payload_wire (payload.DumpExtAck e) = answer_wire (λ _. Ok []) e
   payload_wire (payload.Err e) = answer_wire echo_wire e
   payload_wire (payload.Payload p) = wire p
@@ -59,6 +60,7 @@ module _ {K P : Type 0} (size : P → ℕ) where
   -- the size of a payload
   abbrev pub payload_size : NlPayload K P → ℕ
   payload_size (payload.Ack e) = answer_size (λ _. 16) e
+  payload_size (payload.Capped e) = answer_size (λ _. 16) e
   payload_size (payload.DumpExtAck e) = answer_size (λ _. 0) e
   payload_size (payload.Err e) = answer_size (λ m. align (echo_size m)) e
   payload_size (payload.Payload p) = size p

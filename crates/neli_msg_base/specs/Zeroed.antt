@@ -4,12 +4,14 @@ use Rattle.neli_wire.specs.Frames.{number_in}
 use Rattle.neli_wire.specs.Sizes.{align}
 use Rattle.neli_wire.specs.Writing.{Wire, wire_all}
 use Rattle.neli_msg_base.specs.declared.payload.Kind.{Kind}
-use Rattle.neli_msg_base.specs.declared.payload.Kind.TheVariants.{DumpEnd, Failure}
+use Rattle.neli_msg_base.specs.declared.payload.Kind.TheVariants.{DumpEnd, Acknowledgement, Capped, Failure}
+use Rattle.neli_msg_base.specs.declared.answer.Tail.{Tail}
+use Rattle.neli_msg_base.specs.declared.answer.Tail.TheVariants.{Unread, Attributes as Listed}
 use Rattle.neli_msg_base.specs.declared.payload.NlPayload.{NlPayload}
 use Rattle.neli_msg_base.specs.declared.payload.NlPayload.TheVariants as payload
-use Rattle.neli_msg_base.specs.Answers.{echo_end, echoed_count}
+use Rattle.neli_msg_base.specs.Answers.{echo_end, echoed_count, tail_at}
 use Rattle.neli_msg_base.specs.Headers.{flags_of}
-use Rattle.neli_msg_base.specs.Kinds.{kind_of}
+use Rattle.neli_msg_base.specs.Kinds.{kind_of, tail_of}
 use Rattle.neli_msg_base.specs.Messages.{Message, message_from}
 use Rattle.neli_msg_base.specs.Wires.{message_wire}
 
@@ -50,6 +52,8 @@ attributes_zeroed = frames_zeroed attribute_length attribute_zeroed
 -- where the attributes of each kind begin
 abbrev pub attributes_at : Kind → List ℕ → ℕ
 attributes_at DumpEnd s = 4
+attributes_at (Acknowledgement tail) s = tail_at tail s
+attributes_at (Capped tail) s = tail_at tail s
 attributes_at Failure s = echo_end s
 attributes_at kind s = length s
 
@@ -92,12 +96,18 @@ untyped_wire m = message_wire (λ n. n) (λ bytes. Ok bytes) (message_from m)
 abbrev pub untyped_wires : List (Message ℕ (List ℕ)) → Wire
 untyped_wires = wire_all untyped_wire
 
--- in a message of this length no byte of the payload was left unread: an acknowledgement has 20 bytes after the 16 of
--- the header, and what follows them is not read
-abbrev pub HasNoTailIn : ℕ → NlPayload ℕ (List ℕ) → Type 0
-HasNoTailIn len (payload.Ack e) = len ≤ 36
-HasNoTailIn len p = ⊤
+-- in a message of this length no byte is left unread after a header that is echoed alone, which is 20 bytes after the 16
+-- of its own header
+abbrev pub IsAllRead : Tail → ℕ → Type 0
+IsAllRead Unread len = len ≤ 36
+IsAllRead Listed len = ⊤
+
+-- the same of each payload
+abbrev pub HasNoTailIn : Tail → ℕ → NlPayload ℕ (List ℕ) → Type 0
+HasNoTailIn tail len (payload.Ack e) = IsAllRead tail len
+HasNoTailIn tail len (payload.Capped e) = IsAllRead tail len
+HasNoTailIn tail len p = ⊤
 
 -- the same of a message
 abbrev pub HasNoTail : Message ℕ (List ℕ) → Type 0
-HasNoTail m = HasNoTailIn m.0.len m.1
+HasNoTail m = HasNoTailIn (tail_of m.0.flags) m.0.len m.1

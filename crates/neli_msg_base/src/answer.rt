@@ -5,7 +5,7 @@ ghost use Rattle.neli_attr.specs.Builders.{IsWhyNot};
 ghost use Rattle.neli_wire.specs.laws.Sizes.{unpadded-rounded};
 ghost use Rattle.neli_wire.specs.Refusals.{Refuses};
 ghost use Rattle.neli_msg_base.specs.Headers.{Header};
-ghost use Rattle.neli_msg_base.specs.Answers.{acknowledgement_in, after, after_echo, answer, answer_text, code_in, dump_end_in, echoed_count, echoed_in, failure_in, failure_takes, failure_view};
+ghost use Rattle.neli_msg_base.specs.Answers.{acknowledgement_in, after, after_echo, answer, answer_text, code_in, dump_end_in, echoed_count, echoed_in, failure_in, failure_takes, failure_view, headed_in, tail_in, tail_takes};
 ghost use Rattle.neli_msg_base.specs.Builders.{built_answer};
 ghost use Rattle.neli_msg_base.specs.Retyping.{HasOwnLength, IsTooLong, RefusesTyping, failure_stating, typed_acknowledgement, typed_failure};
 ghost use Rattle.neli_msg_base.specs.Wires.{answer_size, answer_wire};
@@ -100,18 +100,45 @@ pub(crate) fn read_dump_end(alloc: Global, bytes: &[u8]) -> Result<Nlmsgerr<()>,
     Ok(answer_of(bytes, (), ext_ack))
 }
 
-/// Reads an acknowledgement.
-#[tactic(auto, using(neli_wire::specs::laws::Reading::refused_first))]
-pub(crate) fn read_acknowledgement<T: Constant<Number = u16>>(
+/// What stands after the header that an acknowledgement or a capped error answers.
+#[derive(Clone, Copy)]
+pub(crate) enum Tail {
+    /// Bytes that are not read.
+    Unread,
+    /// Attributes.
+    Attributes,
+}
+
+/// The attributes of a tail; none where it is not read.
+fn read_tail(
     alloc: Global,
+    tail: Tail,
+    bytes: &[u8],
+) -> Result<GenlBuffer<NlmsgerrAttr, Buffer>, DeError>
+    ensures value { IfOk result (λ list. tail_in tail bytes.now ≡ Ok list) }
+    ensures refused { IfErr result (Refuses (tail_in tail bytes.now) (tail_takes tail bytes.now)) }
+{
+    match tail {
+        Tail::Unread => Ok(GenlBuffer::new(alloc)),
+        Tail::Attributes => read_attributes(alloc, bytes),
+    }
+}
+
+/// Reads an answer of which the header alone is echoed: an acknowledgement or a capped error.
+#[tactic(auto, using(neli_wire::specs::laws::Reading::refused_first))]
+pub(crate) fn read_headed<T: Constant<Number = u16>>(
+    alloc: Global,
+    tail: Tail,
     bytes: &[u8],
 ) -> Result<Nlmsgerr<NlmsghdrAck<T>>, DeError>
-    ensures value { IfOk result (λ e. acknowledgement_in T.wire_value bytes.now ≡ Ok e) }
-    ensures refused { IfErr result (Refuses (acknowledgement_in T.wire_value bytes.now) ⊥) }
+    ensures value { IfOk result (λ e. headed_in T.wire_value tail bytes.now ≡ Ok e) }
+    ensures refused { IfErr result
+        (Refuses (headed_in T.wire_value tail bytes.now) (tail_takes tail (drop 20 bytes.now))) }
 {
-    after(bytes, ANSWER_SIZE)?;
+    let rest = after(bytes, ANSWER_SIZE)?;
+    let ext_ack = read_tail(alloc, tail, rest)?;
     let header = header_of(&bytes[4..]);
-    Ok(answer_of(bytes, header, GenlBuffer::new(alloc)))
+    Ok(answer_of(bytes, header, ext_ack))
 }
 
 /// How many payload bytes the echoed message states; 0 where its length is below the header's.
@@ -218,7 +245,7 @@ impl<T: NlType> FromBytesWithInput for Nlmsgerr<NlmsghdrAck<T>> {
         n: usize,
     ) -> Result<Self, DeError> {
         let bytes = cursor.input(n)?;
-        let answer = read_acknowledgement(alloc, bytes)?;
+        let answer = read_headed(alloc, Tail::Unread, bytes)?;
         cursor.advance(n);
         Ok(answer)
     }

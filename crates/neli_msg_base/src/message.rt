@@ -3,7 +3,7 @@
 ghost use Rattle.neli_attr.specs.Builders.{IsWhyNot};
 ghost use Rattle.neli_msg_base.specs.Builders.{built_message, own_length};
 ghost use Rattle.neli_attr.specs.Builders.Fault.{Invalid};
-ghost use Rattle.neli_msg_base.specs.Retyping.{HasOwnEcho, IsMessageTooLong, RefusesTyping, body_of, failure_of, payload_stating, stated_echo, typed_header, typed_payload, with_len, with_payload, without_failure};
+ghost use Rattle.neli_msg_base.specs.Retyping.{HasOwnEcho, IsMessageTooLong, RefusesTyping, body_of, capped_of, failure_of, payload_stating, stated_echo, typed_header, typed_payload, with_len, with_payload, without_capped, without_failure};
 ghost use Rattle.neli_msg_base.specs.Wires.{payload_size};
 ghost use Rattle.std.specs.Prelude.{Err, codes, option_map, Some, None, ◌≡◌, ◌+◌, ◌≤◌, Ok, IfOk, IfErr, OnOk, OnErr, length, min};
 ghost use Rattle.neli_wire.specs.Frames.{frame_at, frame_takes};
@@ -313,6 +313,24 @@ impl<T: NlType, P: Drop> Nlmsghdr<T, P> {
     }
 }
 
+impl<T: NlType, P: Drop> Nlmsghdr<T, P> {
+    /// Takes a capped error out: the message is then empty, and states a length of 16. Another message stays
+    /// as it is.
+    pub fn get_capped(&mut self) -> Option<Nlmsgerr<NlmsghdrAck<T>>>
+        ensures error { result ≡ capped_of self.old.payload }
+        ensures left { self.new ≡ without_capped self.old }
+    {
+        if let NlPayload::Capped(_) = &self.payload {
+            let payload = replace(&mut self.payload, NlPayload::Empty);
+            if let NlPayload::Capped(answer) = payload {
+                self.header = self.header.with_len(16);
+                return Some(answer);
+            }
+        }
+        None
+    }
+}
+
 impl<T: NlType, P: Size + Drop> Nlmsghdr<T, P> {
     /// Puts another payload in place of the message's, and states its own length.
     ///
@@ -353,7 +371,7 @@ impl<T: NlType> Nlmsghdr<T, Buffer> {
 
 impl Nlmsghdr<u16, Buffer> {
     /// The same message with the types that numbers mean, and its body's or its echoed payload's bytes
-    /// read as `P`. Lengths are computed anew; codes, attributes and an acknowledgement's header stay.
+    /// read as `P`. Lengths are computed anew; codes, attributes and a header that is echoed alone stay.
     ///
     /// Refused with the refusal of these bytes as [`RouterError::De`], as [`RouterError::Msg`] where a length
     /// passes 32 bits, or as [`RouterError::Memory`].

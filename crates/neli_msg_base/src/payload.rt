@@ -4,13 +4,13 @@ ghost use Rattle.std.specs.Prelude.{⊤, ◌≡◌, Ok, IfOk, IfErr, OnOk, OnErr
 ghost use Rattle.neli_wire.specs.Place.{whole};
 ghost use Rattle.neli_wire.specs.Refusals.{Refuses};
 ghost use Rattle.neli_wire.specs.Reading.{exact_reading, exact_takes};
-ghost use Rattle.neli_msg_base.specs.Kinds.{is_acknowledged, kind_of, kind_takes, payload_as, payload_in, payload_takes, payload_view};
+ghost use Rattle.neli_msg_base.specs.Kinds.{is_acknowledged, kind_of, kind_takes, payload_as, payload_in, payload_takes, payload_view, tail_of};
 ghost use Rattle.neli_wire.specs.laws.Sizes.{unpadded-rounded};
 ghost use Rattle.neli_msg_base.specs.Retyping.{HasOwnEcho, IsEchoTooLong, RefusesTyping, body_count, first_as, payload_stating, stated_echo, typed_first};
 ghost use Rattle.neli_msg_base.specs.Wires.{payload_size, payload_wire};
 ghost use Rattle.neli_msg_base.specs.laws.Wires.{payload_wire-length, payload_wire-no_memory, payload_wire-zeros};
 
-use crate::answer::{read_acknowledgement, read_dump_end, read_failure};
+use crate::answer::{Tail, read_dump_end, read_failure, read_headed};
 use crate::{Nlmsgerr, NlmsghdrAck, NlmsghdrErr, RouterError};
 use bitflags::Flags;
 use byteorder::{ByteOrder, LittleEndian};
@@ -23,13 +23,17 @@ use std::alloc::Global;
 /// The payload of a message, by its kind.
 #[derive(Debug, Drop, PartialEq, Eq)]
 pub enum NlPayload<T, P> {
-    /// An acknowledgement: type 2 (`NLMSG_ERROR`) with code 0. It has the header that it answers; what
-    /// follows that is not read.
+    /// An acknowledgement: type 2 (`NLMSG_ERROR`) with code 0. It has the header that it answers, and
+    /// attributes where its flags have both CAPPED and ACK_TLVS; else what follows the header is not read.
     Ack(Nlmsgerr<NlmsghdrAck<T>>),
+    /// A capped error: type 2 (`NLMSG_ERROR`) with another code and the flag CAPPED, as the kernel sends it
+    /// on a socket with `NETLINK_CAP_ACK`. It has the header of the message that it answers, with the length
+    /// of the whole, and attributes where its flags have ACK_TLVS; else what follows the header is not read.
+    Capped(Nlmsgerr<NlmsghdrAck<T>>),
     /// The end of a dump: type 3 (`NLMSG_DONE`) with the flag MULTI. It has a code and attributes.
     DumpExtAck(Nlmsgerr<()>),
-    /// An error: type 2 (`NLMSG_ERROR`) with another code. It has the message that it answers, and
-    /// attributes.
+    /// An error: type 2 (`NLMSG_ERROR`) with another code, without the flag CAPPED. It has the message that
+    /// it answers, and attributes.
     Err(Nlmsgerr<NlmsghdrErr<T, P>>),
     /// A body: all the bytes of the payload, read as one value.
     Payload(P),
@@ -43,7 +47,8 @@ enum Kind {
     Body,
     Nothing,
     DumpEnd,
-    Acknowledgement,
+    Acknowledgement(Tail),
+    Capped(Tail),
     Failure,
 }
 
@@ -54,13 +59,26 @@ fn is_acknowledgement(bytes: &[u8]) -> bool
     bytes.len() >= 20 && LittleEndian::read_u32(bytes) == 0
 }
 
+/// What stands after the header that a message with these flags answers: attributes under CAPPED and ACK_TLVS.
+fn tail_of(flags: NlmF) -> Tail
+    ensures { result ≡ tail_of flags }
+{
+    if flags.contains(NlmF::CAPPED) && flags.contains(NlmF::ACK_TLVS) {
+        Tail::Attributes
+    } else {
+        Tail::Unread
+    }
+}
+
 /// The kind of a payload of these bytes, after a header of this type and these flags.
 fn kind_of(number: u16, flags: NlmF, bytes: &[u8]) -> Kind
     ensures { result ≡ kind_of number flags bytes.now }
 {
     if number == 2 {
         if is_acknowledgement(bytes) {
-            Kind::Acknowledgement
+            Kind::Acknowledgement(tail_of(flags))
+        } else if flags.contains(NlmF::CAPPED) {
+            Kind::Capped(tail_of(flags))
         } else {
             Kind::Failure
         }
@@ -94,7 +112,8 @@ fn read_as<T: Constant<Number = u16>, P: FromBytesWithInput>(
         Kind::Body => Ok(NlPayload::Payload(read_whole(alloc, bytes)?)),
         Kind::Nothing => Ok(NlPayload::Empty),
         Kind::DumpEnd => Ok(NlPayload::DumpExtAck(read_dump_end(alloc, bytes)?)),
-        Kind::Acknowledgement => Ok(NlPayload::Ack(read_acknowledgement(alloc, bytes)?)),
+        Kind::Acknowledgement(tail) => Ok(NlPayload::Ack(read_headed(alloc, tail, bytes)?)),
+        Kind::Capped(tail) => Ok(NlPayload::Capped(read_headed(alloc, tail, bytes)?)),
         Kind::Failure => Ok(NlPayload::Err(read_failure(alloc, bytes)?)),
     }
 }
@@ -154,6 +173,7 @@ impl<T: NlType, P: Size> Size for NlPayload<T, P> {
     fn unpadded_size(&self) -> usize {
         match self {
             NlPayload::Ack(answer) => answer.written_size(),
+            NlPayload::Capped(answer) => answer.written_size(),
             NlPayload::DumpExtAck(answer) => answer.written_size(),
             NlPayload::Err(answer) => answer.written_size(),
             NlPayload::Payload(body) => body.written_size(),
@@ -178,6 +198,7 @@ impl<T: NlType, P: ToBytes> ToBytes for NlPayload<T, P> {
     fn to_bytes(&self, buffer: &mut Vec<u8>) -> Result<(), SerError> {
         match self {
             NlPayload::Ack(answer) => answer.to_bytes(buffer),
+            NlPayload::Capped(answer) => answer.to_bytes(buffer),
             NlPayload::DumpExtAck(answer) => answer.to_bytes(buffer),
             NlPayload::Err(answer) => answer.to_bytes(buffer),
             NlPayload::Payload(body) => body.to_bytes(buffer),
@@ -195,6 +216,7 @@ impl<T: NlType> NlPayload<T, Buffer> {
     {
         Ok(match self {
             NlPayload::Ack(answer) => NlPayload::Ack(answer.try_clone()?),
+            NlPayload::Capped(answer) => NlPayload::Capped(answer.try_clone()?),
             NlPayload::DumpExtAck(answer) => NlPayload::DumpExtAck(answer.try_clone()?),
             NlPayload::Err(answer) => NlPayload::Err(answer.try_clone()?),
             NlPayload::Payload(body) => NlPayload::Payload(body.try_clone()?),
@@ -215,7 +237,7 @@ impl NlPayload<u16, Buffer> {
     }
 
     /// The same payload with the types that numbers mean, and the first `n` bytes of a body, or all the
-    /// echoed bytes of an error, read as `P`. Codes, attributes and an acknowledgement's header stay.
+    /// echoed bytes of an error, read as `P`. Codes, attributes and a header that is echoed alone stay.
     ///
     /// Refused as [`RouterError::De`] with `InvalidInput(n)` where a body has fewer bytes, else with the
     /// refusal of these bytes; as [`RouterError::Msg`] where an echoed message's length passes 32 bits; or as
@@ -234,6 +256,7 @@ impl NlPayload<u16, Buffer> {
     {
         match self {
             NlPayload::Ack(answer) => Ok(NlPayload::Ack(answer.to_typed()?)),
+            NlPayload::Capped(answer) => Ok(NlPayload::Capped(answer.to_typed()?)),
             NlPayload::DumpExtAck(answer) => Ok(NlPayload::DumpExtAck(answer.try_clone()?)),
             NlPayload::Err(answer) => Ok(NlPayload::Err(answer.to_typed(alloc)?)),
             NlPayload::Payload(body) => Ok(NlPayload::Payload(read_first(alloc, body, n)?)),

@@ -5,7 +5,7 @@ ghost use Rattle.neli_msg_base.specs.declared.router_error.RouterError.TheVarian
 ghost use Rattle.neli_msg_base.specs.Retyping.{IsTypedError, RefusesTypingError};
 ghost use Rattle.neli_msg_base.specs.RouterErrors.{de_of, router_text, socket_of};
 
-use crate::{Nlmsgerr, Nlmsghdr, NlmsghdrErr, SocketError};
+use crate::{Nlmsgerr, Nlmsghdr, NlmsghdrAck, NlmsghdrErr, SocketError};
 use neli_attr::Buffer;
 use neli_consts::NlType;
 use neli_wire::{DeError, FromBytesWithInput, MsgError, NoMemory, Size};
@@ -27,6 +27,8 @@ pub enum RouterError<T, P> {
     Socket(SocketError),
     /// The other side answers with an error.
     Nlmsgerr(Nlmsgerr<NlmsghdrErr<T, P>>),
+    /// The other side answers with an error that echoes the header of the request alone.
+    Capped(Nlmsgerr<NlmsghdrAck<T>>),
     /// A message came with a sequence number or a port that no request has.
     BadSeqOrPid(Nlmsghdr<T, P>),
     /// An acknowledgement was asked for, and something else came.
@@ -68,6 +70,7 @@ impl<T: NlType> RouterError<T, Buffer> {
             RouterError::De(error) => RouterError::De(error.try_clone()?),
             RouterError::Socket(error) => RouterError::Socket(error.try_clone()?),
             RouterError::Nlmsgerr(answer) => RouterError::Nlmsgerr(answer.try_clone()?),
+            RouterError::Capped(answer) => RouterError::Capped(answer.try_clone()?),
             RouterError::BadSeqOrPid(message) => RouterError::BadSeqOrPid(message.try_clone()?),
             RouterError::NoAck => RouterError::NoAck,
             RouterError::UnexpectedAck => RouterError::UnexpectedAck,
@@ -84,8 +87,8 @@ impl RouterError<u16, Buffer> {
     ///
     /// Refused as [`Nlmsgerr::to_typed`] and [`Nlmsghdr::to_typed`] are: with the refusal of the message's
     /// bytes as [`RouterError::De`], as [`RouterError::Msg`] where a length passes 32 bits, or as
-    /// [`RouterError::Memory`]. `Memory` alone refuses a `Msg`, a `De` and a `Socket`, which are copied; no
-    /// other error is refused.
+    /// [`RouterError::Memory`]. `Memory` alone refuses a `Capped`, a `Msg`, a `De` and a `Socket`, which are
+    /// copied; no other error is refused.
     pub fn to_typed<T: NlType, P: FromBytesWithInput + Size>(
         &self,
         alloc: Global,
@@ -97,6 +100,7 @@ impl RouterError<u16, Buffer> {
     {
         Ok(match self {
             RouterError::Nlmsgerr(answer) => RouterError::Nlmsgerr(answer.to_typed(alloc)?),
+            RouterError::Capped(answer) => RouterError::Capped(answer.to_typed()?),
             RouterError::BadSeqOrPid(stray) => RouterError::BadSeqOrPid(stray.to_typed(alloc)?),
             RouterError::Msg(text) => RouterError::Msg(text.try_clone()?),
             RouterError::De(refusal) => RouterError::De(refusal.try_clone()?),
@@ -121,6 +125,9 @@ impl<T, P> fmt::Display for RouterError<T, P> {
             RouterError::De(error) => write!(f, "Deserialization failed: {error}"),
             RouterError::Socket(error) => write!(f, "Socket error: {error}"),
             RouterError::Nlmsgerr(answer) => {
+                write!(f, "Application error was returned by netlink: {answer}")
+            }
+            RouterError::Capped(answer) => {
                 write!(f, "Application error was returned by netlink: {answer}")
             }
             RouterError::BadSeqOrPid(message) => {

@@ -10,7 +10,9 @@ use Rattle.neli_consts.specs.NlmsgerrAttr.{nlmsgerr_attr_of}
 use Rattle.neli_attr.specs.Attributes.{attribute, attributes_in}
 use Rattle.neli_attr.specs.TypeField.{type_of}
 use Rattle.neli_attr.specs.laws.Attributes.{attribute-no_memory}
-use Rattle.neli_msg_base.specs.Answers.{ext_ack_in, after, after_echo, dump_end_in, acknowledgement_in, echoed_in, echoed_count, echoed_length, failure_in}
+use Rattle.neli_msg_base.specs.Answers.{ext_ack_in, after, after_echo, dump_end_in, acknowledgement_in, echoed_in, echoed_count, echoed_length, failure_in, headed_in, tail_in}
+use Rattle.neli_msg_base.specs.declared.answer.Tail.{Tail}
+use Rattle.neli_msg_base.specs.declared.answer.Tail.TheVariants.{Unread, Attributes as Listed}
 
 ext_ack_in-no_memory : (s : List ℕ) → ext_ack_in s ≢ Err Memory
 ext_ack_in-no_memory s =
@@ -36,8 +38,12 @@ module _ (d : DeError) (lengths : (n : ℕ) → InvalidInput n ≢ d) (attribute
   dump_end_in-not : (s : List ℕ) → dump_end_in s ≢ Err d
   dump_end_in-not s = bind-not (after 4 s) _ d (after-not 4 s) (λ rest. bind-not (ext_ack_in rest) _ d (attributes rest) (λ attrs f. cc))
 
-  acknowledgement_in-not : {K : Type 0} (type_of : ℕ → K) (s : List ℕ) → acknowledgement_in type_of s ≢ Err d
-  acknowledgement_in-not type_of s = bind-not (after 20 s) _ d (after-not 20 s) (λ unread f. cc)
+  tail_in-not : (tail : Tail) (s : List ℕ) → tail_in tail s ≢ Err d
+  tail_in-not Unread s = λ f. cc
+  tail_in-not Listed s = attributes s
+
+  headed_in-not : {K : Type 0} (type_of : ℕ → K) (tail : Tail) (s : List ℕ) → headed_in type_of tail s ≢ Err d
+  headed_in-not type_of tail s = bind-not (after 20 s) _ d (after-not 20 s) (λ rest. bind-not (tail_in tail rest) _ d (tail_in-not tail rest) (λ attrs f. cc))
 
   failure_in-not : {K V : Type 0} (type_of : ℕ → K) (read : List ℕ → Result V DeError) → ((s : List ℕ) → read s ≢ Err d) → (s : List ℕ) → failure_in type_of read s ≢ Err d
   failure_in-not type_of read bodies s =
@@ -53,10 +59,13 @@ pub dump_end_in-never_short : (s : List ℕ) → dump_end_in s ≢ Err short
 dump_end_in-never_short = dump_end_in-not short (λ n f. cc) ext_ack_in-never_short
 
 pub acknowledgement_in-no_memory : {K : Type 0} (type_of : ℕ → K) (s : List ℕ) → acknowledgement_in type_of s ≢ Err Memory
-acknowledgement_in-no_memory = acknowledgement_in-not Memory (λ n f. cc) ext_ack_in-no_memory
+acknowledgement_in-no_memory type_of = headed_in-not Memory (λ n f. cc) ext_ack_in-no_memory type_of Unread
+
+pub headed_in-no_memory : {K : Type 0} (type_of : ℕ → K) (tail : Tail) (s : List ℕ) → headed_in type_of tail s ≢ Err Memory
+headed_in-no_memory = headed_in-not Memory (λ n f. cc) ext_ack_in-no_memory
 
 pub acknowledgement_in-never_short : {K : Type 0} (type_of : ℕ → K) (s : List ℕ) → acknowledgement_in type_of s ≢ Err short
-acknowledgement_in-never_short = acknowledgement_in-not short (λ n f. cc) ext_ack_in-never_short
+acknowledgement_in-never_short type_of = headed_in-not short (λ n f. cc) ext_ack_in-never_short type_of Unread
 
 pub failure_in-no_memory : {K V : Type 0} (type_of : ℕ → K) (read : List ℕ → Result V DeError) → ((s : List ℕ) → read s ≢ Err Memory) → (s : List ℕ) → failure_in type_of read s ≢ Err Memory
 failure_in-no_memory = failure_in-not Memory (λ n f. cc) ext_ack_in-no_memory

@@ -5,9 +5,9 @@ use Rattle.neli_wire.specs.DeError.TheVariants.{Memory}
 use Rattle.neli_wire.specs.laws.Reading.{bind-not}
 use Rattle.neli_consts.specs.declared.nlm_f.NlmF.{NlmF}
 use Rattle.neli_msg_base.specs.declared.payload.Kind.{Kind}
-use Rattle.neli_msg_base.specs.declared.payload.Kind.TheVariants.{Body, Nothing, DumpEnd, Acknowledgement, Failure}
-use Rattle.neli_msg_base.specs.Answers.{dump_end_in, acknowledgement_in, failure_in}
-use Rattle.neli_msg_base.specs.laws.Answers.{dump_end_in-no_memory, acknowledgement_in-no_memory, failure_in-no_memory}
+use Rattle.neli_msg_base.specs.declared.payload.Kind.TheVariants.{Body, Nothing, DumpEnd, Acknowledgement, Capped, Failure}
+use Rattle.neli_msg_base.specs.Answers.{dump_end_in, failure_in, headed_in}
+use Rattle.neli_msg_base.specs.laws.Answers.{dump_end_in-no_memory, failure_in-no_memory, headed_in-no_memory}
 use Rattle.neli_msg_base.specs.Kinds.{kind_of, payload_as, payload_in}
 
 module _ {K V : Type 0} (type_of : ℕ → K) (read : List ℕ → Result V DeError) (bodies : (s : List ℕ) → read s ≢ Err Memory) where
@@ -15,7 +15,8 @@ module _ {K V : Type 0} (type_of : ℕ → K) (read : List ℕ → Result V DeEr
   payload_as-no_memory Body s = bind-not (read s) _ Memory (bodies s) (λ v f. cc)
   payload_as-no_memory Nothing s = λ f. cc
   payload_as-no_memory DumpEnd s = bind-not (dump_end_in s) _ Memory (dump_end_in-no_memory s) (λ e f. cc)
-  payload_as-no_memory Acknowledgement s = bind-not (acknowledgement_in type_of s) _ Memory (acknowledgement_in-no_memory type_of s) (λ e f. cc)
+  payload_as-no_memory (Acknowledgement tail) s = bind-not (headed_in type_of tail s) _ Memory (headed_in-no_memory type_of tail s) (λ e f. cc)
+  payload_as-no_memory (Capped tail) s = bind-not (headed_in type_of tail s) _ Memory (headed_in-no_memory type_of tail s) (λ e f. cc)
   payload_as-no_memory Failure s = bind-not (failure_in type_of read s) _ Memory (failure_in-no_memory type_of read bodies s) (λ e f. cc)
 
   -- no payload is refused because memory ran out by itself

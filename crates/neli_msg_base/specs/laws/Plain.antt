@@ -11,8 +11,10 @@ use Rattle.neli_consts.specs.NlmsgerrAttr.{nlmsgerr_attr_of}
 use Rattle.neli_attr.specs.Attributes.{attribute, attributes_in}
 use Rattle.neli_attr.specs.TypeField.{type_of}
 use Rattle.neli_msg_base.specs.declared.payload.Kind.{Kind}
-use Rattle.neli_msg_base.specs.declared.payload.Kind.TheVariants.{Body, Nothing, DumpEnd, Acknowledgement, Failure}
-use Rattle.neli_msg_base.specs.Answers.{acknowledgement_in, after, after_echo, dump_end_in, echoed_count, echoed_in, echoed_length, ext_ack_in, failure_in}
+use Rattle.neli_msg_base.specs.declared.payload.Kind.TheVariants.{Body, Nothing, DumpEnd, Acknowledgement, Capped, Failure}
+use Rattle.neli_msg_base.specs.Answers.{after, after_echo, dump_end_in, echoed_count, echoed_in, echoed_length, ext_ack_in, failure_in, headed_in, tail_in}
+use Rattle.neli_msg_base.specs.declared.answer.Tail.{Tail}
+use Rattle.neli_msg_base.specs.declared.answer.Tail.TheVariants.{Unread, Attributes as Listed}
 use Rattle.neli_msg_base.specs.Kinds.{kind_of, payload_as}
 use Rattle.neli_msg_base.specs.Messages.{message_layout}
 
@@ -88,13 +90,21 @@ module _ (Q : DeError → Type 0) (missing : Q short) (lengths : (n : ℕ) → Q
       only-guard (ltb (echoed_length s) 16) (InvalidInput (echoed_length s)) _ (lengths (echoed_length s))
       (only-guard (ltb (length s - 20) (echoed_count s)) (InvalidInput (echoed_count s)) _ (lengths (echoed_count s)) (λ e is. absurd cc))
 
+  only-tail : (tail : Tail) (s : List ℕ) → Only (tail_in tail s)
+  only-tail Unread s e is = absurd cc
+  only-tail Listed s e is = only-attributes s e is
+
+  only-headed : {K : Type 0} (of : ℕ → K) (tail : Tail) (s : List ℕ) → Only (headed_in of tail s)
+  only-headed of tail s =
+      only-then (after 20 s) _ (only-after 20 s) (λ rest. only-then (tail_in tail rest) _ (only-tail tail rest) (λ attrs d no. absurd cc))
+
   only-payload : {K : Type 0} (of : ℕ → K) (kind : Kind) (s : List ℕ) → Only (payload_as of (λ bytes. Ok bytes) kind s)
   only-payload of Body s e is = absurd cc
   only-payload of Nothing s e is = absurd cc
   only-payload of DumpEnd s e is =
       only-then (dump_end_in s) _ (only-then (after 4 s) _ (only-after 4 s) (λ rest. only-then (ext_ack_in rest) _ (only-attributes rest) (λ attrs d no. absurd cc))) (λ x d no. absurd cc) e is
-  only-payload of Acknowledgement s e is =
-      only-then (acknowledgement_in of s) _ (only-then (after 20 s) _ (only-after 20 s) (λ rest d no. absurd cc)) (λ x d no. absurd cc) e is
+  only-payload of (Acknowledgement tail) s e is = only-then (headed_in of tail s) _ (only-headed of tail s) (λ x d no. absurd cc) e is
+  only-payload of (Capped tail) s e is = only-then (headed_in of tail s) _ (only-headed of tail s) (λ x d no. absurd cc) e is
   only-payload of Failure s e is =
       only-then (failure_in of (λ bytes. Ok bytes) s) _
       (only-then (after 20 s) _ (only-after 20 s) (λ rest.

@@ -13,16 +13,17 @@ use Rattle.neli_wire.specs.Reading.{◌>>=◌}
 use Rattle.neli_wire.specs.laws.Reading.{bind_ok, guard_ok, ok_is}
 use Rattle.neli_consts.specs.declared.nlm_f.NlmF.{NlmF}
 use Rattle.neli_msg_base.specs.declared.payload.Kind.{Kind}
-use Rattle.neli_msg_base.specs.declared.payload.Kind.TheVariants.{Body, Nothing, DumpEnd, Acknowledgement, Failure}
+use Rattle.neli_msg_base.specs.declared.payload.Kind.TheVariants.{Body, Nothing, DumpEnd, Acknowledgement, Capped, Failure}
+use Rattle.neli_msg_base.specs.declared.answer.Tail.{Tail}
 use Rattle.neli_msg_base.specs.declared.payload.NlPayload.{NlPayload}
 use Rattle.neli_msg_base.specs.declared.payload.NlPayload.TheVariants as payload
 use Rattle.neli_msg_base.specs.declared.answer.Nlmsgerr.{Nlmsgerr}
 use Rattle.neli_msg_base.specs.declared.echo.NlmsghdrErr.{NlmsghdrErr}
-use Rattle.neli_msg_base.specs.Answers.{Attributes, acknowledgement_in, after, after_echo, answer, ext_ack_in, code_in, dump_end_in, echo_with, echoed_in, failure_in}
+use Rattle.neli_msg_base.specs.Answers.{Attributes, after, after_echo, answer, ext_ack_in, code_in, dump_end_in, echo_with, echoed_in, failure_in, headed_in, tail_in}
 use Rattle.neli_msg_base.specs.Headers.{Header, header_in, flags_of}
 use Rattle.neli_msg_base.specs.Kinds.{kind_of, payload_as, payload_in}
 use Rattle.neli_msg_base.specs.Messages.{Message, message_layout}
-use Rattle.neli_msg_base.specs.Retyping.{IsRead, typed_echo, typed_failure, typed_header, typed_message, typed_payload}
+use Rattle.neli_msg_base.specs.Retyping.{IsRead, typed_acknowledgement, typed_echo, typed_failure, typed_header, typed_message, typed_payload}
 
 -- what untyped messages are read as: their type is its number, their body its bytes
 abbrev same : ℕ → ℕ
@@ -46,17 +47,26 @@ module _ {K V : Type 0} (type_of : ℕ → K) (read : List ℕ → Result V DeEr
   echo-chain k m attrs of (Ok v) a is each = rw (is, each v) refl
   echo-chain k m attrs of (Err d) a is each = refl
 
+  -- an answer that echoes a header alone
+  headed-typed : (tail : Tail) (s : List ℕ) (x : Nlmsgerr (Header ℕ)) → headed_in same tail s ≡ Ok x → headed_in type_of tail s ≡ Ok (typed_acknowledgement type_of x)
+  headed-typed tail s x e =
+      let r = bind_ok (after 20 s) _ x e in
+      let t = bind_ok (tail_in tail r.0) _ x r.2 in
+      let known : answer (code_in s) (header_in same (drop 4 s)) t.0 ≡ x = ok_is _ x t.2 in
+      rw (r.1, t.1) (ap (λ (y : Nlmsgerr (Header ℕ)). done (typed_acknowledgement type_of y)) known)
+
   payload_as-typed : (kind : Kind) (s : List ℕ) (u : NlPayload ℕ (List ℕ)) → payload_as same all kind s ≡ Ok u → payload_as type_of read kind s ≡ typed_payload type_of read u
   payload_as-typed Body s u e = ap (typed_payload type_of read) (ok_is (payload.Payload s) u e)
   payload_as-typed Nothing s u e = ap (typed_payload type_of read) (ok_is payload.Empty u e)
   payload_as-typed DumpEnd s u e =
       let b = bind_ok (dump_end_in s) _ u e in
       rw b.1 (ap (typed_payload type_of read) (ok_is (payload.DumpExtAck b.0) u b.2))
-  payload_as-typed Acknowledgement s u e =
-      let b = bind_ok (acknowledgement_in same s) _ u e in
-      let r = bind_ok (after 20 s) _ b.0 b.1 in
-      let known : answer (code_in s) (header_in same (drop 4 s)) [] ≡ b.0 = ok_is _ b.0 r.2 in
-      rw r.1 (ap (typed_payload type_of read) (ap (λ (x : Nlmsgerr (Header ℕ)). payload.Ack x) known ∙ ok_is (payload.Ack b.0) u b.2))
+  payload_as-typed (Acknowledgement tail) s u e =
+      let b = bind_ok (headed_in same tail s) _ u e in
+      rw (headed-typed tail s b.0 b.1) (ap (typed_payload type_of read) (ok_is (payload.Ack b.0) u b.2))
+  payload_as-typed (Capped tail) s u e =
+      let b = bind_ok (headed_in same tail s) _ u e in
+      rw (headed-typed tail s b.0 b.1) (ap (typed_payload type_of read) (ok_is (payload.Capped b.0) u b.2))
   payload_as-typed Failure s u e =
       let b = bind_ok (failure_in same all s) _ u e in
       let r = bind_ok (after 20 s) _ b.0 b.1 in
@@ -105,13 +115,21 @@ module _ {K V : Type 0} (type_of : ℕ → K) (read : List ℕ → Result V DeEr
       fails-after (read body) (ext_ack_in (after_echo s)) _ (λ v x. answer (code_in s) (echo_with type_of s v) x)
       (fails-bind (ext_ack_in (after_echo s)) (λ x. answer (code_in s) (echo_with same s body) x) (ext_ack_in (after_echo s)) (λ e is. rw is refl))))
 
+  headed-fails : (tail : Tail) (s : List ℕ) → Fails (headed_in same tail s) (headed_in type_of tail s)
+  headed-fails tail s =
+      fails-then (after 20 s) _ _ (λ rest.
+      fails-then (tail_in tail rest) _ _ (λ attrs. fails-not (answer (code_in s) (header_in same (drop 4 s)) attrs) (done (answer (code_in s) (header_in type_of (drop 4 s)) attrs))))
+
   payload_as-fails : (kind : Kind) (s : List ℕ) → Fails (payload_as same all kind s) (payload_as type_of read kind s)
   payload_as-fails Body s = fails-not (payload.Payload s) (payload_as type_of read Body s)
   payload_as-fails Nothing s = fails-not payload.Empty (payload_as type_of read Nothing s)
   payload_as-fails DumpEnd s = fails-then (dump_end_in s) _ _ (λ x. fails-not (payload.DumpExtAck x) (done {A = NlPayload K V} (payload.DumpExtAck x)))
-  payload_as-fails Acknowledgement s =
-      fails-bind (acknowledgement_in same s) (λ x. payload.Ack x) _
-      (fails-map (acknowledgement_in same s) (acknowledgement_in type_of s) (λ x. payload.Ack x) (fails-then (after 20 s) _ _ (λ rest. fails-not (answer (code_in s) (header_in same (drop 4 s)) []) (done (answer (code_in s) (header_in type_of (drop 4 s)) [])))))
+  payload_as-fails (Acknowledgement tail) s =
+      fails-bind (headed_in same tail s) (λ x. payload.Ack x) _
+      (fails-map (headed_in same tail s) (headed_in type_of tail s) (λ x. payload.Ack x) (headed-fails tail s))
+  payload_as-fails (Capped tail) s =
+      fails-bind (headed_in same tail s) (λ x. payload.Capped x) _
+      (fails-map (headed_in same tail s) (headed_in type_of tail s) (λ x. payload.Capped x) (headed-fails tail s))
   payload_as-fails Failure s =
       fails-bind (failure_in same all s) (λ x. payload.Err x) _
       (fails-map (failure_in same all s) (failure_in type_of read s) (λ x. payload.Err x) (failure_in-fails s))
@@ -189,6 +207,7 @@ module _ {K V : Type 0} (type_of : ℕ → K) (read : List ℕ → Result V DeEr
       let two = ok-map (typed_failure type_of read e) (λ f. payload.Err f) in
       (λ h. inner.0 (one.0 (two.0 h)), λ h. two.1 (one.1 (inner.1 h)))
   typed_payload-ok (payload.Ack e) = (λ h. tt, λ h. refl)
+  typed_payload-ok (payload.Capped e) = (λ h. tt, λ h. refl)
   typed_payload-ok (payload.DumpExtAck e) = (λ h. tt, λ h. refl)
   typed_payload-ok payload.Empty = (λ h. tt, λ h. refl)
 

@@ -82,6 +82,7 @@ module _ {K P : Type 0} (number_of : K → ℕ) (wire : P → Wire) (size : P �
 
   pub payload_wire-length : (p : NlPayload K P) (bytes : List ℕ) → payload_wire number_of wire p ≡ Ok bytes → length bytes ≡ payload_size size p
   payload_wire-length (payload.Ack e) = answer_wire-length (header_wire number_of) (λ _. 16) (header_wire-length number_of) e
+  payload_wire-length (payload.Capped e) = answer_wire-length (header_wire number_of) (λ _. 16) (header_wire-length number_of) e
   payload_wire-length (payload.DumpExtAck e) = answer_wire-length (λ _. Ok []) (λ _. 0) (λ u bytes is. written-length [] bytes 0 refl is) e
   payload_wire-length (payload.Err e) = answer_wire-length (echo_wire number_of wire) (λ m. align (echo_size size m)) echo_wire-length e
   payload_wire-length (payload.Payload p) = sized p
@@ -105,6 +106,7 @@ module _ {K P : Type 0} (number_of : K → ℕ) (wire : P → Wire) (none : (p :
 
   pub payload_wire-no_memory : (p : NlPayload K P) → payload_wire number_of wire p ≢ Err ser.Memory
   payload_wire-no_memory (payload.Ack e) = answer_wire-no_memory (header_wire number_of) (header_wire-no_memory number_of) e
+  payload_wire-no_memory (payload.Capped e) = answer_wire-no_memory (header_wire number_of) (header_wire-no_memory number_of) e
   payload_wire-no_memory (payload.DumpExtAck e) = answer_wire-no_memory (λ _. Ok []) (λ u. written-no_memory []) e
   payload_wire-no_memory (payload.Err e) = answer_wire-no_memory (echo_wire number_of wire) echo_wire-no_memory e
   payload_wire-no_memory (payload.Payload p) = none p

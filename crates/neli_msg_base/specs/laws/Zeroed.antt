@@ -29,15 +29,18 @@ use Rattle.neli_attr.specs.TypeField.{number_of, type_of}
 use Rattle.neli_attr.specs.laws.Attributes.{attribute-placed}
 use Rattle.neli_attr.specs.laws.TypeField.{number_of-type_of}
 use Rattle.neli_msg_base.specs.declared.payload.Kind.{Kind}
-use Rattle.neli_msg_base.specs.declared.payload.Kind.TheVariants.{Body, Nothing, DumpEnd, Acknowledgement, Failure}
+use Rattle.neli_msg_base.specs.declared.payload.Kind.TheVariants.{Body, Nothing, DumpEnd, Acknowledgement, Capped, Failure}
+use Rattle.neli_msg_base.specs.declared.answer.Nlmsgerr.{Nlmsgerr}
+use Rattle.neli_msg_base.specs.declared.answer.Tail.{Tail}
+use Rattle.neli_msg_base.specs.declared.answer.Tail.TheVariants.{Unread, Attributes as Listed}
 use Rattle.neli_msg_base.specs.declared.payload.NlPayload.{NlPayload}
 use Rattle.neli_msg_base.specs.declared.payload.NlPayload.TheVariants as payload
-use Rattle.neli_msg_base.specs.Answers.{Attributes, acknowledgement_in, after, after_echo, answer, attribute_of, code_in, dump_end_in, echo_end, echo_with, echoed_count, echoed_in, echoed_length, ext_ack_in, failure_in}
-use Rattle.neli_msg_base.specs.Headers.{Header, flags_of, header_in}
-use Rattle.neli_msg_base.specs.Kinds.{is_acknowledged, is_multi, kind_of, payload_as, payload_in}
-use Rattle.neli_msg_base.specs.Wires.{attributes_wire, payload_wire}
+use Rattle.neli_msg_base.specs.Answers.{Attributes, after, after_echo, answer, attribute_of, code_in, dump_end_in, echo_end, echo_with, echoed_count, echoed_in, echoed_length, ext_ack_in, failure_in, headed_in}
+use Rattle.neli_msg_base.specs.Headers.{Header, flags_of, header_in, header_wire}
+use Rattle.neli_msg_base.specs.Kinds.{is_acknowledged, is_capped, is_multi, kind_of, payload_as, payload_in, tail_of}
+use Rattle.neli_msg_base.specs.Wires.{answer_wire, attributes_wire, payload_wire}
 use Rattle.neli_msg_base.specs.Messages.{Message, message_layout}
-use Rattle.neli_msg_base.specs.Zeroed.{HasNoTail, attribute_length, attribute_zeroed, attributes_zeroed, message_length, message_zeroed, HasNoTailIn, payload_zeroed, untyped_wire, untyped_wires, datagram_zeroed, zeros_from}
+use Rattle.neli_msg_base.specs.Zeroed.{HasNoTail, IsAllRead, attribute_length, attribute_zeroed, attributes_zeroed, message_length, message_zeroed, HasNoTailIn, payload_zeroed, untyped_wire, untyped_wires, datagram_zeroed, zeros_from}
 use Rattle.neli_msg_base.specs.laws.ZeroedFrames.{States, all-true, bytes-drop, bytes-take, frames-aligned, frames-length, frames-wire, frames_by-nil, last_place, place, wire_all-map}
 
 -- ---- untyped
@@ -193,25 +196,68 @@ nothing-back [] u none e =
     subst (λ (x : NlPayload ℕ (List ℕ)). IsBack Nothing [] x) (ok_is payload.Empty u e) one
 nothing-back (b ∷ s) u none e = absurd (omega arith)
 
-acknowledgement-back : (s : List ℕ) (u : NlPayload ℕ (List ℕ)) → AreBytes s → length s ≤ 20 → payload_as same all Acknowledgement s ≡ Ok u → IsBack Acknowledgement s u
-acknowledgement-back s u bytes most e =
-    let b = bind_ok (acknowledgement_in same s) _ u e in
-    let r = bind_ok (after 20 s) _ b.0 b.1 in
-    let g = guard_ok (ltb (length s) 20) (InvalidInput (length s)) _ r.0 r.1 in
-    let long : 20 ≤ length s = ltb-false _ _ g.0 in
-    let known : answer (code_in s) (header_in same (drop 4 s)) [] ≡ b.0 = ok_is _ b.0 r.2 in
+-- an answer that echoes a header alone is written as these bytes
+record IsHeadBack (tail : Tail) (s : List ℕ) (x : Nlmsgerr (Header ℕ)) : Type 0 where
+  bytes : List ℕ
+  wire : answer_wire (header_wire same) x ≡ Ok bytes
+  is : bytes ++ zeros_for (16 + length bytes) ≡ payload_zeroed (Acknowledgement tail) s ++ zeros_for (16 + length s)
+
+-- its code and its header are its first 20 bytes
+head-parts : (s : List ℕ) → 20 ≤ length s → AreBytes s → signed_bytes w32 4 (code_in s) ++ header_bytes (header_in same (drop 4 s)) ≡ take 20 s
+head-parts s long bytes =
     let code = code-back s (omega arith) bytes in
     let header = header-back (drop 4 s) (omega (arith, length-drop 4 s)) (bytes-drop 4 s bytes) in
-    let parts : signed_bytes w32 4 (code_in s) ++ header_bytes (header_in same (drop 4 s)) ≡ take 4 s ++ take 16 (drop 4 s) =
-    ap (λ (x : List ℕ). x ++ header_bytes (header_in same (drop 4 s))) code ∙ ap (λ (x : List ℕ). take 4 s ++ x) header in
+    ap (λ (x : List ℕ). x ++ header_bytes (header_in same (drop 4 s))) code ∙ ap (λ (x : List ℕ). take 4 s ++ x) header ∙ sym (take-add 4 16 s)
+
+head-back : (tail : Tail) (s : List ℕ) (x : Nlmsgerr (Header ℕ)) → AreBytes s → IsAllRead tail (16 + length s) → headed_in same tail s ≡ Ok x → IsHeadBack tail s x
+head-back Unread s x bytes all_read e =
+    let r = bind_ok (after 20 s) _ x e in
+    let g = guard_ok (ltb (length s) 20) (InvalidInput (length s)) _ r.0 r.1 in
+    let long : 20 ≤ length s = ltb-false _ _ g.0 in
+    let most : length s ≤ 20 = omega (arith, all_read) in
+    let known : answer (code_in s) (header_in same (drop 4 s)) [] ≡ x = ok_is _ x r.2 in
     let text : (signed_bytes w32 4 (code_in s) ++ header_bytes (header_in same (drop 4 s))) ++ [] ≡ s =
-    append-nil _ ∙ parts ∙ sym (take-add 4 16 s) ∙ take_all 20 s most in
-    let one : IsBack Acknowledgement s (payload.Ack (answer (code_in s) (header_in same (drop 4 s)) [])) = record {
+    append-nil _ ∙ head-parts s long bytes ∙ take_all 20 s most in
+    let one : IsHeadBack Unread s (answer (code_in s) (header_in same (drop 4 s)) []) = record {
       bytes = s;
       wire = ap written text;
       is = ap (λ (x : List ℕ). x ++ zeros_for (16 + length s)) (sym (whole-zeroed s));
     } in
-    subst (λ (x : NlPayload ℕ (List ℕ)). IsBack Acknowledgement s x) (ap (λ x. payload.Ack x) known ∙ ok_is (payload.Ack b.0) u b.2) one
+    subst (λ (y : Nlmsgerr (Header ℕ)). IsHeadBack Unread s y) known one
+head-back Listed s x bytes all_read e =
+    let r = bind_ok (after 20 s) _ x e in
+    let g = guard_ok (ltb (length s) 20) (InvalidInput (length s)) _ r.0 r.1 in
+    let long : 20 ≤ length s = ltb-false _ _ g.0 in
+    let rest : drop 20 s ≡ r.0 = ok_is (drop 20 s) r.0 g.1 in
+    let t = bind_ok (ext_ack_in r.0) _ x r.2 in
+    let attrs : ext_ack_in (drop 20 s) ≡ Ok t.0 = ap ext_ack_in rest ∙ t.1 in
+    let known : answer (code_in s) (header_in same (drop 4 s)) t.0 ≡ x = ok_is _ x t.2 in
+    let listed = attributes-back (drop 20 s) t.0 (bytes-drop 20 s bytes) attrs in
+    let twenty : length (take 20 s) ≡ 20 = length-take-le 20 s long in
+    let front : zeros_from 20 (take 20 s) ≡ take 20 s = rw (take-take 20 20 s (omega arith), twenty) (append-nil (take 20 s)) in
+    let sized : length (take 20 s ++ attributes_zeroed (drop 20 s)) ≡ length s = omega (arith, length-append (take 20 s) (attributes_zeroed (drop 20 s)), twenty, listed.long, length-drop 20 s) in
+    let one : IsHeadBack Listed s (answer (code_in s) (header_in same (drop 4 s)) t.0) = record {
+      bytes = take 20 s ++ attributes_zeroed (drop 20 s);
+      wire =
+          ap (λ (w : Wire). (written (signed_bytes w32 4 (code_in s)) +++ written (header_bytes (header_in same (drop 4 s)))) +++ w) listed.back
+          ∙ ap (λ (x : List ℕ). written (x ++ attributes_zeroed (drop 20 s))) (head-parts s long bytes);
+      is = rw (sized, front) refl;
+    } in
+    subst (λ (y : Nlmsgerr (Header ℕ)). IsHeadBack Listed s y) known one
+
+acknowledgement-back : (tail : Tail) (s : List ℕ) (u : NlPayload ℕ (List ℕ)) → AreBytes s → IsAllRead tail (16 + length s) → payload_as same all (Acknowledgement tail) s ≡ Ok u → IsBack (Acknowledgement tail) s u
+acknowledgement-back tail s u bytes all_read e =
+    let b = bind_ok (headed_in same tail s) _ u e in
+    let back = head-back tail s b.0 bytes all_read b.1 in
+    let one : IsBack (Acknowledgement tail) s (payload.Ack b.0) = record { bytes = back.bytes; wire = back.wire; is = back.is } in
+    subst (λ (x : NlPayload ℕ (List ℕ)). IsBack (Acknowledgement tail) s x) (ok_is (payload.Ack b.0) u b.2) one
+
+capped-back : (tail : Tail) (s : List ℕ) (u : NlPayload ℕ (List ℕ)) → AreBytes s → IsAllRead tail (16 + length s) → payload_as same all (Capped tail) s ≡ Ok u → IsBack (Capped tail) s u
+capped-back tail s u bytes all_read e =
+    let b = bind_ok (headed_in same tail s) _ u e in
+    let back = head-back tail s b.0 bytes all_read b.1 in
+    let one : IsBack (Capped tail) s (payload.Capped b.0) = record { bytes = back.bytes; wire = back.wire; is = back.is } in
+    subst (λ (x : NlPayload ℕ (List ℕ)). IsBack (Capped tail) s x) (ok_is (payload.Capped b.0) u b.2) one
 
 dump_end-back : (s : List ℕ) (u : NlPayload ℕ (List ℕ)) → AreBytes s → payload_as same all DumpEnd s ≡ Ok u → IsBack DumpEnd s u
 dump_end-back s u bytes e =
@@ -316,33 +362,76 @@ failure-back s u bytes e =
 
 -- ---- messages
 
+-- the kind by the bits that tell it
+abbrev kind_bits : Bool → Bool → Bool → Bool → Bool → Bool → Tail → Kind
+kind_bits is2 ok capped is3 none multi tail =
+    cond is2 (cond ok (Acknowledgement tail) (cond capped (Capped tail) Failure)) (cond is3 (cond none Nothing (cond multi DumpEnd Body)) Body)
+
 -- a payload that says nothing has no bytes
-nothing-bits : (is2 ok is3 none multi : Bool) → cond is2 (cond ok Acknowledgement Failure) (cond is3 (cond none Nothing (cond multi DumpEnd Body)) Body) ≡ Nothing → none ≡ true
-nothing-bits true true is3 none multi e = absurd cc
-nothing-bits true false is3 none multi e = absurd cc
-nothing-bits false ok true true multi e = refl
-nothing-bits false ok true false true e = absurd cc
-nothing-bits false ok true false false e = absurd cc
-nothing-bits false ok false none multi e = absurd cc
+nothing-bits : (is2 ok capped is3 none multi : Bool) (tail : Tail) → kind_bits is2 ok capped is3 none multi tail ≡ Nothing → none ≡ true
+nothing-bits true true capped is3 none multi tail e = absurd cc
+nothing-bits true false true is3 none multi tail e = absurd cc
+nothing-bits true false false is3 none multi tail e = absurd cc
+nothing-bits false ok capped true true multi tail e = refl
+nothing-bits false ok capped true false true tail e = absurd cc
+nothing-bits false ok capped true false false tail e = absurd cc
+nothing-bits false ok capped false none multi tail e = absurd cc
 
 nothing-empty : (number : ℕ) (flags : NlmF) (s : List ℕ) → kind_of number flags s ≡ Nothing → length s ≡ 0
 nothing-empty number flags s e =
-    eqb-true (length s) 0 (nothing-bits (nat_eq number 2) (is_acknowledged s) (nat_eq number 3) (nat_eq (length s) 0) (is_multi flags) e)
+    eqb-true (length s) 0 (nothing-bits (nat_eq number 2) (is_acknowledged s) (is_capped flags) (nat_eq number 3) (nat_eq (length s) 0) (is_multi flags) (tail_of flags) e)
 
--- an acknowledgement that was read has no tail where its payload has 20 bytes
-acknowledged-short : (s : List ℕ) (u : NlPayload ℕ (List ℕ)) (len : ℕ) → payload_as same all Acknowledgement s ≡ Ok u → HasNoTailIn len u → len ≤ 36
-acknowledged-short s u len e tail =
-    let b = bind_ok (acknowledgement_in same s) _ u e in
-    subst (λ (x : NlPayload ℕ (List ℕ)). HasNoTailIn len x) (sym (ok_is (payload.Ack b.0) u b.2)) tail
+-- the tail of an answer that echoes a header alone is the one that the flags tell
+acknowledgement-bits : (is2 ok capped is3 none multi : Bool) (tail t : Tail) → kind_bits is2 ok capped is3 none multi tail ≡ Acknowledgement t → tail ≡ t
+acknowledgement-bits true true capped is3 none multi tail t e = cc
+acknowledgement-bits true false true is3 none multi tail t e = absurd cc
+acknowledgement-bits true false false is3 none multi tail t e = absurd cc
+acknowledgement-bits false ok capped true true multi tail t e = absurd cc
+acknowledgement-bits false ok capped true false true tail t e = absurd cc
+acknowledgement-bits false ok capped true false false tail t e = absurd cc
+acknowledgement-bits false ok capped false none multi tail t e = absurd cc
 
-payload-back : (number : ℕ) (flags : NlmF) (s : List ℕ) (u : NlPayload ℕ (List ℕ)) → AreBytes s → payload_in same all number flags s ≡ Ok u → HasNoTailIn (16 + length s) u → IsBack (kind_of number flags s) s u
+capped-bits : (is2 ok capped is3 none multi : Bool) (tail t : Tail) → kind_bits is2 ok capped is3 none multi tail ≡ Capped t → tail ≡ t
+capped-bits true true capped is3 none multi tail t e = absurd cc
+capped-bits true false true is3 none multi tail t e = cc
+capped-bits true false false is3 none multi tail t e = absurd cc
+capped-bits false ok capped true true multi tail t e = absurd cc
+capped-bits false ok capped true false true tail t e = absurd cc
+capped-bits false ok capped true false false tail t e = absurd cc
+capped-bits false ok capped false none multi tail t e = absurd cc
+
+acknowledgement-tail : (number : ℕ) (flags : NlmF) (s : List ℕ) (t : Tail) → kind_of number flags s ≡ Acknowledgement t → tail_of flags ≡ t
+acknowledgement-tail number flags s t =
+    acknowledgement-bits (nat_eq number 2) (is_acknowledged s) (is_capped flags) (nat_eq number 3) (nat_eq (length s) 0) (is_multi flags) (tail_of flags) t
+
+capped-tail : (number : ℕ) (flags : NlmF) (s : List ℕ) (t : Tail) → kind_of number flags s ≡ Capped t → tail_of flags ≡ t
+capped-tail number flags s t =
+    capped-bits (nat_eq number 2) (is_acknowledged s) (is_capped flags) (nat_eq number 3) (nat_eq (length s) 0) (is_multi flags) (tail_of flags) t
+
+-- where no byte of a payload was left unread, none was after the header that it echoes
+acknowledgement-read : (tail : Tail) (s : List ℕ) (u : NlPayload ℕ (List ℕ)) (len : ℕ) → payload_as same all (Acknowledgement tail) s ≡ Ok u → HasNoTailIn tail len u → IsAllRead tail len
+acknowledgement-read tail s u len e all_read =
+    let b = bind_ok (headed_in same tail s) _ u e in
+    subst (λ (x : NlPayload ℕ (List ℕ)). HasNoTailIn tail len x) (sym (ok_is (payload.Ack b.0) u b.2)) all_read
+
+capped-read : (tail : Tail) (s : List ℕ) (u : NlPayload ℕ (List ℕ)) (len : ℕ) → payload_as same all (Capped tail) s ≡ Ok u → HasNoTailIn tail len u → IsAllRead tail len
+capped-read tail s u len e all_read =
+    let b = bind_ok (headed_in same tail s) _ u e in
+    subst (λ (x : NlPayload ℕ (List ℕ)). HasNoTailIn tail len x) (sym (ok_is (payload.Capped b.0) u b.2)) all_read
+
+payload-back : (number : ℕ) (flags : NlmF) (s : List ℕ) (u : NlPayload ℕ (List ℕ)) → AreBytes s → payload_in same all number flags s ≡ Ok u → HasNoTailIn (tail_of flags) (16 + length s) u → IsBack (kind_of number flags s) s u
 payload-back number flags s u bytes e tail = by (kind_of number flags s) refl e
   where
     by : (kind : Kind) → kind_of number flags s ≡ kind → payload_as same all kind s ≡ Ok u → IsBack kind s u
     by Body is e = body-back s u e
     by Nothing is e = nothing-back s u (nothing-empty number flags s is) e
     by DumpEnd is e = dump_end-back s u bytes e
-    by Acknowledgement is e = acknowledgement-back s u bytes (omega (arith, acknowledged-short s u (16 + length s) e tail)) e
+    by (Acknowledgement t) is e =
+        let no_tail : HasNoTailIn t (16 + length s) u = subst (λ (x : Tail). HasNoTailIn x (16 + length s) u) (acknowledgement-tail number flags s t is) tail in
+        acknowledgement-back t s u bytes (acknowledgement-read t s u (16 + length s) e no_tail) e
+    by (Capped t) is e =
+        let no_tail : HasNoTailIn t (16 + length s) u = subst (λ (x : Tail). HasNoTailIn x (16 + length s) u) (capped-tail number flags s t is) tail in
+        capped-back t s u bytes (capped-read t s u (16 + length s) e no_tail) e
     by Failure is e = failure-back s u bytes e
 
 pub message-states : States untyped_layout message_length
@@ -364,13 +453,14 @@ message-back frame m bytes tail is = subst Q is.header_is there is.least is.whol
     body = take (n - 16) (drop 16 frame)
 
     Q : Header ℕ → Type 0
-    Q h = 16 ≤ h.len → length frame ≡ align h.len → payload_in same all h.message_type h.flags (take (h.len - 16) (drop 16 frame)) ≡ Ok m.1 → HasNoTailIn h.len m.1 → untyped_wire (h, m.1) ≡ Ok (message_zeroed frame)
+    Q h = 16 ≤ h.len → length frame ≡ align h.len → payload_in same all h.message_type h.flags (take (h.len - 16) (drop 16 frame)) ≡ Ok m.1 → HasNoTailIn (tail_of h.flags) h.len m.1 → untyped_wire (h, m.1) ≡ Ok (message_zeroed frame)
 
     there : Q (header_in same frame)
     there least whole reads tail =
         let sized : length body ≡ n - 16 = length-take-le (n - 16) (drop 16 frame) (omega (arith, whole, length-drop 16 frame)) in
         let len : 16 + length body ≡ n = omega (arith, sized) in
-        let tailless : HasNoTailIn (16 + length body) m.1 = subst (λ (k : ℕ). HasNoTailIn k m.1) (sym len) tail in
+        let flags : NlmF = flags_of (number_in 2 6 frame) in
+        let tailless : HasNoTailIn (tail_of flags) (16 + length body) m.1 = subst (λ (k : ℕ). HasNoTailIn (tail_of flags) k m.1) (sym len) tail in
         let back = payload-back (number_in 2 4 frame) (flags_of (number_in 2 6 frame)) body m.1 (bytes-take (n - 16) (drop 16 frame) (bytes-drop 16 frame bytes)) reads tailless in
         let w : List ℕ = back.bytes in
         let head = header-back frame (omega (arith, whole)) bytes in

@@ -22,9 +22,11 @@ use Rattle.neli_attr.specs.laws.Attributes.{attribute-placed}
 use Rattle.neli_msg_base.specs.declared.answer.Nlmsgerr.{Nlmsgerr}
 use Rattle.neli_msg_base.specs.declared.echo.NlmsghdrErr.{NlmsghdrErr}
 use Rattle.neli_msg_base.specs.declared.payload.Kind.{Kind}
-use Rattle.neli_msg_base.specs.declared.payload.Kind.TheVariants.{Body, Nothing, DumpEnd, Acknowledgement, Failure}
+use Rattle.neli_msg_base.specs.declared.payload.Kind.TheVariants.{Body, Nothing, DumpEnd, Acknowledgement, Capped, Failure}
+use Rattle.neli_msg_base.specs.declared.answer.Tail.{Tail}
+use Rattle.neli_msg_base.specs.declared.answer.Tail.TheVariants.{Unread, Attributes as Listed}
 use Rattle.neli_msg_base.specs.declared.payload.NlPayload.{NlPayload}
-use Rattle.neli_msg_base.specs.Answers.{Attributes, after, after_echo, answer, attribute_of, code_in, dump_end_in, echo_end, echo_with, echoed_count, echoed_in, echoed_length, ext_ack_in, failure_in}
+use Rattle.neli_msg_base.specs.Answers.{Attributes, after, after_echo, answer, attribute_of, code_in, dump_end_in, echo_end, echo_with, echoed_count, echoed_in, echoed_length, ext_ack_in, failure_in, headed_in}
 use Rattle.neli_msg_base.specs.Headers.{Header, flags_of, header_in}
 use Rattle.neli_msg_base.specs.Kinds.{kind_of, payload_as, payload_in}
 use Rattle.neli_msg_base.specs.Messages.{Message, message_layout}
@@ -222,6 +224,70 @@ failure-again number flags s u kind e =
     failure_of : ℤ → Header ℕ → List ℕ → Attributes → Result (Nlmsgerr (NlmsghdrErr ℕ (List ℕ))) DeError
     failure_of c h body attrs = Ok (answer c (record { header = h; payload = body }) attrs)
 
+-- ---- answers that echo a header alone
+
+headed-reads : (t : List ℕ) (attrs : Attributes) → 20 ≤ length t → ext_ack_in (drop 20 t) ≡ Ok attrs → headed_in same Listed t ≡ Ok (answer (code_in t) (header_in same (drop 4 t)) attrs)
+headed-reads t attrs long lists = rw (le-ltb (length t) 20 long, lists) refl
+
+-- with zeros for the padding of its attributes it is read as the same answer, and its code is the same
+record IsHeadAgain (s z : List ℕ) (x : Nlmsgerr (Header ℕ)) : Type 0 where
+  long : length z ≡ length s
+  code : number_in 4 0 z ≡ number_in 4 0 s
+  reads : headed_in same Listed z ≡ Ok x
+
+head-again : (s : List ℕ) (x : Nlmsgerr (Header ℕ)) → headed_in same Listed s ≡ Ok x → IsHeadAgain s (payload_zeroed (Acknowledgement Listed) s) x
+head-again s x e =
+    let r = bind_ok (after 20 s) _ x e in
+    let g = guard_ok (ltb (length s) 20) (InvalidInput (length s)) _ r.0 r.1 in
+    let long : 20 ≤ length s = ltb-false _ _ g.0 in
+    let rest : drop 20 s ≡ r.0 = ok_is (drop 20 s) r.0 g.1 in
+    let t = bind_ok (ext_ack_in r.0) _ x r.2 in
+    let known : answer (code_in s) (header_in same (drop 4 s)) t.0 ≡ x = ok_is _ x t.2 in
+    let again = attributes-again (drop 20 s) t.0 (ap ext_ack_in rest ∙ t.1) in
+    let a : List ℕ = attributes_zeroed (drop 20 s) in
+    let z : List ℕ = take 20 s ++ a in
+    let twenty : length (take 20 s) ≡ 20 = length-take-le 20 s long in
+    let front : zeros_from 20 (take 20 s) ≡ take 20 s = rw (take-take 20 20 s (omega arith), twenty) (append-nil (take 20 s)) in
+    let is : payload_zeroed (Acknowledgement Listed) s ≡ z = ap (λ (y : List ℕ). y ++ a) front in
+    let sized : length z ≡ length s = omega (arith, length-append (take 20 s) a, twenty, again.1, length-drop 20 s) in
+    let code : number_in 4 0 z ≡ number_in 4 0 s = number-same 4 0 20 s a (omega arith) long in
+    let codes : code_in z ≡ code_in s = ap (cast_signed w32) code in
+    let after_head : drop 20 z ≡ a = drop_at (take 20 s) a 20 twenty in
+    let headers : header_in same (drop 4 z) ≡ header_in same (drop 4 s) = header-same (drop 4 s) (drop 4 z) (omega (arith, length-drop 4 s)) (omega (arith, length-drop 4 z, sized)) (part-same 20 4 16 s a (omega arith) long) in
+    let reads : headed_in same Listed z ≡ Ok x = headed-reads z t.0 (omega (arith, sized)) (ap ext_ack_in after_head ∙ again.0) ∙ ap (λ c. headed_of c (header_in same (drop 4 z)) t.0) codes ∙ ap (λ k. headed_of (code_in s) k t.0) headers ∙ ap whole known in
+    let one : IsHeadAgain s z x = record { long = sized; code = code; reads = reads } in
+    subst (λ (y : List ℕ). IsHeadAgain s y x) (sym is) one
+  where
+    whole : Nlmsgerr (Header ℕ) → Result (Nlmsgerr (Header ℕ)) DeError
+    whole x = Ok x
+
+    headed_of : ℤ → Header ℕ → Attributes → Result (Nlmsgerr (Header ℕ)) DeError
+    headed_of c h attrs = Ok (answer c h attrs)
+
+acknowledgement-again : (number : ℕ) (flags : NlmF) (s : List ℕ) (u : NlPayload ℕ (List ℕ)) → kind_of number flags s ≡ Acknowledgement Listed → payload_as same all (Acknowledgement Listed) s ≡ Ok u → IsAgain number flags s (payload_zeroed (Acknowledgement Listed) s) u
+acknowledgement-again number flags s u kind e =
+    let b = bind_ok (headed_in same Listed s) _ u e in
+    let h = head-again s b.0 b.1 in
+    let z : List ℕ = payload_zeroed (Acknowledgement Listed) s in
+    let here : payload_as same all (Acknowledgement Listed) z ≡ Ok u = rw h.reads b.2 in
+    let kinds : kind_of number flags z ≡ Acknowledgement Listed = kind-same number flags s z h.long h.code ∙ kind in
+    record {
+      long = h.long;
+      reads = ap (λ (k : Kind). payload_as same all k z) kinds ∙ here;
+    }
+
+capped-again : (number : ℕ) (flags : NlmF) (s : List ℕ) (u : NlPayload ℕ (List ℕ)) → kind_of number flags s ≡ Capped Listed → payload_as same all (Capped Listed) s ≡ Ok u → IsAgain number flags s (payload_zeroed (Capped Listed) s) u
+capped-again number flags s u kind e =
+    let b = bind_ok (headed_in same Listed s) _ u e in
+    let h = head-again s b.0 b.1 in
+    let z : List ℕ = payload_zeroed (Capped Listed) s in
+    let here : payload_as same all (Capped Listed) z ≡ Ok u = rw h.reads b.2 in
+    let kinds : kind_of number flags z ≡ Capped Listed = kind-same number flags s z h.long h.code ∙ kind in
+    record {
+      long = h.long;
+      reads = ap (λ (k : Kind). payload_as same all k z) kinds ∙ here;
+    }
+
 payload-again : (number : ℕ) (flags : NlmF) (s : List ℕ) (u : NlPayload ℕ (List ℕ)) → payload_in same all number flags s ≡ Ok u → IsAgain number flags s (payload_zeroed (kind_of number flags s) s) u
 payload-again number flags s u e = by (kind_of number flags s) refl e
   where
@@ -229,7 +295,10 @@ payload-again number flags s u e = by (kind_of number flags s) refl e
     by Body is reads = plain-again Body number flags s u (whole-zeroed s) e
     by Nothing is reads = plain-again Nothing number flags s u (whole-zeroed s) e
     by DumpEnd is reads = dump_end-again number flags s u is reads
-    by Acknowledgement is reads = plain-again Acknowledgement number flags s u (whole-zeroed s) e
+    by (Acknowledgement Unread) is reads = plain-again (Acknowledgement Unread) number flags s u (whole-zeroed s) e
+    by (Acknowledgement Listed) is reads = acknowledgement-again number flags s u is reads
+    by (Capped Unread) is reads = plain-again (Capped Unread) number flags s u (whole-zeroed s) e
+    by (Capped Listed) is reads = capped-again number flags s u is reads
     by Failure is reads = failure-again number flags s u is reads
 
 -- ---- messages
