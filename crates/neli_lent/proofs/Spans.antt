@@ -43,6 +43,7 @@ payload_same : (p : NlPayload ℕ (List ℕ)) → payload_view (λ b. b) p ≡ p
 payload_same (payload.Payload b) = refl
 payload_same (payload.Err e) = refl
 payload_same (payload.Ack e) = refl
+payload_same (payload.Capped e) = refl
 payload_same (payload.DumpExtAck e) = refl
 payload_same payload.Empty = refl
 

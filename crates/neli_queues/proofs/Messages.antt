@@ -12,6 +12,7 @@ payload_view-same : (p : NlPayload ℕ (List ℕ)) → payload_view (λ b. b) p 
 payload_view-same (payload.Payload b) = refl
 payload_view-same (payload.Err e) = refl
 payload_view-same (payload.Ack e) = refl
+payload_view-same (payload.Capped e) = refl
 payload_view-same (payload.DumpExtAck e) = refl
 payload_view-same payload.Empty = refl
 

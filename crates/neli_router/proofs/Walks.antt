@@ -38,6 +38,7 @@ refused-is result takes (router.Io k) n r = r
 refused-is result takes (router.De d) n r = r
 refused-is result takes (router.Socket s) n r = r
 refused-is result takes (router.Nlmsgerr a) n r = r
+refused-is result takes (router.Capped a) n r = r
 refused-is result takes (router.BadSeqOrPid m) n r = r
 refused-is result takes router.NoAck n r = r
 refused-is result takes router.UnexpectedAck n r = r

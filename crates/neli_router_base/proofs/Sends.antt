@@ -1,6 +1,6 @@
 -- Requests that are refused.
-use Rattle.std.proofs.Common.{◌≡◌, ℕ, Bool, true, false, Ok, Err, Some, refl, sym, ap, subst}
-use Rattle.std.specs.Prelude.{codes, if◌then◌else◌, nat_lt}
+use Rattle.std.proofs.Common.{◌≡◌, ℕ, Bool, true, false, Ok, Err, Result, Some, refl, sym, ap, subst}
+use Rattle.std.specs.Prelude.{IfErr, IsErrAnd, codes, if◌then◌else◌, nat_lt}
 use Rattle.neli_wire.specs.Refusals.{IsRefusal, ser_ran_out}
 use Rattle.neli_wire.specs.SerError.{SerError}
 use Rattle.neli_wire.specs.SerError.TheVariants as ser
@@ -44,3 +44,15 @@ module _ {T P : Type 0} (number_of : T → ℕ) (wire : P → Wire) (size : P �
     -- why a built request is not sent
     pub refused-request : built_message size (record { nl_type = Some t; nl_flags = Some (with_request f); nl_seq = Some number; nl_pid = Some port; nl_payload = Some p }) ≡ Ok m → IsRefusal ser_ran_out (message_wire number_of wire m) room e → RefusesSend {T = T} {P = P} (frame_or_refusal number_of wire size port number false t f p) (TakesMemory number_of wire size false p) (socket_of (of_ser e))
     refused-request is r = refused-by (nat_lt 4294967295 (request_length number_of wire size p)) is r
+
+-- a refusal that is passed on as it is
+pub refused_passed : {B E : Type 0} (P : E → Type 0) (r : Result B E) (e : E) → IsErrAnd r (λ d. d ≡ e) → P e → IfErr r P
+refused_passed P (Ok x) e is why = tt
+refused_passed P (Err d) e is why = subst P (sym is) why
+
+-- the refusal of a request's bytes is that of the request: its port is the router's, and its number is not in use
+pub refused_request : {T P B : Type 0} (number_of : T → ℕ) (wire : P → Wire) (size : P → ℕ) (port own number : ℕ) (in_use : Bool) (t : T) (flags : NlmF) (payload : NlPayload T P) (r : Result B (RouterError T P)) (e : RouterError T P) → port ≡ own → in_use ≡ false → IsErrAnd r (λ d. d ≡ e) → RefusesSend (frame_or_refusal number_of wire size port number false t flags payload) (TakesMemory number_of wire size false payload) e → IfErr r (RefusesSend (frame_or_refusal number_of wire size own number in_use t flags payload) (TakesMemory number_of wire size in_use payload))
+refused_request number_of wire size port own number in_use t flags payload r e same free is why =
+    refused_passed (RefusesSend (frame_or_refusal number_of wire size own number in_use t flags payload) (TakesMemory number_of wire size in_use payload)) r e is
+    (subst (λ (x : Bool). RefusesSend (frame_or_refusal number_of wire size own number x t flags payload) (TakesMemory number_of wire size x payload) e) (sym free)
+    (subst (λ (p : ℕ). RefusesSend (frame_or_refusal number_of wire size p number false t flags payload) (TakesMemory number_of wire size false payload) e) same why))

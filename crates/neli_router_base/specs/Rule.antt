@@ -26,6 +26,7 @@ has_number (Some q) = true
 abbrev pub is_answer : {K P : Type 0} → NlPayload K P → Bool
 is_answer (payload.Ack e) = true
 is_answer (payload.Err e) = true
+is_answer (payload.Capped e) = true
 is_answer p = false
 
 -- nothing follows: an acknowledgement, an error, a stray, a fault, or what could not be read as the caller's types
@@ -67,6 +68,7 @@ module _ {K P : Type 0} (number_of : K → ℕ) (needs numbered : Bool) where
 abbrev pub last_by : {K P : Type 0} → Bool → Bool → Nlmsghdr K P → NlPayload K P → Item K P
 last_by needs after m (payload.Ack e) = if needs then Ok m else Err router.UnexpectedAck
 last_by needs after m (payload.Err e) = if after then Err router.NoAck else Err (router.Nlmsgerr e)
+last_by needs after m (payload.Capped e) = if after then Err router.NoAck else Err (router.Capped e)
 last_by needs after m p = if after then Err router.NoAck else Ok m
 
 -- at the last place

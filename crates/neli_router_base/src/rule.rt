@@ -24,7 +24,7 @@ fn is_final<T, P>(item: &Result<Nlmsghdr<T, P>, RouterError<T, P>>) -> bool
 {
     match item {
         Ok(message) => match message.nl_payload() {
-            NlPayload::Ack(_) | NlPayload::Err(_) => true,
+            NlPayload::Ack(_) | NlPayload::Err(_) | NlPayload::Capped(_) => true,
             _ => false,
         },
         Err(_) => true,
@@ -64,6 +64,12 @@ fn last<T: NlType, P: Drop>(
     }
     if handle.single_given {
         return Err(RouterError::NoAck);
+    }
+    if let NlPayload::Capped(_) = message.nl_payload() {
+        return match message.get_capped() {
+            Some(answer) => Err(RouterError::Capped(answer)),
+            None => Ok(message),
+        };
     }
     match message.get_err() {
         Some(answer) => Err(RouterError::Nlmsgerr(answer)),
