@@ -32,6 +32,7 @@ abbrev pub error_text : RawError → List ℕ
 error_text router.NoAck = codes "noack"
 error_text router.UnexpectedAck = codes "unexpectedack"
 error_text (router.Nlmsgerr answer) = codes "netlink " ++ signed_decimal answer.error
+error_text (router.Capped answer) = codes "capped " ++ signed_decimal answer.error
 error_text (router.BadSeqOrPid m) =
     codes "stray number " ++ (decimal m.header.sequence_number
     ++ (codes " port " ++ decimal m.header.port))

@@ -54,6 +54,10 @@ fn write_error<W: Write>(error: &RawError, output: &mut W) -> io::Result<()>
             let code = *answer.error();
             write!(output, "netlink {code}")
         }
+        RouterError::Capped(answer) => {
+            let code = *answer.error();
+            write!(output, "capped {code}")
+        }
         RouterError::BadSeqOrPid(message) => {
             let number = *message.nl_seq();
             let port = *message.nl_pid();

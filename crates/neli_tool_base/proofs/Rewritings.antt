@@ -28,7 +28,7 @@ use Rattle.neli_tool_base.specs.Listing.{Raw, ending_of, raw_cut}
 use Rattle.neli_tool_base.specs.Rewriting.{Rewrites}
 
 -- a message as it is held, and as it is seen
-abbrev Held : Type 0
+abbrev pub Held : Type 0
 Held = Nlmsghdr ℕ (List ℕ)
 
 abbrev seen : Held → Raw
@@ -41,6 +41,7 @@ same_wire : (h : Header ℕ) (p : NlPayload ℕ (List ℕ)) → untyped_wire (se
 same_wire h (payload.Payload b) = refl
 same_wire h (payload.Err e) = refl
 same_wire h (payload.Ack e) = refl
+same_wire h (payload.Capped e) = refl
 same_wire h (payload.DumpExtAck e) = refl
 same_wire h payload.Empty = refl
 
@@ -81,7 +82,7 @@ rewritten bytes old written items fits cut whole none writes =
       is,
     )
 
--- an acknowledgement has a tail
+-- a message has a tail
 pub has_tail : (bytes old : List ℕ) (items : List Held) → old ≡ [] → raw_cut bytes ≡ (map seen items, None) → ¬ All (λ m. HasNoTail (seen m)) items → Rewrites bytes old Tail
 has_tail bytes old items none cut tail = (
   ap (λ (c : Cut Raw). c.1) cut,

@@ -1,5 +1,5 @@
 -- What is printed of a datagram.
-use Rattle.std.specs.Prelude.{◌≡◌, ◌≢◌, ◌⊎◌, ◌<◌, ℕ, ℤ, List, ◌++◌, length, take, codes, Option, Some, None, Result, Ok}
+use Rattle.std.specs.Prelude.{◌≡◌, ◌≢◌, ◌⊎◌, ◌<◌, ℕ, ℤ, List, ◌++◌, length, take, codes, Option, Some, None, Result, Ok, nat_eq, if◌then◌else◌}
 use Rattle.std.specs.List.{flat_map}
 use Rattle.std.specs.Fmt.{decimal, signed_decimal}
 use Rattle.neli_wire.specs.DeError.{DeError}
@@ -35,7 +35,8 @@ count_text kind code count = kind ++ (signed_decimal code ++ (codes " attributes
 -- what is printed of a kind
 abbrev pub kind_text : Kind → List ℕ
 kind_text (kind.Payload count) = codes "payload " ++ decimal count
-kind_text kind.Ack = codes "ack"
+kind_text (kind.Ack count) = if nat_eq count 0 then codes "ack" else codes "ack attributes " ++ decimal count
+kind_text (kind.Capped code count) = count_text (codes "capped ") code count
 kind_text (kind.Error code count) = count_text (codes "error ") code count
 kind_text (kind.Done code count) = count_text (codes "done ") code count
 kind_text kind.Empty = codes "empty"
@@ -43,7 +44,8 @@ kind_text kind.Empty = codes "empty"
 -- the kind of a payload, and how many bytes or attributes it has
 abbrev pub kind_in : RawPayload → Kind
 kind_in (payload.Payload bytes) = kind.Payload (length bytes)
-kind_in (payload.Ack e) = kind.Ack
+kind_in (payload.Ack e) = kind.Ack (length e.ext_ack)
+kind_in (payload.Capped e) = kind.Capped e.error (length e.ext_ack)
 kind_in (payload.Err e) = kind.Error e.error (length e.ext_ack)
 kind_in (payload.DumpExtAck e) = kind.Done e.error (length e.ext_ack)
 kind_in payload.Empty = kind.Empty

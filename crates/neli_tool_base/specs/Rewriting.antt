@@ -7,7 +7,7 @@ use Rattle.neli_tool_base.specs.declared.line.Ending.TheVariants.{Whole, Tail, M
 use Rattle.neli_tool_base.specs.Listing.{ending_of, raw_cut}
 
 -- all its bytes with zeros for padding, where it has no fault and all of it is read; nothing, and the ending of its
--- fault, where it has one; nothing, and the ending for a tail, where an acknowledgement has one; or memory ran out
+-- fault, where it has one; nothing, and the ending for a tail, where a message has one; or memory ran out
 abbrev pub Rewrites : List ℕ → List ℕ → Ending → Type 0
 Rewrites bytes written Whole =
     ((raw_cut bytes).1 ≡ None) × All HasNoTail (raw_cut bytes).0 × (written ≡ datagram_zeroed bytes)

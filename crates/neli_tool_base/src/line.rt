@@ -35,7 +35,8 @@ impl fmt::Display for FourDigits {
 #[derive(Clone, Copy)]
 enum Kind {
     Payload(usize),
-    Ack,
+    Ack(usize),
+    Capped(i32, usize),
     Error(i32, usize),
     Done(i32, usize),
     Empty,
@@ -50,7 +51,9 @@ impl fmt::Display for Kind {
     fn fmt<W: fmt::Write>(&self, f: &mut fmt::Formatter<W>) -> fmt::Result {
         match self {
             Kind::Payload(count) => write!(f, "payload {count}"),
-            Kind::Ack => write!(f, "ack"),
+            Kind::Ack(0) => write!(f, "ack"),
+            Kind::Ack(count) => write!(f, "ack attributes {count}"),
+            Kind::Capped(code, count) => write!(f, "capped {code} attributes {count}"),
             Kind::Error(code, count) => write!(f, "error {code} attributes {count}"),
             Kind::Done(code, count) => write!(f, "done {code} attributes {count}"),
             Kind::Empty => write!(f, "empty"),
@@ -64,7 +67,8 @@ fn kind_in(payload: &NlPayload<u16, Buffer>) -> Kind
 {
     match payload {
         NlPayload::Payload(bytes) => Kind::Payload(bytes.len()),
-        NlPayload::Ack(_) => Kind::Ack,
+        NlPayload::Ack(answer) => Kind::Ack(answer.ext_ack().len()),
+        NlPayload::Capped(answer) => Kind::Capped(*answer.error(), answer.ext_ack().len()),
         NlPayload::Err(answer) => Kind::Error(*answer.error(), answer.ext_ack().len()),
         NlPayload::DumpExtAck(answer) => Kind::Done(*answer.error(), answer.ext_ack().len()),
         NlPayload::Empty => Kind::Empty,
@@ -161,7 +165,7 @@ pub enum Ending {
     Short,
     /// Another refusal to read, which no payload of plain bytes has.
     Other,
-    /// An acknowledgement has bytes after the header that it answers.
+    /// An acknowledgement or a capped error has bytes after the header that it echoes, which are not read.
     Tail,
     /// Memory ran out.
     Memory,

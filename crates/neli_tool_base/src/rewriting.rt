@@ -3,7 +3,8 @@
 ghost use Rattle.std.specs.Prelude.{◌≡◌, ◌↔◌, IsTrue};
 ghost use Rattle.std.specs.List.{All};
 ghost use Rattle.neli_msg.specs.Messages.{message_of};
-ghost use Rattle.neli_msg.specs.Zeroed.{HasNoTail};
+ghost use Rattle.neli_msg.specs.Kinds.{tail_of};
+ghost use Rattle.neli_msg.specs.Zeroed.{HasNoTail, IsAllRead};
 ghost use Rattle.neli_tool_base.specs.declared.status.Status.TheVariants as status;
 ghost use Rattle.neli_tool_base.specs.Listing.{ending_of};
 ghost use Rattle.neli_tool_base.specs.Rewriting.{Rewrites};
@@ -13,7 +14,9 @@ use crate::input::{InputError, read_whole};
 use crate::line::{Ending, RawMessage};
 use crate::listing::{fault_ending, out_of_memory, status_of, write_text};
 use crate::status::Status;
+use bitflags::Flags;
 use neli_attr::Buffer;
+use neli_consts::NlmF;
 use neli_msg::{NlPayload, cut};
 use neli_wire::ToBytes;
 use std::alloc::Global;
@@ -28,16 +31,30 @@ pub struct Rewriting {
     pub ending: Ending,
 }
 
-/// How long an acknowledgement is that has nothing after the header that it answers: its own header of 16
-/// bytes, a code of 4, and that header of 16.
-const WHOLE_ACK: u32 = 36;
+/// How long an acknowledgement or a capped error is that has nothing after the header that it echoes: its own
+/// header of 16 bytes, a code of 4, and that header of 16.
+const WHOLE_ECHO: u32 = 36;
 
-/// Whether all of the message was read: what follows the header that an acknowledgement answers is not.
+/// Whether what follows a header that is echoed alone was read, in a message of these flags and this length:
+/// it is attributes, or nothing.
+fn is_tail_read(flags: NlmF, len: u32) -> bool
+    ensures { IsTrue result ↔ IsAllRead (tail_of flags) len }
+{
+    if flags.contains(NlmF::CAPPED) && flags.contains(NlmF::ACK_TLVS) {
+        true
+    } else {
+        len <= WHOLE_ECHO
+    }
+}
+
+/// Whether all of the message was read.
 fn is_whole(message: &RawMessage) -> bool
     ensures { IsTrue result ↔ HasNoTail (message_of (λ b. b) message.now) }
 {
     match message.nl_payload() {
-        NlPayload::Ack(_) => *message.nl_len() <= WHOLE_ACK,
+        NlPayload::Ack(_) | NlPayload::Capped(_) => {
+            is_tail_read(*message.nl_flags(), *message.nl_len())
+        }
         _ => true,
     }
 }
@@ -56,7 +73,7 @@ fn are_whole(messages: &[RawMessage]) -> bool
 
 /// What a datagram is written again as.
 ///
-/// Where it has a fault, it is not written, nor where an acknowledgement has bytes that are not read.
+/// Where it has a fault, it is not written, nor where a message has bytes that are not read.
 #[tactic(auto, using(crate::proofs::Rewritings::rewritten, crate::proofs::Rewritings::has_tail, crate::proofs::Rewritings::has_fault))]
 pub fn rewriting_of(alloc: Global, bytes: &[u8]) -> Rewriting
     ensures { Rewrites bytes.now result.bytes.items result.ending }
