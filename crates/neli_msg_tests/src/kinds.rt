@@ -16,7 +16,10 @@ use std::process::Abort;
 /// The kind of a payload with its code, and how many attributes or bytes it has.
 #[derive(Clone, Copy, Debug, PartialEq, Eq)]
 enum Kind {
-    Ack(u32, u16),
+    /// The length and the type that the echoed header states, and how many attributes there are.
+    Ack(u32, u16, usize),
+    /// The code, the length that the echoed header states, and how many attributes there are.
+    Capped(i32, u32, usize),
     Done(i32, usize),
     Error(i32, usize, usize),
     Body(usize),
@@ -27,8 +30,13 @@ fn kind_of(payload: &NlPayload<u16, Buffer>) -> Kind {
     match payload {
         NlPayload::Ack(answer) => {
             let header = answer.nlmsg();
-            Kind::Ack(*header.nl_len(), *header.nl_type())
+            Kind::Ack(*header.nl_len(), *header.nl_type(), answer.ext_ack().len())
         }
+        NlPayload::Capped(answer) => Kind::Capped(
+            *answer.error(),
+            *answer.nlmsg().nl_len(),
+            answer.ext_ack().len(),
+        ),
         NlPayload::DumpExtAck(answer) => Kind::Done(*answer.error(), answer.ext_ack().len()),
         NlPayload::Err(answer) => {
             let echo = answer.nlmsg();
@@ -60,23 +68,66 @@ pub const ERROR: [u8; 52] = [
     0x64, 0,
 ];
 
+/// A capped error of code -22, of a request of 32 bytes, that says `bad`; its flags are CAPPED and ACK_TLVS.
+pub const CAPPED: [u8; 44] = [
+    0x2c, 0, 0, 0, 2, 0, 0, 3, 0, 0, 0, 0, 0, 0, 0, 0, 0xea, 0xff, 0xff, 0xff, 0x20, 0, 0, 0, 0x10,
+    0, 5, 0, 0, 0, 0, 0, 0, 0, 0, 0, 8, 0, 1, 0, 0x62, 0x61, 0x64, 0,
+];
+
 /// Messages, each with the kind of its payload or why it is refused.
-const PAYLOADS: [(&str, &[u8], Result<Kind, Refusal>); 11] = [
+const PAYLOADS: [(&str, &[u8], Result<Kind, Refusal>); 17] = [
     (
         "an acknowledgement",
         &[
             0x24, 0, 0, 0, 2, 0, 0, 1, 0, 0, 0, 0, 0, 0, 0, 0, 0, 0, 0, 0, 0x20, 0, 0, 0, 16, 0, 5,
             0, 0, 0, 0, 0, 0, 0, 0, 0,
         ],
-        Ok(Kind::Ack(32, 16)),
+        Ok(Kind::Ack(32, 16, 0)),
     ),
     (
         "one with a tail of any bytes",
         &[
+            0x28, 0, 0, 0, 2, 0, 0, 1, 0, 0, 0, 0, 0, 0, 0, 0, 0, 0, 0, 0, 0x20, 0, 0, 0, 16, 0, 5,
+            0, 0, 0, 0, 0, 0, 0, 0, 0, 3, 0, 1, 0,
+        ],
+        Ok(Kind::Ack(32, 16, 0)),
+    ),
+    (
+        "one with an attribute of length 3",
+        &[
             0x28, 0, 0, 0, 2, 0, 0, 3, 0, 0, 0, 0, 0, 0, 0, 0, 0, 0, 0, 0, 0x20, 0, 0, 0, 16, 0, 5,
             0, 0, 0, 0, 0, 0, 0, 0, 0, 3, 0, 1, 0,
         ],
-        Ok(Kind::Ack(32, 16)),
+        Err(Refusal::Input(3)),
+    ),
+    (
+        "one with an attribute",
+        &[
+            0x2c, 0, 0, 0, 2, 0, 0, 3, 0, 0, 0, 0, 0, 0, 0, 0, 0, 0, 0, 0, 0x20, 0, 0, 0, 16, 0, 5,
+            0, 0, 0, 0, 0, 0, 0, 0, 0, 8, 0, 1, 0, 0x62, 0x61, 0x64, 0,
+        ],
+        Ok(Kind::Ack(32, 16, 1)),
+    ),
+    (
+        "a capped error with an attribute",
+        &CAPPED,
+        Ok(Kind::Capped(-22, 32, 1)),
+    ),
+    (
+        "a capped error without ACK_TLVS, whose tail is not read",
+        &[
+            0x2c, 0, 0, 0, 2, 0, 0, 1, 0, 0, 0, 0, 0, 0, 0, 0, 0xea, 0xff, 0xff, 0xff, 0x20, 0, 0,
+            0, 16, 0, 5, 0, 0, 0, 0, 0, 0, 0, 0, 0, 8, 0, 1, 0, 0x62, 0x61, 0x64, 0,
+        ],
+        Ok(Kind::Capped(-22, 32, 0)),
+    ),
+    (
+        "a capped error with an attribute of length 3",
+        &[
+            0x2c, 0, 0, 0, 2, 0, 0, 3, 0, 0, 0, 0, 0, 0, 0, 0, 0xea, 0xff, 0xff, 0xff, 0x20, 0, 0,
+            0, 16, 0, 5, 0, 0, 0, 0, 0, 0, 0, 0, 0, 3, 0, 1, 0, 0x62, 0x61, 0x64, 0,
+        ],
+        Err(Refusal::Input(3)),
     ),
     (
         "the end of a dump",
@@ -127,10 +178,18 @@ const PAYLOADS: [(&str, &[u8], Result<Kind, Refusal>); 11] = [
     (
         "an error that echoes less than it states",
         &[
-            0x24, 0, 0, 0, 2, 0, 0, 1, 0, 0, 0, 0, 0, 0, 0, 0, 0xea, 0xff, 0xff, 0xff, 0x20, 0, 0,
+            0x24, 0, 0, 0, 2, 0, 0, 0, 0, 0, 0, 0, 0, 0, 0, 0, 0xea, 0xff, 0xff, 0xff, 0x20, 0, 0,
             0, 16, 0, 5, 0, 0, 0, 0, 0, 0, 0, 0, 0,
         ],
         Err(Refusal::Input(16)),
+    ),
+    (
+        "one that is capped",
+        &[
+            0x24, 0, 0, 0, 2, 0, 0, 1, 0, 0, 0, 0, 0, 0, 0, 0, 0xea, 0xff, 0xff, 0xff, 0x20, 0, 0,
+            0, 16, 0, 5, 0, 0, 0, 0, 0, 0, 0, 0, 0,
+        ],
+        Ok(Kind::Capped(-22, 32, 0)),
     ),
     (
         "an error that echoes a length below a header's",

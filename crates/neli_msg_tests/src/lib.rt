@@ -4,6 +4,7 @@
 //!   [`parts`]: headers and answers by themselves.
 //! - [`retyping`]: untyped messages and a router's errors as ones of other types, and the calls that take a payload out
 //!   or put one in.
+//! - [`capped`]: capped errors.
 //! - [`builders`]: what builders make, and what is written. [`lists`]: lists of messages. [`printed`]: what
 //!   errors print, and their causes.
 //! - [`out_of_memory`]: what calls answer where an allocation is refused.
@@ -21,6 +22,8 @@
 
 #[cfg(test)]
 mod builders;
+#[cfg(test)]
+mod capped;
 #[cfg(test)]
 mod kinds;
 #[cfg(test)]

@@ -42,17 +42,23 @@ pub enum Told {
     Message(u16, u32, usize),
     /// An acknowledgement of a request with this number.
     Ack(u32),
+    /// One that has so many attributes.
+    AckWith(u32, usize),
     /// The end of a dump, with this code.
     DumpEnd(i32),
     /// A stray message: its number and its port.
     Stray(u32, u32),
     /// An error with this code, and the type of the request that it echoes.
     Refused(i32, u16),
+    /// A capped error with this code, and the length of the request that it echoes.
+    Capped(i32, u32),
     NoAck,
     UnexpectedAck,
     Closed,
     /// A datagram ends inside a header.
     Short,
+    /// A length in a datagram is wrong: so many bytes are not there, or too few.
+    Input(usize),
     /// The link failed.
     Failed(ErrorKind),
     End,
@@ -74,6 +80,15 @@ pub type Refusal = RouterError<u16, Buffer>;
 /// An outcome of these tests' runs.
 pub type Came = Outcome<u16, Buffer, u16, Buffer>;
 
+/// What an acknowledgement is, by the number that it echoes and the count of its attributes.
+fn acknowledged(number: u32, count: usize) -> Told {
+    if count == 0 {
+        Told::Ack(number)
+    } else {
+        Told::AckWith(number, count)
+    }
+}
+
 /// What a message is.
 pub fn message(message: &Raw) -> Told {
     match message.nl_payload() {
@@ -82,7 +97,7 @@ pub fn message(message: &Raw) -> Told {
             *message.nl_seq(),
             body.len(),
         ),
-        NlPayload::Ack(answer) => Told::Ack(*answer.nlmsg().nl_seq()),
+        NlPayload::Ack(answer) => acknowledged(*answer.nlmsg().nl_seq(), answer.ext_ack().len()),
         NlPayload::DumpExtAck(answer) => Told::DumpEnd(*answer.error()),
         _ => Told::Other,
     }
@@ -92,8 +107,10 @@ pub fn message(message: &Raw) -> Told {
 fn refusal(error: &Refusal) -> Told {
     match error {
         RouterError::Socket(SocketError::De(DeError::Io(ErrorKind::UnexpectedEof))) => Told::Short,
+        RouterError::Socket(SocketError::De(DeError::InvalidInput(n))) => Told::Input(*n),
         RouterError::Socket(SocketError::Io(kind)) => Told::Failed(*kind),
         RouterError::Nlmsgerr(answer) => Told::Refused(*answer.error(), *answer.nlmsg().nl_type()),
+        RouterError::Capped(answer) => Told::Capped(*answer.error(), *answer.nlmsg().nl_len()),
         RouterError::BadSeqOrPid(stray) => Told::Stray(*stray.nl_seq(), *stray.nl_pid()),
         RouterError::NoAck => Told::NoAck,
         RouterError::UnexpectedAck => Told::UnexpectedAck,
@@ -145,6 +162,7 @@ fn refused_alike(rt: &impl Abort, alloc: Global, a: &Refusal, b: &Refusal) -> bo
     match (a, b) {
         (RouterError::BadSeqOrPid(a), RouterError::BadSeqOrPid(b)) => a == b,
         (RouterError::Nlmsgerr(a), RouterError::Nlmsgerr(b)) => a == b,
+        (RouterError::Capped(a), RouterError::Capped(b)) => a == b,
         _ => {
             let a = a.to_string(alloc).expect(rt, "memory");
             let b = b.to_string(alloc).expect(rt, "memory");

@@ -3,7 +3,14 @@
 use crate::scripts::{Row, answers};
 
 /// Dumps and acknowledgements, and how they end.
-const ENDS: [Row; 4] = [
+const ENDS: [Row; 5] = [
+    (
+        "a capped error",
+        "send 16 4 -\n\
+            data 0 24000000020000010000000000000000eaffffff20000000100005000000000000000000\n\
+            read 1\nread 1\n",
+        "sent 1 10000000100005000000000000000000\nok\nerror capped -22\nend\n",
+    ),
     (
         "a dump of two messages, and its end",
         "send 16 768 -\n\

@@ -68,7 +68,56 @@ const DATAGRAMS: [Row; 9] = [
 ];
 
 /// Errors, acknowledgements and ends of dumps.
-const ANSWERS: [Row; 7] = [
+const ANSWERS: [Row; 14] = [
+    (
+        "a capped error",
+        "240000000200000100000000000000\
+            00eaffffff20000000100005000000000000000000",
+        "type 2 flags 0x0100 number 0 port 0 capped -22 attributes 0\n",
+        Status::Whole,
+    ),
+    (
+        "one with an attribute",
+        "2c0000000200000300000000000000\
+            00eaffffff200000001000050000000000000000000800010062616400",
+        "type 2 flags 0x0300 number 0 port 0 capped -22 attributes 1\n",
+        Status::Whole,
+    ),
+    (
+        "one with bytes that are not read",
+        "2c0000000200000100000000000000\
+            00eaffffff200000001000050000000000000000000800010062616400",
+        "type 2 flags 0x0100 number 0 port 0 capped -22 attributes 0\n",
+        Status::Whole,
+    ),
+    (
+        "one with an attribute of length 3",
+        "2c0000000200000300000000000000\
+            00eaffffff200000001000050000000000000000000300010062616400",
+        "fault: input 3\n",
+        Status::Fault,
+    ),
+    (
+        "an acknowledgement with an attribute",
+        "2c0000000200000300000000000000\
+            0000000000200000001000050000000000000000000800010062616400",
+        "type 2 flags 0x0300 number 0 port 0 ack attributes 1\n",
+        Status::Whole,
+    ),
+    (
+        "the same without ACK_TLVS",
+        "2c0000000200000100000000000000\
+            0000000000200000001000050000000000000000000800010062616400",
+        "type 2 flags 0x0100 number 0 port 0 ack\n",
+        Status::Whole,
+    ),
+    (
+        "an acknowledgement with an attribute of length 3",
+        "2c0000000200000300000000000000\
+            0000000000200000001000050000000000000000000300010062616400",
+        "fault: input 3\n",
+        Status::Fault,
+    ),
     (
         "an error with an echo of five bytes and an attribute",
         "34000000020000020000000000000000eaffffff1500000000040500000000000000000061626364\

@@ -9,7 +9,14 @@ use std::alloc::Global;
 use std::process::Abort;
 
 /// Datagrams with padding of any value: what each is, what is read, and what is written.
-const PADDED: [(&str, &str, &str); 4] = [
+const PADDED: [(&str, &str, &str); 5] = [
+    (
+        "padding after an attribute of a capped error",
+        "2c000000020000030000000000000000eaffffff2000000010000500000000000000000007000100\
+            626164ff",
+        "2c000000020000030000000000000000eaffffff2000000010000500000000000000000007000100\
+            62616400",
+    ),
     (
         "padding after a payload of one byte",
         "1100000000040000000000000000000061ffffff",
@@ -37,7 +44,16 @@ const PADDED: [(&str, &str, &str); 4] = [
 ];
 
 /// Datagrams without padding: their lengths are multiples of four, and what a payload holds is its own.
-const UNPADDED: [(&str, &str); 10] = [
+const UNPADDED: [(&str, &str); 12] = [
+    (
+        "an acknowledgement with an attribute",
+        "2c000000020000030000000000000000000000002000000010000500000000000000000008000100\
+            62616400",
+    ),
+    (
+        "a capped error",
+        "24000000020000010000000000000000eaffffff20000000100005000000000000000000",
+    ),
     ("nothing", ""),
     (
         "what would be padding of an attribute, in a payload",
@@ -130,6 +146,18 @@ fn faults_are_lines_alone(rt: HostRuntime) {
         (
             "bytes after the header that an acknowledgement answers",
             "28000000020000000000000000000000000000001000000010000500000000000000000001020304",
+            "fault: tail\n",
+        ),
+        (
+            "bytes after the header that a capped error echoes",
+            "2c000000020000010000000000000000eaffffff2000000010000500000000000000000008000100\
+                62616400",
+            "fault: tail\n",
+        ),
+        (
+            "bytes after an acknowledgement's, without ACK_TLVS",
+            "2c000000020000010000000000000000000000002000000010000500000000000000000008000100\
+                62616400",
             "fault: tail\n",
         ),
         (
