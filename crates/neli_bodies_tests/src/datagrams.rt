@@ -84,7 +84,7 @@ pub const NO_TABLE: &str =
     "3800000003002202a7040000ebd2b981feffffff23000100697076343a20464942207461626c6520\
     646f6573206e6f742065786973740000";
 
-pub const ROWS: [Row; 19] = [
+pub const ROWS: [Row; 21] = [
     Row {
         // route: IPv4 settings of a link, told to a group when loopback was set up
         file: "0001",
@@ -174,13 +174,27 @@ pub const ROWS: [Row; 19] = [
         fault: Fault::None,
     },
     Row {
-        // generic: an error with an attribute after the capped request. The echo states 20 bytes and has 16, so the
-        // attribute is taken for its payload, and what is left of it states a length of 1
+        // generic: a capped error with an attribute: the echo states 20 bytes, and has 16
         file: "0909",
         hex: "2c000000020000033e04000049430000eaffffff14000000150005003e0400000000000008000500\
             01000000",
-        messages: &[],
-        fault: Fault::Input(1),
+        messages: &[(2, 0x0300, 1086, 17225, 28)],
+        fault: Fault::None,
+    },
+    Row {
+        // route: a capped error without attributes
+        file: "0523",
+        hex: "2400000002000001220400002b310000eaffffff14000000640005002204000000000000",
+        messages: &[(2, 0x0100, 1058, 12587, 20)],
+        fault: Fault::None,
+    },
+    Row {
+        // route: an acknowledgement with a text
+        file: "0597",
+        hex: "50000000020000036c0400002b3100000000000028000000130005006c040000000000002c000100\
+            6279746573206c6566746f7665722061667465722070617273696e67206174747269627574657300",
+        messages: &[(2, 0x0300, 1132, 12587, 64)],
+        fault: Fault::None,
     },
     Row {
         // generic: the devices of the family netdev, all of a dump in one datagram

@@ -49,13 +49,19 @@ fn clear_after_attributes(bytes: &mut Vec<u8>, from: usize, to: usize) {
 }
 
 // Zeros for the padding inside the message that begins at a place: in an error (type 2) after the echoed
-// payload and after each attribute, in the end of a dump (type 3 and NLM_F_MULTI) after each attribute.
+// payload and after each attribute, in an answer that echoes a header alone (NLM_F_CAPPED and NLM_F_ACK_TLVS)
+// and in the end of a dump (type 3 and NLM_F_MULTI) after each attribute.
 fn clear_inside(bytes: &mut Vec<u8>, at: usize) {
     let end = at.saturating_add(number(bytes, at, 4));
     let kind = number(bytes, at.saturating_add(4), 2);
-    let multi = number(bytes, at.saturating_add(6), 2) / 2 % 2 == 1;
-    if kind == 2 && number(bytes, at.saturating_add(16), 4) != 0 {
-        let echo = at.saturating_add(20);
+    let flags = number(bytes, at.saturating_add(6), 2);
+    let multi = flags / 2 % 2 == 1;
+    let capped = flags / 0x100 % 2 == 1;
+    let echo = at.saturating_add(20);
+    if kind == 2 && capped && flags / 0x200 % 2 == 1 {
+        clear_after_attributes(bytes, echo.saturating_add(16), end);
+    }
+    if kind == 2 && !capped && number(bytes, at.saturating_add(16), 4) != 0 {
         let len = number(bytes, echo, 4);
         let after = echo.saturating_add(rounded(len));
         clear(bytes, echo.saturating_add(len), after);
@@ -84,10 +90,12 @@ fn clear_padding(bytes: &mut Vec<u8>) {
     }
 }
 
-// An acknowledgement with bytes after the header that it answers: these are not read.
+// A header that is echoed alone, with bytes after it that the flags do not make attributes: these are not read.
 fn has_tail(message: &Nlmsghdr<u16, Vec<u8>>) -> bool {
     match message.nl_payload() {
-        NlPayload::Ack(_) => *message.nl_len() > 36,
+        NlPayload::Ack(_) | NlPayload::Capped(_) => {
+            *message.nl_len() > 36 && u16::from(*message.nl_flags()) & 0x300 != 0x300
+        }
         _ => false,
     }
 }
