@@ -34,7 +34,7 @@ pub mod laws;
 pub use builder_error::BuilderError;
 pub use iter::{NlBuffer, NlBufferIter, cut};
 pub use neli_msg_base::{
-    NlPayload, Nlmsgerr, NlmsgerrBuilder, NlmsgerrBuilderError, Nlmsghdr, NlmsghdrAck,
+    Explained, NlPayload, Nlmsgerr, NlmsgerrBuilder, NlmsgerrBuilderError, Nlmsghdr, NlmsghdrAck,
     NlmsghdrAckBuilder, NlmsghdrAckBuilderError, NlmsghdrBuilder, NlmsghdrBuilderError,
     NlmsghdrErr, NlmsghdrErrBuilder, NlmsghdrErrBuilderError, RouterError, SocketError,
 };

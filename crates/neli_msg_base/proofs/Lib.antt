@@ -1,3 +1,4 @@
+pub mod Words
 pub mod Attributes
 pub mod Retyped
 pub mod Messages

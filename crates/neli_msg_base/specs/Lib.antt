@@ -1,5 +1,6 @@
 pub mod Answers
 pub mod Builders
+pub mod Explained
 pub mod Headers
 pub mod Kinds
 pub mod laws

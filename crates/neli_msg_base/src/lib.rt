@@ -3,6 +3,7 @@
 //! - [`NlmsghdrAck`]: the header that every message begins with, and that an acknowledgement answers.
 //! - [`NlmsghdrErr`]: the message that an error answers, as it is echoed.
 //! - [`Nlmsgerr`]: an answer, which is a code, what it answers, and attributes.
+//! - [`Explained`]: an answer as a person reads it.
 //! - [`NlPayload`]: the payload of a message, by its kind.
 //!
 //! `specs/Kinds.antt` says on one page which kind a payload is and what its bytes say.
@@ -10,6 +11,7 @@
 
 mod answer;
 mod echo;
+mod explained;
 mod header;
 mod message;
 mod parts;
@@ -19,6 +21,7 @@ mod socket_error;
 
 pub use answer::{Nlmsgerr, NlmsgerrBuilder, NlmsgerrBuilderError};
 pub use echo::{NlmsghdrErr, NlmsghdrErrBuilder, NlmsghdrErrBuilderError};
+pub use explained::Explained;
 pub use header::{NlmsghdrAck, NlmsghdrAckBuilder, NlmsghdrAckBuilderError};
 pub use message::{Nlmsghdr, NlmsghdrBuilder, NlmsghdrBuilderError};
 pub use payload::NlPayload;

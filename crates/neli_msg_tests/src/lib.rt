@@ -25,6 +25,8 @@ mod builders;
 #[cfg(test)]
 mod capped;
 #[cfg(test)]
+mod explained;
+#[cfg(test)]
 mod kinds;
 #[cfg(test)]
 mod laws;

@@ -32,6 +32,8 @@ mod cursor;
 #[cfg(test)]
 mod equality;
 #[cfg(test)]
+mod errnos;
+#[cfg(test)]
 mod errors;
 #[cfg(test)]
 mod frames;
