@@ -92,9 +92,14 @@ fn play(rt: &impl Abort, alloc: Global, row: &str, steps: &[(Step, Told, [usize;
     }
 }
 
+/// Plays the scripts. Any one allocation may be refused here.
+pub fn play_all(rt: &impl Abort, alloc: Global) {
+    for (row, steps) in &SCRIPTS {
+        play(rt, alloc, row, steps);
+    }
+}
+
 #[test]
 fn entries_are_kept_while_they_are_waited_for(rt: HostRuntime) {
-    for (row, steps) in &SCRIPTS {
-        play(&rt, rt.alloc(), row, steps);
-    }
+    play_all(&rt, rt.alloc());
 }

@@ -5,6 +5,7 @@
 //!   router's own calls, as [`steps`] makes them. The other files are tables of scripts.
 //! - [`numbers`]: requests as bytes, and which number each has. [`answers`]: where a handle's answers end.
 //! - [`datagrams`]: who gets what of a datagram. [`faults`]: faults of the link.
+//! - [`strays`]: in all combinations what comes before and after a close, and numbers that are used again.
 //! - [`handles`]: handles that another router made. [`many`]: thousands of requests.
 //! - [`requests`]: requests to the controller of generic netlink, and what comes of its answers.
 //! - [`resolvers`]: what the resolvers find in lists of answers, as [`controller`] looks it up.
@@ -51,5 +52,7 @@ mod resolvers;
 mod script;
 #[cfg(test)]
 mod steps;
+#[cfg(test)]
+mod strays;
 #[cfg(test)]
 mod support;

@@ -352,24 +352,23 @@ fn a_number_in_use_is_refused_before_a_name(rt: HostRuntime) {
     assert_is_at(&rt, "family", bytes.as_slice(), FAMILY.as_slice());
 }
 
-/// Whether memory ran out.
-fn ran_out(sent: &Result<(Vec<u8>, Handle), CtrlError>) -> bool {
-    matches!(sent, Err(RouterError::Memory))
+/// Asks, once more where memory ran out.
+fn request_again(rt: &impl Abort, alloc: Global, asked: Asked<'_>) -> Vec<u8> {
+    let mut asker = Asker::<Queues>::new(rt, alloc, 0);
+    let sent = ask(alloc, &mut asker, asked);
+    let (bytes, handle) = match sent {
+        Err(RouterError::Memory) => ask(alloc, &mut asker, asked).expect(rt, "memory"),
+        other => other.expect(rt, "bytes to be sent"),
+    };
+    assert_is_at(rt, "number", handle.state().number, Some(0));
+    bytes
 }
 
-/// Asks for the family `nlctrl`, again where memory ran out.
-fn request_again(rt: &impl Abort, alloc: Global, asker: &mut Asker<Queues>) -> (Vec<u8>, Handle) {
-    let sent = ask(alloc, asker, Asked::Family("nlctrl"));
-    if ran_out(&sent) {
-        return request(rt, alloc, asker, Asked::Family("nlctrl"));
-    }
-    sent.expect(rt, "bytes to be sent")
-}
-
-/// Any one allocation may be refused in this test (`rt try --test --fail-alloc N`): then the number is not used up.
+/// Any one allocation may be refused in this test: then the number is not used up.
 #[test]
-fn asked_again_where_memory_ran_out(rt: HostRuntime) {
-    let mut asker = Asker::<Queues>::new(&rt, rt.alloc(), 0);
-    let (bytes, _handle) = request_again(&rt, rt.alloc(), &mut asker);
-    assert_is_at(&rt, "family", bytes.as_slice(), FAMILY.as_slice());
+fn asked_again_after_out_of_memory(rt: HostRuntime) {
+    let family = request_again(&rt, rt.alloc(), Asked::Family("nlctrl"));
+    assert_is_at(&rt, "family", family.as_slice(), FAMILY.as_slice());
+    let families = request_again(&rt, rt.alloc(), Asked::Families);
+    assert_is_at(&rt, "families", families.as_slice(), FAMILIES.as_slice());
 }

@@ -263,10 +263,15 @@ pub fn assert_told(rt: &impl Abort, row: &str, came: &[Came], steps: &[(Step, To
     }
 }
 
-/// Does the steps of a script over this store: by one run, and by the router's own calls. Asserts that each answers
-/// what stands beside it, and that both have equal outcomes, which it gives.
-fn play_over<D: Deliveries + Drop>(rt: &impl Abort, alloc: Global, script: Script) -> Vec<Came> {
-    let (row, port, steps) = script;
+/// Does steps over this store with a router of this port: by one run, and by the router's own calls. Asserts that each
+/// answers what stands beside it, and that both have equal outcomes, which it gives.
+fn play_over<D: Deliveries + Drop>(
+    rt: &impl Abort,
+    alloc: Global,
+    row: &str,
+    port: u32,
+    steps: &[(Step, Told)],
+) -> Vec<Came> {
     let of_run = outcomes::<D>(alloc, port, steps).expect(rt, "memory");
     let of_calls = called::<D>(rt, alloc, port, steps);
     assert_told(rt, row, &of_run, steps);
@@ -275,17 +280,17 @@ fn play_over<D: Deliveries + Drop>(rt: &impl Abort, alloc: Global, script: Scrip
     of_run
 }
 
-/// Plays a script over each store, and asserts that the outcomes over both are equal.
-fn play(rt: &impl Abort, alloc: Global, script: Script) {
-    let plain = play_over::<Queues>(rt, alloc, script);
-    let shared = play_over::<Log>(rt, alloc, script);
-    assert_alike(rt, alloc, script.0, &plain, &shared);
+/// Plays steps over each store, and asserts that the outcomes over both are equal.
+pub fn play(rt: &impl Abort, alloc: Global, row: &str, port: u32, steps: &[(Step, Told)]) {
+    let plain = play_over::<Queues>(rt, alloc, row, port, steps);
+    let shared = play_over::<Log>(rt, alloc, row, port, steps);
+    assert_alike(rt, alloc, row, &plain, &shared);
 }
 
 /// Plays these scripts.
 fn play_all(rt: &impl Abort, alloc: Global, scripts: &[Script]) {
-    for script in scripts {
-        play(rt, alloc, *script);
+    for (row, port, steps) in scripts {
+        play(rt, alloc, row, *port, steps);
     }
 }
 

@@ -131,6 +131,14 @@ impl<D: Deliveries + Drop> Asker<D> {
         }
     }
 
+    /// Does a step, once more where memory ran out.
+    pub fn step_again(&mut self, rt: &impl Abort, alloc: Global, step: Step) -> Came {
+        match self.step(alloc, step) {
+            Ok(outcome) => outcome,
+            Err(_) => self.step(alloc, step).expect(rt, "memory"),
+        }
+    }
+
     /// Does these steps in their order.
     pub fn steps(&mut self, rt: &impl Abort, alloc: Global, steps: &[(Step, Told)]) -> Vec<Came> {
         let mut came = Vec::new(alloc);
