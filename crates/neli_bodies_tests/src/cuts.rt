@@ -1,5 +1,5 @@
-//! Bodies that are cut: each worked example at each length, with the refusal that it has there and the
-//! cursor where it was.
+//! Bodies that are cut, each at each length, and lengths of attributes that lie: the refusal, and the cursor where it
+//! was.
 
 use crate::support::{assert_is_at, bytes_of, count_of, read_whole, recorded};
 use neli::connector::{CnMsg, ProcEvent, ProcEventHeader};
@@ -110,6 +110,36 @@ fn assert_read<B: FromBytesWithInput>(
     assert_is_at(rt, (what, k), (is_read, cursor.position()), (true, k));
 }
 
+/// Lengths that the attribute states in place of 8, and what it is refused with: a length below that of its header, or
+/// how many bytes of payload are not all there. One that ends in its header leaves the payload as the next one, which
+/// states 513 bytes.
+const LENGTHS: [(u16, Option<usize>); 9] = [
+    (0, Some(0)),
+    (1, Some(1)),
+    (3, Some(3)),
+    (4, Some(509)),
+    (5, None),
+    (7, None),
+    (8, None),
+    (9, Some(5)),
+    (65535, Some(65531)),
+];
+
+/// A header of `size` bytes and an attribute of 8 that states each of these lengths.
+fn lengths<B: FromBytesWithInput>(rt: &impl Abort, alloc: Global, what: &str, size: u8) {
+    let mut bytes = header_and_attribute(rt, alloc, size);
+    let size = usize::from(size);
+    for (length, want) in LENGTHS {
+        for (byte, digit) in bytes.iter_mut().skip(size).zip(length.to_le_bytes()) {
+            *byte = digit;
+        }
+        match want {
+            Some(count) => assert_refused::<B>(rt, alloc, what, &bytes, size + 8, count),
+            None => assert_read::<B>(rt, alloc, what, &bytes, size + 8),
+        }
+    }
+}
+
 /// A header of `size` bytes and an attribute of 8: cut in the header, after it, and in the attribute.
 fn cuts<B: FromBytesWithInput>(rt: &impl Abort, alloc: Global, what: &str, size: u8) {
     let bytes = header_and_attribute(rt, alloc, size);
@@ -128,18 +158,24 @@ fn cuts<B: FromBytesWithInput>(rt: &impl Abort, alloc: Global, what: &str, size:
     assert_read::<B>(rt, alloc, what, &bytes, size + 8);
 }
 
+/// Cuts a body of a header of `size` bytes and an attribute, and has the attribute state wrong lengths.
+fn hostile<B: FromBytesWithInput>(rt: &impl Abort, alloc: Global, what: &str, size: u8) {
+    cuts::<B>(rt, alloc, what, size);
+    lengths::<B>(rt, alloc, what, size);
+}
+
 #[test]
 fn bodies_with_attributes(rt: HostRuntime) {
     let alloc = rt.alloc();
-    cuts::<Ifinfomsg>(&rt, alloc, "Ifinfomsg", 16);
-    cuts::<Ifaddrmsg>(&rt, alloc, "Ifaddrmsg", 8);
-    cuts::<Ndmsg>(&rt, alloc, "Ndmsg", 12);
-    cuts::<Rtmsg>(&rt, alloc, "Rtmsg", 12);
-    cuts::<Tcmsg>(&rt, alloc, "Tcmsg", 20);
-    cuts::<Fibmsg>(&rt, alloc, "Fibmsg", 12);
-    cuts::<Rtgenmsg>(&rt, alloc, "Rtgenmsg", 4);
-    cuts::<Genlmsghdr<u8, u16>>(&rt, alloc, "Genlmsghdr", 4);
-    cuts::<Genlmsghdr<u8, u16, u32>>(&rt, alloc, "Genlmsghdr of a family", 8);
+    hostile::<Ifinfomsg>(&rt, alloc, "Ifinfomsg", 16);
+    hostile::<Ifaddrmsg>(&rt, alloc, "Ifaddrmsg", 8);
+    hostile::<Ndmsg>(&rt, alloc, "Ndmsg", 12);
+    hostile::<Rtmsg>(&rt, alloc, "Rtmsg", 12);
+    hostile::<Tcmsg>(&rt, alloc, "Tcmsg", 20);
+    hostile::<Fibmsg>(&rt, alloc, "Fibmsg", 12);
+    hostile::<Rtgenmsg>(&rt, alloc, "Rtgenmsg", 4);
+    hostile::<Genlmsghdr<u8, u16>>(&rt, alloc, "Genlmsghdr", 4);
+    hostile::<Genlmsghdr<u8, u16, u32>>(&rt, alloc, "Genlmsghdr of a family", 8);
 }
 
 // Bytes without a meaning are kept.

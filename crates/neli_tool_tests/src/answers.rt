@@ -29,7 +29,7 @@ pub const ANSWERED: &str = "sent 1 10000000100005000000000000000000\n\
     waits\n";
 
 /// The worked scripts: a request with a body and its one answer, and an acknowledgement.
-const WORKED: [Row; 2] = [
+pub const WORKED: [Row; 2] = [
     (
         "a request",
         "send 1024 0 616263646A\n\
@@ -87,7 +87,7 @@ const WITHOUT_REQUEST: [Row; 14] = [
 ];
 
 /// A request without an acknowledgement, which is sent with number 0 and port 0, and what comes then.
-const ONE_REQUEST: [Row; 8] = [
+pub const ONE_REQUEST: [Row; 8] = [
     (
         "nothing for now",
         "send 16 0 -\nfault wouldblock\nread 1\n",

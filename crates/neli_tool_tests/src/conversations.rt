@@ -3,7 +3,7 @@
 use crate::scripts::{Row, answers};
 
 /// Dumps and acknowledgements, and how they end.
-const ENDS: [Row; 5] = [
+pub const ENDS: [Row; 5] = [
     (
         "a capped error",
         "send 16 4 -\n\
@@ -54,7 +54,7 @@ const ENDS: [Row; 5] = [
 ];
 
 /// Datagrams, and whom they come to.
-const RECEIVERS: [Row; 5] = [
+pub const RECEIVERS: [Row; 5] = [
     (
         "an empty datagram, and one of 15 bytes",
         "send 16 0 -\nsend 16 0 -\ndata 0 -\nread 1\n\
@@ -90,7 +90,7 @@ const RECEIVERS: [Row; 5] = [
 ];
 
 /// Requests, and their numbers.
-const NUMBERS: [Row; 4] = [
+pub const NUMBERS: [Row; 4] = [
     (
         "a body of five bytes",
         "send 1024 0 6162636465\n",

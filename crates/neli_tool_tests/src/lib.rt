@@ -4,10 +4,14 @@
 //!
 //! - [`arguments`]: what the words of a command line ask for. [`input`], [`output`]: what is read and written, where it
 //!   fails too. [`listing`], [`rewriting`]: lines of datagrams, and datagrams that are written again.
+//! - [`datagrams`], [`reasons`]: recorded datagrams against what libmnl reads in them, and why the kernel refuses.
+//!   [`lengths`]: each datagram of these tests cut at each place, and with each length in it set wrong, against
+//!   [`rules`], which says what comes of any bytes.
 //! - [`answers`], [`conversations`], [`bad_lines`], [`scripts_output`]: scripts, what is answered, and where that
 //!   fails. [`scripts`]: how a script is played. [`laws`]: the laws, called.
 //! - [`out_of_memory`], [`scripts_out_of_memory`]: where an allocation is refused. [`support`]: what the tests share.
 //!
+//! The recorded datagrams are of Linux 6.18 on x86-64; their numbers are those of docs/RECORDINGS.md.
 //! RFC 3549 section 2.3.2 and `struct nlmsghdr` of linux/netlink.h give the layout of the datagrams; the
 //! lines and the order of the faults are the program's own (docs/FRAMES.md), written out by hand.
 #![tactic(auto)]
@@ -21,9 +25,13 @@ mod bad_lines;
 #[cfg(test)]
 mod conversations;
 #[cfg(test)]
+mod datagrams;
+#[cfg(test)]
 mod input;
 #[cfg(test)]
 mod laws;
+#[cfg(test)]
+mod lengths;
 #[cfg(test)]
 mod listing;
 #[cfg(test)]
@@ -33,7 +41,11 @@ mod output;
 #[cfg(test)]
 mod readers;
 #[cfg(test)]
+mod reasons;
+#[cfg(test)]
 mod rewriting;
+#[cfg(test)]
+mod rules;
 #[cfg(test)]
 mod scripts;
 #[cfg(test)]

@@ -16,10 +16,10 @@ const ONE: &str = "1100000000040000000000000000000061ffffff";
 const ONE_LINE: &str = "type 1024 flags 0x0000 number 0 port 0 payload 1\n";
 
 /// A datagram with its name, what is printed of it, and how that ends.
-type Row = (&'static str, &'static str, &'static str, Status);
+pub type Row = (&'static str, &'static str, &'static str, Status);
 
 /// Datagrams of messages.
-const DATAGRAMS: [Row; 9] = [
+pub const DATAGRAMS: [Row; 9] = [
     ("nothing", "", "", Status::Whole),
     ("a payload of one byte", ONE, ONE_LINE, Status::Whole),
     (
@@ -68,7 +68,7 @@ const DATAGRAMS: [Row; 9] = [
 ];
 
 /// Errors, acknowledgements and ends of dumps.
-const ANSWERS: [Row; 14] = [
+pub const ANSWERS: [Row; 14] = [
     (
         "a capped error",
         "240000000200000100000000000000\

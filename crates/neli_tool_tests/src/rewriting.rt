@@ -9,7 +9,7 @@ use std::alloc::Global;
 use std::process::Abort;
 
 /// Datagrams with padding of any value: what each is, what is read, and what is written.
-const PADDED: [(&str, &str, &str); 5] = [
+pub const PADDED: [(&str, &str, &str); 5] = [
     (
         "padding after an attribute of a capped error",
         "2c000000020000030000000000000000eaffffff2000000010000500000000000000000007000100\
@@ -44,7 +44,7 @@ const PADDED: [(&str, &str, &str); 5] = [
 ];
 
 /// Datagrams without padding: their lengths are multiples of four, and what a payload holds is its own.
-const UNPADDED: [(&str, &str); 12] = [
+pub const UNPADDED: [(&str, &str); 12] = [
     (
         "an acknowledgement with an attribute",
         "2c000000020000030000000000000000000000002000000010000500000000000000000008000100\

@@ -19,9 +19,12 @@ pub fn assert_is_at<R: Copy + PartialEq + Debug, T: Copy + PartialEq + Debug>(
     assert_is(rt, (row, got), (row, want));
 }
 
-/// The bytes of these hexadecimal digits.
+/// The bytes of these hexadecimal digits. Any one allocation may be refused here.
 pub fn decoded(rt: &impl Abort, alloc: Global, digits: &str) -> Vec<u8> {
-    hex::decode(alloc, digits).expect(rt, "digits")
+    match hex::decode(alloc, digits) {
+        Ok(bytes) => bytes,
+        Err(_) => hex::decode(alloc, digits).expect(rt, "digits"),
+    }
 }
 
 /// Asserts that the value prints this text.

@@ -3,16 +3,31 @@
 use std::io;
 use std::io::{ErrorKind, Write};
 
-/// A writer that keeps a byte at each call, 256 in all, without taking memory.
+/// A writer that keeps a byte at each call, 1024 in all, without taking memory.
 #[derive(Drop)]
 pub struct Kept {
-    pub bytes: [u8; 256],
-    pub count: usize,
+    bytes: [u8; 1024],
+    count: usize,
+}
+
+impl Kept {
+    /// One that has kept nothing.
+    pub fn new() -> Kept {
+        Kept {
+            bytes: [0; 1024],
+            count: 0,
+        }
+    }
+
+    /// What it has kept.
+    pub fn text(&self) -> &[u8] {
+        self.bytes.get(..self.count).unwrap_or(&[])
+    }
 }
 
 impl Write for Kept {
     fn write(&mut self, buf: &[u8]) -> io::Result<usize> {
-        if buf.is_empty() || self.count >= 256 {
+        if buf.is_empty() || self.count >= 1024 {
             return Ok(0);
         }
         self.bytes[self.count] = buf[0];

@@ -1,24 +1,12 @@
 //! A table of recorded datagrams and of what libmnl reads in each.
 
-use crate::support::{assert_is_at, bytes_of};
-use neli::err::{DeError, SocketError};
-use neli::iter::NlBufferIter;
-use neli::nl::Nlmsghdr;
+use crate::rules::Fault;
+use crate::support::{assert_is_at, decoded};
+use neli_msg::{NlBufferIter, Nlmsghdr, SocketError};
+use neli_wire::DeError;
 use std::alloc::Global;
 use std::io::ErrorKind;
 use std::process::Abort;
-
-/// What stands after the last message that libmnl walks. It names no fault: which one it is follows from
-/// the first four bytes there, by hand.
-#[derive(Clone, Copy, Debug, PartialEq, Eq)]
-pub enum Fault {
-    /// Nothing.
-    None,
-    /// The length that stands there is wrong, and this is the count that the fault names.
-    Input(usize),
-    /// Less than a header.
-    Short,
-}
 
 /// A message as libmnl reads it: type, flags, sequence number, port, and the payload's length.
 pub type Header = (u16, u16, u32, u32, usize);
@@ -29,11 +17,21 @@ pub struct Row {
     pub file: &'static str,
     pub hex: &'static str,
     pub messages: &'static [Header],
-    pub fault: Fault,
+    /// libmnl names no fault: which one it is follows from the first four bytes after its last message, by hand.
+    pub fault: Option<Fault>,
 }
 
 /// What the reader of a datagram gives.
 type Item = Option<Result<Nlmsghdr<u16, Vec<u8>>, SocketError>>;
+
+/// The fault that a reader of messages gives.
+pub fn fault_of(error: &SocketError) -> Option<Fault> {
+    match error {
+        SocketError::De(DeError::Io(ErrorKind::UnexpectedEof)) => Some(Fault::Short),
+        SocketError::De(DeError::InvalidInput(count)) => Some(Fault::Input(*count)),
+        _ => None,
+    }
+}
 
 /// The header of the message that is read.
 fn header_of(item: Item) -> Option<Header> {
@@ -50,25 +48,24 @@ fn header_of(item: Item) -> Option<Header> {
     ))
 }
 
-/// The fault that is read.
-fn fault_of(item: Item) -> Option<Fault> {
+/// The fault that is read, if there is one.
+fn fault_in(rt: &impl Abort, item: Item) -> Option<Fault> {
     match item {
-        None => Some(Fault::None),
-        Some(Err(SocketError::De(DeError::InvalidInput(n)))) => Some(Fault::Input(n)),
-        Some(Err(SocketError::De(DeError::Io(ErrorKind::UnexpectedEof)))) => Some(Fault::Short),
-        _ => None,
+        None => None,
+        Some(Ok(_)) => rt.panic("a message more"),
+        Some(Err(error)) => Some(fault_of(&error).expect(rt, "a fault")),
     }
 }
 
 /// Asserts that the datagram is read as libmnl reads it, and that nothing is read after its fault.
 fn check_row(rt: &impl Abort, alloc: Global, row: &Row) {
     let file = row.file;
-    let bytes = bytes_of(rt, alloc, file, row.hex);
+    let bytes = decoded(rt, alloc, row.hex);
     let mut found: NlBufferIter<'_, u16, Vec<u8>> = NlBufferIter::new(&bytes);
     for want in row.messages {
         assert_is_at(rt, file, header_of(found.next(alloc)), Some(*want));
     }
-    assert_is_at(rt, file, fault_of(found.next(alloc)), Some(row.fault));
+    assert_is_at(rt, file, fault_in(rt, found.next(alloc)), row.fault);
     assert_is_at(rt, file, found.next(alloc).is_none(), true);
 }
 
@@ -90,7 +87,7 @@ pub const ROWS: [Row; 21] = [
         file: "0001",
         hex: "240000005000000000000000000000000200000008000100feffffff0800020001000000",
         messages: &[(80, 0x0000, 0, 0, 20)],
-        fault: Fault::None,
+        fault: None,
     },
     Row {
         // kobject_uevent: a bridge made; the datagram is a text and no message
@@ -100,7 +97,7 @@ pub const ROWS: [Row; 21] = [
             2f6272302f7175657565732f74782d300053554253595354454d3d717565756573005345514e554d\
             3d3130323300",
         messages: &[],
-        fault: Fault::Input(1080321105),
+        fault: Some(Fault::Input(1080321105)),
     },
     Row {
         // route: a dump of IPv4 addresses, its first datagram
@@ -125,7 +122,7 @@ pub const ROWS: [Row; 21] = [
             (20, 0x0002, 1005, 4194835693, 64),
             (20, 0x0002, 1005, 4194835693, 60),
         ],
-        fault: Fault::None,
+        fault: None,
     },
     Row {
         // route: a dump of proxy neighbours, an entry and the Done after it
@@ -136,7 +133,7 @@ pub const ROWS: [Row; 21] = [
             (28, 0x0002, 1012, 3107799450, 20),
             (3, 0x0002, 1012, 3107799450, 4),
         ],
-        fault: Fault::None,
+        fault: None,
     },
     Row {
         // route: the addresses of one link, a filtered dump
@@ -150,28 +147,28 @@ pub const ROWS: [Row; 21] = [
             (20, 0x0022, 1179, 4136408453, 72),
             (20, 0x0022, 1179, 4136408453, 64),
         ],
-        fault: Fault::None,
+        fault: None,
     },
     Row {
         // route: a Done with a code and a text, the answer to a dump of no such table
         file: "0372",
         hex: NO_TABLE,
         messages: &[(3, 0x0222, 1191, 2176439019, 40)],
-        fault: Fault::None,
+        fault: None,
     },
     Row {
         // route: an acknowledgement with a warning after it
         file: "0515",
         hex: "24000000020000011a0400002b3100000000000060000000280005041a04000000000000",
         messages: &[(2, 0x0100, 1050, 12587, 20)],
-        fault: Fault::None,
+        fault: None,
     },
     Row {
         // generic: an error, the request's header alone after the code
         file: "0884",
         hex: "24000000020000012904000049430000eaffffff10000000100005002904000000000000",
         messages: &[(2, 0x0100, 1065, 17225, 20)],
-        fault: Fault::None,
+        fault: None,
     },
     Row {
         // generic: a capped error with an attribute: the echo states 20 bytes, and has 16
@@ -179,14 +176,14 @@ pub const ROWS: [Row; 21] = [
         hex: "2c000000020000033e04000049430000eaffffff14000000150005003e0400000000000008000500\
             01000000",
         messages: &[(2, 0x0300, 1086, 17225, 28)],
-        fault: Fault::None,
+        fault: None,
     },
     Row {
         // route: a capped error without attributes
         file: "0523",
         hex: "2400000002000001220400002b310000eaffffff14000000640005002204000000000000",
         messages: &[(2, 0x0100, 1058, 12587, 20)],
-        fault: Fault::None,
+        fault: None,
     },
     Row {
         // route: an acknowledgement with a text
@@ -194,7 +191,7 @@ pub const ROWS: [Row; 21] = [
         hex: "50000000020000036c0400002b3100000000000028000000130005006c040000000000002c000100\
             6279746573206c6566746f7665722061667465722070617273696e67206174747269627574657300",
         messages: &[(2, 0x0300, 1132, 12587, 64)],
-        fault: Fault::None,
+        fault: None,
     },
     Row {
         // generic: the devices of the family netdev, all of a dump in one datagram
@@ -211,14 +208,14 @@ pub const ROWS: [Row; 21] = [
             (20, 0x0000, 1141, 17225, 48),
             (3, 0x0002, 1141, 17225, 4),
         ],
-        fault: Fault::None,
+        fault: None,
     },
     Row {
         // netfilter: a request whose length is no multiple of four
         file: "0998",
         hex: "1100000001010500fb0300000000000002000000",
         messages: &[(257, 0x0005, 1019, 0, 1)],
-        fault: Fault::None,
+        fault: None,
     },
     Row {
         // netfilter: a batch of three requests
@@ -230,7 +227,7 @@ pub const ROWS: [Row; 21] = [
             (2562, 0x0005, 22, 0, 12),
             (17, 0x0001, 23, 0, 4),
         ],
-        fault: Fault::None,
+        fault: None,
     },
     Row {
         // netfilter: two notifications in one datagram
@@ -242,7 +239,7 @@ pub const ROWS: [Row; 21] = [
             (2565, 0x0000, 22, 3277768467, 32),
             (2562, 0x0000, 22, 3277768467, 32),
         ],
-        fault: Fault::None,
+        fault: None,
     },
     Row {
         // sock_diag: a dump of unix sockets
@@ -257,21 +254,21 @@ pub const ROWS: [Row; 21] = [
             (20, 0x0002, 1039, 17226, 84),
             (20, 0x0002, 1039, 17226, 104),
         ],
-        fault: Fault::None,
+        fault: None,
     },
     Row {
         // xfrm: all policies removed, told to a group
         file: "1065",
         hex: "1c0000001d000000af98026b000000000a0010000000000000000000",
         messages: &[(29, 0x0000, 1795332271, 0, 12)],
-        fault: Fault::None,
+        fault: None,
     },
     Row {
         // usersock: a text of five bytes from one program to another
         file: "1066",
         hex: "68656c6c6f",
         messages: &[],
-        fault: Fault::Short,
+        fault: Some(Fault::Short),
     },
     Row {
         // connector: a process event
@@ -279,7 +276,7 @@ pub const ROWS: [Row; 21] = [
         hex: "4c000000030000001000000000000000010000000100000010000000000000002800000001000000\
             010000003863689e370200004b4300004b43000060430000604300000000000000000000",
         messages: &[(3, 0x0000, 16, 0, 60)],
-        fault: Fault::None,
+        fault: None,
     },
     Row {
         // route: a request by iproute2 with 128 zeros after it
@@ -289,13 +286,13 @@ pub const ROWS: [Row; 21] = [
             00000000000000000000000000000000000000000000000000000000000000000000000000000000\
             0000000000000000000000000000000000000000000000000000000000000000",
         messages: &[(106, 0x0301, 1795332460, 0, 8)],
-        fault: Fault::Input(0),
+        fault: Some(Fault::Input(0)),
     },
     Row {
         // fib_lookup: a request by libnl
         file: "1196",
         hex: "24000000000005006f99026bb913c0557f00000100000000000000000000000000000000",
         messages: &[(0, 0x0005, 1795332463, 1438651321, 20)],
-        fault: Fault::None,
+        fault: None,
     },
 ];

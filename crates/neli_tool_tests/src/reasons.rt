@@ -1,11 +1,10 @@
 //! Why the kernel refuses: the attributes after an error's echo, and after the code of a dump's end.
 
 use crate::datagrams::NO_TABLE;
-use crate::support::{assert_is_at, bytes_of};
-use neli::consts::nl::NlmsgerrAttr;
-use neli::iter::cut;
-use neli::nl::{NlPayload, Nlmsghdr};
-use neli::types::{Buffer, GenlBuffer};
+use crate::support::{assert_is_at, decoded};
+use neli_attr::{Buffer, GenlBuffer};
+use neli_consts::NlmsgerrAttr;
+use neli_msg::{NlPayload, Nlmsghdr, cut};
 use std::alloc::Global;
 use std::process::Abort;
 
@@ -81,7 +80,7 @@ fn check_attributes(rt: &impl Abort, row: &Row, reasons: &Reasons) {
 
 fn check_row(rt: &impl Abort, alloc: Global, row: &Row) {
     let file = row.file;
-    let bytes = bytes_of(rt, alloc, file, row.hex);
+    let bytes = decoded(rt, alloc, row.hex);
     let (messages, _) = cut::<u16, Vec<u8>>(alloc, &bytes).expect(rt, file);
     let (code, reasons) = refusal_of(rt, messages.first().expect(rt, file));
     check_attributes(rt, row, reasons);
