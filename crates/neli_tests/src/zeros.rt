@@ -94,3 +94,18 @@ fn a_payload_past_32_bits_is_not_put_in(rt: HostRuntime) {
     let kept = message.get_payload().map(|zeros| zeros.count);
     assert_is(&rt, (*message.nl_len(), kept), (20, Some(3)));
 }
+
+// The length is rounded up to four, and the last that is so in 32 bits is 4294967292.
+#[test]
+fn a_payload_up_to_32_bits_is_put_in(rt: HostRuntime) {
+    for (count, length) in [
+        (PAST - 5, 4294967288),
+        (PAST - 4, 4294967292),
+        (PAST - 1, 4294967292),
+    ] {
+        let mut message = three(&rt);
+        let put = message.set_payload(NlPayload::Payload(Zeros { count }));
+        put.expect(&rt, "a payload");
+        assert_is(&rt, *message.nl_len(), length);
+    }
+}
