@@ -1,0 +1,45 @@
+//! The words of the command line, and the lines of the input.
+
+use std::alloc::Global;
+use std::io;
+
+/// What is wanted: a seed, and how many datagrams and scripts.
+#[derive(Clone, Copy)]
+pub struct Wanted {
+    pub seed: u64,
+    pub datagrams: u64,
+    pub scripts: u64,
+}
+
+/// The error of words or lines that can't be read.
+fn unreadable() -> io::Error {
+    io::Error::from(io::ErrorKind::InvalidInput)
+}
+
+/// The number that the word at a place spells.
+fn number(words: &[String], at: usize) -> io::Result<u64> {
+    let word = words.get(at).ok_or_else(unreadable)?;
+    word.parse().map_err(|_| unreadable())
+}
+
+/// What the words ask for.
+pub fn read_words(words: &[String]) -> io::Result<Wanted> {
+    Ok(Wanted {
+        seed: number(words, 0)?,
+        datagrams: number(words, 1)?,
+        scripts: number(words, 2)?,
+    })
+}
+
+/// The datagrams of the lines.
+pub fn datagrams(alloc: Global, text: &str) -> io::Result<Vec<Vec<u8>>> {
+    let mut found = Vec::new(alloc);
+    for line in text.lines() {
+        let bytes = hex::decode(alloc, line).map_err(|_| unreadable())?;
+        found.push(bytes)?;
+    }
+    if found.is_empty() {
+        return Err(unreadable());
+    }
+    Ok(found)
+}
