@@ -109,7 +109,9 @@ impl Expected {
             self.step(rt, Send(16, 0, ""), InUse(number));
         } else {
             self.step(rt, Send(16, 0, ""), Sent(number, PORT));
-            self.handles.push(new_handle(Some(number))).expect(rt, "memory");
+            self.handles
+                .push(new_handle(Some(number)))
+                .expect(rt, "memory");
         }
     }
 

@@ -214,13 +214,7 @@ impl Said {
 }
 
 /// What is printed of an answer with this code and so many attributes.
-fn answer_text(
-    rt: &impl Abort,
-    alloc: Global,
-    code: i32,
-    is_echoed: bool,
-    count: usize,
-) -> String {
+fn answer_text(rt: &impl Abort, alloc: Global, code: i32, is_echoed: bool, count: usize) -> String {
     let mut text = String::new(alloc);
     let written = match (code, is_echoed, count) {
         (0, _, 0) => write!(text, "ack"),
