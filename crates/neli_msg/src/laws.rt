@@ -4,6 +4,7 @@ ghost use Rattle.std.specs.Prelude.{◌≡◌, ◌*◌, ◌/◌, ◌≤◌, ◌�
 ghost use Rattle.std.specs.List.{All};
 ghost use Rattle.neli_wire.specs.DeError.{DeError as Refusal};
 ghost use Rattle.neli_wire.specs.Frames.{frame_at};
+ghost use Rattle.neli_wire.specs.Constants.{IsEquality};
 ghost use Rattle.neli_wire.specs.Numbers.{AreBytes};
 ghost use Rattle.neli_msg_base.specs.Messages.{Message, message_layout};
 ghost use Rattle.neli_msg_base.specs.Retyping.{typed_message};
@@ -11,7 +12,10 @@ ghost use Rattle.neli_msg.specs.Cuts.{Cuts, cut_of};
 ghost use Rattle.neli_msg.specs.Agreement.{AreRead, typed_reading, untyped_layout};
 ghost use Rattle.neli_msg_base.specs.Zeroed.{HasNoTail, untyped_wires, datagram_zeroed};
 
+use neli_attr::{AttrType, Buffer, Nlattr};
 use neli_consts::NlType;
+use neli_list::FrameList;
+use neli_msg_base::{NlPayload, Nlmsgerr, Nlmsghdr, NlmsghdrAck, NlmsghdrErr};
 use neli_wire::FromBytesWithInput;
 
 /// Each byte list is the frames of messages, one after the other, and then nothing or what has a fault.
@@ -63,3 +67,23 @@ pub fn rewritten_datagram_is_zeroed()
     ensures as_long { (b : List ℕ) (ms : List (Message ℕ (List ℕ)))
         → Cuts untyped_layout b ms None → length (datagram_zeroed b) ≡ length b }
 {}
+
+/// `==` of attributes, messages and their parts is true exactly where the two values are equal, field by field, where
+/// the types and bodies in them have such an `==`.
+pub fn equality<T: PartialEq, P: PartialEq>()
+    ensures buffer { IsEquality ⟦<Buffer as PartialEq>⟧.eq }
+    ensures type_field { IsEquality T.eq → IsEquality ⟦<AttrType<T> as PartialEq>⟧.eq }
+    ensures attribute { IsEquality T.eq → IsEquality P.eq
+        → IsEquality ⟦<Nlattr<T, P> as PartialEq>⟧.eq }
+    ensures list { IsEquality P.eq → IsEquality ⟦<FrameList<P> as PartialEq>⟧.eq }
+    ensures header { IsEquality T.eq → IsEquality ⟦<NlmsghdrAck<T> as PartialEq>⟧.eq }
+    ensures answer { IsEquality P.eq → IsEquality ⟦<Nlmsgerr<P> as PartialEq>⟧.eq }
+    ensures echo { IsEquality T.eq → IsEquality P.eq
+        → IsEquality ⟦<NlmsghdrErr<T, P> as PartialEq>⟧.eq }
+    ensures payload { IsEquality T.eq → IsEquality P.eq
+        → IsEquality ⟦<NlPayload<T, P> as PartialEq>⟧.eq }
+    ensures message { IsEquality T.eq → IsEquality P.eq
+        → IsEquality ⟦<Nlmsghdr<T, P> as PartialEq>⟧.eq }
+{
+    neli_consts::laws::equality();
+}

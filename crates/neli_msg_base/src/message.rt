@@ -5,7 +5,7 @@ ghost use Rattle.neli_msg_base.specs.Builders.{built_message, own_length};
 ghost use Rattle.neli_attr.specs.Builders.Fault.{Invalid};
 ghost use Rattle.neli_msg_base.specs.Retyping.{HasOwnEcho, IsMessageTooLong, RefusesTyping, body_of, capped_of, failure_of, payload_stating, stated_echo, typed_header, typed_payload, with_len, with_payload, without_capped, without_failure};
 ghost use Rattle.neli_msg_base.specs.Wires.{payload_size};
-ghost use Rattle.std.specs.Prelude.{Err, codes, option_map, Some, None, ◌≡◌, ◌+◌, ◌≤◌, Ok, IfOk, IfErr, OnOk, OnErr, length, min};
+ghost use Rattle.std.specs.Prelude.{Err, ℕ, List, IsOk, codes, option_map, Some, None, ◌≡◌, ◌+◌, ◌≤◌, Ok, IfOk, IfErr, OnOk, OnErr, length, min};
 ghost use Rattle.neli_wire.specs.Frames.{frame_at, frame_takes};
 ghost use Rattle.neli_wire.specs.laws.Sizes.{padded-rounded};
 ghost use Rattle.neli_wire.specs.Sizes.{align};
@@ -374,7 +374,7 @@ impl Nlmsghdr<u16, Buffer> {
     /// read as `P`. Lengths are computed anew; codes, attributes and a header that is echoed alone stay.
     ///
     /// Refused with the refusal of these bytes as [`RouterError::De`], as [`RouterError::Msg`] where a length
-    /// passes 32 bits, or as [`RouterError::Memory`].
+    /// passes 32 bits, or as [`RouterError::Memory`], of a body only where reading it takes memory.
     pub fn to_typed<T: NlType, P: FromBytesWithInput + Size>(
         &self,
         alloc: Global,
@@ -389,6 +389,9 @@ impl Nlmsghdr<u16, Buffer> {
         ensures refused { IfErr result
             (RefusesTyping (typed_payload T.wire_value P.read self.now.payload)
             (IsMessageTooLong P.view P.wire_length P.read T.wire_value self.now.payload)) }
+        ensures memory { (bytes : List ℕ) → self.now.payload ≡ NlPayload.Payload bytes
+            → result ≡ Err RouterError.Memory → P.takes_memory bytes }
+        ensures empty { self.now.payload ≡ NlPayload.Empty → IsOk result }
     {
         let payload: NlPayload<T, P> = self.payload.to_typed(alloc, self.payload.body_len())?;
         let Some(len) = length_with(&payload) else {

@@ -1,6 +1,6 @@
 //! What a message carries after its header.
 
-ghost use Rattle.std.specs.Prelude.{⊤, ◌≡◌, Ok, IfOk, IfErr, OnOk, OnErr, IsTrue, ◌↔◌, length};
+ghost use Rattle.std.specs.Prelude.{◌≡◌, ℕ, List, Ok, Err, IsOk, IfOk, IfErr, OnOk, OnErr, IsTrue, ◌↔◌, length};
 ghost use Rattle.neli_wire.specs.Place.{whole};
 ghost use Rattle.neli_wire.specs.Refusals.{Refuses};
 ghost use Rattle.neli_wire.specs.Reading.{exact_reading, exact_takes};
@@ -241,7 +241,7 @@ impl NlPayload<u16, Buffer> {
     ///
     /// Refused as [`RouterError::De`] with `InvalidInput(n)` where a body has fewer bytes, else with the
     /// refusal of these bytes; as [`RouterError::Msg`] where an echoed message's length passes 32 bits; or as
-    /// [`RouterError::Memory`].
+    /// [`RouterError::Memory`], of a body only where reading these bytes takes memory.
     pub fn to_typed<T: NlType, P: FromBytesWithInput + Size>(
         &self,
         alloc: Global,
@@ -253,6 +253,9 @@ impl NlPayload<u16, Buffer> {
         ensures length { IfOk result (HasOwnEcho P.wire_length) }
         ensures refused { IfErr result (RefusesTyping (typed_first T.wire_value P.read n self.now)
             (IsEchoTooLong P.view P.wire_length P.read self.now)) }
+        ensures memory { (bytes : List ℕ) → self.now ≡ NlPayload.Payload bytes
+            → result ≡ Err RouterError.Memory → exact_takes P.takes_memory n bytes }
+        ensures empty { self.now ≡ NlPayload.Empty → IsOk result }
     {
         match self {
             NlPayload::Ack(answer) => Ok(NlPayload::Ack(answer.to_typed()?)),
@@ -268,7 +271,8 @@ impl NlPayload<u16, Buffer> {
 /// The value that the first `n` bytes of a body spell.
 fn read_first<P: FromBytesWithInput>(alloc: Global, body: &Buffer, n: usize) -> Result<P, DeError>
     ensures value { IfOk result (λ v. first_as P.read n body.now ≡ Ok (P.view v)) }
-    ensures refused { IfErr result (Refuses (first_as P.read n body.now) ⊤) }
+    ensures refused { IfErr result (Refuses (first_as P.read n body.now)
+        (exact_takes P.takes_memory n body.now)) }
 {
     let cursor = Cursor::new(body.as_ref());
     let bytes = cursor.input(n)?;
