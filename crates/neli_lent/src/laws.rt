@@ -1,15 +1,19 @@
 //! Laws of what is lent, over the definitions alone. The calls do nothing: their contracts are the laws.
 
-ghost use Rattle.std.specs.Prelude.{◌≡◌, ℕ, List, [], None, Some, Ok, Err, IsErr, length};
+ghost use Rattle.std.specs.Prelude.{◌≡◌, ◌+◌, ℕ, List, [], None, Some, Ok, Err, IsErr, length};
 ghost use Rattle.neli_wire.specs.DeError.{DeError as Refusal};
 ghost use Rattle.neli_wire.specs.Frames.{frame_at};
 ghost use Rattle.neli_attr.specs.Attributes.{Attr, attributes_in};
+ghost use Rattle.neli_wire.specs.Sizes.{align};
 ghost use Rattle.neli_msg.specs.Messages.{message_layout};
+ghost use Rattle.neli_msg.specs.Nlmsghdr.{Nlmsghdr as Message};
+ghost use Rattle.neli_msg.specs.Wires.{message_wire, payload_size};
 ghost use Rattle.neli_lent.specs.Attributes.{attributes_at};
 ghost use Rattle.neli_lent.specs.Messages.{Lent, lent_message, owned_reading};
+ghost use Rattle.neli_lent.specs.Written.{HeaderFits, IsWalked, header_numbered};
 
 use neli_consts::NlType;
-use neli_wire::{Constant, FromBytesWithInput};
+use neli_wire::{Constant, FromBytesWithInput, ToBytes};
 
 /// Where a message is lent, reading the same bytes as an owned message gives what the lent one becomes, or
 /// its refusal, and leaves the same bytes. Where lending is refused, so is reading.
@@ -19,6 +23,17 @@ pub fn lent_message_becomes_what_is_read<T: NlType, P: FromBytesWithInput>()
         ≡ owned_reading T.wire_value T.wire_number P.read m r }
     ensures refused { (s : List ℕ) (e : Refusal) → frame_at (lent_message T.wire_value) s ≡ Err e
         → IsErr (frame_at (message_layout T.wire_value T.wire_number P.read) s) }
+{}
+
+/// A message is written as one frame: where the numbers of its header fit their fields, and it states its own length
+/// rounded up to four, a walk of what is written gives one message, with that header and the payload's bytes and zeros
+/// up to a multiple of four, and no fault.
+pub fn written_message_is_walked<T: NlType, P: ToBytes>()
+    ensures { (m : Message T P) (bytes : List ℕ)
+        → HeaderFits (header_numbered T.wire_number m.header)
+        → m.header.len ≡ align (16 + payload_size P.Size.wire_length m.payload)
+        → message_wire T.wire_number P.wire m ≡ Ok bytes
+        → IsWalked T.wire_number P.wire m bytes }
 {}
 
 /// The attributes that are lent one by one are those of the owned list of the same bytes; where a fault comes
