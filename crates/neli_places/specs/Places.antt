@@ -2,7 +2,7 @@
 use Rattle.std.specs.Prelude.{ℕ, zero, suc, ◌≡◌, ◌≤◌, ◌<◌, ◌+◌, ◌-◌, ◌^◌, true, ◌==◌, List, [], ◌∷◌, ◌++◌, Option, Some, None, length, drop, take, map, count_by, nat_eq, slice_set}
 use Rattle.std.specs.Option.{is_some, option_map}
 use Rattle.std.specs.List.{slice_get}
-use Rattle.std.specs.HashMap.{get, values}
+use Rattle.std.specs.HashMap.{get, spare, values}
 use Rattle.std.specs.VecDeque.{deque_len, deque_capacity}
 use Rattle.neli_places.specs.declared.entry.Entry.{Entry}
 use Rattle.neli_places.specs.declared.entry.Route.{Route}
@@ -158,6 +158,10 @@ pub record HasRoom {T : Type 0} (n : ℕ) (s : Places T) : Type 0 where
   pub entries : deque_len s.entries + n ≤ deque_capacity s.entries
   pub links : deque_len s.links + n ≤ deque_capacity s.links
   pub shared : deque_len s.shared + n ≤ deque_capacity s.shared
+
+-- there is room for the place of one more number
+abbrev pub HasPlaceRoom : {T : Type 0} → Places T → Type 0
+HasPlaceRoom s = 0 < spare s.numbers
 
 -- what room there was for one more entry, beside it, is left
 abbrev pub LeavesRoom : {T : Type 0} → Places T → Places T → Type 0

@@ -1,7 +1,7 @@
 //! The entries, and who waits for which.
 
-ghost use Rattle.std.specs.Prelude.{◌≡◌, ◌≢◌, ◌↔◌, ◌++◌, ℕ, List, [], ◌∷◌, Option, None, Some, IfSome, IsNone, IsTrue, OnErr, OnOk, is_some, length, option_map};
-ghost use Rattle.neli_places.specs.Places.{Gains, HasReader, HasRoom, IsSound, IsTrimmed, LeavesRoom, entries_of, head_of, pending_of, place_of};
+ghost use Rattle.std.specs.Prelude.{◌≡◌, ◌≢◌, ◌↔◌, ◌++◌, ℕ, List, [], ◌∷◌, Option, None, Some, IfSome, IsNone, IsOk, IsTrue, OnErr, OnOk, is_some, length, option_map};
+ghost use Rattle.neli_places.specs.Places.{Gains, HasPlaceRoom, HasReader, HasRoom, IsSound, IsTrimmed, LeavesRoom, entries_of, head_of, pending_of, place_of};
 ghost use Rattle.neli_places.specs.Routes.{entry};
 ghost use Rattle.neli_places.specs.declared.entry.Route.{Route as Way};
 
@@ -79,7 +79,8 @@ impl<T: Drop> Places<T> {
 
     /// Gives a number that has no place one after the last entry.
     ///
-    /// Refused only where memory runs out, and then nothing changes.
+    /// Refused only where memory runs out, and then nothing changes. Where the table of numbers has room for one
+    /// more, none is taken.
     pub fn open(&mut self, number: u32) -> Result<(), AllocError>
         requires closed { pending_of self.old (Some number) ≡ None }
         requires trimmed { IsTrimmed self.old }
@@ -89,6 +90,7 @@ impl<T: Drop> Places<T> {
             → pending_of self.new w ≡ pending_of self.old w) }
         ensures err { OnErr result ((w : Option ℕ)
             → pending_of self.new w ≡ pending_of self.old w) }
+        ensures enough { HasPlaceRoom self.old → IsOk result }
         ensures trimmed { IsTrimmed self.new }
     {
         // The prover learns here that the count of places fits: there are fewer than 2^63 numbers.
@@ -187,7 +189,7 @@ impl<T: Drop> Places<T> {
         }
     }
 
-    /// Makes room for n more entries.
+    /// Makes room for n more entries. Where it is there already, no memory is taken.
     ///
     /// Refused where memory runs out, and where the positions of the entries would pass 64 bits; then all
     /// lists are as they were.
@@ -197,6 +199,7 @@ impl<T: Drop> Places<T> {
         ensures same { (w : Option ℕ) → pending_of self.new w ≡ pending_of self.old w }
         ensures trimmed { IsTrimmed self.new }
         ensures room { OnOk result (HasRoom n self.new) }
+        ensures enough { HasRoom n self.old → IsOk result }
     {
         let end = self.base + self.entries.len() as u64;
         if n as u64 > u64::MAX - end {

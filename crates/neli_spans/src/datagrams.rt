@@ -18,7 +18,7 @@ pub struct Datagrams {
 }
 
 impl Datagrams {
-    ghost use Rattle.std.specs.Prelude.{◌<◌, ◌+◌, ℕ, List, [], ◌∷◌, ◌++◌, Some, OnOk, length, slice_get, slice_range};
+    ghost use Rattle.std.specs.Prelude.{◌<◌, ◌+◌, ℕ, List, [], ◌∷◌, ◌++◌, Some, IsOk, OnOk, length, slice_get, slice_range};
     ghost use Rattle.neli_spans.specs.Spans.{AreNamed, AreOf, HasRoom, IsNamed, IsUnchanged, Names, bytes_of, next_serial, span_bytes};
     ghost use Rattle.neli_spans.specs.declared.span.Span.{Span as Named};
 
@@ -50,7 +50,7 @@ impl Datagrams {
         self.bytes
     }
 
-    /// Makes room for one more datagram, of `size` bytes.
+    /// Makes room for one more datagram, of `size` bytes. Where it is there already, no memory is taken.
     ///
     /// Refused where memory runs out, where the next serial number is 2^64 - 1, and where the bytes of all
     /// datagrams would pass a usize. Nothing else changes in either case.
@@ -58,6 +58,7 @@ impl Datagrams {
         requires { AreNamed self.old }
         ensures unchanged { IsUnchanged self.old self.new }
         ensures room { OnOk result (HasRoom size self.new) }
+        ensures enough { HasRoom size self.old → IsOk result }
     {
         if self.next_serial() == u64::MAX || usize::MAX - self.bytes < size {
             return Err(AllocError);

@@ -1,15 +1,15 @@
 -- Lists of numbers: which numbers a filter, a range or a longer list has.
-use Rattle.std.proofs.Common.{◌≡◌, ℕ, ◌+◌, ◌-◌, ◌<◌, ◌≤◌, Bool, true, false, not, ◌&&◌, ◌||◌, cond, eqb, ltb, leb, List, [], ◌∷◌, ◌++◌, refl, sym, ap, ◌∙◌, arith, append_assoc, zero, suc, inl, inr}
+use Rattle.std.proofs.Common.{◌≡◌, ℕ, ◌+◌, ◌-◌, ◌<◌, ◌≤◌, ◌≢◌, Bool, true, false, not, ◌&&◌, ◌||◌, cond, eqb, ltb, leb, List, [], ◌∷◌, ◌++◌, get_or, length, refl, sym, ap, ◌∙◌, arith, append_assoc, zero, suc, inl, inr}
 use Rattle.std.specs.List.{All, filter, range_with_len}
-use Rattle.std.proofs.lemmas.Bool.{eqb-true, cases_lt}
+use Rattle.std.proofs.lemmas.Bool.{eqb-true, cases_lt, true≢false, lt-ltb, eq-eqb, and_from, not_from_false}
 use Rattle.std.proofs.lemmas.List.FromFn.{length-range_with_len, get_or-range_with_len}
 use Rattle.std.specs.List.Sorted.{IsStrictlyIncreasing}
 use Rattle.std.proofs.lemmas.Bool.Decides.{nat_tests}
 use Rattle.std.proofs.lemmas.List.{append-nil}
 use Rattle.std.proofs.lemmas.List.Elements.{All-head, All-tail, All-cons, All-nil, All-weaker, filter-append}
-use Rattle.std.proofs.lemmas.List.Folds.{list_any-append}
+use Rattle.std.proofs.lemmas.List.Folds.{list_any-append, list_any_at}
 use Rattle.std.proofs.lemmas.Map.Views.{any-filter_same}
-use Rattle.neli_util.specs.Groups.{has, firsts, with_added}
+use Rattle.neli_util.specs.Groups.{has, firsts, lacking, with_added}
 
 -- a filter's list has a number that passes, where the list has it
 pub has-filter : (p : ℕ → Bool) (xs : List ℕ) (n : ℕ) → has (filter p xs) n ≡ (p n && has xs n)
@@ -127,10 +127,14 @@ firsts-push (m ∷ ns) n =
 
 -- ---- lists with numbers added
 
+-- what a list lacks
+pub has-lacking : (added groups : List ℕ) (n : ℕ) → has (lacking added groups) n ≡ (not (has groups n) && (ltb 0 n && has added n))
+has-lacking added groups n =
+    has-filter (λ k. not (has groups k)) _ n ∙ ap (λ b. not (has groups n) && b) (has-filter (λ k. ltb 0 k) _ n ∙ ap (λ b. ltb 0 n && b) (has-firsts added n))
+
 -- what a list has after numbers were added
 pub has-with_added : (added groups : List ℕ) (n : ℕ) → has (with_added added groups) n ≡ (has groups n || (not (has groups n) && (ltb 0 n && has added n)))
-has-with_added added groups n =
-    has-append groups _ n ∙ ap (λ b. has groups n || b) (has-filter (λ k. not (has groups k)) _ n ∙ ap (λ b. not (has groups n) && b) (has-filter (λ k. ltb 0 k) _ n ∙ ap (λ b. ltb 0 n && b) (has-firsts added n)))
+has-with_added added groups n = has-append groups _ n ∙ ap (λ b. has groups n || b) (has-lacking added groups n)
 
 last_added : (h z a : Bool) (n : ℕ) → cond ((not a && z) && not h) (n ∷ []) [] ≡ cond (z && not (h || (not h && (z && a)))) (n ∷ []) []
 last_added true true true n = refl
@@ -152,3 +156,27 @@ with_added-push added groups n =
     ap (λ xs. filter lacks (filter above xs)) (firsts-push added n) ∙ ap (filter lacks) (filter-append above (firsts added) last ∙ ap (λ xs. filter above (firsts added) ++ xs) (filter_last above n (has added n))) ∙ filter-append lacks (filter above (firsts added)) _ ∙ ap (λ xs. filter lacks (filter above (firsts added)) ++ xs) (filter_last_if lacks n (not (has added n) && above n)) in
     let same = last_added (has groups n) (above n) (has added n) n ∙ ap (λ b. cond (above n && not b) (n ∷ []) []) (sym (has-with_added added groups n)) in
     ap (λ xs. groups ++ xs) kept ∙ sym (append_assoc groups _ _) ∙ ap (λ xs. with_added added groups ++ xs) same
+
+-- a number is added unless it is 0 or there
+pub with_added-one : (n : ℕ) (groups : List ℕ) → with_added (n ∷ []) groups ≡ groups ++ cond (ltb 0 n && not (has groups n)) (n ∷ []) []
+with_added-one n groups = ap (λ xs. groups ++ xs) (filter_last_if (λ k. not (has groups k)) n (ltb 0 n))
+
+-- one number after others
+pub with_added-then : (added groups : List ℕ) (n : ℕ) → with_added (added ++ n ∷ []) groups ≡ with_added (n ∷ []) (with_added added groups)
+with_added-then added groups n = with_added-push added groups n ∙ sym (with_added-one n (with_added added groups))
+
+-- a list that has a number had it or gained it
+had_not : (h m : Bool) → (h || m) ≡ false → h ≡ false
+had_not true m e = e
+had_not false m e = refl
+
+-- an added number above 0 that a list has not even after others were added, it lacks
+pub lacking-some : (added some groups : List ℕ) (n : ℕ) → has added n ≡ true → 0 < n → has (with_added some groups) n ≡ false → lacking added groups ≢ []
+lacking-some added some groups n named above lacks none =
+    let out = had_not (has groups n) _ (sym (has-with_added some groups n) ∙ lacks) in
+    let left = and_from (not (has groups n)) (ltb 0 n && has added n) (not_from_false (has groups n) out) (and_from (ltb 0 n) (has added n) (lt-ltb 0 n above) named) in
+    true≢false (sym left ∙ sym (has-lacking added groups n) ∙ ap (λ xs. has xs n) none)
+
+-- a list has the number at each of its indices
+pub has-at : (xs : List ℕ) (i : ℕ) → i < length xs → has xs (get_or xs i 0) ≡ true
+has-at xs i within = list_any_at (λ x. eqb x (get_or xs i 0)) xs i 0 within (eq-eqb (get_or xs i 0) (get_or xs i 0) refl)

@@ -23,6 +23,10 @@ abbrev pub firsts : List ℕ → List ℕ
 firsts [] = []
 firsts (n ∷ ns) = n ∷ filter (λ m. not (m == n)) (firsts ns)
 
--- the groups, and then those of the added numbers that they lack
+-- those of the added numbers that the groups lack, each once
+abbrev pub lacking : List ℕ → List ℕ → List ℕ
+lacking added groups = without groups (without_zeros (firsts added))
+
+-- the groups, and then what they lack
 abbrev pub with_added : List ℕ → List ℕ → List ℕ
-with_added added groups = groups ++ without groups (without_zeros (firsts added))
+with_added added groups = groups ++ lacking added groups

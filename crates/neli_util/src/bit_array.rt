@@ -41,13 +41,14 @@ impl NetlinkBitArray {
     /// An array without numbers, whose capacity is `bits` rounded up to whole words of 32 bits.
     ///
     /// Refused with the text `bit array too long` where that is more than 134217727 words, and where memory
-    /// runs out.
+    /// runs out; a capacity of 0 takes none.
     pub fn new(alloc: Global, bits: usize) -> Result<NetlinkBitArray, SerError>
         ensures capacity { IfOk result (λ array. array.capacity ≡ 32 * words_for bits) }
         ensures numbers { IfOk result (λ array. array.numbers ≡ []) }
         ensures too_long { (result ≡ Err (SerError.Msg (codes "bit array too long")))
             ↔ AreTooMany (words_for bits) }
         ensures memory { ¬ AreTooMany (words_for bits) → IfErr result (λ e. e ≡ SerError.Memory) }
+        ensures empty { bits ≡ 0 → IsOk result }
     {
         let mut words = Vec::new(alloc);
         resize_words(&mut words, bits.div_ceil(WORD_BITS))?;
@@ -108,11 +109,12 @@ impl NetlinkBitArray {
 
     /// The numbers that are set, lowest first.
     ///
-    /// Refused only where memory runs out.
+    /// Refused only where memory runs out; none is taken where no number is set.
     pub fn to_vec(&self, alloc: Global) -> Result<Vec<u32>, NoMemory>
         ensures value { IfOk result (λ list. list.items ≡ self.now.numbers) }
         ensures lowest_first { IsStrictlyIncreasing self.now.numbers }
         ensures within { All (λ n. (0 < n) × (n ≤ self.now.capacity)) self.now.numbers }
+        ensures empty { self.now.numbers ≡ [] → IsOk result }
     {
         let mut numbers = Vec::new(alloc);
         for bit in 0..self.len_bits() {

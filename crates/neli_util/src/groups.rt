@@ -1,10 +1,10 @@
 //! Multicast groups.
 
-ghost use Rattle.std.specs.Prelude.{◌≡◌, ◌↔◌, ◌⊎◌, ◌<◌, [], IfOk, IfErr, IsErr, OnOk, OnErr, IsTrue, length, slice_index};
-ghost use Rattle.neli_util.specs.Groups.{HasNoZero, without_zeros, without, with_added};
+ghost use Rattle.std.specs.Prelude.{◌≡◌, ◌↔◌, ◌⊎◌, ◌<◌, [], ◌∷◌, false, IfOk, IfErr, IsErr, IsOk, OnOk, OnErr, IsTrue, length, slice_index};
+ghost use Rattle.neli_util.specs.Groups.{HasNoZero, has, without_zeros, without, lacking, with_added};
 ghost use Rattle.neli_util.specs.Masks.{groups_of, IsMaskOf, past_mask, past_mask_text};
 
-use crate::masks::{PastMask, is_in_mask, mask_to_vec, slice_to_mask};
+use crate::masks::{MASK_WIDTH, PastMask, is_in_mask, mask_to_vec, slice_to_mask};
 use neli_wire::{NoMemory, SerError};
 use std::alloc::Global;
 use std::marker::Model;
@@ -41,10 +41,11 @@ impl Groups {
 
     /// The groups of a mask, lowest first.
     ///
-    /// Refused only where memory runs out.
+    /// Refused only where memory runs out; none is taken for the mask 0.
     pub fn new_bitmask(alloc: Global, mask: u32) -> Result<Groups, NoMemory>
         ensures value { IfOk result (λ groups. groups ≡ groups_of mask) }
         ensures no_zero { IfOk result HasNoZero }
+        ensures empty { mask ≡ 0 → IsOk result }
     {
         let numbers = mask_to_vec(alloc, mask)?;
         Ok(Groups { numbers })
@@ -52,14 +53,15 @@ impl Groups {
 
     /// Adds those groups of a mask that are not there, lowest first.
     ///
-    /// Refused only where memory runs out, and then the groups are as they were.
+    /// Refused only where memory runs out, and then the groups are as they were. Only a group that is not there
+    /// takes memory.
     pub fn add_bitmask(&mut self, mask: u32) -> Result<(), NoMemory>
         ensures ok { OnOk result (self.new ≡ with_added (groups_of mask) self.old) }
         ensures no_zero { HasNoZero self.new }
+        ensures none_lacking { lacking (groups_of mask) self.old ≡ [] → IsOk result }
         ensures err { OnErr result (self.new ≡ self.old) }
     {
-        let added = mask_to_vec(*self.numbers.allocator(), mask)?;
-        add_lacking(&mut self.numbers, &added)
+        add_masked(&mut self.numbers, mask)
     }
 
     /// Takes out the groups of a mask, each as often as it is there. It takes no memory.
@@ -72,22 +74,25 @@ impl Groups {
 
     /// These groups in their order, repeats too; zeros are left out.
     ///
-    /// Refused only where memory runs out.
+    /// Refused only where memory runs out; none is taken for no groups.
     pub fn new_groups(alloc: Global, groups: &[u32]) -> Result<Groups, NoMemory>
         ensures value { IfOk result (λ list. list ≡ without_zeros groups.now) }
         ensures no_zero { IfOk result HasNoZero }
+        ensures empty { groups.now ≡ [] → IsOk result }
     {
-        let mut numbers = Vec::from_slice(alloc, groups)?;
+        let mut numbers = copy_of(alloc, groups)?;
         numbers.retain(|group| *group != 0);
         Ok(Groups { numbers })
     }
 
     /// Adds those of these groups that are not there, in their order and each once; zeros are left out.
     ///
-    /// Refused only where memory runs out, and then the groups are as they were.
+    /// Refused only where memory runs out, and then the groups are as they were. Only a group that is not there
+    /// takes memory.
     pub fn add_groups(&mut self, groups: &[u32]) -> Result<(), NoMemory>
         ensures ok { OnOk result (self.new ≡ with_added groups.now self.old) }
         ensures no_zero { HasNoZero self.new }
+        ensures none_lacking { lacking groups.now self.old ≡ [] → IsOk result }
         ensures err { OnErr result (self.new ≡ self.old) }
     {
         add_lacking(&mut self.numbers, groups)
@@ -119,12 +124,13 @@ impl Groups {
 
     /// A copy of the list.
     ///
-    /// Refused only where memory runs out.
+    /// Refused only where memory runs out; none is taken where there is no group.
     pub fn as_groups(&self, alloc: Global) -> Result<Vec<u32>, NoMemory>
         ensures value { IfOk result (λ list. list.items ≡ self.now) }
         ensures no_zero { HasNoZero self.now }
+        ensures empty { self.now ≡ [] → IsOk result }
     {
-        Ok(Vec::from_slice(alloc, &self.numbers)?)
+        copy_of(alloc, &self.numbers)
     }
 
     /// The list itself. It takes no memory.
@@ -144,17 +150,58 @@ impl Groups {
     }
 }
 
+// A copy of the numbers. That of none takes no memory.
+fn copy_of(alloc: Global, numbers: &[u32]) -> Result<Vec<u32>, NoMemory>
+    ensures value { IfOk result (λ copy. copy.items ≡ numbers.now) }
+    ensures empty { numbers.now ≡ [] → IsOk result }
+{
+    let mut copy = Vec::with_capacity(alloc, numbers.len())?;
+    copy.extend_from_slice(numbers)?;
+    Ok(copy)
+}
+
+// Adds a number, if it is above 0 and not there. Only then is memory taken.
+fn add_one(list: &mut Vec<u32>, number: u32) -> Result<(), NoMemory>
+    ensures ok { OnOk result (list.new.items ≡ with_added (number ∷ []) list.old.items) }
+    ensures err { OnErr result (list.new.items ≡ list.old.items) }
+    ensures above { OnErr result (0 < number) }
+    ensures lacking { OnErr result (has list.old.items number ≡ false) }
+{
+    if number != 0 && !list.contains(&number) {
+        list.push(number)?;
+    }
+    Ok(())
+}
+
 // Adds those of the added numbers that are above 0 and not there, each once, or leaves the list as it was.
 fn add_lacking(list: &mut Vec<u32>, added: &[u32]) -> Result<(), NoMemory>
     ensures ok { OnOk result (list.new.items ≡ with_added added.now list.old.items) }
+    ensures none_lacking { lacking added.now list.old.items ≡ [] → IsOk result }
     ensures err { OnErr result (list.new.items ≡ list.old.items) }
 {
     let before = list.len();
     for number in added {
-        if *number != 0 && !list.contains(number) {
-            if let Err(_) = list.push(*number) {
+        if let Err(error) = add_one(list, *number) {
+            list.truncate(before);
+            return Err(error);
+        }
+    }
+    Ok(())
+}
+
+// Adds those groups of a mask that are not there, lowest first, or leaves the list as it was.
+fn add_masked(list: &mut Vec<u32>, mask: u32) -> Result<(), NoMemory>
+    ensures ok { OnOk result (list.new.items ≡ with_added (groups_of mask) list.old.items) }
+    ensures none_lacking { lacking (groups_of mask) list.old.items ≡ [] → IsOk result }
+    ensures err { OnErr result (list.new.items ≡ list.old.items) }
+{
+    let before = list.len();
+    for bit in 0..MASK_WIDTH {
+        let group = bit + 1;
+        if is_in_mask(mask, group) {
+            if let Err(error) = add_one(list, group) {
                 list.truncate(before);
-                return Err(NoMemory);
+                return Err(error);
             }
         }
     }

@@ -1,6 +1,6 @@
 //! Masks of 32 bits, one for each of the groups 1 to 32.
 
-ghost use Rattle.std.specs.Prelude.{◌≡◌, ◌↔◌, ◌<◌, Some, Ok, Err, IfOk, IfErr, IsErr, length, slice_index};
+ghost use Rattle.std.specs.Prelude.{◌≡◌, ◌↔◌, ◌<◌, Some, Ok, Err, IfOk, IfErr, IsErr, IsOk, length, slice_index};
 ghost use Rattle.neli_util.specs.Groups.{HasNoZero};
 ghost use Rattle.neli_util.specs.Masks.{is_masked, groups_of, IsMaskOf, past_mask, past_mask_text};
 
@@ -9,7 +9,7 @@ use std::alloc::Global;
 use std::fmt;
 
 /// How many groups have a bit in a mask.
-const MASK_WIDTH: u32 = 32;
+pub const MASK_WIDTH: u32 = 32;
 
 /// Whether the mask has the bit of a group.
 pub fn is_in_mask(mask: u32, group: u32) -> bool
@@ -23,9 +23,10 @@ pub fn is_in_mask(mask: u32, group: u32) -> bool
 
 /// The groups of a mask, lowest first.
 ///
-/// Refused only where memory runs out.
+/// Refused only where memory runs out; none is taken for the mask 0.
 pub fn mask_to_vec(alloc: Global, mask: u32) -> Result<Vec<u32>, NoMemory>
-    ensures { IfOk result (λ groups. groups.items ≡ groups_of mask) }
+    ensures value { IfOk result (λ groups. groups.items ≡ groups_of mask) }
+    ensures empty { mask ≡ 0 → IsOk result }
 {
     let mut groups = Vec::new(alloc);
     for bit in 0..MASK_WIDTH {

@@ -2,12 +2,30 @@ use Rattle.std.proofs.Common.{◌≡◌, ℕ, ◌+◌, ◌-◌, ◌*◌, ◌/◌
 use Rattle.std.specs.Int.{bit_at}
 use Rattle.std.specs.List.{All, filter, range_with_len}
 use Rattle.std.specs.List.Sorted.{IsStrictlyIncreasing}
+use Rattle.std.proofs.lemmas.Bool.{true≢false}
 use Rattle.std.proofs.lemmas.List.{get_or_read, append-nil}
 use Rattle.neli_util.proofs.Lists.{filter_range_more}
-use Rattle.neli_util.proofs.BitLemmas.{numbers_rise, numbers_within}
+use Rattle.neli_util.proofs.BitLemmas.{has-numbers, numbers_rise, numbers_within}
 use Rattle.neli_util.specs.BitArrays.{BitArray, has_bit}
+use Rattle.neli_util.specs.Groups.{has}
 use Rattle.neli_util.proofs.bit_array.NetlinkBitArray.to_vec.Goals as goal
 use Rattle.neli_util.proofs.bit_array.NetlinkBitArray.to_vec.Goals.{then-word_has_bit+in_ok-push, else-word_has_bit}
+
+-- whether a bit of a word is set, as a number of the array
+number_of_bit : (ws : List ℕ) (bit w : ℕ) → w ≡ get_or ws (bit / 32) 0 → has_bit ws (bit + 1) ≡ eqb (bit_at w (bit % 32)) 1
+number_of_bit ws bit w read =
+    let back : bit + 1 - 1 ≡ bit = omega arith in
+    ap (λ k. eqb (bit_at (get_or ws (k / 32) 0) (k % 32)) 1) back ∙ ap (λ v. eqb (bit_at v (bit % 32)) 1) (sym read)
+
+pub returns-in_err-push-clause-empty : goal.returns-in_err-push-clause-empty
+returns-in_err-push-clause-empty c none =
+    let ws : List ℕ = c.self.inside.words.items in
+    let bit = c.loop-bit.bit in
+    let capacity = ap (λ a. a.capacity) c.self.view_is in
+    let within : bit < 32 * length ws = omega (arith, capacity, c.len_bits-bit-end.ensures.value, c.loop-bit-test.true) in
+    let sets = number_of_bit ws bit _ (get_or_read ws (bit / 32) _ (omega arith) c.index.ensures 0) ∙ sym c.word_has_bit.ensures ∙ c.if-word_has_bit.true in
+    let has_it = has-numbers ws (bit + 1) (omega arith) (omega arith) ∙ sets in
+    absurd (true≢false (sym has_it ∙ ap (λ xs. has xs (bit + 1)) (ap (λ a. a.numbers) c.self.view_is ∙ none)))
 
 pub returns-in_err-push-clause-lowest_first : goal.returns-in_err-push-clause-lowest_first
 returns-in_err-push-clause-lowest_first c =
@@ -25,10 +43,7 @@ loop-bit-preserved c =
     let bit = c.loop-bit.bit in
     let capacity = ap (λ a. a.capacity) c.self.view_is in
     let within : bit < 32 * length ws = omega (arith, capacity, c.len_bits-bit-end.ensures.value, c.loop-bit-test.true) in
-    let back : bit + 1 - 1 ≡ bit = omega arith in
-    let read = get_or_read ws (bit / 32) _ (omega arith) c.index.ensures 0 in
-    let sets : has_bit ws (bit + 1) ≡ c.word_has_bit.result =
-    ap (λ k. eqb (bit_at (get_or ws (k / 32) 0) (k % 32)) 1) back ∙ ap (λ v. eqb (bit_at v (bit % 32)) 1) (sym read) ∙ sym c.word_has_bit.ensures in
+    let sets = number_of_bit ws bit _ (get_or_read ws (bit / 32) _ (omega arith) c.index.ensures 0) ∙ sym c.word_has_bit.ensures in
     let before = filter (has_bit ws) (range_with_len 1 bit) in
     let more = filter_range_more (has_bit ws) bit in
     elim c.if-word_has_bit.branch [
