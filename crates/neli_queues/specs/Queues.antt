@@ -17,9 +17,9 @@ pending_of s (Some q) = get nat_eq s.numbers q
 
 -- what a list gets of deliveries for multicast and of pieces
 abbrev pub share_of_both : List Delivery → List Piece → Option ℕ → List Delivery
-share_of_both news ps None = news
-share_of_both news ps (Some q) = gain_of q ps
+share_of_both multicast_deliveries ps None = multicast_deliveries
+share_of_both multicast_deliveries ps (Some q) = gain_of q ps
 
 -- each open list gets of them what it is due
 abbrev pub AreDue : Queues → (Option ℕ → List Delivery) → List Delivery → List Piece → Type 0
-AreDue s due news ps = (w : Option ℕ) → is_some (pending_of s w) ≡ true → share_of_both news ps w ≡ due w
+AreDue s due multicast_deliveries ps = (w : Option ℕ) → is_some (pending_of s w) ≡ true → share_of_both multicast_deliveries ps w ≡ due w

@@ -4,14 +4,14 @@
 //!
 //! A datagram is read and cut into pieces before any list changes, and what is refused is refused
 //! there. A piece is a delivery in a list of its own, with the number that it goes to. It is then
-//! hung on the list of that number, which takes no memory and a time that does not grow with what
+//! appended to the list of that number, which takes no memory and a time that does not grow with what
 //! waits.
 //!
 //! `specs/Queues.antt` says what the fields hold, `specs/Pieces.antt` what a number gains of
 //! pieces.
 #![tactic(auto)]
 
-mod hanging;
+mod appending;
 mod piece;
 mod queues;
 mod reading;

@@ -7,7 +7,7 @@ ghost use Rattle.neli_deliveries.specs.Deliveries.{is_would_block, datagram_shar
 ghost use Rattle.neli_queues.specs.Pieces.{is_open};
 ghost use Rattle.neli_queues.specs.Queues.{AreDue, share_of_both, kept_port, pending_of};
 
-use crate::hanging::{Numbers, hang_all, have_room};
+use crate::appending::{Numbers, append_all, have_room};
 use crate::piece::Piece;
 use crate::reading::read;
 use crate::staging::{listed, stage_each, stage_fault, stage_messages};
@@ -65,9 +65,9 @@ impl Queues {
             stage_fault(self.alloc, &self.numbers, fault, &mut pieces)?;
             Ok((LinkedList::new(self.alloc), pieces))
         } else {
-            let news = listed(self.alloc, messages)?;
+            let for_multicast = listed(self.alloc, messages)?;
             stage_fault(self.alloc, &self.numbers, fault, &mut pieces)?;
-            Ok((news, pieces))
+            Ok((for_multicast, pieces))
         }
     }
 
@@ -77,21 +77,21 @@ impl Queues {
     /// Refused where a list could come to 2^63 deliveries, and then nothing changes.
     fn hand_over(
         &mut self,
-        mut news: LinkedList<Delivery>,
+        mut for_multicast: LinkedList<Delivery>,
         pieces: Vec<Piece>,
     ) -> Result<(), NoMemory>
         ensures port { kept_port self.new ≡ kept_port self.old }
         ensures ok { OnOk result ((w : Option ℕ) → pending_of self.new w
-            ≡ option_map (λ ds. ds ++ share_of_both news pieces.items w) (pending_of self.old w)) }
+            ≡ option_map (λ ds. ds ++ share_of_both for_multicast pieces.items w) (pending_of self.old w)) }
         ensures err { OnErr result (self.new ≡ self.old) }
     {
         if !have_room(&self.numbers, &pieces) {
             return Err(NoMemory);
         }
         if let Some(waiting) = &mut self.multicast {
-            waiting.append(&mut news)?;
+            waiting.append(&mut for_multicast)?;
         }
-        hang_all(&mut self.numbers, pieces);
+        append_all(&mut self.numbers, pieces);
         Ok(())
     }
 }
@@ -136,8 +136,8 @@ impl Deliveries for Queues {
         if bytes.is_empty() {
             return Ok(());
         }
-        let (news, pieces) = self.staged(bytes, groups)?;
-        self.hand_over(news, pieces)
+        let (for_multicast, pieces) = self.staged(bytes, groups)?;
+        self.hand_over(for_multicast, pieces)
     }
 
     fn fault(&mut self, error: SocketError) -> Result<(), NoMemory> {

@@ -5,7 +5,7 @@ ghost use Rattle.neli_msg.specs.Messages.{message_of};
 ghost use Rattle.neli_deliveries.specs.Deliveries.{is_reply, message, message_to, messages_to, reader_fault};
 ghost use Rattle.neli_queues.specs.Pieces.{gain_of, is_open};
 
-use crate::hanging::Numbers;
+use crate::appending::Numbers;
 use crate::piece::Piece;
 use neli_attr::Buffer;
 use neli_deliveries::Delivery;

@@ -29,8 +29,8 @@ pub(crate) fn have_room(numbers: &Numbers, pieces: &[Piece]) -> bool
     true
 }
 
-/// Hangs a piece on the list of its number, if that is open.
-fn hang(numbers: &mut Numbers, piece: Piece)
+/// Appends a piece to the list of its number, if that is open.
+fn append_piece(numbers: &mut Numbers, piece: Piece)
     requires { (ds : List Waiting) → get nat_eq numbers.old piece.number ≡ Some ds
         → 0 < length piece.list → length ds + length piece.list < 2 ^ 63 }
     ensures { (q : ℕ) → get nat_eq numbers.new q
@@ -42,13 +42,13 @@ fn hang(numbers: &mut Numbers, piece: Piece)
     }
 }
 
-/// Hangs all pieces on the lists of their numbers, in order.
-pub(crate) fn hang_all(numbers: &mut Numbers, pieces: Vec<Piece>)
+/// Appends all pieces to the lists of their numbers, in order.
+pub(crate) fn append_all(numbers: &mut Numbers, pieces: Vec<Piece>)
     requires { HaveRoom (get nat_eq numbers.old) pieces.items }
     ensures { (q : ℕ) → get nat_eq numbers.new q
         ≡ option_map (λ ds. ds ++ gain_of q pieces.items) (get nat_eq numbers.old q) }
 {
     for piece in pieces {
-        hang(numbers, piece);
+        append_piece(numbers, piece);
     }
 }

@@ -2,7 +2,7 @@ use Rattle.std.proofs.Common.{◌≡◌, ◌++◌, ℕ, nat_eq, option_map}
 use Rattle.std.specs.HashMap.{get}
 use Rattle.std.specs.Vec.Iter.{into_iter_items}
 use Rattle.neli_queues.specs.Pieces.{HaveRoom, gain_of}
-use Rattle.neli_queues.proofs.hanging.hang_all.Given as goal
+use Rattle.neli_queues.proofs.appending.append_all.Given as goal
 
 -- there is room for the rest, and with it the lists are what they become
 abbrev pub invariant-loop-piece : goal.invariant-loop-piece

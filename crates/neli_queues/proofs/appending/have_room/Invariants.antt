@@ -2,7 +2,7 @@ use Rattle.std.proofs.Common.{length, nat_eq, take}
 use Rattle.std.specs.List.{All}
 use Rattle.std.specs.HashMap.{get}
 use Rattle.neli_queues.proofs.Pieces.{HasSpace}
-use Rattle.neli_queues.proofs.hanging.have_room.Given as goal
+use Rattle.neli_queues.proofs.appending.have_room.Given as goal
 
 -- there is room for the pieces passed
 abbrev pub invariant-loop-piece : goal.invariant-loop-piece

@@ -3,7 +3,7 @@ use Rattle.std.specs.List.{All}
 use Rattle.std.specs.HashMap.{get}
 use Rattle.std.proofs.lemmas.List.{take_all}
 use Rattle.neli_queues.proofs.Pieces.{HasSpace, HaveRoom-spaces}
-use Rattle.neli_queues.proofs.hanging.have_room.Goals as goal
+use Rattle.neli_queues.proofs.appending.have_room.Goals as goal
 
 pub returns : goal.returns
 returns c = λ _.

@@ -4,23 +4,23 @@ use Rattle.std.specs.Vec.Iter.{into_iter_items}
 use Rattle.std.proofs.lemmas.List.{nil_from_length}
 use Rattle.neli_queues.specs.Pieces.{HaveRoom, gain_of}
 use Rattle.neli_queues.proofs.Pieces.{HaveRoom-first, HaveRoom-left, append-none, hung-more}
-use Rattle.neli_queues.proofs.hanging.hang_all.Goals as goal
+use Rattle.neli_queues.proofs.appending.append_all.Goals as goal
 
-pub hang-requires : goal.hang-requires
-hang-requires c =
+pub append_piece-requires : goal.append_piece-requires
+append_piece-requires c =
     HaveRoom-first (get nat_eq c.loop-piece.numbers) c.in-Some.piece (into_iter_items c.next.new.self)
     (subst (HaveRoom (get nat_eq c.loop-piece.numbers)) c.in-Some.ensures.steps.0 c.loop-piece.invariant.room)
 
 pub loop-piece-preserved : goal.loop-piece-preserved
 loop-piece-preserved c =
     let at = get nat_eq c.loop-piece.numbers in
-    let new = get nat_eq c.hang.new.numbers in
+    let new = get nat_eq c.append_piece.new.numbers in
     let rest = into_iter_items c.next.new.self in
     record {
       can_next = tt;
       is_finite = tt;
-      room = HaveRoom-left at new c.in-Some.piece rest c.hang.ensures (subst (HaveRoom at) c.in-Some.ensures.steps.0 c.loop-piece.invariant.room);
-      hung = λ q. hung-more at new c.in-Some.piece rest c.hang.ensures q
+      room = HaveRoom-left at new c.in-Some.piece rest c.append_piece.ensures (subst (HaveRoom at) c.in-Some.ensures.steps.0 c.loop-piece.invariant.room);
+      hung = λ q. hung-more at new c.in-Some.piece rest c.append_piece.ensures q
           ∙ ap (λ ps. option_map (λ ds. ds ++ gain_of q ps) (at q)) (sym c.in-Some.ensures.steps.0)
           ∙ c.loop-piece.invariant.hung q;
     }

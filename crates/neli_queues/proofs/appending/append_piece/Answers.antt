@@ -1,7 +1,7 @@
 use Rattle.std.proofs.Common.{◌≡◌, ◌++◌, arith, is_ok, sym}
 use Rattle.std.proofs.lemmas.Grind.{common_steps}
 use Rattle.neli_queues.proofs.Pieces.{appended}
-use Rattle.neli_queues.proofs.hanging.hang.Goals as goal
+use Rattle.neli_queues.proofs.appending.append_piece.Goals as goal
 
 pub returns-in-Some : goal.returns-in-Some
 returns-in-Some c = λ q.
