@@ -23,7 +23,7 @@ use Rattle.neli_log.specs.declared.content.Content.{Content}
 use Rattle.neli_log.specs.declared.content.Content.TheVariants as content
 use Rattle.neli_log.specs.declared.next.Address.{Address}
 use Rattle.neli_log.specs.Contents.{AreMessages, delivery_of, part_of, span_of, spans_of}
-use Rattle.neli_log.specs.Staged.{AreStaged, HaveReaders, IsFound, due, gain_of, is_open}
+use Rattle.neli_log.specs.Staged.{AreStaged, HaveReaders, IsFound, deliveries_due, deliveries_added, is_open}
 use Rattle.neli_log.proofs.Entries.{each_joined, each_one, either, items_append, spans_append}
 
 -- ---- what is due of a message, and then of the rest
@@ -70,30 +70,30 @@ of_push serial at ss t same from le h = record {
 -- ---- stages
 
 module _ (P : Option ℕ → Option (List Content)) (port serial : ℕ) (bytes groups : List ℕ) (cut : Cut Untyped) where
-  gained_push : (w : Option ℕ) (es : List (Entry Content)) (e : Entry Content) → gain_of bytes w (es ++ e ∷ []) ≡ gain_of bytes w es ++ gain_of bytes w (e ∷ [])
+  gained_push : (w : Option ℕ) (es : List (Entry Content)) (e : Entry Content) → deliveries_added bytes w (es ++ e ∷ []) ≡ deliveries_added bytes w es ++ deliveries_added bytes w (e ∷ [])
   gained_push w es e = ap (map (delivery_of (part_of bytes))) (items_append w es (e ∷ [])) ∙ map-append (delivery_of (part_of bytes)) (items_for w es) (items_for w (e ∷ []))
 
   -- nobody gets it
-  gained_unread : (w : Option ℕ) (e : Entry Content) → (HasReader P e.route → ⊥) → is_some (P w) ≡ true → gain_of bytes w (e ∷ []) ≡ []
+  gained_unread : (w : Option ℕ) (e : Entry Content) → (HasReader P e.route → ⊥) → is_some (P w) ≡ true → deliveries_added bytes w (e ∷ []) ≡ []
   gained_unread w e none opened = elim (either (leads w e.route)) [
     | inl it ↦ absurd (none (w, opened, it))
     | inr it ↦ rw it refl
   ]
 
   -- the entry e is what `step` brings, before `rest`
-  lists_pushed : (es : List (Entry Content)) (e : Entry Content) (whole step rest : Cut Untyped) (w : Option ℕ) → due port P groups w whole ≡ due port P groups w step ++ due port P groups w rest → gain_of bytes w (e ∷ []) ≡ due port P groups w step
-      → gain_of bytes w es ++ due port P groups w whole ≡ due port P groups w cut → gain_of bytes w (es ++ e ∷ []) ++ due port P groups w rest ≡ due port P groups w cut
+  lists_pushed : (es : List (Entry Content)) (e : Entry Content) (whole step rest : Cut Untyped) (w : Option ℕ) → deliveries_due port P groups w whole ≡ deliveries_due port P groups w step ++ deliveries_due port P groups w rest → deliveries_added bytes w (e ∷ []) ≡ deliveries_due port P groups w step
+      → deliveries_added bytes w es ++ deliveries_due port P groups w whole ≡ deliveries_due port P groups w cut → deliveries_added bytes w (es ++ e ∷ []) ++ deliveries_due port P groups w rest ≡ deliveries_due port P groups w cut
   lists_pushed es e whole step rest w parts gains is =
-      ap (λ ds. ds ++ due port P groups w rest) (gained_push w es e)
-      ∙ append_assoc (gain_of bytes w es) (gain_of bytes w (e ∷ [])) (due port P groups w rest)
-      ∙ ap (λ ds. gain_of bytes w es ++ (ds ++ due port P groups w rest)) gains
-      ∙ ap (λ ds. gain_of bytes w es ++ ds) (sym parts) ∙ is
+      ap (λ ds. ds ++ deliveries_due port P groups w rest) (gained_push w es e)
+      ∙ append_assoc (deliveries_added bytes w es) (deliveries_added bytes w (e ∷ [])) (deliveries_due port P groups w rest)
+      ∙ ap (λ ds. deliveries_added bytes w es ++ (ds ++ deliveries_due port P groups w rest)) gains
+      ∙ ap (λ ds. deliveries_added bytes w es ++ ds) (sym parts) ∙ is
 
-  lists_skipped : (es : List (Entry Content)) (e : Entry Content) (whole step rest : Cut Untyped) (w : Option ℕ) → due port P groups w whole ≡ due port P groups w step ++ due port P groups w rest → gain_of bytes w (e ∷ []) ≡ due port P groups w step → gain_of bytes w (e ∷ []) ≡ []
-      → gain_of bytes w es ++ due port P groups w whole ≡ due port P groups w cut → gain_of bytes w es ++ due port P groups w rest ≡ due port P groups w cut
+  lists_skipped : (es : List (Entry Content)) (e : Entry Content) (whole step rest : Cut Untyped) (w : Option ℕ) → deliveries_due port P groups w whole ≡ deliveries_due port P groups w step ++ deliveries_due port P groups w rest → deliveries_added bytes w (e ∷ []) ≡ deliveries_due port P groups w step → deliveries_added bytes w (e ∷ []) ≡ []
+      → deliveries_added bytes w es ++ deliveries_due port P groups w whole ≡ deliveries_due port P groups w cut → deliveries_added bytes w es ++ deliveries_due port P groups w rest ≡ deliveries_due port P groups w cut
   lists_skipped es e whole step rest w parts gains none is =
-      ap (λ ds. gain_of bytes w es ++ (ds ++ due port P groups w rest)) (sym none ∙ gains)
-      ∙ ap (λ ds. gain_of bytes w es ++ ds) (sym parts) ∙ is
+      ap (λ ds. deliveries_added bytes w es ++ (ds ++ deliveries_due port P groups w rest)) (sym none ∙ gains)
+      ∙ ap (λ ds. deliveries_added bytes w es ++ ds) (sym parts) ∙ is
 
   readers_push : (es : List (Entry Content)) (e : Entry Content) → HasReader P e.route → HaveReaders P es → HaveReaders P (es ++ e ∷ [])
   readers_push es e r h = each_joined (λ x. HasReader P x.route) es (e ∷ []) h (each_one (λ x. HasReader P x.route) e r)
@@ -103,7 +103,7 @@ module _ (P : Option ℕ → Option (List Content)) (port serial : ℕ) (bytes g
 
   -- the entry of a message is added
   pub staged_kept : (es : List (Entry Content)) (at : ℕ) (u : Untyped) (rest : Cut Untyped) (e : Entry Content) (s : Span) (a : Address) → AreStaged P port serial bytes groups cut es at (message_before u rest) → IsFound serial at bytes s u a
-      → ((w : Option ℕ) → gain_of bytes w (e ∷ []) ≡ due port P groups w (u ∷ [], None)) → span_of e.item ≡ s ∷ [] → HasReader P e.route
+      → ((w : Option ℕ) → deliveries_added bytes w (e ∷ []) ≡ deliveries_due port P groups w (u ∷ [], None)) → span_of e.item ≡ s ∷ [] → HasReader P e.route
       → AreStaged P port serial bytes groups cut (es ++ e ∷ []) s.end rest
   staged_kept es at u rest e s a h f gains has r =
       let spans : spans_of (es ++ e ∷ []) ≡ spans_of es ++ s ∷ [] = spans_push es e ∙ ap (λ ss. spans_of es ++ ss) has in
@@ -112,48 +112,52 @@ module _ (P : Option ℕ → Option (List Content)) (port serial : ℕ) (bytes g
         spans = subst (AreOf serial s.end) (sym spans) (of_push serial at (spans_of es) s f.datagram f.after f.ordered h.spans);
         messages = subst (AreMessages (part_of bytes)) (sym spans) (each_joined (λ x. IsSpan (part_of bytes x)) (spans_of es) (s ∷ []) h.messages (each_one (λ x. IsSpan (part_of bytes x)) s (u, f.spells)));
         readers = readers_push es e r h.readers;
+        few = (let before = h.few in omega (arith, length-append es (e ∷ [])));
       }
 
   -- the message goes to nobody
   pub staged_skipped : (es : List (Entry Content)) (at : ℕ) (u : Untyped) (rest : Cut Untyped) (e : Entry Content) (s : Span) (a : Address) → AreStaged P port serial bytes groups cut es at (message_before u rest) → IsFound serial at bytes s u a
-      → ((w : Option ℕ) → gain_of bytes w (e ∷ []) ≡ due port P groups w (u ∷ [], None)) → (HasReader P e.route → ⊥)
+      → ((w : Option ℕ) → deliveries_added bytes w (e ∷ []) ≡ deliveries_due port P groups w (u ∷ [], None)) → (HasReader P e.route → ⊥)
       → AreStaged P port serial bytes groups cut es s.end rest
   staged_skipped es at u rest e s a h f gains none = record {
     lists = λ w opened. lists_skipped es e (message_before u rest) (u ∷ [], None) rest w (received_message port (is_open P) w u rest groups) (gains w) (gained_unread w e none opened) (h.lists w opened);
     spans = of_further serial at s.end (spans_of es) (let x = f.after in let y = f.ordered in omega arith) h.spans;
     messages = h.messages;
     readers = h.readers;
+    few = (let before = h.few in omega arith);
   }
 
   -- ---- the fault at the end
 
-  pub staged_fault : (es : List (Entry Content)) (at : ℕ) (fault : DeError) (e : Entry Content) → AreStaged P port serial bytes groups cut es at ([], Some fault) → ((w : Option ℕ) → gain_of bytes w (e ∷ []) ≡ due port P groups w ([], Some fault)) → span_of e.item ≡ [] → HasReader P e.route
+  pub staged_fault : (es : List (Entry Content)) (at : ℕ) (fault : DeError) (e : Entry Content) → AreStaged P port serial bytes groups cut es at ([], Some fault) → ((w : Option ℕ) → deliveries_added bytes w (e ∷ []) ≡ deliveries_due port P groups w ([], Some fault)) → span_of e.item ≡ [] → HasReader P e.route
       → AreStaged P port serial bytes groups cut (es ++ e ∷ []) at ([], None)
   staged_fault es at fault e h gains has r =
       let spans : spans_of (es ++ e ∷ []) ≡ spans_of es = spans_push es e ∙ ap (λ ss. spans_of es ++ ss) has ∙ append-nil (spans_of es) in
       record {
-        lists = λ w opened. lists_pushed es e ([], Some fault) ([], Some fault) ([], None) w (sym (ap (λ ds. due port P groups w ([], Some fault) ++ ds) (received_end port (is_open P) w groups) ∙ append-nil _)) (gains w) (h.lists w opened);
+        lists = λ w opened. lists_pushed es e ([], Some fault) ([], Some fault) ([], None) w (sym (ap (λ ds. deliveries_due port P groups w ([], Some fault) ++ ds) (received_end port (is_open P) w groups) ∙ append-nil _)) (gains w) (h.lists w opened);
         spans = subst (AreOf serial at) (sym spans) h.spans;
         messages = subst (AreMessages (part_of bytes)) (sym spans) h.messages;
         readers = readers_push es e r h.readers;
+        few = (let before = h.few in omega (arith, length-append es (e ∷ [])));
       }
 
-  pub staged_unread_fault : (es : List (Entry Content)) (at : ℕ) (fault : DeError) (e : Entry Content) → AreStaged P port serial bytes groups cut es at ([], Some fault) → ((w : Option ℕ) → gain_of bytes w (e ∷ []) ≡ due port P groups w ([], Some fault)) → (HasReader P e.route → ⊥)
+  pub staged_unread_fault : (es : List (Entry Content)) (at : ℕ) (fault : DeError) (e : Entry Content) → AreStaged P port serial bytes groups cut es at ([], Some fault) → ((w : Option ℕ) → deliveries_added bytes w (e ∷ []) ≡ deliveries_due port P groups w ([], Some fault)) → (HasReader P e.route → ⊥)
       → AreStaged P port serial bytes groups cut es at ([], None)
   staged_unread_fault es at fault e h gains none = record {
-    lists = λ w opened. lists_skipped es e ([], Some fault) ([], Some fault) ([], None) w (sym (ap (λ ds. due port P groups w ([], Some fault) ++ ds) (received_end port (is_open P) w groups) ∙ append-nil _)) (gains w) (gained_unread w e none opened) (h.lists w opened);
+    lists = λ w opened. lists_skipped es e ([], Some fault) ([], Some fault) ([], None) w (sym (ap (λ ds. deliveries_due port P groups w ([], Some fault) ++ ds) (received_end port (is_open P) w groups) ∙ append-nil _)) (gains w) (gained_unread w e none opened) (h.lists w opened);
     spans = h.spans;
     messages = h.messages;
     readers = h.readers;
+    few = (let before = h.few in omega arith);
   }
 
   -- what is staged before a place is staged before a later one
   pub staged_further : (es : List (Entry Content)) (at at' : ℕ) (rest : Cut Untyped) → at ≤ at' → AreStaged P port serial bytes groups cut es at rest → AreStaged P port serial bytes groups cut es at' rest
-  staged_further es at at' rest le h = record { lists = h.lists; spans = of_further serial at at' (spans_of es) le h.spans; messages = h.messages; readers = h.readers }
+  staged_further es at at' rest le h = record { lists = h.lists; spans = of_further serial at at' (spans_of es) le h.spans; messages = h.messages; readers = h.readers; few = h.few }
 
   -- in the end each opened list gains what it is due
-  pub staged_gains : (es : List (Entry Content)) (at : ℕ) → AreStaged P port serial bytes groups cut es at ([], None) → (w : Option ℕ) → is_some (P w) ≡ true → gain_of bytes w es ≡ due port P groups w cut
-  staged_gains es at h w opened = sym (append-nil (gain_of bytes w es)) ∙ ap (λ ds. gain_of bytes w es ++ ds) (sym (received_end port (is_open P) w groups)) ∙ h.lists w opened
+  pub staged_gains : (es : List (Entry Content)) (at : ℕ) → AreStaged P port serial bytes groups cut es at ([], None) → (w : Option ℕ) → is_some (P w) ≡ true → deliveries_added bytes w es ≡ deliveries_due port P groups w cut
+  staged_gains es at h w opened = sym (append-nil (deliveries_added bytes w es)) ∙ ap (λ ds. deliveries_added bytes w es ++ ds) (sym (received_end port (is_open P) w groups)) ∙ h.lists w opened
 
 -- nothing is staged before the first byte
 pub staged_none : (P : Option ℕ → Option (List Content)) (port serial : ℕ) (bytes groups : List ℕ) (cut : Cut Untyped) → AreStaged P port serial bytes groups cut [] 0 cut
@@ -162,14 +166,15 @@ staged_none P port serial bytes groups cut = record {
   spans = record { one = λ i s there. cc; apart = tt };
   messages = λ i s there. cc;
   readers = λ i e there. cc;
+  few = omega arith;
 }
 
 -- what a fault brings is the entry of it
 pub fault_gains : (port : ℕ) (P : Option ℕ → Option (List Content)) (bytes groups : List ℕ) (fault : DeError) (e : Entry Content) (w : Option ℕ) → e ≡ record { item = content.Fault (socket.De fault); route = route.Numbers }
-    → gain_of bytes w (e ∷ []) ≡ due port P groups w ([], Some fault)
+    → deliveries_added bytes w (e ∷ []) ≡ deliveries_due port P groups w ([], Some fault)
 fault_gains port P bytes groups fault e w is = rw is (by w groups)
   where
-    by : (w : Option ℕ) (groups : List ℕ) → gain_of bytes w (record { item = content.Fault (socket.De fault); route = route.Numbers } ∷ []) ≡ due port P groups w ([], Some fault)
+    by : (w : Option ℕ) (groups : List ℕ) → deliveries_added bytes w (record { item = content.Fault (socket.De fault); route = route.Numbers } ∷ []) ≡ deliveries_due port P groups w ([], Some fault)
     by None [] = refl
     by None (g ∷ gs) = refl
     by (Some q) [] = refl

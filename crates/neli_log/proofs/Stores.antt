@@ -1,7 +1,7 @@
 -- Entries and the datagrams that they name, together.
-use Rattle.std.proofs.Common.{◌≡◌, ℕ, zero, suc, ◌+◌, ◌-◌, ◌<◌, ◌↔◌, Bool, true, false, List, [], ◌∷◌, ◌++◌, length, map, drop, Option, Some, None, refl, sym, ap, subst, ◌∙◌, arith, inl, inr, is_some, option_map}
+use Rattle.std.proofs.Common.{◌≡◌, ℕ, zero, suc, ◌+◌, ◌-◌, ◌≤◌, ◌<◌, ◌↔◌, Bool, true, false, List, [], ◌∷◌, ◌++◌, length, map, drop, Option, Some, None, refl, sym, ap, subst, ◌∙◌, arith, inl, inr, length-append, is_some, option_map}
 use Rattle.std.specs.List.{slice_get}
-use Rattle.std.specs.Prelude.{slice_range, Result, Ok, Err, OnOk}
+use Rattle.std.specs.Prelude.{slice_range, Result, Ok, Err, OnErr, OnOk}
 use Rattle.std.proofs.lemmas.List.{append-nil, map-append}
 use Rattle.neli_msg.specs.Agreement.{untyped_layout}
 use Rattle.neli_msg.specs.Cuts.{Cut, cut_of}
@@ -26,8 +26,8 @@ use Rattle.neli_log.specs.declared.content.Content.{Content}
 use Rattle.neli_log.specs.declared.content.Content.TheVariants as content
 use Rattle.neli_log.specs.Contents.{AreBacked, AreMessages, IsReadable, delivery_of, part_of, span_of, spans_of}
 use Rattle.neli_log.specs.declared.store.Store.{Store}
-use Rattle.neli_log.specs.Log.{Keeps}
-use Rattle.neli_log.specs.Staged.{gain_of}
+use Rattle.neli_log.specs.Log.{IsAsBefore, Keeps, entry_count}
+use Rattle.neli_log.specs.Staged.{deliveries_added}
 use Rattle.neli_log.proofs.Entries.{each_joined, either, get_end, get_right, items_same, spans_append}
 
 -- ---- lists that are mapped, where there are any
@@ -170,13 +170,13 @@ module _ (s s' : Places Content) (d d' : Datagrams) (bytes : List ℕ) (es : Lis
         (λ i x at. subst IsSpan (sym (added_text i x at)) (messages i x at)));
   })
 
-  pub handed_pending : (w : Option ℕ) → option_map (map (delivery_of (span_bytes d'))) (items_of s' w) ≡ option_map (λ ds. ds ++ gain_of bytes w es) (option_map (map (delivery_of (span_bytes d))) (items_of s w))
+  pub handed_pending : (w : Option ℕ) → option_map (map (delivery_of (span_bytes d'))) (items_of s' w) ≡ option_map (λ ds. ds ++ deliveries_added bytes w es) (option_map (map (delivery_of (span_bytes d))) (items_of s w))
   handed_pending w = ap (option_map (map (delivery_of (span_bytes d')))) (more w) ∙ by (place_of s w)
     where
-      new : map (delivery_of (span_bytes d')) (items_for w es) ≡ gain_of bytes w es
+      new : map (delivery_of (span_bytes d')) (items_for w es) ≡ deliveries_added bytes w es
       new = items_same (part_of bytes) (span_bytes d') w es added_text
 
-      by : (o : Option Place) → option_map (map (delivery_of (span_bytes d'))) (option_map (λ xs. xs ++ items_for w es) (option_map (λ p. items_for w (rest s.base (entries_of s) p)) o)) ≡ option_map (λ ds. ds ++ gain_of bytes w es) (option_map (map (delivery_of (span_bytes d))) (option_map (λ p. items_for w (rest s.base (entries_of s) p)) o))
+      by : (o : Option Place) → option_map (map (delivery_of (span_bytes d'))) (option_map (λ xs. xs ++ items_for w es) (option_map (λ p. items_for w (rest s.base (entries_of s) p)) o)) ≡ option_map (λ ds. ds ++ deliveries_added bytes w es) (option_map (map (delivery_of (span_bytes d))) (option_map (λ p. items_for w (rest s.base (entries_of s) p)) o))
       by None = refl
       by (Some p) =
           let old : List Content = items_for w (rest s.base (entries_of s) p) in
@@ -248,3 +248,8 @@ keeps_none s bytes = record {
   readers = λ i e at. cc;
   counted = omega arith;
 }
+
+-- no more entries come than are kept
+pub added_few : {A E : Type 0} (r : Result A E) (before after : Store) (bytes : List ℕ) (es : List (Entry Content)) (n : ℕ) → OnOk r (Keeps before after bytes es) → OnErr r (IsAsBefore before after) → length es ≤ n → entry_count after ≤ entry_count before + n
+added_few (Ok a) before after bytes es n kept left few = omega (arith, few, ap length kept.entries, length-append (entries_of before.places) es)
+added_few (Err e) before after bytes es n kept left few = (let same = ap length left.0 in omega (arith, same))

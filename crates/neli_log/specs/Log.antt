@@ -15,13 +15,13 @@ use Rattle.neli_log.specs.Staged.{HaveReaders}
 abbrev pub pending_of : Store → Option ℕ → Option (List Delivery)
 pending_of s w = option_map (map (delivery_of (span_bytes s.datagrams))) (items_of s.places w)
 
--- all but that what nobody waits for any more is gone
-pub record IsLoose (s : Store) : Type 0 where
+-- as a log is, but that entries for which nobody waits may still stand before the others
+pub record IsUntrimmed (s : Store) : Type 0 where
   pub sound : IsSound s.places
   pub backed : AreBacked s.datagrams (entries_of s.places)
 
 -- the least place stands at the first entry, and the spans of the entries name the kept datagrams
-pub record IsLog (s : Store) : Type 0 where
+pub record IsTrimmedAndBacked (s : Store) : Type 0 where
   pub trimmed : IsTrimmed s.places
   pub backed : AreBacked s.datagrams (entries_of s.places)
 
@@ -46,6 +46,10 @@ pub record Keeps (before after : Store) (bytes : List ℕ) (es : List (Entry Con
   pub readers : HaveReaders (items_of before.places) es
   pub counted : byte_count after ≡ byte_count before + kept_with (length (spans_of es)) bytes
 
+-- entries come after the others, as `Keeps` says
+abbrev pub KeepsEntries : Store → Store → List ℕ → Type 0
+KeepsEntries before after bytes = (es : List (Entry Content)) × Keeps before after bytes es
+
 -- entries and bytes are as they were
-abbrev pub IsLeft : Store → Store → Type 0
-IsLeft before after = (entries_of after.places ≡ entries_of before.places) × (byte_count after ≡ byte_count before)
+abbrev pub IsAsBefore : Store → Store → Type 0
+IsAsBefore before after = (entries_of after.places ≡ entries_of before.places) × (byte_count after ≡ byte_count before)

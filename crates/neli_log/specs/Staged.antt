@@ -1,5 +1,5 @@
 -- What a datagram brings, before any list changes.
-use Rattle.std.specs.Prelude.{◌≡◌, ◌≤◌, ℕ, Bool, true, List, [], ◌++◌, map, Option, Some, None, is_some}
+use Rattle.std.specs.Prelude.{◌≡◌, ◌≤◌, ◌+◌, ℕ, Bool, true, List, [], ◌++◌, length, map, Option, Some, None, is_some, if◌then◌else◌}
 use Rattle.std.specs.List.{slice_get}
 use Rattle.neli_wire.specs.DeError.{DeError}
 use Rattle.neli_msg.specs.Agreement.{untyped_layout}
@@ -17,8 +17,8 @@ use Rattle.neli_log.specs.declared.next.Address.{Address}
 use Rattle.neli_log.specs.Contents.{AreMessages, delivery_of, part_of, spans_of}
 
 -- what a list gains of entries, whose spans are of these bytes
-abbrev pub gain_of : List ℕ → Option ℕ → List (Entry Content) → List Delivery
-gain_of bytes w es = map (delivery_of (part_of bytes)) (items_for w es)
+abbrev pub deliveries_added : List ℕ → Option ℕ → List (Entry Content) → List Delivery
+deliveries_added bytes w es = map (delivery_of (part_of bytes)) (items_for w es)
 
 -- what is left of a datagram at a place: the cut of the rest, or nothing but a fault
 abbrev pub cut_left : List ℕ → Option DeError → Cut Untyped
@@ -30,21 +30,26 @@ abbrev pub is_open : (Option ℕ → Option (List Content)) → ℕ → Bool
 is_open pending q = is_some (pending (Some q))
 
 -- what a list is due of a cut that came to these groups
-abbrev pub due : ℕ → (Option ℕ → Option (List Content)) → List ℕ → Option ℕ → Cut Untyped → List Delivery
-due port pending groups w cut = datagram_share port (is_open pending) w cut groups
+abbrev pub deliveries_due : ℕ → (Option ℕ → Option (List Content)) → List ℕ → Option ℕ → Cut Untyped → List Delivery
+deliveries_due port pending groups w cut = datagram_share port (is_open pending) w cut groups
+
+-- how many deliveries a cut brings at most: its messages, and its fault
+abbrev pub delivery_count : Cut Untyped → ℕ
+delivery_count cut = length cut.0 + (if is_some cut.1 then 1 else 0)
 
 -- each entry is for somebody
 abbrev pub HaveReaders : (Option ℕ → Option (List Content)) → List (Entry Content) → Type 0
 HaveReaders pending es = (i : ℕ) (e : Entry Content) → slice_get es i ≡ Some e → HasReader pending e.route
 
 -- the entries, with what `rest` still brings, are what `cut` brings to each open list; their spans are messages of
--- the first `at` bytes, in their order; and each goes to somebody
+-- the first `at` bytes, in their order; each goes to somebody; and none comes of no message and no fault
 pub record AreStaged (pending : Option ℕ → Option (List Content)) (port serial : ℕ) (bytes groups : List ℕ) (cut : Cut Untyped) (es : List (Entry Content)) (at : ℕ) (rest : Cut Untyped) : Type 0 where
   pub lists : (w : Option ℕ) → is_some (pending w) ≡ true
-      → gain_of bytes w es ++ due port pending groups w rest ≡ due port pending groups w cut
+      → deliveries_added bytes w es ++ deliveries_due port pending groups w rest ≡ deliveries_due port pending groups w cut
   pub spans : AreOf serial at (spans_of es)
   pub messages : AreMessages (part_of bytes) (spans_of es)
   pub readers : HaveReaders pending es
+  pub few : length es + delivery_count rest ≤ delivery_count cut
 
 -- the span is this message, after the first `at` bytes of the datagram with this serial number, and has this address
 pub record IsFound (serial at : ℕ) (bytes : List ℕ) (s : Span) (u : Untyped) (a : Address) : Type 0 where

@@ -1,8 +1,12 @@
 //! The log as a store of deliveries.
 
-ghost use Rattle.std.specs.Prelude.{◌≡◌, ◌↔◌, ℕ, List, [], Option, Some};
+ghost use Rattle.std.specs.Prelude.{◌≡◌, ◌≢◌, ◌↔◌, ◌≤◌, ◌+◌, ◌++◌, ℕ, List, [], Option, None, Some, IsOk, OnErr, OnOk, is_some, option_map, true};
+ghost use Rattle.neli_msg.specs.Agreement.{untyped_layout};
+ghost use Rattle.neli_msg.specs.Cuts.{cut_of};
 ghost use Rattle.neli_deliveries.specs.declared.delivery.Delivery.{Delivery as Waiting};
-ghost use Rattle.neli_log.specs.Log.{byte_count, entry_count, pending_of};
+ghost use Rattle.neli_deliveries.specs.Deliveries.{datagram_share, fault_share, is_would_block};
+ghost use Rattle.neli_log.specs.Log.{IsAsBefore, KeepsEntries, byte_count, entry_count, pending_of};
+ghost use Rattle.neli_log.specs.Staged.{delivery_count};
 
 use crate::store::Store;
 use neli_consts::NlType;
@@ -25,7 +29,7 @@ pub struct Log {
 
 impl Model for Log {
     ghost use Rattle.neli_log.specs.declared.store.Store.{Store};
-    ghost use Rattle.neli_log.specs.Log.{IsLog};
+    ghost use Rattle.neli_log.specs.Log.{IsTrimmedAndBacked};
     ghost use Rattle.neli_log.specs.contracts.store.Store as e;
 
     ghost Value = { Store };
@@ -34,7 +38,7 @@ impl Model for Log {
 
     ghost view = { λ l. l.store };
 
-    ghost invariant = { λ l. IsLog l.store };
+    ghost invariant = { λ l. IsTrimmedAndBacked l.store };
 }
 
 impl Log {
@@ -75,7 +79,17 @@ impl Deliveries for Log {
         self.store.is_open(whose)
     }
 
-    fn open(&mut self, number: u32) -> Result<(), NoMemory> {
+    /// No entry comes or goes, and no byte.
+    fn open(&mut self, number: u32) -> Result<(), NoMemory>
+        requires { pending_of self.old (Some number) ≡ None }
+        ensures port { self.new.port ≡ self.old.port }
+        ensures opened { OnOk result (pending_of self.new (Some number) ≡ Some []) }
+        ensures others { OnOk result ((w : Option ℕ) → w ≢ Some number
+            → pending_of self.new w ≡ pending_of self.old w) }
+        ensures err { OnErr result ((w : Option ℕ)
+            → pending_of self.new w ≡ pending_of self.old w) }
+        ensures left { IsAsBefore self.old self.new }
+    {
         self.store.open(number)
     }
 
@@ -83,11 +97,40 @@ impl Deliveries for Log {
         self.store.close(whose);
     }
 
-    fn datagram(&mut self, bytes: &[u8], groups: &Groups) -> Result<(), NoMemory> {
+    /// Each entry that comes is for somebody, and of a message or of the fault at the end comes one at most, however
+    /// many wait for it. The bytes are kept whole where a message of them is, and else not at all. Where memory runs
+    /// out, entries and bytes are as they were.
+    fn datagram(&mut self, bytes: &[u8], groups: &Groups) -> Result<(), NoMemory>
+        ensures port { self.new.port ≡ self.old.port }
+        ensures ok { OnOk result ((w : Option ℕ) → pending_of self.new w
+            ≡ option_map (λ ds. ds ++ datagram_share self.old.port
+            (λ q. is_some (pending_of self.old (Some q))) w
+            (cut_of untyped_layout bytes.now) groups.now) (pending_of self.old w)) }
+        ensures err { OnErr result ((w : Option ℕ)
+            → pending_of self.new w ≡ pending_of self.old w) }
+        ensures empty { bytes.now ≡ [] → IsOk result }
+        ensures kept { OnOk result (KeepsEntries self.old self.new bytes.now) }
+        ensures once { entry_count self.new
+            ≤ entry_count self.old + delivery_count (cut_of untyped_layout bytes.now) }
+        ensures left { OnErr result (IsAsBefore self.old self.new) }
+    {
         self.store.datagram(bytes, groups)
     }
 
-    fn fault(&mut self, error: SocketError) -> Result<(), NoMemory> {
+    /// One entry at most comes, and it is for somebody. Where no number is open a fault is not refused. Where memory
+    /// runs out, entries and bytes are as they were.
+    fn fault(&mut self, error: SocketError) -> Result<(), NoMemory>
+        ensures port { self.new.port ≡ self.old.port }
+        ensures ok { OnOk result ((w : Option ℕ) → pending_of self.new w
+            ≡ option_map (λ ds. ds ++ fault_share w error) (pending_of self.old w)) }
+        ensures err { OnErr result ((w : Option ℕ)
+            → pending_of self.new w ≡ pending_of self.old w) }
+        ensures would_block { is_would_block error ≡ true → IsOk result }
+        ensures unawaited { ((q : ℕ) → pending_of self.old (Some q) ≡ None) → IsOk result }
+        ensures kept { OnOk result (KeepsEntries self.old self.new []) }
+        ensures once { entry_count self.new ≤ entry_count self.old + 1 }
+        ensures left { OnErr result (IsAsBefore self.old self.new) }
+    {
         self.store.fault(error)
     }
 

@@ -4,7 +4,7 @@ ghost use Rattle.std.specs.Prelude.{◌≡◌, ◌+◌, ◌≤◌, Ok, Err, IfEr
 ghost use Rattle.neli_wire.specs.Frames.{frame_at};
 ghost use Rattle.neli_wire.specs.Place.{whole};
 ghost use Rattle.neli_msg.specs.Agreement.{untyped_layout};
-ghost use Rattle.neli_log.specs.Next.{IsOf};
+ghost use Rattle.neli_log.specs.Next.{IsAddressOf};
 
 use neli_attr::Buffer;
 use neli_lent::LentMessage;
@@ -12,7 +12,7 @@ use neli_msg::Nlmsghdr;
 use neli_wire::{Cursor, DeError, FromBytes, NoMemory};
 use std::alloc::Global;
 
-/// Whose a message is.
+/// The sequence number and the port of a message, by which its handle is found.
 #[derive(Clone, Copy)]
 pub(crate) struct Address {
     pub(crate) number: u32,
@@ -28,7 +28,7 @@ pub(crate) fn next_message(
     cursor: &mut Cursor<'_>,
 ) -> Result<Result<Address, DeError>, NoMemory>
     ensures message { IfOk result (λ item. IfOk item
-        (λ a. IsOf (frame_at untyped_layout cursor.old.rest) a cursor.new.rest)) }
+        (λ a. IsAddressOf (frame_at untyped_layout cursor.old.rest) a cursor.new.rest)) }
     ensures moved { IfOk result (λ item. OnOk item (whole cursor.new ≡ whole cursor.old)) }
     ensures shorter { IfOk result (λ item. OnOk item
         (length cursor.new.rest + 16 ≤ length cursor.old.rest)) }

@@ -9,7 +9,7 @@ ghost use Rattle.neli_deliveries.specs.Deliveries.{Untyped};
 ghost use Rattle.neli_lent.specs.Spans.{Spells};
 ghost use Rattle.neli_places.specs.Places.{pending_of};
 ghost use Rattle.neli_log.specs.Contents.{part_of, span_of};
-ghost use Rattle.neli_log.specs.Staged.{AreStaged, IsFound, cut_left, due, gain_of};
+ghost use Rattle.neli_log.specs.Staged.{AreStaged, IsFound, cut_left, deliveries_due, deliveries_added};
 
 use crate::content::Content;
 use crate::next::{Address, next_message};
@@ -31,8 +31,8 @@ fn entry_of(
 ) -> Entry<Content>
     ensures gains { (bytes : List ℕ) (u : Untyped) (w : Option ℕ) → Spells (part_of bytes span) u
         → address.number ≡ u.0.sequence_number → address.port ≡ u.0.port
-        → gain_of bytes w (result ∷ [])
-        ≡ due port (pending_of places.now) groups.now w (u ∷ [], None) }
+        → deliveries_added bytes w (result ∷ [])
+        ≡ deliveries_due port (pending_of places.now) groups.now w (u ∷ [], None) }
     ensures span { span_of result.item ≡ span ∷ [] }
 {
     if !groups.is_empty() {

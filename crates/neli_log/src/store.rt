@@ -6,13 +6,11 @@ ghost use Rattle.neli_msg.specs.Cuts.{cut_of};
 ghost use Rattle.neli_deliveries.specs.declared.delivery.Delivery.{Delivery as Waiting};
 ghost use Rattle.neli_deliveries.specs.Deliveries.{fault_share, head_of, is_would_block, datagram_share};
 ghost use Rattle.neli_deliveries.specs.Readings.{IsFirst, IsReading};
-ghost use Rattle.neli_places.specs.declared.entry.Entry.{Entry as Kept};
-ghost use Rattle.neli_log.specs.declared.content.Content.{Content as Held};
 ghost use Rattle.neli_places.specs.Places.{pending_of as items_of};
 ghost use Rattle.neli_spans.specs.Spans.{AreOf, next_serial, span_bytes};
 ghost use Rattle.neli_log.specs.Contents.{AreMessages, IsReadable, delivery_of, part_of, spans_of};
-ghost use Rattle.neli_log.specs.Log.{IsLeft, IsLog, IsLoose, Keeps, byte_count, entry_count, pending_of};
-ghost use Rattle.neli_log.specs.Staged.{HaveReaders, gain_of};
+ghost use Rattle.neli_log.specs.Log.{IsAsBefore, IsTrimmedAndBacked, IsUntrimmed, Keeps, KeepsEntries, byte_count, entry_count, pending_of};
+ghost use Rattle.neli_log.specs.Staged.{HaveReaders, delivery_count, deliveries_added};
 
 use crate::content::Content;
 use crate::handing::{keep_copy, push_all, release, span_count};
@@ -49,7 +47,7 @@ impl Store {
         ensures port { result.port ≡ port }
         ensures multicast { pending_of result None ≡ Some [] }
         ensures numbers { (q : ℕ) → pending_of result (Some q) ≡ None }
-        ensures log { IsLog result }
+        ensures log { IsTrimmedAndBacked result }
     {
         Store {
             port,
@@ -68,10 +66,10 @@ impl Store {
 
     /// Lets go of what nobody waits for any more.
     fn trim(&mut self)
-        requires { IsLoose self.old }
+        requires { IsUntrimmed self.old }
         ensures port { self.new.port ≡ self.old.port }
         ensures same { (w : Option ℕ) → pending_of self.new w ≡ pending_of self.old w }
-        ensures log { IsLog self.new }
+        ensures log { IsTrimmedAndBacked self.new }
     {
         while let Some(content) = self.places.pop_unawaited() {
             release(&mut self.datagrams, content);
@@ -81,15 +79,15 @@ impl Store {
     /// Opens an empty list for a number.
     pub(crate) fn open(&mut self, number: u32) -> Result<(), NoMemory>
         requires closed { pending_of self.old (Some number) ≡ None }
-        requires log { IsLog self.old }
+        requires log { IsTrimmedAndBacked self.old }
         ensures port { self.new.port ≡ self.old.port }
         ensures opened { OnOk result (pending_of self.new (Some number) ≡ Some []) }
         ensures others { OnOk result ((w : Option ℕ) → w ≢ Some number
             → pending_of self.new w ≡ pending_of self.old w) }
         ensures err { OnErr result ((w : Option ℕ)
             → pending_of self.new w ≡ pending_of self.old w) }
-        ensures left { IsLeft self.old self.new }
-        ensures log { IsLog self.new }
+        ensures left { IsAsBefore self.old self.new }
+        ensures log { IsTrimmedAndBacked self.new }
     {
         self.places.open(number)?;
         Ok(())
@@ -97,12 +95,12 @@ impl Store {
 
     /// Takes a list away, with what waits there.
     pub(crate) fn close(&mut self, whose: Option<u32>)
-        requires { IsLog self.old }
+        requires { IsTrimmedAndBacked self.old }
         ensures port { self.new.port ≡ self.old.port }
         ensures closed { pending_of self.new whose ≡ None }
         ensures others { (w : Option ℕ) → w ≢ whose
             → pending_of self.new w ≡ pending_of self.old w }
-        ensures log { IsLog self.new }
+        ensures log { IsTrimmedAndBacked self.new }
     {
         self.places.remove(whose);
         self.trim();
@@ -110,13 +108,13 @@ impl Store {
 
     /// Takes away what waits first.
     pub(crate) fn drop_first(&mut self, whose: Option<u32>)
-        requires { IsLog self.old }
+        requires { IsTrimmedAndBacked self.old }
         ensures port { self.new.port ≡ self.old.port }
         ensures taken { (d : Waiting) (ds : List Waiting)
             → pending_of self.old whose ≡ Some (d ∷ ds) → pending_of self.new whose ≡ Some ds }
         ensures others { (w : Option ℕ) → w ≢ whose
             → pending_of self.new w ≡ pending_of self.old w }
-        ensures log { IsLog self.new }
+        ensures log { IsTrimmedAndBacked self.new }
     {
         self.places.pass(whose);
         self.trim();
@@ -124,19 +122,19 @@ impl Store {
 
     /// Keeps these entries, whose spans are of these bytes.
     fn hand_over(&mut self, bytes: &[u8], entries: Vec<Entry<Content>>) -> Result<(), NoMemory>
-        requires log { IsLog self.old }
+        requires log { IsTrimmedAndBacked self.old }
         requires spans { AreOf (next_serial self.old.datagrams) (length bytes.now)
             (spans_of entries.items) }
         requires messages { AreMessages (part_of bytes.now) (spans_of entries.items) }
         requires readers { HaveReaders (items_of self.old.places) entries.items }
         ensures port { self.new.port ≡ self.old.port }
         ensures ok { OnOk result ((w : Option ℕ) → pending_of self.new w
-            ≡ option_map (λ ds. ds ++ gain_of bytes.now w entries.items) (pending_of self.old w)) }
+            ≡ option_map (λ ds. ds ++ deliveries_added bytes.now w entries.items) (pending_of self.old w)) }
         ensures err { OnErr result ((w : Option ℕ)
             → pending_of self.new w ≡ pending_of self.old w) }
         ensures kept { OnOk result (Keeps self.old self.new bytes.now entries.items) }
-        ensures left { OnErr result (IsLeft self.old self.new) }
-        ensures log { IsLog self.new }
+        ensures left { OnErr result (IsAsBefore self.old self.new) }
+        ensures log { IsTrimmedAndBacked self.new }
     {
         self.places.reserve(entries.len())?;
         let spans = span_count(&entries);
@@ -147,7 +145,7 @@ impl Store {
 
     /// Hands over what a datagram holds, that came to these groups.
     pub(crate) fn datagram(&mut self, bytes: &[u8], groups: &Groups) -> Result<(), NoMemory>
-        requires { IsLog self.old }
+        requires { IsTrimmedAndBacked self.old }
         ensures port { self.new.port ≡ self.old.port }
         ensures ok { OnOk result ((w : Option ℕ) → pending_of self.new w
             ≡ option_map (λ ds. ds ++ datagram_share self.old.port
@@ -156,10 +154,11 @@ impl Store {
         ensures err { OnErr result ((w : Option ℕ)
             → pending_of self.new w ≡ pending_of self.old w) }
         ensures empty { bytes.now ≡ [] → IsOk result }
-        ensures kept { OnOk result
-            ((es : List (Kept Held)) × Keeps self.old self.new bytes.now es) }
-        ensures left { OnErr result (IsLeft self.old self.new) }
-        ensures log { IsLog self.new }
+        ensures kept { OnOk result (KeepsEntries self.old self.new bytes.now) }
+        ensures once { entry_count self.new
+            ≤ entry_count self.old + delivery_count (cut_of untyped_layout bytes.now) }
+        ensures left { OnErr result (IsAsBefore self.old self.new) }
+        ensures log { IsTrimmedAndBacked self.new }
     {
         if bytes.is_empty() {
             return Ok(());
@@ -174,7 +173,7 @@ impl Store {
 
     /// Hands a fault of the link to each open number, unless it is that the link would block.
     pub(crate) fn fault(&mut self, error: SocketError) -> Result<(), NoMemory>
-        requires { IsLog self.old }
+        requires { IsTrimmedAndBacked self.old }
         ensures port { self.new.port ≡ self.old.port }
         ensures ok { OnOk result ((w : Option ℕ) → pending_of self.new w
             ≡ option_map (λ ds. ds ++ fault_share w error) (pending_of self.old w)) }
@@ -182,10 +181,10 @@ impl Store {
             → pending_of self.new w ≡ pending_of self.old w) }
         ensures would_block { is_would_block error ≡ true → IsOk result }
         ensures unawaited { ((q : ℕ) → pending_of self.old (Some q) ≡ None) → IsOk result }
-        ensures kept { OnOk result ((es : List (Kept Held)) × Keeps self.old self.new [] es) }
-        ensures once { entry_count self.new ≤ 1 + entry_count self.old }
-        ensures left { OnErr result (IsLeft self.old self.new) }
-        ensures log { IsLog self.new }
+        ensures kept { OnOk result (KeepsEntries self.old self.new []) }
+        ensures once { entry_count self.new ≤ entry_count self.old + 1 }
+        ensures left { OnErr result (IsAsBefore self.old self.new) }
+        ensures log { IsTrimmedAndBacked self.new }
     {
         if would_block(&error) {
             return Ok(());
@@ -227,7 +226,7 @@ impl Store {
         alloc: Global,
         whose: Option<u32>,
     ) -> Result<Option<Result<Nlmsghdr<T, P>, RouterError<T, P>>>, NoMemory>
-        requires { IsLog self.now }
+        requires { IsTrimmedAndBacked self.now }
         ensures first { IfOk result (IsFirst T.wire_value P.view P.wire_length P.read
             (head_of (pending_of self.now whose))) }
         ensures nothing { head_of (pending_of self.now whose) ≡ None → IsOk result }
@@ -240,7 +239,7 @@ impl Store {
 
     /// How many entries are kept.
     pub(crate) fn kept(&self) -> usize
-        requires { IsLog self.now }
+        requires { IsTrimmedAndBacked self.now }
         ensures kept { result ≡ entry_count self.now }
         ensures none { (result ≡ 0) ↔ ((w : Option ℕ) (ds : List Waiting)
             → pending_of self.now w ≡ Some ds → ds ≡ []) }
@@ -250,7 +249,7 @@ impl Store {
 
     /// How many bytes of datagrams are kept.
     pub(crate) fn kept_bytes(&self) -> usize
-        requires { IsLog self.now }
+        requires { IsTrimmedAndBacked self.now }
         ensures bytes { result ≡ byte_count self.now }
         ensures none { entry_count self.now ≡ 0 → result ≡ 0 }
     {

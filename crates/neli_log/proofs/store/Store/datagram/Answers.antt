@@ -9,9 +9,9 @@ use Rattle.neli_places.specs.Places.{pending_of as items_of}
 use Rattle.neli_spans.specs.Spans.{span_bytes}
 use Rattle.neli_log.specs.Contents.{delivery_of}
 use Rattle.neli_log.specs.Log.{pending_of}
-use Rattle.neli_log.specs.Staged.{gain_of, is_open}
+use Rattle.neli_log.specs.Staged.{delivery_count, deliveries_added, is_open}
 use Rattle.neli_log.proofs.Stages.{staged_gains}
-use Rattle.neli_log.proofs.Stores.{keeps_none, mapped_is_some, mapped_more, mapped_nothing, on_ok, received_nothing, received_same}
+use Rattle.neli_log.proofs.Stores.{added_few, keeps_none, mapped_is_some, mapped_more, mapped_nothing, on_ok, received_nothing, received_same}
 use Rattle.neli_log.proofs.store.Store.datagram.Goals as goal
 
 pub returns-then-is_empty-clause-ok : goal.returns-then-is_empty-clause-ok
@@ -33,7 +33,7 @@ returns-then-is_empty-2-clause-ok c = λ w.
     let len : c.in_ok-entries.entries.len ≡ 0 = eqb-true _ _ (sym c.is_empty-2.ensures ∙ c.if-is_empty-2.true) in
     let none : es ≡ [] = nil_from_length es (omega (arith, len, c.in_ok-entries.entries.ok.0)) in
     mapped_nothing (delivery_of (span_bytes s.datagrams)) (P w) _
-    (λ opened. ap (gain_of bytes w) (sym none) ∙ (staged_gains P s.port c.next_serial-serial.result bytes c.args.groups.now cut es (length bytes) c.in_ok-entries.ensures w opened ∙ same))
+    (λ opened. ap (deliveries_added bytes w) (sym none) ∙ (staged_gains P s.port c.next_serial-serial.result bytes c.args.groups.now cut es (length bytes) c.in_ok-entries.ensures w opened ∙ same))
 
 pub returns-clause-ok : goal.returns-clause-ok
 returns-clause-ok c =
@@ -45,7 +45,7 @@ returns-clause-ok c =
     on_ok c.hand_over.result _ _
     (λ h w.
     let same = received_same s.port (is_open P) (λ q. is_some (pending_of s (Some q))) (λ q. sym (mapped_is_some _ (P (Some q)))) w cut c.args.groups.now in
-    h w ∙ mapped_more (delivery_of (span_bytes s.datagrams)) (P w) (gain_of bytes w es) (datagram_share s.port (λ q. is_some (pending_of s (Some q))) w cut c.args.groups.now)
+    h w ∙ mapped_more (delivery_of (span_bytes s.datagrams)) (P w) (deliveries_added bytes w es) (datagram_share s.port (λ q. is_some (pending_of s (Some q))) w cut c.args.groups.now)
     (λ opened. staged_gains P s.port c.next_serial-serial.result bytes c.args.groups.now cut es (length bytes) c.in_ok-entries.ensures w opened ∙ same)) c.hand_over.ensures.ok
 
 pub returns-then-is_empty-clause-kept : goal.returns-then-is_empty-clause-kept
@@ -56,3 +56,10 @@ returns-then-is_empty-2-clause-kept c = ([], keeps_none c.args.self.now c.args.b
 
 pub returns-clause-kept : goal.returns-clause-kept
 returns-clause-kept c = on_ok c.hand_over.result _ _ (λ kept. (c.in_ok-entries.entries.items, kept)) c.hand_over.ensures.kept
+
+pub returns-clause-once : goal.returns-clause-once
+returns-clause-once c =
+    let s = c.args.self.now in
+    let es = c.in_ok-entries.entries.items in
+    let few = c.in_ok-entries.ensures.few in
+    added_few c.hand_over.result s c.hand_over.new.self c.args.bytes.now es (delivery_count (cut_of untyped_layout c.args.bytes.now)) c.hand_over.ensures.kept c.hand_over.ensures.left (omega arith)
