@@ -12,8 +12,8 @@ use Rattle.neli_router_base.specs.Sends.{frame_or_refusal}
 use Rattle.neli_router.specs.declared.command.Command.{Command}
 use Rattle.neli_router.specs.declared.command.Command.TheVariants as command
 use Rattle.neli_router.specs.declared.command.Outcome.{Outcome}
-use Rattle.neli_router.specs.Deliveries.{deliveries, gain}
-use Rattle.neli_router.specs.History.{Event, History, any_upto, base, is_closed, is_live, is_open, items_of, needs_of, next_number, number_of, reads, sends, since, whose, with_item}
+use Rattle.neli_router.specs.Deliveries.{deliveries, handed_over}
+use Rattle.neli_router.specs.History.{Event, History, any_upto, last_set_number, is_closed, is_handle_open, is_open, items_of, needs_of, next_number, number_of, reads, requests_sent, requests_since_set, list_of_handle, with_item}
 use Rattle.neli_router.specs.Outcomes.{EachAfter, IsAnswered, IsNextAnswer, IsReadOf, IsSending, IsSent, closed_or_not, is_numbered}
 use Rattle.neli_router.specs.laws.Deliveries.{deliveries-more}
 
@@ -36,9 +36,9 @@ any_same (suc n) p q same = rw (same (suc n), any_same n p q same) refl
 
 module _ {ST SP RT RP : Type 0} where
   pub record IsAlike (h h' : History ST SP RT RP) : Type 0 where
-    pub sent : sends h ≡ sends h'
-    pub set : base h ≡ base h'
-    pub counted : since h ≡ since h'
+    pub sent : requests_sent h ≡ requests_sent h'
+    pub set : last_set_number h ≡ last_set_number h'
+    pub counted : requests_since_set h ≡ requests_since_set h'
     pub numbers : (k : ℕ) → number_of k h ≡ number_of k h'
     pub needs : (k : ℕ) → needs_of k h ≡ needs_of k h'
     pub closed : (k : ℕ) → is_closed k h ≡ is_closed k h'
@@ -66,22 +66,22 @@ module _ {ST SP RT RP : Type 0} where
   alike-after [] h h' a = a
   alike-after (e ∷ later) h h' a = alike-more e (later ++ h) (later ++ h') (alike-after later h h' a)
 
-  pub alike_live : (k : ℕ) (h h' : History ST SP RT RP) → IsAlike h h' → is_live k h ≡ is_live k h'
+  pub alike_live : (k : ℕ) (h h' : History ST SP RT RP) → IsAlike h h' → is_handle_open k h ≡ is_handle_open k h'
   alike_live k h h' a = rw (a.sent, a.closed k) refl
 
-  pub alike_whose : (k : ℕ) (h h' : History ST SP RT RP) → IsAlike h h' → whose k h ≡ whose k h'
+  pub alike_whose : (k : ℕ) (h h' : History ST SP RT RP) → IsAlike h h' → list_of_handle k h ≡ list_of_handle k h'
   alike_whose zero h h' a = refl
   alike_whose (suc k) h h' a = ap Some (a.numbers (suc k))
 
   pub alike_open : (q : ℕ) (h h' : History ST SP RT RP) → IsAlike h h' → is_open q h ≡ is_open q h'
   alike_open q h h' a =
-      ap (λ n. any_upto n (λ k. is_live k h && (number_of k h == q))) a.sent
-      ∙ any_same (sends h') (λ k. is_live k h && (number_of k h == q)) (λ k. is_live k h' && (number_of k h' == q)) (λ k. rw (alike_live k h h' a, a.numbers k) refl)
+      ap (λ n. any_upto n (λ k. is_handle_open k h && (number_of k h == q))) a.sent
+      ∙ any_same (requests_sent h') (λ k. is_handle_open k h && (number_of k h == q)) (λ k. is_handle_open k h' && (number_of k h' == q)) (λ k. rw (alike_live k h h' a, a.numbers k) refl)
 
   -- a handle gets the same of each command
-  gain-same : (port k : ℕ) (c : Command ST SP) (h h' : History ST SP RT RP) → IsAlike h h' → gain port k c h ≡ gain port k c h'
+  gain-same : (port k : ℕ) (c : Command ST SP) (h h' : History ST SP RT RP) → IsAlike h h' → handed_over port k c h ≡ handed_over port k c h'
   gain-same port k (command.Datagram b groups) h h' a =
-      rw (alike_whose k h h' a) (received_same port (λ q. is_open q h) (λ q. is_open q h') (λ q. alike_open q h h' a) (whose k h') (cut_of untyped_layout b.items) groups)
+      rw (alike_whose k h h' a) (received_same port (λ q. is_open q h) (λ q. is_open q h') (λ q. alike_open q h h' a) (list_of_handle k h') (cut_of untyped_layout b.items) groups)
   gain-same port k (command.Fault e) h h' a = rw (alike_whose k h h' a) refl
   gain-same port k (command.SetNextSeq n) h h' a = refl
   gain-same port k (command.Send t f p) h h' a = refl
@@ -162,7 +162,7 @@ module _ {ST SP K P V : Type 0} (port : ℕ) (Passes : ℕ → Type 0) (type_of 
 
   pub answered-same : (h h' : History ST SP K P) → IsSameFor port Passes h h' → (c : Command ST SP) (o : Outcome ST SP K P) → ReadsOnly Passes c → IsAnswered type_of number view size read port h c o → IsAnswered type_of number view size read port h' c o
   answered-same h h' s (command.Read k) o only is =
-      subst (λ live. IsReadOf type_of number view size read port h' k live o) (alike_live k h h' s.alike) (read-same h h' s k (is_live k h) o (only k (read_itself k)) is)
+      subst (λ live. IsReadOf type_of number view size read port h' k live o) (alike_live k h h' s.alike) (read-same h h' s k (is_handle_open k h) o (only k (read_itself k)) is)
   answered-same h h' s (command.Close k) o only is = is ∙ ap (λ live. closed_or_not live) (alike_live k h h' s.alike)
   answered-same h h' s (command.Send t f p) o only is = is
   answered-same h h' s (command.Datagram b groups) o only is = is

@@ -7,8 +7,8 @@ use Rattle.neli_deliveries.specs.declared.delivery.Delivery.{Delivery}
 use Rattle.neli_deliveries.specs.Readings.{Item}
 use Rattle.neli_router_base.specs.declared.reply.Reply.{Reply}
 use Rattle.neli_router_base.specs.declared.reply.Reply.TheVariants as reply
-use Rattle.neli_router.specs.Deliveries.{deliveries, gain}
-use Rattle.neli_router.specs.History.{History, is_live}
+use Rattle.neli_router.specs.Deliveries.{deliveries, handed_over}
+use Rattle.neli_router.specs.History.{History, is_handle_open}
 use Rattle.neli_router.specs.Outcomes.{IsNextAnswer}
 use Rattle.neli_router.specs.laws.Deliveries.{deliveries-more}
 use Rattle.neli_router.proofs.Readings.{readings_append}
@@ -18,7 +18,7 @@ module _ {ST SP RT RP : Type 0} (port k : ℕ) where
   deliveries-later before [] = ([], sym (append-nil (deliveries port k before)))
   deliveries-later before (e ∷ later) =
       let first = deliveries-later before later in
-      let last : List Delivery = if is_live k (later ++ before) then gain port k e.0 (later ++ before) else [] in
+      let last : List Delivery = if is_handle_open k (later ++ before) then handed_over port k e.0 (later ++ before) else [] in
       (first.0 ++ last, deliveries-more port k e (later ++ before) ∙ ap (λ ds. ds ++ last) first.1 ∙ append_assoc (deliveries port k before) first.0 last)
 
 module _ {K P V : Type 0} (type_of : ℕ → K) (number_of : K → ℕ) (view : P → V) (size : P → ℕ) (read : List ℕ → Result V DeError) where

@@ -10,7 +10,7 @@ use Rattle.neli_router.specs.declared.command.Command.TheVariants as command
 use Rattle.neli_router.specs.declared.command.Outcome.{Outcome}
 use Rattle.neli_router.specs.declared.command.Outcome.TheVariants as outcome
 use Rattle.neli_router.specs.Deliveries.{deliveries}
-use Rattle.neli_router.specs.History.{History, is_live, is_sent, items_of, reads, with_item}
+use Rattle.neli_router.specs.History.{History, is_handle_open, is_sent, items_of, reads, with_item}
 use Rattle.neli_router.specs.Outcomes.{EachAfter}
 use Rattle.neli_router.specs.laws.Deliveries.{deliveries-more}
 use Rattle.neli_router.proofs.Alike.{IsAlike, IsSameFor, ReadsOnly, each-same, same-after, same-back}
@@ -43,7 +43,7 @@ module _ {ST SP RT RP : Type 0} (port j : ℕ) where
   same-read : (o : Outcome ST SP RT RP) (h : History ST SP RT RP) → is_sent o ≡ false → IsSameFor port (λ k. k ≢ j) h ((command.Read j, o) ∷ h)
   same-read o h unsent = record {
     alike = alike-read o h unsent;
-    delivered = λ k. sym (deliveries-more port k (command.Read j, o) h ∙ nothing-added (is_live k h) (deliveries port k h));
+    delivered = λ k. sym (deliveries-more port k (command.Read j, o) h ∙ nothing-added (is_handle_open k h) (deliveries port k h));
     given = λ k other. sym (ap (λ theirs. with_item o theirs (items_of k h)) (another j k other) ∙ items-kept o (items_of k h));
   }
 

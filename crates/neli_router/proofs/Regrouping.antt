@@ -17,7 +17,7 @@ use Rattle.neli_router.specs.declared.command.Command.TheVariants as command
 use Rattle.neli_router.specs.declared.command.Outcome.{Outcome}
 use Rattle.neli_router.specs.declared.command.Outcome.TheVariants as outcome
 use Rattle.neli_router.specs.Deliveries.{deliveries}
-use Rattle.neli_router.specs.History.{History, is_live, is_open, items_of, whose}
+use Rattle.neli_router.specs.History.{History, is_handle_open, is_open, items_of, list_of_handle}
 use Rattle.neli_router.specs.Outcomes.{EachAfter}
 use Rattle.neli_router.specs.Regrouping.{AreWholeBeforeLast, Bytes, IsRegrouped, IsWhole, history_with, concatenation}
 use Rattle.neli_router.specs.laws.Deliveries.{deliveries-more}
@@ -101,23 +101,23 @@ module _ {ST SP RT RP : Type 0} where
 
   -- what a handle gets of bytes that come as one datagram
   part_of : ℕ → ℕ → List ℕ → History ST SP RT RP → List ℕ → List Delivery
-  part_of port k groups h b = if is_live k h then datagram_share port (λ q. is_open q h) (whose k h) (cut_of untyped_layout b) groups else []
+  part_of port k groups h b = if is_handle_open k h then datagram_share port (λ q. is_open q h) (list_of_handle k h) (cut_of untyped_layout b) groups else []
 
   part-nothing : (port k : ℕ) (groups : List ℕ) (h : History ST SP RT RP) → part_of port k groups h [] ≡ []
   unfolding part_of
-  part-nothing port k groups h = rw (datagram_share-nothing port (λ q. is_open q h) (whose k h) groups) (either (is_live k h) [])
+  part-nothing port k groups h = rw (datagram_share-nothing port (λ q. is_open q h) (list_of_handle k h) groups) (either (is_handle_open k h) [])
 
   part-same : (port k : ℕ) (groups : List ℕ) (h h' : History ST SP RT RP) (b : List ℕ) → IsAlike h h' → part_of port k groups h b ≡ part_of port k groups h' b
   unfolding part_of
   part-same port k groups h h' b a =
-      rw (alike_live k h h' a, alike_whose k h h' a, received_same port (λ q. is_open q h) (λ q. is_open q h') (λ q. alike_open q h h' a) (whose k h') (cut_of untyped_layout b) groups) refl
+      rw (alike_live k h h' a, alike_whose k h h' a, received_same port (λ q. is_open q h) (λ q. is_open q h') (λ q. alike_open q h h' a) (list_of_handle k h') (cut_of untyped_layout b) groups) refl
 
   part-more : (port k : ℕ) (groups : List ℕ) (h : History ST SP RT RP) (a b : List ℕ) → IsWhole untyped_layout a → part_of port k groups h a ++ part_of port k groups h b ≡ part_of port k groups h (a ++ b)
   unfolding part_of
-  part-more port k groups h a b whole = elim (is_live k h) as (λ live.
-      (if live then datagram_share port (λ q. is_open q h) (whose k h) (cut_of untyped_layout a) groups else []) ++ (if live then datagram_share port (λ q. is_open q h) (whose k h) (cut_of untyped_layout b) groups else [])
-      ≡ (if live then datagram_share port (λ q. is_open q h) (whose k h) (cut_of untyped_layout (a ++ b)) groups else [])) [
-        | true ↦ datagram_share-more port (λ q. is_open q h) (whose k h) groups a b whole
+  part-more port k groups h a b whole = elim (is_handle_open k h) as (λ live.
+      (if live then datagram_share port (λ q. is_open q h) (list_of_handle k h) (cut_of untyped_layout a) groups else []) ++ (if live then datagram_share port (λ q. is_open q h) (list_of_handle k h) (cut_of untyped_layout b) groups else [])
+      ≡ (if live then datagram_share port (λ q. is_open q h) (list_of_handle k h) (cut_of untyped_layout (a ++ b)) groups else [])) [
+        | true ↦ datagram_share-more port (λ q. is_open q h) (list_of_handle k h) groups a b whole
         | false ↦ refl
       ]
 

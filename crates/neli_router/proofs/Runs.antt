@@ -7,7 +7,7 @@ use Rattle.neli_router.specs.declared.command.Command.{Command}
 use Rattle.neli_router.specs.declared.command.Outcome.{Outcome}
 use Rattle.neli_router.specs.History.{History}
 use Rattle.neli_router.specs.Outcomes.{EachAfter}
-use Rattle.neli_router.specs.laws.Kept.{Goes, Handles, Holds, Pending, multicast}
+use Rattle.neli_router.specs.laws.Kept.{StepKeeps, Handles, Holds, Pending, multicast}
 use Rattle.neli_router.proofs.Steps.{agrees_start}
 
 module _ {ST SP RT RP : Type 0} where
@@ -51,5 +51,5 @@ module _ (ST SP : Type 0) {K P V : Type 0} (type_of : ℕ → K) (number : K →
 module _ {ST SP K P V : Type 0} (type_of : ℕ → K) (number : K → ℕ) (view : P → V) (size : P → ℕ) (read : List ℕ → Result V DeError) where
   -- after one command more
   pub went : (Said : ℕ → History ST SP K P → Command ST SP → Outcome ST SP K P → Type 0) (pid port next next' : ℕ) (pending pending' : Pending) (handles handles' : Handles) (c : Command ST SP) (o : Outcome ST SP K P) (h : History ST SP K P) → port ≡ pid
-      → Goes type_of number view size read (Said port) port next pending handles next' pending' handles' c o → Holds type_of number view size read pid next pending handles h → Said pid h c o × Holds type_of number view size read pid next' pending' handles' ((c, o) ∷ h)
-  went Said pid port next next' pending pending' handles handles' c o h e goes = subst (λ p. Goes type_of number view size read (Said p) p next pending handles next' pending' handles' c o) e goes h
+      → StepKeeps type_of number view size read (Said port) port next pending handles next' pending' handles' c o → Holds type_of number view size read pid next pending handles h → Said pid h c o × Holds type_of number view size read pid next' pending' handles' ((c, o) ∷ h)
+  went Said pid port next next' pending pending' handles handles' c o h e goes = subst (λ p. StepKeeps type_of number view size read (Said p) p next pending handles next' pending' handles' c o) e goes h

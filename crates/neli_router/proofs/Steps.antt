@@ -20,7 +20,7 @@ use Rattle.neli_router.specs.declared.command.Command.{Command}
 use Rattle.neli_router.specs.declared.command.Command.TheVariants as command
 use Rattle.neli_router.specs.declared.command.Outcome.{Outcome}
 use Rattle.neli_router.specs.declared.command.Outcome.TheVariants as outcome
-use Rattle.neli_router.specs.History.{History, any_upto, base, is_closed, is_live, is_open, is_sent, items_of, needs_of, next_number, number_of, sends, since, whose}
+use Rattle.neli_router.specs.History.{History, any_upto, last_set_number, is_closed, is_handle_open, is_open, is_sent, items_of, needs_of, next_number, number_of, requests_sent, requests_since_set, list_of_handle}
 use Rattle.neli_router.specs.Outcomes.{is_numbered}
 use Rattle.neli_router.specs.laws.Deliveries.{delivered}
 use Rattle.neli_router.specs.laws.Kept.{Agrees, IsFresh, IsKept, IsOwned, IsSlot, Pending, multicast}
@@ -84,21 +84,21 @@ some_not_none o x p q = cc
 module _ {ST SP K P : Type 0} where
   -- handle k stands alike in two histories
   pub record IsSame (port k : ℕ) (h h' : History ST SP K P) : Type 0 where
-    pub later : nat_le k (sends h') ≡ nat_le k (sends h)
+    pub later : nat_le k (requests_sent h') ≡ nat_le k (requests_sent h)
     pub closed : is_closed k h' ≡ is_closed k h
     pub items : items_of k h' ≡ items_of k h
     pub deliveries : delivered port k h' ≡ delivered port k h
     pub needs : needs_of k h' ≡ needs_of k h
-    pub whose : whose k h' ≡ whose k h
+    pub list_of_handle : list_of_handle k h' ≡ list_of_handle k h
 
-  pub same_live : (port k : ℕ) (h h' : History ST SP K P) → IsSame port k h h' → is_live k h' ≡ is_live k h
+  pub same_live : (port k : ℕ) (h h' : History ST SP K P) → IsSame port k h h' → is_handle_open k h' ≡ is_handle_open k h
   same_live port k h h' s = rw (s.later, s.closed) refl
 
-  live_given : (k : ℕ) (h : History ST SP K P) → is_live k h ≡ true → k ≤ sends h
-  live_given k h p = le_true k (sends h) (and_true_left _ _ p)
+  live_given : (k : ℕ) (h : History ST SP K P) → is_handle_open k h ≡ true → k ≤ requests_sent h
+  live_given k h p = le_true k (requests_sent h) (and_true_left _ _ p)
 
   -- a command that is not sent changes no handle's owner
-  pub whose_unsent : (k : ℕ) (c : Command ST SP) (o : Outcome ST SP K P) (h : History ST SP K P) → is_sent o ≡ false → whose k ((c, o) ∷ h) ≡ whose k h
+  pub whose_unsent : (k : ℕ) (c : Command ST SP) (o : Outcome ST SP K P) (h : History ST SP K P) → is_sent o ≡ false → list_of_handle k ((c, o) ∷ h) ≡ list_of_handle k h
   whose_unsent zero c o h e = refl
   whose_unsent (suc k) c o h e = rw e refl
 
@@ -140,7 +140,7 @@ module _ {ST SP K P V : Type 0} (type_of : ℕ → K) (number : K → ℕ) (view
   -- ---- handles that stand alike
 
   pub slot_same : (port k : ℕ) (pending pending' : Pending) (h h' : History ST SP K P) → IsSame port k h h'
-      → (is_live k h ≡ true → pending' (whose k h) ≡ pending (whose k h)) → (s : Option (Option HandleState))
+      → (is_handle_open k h ≡ true → pending' (list_of_handle k h) ≡ pending (list_of_handle k h)) → (s : Option (Option HandleState))
       → IsSlot type_of number view size read port pending k h s → IsSlot type_of number view size read port pending' k h' s
   slot_same port k pending pending' h h' s same None x = record {
     later = s.later ∙ x.later;
@@ -153,9 +153,9 @@ module _ {ST SP K P V : Type 0} (type_of : ℕ → K) (number : K → ℕ) (view
     x.0,
     record {
       live = same_live port k h h' s ∙ x.1.live;
-      number = x.1.number ∙ sym s.whose;
+      number = x.1.number ∙ sym s.list_of_handle;
       needs = x.1.needs ∙ sym s.needs;
-      left = rw (s.whose, s.deliveries) (same x.1.live ∙ x.1.left);
+      left = rw (s.list_of_handle, s.deliveries) (same x.1.live ∙ x.1.left);
       within = rw s.deliveries x.1.within;
       are_read = rw s.deliveries x.1.are_read;
       count = rw s.items x.1.count;
@@ -167,31 +167,31 @@ module _ {ST SP K P V : Type 0} (type_of : ℕ → K) (number : K → ℕ) (view
 
   -- a command that changes nothing but the next number
   pub agrees_same : (port next next' count : ℕ) (pending : Pending) (slots : ℕ → Option (Option HandleState)) (h h' : History ST SP K P)
-      → sends h' ≡ sends h → next' ≡ next_number h' → ((k : ℕ) → IsSame port k h h')
+      → requests_sent h' ≡ requests_sent h → next' ≡ next_number h' → ((k : ℕ) → IsSame port k h h')
       → Agrees type_of number view size read port next count pending slots h → Agrees type_of number view size read port next' count pending slots h'
   agrees_same port next next' count pending slots h h' many next_is same a = record {
     next_is = next_is;
     count_is = a.count_is ∙ ap suc (sym many);
     each = λ k. slot_same port k pending pending h h' (same k) (λ _. refl) (slots k) (a.each k);
-    owned = λ q ds p. let o = a.owned q ds p in (o.0, same_live port o.0 h h' (same o.0) ∙ o.1, (same o.0).whose ∙ o.2);
-    one = λ j k p q r. a.one j k (sym (same_live port j h h' (same j)) ∙ p) (sym (same_live port k h h' (same k)) ∙ q) (sym (same j).whose ∙ (r ∙ (same k).whose));
+    owned = λ q ds p. let o = a.owned q ds p in (o.0, same_live port o.0 h h' (same o.0) ∙ o.1, (same o.0).list_of_handle ∙ o.2);
+    one = λ j k p q r. a.one j k (sym (same_live port j h h' (same j)) ∙ p) (sym (same_live port k h h' (same k)) ∙ q) (sym (same j).list_of_handle ∙ (r ∙ (same k).list_of_handle));
   }
 
   pub agrees_set : (port next count n : ℕ) (pending : Pending) (slots : ℕ → Option (Option HandleState)) (h : History ST SP K P)
       → n < 2 ^ 32 → Agrees type_of number view size read port next count pending slots h → Agrees type_of number view size read port n count pending slots ((command.SetNextSeq n, outcome.Done) ∷ h)
   agrees_set port next count n pending slots h small a =
-      agrees_same port next n count pending slots h _ refl (omega arith) (λ k. record { later = refl; closed = refl; items = refl; deliveries = refl; needs = refl; whose = whose_unsent k (command.SetNextSeq n) outcome.Done h refl }) a
+      agrees_same port next n count pending slots h _ refl (omega arith) (λ k. record { later = refl; closed = refl; items = refl; deliveries = refl; needs = refl; list_of_handle = whose_unsent k (command.SetNextSeq n) outcome.Done h refl }) a
 
   pub agrees_unsent : (port next count : ℕ) (t : ST) (f : NlmF) (p : NlPayload ST SP) (o : Outcome ST SP K P) (pending : Pending) (slots : ℕ → Option (Option HandleState)) (h : History ST SP K P)
       → is_sent o ≡ false → ((k : ℕ) → items_of k ((command.Send t f p, o) ∷ h) ≡ items_of k h)
       → Agrees type_of number view size read port next count pending slots h → Agrees type_of number view size read port next count pending slots ((command.Send t f p, o) ∷ h)
   agrees_unsent port next count t f p o pending slots h unsent items a =
-      let many : sends ((command.Send t f p, o) ∷ h) ≡ sends h = rw unsent refl in
-      agrees_same port next next count pending slots h _ many (a.next_is ∙ rw unsent refl) (λ k. record { later = ap (nat_le k) many; closed = refl; items = items k; deliveries = refl; needs = rw unsent refl; whose = whose_unsent k (command.Send t f p) o h unsent }) a
+      let many : requests_sent ((command.Send t f p, o) ∷ h) ≡ requests_sent h = rw unsent refl in
+      agrees_same port next next count pending slots h _ many (a.next_is ∙ rw unsent refl) (λ k. record { later = ap (nat_le k) many; closed = refl; items = items k; deliveries = refl; needs = rw unsent refl; list_of_handle = whose_unsent k (command.Send t f p) o h unsent }) a
 
   -- a read that gives no item, or a close of no handle
   pub agrees_idle : (port next count : ℕ) (c : Command ST SP) (o : Outcome ST SP K P) (pending : Pending) (slots : ℕ → Option (Option HandleState)) (h : History ST SP K P)
-      → sends ((c, o) ∷ h) ≡ sends h → next_number ((c, o) ∷ h) ≡ next_number h → ((k : ℕ) → IsSame port k h ((c, o) ∷ h))
+      → requests_sent ((c, o) ∷ h) ≡ requests_sent h → next_number ((c, o) ∷ h) ≡ next_number h → ((k : ℕ) → IsSame port k h ((c, o) ∷ h))
       → Agrees type_of number view size read port next count pending slots h → Agrees type_of number view size read port next count pending slots ((c, o) ∷ h)
   agrees_idle port next count c o pending slots h many number_is same a =
       agrees_same port next next count pending slots h ((c, o) ∷ h) many (a.next_is ∙ sym number_is) same a
@@ -199,28 +199,28 @@ module _ {ST SP K P V : Type 0} (type_of : ℕ → K) (number : K → ℕ) (view
   pub agrees_read_end : (port next count i : ℕ) (pending : Pending) (slots : ℕ → Option (Option HandleState)) (h : History ST SP K P)
       → Agrees type_of number view size read port next count pending slots h → Agrees type_of number view size read port next count pending slots ((command.Read i, outcome.End) ∷ h)
   agrees_read_end port next count i pending slots h a =
-      agrees_idle port next count (command.Read i) outcome.End pending slots h refl refl (λ k. record { later = refl; closed = refl; items = refl; deliveries = refl; needs = refl; whose = whose_unsent k (command.Read i) outcome.End h refl }) a
+      agrees_idle port next count (command.Read i) outcome.End pending slots h refl refl (λ k. record { later = refl; closed = refl; items = refl; deliveries = refl; needs = refl; list_of_handle = whose_unsent k (command.Read i) outcome.End h refl }) a
 
   pub agrees_read_waits : (port next count i : ℕ) (pending : Pending) (slots : ℕ → Option (Option HandleState)) (h : History ST SP K P)
       → Agrees type_of number view size read port next count pending slots h → Agrees type_of number view size read port next count pending slots ((command.Read i, outcome.Waits) ∷ h)
   agrees_read_waits port next count i pending slots h a =
-      agrees_idle port next count (command.Read i) outcome.Waits pending slots h refl refl (λ k. record { later = refl; closed = refl; items = refl; deliveries = refl; needs = refl; whose = whose_unsent k (command.Read i) outcome.Waits h refl }) a
+      agrees_idle port next count (command.Read i) outcome.Waits pending slots h refl refl (λ k. record { later = refl; closed = refl; items = refl; deliveries = refl; needs = refl; list_of_handle = whose_unsent k (command.Read i) outcome.Waits h refl }) a
 
   pub agrees_read_none : (port next count i : ℕ) (pending : Pending) (slots : ℕ → Option (Option HandleState)) (h : History ST SP K P)
       → Agrees type_of number view size read port next count pending slots h → Agrees type_of number view size read port next count pending slots ((command.Read i, outcome.NoHandle) ∷ h)
   agrees_read_none port next count i pending slots h a =
-      agrees_idle port next count (command.Read i) outcome.NoHandle pending slots h refl refl (λ k. record { later = refl; closed = refl; items = refl; deliveries = refl; needs = refl; whose = whose_unsent k (command.Read i) outcome.NoHandle h refl }) a
+      agrees_idle port next count (command.Read i) outcome.NoHandle pending slots h refl refl (λ k. record { later = refl; closed = refl; items = refl; deliveries = refl; needs = refl; list_of_handle = whose_unsent k (command.Read i) outcome.NoHandle h refl }) a
 
   pub agrees_close_none : (port next count i : ℕ) (pending : Pending) (slots : ℕ → Option (Option HandleState)) (h : History ST SP K P)
       → Agrees type_of number view size read port next count pending slots h → Agrees type_of number view size read port next count pending slots ((command.Close i, outcome.NoHandle) ∷ h)
   agrees_close_none port next count i pending slots h a =
-      agrees_idle port next count (command.Close i) outcome.NoHandle pending slots h refl refl (λ k. record { later = refl; closed = rw (and_false (i == k)) refl; items = refl; deliveries = refl; needs = refl; whose = whose_unsent k (command.Close i) outcome.NoHandle h refl }) a
+      agrees_idle port next count (command.Close i) outcome.NoHandle pending slots h refl refl (λ k. record { later = refl; closed = rw (and_false (i == k)) refl; items = refl; deliveries = refl; needs = refl; list_of_handle = whose_unsent k (command.Close i) outcome.NoHandle h refl }) a
 
   -- what a handle that is open has pending
-  kept_of : (port k : ℕ) (pending : Pending) (h : History ST SP K P) (s : Option (Option HandleState)) → IsSlot type_of number view size read port pending k h s → is_live k h ≡ true
+  kept_of : (port k : ℕ) (pending : Pending) (h : History ST SP K P) (s : Option (Option HandleState)) → IsSlot type_of number view size read port pending k h s → is_handle_open k h ≡ true
       → (x : HandleState) × (readings : List (Item K P)) × (s ≡ Some (Some x)) × IsKept type_of number view size read port pending k x h readings
-  kept_of port k pending h None x p = absurd (false_not_true (is_live k h) (rw x.later refl) p)
-  kept_of port k pending h (Some None) x p = absurd (false_not_true (is_live k h) x p)
+  kept_of port k pending h None x p = absurd (false_not_true (is_handle_open k h) (rw x.later refl) p)
+  kept_of port k pending h (Some None) x p = absurd (false_not_true (is_handle_open k h) x p)
   kept_of port k pending h (Some (Some handle)) x p = (handle, x.0, refl, x.1)
 
   -- ---- a request is sent
@@ -235,47 +235,47 @@ module _ {ST SP K P V : Type 0} (type_of : ℕ → K) (number : K → ℕ) (view
     abbrev after : History ST SP K P
     after = (command.Send t f p, o) ∷ h
 
-    sent_sends : sends after ≡ suc (sends h)
+    sent_sends : requests_sent after ≡ suc (requests_sent h)
     sent_sends = rw sent refl
 
-    sent_later : (k : ℕ) → k ≢ suc (sends h) → nat_le k (suc (sends h)) ≡ nat_le k (sends h)
+    sent_later : (k : ℕ) → k ≢ suc (requests_sent h) → nat_le k (suc (requests_sent h)) ≡ nat_le k (requests_sent h)
     sent_later k other = grind (arith, nat_tests)
 
-    sent_same : (k : ℕ) → k ≢ suc (sends h) → IsSame port k h after
+    sent_same : (k : ℕ) → k ≢ suc (requests_sent h) → IsSame port k h after
     sent_same k other = record {
       later = ap (nat_le k) sent_sends ∙ sent_later k other;
       closed = refl;
       items = no_item k;
       deliveries = refl;
-      needs = rw (sent, eqb_other k (suc (sends h)) other) refl;
-      whose = elim k as (λ k. k ≢ suc (sends h) → whose k after ≡ whose k h) [ zero ↦ (λ _. refl) | suc k ↦ (λ o. rw (sent, eqb_other (suc k) (suc (sends h)) o) refl) ] other;
+      needs = rw (sent, eqb_other k (suc (requests_sent h)) other) refl;
+      list_of_handle = elim k as (λ k. k ≢ suc (requests_sent h) → list_of_handle k after ≡ list_of_handle k h) [ zero ↦ (λ _. refl) | suc k ↦ (λ o. rw (sent, eqb_other (suc k) (suc (requests_sent h)) o) refl) ] other;
     }
 
-    sent_fresh : IsFresh port (suc (sends h)) h
-    sent_fresh = let e : slots (suc (sends h)) ≡ None = ap slots (sym a.count_is) ∙ past in rw e at (a.each (suc (sends h)))
+    sent_fresh : IsFresh port (suc (requests_sent h)) h
+    sent_fresh = let e : slots (suc (requests_sent h)) ≡ None = ap slots (sym a.count_is) ∙ past in rw e at (a.each (suc (requests_sent h)))
 
-    sent_whose : whose (suc (sends h)) after ≡ Some next
-    sent_whose = rw (sent, eqb_refl (suc (sends h))) (ap Some (sym a.next_is))
+    sent_whose : list_of_handle (suc (requests_sent h)) after ≡ Some next
+    sent_whose = rw (sent, eqb_refl (suc (requests_sent h))) (ap Some (sym a.next_is))
 
-    sent_live : is_live (suc (sends h)) after ≡ true
-    sent_live = rw (sent_sends, true_le (suc (sends h)) (suc (sends h)) (omega arith), sent_fresh.closed) refl
+    sent_live : is_handle_open (suc (requests_sent h)) after ≡ true
+    sent_live = rw (sent_sends, true_le (suc (requests_sent h)) (suc (requests_sent h)) (omega arith), sent_fresh.closed) refl
 
-    sent_needs : needs_of (suc (sends h)) after ≡ needs_ack f
-    sent_needs = rw (sent, eqb_refl (suc (sends h))) refl
+    sent_needs : needs_of (suc (requests_sent h)) after ≡ needs_ack f
+    sent_needs = rw (sent, eqb_refl (suc (requests_sent h))) refl
 
-    sent_items : items_of (suc (sends h)) after ≡ []
-    sent_items = no_item (suc (sends h)) ∙ sent_fresh.items_none
+    sent_items : items_of (suc (requests_sent h)) after ≡ []
+    sent_items = no_item (suc (requests_sent h)) ∙ sent_fresh.items_none
 
     -- an open handle has another number
-    sent_apart : (k : ℕ) → is_live k h ≡ true → whose k h ≢ Some next
+    sent_apart : (k : ℕ) → is_handle_open k h ≡ true → list_of_handle k h ≢ Some next
     sent_apart k live e =
         let kept = kept_of port k pending h (slots k) (a.each k) live in
         some_not_none (pending (Some next)) _ free (ap pending (sym e) ∙ kept.3.left)
 
-    sent_not_new : (k : ℕ) → is_live k h ≡ true → k ≢ suc (sends h)
-    sent_not_new k live e = let le : k ≤ sends h = live_given k h live in absurd (omega arith)
+    sent_not_new : (k : ℕ) → is_handle_open k h ≡ true → k ≢ suc (requests_sent h)
+    sent_not_new k live e = let le : k ≤ requests_sent h = live_given k h live in absurd (omega arith)
 
-    sent_new : IsSlot type_of number view size read port pending' (suc (sends h)) after (Some (Some (asks next f)))
+    sent_new : IsSlot type_of number view size read port pending' (suc (requests_sent h)) after (Some (Some (asks next f)))
     sent_new = (
       [],
       record {
@@ -288,44 +288,44 @@ module _ {ST SP K P V : Type 0} (type_of : ℕ → K) (number : K → ℕ) (view
         count = rw sent_items refl;
         items = λ i item at. let none = rw sent_items at at in cc;
         given = sym (lt_zero 0);
-        ended = sym (lt_zero (last_place number (needs_of (suc (sends h)) after) (is_numbered (suc (sends h))) (no_items {P = P})));
+        ended = sym (lt_zero (last_place number (needs_of (suc (requests_sent h)) after) (is_numbered (suc (requests_sent h))) (no_items {P = P})));
       },
     )
 
     sent_each : (k : ℕ) → IsSlot type_of number view size read port pending' k after (slots' k)
-    sent_each k = elim (same_or k (suc (sends h))) [
-      | inl e ↦ rw e (let s : slots' (suc (sends h)) ≡ Some (Some x) = ap slots' (sym a.count_is) ∙ new in rw (s, x_is) sent_new)
+    sent_each k = elim (same_or k (suc (requests_sent h))) [
+      | inl e ↦ rw e (let s : slots' (suc (requests_sent h)) ≡ Some (Some x) = ap slots' (sym a.count_is) ∙ new in rw (s, x_is) sent_new)
       | inr o ↦ rw (old k (λ e. o (e ∙ a.count_is))) (slot_same port k pending pending' h after (sent_same k o) (λ live. others _ (sent_apart k live)) (slots k) (a.each k))
     ]
 
-    sent_live_old : (k : ℕ) → k ≢ suc (sends h) → is_live k after ≡ true → is_live k h ≡ true
+    sent_live_old : (k : ℕ) → k ≢ suc (requests_sent h) → is_handle_open k after ≡ true → is_handle_open k h ≡ true
     sent_live_old k o p = sym (same_live port k h after (sent_same k o)) ∙ p
 
     sent_owned : (q : ℕ) (ds : List Delivery) → pending' (Some q) ≡ Some ds → IsOwned q after
     sent_owned q ds p = elim (same_or q next) [
-      | inl e ↦ (suc (sends h), sent_live, rw e sent_whose)
+      | inl e ↦ (suc (requests_sent h), sent_live, rw e sent_whose)
       | inr o ↦ let w = a.owned q ds (sym (others (Some q) (λ e. o (some_inj q next e))) ∙ p) in
-          (w.0, same_live port w.0 h after (sent_same w.0 (sent_not_new w.0 w.1)) ∙ w.1, (sent_same w.0 (sent_not_new w.0 w.1)).whose ∙ w.2)
+          (w.0, same_live port w.0 h after (sent_same w.0 (sent_not_new w.0 w.1)) ∙ w.1, (sent_same w.0 (sent_not_new w.0 w.1)).list_of_handle ∙ w.2)
     ]
 
-    sent_one : (j k : ℕ) → is_live j after ≡ true → is_live k after ≡ true → whose j after ≡ whose k after → j ≡ k
-    sent_one j k p q r = elim (same_or j (suc (sends h))) [
-      | inl ej ↦ elim (same_or k (suc (sends h))) [
+    sent_one : (j k : ℕ) → is_handle_open j after ≡ true → is_handle_open k after ≡ true → list_of_handle j after ≡ list_of_handle k after → j ≡ k
+    sent_one j k p q r = elim (same_or j (suc (requests_sent h))) [
+      | inl ej ↦ elim (same_or k (suc (requests_sent h))) [
         | inl ek ↦ ej ∙ sym ek
-        | inr ok ↦ absurd (sent_apart k (sent_live_old k ok q) (sym (sent_same k ok).whose ∙ (sym r ∙ (ap (λ i. whose i after) ej ∙ sent_whose))))
+        | inr ok ↦ absurd (sent_apart k (sent_live_old k ok q) (sym (sent_same k ok).list_of_handle ∙ (sym r ∙ (ap (λ i. list_of_handle i after) ej ∙ sent_whose))))
       ]
-      | inr oj ↦ elim (same_or k (suc (sends h))) [
-        | inl ek ↦ absurd (sent_apart j (sent_live_old j oj p) (sym (sent_same j oj).whose ∙ (r ∙ (ap (λ i. whose i after) ek ∙ sent_whose))))
-        | inr ok ↦ a.one j k (sent_live_old j oj p) (sent_live_old k ok q) (sym (sent_same j oj).whose ∙ (r ∙ (sent_same k ok).whose))
+      | inr oj ↦ elim (same_or k (suc (requests_sent h))) [
+        | inl ek ↦ absurd (sent_apart j (sent_live_old j oj p) (sym (sent_same j oj).list_of_handle ∙ (r ∙ (ap (λ i. list_of_handle i after) ek ∙ sent_whose))))
+        | inr ok ↦ a.one j k (sent_live_old j oj p) (sent_live_old k ok q) (sym (sent_same j oj).list_of_handle ∙ (r ∙ (sent_same k ok).list_of_handle))
       ]
     ]
 
-    sent_next : next_number after ≡ (base h + suc (since h)) % 2 ^ 32
+    sent_next : next_number after ≡ (last_set_number h + suc (requests_since_set h)) % 2 ^ 32
     sent_next = rw sent refl
 
     pub agrees_sent : Agrees type_of number view size read port next' count' pending' slots' after
     agrees_sent = record {
-      next_is = next_is ∙ next_one (base h) (since h) next a.next_is ∙ sym sent_next;
+      next_is = next_is ∙ next_one (last_set_number h) (requests_since_set h) next a.next_is ∙ sym sent_next;
       count_is = count_is ∙ ap suc a.count_is ∙ sym (ap suc sent_sends);
       each = sent_each;
       owned = sent_owned;
@@ -337,8 +337,8 @@ module _ {ST SP K P V : Type 0} (type_of : ℕ → K) (number : K → ℕ) (view
   module _ (port next count k : ℕ) (pending pending' : Pending) (slots slots' : ℕ → Option (Option HandleState)) (h : History ST SP K P) (x x' : HandleState) (readings : List (Item K P)) (d : Delivery) (ds : List Delivery) (item : Item K P)
       (a : Agrees type_of number view size read port next count pending slots h)
       (before : slots k ≡ Some (Some x)) (kept : IsKept type_of number view size read port pending k x h readings) (still : x.ended ≡ false)
-      (first : pending (whose k h) ≡ Some (d ∷ ds)) (is : IsReading type_of view size read d item)
-      (taken : pending' (whose k h) ≡ Some ds) (others : (w : Option ℕ) → w ≢ whose k h → pending' w ≡ pending w)
+      (first : pending (list_of_handle k h) ≡ Some (d ∷ ds)) (is : IsReading type_of view size read d item)
+      (taken : pending' (list_of_handle k h) ≡ Some ds) (others : (w : Option ℕ) → w ≢ list_of_handle k h → pending' w ≡ pending w)
       (new : slots' k ≡ Some (Some x')) (old : (j : ℕ) → j ≢ k → slots' j ≡ slots j)
       (x_is : x' ≡ record {
         number = x.number;
@@ -353,7 +353,7 @@ module _ {ST SP K P V : Type 0} (type_of : ℕ → K) (number : K → ℕ) (view
     abbrev read_after : History ST SP K P
     read_after = (command.Read k, outcome.Item given_item) ∷ h
 
-    read_whose : (j : ℕ) → whose j read_after ≡ whose j h
+    read_whose : (j : ℕ) → list_of_handle j read_after ≡ list_of_handle j h
     read_whose j = whose_unsent j (command.Read k) (outcome.Item given_item) h refl
 
     read_same : (j : ℕ) → j ≢ k → IsSame port j h read_after
@@ -363,7 +363,7 @@ module _ {ST SP K P V : Type 0} (type_of : ℕ → K) (number : K → ℕ) (view
       deliveries = refl;
       needs = refl;
       items = rw (eqb_other k j (λ e. other (sym e))) refl;
-      whose = read_whose j;
+      list_of_handle = read_whose j;
     }
 
     read_left : drop (length readings) (delivered port k h) ≡ d ∷ ds
@@ -392,7 +392,7 @@ module _ {ST SP K P V : Type 0} (type_of : ℕ → K) (number : K → ℕ) (view
       ended = rw (length_push readings item, kept.given, kept.needs) (sym (last_push number (needs_of k h) (is_numbered k) readings item read_still));
     })
 
-    read_apart : (j : ℕ) → j ≢ k → is_live j h ≡ true → whose j h ≢ whose k h
+    read_apart : (j : ℕ) → j ≢ k → is_handle_open j h ≡ true → list_of_handle j h ≢ list_of_handle k h
     read_apart j other live e = other (a.one j k live kept.live e)
 
     read_each : (j : ℕ) → IsSlot type_of number view size read port pending' j read_after (slots' j)
@@ -404,7 +404,7 @@ module _ {ST SP K P V : Type 0} (type_of : ℕ → K) (number : K → ℕ) (view
     read_owned : (q : ℕ) (es : List Delivery) → (s : Option (List Delivery)) → pending (Some q) ≡ s → pending' (Some q) ≡ Some es → IsOwned q read_after
     read_owned q es (Some fs) p r = let o = a.owned q fs p in (o.0, o.1, read_whose o.0 ∙ o.2)
     read_owned q es None p r =
-        let apart : Some q ≢ whose k h = λ e. some_not_none (pending (whose k h)) _ (ap pending (sym e) ∙ p) first in
+        let apart : Some q ≢ list_of_handle k h = λ e. some_not_none (pending (list_of_handle k h)) _ (ap pending (sym e) ∙ p) first in
         absurd (some_not_none (pending' (Some q)) _ (others (Some q) apart ∙ p) r)
 
     pub agrees_read : Agrees type_of number view size read port next count pending' slots' read_after
@@ -419,13 +419,13 @@ module _ {ST SP K P V : Type 0} (type_of : ℕ → K) (number : K → ℕ) (view
   -- ---- a handle is closed
 
   module _ (port next count k : ℕ) (pending pending' : Pending) (slots slots' : ℕ → Option (Option HandleState)) (h : History ST SP K P)
-      (a : Agrees type_of number view size read port next count pending slots h) (live : is_live k h ≡ true)
-      (gone : pending' (whose k h) ≡ None) (others : (w : Option ℕ) → w ≢ whose k h → pending' w ≡ pending w)
+      (a : Agrees type_of number view size read port next count pending slots h) (live : is_handle_open k h ≡ true)
+      (gone : pending' (list_of_handle k h) ≡ None) (others : (w : Option ℕ) → w ≢ list_of_handle k h → pending' w ≡ pending w)
       (new : slots' k ≡ Some None) (old : (j : ℕ) → j ≢ k → slots' j ≡ slots j) where
     abbrev close_after : History ST SP K P
     close_after = (command.Close k, outcome.Done) ∷ h
 
-    close_whose : (j : ℕ) → whose j close_after ≡ whose j h
+    close_whose : (j : ℕ) → list_of_handle j close_after ≡ list_of_handle j h
     close_whose j = whose_unsent j (command.Close k) outcome.Done h refl
 
     close_same : (j : ℕ) → j ≢ k → IsSame port j h close_after
@@ -435,16 +435,16 @@ module _ {ST SP K P V : Type 0} (type_of : ℕ → K) (number : K → ℕ) (view
       deliveries = refl;
       needs = refl;
       closed = rw (eqb_other k j (λ e. other (sym e))) refl;
-      whose = close_whose j;
+      list_of_handle = close_whose j;
     }
 
-    close_dead : is_live k close_after ≡ false
-    close_dead = rw (eqb_refl k) (and_false (nat_le k (sends h)))
+    close_dead : is_handle_open k close_after ≡ false
+    close_dead = rw (eqb_refl k) (and_false (nat_le k (requests_sent h)))
 
-    close_not : (j : ℕ) → is_live j close_after ≡ true → j ≢ k
-    close_not j p e = false_not_true _ close_dead (ap (λ i. is_live i close_after) (sym e) ∙ p)
+    close_not : (j : ℕ) → is_handle_open j close_after ≡ true → j ≢ k
+    close_not j p e = false_not_true _ close_dead (ap (λ i. is_handle_open i close_after) (sym e) ∙ p)
 
-    close_live : (j : ℕ) → is_live j close_after ≡ true → is_live j h ≡ true
+    close_live : (j : ℕ) → is_handle_open j close_after ≡ true → is_handle_open j h ≡ true
     close_live j p = sym (same_live port j h close_after (close_same j (close_not j p))) ∙ p
 
     close_each : (j : ℕ) → IsSlot type_of number view size read port pending' j close_after (slots' j)
@@ -455,9 +455,9 @@ module _ {ST SP K P V : Type 0} (type_of : ℕ → K) (number : K → ℕ) (view
 
     close_owned : (q : ℕ) (es : List Delivery) → pending' (Some q) ≡ Some es → IsOwned q close_after
     close_owned q es p =
-        let apart : Some q ≢ whose k h = λ e. some_not_none (pending' (whose k h)) _ gone (ap pending' (sym e) ∙ p) in
+        let apart : Some q ≢ list_of_handle k h = λ e. some_not_none (pending' (list_of_handle k h)) _ gone (ap pending' (sym e) ∙ p) in
         let o = a.owned q es (sym (others (Some q) apart) ∙ p) in
-        let other : o.0 ≢ k = λ e. apart (sym o.2 ∙ ap (λ i. whose i h) e) in
+        let other : o.0 ≢ k = λ e. apart (sym o.2 ∙ ap (λ i. list_of_handle i h) e) in
         (o.0, same_live port o.0 h close_after (close_same o.0 other) ∙ o.1, close_whose o.0 ∙ o.2)
 
     pub agrees_close : Agrees type_of number view size read port next count pending' slots' close_after
@@ -471,16 +471,16 @@ module _ {ST SP K P V : Type 0} (type_of : ℕ → K) (number : K → ℕ) (view
 
   -- ---- which numbers are open
 
-  open_owner : (k q : ℕ) (h : History ST SP K P) → is_live k h ≡ true → whose k h ≡ Some q → is_open q h ≡ true
-  open_owner zero q h live e = absurd (some_not_none (whose zero h) q refl e)
-  open_owner (suc k) q h live e = any_true (sends h) (λ k. is_live k h && (number_of k h == q)) k (live_given (suc k) h live) (rw (live, some_inj _ _ e, eqb_refl q) refl)
+  open_owner : (k q : ℕ) (h : History ST SP K P) → is_handle_open k h ≡ true → list_of_handle k h ≡ Some q → is_open q h ≡ true
+  open_owner zero q h live e = absurd (some_not_none (list_of_handle zero h) q refl e)
+  open_owner (suc k) q h live e = any_true (requests_sent h) (λ k. is_handle_open k h && (number_of k h == q)) k (live_given (suc k) h live) (rw (live, some_inj _ _ e, eqb_refl q) refl)
 
   open_by : (port next count : ℕ) (pending : Pending) (slots : ℕ → Option (Option HandleState)) (h : History ST SP K P) → Agrees type_of number view size read port next count pending slots h
       → (q : ℕ) (s : Option (List Delivery)) → pending (Some q) ≡ s → is_some s ≡ is_open q h
   open_by port next count pending slots h a q (Some ds) p =
       let o = a.owned q ds p in sym (open_owner o.0 q h o.1 o.2)
   open_by port next count pending slots h a q None p =
-      sym (any_false (sends h) (λ k. is_live k h && (number_of k h == q)) (λ k. not_both (is_live (suc k) h) (number_of (suc k) h == q) (λ live same.
+      sym (any_false (requests_sent h) (λ k. is_handle_open k h && (number_of k h == q)) (λ k. not_both (is_handle_open (suc k) h) (number_of (suc k) h == q) (λ live same.
       let kept = kept_of port (suc k) pending h (slots (suc k)) (a.each (suc k)) live in
       some_not_none (pending (Some q)) _ p (ap (λ i. pending (Some i)) (sym (eqb_same (number_of (suc k) h) q same)) ∙ kept.3.left))))
 
@@ -494,10 +494,10 @@ module _ {ST SP K P V : Type 0} (type_of : ℕ → K) (number : K → ℕ) (view
       (more : Option ℕ → List Delivery)
       (a : Agrees type_of number view size read port next count pending slots h)
       (grown : (w : Option ℕ) → pending' w ≡ option_map (λ ds. ds ++ more w) (pending w))
-      (many : sends h' ≡ sends h) (next_same : next_number h' ≡ next_number h)
-      (closed : (k : ℕ) → is_closed k h' ≡ is_closed k h) (items_same : (k : ℕ) → items_of k h' ≡ items_of k h) (needs_same : (k : ℕ) → needs_of k h' ≡ needs_of k h) (whose_same : (k : ℕ) → whose k h' ≡ whose k h)
-      (handed : (k : ℕ) → delivered port k h' ≡ (if is_live k h then delivered port k h ++ more (whose k h) else delivered port k h)) where
-    more_live : (k : ℕ) → is_live k h' ≡ is_live k h
+      (many : requests_sent h' ≡ requests_sent h) (next_same : next_number h' ≡ next_number h)
+      (closed : (k : ℕ) → is_closed k h' ≡ is_closed k h) (items_same : (k : ℕ) → items_of k h' ≡ items_of k h) (needs_same : (k : ℕ) → needs_of k h' ≡ needs_of k h) (whose_same : (k : ℕ) → list_of_handle k h' ≡ list_of_handle k h)
+      (handed : (k : ℕ) → delivered port k h' ≡ (if is_handle_open k h then delivered port k h ++ more (list_of_handle k h) else delivered port k h)) where
+    more_live : (k : ℕ) → is_handle_open k h' ≡ is_handle_open k h
     more_live k = rw (many, closed k) refl
 
     more_slot : (k : ℕ) (s : Option (Option HandleState)) → IsSlot type_of number view size read port pending k h s → IsSlot type_of number view size read port pending' k h' s
@@ -505,19 +505,19 @@ module _ {ST SP K P V : Type 0} (type_of : ℕ → K) (number : K → ℕ) (view
       later = ap (nat_le k) many ∙ x.later;
       closed = closed k ∙ x.closed;
       items_none = items_same k ∙ x.items_none;
-      deliveries_none = handed k ∙ (let dead : is_live k h ≡ false = rw x.later refl in rw dead x.deliveries_none);
+      deliveries_none = handed k ∙ (let dead : is_handle_open k h ≡ false = rw x.later refl in rw dead x.deliveries_none);
     }
     more_slot k (Some None) x = more_live k ∙ x
     more_slot k (Some (Some handle)) x =
-        let all : delivered port k h' ≡ delivered port k h ++ more (whose k h) = handed k ∙ rw x.1.live refl in (
+        let all : delivered port k h' ≡ delivered port k h ++ more (list_of_handle k h) = handed k ∙ rw x.1.live refl in (
           x.0,
           record {
             live = more_live k ∙ x.1.live;
             number = x.1.number ∙ sym (whose_same k);
             needs = x.1.needs ∙ sym (needs_same k);
-            left = rw (whose_same k, all, drop_append (length x.0) (delivered port k h) (more (whose k h)) x.1.within) (grown (whose k h) ∙ ap (option_map (λ ds. ds ++ more (whose k h))) x.1.left);
-            within = rw all (longer (length x.0) (delivered port k h) (more (whose k h)) x.1.within);
-            are_read = rw all (readings_append type_of view size read (delivered port k h) (more (whose k h)) x.0 x.1.are_read);
+            left = rw (whose_same k, all, drop_append (length x.0) (delivered port k h) (more (list_of_handle k h)) x.1.within) (grown (list_of_handle k h) ∙ ap (option_map (λ ds. ds ++ more (list_of_handle k h))) x.1.left);
+            within = rw all (longer (length x.0) (delivered port k h) (more (list_of_handle k h)) x.1.within);
+            are_read = rw all (readings_append type_of view size read (delivered port k h) (more (list_of_handle k h)) x.0 x.1.are_read);
             count = rw (items_same k) x.1.count;
             items = rw (items_same k, needs_same k) x.1.items;
             given = x.1.given;
@@ -561,7 +561,7 @@ module _ {ST SP K P V : Type 0} (type_of : ℕ → K) (number : K → ℕ) (view
   agrees_pending port next count pending pending' slots h same a = record {
     next_is = a.next_is;
     count_is = a.count_is;
-    each = λ k. slot_same port k pending pending' h h (record { later = refl; closed = refl; items = refl; deliveries = refl; needs = refl; whose = refl }) (λ _. same (whose k h)) (slots k) (a.each k);
+    each = λ k. slot_same port k pending pending' h h (record { later = refl; closed = refl; items = refl; deliveries = refl; needs = refl; list_of_handle = refl }) (λ _. same (list_of_handle k h)) (slots k) (a.each k);
     owned = λ q ds p. a.owned q ds (sym (same (Some q)) ∙ p);
     one = a.one;
   }

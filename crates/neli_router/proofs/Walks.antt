@@ -22,10 +22,10 @@ use Rattle.neli_router.specs.declared.command.Command.{Command}
 use Rattle.neli_router.specs.declared.command.Command.TheVariants as command
 use Rattle.neli_router.specs.declared.command.Outcome.{Outcome}
 use Rattle.neli_router.specs.declared.command.Outcome.TheVariants as outcome
-use Rattle.neli_router.specs.History.{History, is_live, is_open, is_sent, items_of, needs_of, next_number, whose}
+use Rattle.neli_router.specs.History.{History, is_handle_open, is_open, is_sent, items_of, needs_of, next_number, list_of_handle}
 use Rattle.neli_router.specs.Outcomes.{IsNextAnswer, IsSending, is_numbered, outcome_of}
 use Rattle.neli_router.specs.laws.Deliveries.{delivered, deliveries-delivered}
-use Rattle.neli_router.specs.laws.Kept.{Agrees, Goes, Handles, Holds, IsKept, IsSlot, Pending, Says}
+use Rattle.neli_router.specs.laws.Kept.{Agrees, StepKeeps, Handles, Holds, IsKept, IsSlot, Pending, StepIsRight}
 use Rattle.neli_router.proofs.Lists.{list_or, none_of, set_again, set_at, set_other, set_set}
 use Rattle.neli_router.proofs.Readings.{drop_none, length_push, next_end, next_item, next_waits, push_at, push_other}
 use Rattle.neli_router.proofs.Steps.{agrees_close, agrees_close_none, agrees_handed, agrees_pending, agrees_read, agrees_read_end, agrees_read_none, agrees_read_waits, agrees_sent, agrees_set, agrees_unsent, handed_by, hands_over, open_test}
@@ -57,11 +57,11 @@ item_same number needs needs' numbered numbered' after after' item a b c = rw (a
 module _ {ST SP K P V : Type 0} (type_of : ℕ → K) (number : K → ℕ) (view : P → V) (size : P → ℕ) (read : List ℕ → Result V DeError) (number_of : ST → ℕ) (wire : SP → Wire) (wire_size : SP → ℕ) where
   -- ---- commands that read nothing
 
-  pub goes_set : (port next n : ℕ) (pending : Pending) (handles : Handles) → n < 2 ^ 32 → Goes type_of number view size read (Says type_of number view size read number_of wire wire_size port) port next pending handles n pending handles (command.SetNextSeq n) outcome.Done
+  pub goes_set : (port next n : ℕ) (pending : Pending) (handles : Handles) → n < 2 ^ 32 → StepKeeps type_of number view size read (StepIsRight type_of number view size read number_of wire wire_size port) port next pending handles n pending handles (command.SetNextSeq n) outcome.Done
   goes_set port next n pending handles small h a = ((tt, refl), agrees_set type_of number view size read port next (length handles) n pending (λ k. slice_get handles k) h small a)
 
   pub goes_handed : (port next : ℕ) (pending pending' : Pending) (handles : Handles) (c : Command ST SP) → hands_over c ≡ true
-      → ((w : Option ℕ) → pending' w ≡ option_map (λ ds. ds ++ handed_by port (λ q. is_some (pending (Some q))) c w) (pending w)) → Goes type_of number view size read (Says type_of number view size read number_of wire wire_size port) port next pending handles next pending' handles c outcome.Done
+      → ((w : Option ℕ) → pending' w ≡ option_map (λ ds. ds ++ handed_by port (λ q. is_some (pending (Some q))) c w) (pending w)) → StepKeeps type_of number view size read (StepIsRight type_of number view size read number_of wire wire_size port) port next pending handles next pending' handles c outcome.Done
   goes_handed port next pending pending' handles (command.Datagram b g) is grown h a = ((tt, refl), agrees_handed type_of number view size read port next (length handles) pending pending' (λ k. slice_get handles k) h (command.Datagram b g) is a grown)
   goes_handed port next pending pending' handles (command.Fault e) is grown h a = ((tt, refl), agrees_handed type_of number view size read port next (length handles) pending pending' (λ k. slice_get handles k) h (command.Fault e) is a grown)
   goes_handed port next pending pending' handles (command.SetNextSeq n) is grown h a = absurd cc
@@ -81,7 +81,7 @@ module _ {ST SP K P V : Type 0} (type_of : ℕ → K) (number : K → ℕ) (view
   pub goes_unsent : (port next next' : ℕ) (t : ST) (f : NlmF) (p : NlPayload ST SP) (pending pending' : Pending) (handles : Handles) (takes : Type 0) (e : RouterError ST SP)
       → e ≢ router.Memory → RefusesSend (frame_or_refusal number_of wire wire_size port next (is_some (pending (Some next))) t f p) takes e
       → next' ≡ next → ((w : Option ℕ) → pending' w ≡ pending w)
-      → Goes type_of number view size read (Says type_of number view size read number_of wire wire_size port) port next pending handles next' pending' handles (command.Send t f p) (outcome.NotSent e)
+      → StepKeeps type_of number view size read (StepIsRight type_of number view size read number_of wire wire_size port) port next pending handles next' pending' handles (command.Send t f p) (outcome.NotSent e)
   goes_unsent port next next' t f p pending pending' handles takes e other refused next_is same h a = (
     (sym (sent-is port next t f p pending handles h a) ∙ refused-is _ takes e other refused, tt),
     rw next_is (agrees_unsent type_of number view size read port next (length handles) t f p (outcome.NotSent e) pending' (λ k. slice_get handles k) h refl (λ k. refl)
@@ -95,7 +95,7 @@ module _ {ST SP K P V : Type 0} (type_of : ℕ → K) (number : K → ℕ) (view
       → is_some (pending (Some next)) ≡ false
       → next' ≡ (next + 1) % 2 ^ 32 → pending' (Some next) ≡ Some [] → ((w : Option ℕ) → w ≢ Some next → pending' w ≡ pending w)
       → x ≡ asks next f
-      → Goes type_of number view size read (Says type_of number view size read number_of wire wire_size port) port next pending handles next' pending' (handles ++ Some x ∷ []) (command.Send t f p) o
+      → StepKeeps type_of number view size read (StepIsRight type_of number view size read number_of wire wire_size port) port next pending handles next' pending' (handles ++ Some x ∷ []) (command.Send t f p) o
   goes_sent port next next' t f p o bytes pending pending' handles x is_sent no_item says is unused next_is opened others x_is h a = (
     (says _ (sym (sent-is port next t f p pending handles h a) ∙ is), tt),
     agrees_sent type_of number view size read port next next' (length handles) (length (handles ++ Some x ∷ [])) t f p o pending pending' (λ k. slice_get handles k) (λ k. slice_get (handles ++ Some x ∷ []) k) h x
@@ -104,16 +104,16 @@ module _ {ST SP K P V : Type 0} (type_of : ℕ → K) (number : K → ℕ) (view
 
   -- ---- places without a handle
 
-  dead_at : (port k : ℕ) (pending : Pending) (h : History ST SP K P) (s : Option (Option HandleState)) → IsSlot type_of number view size read port pending k h s → ((x : HandleState) → s ≢ Some (Some x)) → is_live k h ≡ false
+  dead_at : (port k : ℕ) (pending : Pending) (h : History ST SP K P) (s : Option (Option HandleState)) → IsSlot type_of number view size read port pending k h s → ((x : HandleState) → s ≢ Some (Some x)) → is_handle_open k h ≡ false
   dead_at port k pending h None x gone = rw x.later refl
   dead_at port k pending h (Some None) x gone = x
   dead_at port k pending h (Some (Some handle)) x gone = absurd (gone handle refl)
 
-  pub goes_read_none : (port next k : ℕ) (pending : Pending) (handles : Handles) → ((x : HandleState) → slice_get handles k ≢ Some (Some x)) → Goes type_of number view size read (Says type_of number view size read number_of wire wire_size port) port next pending handles next pending handles (command.Read k) outcome.NoHandle
+  pub goes_read_none : (port next k : ℕ) (pending : Pending) (handles : Handles) → ((x : HandleState) → slice_get handles k ≢ Some (Some x)) → StepKeeps type_of number view size read (StepIsRight type_of number view size read number_of wire wire_size port) port next pending handles next pending handles (command.Read k) outcome.NoHandle
   goes_read_none port next k pending handles gone h a =
       ((tt, rw (dead_at port k pending h (slice_get handles k) (a.each k) gone) refl), agrees_read_none type_of number view size read port next (length handles) k pending (λ k. slice_get handles k) h a)
 
-  pub goes_close_none : (port next k : ℕ) (pending : Pending) (handles : Handles) → ((x : HandleState) → slice_get handles k ≢ Some (Some x)) → Goes type_of number view size read (Says type_of number view size read number_of wire wire_size port) port next pending handles next pending handles (command.Close k) outcome.NoHandle
+  pub goes_close_none : (port next k : ℕ) (pending : Pending) (handles : Handles) → ((x : HandleState) → slice_get handles k ≢ Some (Some x)) → StepKeeps type_of number view size read (StepIsRight type_of number view size read number_of wire wire_size port) port next pending handles next pending handles (command.Close k) outcome.NoHandle
   goes_close_none port next k pending handles gone h a =
       ((tt, rw (dead_at port k pending h (slice_get handles k) (a.each k) gone) refl), agrees_close_none type_of number view size read port next (length handles) k pending (λ k. slice_get handles k) h a)
 
@@ -123,7 +123,7 @@ module _ {ST SP K P V : Type 0} (type_of : ℕ → K) (number : K → ℕ) (view
   kept_at port k pending h s x e slot = rw e at slot
 
   pub goes_close : (port next k : ℕ) (pending pending' : Pending) (handles : Handles) (x : HandleState) → slice_get handles k ≡ Some (Some x)
-      → pending' x.number ≡ None → ((w : Option ℕ) → w ≢ x.number → pending' w ≡ pending w) → Goes type_of number view size read (Says type_of number view size read number_of wire wire_size port) port next pending handles next pending' (set handles k None) (command.Close k) outcome.Done
+      → pending' x.number ≡ None → ((w : Option ℕ) → w ≢ x.number → pending' w ≡ pending w) → StepKeeps type_of number view size read (StepIsRight type_of number view size read number_of wire wire_size port) port next pending handles next pending' (set handles k None) (command.Close k) outcome.Done
   goes_close port next k pending pending' handles x at_k gone others h a =
       let kept = kept_at port k pending h (slice_get handles k) x at_k (a.each k) in (
         (tt, rw kept.1.live refl),
@@ -134,7 +134,7 @@ module _ {ST SP K P V : Type 0} (type_of : ℕ → K) (number : K → ℕ) (view
 
   -- ---- reads
 
-  numbered_same : (k : ℕ) (h : History ST SP K P) → has_number (whose k h) ≡ is_numbered k
+  numbered_same : (k : ℕ) (h : History ST SP K P) → has_number (list_of_handle k h) ≡ is_numbered k
   numbered_same zero h = refl
   numbered_same (suc k) h = refl
 
@@ -149,7 +149,7 @@ module _ {ST SP K P V : Type 0} (type_of : ℕ → K) (number : K → ℕ) (view
       (others : (w : Option ℕ) → w ≢ x.number → pending' w ≡ pending w)
       (h : History ST SP K P) (a : Holds type_of number view size read port next pending handles h) where
     abbrev Gone : Outcome ST SP K P → Type 0
-    Gone o = Says type_of number view size read number_of wire wire_size port h (command.Read k) o × Holds type_of number view size read port next' pending' (set handles k (Some x')) ((command.Read k, o) ∷ h)
+    Gone o = StepIsRight type_of number view size read number_of wire wire_size port h (command.Read k) o × Holds type_of number view size read port next' pending' (set handles k (Some x')) ((command.Read k, o) ∷ h)
 
     read_of : (readings : List (Item K P)) × IsKept type_of number view size read port pending k x h readings
     read_of = kept_at port k pending h (slice_get handles k) x at_k (a.each k)
@@ -157,7 +157,7 @@ module _ {ST SP K P V : Type 0} (type_of : ℕ → K) (number : K → ℕ) (view
     abbrev Next : Reply K P → Type 0
     Next q = IsNextAnswer type_of number view size read (needs_of k h) (is_numbered k) (delivered port k h) (items_of k h) q
 
-    read_says : (q : Reply K P) → Next q → Says type_of number view size read number_of wire wire_size port h (command.Read k) (outcome_of q)
+    read_says : (q : Reply K P) → Next q → StepIsRight type_of number view size read number_of wire wire_size port h (command.Read k) (outcome_of q)
     read_says q is = (tt, rw (read_of.1.live, deliveries-delivered port k h) (q, is, refl))
 
     read_set : set handles k (Some x) ≡ handles
@@ -184,7 +184,7 @@ module _ {ST SP K P V : Type 0} (type_of : ℕ → K) (number : K → ℕ) (view
 
     read_one : x.ended ≡ false → (d : Delivery) (ds : List Delivery) → drop (length read_of.0) (delivered port k h) ≡ d ∷ ds → Gone (outcome_of r)
     read_one still d ds some =
-        let first : pending (whose k h) ≡ Some (d ∷ ds) = read_of.1.left ∙ ap Some some in
+        let first : pending (list_of_handle k h) ≡ Some (d ∷ ds) = read_of.1.left ∙ ap Some some in
         let t = gives still d ds (ap pending read_of.1.number ∙ first) in
         let still_so : nat_lt (last_place number (needs_of k h) (is_numbered k) read_of.0) (length read_of.0) ≡ false = sym read_of.1.ended ∙ still in
         let item : r ≡ reply.Item (item_of number (needs_of k h) (is_numbered k) (nat_lt (single_place number (is_numbered k) read_of.0) (length read_of.0)) t.0) = t.2 ∙ item_same number x.needs_ack (needs_of k h) (has_number x.number) (is_numbered k) x.single_given (nat_lt (single_place number (is_numbered k) read_of.0) (length read_of.0)) t.0 read_of.1.needs read_number read_of.1.given in
@@ -203,14 +203,14 @@ module _ {ST SP K P V : Type 0} (type_of : ℕ → K) (number : K → ℕ) (view
 
   -- ---- the same where the handles are given by what was done with them
 
-  pub goes_close_none_at : (port next k : ℕ) (pending : Pending) (handles handles' : Handles) → handles' ≡ handles → ((x : HandleState) → slice_get handles k ≢ Some (Some x)) → Goes type_of number view size read (Says type_of number view size read number_of wire wire_size port) port next pending handles next pending handles' (command.Close k) outcome.NoHandle
+  pub goes_close_none_at : (port next k : ℕ) (pending : Pending) (handles handles' : Handles) → handles' ≡ handles → ((x : HandleState) → slice_get handles k ≢ Some (Some x)) → StepKeeps type_of number view size read (StepIsRight type_of number view size read number_of wire wire_size port) port next pending handles next pending handles' (command.Close k) outcome.NoHandle
   goes_close_none_at port next k pending handles handles' same gone = rw same (goes_close_none port next k pending handles gone)
 
-  pub goes_read_none_at : (port next k : ℕ) (pending : Pending) (handles handles' : Handles) → handles' ≡ handles → ((x : HandleState) → slice_get handles k ≢ Some (Some x)) → Goes type_of number view size read (Says type_of number view size read number_of wire wire_size port) port next pending handles next pending handles' (command.Read k) outcome.NoHandle
+  pub goes_read_none_at : (port next k : ℕ) (pending : Pending) (handles handles' : Handles) → handles' ≡ handles → ((x : HandleState) → slice_get handles k ≢ Some (Some x)) → StepKeeps type_of number view size read (StepIsRight type_of number view size read number_of wire wire_size port) port next pending handles next pending handles' (command.Read k) outcome.NoHandle
   goes_read_none_at port next k pending handles handles' same gone = rw same (goes_read_none port next k pending handles gone)
 
   pub goes_close_at : (port next next' k : ℕ) (pending pending' : Pending) (handles handles' : Handles) (x : HandleState) → slice_get handles k ≡ Some (Some x) → handles' ≡ set handles k None → next' ≡ next
-      → pending' x.number ≡ None → ((w : Option ℕ) → w ≢ x.number → pending' w ≡ pending w) → Goes type_of number view size read (Says type_of number view size read number_of wire wire_size port) port next pending handles next' pending' handles' (command.Close k) outcome.Done
+      → pending' x.number ≡ None → ((w : Option ℕ) → w ≢ x.number → pending' w ≡ pending w) → StepKeeps type_of number view size read (StepIsRight type_of number view size read number_of wire wire_size port) port next pending handles next' pending' handles' (command.Close k) outcome.Done
   goes_close_at port next next' k pending pending' handles handles' x at_k left next_is gone others = rw (left, next_is) (goes_close port next k pending pending' handles x at_k gone others)
 
   pub goes_read_at : (port next next' k : ℕ) (pending pending' : Pending) (handles taken put : Handles) (x x' : HandleState) (r : Reply K P) (o : Outcome ST SP K P)
@@ -222,6 +222,6 @@ module _ {ST SP K P V : Type 0} (type_of : ℕ → K) (number : K → ℕ) (view
       × (r ≡ reply.Item (item_of number x.needs_ack (has_number x.number) x.single_given item)) × (pending' x.number ≡ Some ds)
       × (x' ≡ record x { single_given = x.single_given || is_single number (has_number x.number) item; ended = ends_at number x.needs_ack (has_number x.number) x.single_given item }))
       → ((w : Option ℕ) → w ≢ x.number → pending' w ≡ pending w)
-      → Goes type_of number view size read (Says type_of number view size read number_of wire wire_size port) port next pending handles next' pending' put (command.Read k) o
+      → StepKeeps type_of number view size read (StepIsRight type_of number view size read number_of wire wire_size port) port next pending handles next' pending' put (command.Read k) o
   goes_read_at port next next' k pending pending' handles taken put x x' r o at_k took puts told next_is ended waits gives others h a =
       rw (puts, took, set_set handles None (Some x') k, told) (goes_read_by port next next' k pending pending' handles x x' r at_k next_is ended waits gives others h a)

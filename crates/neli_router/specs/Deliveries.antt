@@ -7,7 +7,7 @@ use Rattle.neli_deliveries.specs.Deliveries.{fault_share, datagram_share}
 use Rattle.neli_deliveries.specs.declared.delivery.Delivery.{Delivery}
 use Rattle.neli_router.specs.declared.command.Command.{Command}
 use Rattle.neli_router.specs.declared.command.Command.TheVariants as command
-use Rattle.neli_router.specs.History.{History, is_live, is_open, whose}
+use Rattle.neli_router.specs.History.{History, is_handle_open, is_open, list_of_handle}
 
 -- a moment: what was done, and the history before it
 abbrev pub Moment : Type 0 → Type 0 → Type 0 → Type 0 → Type 0
@@ -21,16 +21,16 @@ module _ {ST SP RT RP : Type 0} where
 
   -- what handle k gets of a command that comes after this history: its part of a datagram, which is cut into messages,
   -- or of a fault of the link
-  abbrev pub gain : ℕ → ℕ → Command ST SP → History ST SP RT RP → List Delivery
-  gain port k (command.Datagram b groups) h =
-      datagram_share port (λ q. is_open q h) (whose k h) (cut_of untyped_layout b.items) groups
-  gain port k (command.Fault e) h = fault_share (whose k h) e
-  gain port k (command.SetNextSeq n) h = []
-  gain port k (command.Send t f p) h = []
-  gain port k (command.Read j) h = []
-  gain port k (command.Close j) h = []
+  abbrev pub handed_over : ℕ → ℕ → Command ST SP → History ST SP RT RP → List Delivery
+  handed_over port k (command.Datagram b groups) h =
+      datagram_share port (λ q. is_open q h) (list_of_handle k h) (cut_of untyped_layout b.items) groups
+  handed_over port k (command.Fault e) h = fault_share (list_of_handle k h) e
+  handed_over port k (command.SetNextSeq n) h = []
+  handed_over port k (command.Send t f p) h = []
+  handed_over port k (command.Read j) h = []
+  handed_over port k (command.Close j) h = []
 
   -- the deliveries to handle k: what it gets at each moment at which it was given and not closed, in order
   abbrev pub deliveries : ℕ → ℕ → History ST SP RT RP → List Delivery
   deliveries port k h =
-      flat_map (λ m. gain port k m.0 m.1) (filter (λ m. is_live k m.1) (moments h))
+      flat_map (λ m. handed_over port k m.0 m.1) (filter (λ m. is_handle_open k m.1) (moments h))

@@ -19,22 +19,22 @@ History ST SP RT RP = List (Event ST SP RT RP)
 
 module _ {ST SP : Type 0} where
   -- the number that is set, or the one before
-  abbrev pub set_by : Command ST SP → ℕ → ℕ
-  set_by (command.SetNextSeq n) before = n
-  set_by (command.Send t f p) before = before
-  set_by (command.Datagram b g) before = before
-  set_by (command.Fault e) before = before
-  set_by (command.Read k) before = before
-  set_by (command.Close k) before = before
+  abbrev pub number_set_after : Command ST SP → ℕ → ℕ
+  number_set_after (command.SetNextSeq n) before = n
+  number_set_after (command.Send t f p) before = before
+  number_set_after (command.Datagram b g) before = before
+  number_set_after (command.Fault e) before = before
+  number_set_after (command.Read k) before = before
+  number_set_after (command.Close k) before = before
 
   -- a count, which begins anew where a number is set
-  abbrev pub counted_by : Command ST SP → ℕ → ℕ
-  counted_by (command.SetNextSeq n) count = 0
-  counted_by (command.Send t f p) count = count
-  counted_by (command.Datagram b g) count = count
-  counted_by (command.Fault e) count = count
-  counted_by (command.Read k) count = count
-  counted_by (command.Close k) count = count
+  abbrev pub count_after : Command ST SP → ℕ → ℕ
+  count_after (command.SetNextSeq n) count = 0
+  count_after (command.Send t f p) count = count
+  count_after (command.Datagram b g) count = count
+  count_after (command.Fault e) count = count
+  count_after (command.Read k) count = count
+  count_after (command.Close k) count = count
 
   -- a request that asks for an acknowledgement
   abbrev pub asks_ack : Command ST SP → Bool
@@ -87,40 +87,40 @@ module _ {ST SP RT RP : Type 0} where
   -- ---- sequence numbers
 
   -- how many requests were sent
-  abbrev pub sends : History ST SP RT RP → ℕ
-  sends [] = 0
-  sends (e ∷ h) = if is_sent e.1 then suc (sends h) else sends h
+  abbrev pub requests_sent : History ST SP RT RP → ℕ
+  requests_sent [] = 0
+  requests_sent (e ∷ h) = if is_sent e.1 then suc (requests_sent h) else requests_sent h
 
   -- the number that was set last; 0 where none was
-  abbrev pub base : History ST SP RT RP → ℕ
-  base [] = 0
-  base (e ∷ h) = set_by e.0 (base h)
+  abbrev pub last_set_number : History ST SP RT RP → ℕ
+  last_set_number [] = 0
+  last_set_number (e ∷ h) = number_set_after e.0 (last_set_number h)
 
   -- how many requests were sent since then
-  abbrev pub since : History ST SP RT RP → ℕ
-  since [] = 0
-  since (e ∷ h) = counted_by e.0 (if is_sent e.1 then suc (since h) else since h)
+  abbrev pub requests_since_set : History ST SP RT RP → ℕ
+  requests_since_set [] = 0
+  requests_since_set (e ∷ h) = count_after e.0 (if is_sent e.1 then suc (requests_since_set h) else requests_since_set h)
 
   -- the sequence number of a request that is sent now
   abbrev pub next_number : History ST SP RT RP → ℕ
-  next_number h = (base h + since h) % 2 ^ 32
+  next_number h = (last_set_number h + requests_since_set h) % 2 ^ 32
 
   -- ---- handles: 0 is that for multicast, k that of the k-th request that was sent
 
   -- the sequence number of handle k
   abbrev pub number_of : ℕ → History ST SP RT RP → ℕ
   number_of k [] = 0
-  number_of k (e ∷ h) = if is_sent e.1 && (k == suc (sends h)) then next_number h else number_of k h
+  number_of k (e ∷ h) = if is_sent e.1 && (k == suc (requests_sent h)) then next_number h else number_of k h
 
   -- whether its request asks for an acknowledgement
   abbrev pub needs_of : ℕ → History ST SP RT RP → Bool
   needs_of k [] = false
-  needs_of k (e ∷ h) = if is_sent e.1 && (k == suc (sends h)) then asks_ack e.0 else needs_of k h
+  needs_of k (e ∷ h) = if is_sent e.1 && (k == suc (requests_sent h)) then asks_ack e.0 else needs_of k h
 
   -- whose deliveries it gets
-  abbrev pub whose : ℕ → History ST SP RT RP → Option ℕ
-  whose zero h = None
-  whose (suc k) h = Some (number_of (suc k) h)
+  abbrev pub list_of_handle : ℕ → History ST SP RT RP → Option ℕ
+  list_of_handle zero h = None
+  list_of_handle (suc k) h = Some (number_of (suc k) h)
 
   -- it was closed
   abbrev pub is_closed : ℕ → History ST SP RT RP → Bool
@@ -128,8 +128,8 @@ module _ {ST SP RT RP : Type 0} where
   is_closed k (e ∷ h) = (closes k e.0 && is_done e.1) || is_closed k h
 
   -- it was given, and not closed
-  abbrev pub is_live : ℕ → History ST SP RT RP → Bool
-  is_live k h = nat_le k (sends h) && not (is_closed k h)
+  abbrev pub is_handle_open : ℕ → History ST SP RT RP → Bool
+  is_handle_open k h = nat_le k (requests_sent h) && not (is_closed k h)
 
   -- the items that it was given, in order
   abbrev pub items_of : ℕ → History ST SP RT RP → List (Item RT RP)
@@ -143,4 +143,4 @@ any_upto (suc n) p = p (suc n) || any_upto n p
 
 -- a sequence number is open: a request with it was sent, and its handle is not closed
 abbrev pub is_open : {ST SP RT RP : Type 0} → ℕ → History ST SP RT RP → Bool
-is_open q h = any_upto (sends h) (λ k. is_live k h && (number_of k h == q))
+is_open q h = any_upto (requests_sent h) (λ k. is_handle_open k h && (number_of k h == q))

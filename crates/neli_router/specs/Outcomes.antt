@@ -15,7 +15,7 @@ use Rattle.neli_router.specs.declared.command.Command.TheVariants as command
 use Rattle.neli_router.specs.declared.command.Outcome.{Outcome}
 use Rattle.neli_router.specs.declared.command.Outcome.TheVariants as outcome
 use Rattle.neli_router.specs.Deliveries.{deliveries}
-use Rattle.neli_router.specs.History.{History, is_live, is_open, items_of, needs_of, next_number}
+use Rattle.neli_router.specs.History.{History, is_handle_open, is_open, items_of, needs_of, next_number}
 
 -- handle 0 is that for multicast, the others have a sequence number
 abbrev pub is_numbered : ℕ → Bool
@@ -81,8 +81,8 @@ module _ {ST SP K P V : Type 0} (type_of : ℕ → K) (number_of : K → ℕ) (v
 
   -- what comes of every command but a request
   abbrev pub IsAnswered : History ST SP K P → Command ST SP → Outcome ST SP K P → Type 0
-  IsAnswered h (command.Read k) o = IsReadOf h k (is_live k h) o
-  IsAnswered h (command.Close k) o = o ≡ closed_or_not (is_live k h)
+  IsAnswered h (command.Read k) o = IsReadOf h k (is_handle_open k h) o
+  IsAnswered h (command.Close k) o = o ≡ closed_or_not (is_handle_open k h)
   IsAnswered h (command.Send t f p) o = ⊤
   IsAnswered h c o = o ≡ outcome.Done
 

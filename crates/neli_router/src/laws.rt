@@ -10,7 +10,7 @@ ghost use Rattle.neli_router_base.specs.declared.reply.Reply.{Reply as Answer};
 ghost use Rattle.neli_router_base.specs.declared.reply.Reply.TheVariants as reply;
 ghost use Rattle.neli_router_base.specs.Rule.{answer};
 ghost use Rattle.neli_router.specs.Deliveries.{deliveries};
-ghost use Rattle.neli_router.specs.History.{History, is_live, is_open, is_sent, items_of, needs_of, whose};
+ghost use Rattle.neli_router.specs.History.{History, is_handle_open, is_open, is_sent, items_of, needs_of, list_of_handle};
 ghost use Rattle.neli_router.specs.OtherReads.{NoneReads};
 ghost use Rattle.neli_router.specs.Outcomes.{EachAfter, IsAnswered, IsNextAnswer, IsSent, outcome_of};
 ghost use Rattle.neli_router.specs.Regrouping.{Bytes, IsRegrouped, IsWhole, history_with};
@@ -62,9 +62,9 @@ pub fn reads_of_others_change_nothing<ST, SP, RT, RP>()
     ensures needs { (j k : ℕ) (r : Answer RT RP) (h : History ST SP RT RP)
         → needs_of k ((Command.Read j, outcome_of r) ∷ h) ≡ needs_of k h }
     ensures whose { (j k : ℕ) (r : Answer RT RP) (h : History ST SP RT RP)
-        → whose k ((Command.Read j, outcome_of r) ∷ h) ≡ whose k h }
+        → list_of_handle k ((Command.Read j, outcome_of r) ∷ h) ≡ list_of_handle k h }
     ensures live { (j k : ℕ) (r : Answer RT RP) (h : History ST SP RT RP)
-        → is_live k ((Command.Read j, outcome_of r) ∷ h) ≡ is_live k h }
+        → is_handle_open k ((Command.Read j, outcome_of r) ∷ h) ≡ is_handle_open k h }
 {}
 
 /// So it changes no outcome: where handle `j` was read at some point of a history, or was not, the same is right for a
@@ -114,8 +114,8 @@ pub fn regrouping_leaves_deliveries<ST, SP, RT, RP>()
         ≡ deliveries port k (later ++ history_with groups cs before) }
     ensures live { (k : ℕ) (groups : List ℕ) (bs cs : List Bytes)
         (before later : History ST SP RT RP)
-        → is_live k (later ++ history_with groups bs before)
-        ≡ is_live k (later ++ history_with groups cs before) }
+        → is_handle_open k (later ++ history_with groups bs before)
+        ≡ is_handle_open k (later ++ history_with groups cs before) }
     ensures open { (q : ℕ) (groups : List ℕ) (bs cs : List Bytes)
         (before later : History ST SP RT RP)
         → is_open q (later ++ history_with groups bs before)

@@ -4,7 +4,7 @@ ghost use Rattle.std.specs.Prelude.{◌≡◌, ◌≢◌, ◌<◌, ℕ, ◌∷�
 ghost use Rattle.std.specs.List.{slice_get};
 ghost use Rattle.std.proofs.Math.ListN.{set};
 ghost use Rattle.neli_router.specs.Outcomes.{outcome_of};
-ghost use Rattle.neli_router.specs.laws.Kept.{Goes, Says, multicast};
+ghost use Rattle.neli_router.specs.laws.Kept.{StepKeeps, StepIsRight, multicast};
 
 use crate::{Command, Deliveries, NlRouter, NlRouterReceiverHandle, Outcome, Reply};
 use neli_consts::{NlType, NlmF};
@@ -67,9 +67,9 @@ impl<D: Deliveries + Drop, RT: NlType, RP: FromBytesWithInput + Size + Drop> Ses
     ) -> Result<Outcome<ST, SP, RT, RP>, NoMemory>
         ensures port { OnOk result
             (D.port_of self.new.router.deliveries ≡ D.port_of self.old.router.deliveries) }
-        ensures goes { IfOk result (λ o. Goes
+        ensures goes { IfOk result (λ o. StepKeeps
             RT.wire_value RT.wire_number RP.view RP.wire_length RP.read
-            (Says RT.wire_value RT.wire_number RP.view RP.wire_length RP.read
+            (StepIsRight RT.wire_value RT.wire_number RP.view RP.wire_length RP.read
             ST.wire_number SP.wire SP.Size.wire_length (D.port_of self.old.router.deliveries))
             (D.port_of self.old.router.deliveries) self.old.router.next_seq
             (D.pending self.old.router.deliveries) self.old.handles.items
@@ -95,9 +95,9 @@ impl<D: Deliveries + Drop, RT: NlType, RP: FromBytesWithInput + Size + Drop> Ses
     ) -> Result<Outcome<ST, SP, RT, RP>, NoMemory>
         ensures port { OnOk result
             (D.port_of self.new.router.deliveries ≡ D.port_of self.old.router.deliveries) }
-        ensures goes { IfOk result (λ o. Goes
+        ensures goes { IfOk result (λ o. StepKeeps
             RT.wire_value RT.wire_number RP.view RP.wire_length RP.read
-            (Says RT.wire_value RT.wire_number RP.view RP.wire_length RP.read
+            (StepIsRight RT.wire_value RT.wire_number RP.view RP.wire_length RP.read
             ST.wire_number SP.wire SP.Size.wire_length (D.port_of self.old.router.deliveries))
             (D.port_of self.old.router.deliveries) self.old.router.next_seq
             (D.pending self.old.router.deliveries) self.old.handles.items
@@ -117,9 +117,9 @@ impl<D: Deliveries + Drop, RT: NlType, RP: FromBytesWithInput + Size + Drop> Ses
 
     fn close<ST: NlType, SP: ToBytes + Drop>(&mut self, k: usize) -> Outcome<ST, SP, RT, RP>
         ensures port { D.port_of self.new.router.deliveries ≡ D.port_of self.old.router.deliveries }
-        ensures goes { Goes
+        ensures goes { StepKeeps
             RT.wire_value RT.wire_number RP.view RP.wire_length RP.read
-            (Says RT.wire_value RT.wire_number RP.view RP.wire_length RP.read
+            (StepIsRight RT.wire_value RT.wire_number RP.view RP.wire_length RP.read
             ST.wire_number SP.wire SP.Size.wire_length (D.port_of self.old.router.deliveries))
             (D.port_of self.old.router.deliveries) self.old.router.next_seq
             (D.pending self.old.router.deliveries) self.old.handles.items
@@ -143,9 +143,9 @@ impl<D: Deliveries + Drop, RT: NlType, RP: FromBytesWithInput + Size + Drop> Ses
     ) -> Result<Outcome<ST, SP, RT, RP>, NoMemory>
         ensures port { OnOk result
             (D.port_of self.new.router.deliveries ≡ D.port_of self.old.router.deliveries) }
-        ensures goes { IfOk result (λ o. Goes
+        ensures goes { IfOk result (λ o. StepKeeps
             RT.wire_value RT.wire_number RP.view RP.wire_length RP.read
-            (Says RT.wire_value RT.wire_number RP.view RP.wire_length RP.read
+            (StepIsRight RT.wire_value RT.wire_number RP.view RP.wire_length RP.read
             ST.wire_number SP.wire SP.Size.wire_length (D.port_of self.old.router.deliveries))
             (D.port_of self.old.router.deliveries) self.old.router.next_seq
             (D.pending self.old.router.deliveries) self.old.handles.items

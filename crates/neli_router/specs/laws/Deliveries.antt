@@ -9,8 +9,8 @@ use Rattle.neli_deliveries.specs.Deliveries.{fault_share, datagram_share}
 use Rattle.neli_deliveries.specs.declared.delivery.Delivery.{Delivery}
 use Rattle.neli_router.specs.declared.command.Command.{Command}
 use Rattle.neli_router.specs.declared.command.Command.TheVariants as command
-use Rattle.neli_router.specs.History.{Event, History, is_live, is_open, whose}
-use Rattle.neli_router.specs.Deliveries.{Moment, deliveries, gain, moments}
+use Rattle.neli_router.specs.History.{Event, History, is_handle_open, is_open, list_of_handle}
+use Rattle.neli_router.specs.Deliveries.{Moment, deliveries, handed_over, moments}
 
 gain-nothing : (b : Bool) (xs : List Delivery) → xs ++ (if b then [] else []) ≡ xs
 gain-nothing true xs = append-nil xs
@@ -24,8 +24,8 @@ module _ {ST SP RT RP : Type 0} where
   -- what was delivered, with what a command adds
   abbrev pub with_gain : ℕ → ℕ → History ST SP RT RP → Command ST SP → List Delivery → List Delivery
   with_gain port k h (command.Datagram b groups) before =
-      if is_live k h then before ++ datagram_share port (λ q. is_open q h) (whose k h) (cut_of untyped_layout b.items) groups else before
-  with_gain port k h (command.Fault e) before = if is_live k h then before ++ fault_share (whose k h) e else before
+      if is_handle_open k h then before ++ datagram_share port (λ q. is_open q h) (list_of_handle k h) (cut_of untyped_layout b.items) groups else before
+  with_gain port k h (command.Fault e) before = if is_handle_open k h then before ++ fault_share (list_of_handle k h) e else before
   with_gain port k h (command.SetNextSeq n) before = before
   with_gain port k h (command.Send t f p) before = before
   with_gain port k h (command.Read j) before = before
@@ -38,29 +38,29 @@ module _ {ST SP RT RP : Type 0} where
 
   -- one moment more
   by_moment : ℕ → ℕ → Moment ST SP RT RP → List Delivery
-  by_moment port k m = gain port k m.0 m.1
+  by_moment port k m = handed_over port k m.0 m.1
 
   live_at : ℕ → Moment ST SP RT RP → Bool
-  live_at k m = is_live k m.1
+  live_at k m = is_handle_open k m.1
 
-  one-more : (port k : ℕ) (ms : List (Moment ST SP RT RP)) (c : Command ST SP) (h : History ST SP RT RP) → flat_map (by_moment port k) (filter (live_at k) (ms ++ (c, h) ∷ [])) ≡ flat_map (by_moment port k) (filter (live_at k) ms) ++ (if is_live k h then gain port k c h else [])
+  one-more : (port k : ℕ) (ms : List (Moment ST SP RT RP)) (c : Command ST SP) (h : History ST SP RT RP) → flat_map (by_moment port k) (filter (live_at k) (ms ++ (c, h) ∷ [])) ≡ flat_map (by_moment port k) (filter (live_at k) ms) ++ (if is_handle_open k h then handed_over port k c h else [])
   unfolding by_moment live_at
-  one-more port k [] c h = elim (is_live k h) as (λ b. flat_map (by_moment port k) (if b then (c, h) ∷ [] else []) ≡ (if b then gain port k c h else [])) [ true ↦ append-nil (gain port k c h) | false ↦ refl ]
-  one-more port k (m ∷ ms) c h = elim (is_live k m.1) as (λ b. flat_map (by_moment port k) (if b then m ∷ filter (live_at k) (ms ++ (c, h) ∷ []) else filter (live_at k) (ms ++ (c, h) ∷ [])) ≡ flat_map (by_moment port k) (if b then m ∷ filter (live_at k) ms else filter (live_at k) ms) ++ (if is_live k h then gain port k c h else [])) [
-    | true ↦ ap (λ zs. by_moment port k m ++ zs) (one-more port k ms c h) ∙ sym (append_assoc (by_moment port k m) (flat_map (by_moment port k) (filter (live_at k) ms)) (if is_live k h then gain port k c h else []))
+  one-more port k [] c h = elim (is_handle_open k h) as (λ b. flat_map (by_moment port k) (if b then (c, h) ∷ [] else []) ≡ (if b then handed_over port k c h else [])) [ true ↦ append-nil (handed_over port k c h) | false ↦ refl ]
+  one-more port k (m ∷ ms) c h = elim (is_handle_open k m.1) as (λ b. flat_map (by_moment port k) (if b then m ∷ filter (live_at k) (ms ++ (c, h) ∷ []) else filter (live_at k) (ms ++ (c, h) ∷ [])) ≡ flat_map (by_moment port k) (if b then m ∷ filter (live_at k) ms else filter (live_at k) ms) ++ (if is_handle_open k h then handed_over port k c h else [])) [
+    | true ↦ ap (λ zs. by_moment port k m ++ zs) (one-more port k ms c h) ∙ sym (append_assoc (by_moment port k m) (flat_map (by_moment port k) (filter (live_at k) ms)) (if is_handle_open k h then handed_over port k c h else []))
     | false ↦ one-more port k ms c h
   ]
 
-  gain-is : (port k : ℕ) (h : History ST SP RT RP) (c : Command ST SP) (before : List Delivery) → before ++ (if is_live k h then gain port k c h else []) ≡ with_gain port k h c before
-  gain-is port k h (command.Datagram b groups) before = gain-some (is_live k h) before _
-  gain-is port k h (command.Fault e) before = gain-some (is_live k h) before _
-  gain-is port k h (command.SetNextSeq n) before = gain-nothing (is_live k h) before
-  gain-is port k h (command.Send t f p) before = gain-nothing (is_live k h) before
-  gain-is port k h (command.Read j) before = gain-nothing (is_live k h) before
-  gain-is port k h (command.Close j) before = gain-nothing (is_live k h) before
+  gain-is : (port k : ℕ) (h : History ST SP RT RP) (c : Command ST SP) (before : List Delivery) → before ++ (if is_handle_open k h then handed_over port k c h else []) ≡ with_gain port k h c before
+  gain-is port k h (command.Datagram b groups) before = gain-some (is_handle_open k h) before _
+  gain-is port k h (command.Fault e) before = gain-some (is_handle_open k h) before _
+  gain-is port k h (command.SetNextSeq n) before = gain-nothing (is_handle_open k h) before
+  gain-is port k h (command.Send t f p) before = gain-nothing (is_handle_open k h) before
+  gain-is port k h (command.Read j) before = gain-nothing (is_handle_open k h) before
+  gain-is port k h (command.Close j) before = gain-nothing (is_handle_open k h) before
 
   -- a command more adds what it hands over
-  pub deliveries-more : (port k : ℕ) (e : Event ST SP RT RP) (h : History ST SP RT RP) → deliveries port k (e ∷ h) ≡ deliveries port k h ++ (if is_live k h then gain port k e.0 h else [])
+  pub deliveries-more : (port k : ℕ) (e : Event ST SP RT RP) (h : History ST SP RT RP) → deliveries port k (e ∷ h) ≡ deliveries port k h ++ (if is_handle_open k h then handed_over port k e.0 h else [])
   unfolding by_moment live_at
   deliveries-more port k e h = one-more port k (moments h) e.0 h
 
@@ -70,5 +70,5 @@ module _ {ST SP RT RP : Type 0} where
   deliveries-delivered port k [] = refl
   deliveries-delivered port k (e ∷ h) =
       one-more port k (moments h) e.0 h
-      ∙ ap (λ ds. ds ++ (if is_live k h then gain port k e.0 h else [])) (deliveries-delivered port k h)
+      ∙ ap (λ ds. ds ++ (if is_handle_open k h then handed_over port k e.0 h else [])) (deliveries-delivered port k h)
       ∙ gain-is port k h e.0 (delivered port k h)
