@@ -4,5 +4,5 @@ pub use neli_genl::{CnMsg, CnMsgBuilder, CnMsgBuilderError, ProcEvent, ProcEvent
 
 /// What was built and written is read back.
 pub mod laws {
-    pub use neli_genl::laws::{cn_msg_is_read_back, proc_event_is_read_back};
+    pub use neli_genl::laws::{cn_msg_is_read_back, equality, proc_event_is_read_back};
 }

@@ -8,5 +8,5 @@ pub use neli_genl::{Genlmsghdr, GenlmsghdrBuilder, GenlmsghdrBuilderError, NoUse
 
 /// What was built and written is read back.
 pub mod laws {
-    pub use neli_genl::laws::genlmsghdr_is_read_back;
+    pub use neli_genl::laws::{equality, genlmsghdr_is_read_back};
 }

@@ -4,6 +4,7 @@
 //! routing ones.
 
 ghost use Rattle.std.specs.Prelude.{◌≡◌, ◌+◌, ◌<◌, ◌++◌, ◌∷◌, ℕ, List, [], Ok, Err, length};
+ghost use Rattle.neli_wire.specs.Constants.{IsEquality};
 ghost use Rattle.neli_wire.specs.DeError.{DeError as Refusal};
 ghost use Rattle.neli_wire.specs.Frames.{AreFrames, frame_at};
 ghost use Rattle.neli_wire.specs.Reading.{refusal_within};
@@ -19,8 +20,10 @@ ghost use Rattle.neli_attr.specs.Nlattr.{built_nlattr};
 ghost use Rattle.neli_attr.specs.Rtattr.{built_rtattr};
 ghost use Rattle.neli_attr.specs.RoundTrips.{IsReadBack, KeepsField};
 
+use crate::{AttrType, Buffer, Nlattr};
 use neli_consts::NlAttrType;
 use neli_consts_rta::RtaType;
+use neli_list::FrameList;
 use neli_wire::{Constant, FromBytesWithInput, ToBytes};
 
 /// A list of attributes that is read is the frames of its attributes, one after the other, and every such
@@ -76,4 +79,14 @@ pub fn nested_attribute_comes_last<
         → attributes_in K.wire_value old ≡ Ok attrs
         → attributes_in K.wire_value payload
         ≡ Ok (attrs ++ attr len (K.wire_value (S.wire_number kind)) bytes ∷ []) }
+{}
+
+/// `==` of generic attributes, of lists and of their parts is true exactly where the two values are equal, field by
+/// field, where the types and payloads in them have such an `==`.
+pub fn equality<T: PartialEq, P: PartialEq>()
+    ensures buffer { IsEquality ⟦<Buffer as PartialEq>⟧.eq }
+    ensures type_field { IsEquality T.eq → IsEquality ⟦<AttrType<T> as PartialEq>⟧.eq }
+    ensures attribute { IsEquality T.eq → IsEquality P.eq
+        → IsEquality ⟦<Nlattr<T, P> as PartialEq>⟧.eq }
+    ensures list { IsEquality P.eq → IsEquality ⟦<FrameList<P> as PartialEq>⟧.eq }
 {}

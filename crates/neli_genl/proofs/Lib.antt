@@ -1,2 +1,3 @@
+mod Equality
 pub mod GenlMessages
 pub mod ProcEvents

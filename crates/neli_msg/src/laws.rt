@@ -12,9 +12,7 @@ ghost use Rattle.neli_msg.specs.Cuts.{Cuts, cut_of};
 ghost use Rattle.neli_msg.specs.Agreement.{AreRead, typed_reading, untyped_layout};
 ghost use Rattle.neli_msg_base.specs.Zeroed.{HasNoTail, untyped_wires, datagram_zeroed};
 
-use neli_attr::{AttrType, Buffer, Nlattr};
 use neli_consts::NlType;
-use neli_list::FrameList;
 use neli_msg_base::{NlPayload, Nlmsgerr, Nlmsghdr, NlmsghdrAck, NlmsghdrErr};
 use neli_wire::FromBytesWithInput;
 
@@ -68,14 +66,9 @@ pub fn rewritten_datagram_is_zeroed()
         → Cuts untyped_layout b ms None → length (datagram_zeroed b) ≡ length b }
 {}
 
-/// `==` of attributes, messages and their parts is true exactly where the two values are equal, field by field, where
-/// the types and bodies in them have such an `==`.
+/// `==` of messages and their parts is true exactly where the two values are equal, field by field, where the types and
+/// bodies in them have such an `==`.
 pub fn equality<T: PartialEq, P: PartialEq>()
-    ensures buffer { IsEquality ⟦<Buffer as PartialEq>⟧.eq }
-    ensures type_field { IsEquality T.eq → IsEquality ⟦<AttrType<T> as PartialEq>⟧.eq }
-    ensures attribute { IsEquality T.eq → IsEquality P.eq
-        → IsEquality ⟦<Nlattr<T, P> as PartialEq>⟧.eq }
-    ensures list { IsEquality P.eq → IsEquality ⟦<FrameList<P> as PartialEq>⟧.eq }
     ensures header { IsEquality T.eq → IsEquality ⟦<NlmsghdrAck<T> as PartialEq>⟧.eq }
     ensures answer { IsEquality P.eq → IsEquality ⟦<Nlmsgerr<P> as PartialEq>⟧.eq }
     ensures echo { IsEquality T.eq → IsEquality P.eq

@@ -2,12 +2,9 @@ use Rattle.std.specs.Prelude.{◌&&◌, nat_eq, true}
 use Rattle.std.specs.Ordering.{int_eq}
 use Rattle.std.specs.Cmp.Lexicographic.{pointwise}
 use Rattle.neli_msg_base.specs.contracts.payload.NlPayload.{enum}
-use Rattle.neli_msg.proofs.Equality.{answer-equality, attribute-equality, bytes-equality, echo-equality, enum-equality, header-equality, lists-equality, message-equality, no-field, one-field}
-use Rattle.neli_wire.specs.Constants.{IsEquality}
+use Rattle.neli_attr.specs.laws.Equality.{attribute-equality, bytes-equality, lists-equality}
+use Rattle.neli_msg.proofs.Equality.{answer-equality, echo-equality, enum-equality, header-equality, message-equality, no-field, one-field}
 use Rattle.neli_msg.proofs.laws.equality.Goals as goal
-
-pub returns-clause-list : goal.returns-clause-list
-returns-clause-list g c = λ h. lists-equality h
 
 pub returns-clause-answer : goal.returns-clause-answer
 returns-clause-answer g c = λ h. answer-equality h (lists-equality (attribute-equality c.equality.ensures.nlmsgerr_attr (lists-equality bytes-equality)))
