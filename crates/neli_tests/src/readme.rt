@@ -1,4 +1,4 @@
-//! The examples of the README, line by line.
+//! The example of the README, and those that docs/ATTRIBUTES.md and docs/LENT.md begin with, line by line.
 
 use crate::support::{assert_is, assert_spelled, bytes_of};
 use neli::consts::nl::NlmF;

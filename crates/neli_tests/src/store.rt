@@ -1,4 +1,4 @@
-//! What the shared store keeps after each read: the run that docs/ROUTER.md draws, and a fault.
+//! What the shared store keeps after each read: the run that docs/STORE.md draws, and a fault.
 
 use crate::support::{assert_is, bytes_of};
 use neli::consts::nl::NlmF;
