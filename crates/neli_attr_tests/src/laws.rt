@@ -1,8 +1,8 @@
 //! That each law can be called at real types. The calls do nothing when they run.
 
 use neli::attr::laws::{
-    built_generic_attribute_reads_back, built_routing_attribute_reads_back, list_is_its_frames,
-    nested_attribute_comes_last,
+    built_generic_attribute_reads_back, built_routing_attribute_reads_back, equality,
+    list_is_its_frames, nested_attribute_comes_last,
 };
 use neli::consts::genl::CtrlAttr;
 use neli::consts::rtnl::{Ifla, Rta};
@@ -16,4 +16,5 @@ fn laws_are_called() {
     built_generic_attribute_reads_back::<CtrlAttr, u32>();
     built_routing_attribute_reads_back::<Rta, Buffer>();
     nested_attribute_comes_last::<Ifla, Ifla, Buffer>();
+    equality::<CtrlAttr, Buffer>();
 }

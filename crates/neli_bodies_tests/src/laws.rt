@@ -4,7 +4,7 @@ use neli::connector::laws::{cn_msg_is_read_back, proc_event_is_read_back};
 use neli::consts::genl::{CtrlAttr, CtrlCmd};
 use neli::consts::rtnl::Rta;
 use neli::genl::NoUserHeader;
-use neli::genl::laws::genlmsghdr_is_read_back;
+use neli::genl::laws::{equality, genlmsghdr_is_read_back};
 use neli::implementing::bodies::laws::{attributes_are_read_back, body_is_read_back};
 use neli::rtnl::NdaCacheinfo;
 use neli::rtnl::laws::{
@@ -31,4 +31,5 @@ fn laws_are_called() {
     cn_msg_is_read_back::<Buffer>();
     genlmsghdr_is_read_back::<CtrlCmd, CtrlAttr, NoUserHeader>();
     proc_event_is_read_back();
+    equality::<CtrlCmd, CtrlAttr, NoUserHeader, Buffer>();
 }

@@ -3,9 +3,12 @@
 use neli::consts::genl::CtrlAttr;
 use neli::consts::rtnl::Ifla;
 use neli::genl::AttrType;
-use neli::lent::laws::{lent_attributes_are_the_list, lent_message_becomes_what_is_read};
+use neli::lent::laws::{
+    lent_attributes_are_the_list, lent_message_becomes_what_is_read, written_message_is_walked,
+};
 use neli::nl::laws::{
-    has_a_cut, has_few_messages, has_one_cut, rewritten_datagram_is_zeroed, typed_reading_agrees,
+    equality, has_a_cut, has_few_messages, has_one_cut, rewritten_datagram_is_zeroed,
+    typed_reading_agrees,
 };
 use neli::types::Buffer;
 
@@ -19,4 +22,6 @@ fn laws_are_called() {
     lent_message_becomes_what_is_read::<u16, Buffer>();
     lent_attributes_are_the_list::<AttrType<CtrlAttr>>();
     lent_attributes_are_the_list::<Ifla>();
+    written_message_is_walked::<u16, Buffer>();
+    equality::<u16, Buffer>();
 }

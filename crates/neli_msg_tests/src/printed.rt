@@ -3,11 +3,13 @@
 use crate::kinds::ERROR;
 use crate::retyping::typed_error;
 use crate::support::{Refusal, assert_is, assert_prints, raw_message, router_refusal};
+use neli::Cursor;
 use neli::consts::nl::NlTypeWrapper;
 use neli::err::{
-    BuildError, BuilderError, DeError, MsgError, NoMemory, RouterError, SerError, SocketError,
-    Utf8, of,
+    BuildError, BuilderError, DeError, MsgError, NlmsghdrAck, NoMemory, RouterError, SerError,
+    SocketError, Utf8, of,
 };
+use neli::lent::{LentAttr, LentMessage};
 use neli::types::Buffer;
 use std::alloc::{AllocError, AllocFailed, Global};
 use std::fmt::{Debug, Display};
@@ -227,4 +229,31 @@ fn causes_of_errors_of_a_router_are_kept(rt: HostRuntime) {
     let failed = RouterError::Io(ErrorKind::UnexpectedEof);
     let typed: Result<Typed, Refusal> = typed_error(rt.alloc(), &failed);
     assert!(rt; matches!(typed, Ok(RouterError::Io(ErrorKind::UnexpectedEof))));
+}
+
+/// Asserts that this is what is shown of the value with its name and fields.
+fn assert_shows<D: Debug>(rt: &impl Abort, alloc: Global, value: &D, want: &str) {
+    let text = format!(in alloc; "{value:?}").expect(rt, "memory");
+    assert_is(rt, text.as_str(), want);
+}
+
+/// A message of 20 bytes, with type 16, REQUEST and DUMP (0x301), number 7 and port 9.
+const MESSAGE: [u8; 20] = [20, 0, 0, 0, 16, 0, 1, 3, 7, 0, 0, 0, 9, 0, 0, 0, 1, 2, 3, 4];
+
+/// An attribute of type 1 with two bytes.
+const ATTRIBUTE: [u8; 8] = [6, 0, 1, 0, 0xaa, 0xbb, 0, 0];
+
+#[test]
+fn headers_and_what_is_lent_show_their_fields(rt: HostRuntime) {
+    let alloc = rt.alloc();
+    let want =
+        "NlmsghdrAck { len: 20, message_type: 16, flags: NlmF(769), sequence_number: 7, port: 9 }";
+    let header = NlmsghdrAck::<u16>::of_bytes(&MESSAGE[..16]).expect(&rt, "a header");
+    assert_shows(&rt, alloc, &header, want);
+    let message = LentMessage::<'_, u16>::lend(&mut Cursor::new(&MESSAGE)).expect(&rt, "a message");
+    let want = format!(in alloc; "LentMessage {{ header: {want}, payload: [1, 2, 3, 4] }}");
+    assert_shows(&rt, alloc, &message, want.expect(&rt, "memory").as_str());
+    let attr = LentAttr::<'_, u16>::lend(&mut Cursor::new(&ATTRIBUTE)).expect(&rt, "an attribute");
+    let want = "LentAttr { len: 6, kind: 1, payload: [170, 187] }";
+    assert_shows(&rt, alloc, &attr, want);
 }

@@ -5,6 +5,7 @@ mod Readings
 mod Later
 mod OtherReads
 mod Regrouping
+mod Requests
 mod Steps
 mod Walks
 mod Runs

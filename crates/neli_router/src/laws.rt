@@ -1,14 +1,18 @@
 //! Laws of runs, over the definitions alone. The calls do nothing: their contracts are the laws.
 
-ghost use Rattle.std.specs.Prelude.{◌≡◌, ◌≢◌, ◌↔◌, ◌++◌, ◌∷◌, ℕ, Bool, false, List};
+ghost use Rattle.std.specs.Prelude.{◌≡◌, ◌≢◌, ◌<◌, ◌↔◌, ◌++◌, ◌∷◌, ℕ, Bool, false, List, Ok};
+ghost use Rattle.neli_consts.specs.declared.nlm_f.NlmF.{NlmF as Flags};
 ghost use Rattle.neli_msg.specs.Agreement.{untyped_layout};
 ghost use Rattle.neli_msg.specs.Cuts.{cut_of, messages_before};
 ghost use Rattle.neli_msg.specs.Messages.{message_layout};
+ghost use Rattle.neli_msg.specs.NlPayload.{NlPayload as Payload};
+ghost use Rattle.neli_lent.specs.Written.{IsWalked};
 ghost use Rattle.neli_deliveries.specs.declared.delivery.Delivery.{Delivery as Waiting};
 ghost use Rattle.neli_deliveries.specs.Readings.{Item};
 ghost use Rattle.neli_router_base.specs.declared.reply.Reply.{Reply as Answer};
 ghost use Rattle.neli_router_base.specs.declared.reply.Reply.TheVariants as reply;
 ghost use Rattle.neli_router_base.specs.Rule.{answer};
+ghost use Rattle.neli_router_base.specs.Sends.{frame_or_refusal, request};
 ghost use Rattle.neli_router.specs.Deliveries.{deliveries};
 ghost use Rattle.neli_router.specs.History.{History, is_handle_open, is_open, is_sent, items_of, needs_of, list_of_handle};
 ghost use Rattle.neli_router.specs.OtherReads.{NoneReads};
@@ -18,6 +22,17 @@ ghost use Rattle.neli_router.specs.Regrouping.{Bytes, IsRegrouped, IsWhole, hist
 use crate::{Command, Outcome};
 use neli_consts::NlType;
 use neli_wire::{FromBytesWithInput, Size, ToBytes};
+
+/// The bytes that are sent are one frame: read as a datagram they are one message, with the type, the flags and REQUEST,
+/// the sequence number and the port, and with the payload's bytes and zeros up to a multiple of four; and no fault.
+pub fn request_is_one_frame<ST: NlType, SP: ToBytes>()
+    ensures { (port number : ℕ) (in_use : Bool) (t : ST) (flags : Flags) (payload : Payload ST SP)
+        (bytes : List ℕ) → port < 4294967296 → number < 4294967296 → ST.wire_number t < 65536
+        → flags.0 < 65536 → frame_or_refusal ST.wire_number SP.wire SP.Size.wire_length port number
+        in_use t flags payload ≡ Ok bytes
+        → IsWalked ST.wire_number SP.wire (request ST.wire_number SP.wire SP.Size.wire_length port
+        number t flags payload) bytes }
+{}
 
 /// Answers only grow: what was answered with some deliveries is answered with more, an item as the same item
 /// and the end as the end. A wait alone may become something else.

@@ -3,7 +3,7 @@
 use neli::router::synchronous::laws::{
     answers_only_grow, cuts_join, deliveries_only_grow, later_commands_leave_answers,
     reads_of_others_change_nothing, reads_of_others_leave_outcomes, regrouping_leaves_deliveries,
-    regrouping_leaves_outcomes,
+    regrouping_leaves_outcomes, request_is_one_frame,
 };
 use neli::types::Buffer;
 
@@ -17,4 +17,5 @@ fn laws_are_called() {
     cuts_join::<u16, Buffer>();
     regrouping_leaves_deliveries::<u16, Buffer, u16, Buffer>();
     regrouping_leaves_outcomes::<u16, Buffer, u16, Buffer>();
+    request_is_one_frame::<u16, Buffer>();
 }
