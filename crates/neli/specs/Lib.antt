@@ -12,6 +12,7 @@ pub use Rattle.neli_link.specs as link
 pub use Rattle.neli_genl.specs as genl
 pub use Rattle.neli_msg.specs as msg
 pub use Rattle.neli_lent.specs as lent
+pub use Rattle.neli_kernel.specs as kernel
 pub use Rattle.neli_util.specs as util
 pub use Rattle.neli_deliveries.specs as deliveries
 pub use Rattle.neli_queues.specs as queues

@@ -111,8 +111,9 @@
 //!
 //! # A simulator
 //!
-//! What a kernel would say is built and written as a request is. [`router::synchronous::run`] does a whole list of commands with
-//! one router, and answers what came of each. A link is told to who asked for it:
+//! What a kernel would say is built and written as a request is, by hand as here, or by [`simulator`], which makes its
+//! acknowledgements, errors, replies, dumps and notifications. [`router::synchronous::run`] does a whole list of commands
+//! with one router, and answers what came of each. A link is told to who asked for it:
 //!
 //! ```
 //! use neli::consts::nl::NlmF;
@@ -146,6 +147,7 @@ pub mod iter;
 pub mod nl;
 pub mod router;
 pub mod rtnl;
+pub mod simulator;
 pub mod types;
 pub mod utils;
 

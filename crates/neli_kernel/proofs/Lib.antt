@@ -1,0 +1,3 @@
+mod Answers
+mod Dumps
+mod Datagrams

@@ -1,0 +1,4 @@
+pub mod Answers
+pub mod Dumps
+pub mod Datagrams
+pub mod Requests

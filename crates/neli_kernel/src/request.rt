@@ -1,0 +1,259 @@
+//! A request, and what the kernel answers to it.
+
+ghost use Rattle.std.specs.Prelude.{◌≡◌, [], Ok, IfOk, IfErr};
+ghost use Rattle.neli_msg.specs.NlPayload.TheVariants as payload;
+ghost use Rattle.neli_kernel.specs.Answers.{RefusesMessage, acknowledgement, answer_flags, capped_error, error, message_or_refusal, reply};
+ghost use Rattle.neli_kernel.specs.Dumps.{dump_end, packed_in};
+ghost use Rattle.neli_kernel.specs.Requests.{has_flags, is_handled};
+
+use crate::Dump;
+use crate::message::message;
+use bitflags::Flags;
+use neli_attr::{Buffer, GenlBuffer};
+use neli_consts::{NlType, NlmF, NlmsgerrAttr};
+use neli_lent::LentMessage;
+use neli_msg::{NlPayload, Nlmsgerr, NlmsgerrBuilder, Nlmsghdr, NlmsghdrAck, NlmsghdrAckBuilder};
+use neli_wire::{SerError, ToBytes};
+use std::alloc::Global;
+
+/// The attributes of an extended acknowledgement, which a socket gets that asked for them (`NETLINK_EXT_ACK`).
+pub type ExtAck = GenlBuffer<NlmsgerrAttr, Buffer>;
+
+/// A request as the kernel takes it: who sent it, its header, and its payload's bytes.
+///
+/// What is answered goes to the port of the socket that sent the request. The request's own header may have another
+/// one: many clients leave it 0. An echo has the header as it came.
+#[derive(Clone, Copy, Debug)]
+pub struct Request<'b> {
+    port: u32,
+    header: NlmsghdrAck<u16>,
+    payload: &'b [u8],
+}
+
+/// The header of a message that is lent.
+fn header_of(message: &LentMessage<'_, u16>) -> NlmsghdrAck<u16>
+    ensures { result ≡ message.now.header }
+{
+    let built = NlmsghdrAckBuilder::default()
+        .nl_len(*message.nl_len())
+        .nl_type(*message.nl_type())
+        .nl_flags(*message.nl_flags())
+        .nl_seq(*message.nl_seq())
+        .nl_pid(*message.nl_pid())
+        .build();
+    match built {
+        Ok(header) => header,
+        Err(_) => unreachable!(),
+    }
+}
+
+/// The flags of an acknowledgement or an error with these attributes.
+fn answer_flags(echo: NlmF, ext_ack: &ExtAck) -> NlmF
+    ensures { result ≡ answer_flags echo ext_ack.now }
+{
+    if ext_ack.is_empty() {
+        echo
+    } else {
+        echo | NlmF::ACK_TLVS
+    }
+}
+
+/// An answer of this code.
+fn answer<M: Drop>(alloc: Global, code: i32, answered: M, ext_ack: ExtAck) -> Nlmsgerr<M>
+    ensures { result ≡ record { error = code; nlmsg = answered; ext_ack = ext_ack } }
+{
+    let built = NlmsgerrBuilder::default()
+        .error(code)
+        .nlmsg(answered)
+        .ext_ack(ext_ack)
+        .build(alloc);
+    match built {
+        Ok(answer) => answer,
+        Err(_) => unreachable!(),
+    }
+}
+
+impl<'b> Request<'b> {
+    /// The request that this message is, from the socket of this port.
+    pub fn new(port: u32, message: &LentMessage<'b, u16>) -> Self
+        ensures port { result.port ≡ port }
+        ensures header { result.header ≡ message.now.header }
+        ensures payload { result.payload.now ≡ message.now.payload.now }
+    {
+        Request {
+            port,
+            header: header_of(message),
+            payload: message.nl_payload(),
+        }
+    }
+
+    /// The port of the socket that sent it.
+    pub fn port(&self) -> u32
+        ensures { result ≡ self.now.port }
+    {
+        self.port
+    }
+
+    /// Its header, as it came.
+    pub fn header(&self) -> &NlmsghdrAck<u16>
+        ensures { result.now ≡ self.now.header }
+    {
+        &self.header
+    }
+
+    /// Its payload, as it came. It lives as long as the bytes that it was read from.
+    pub fn payload(&self) -> &'b [u8]
+        ensures { result.now ≡ self.now.payload.now }
+    {
+        self.payload
+    }
+
+    /// Whether the kernel acts on it: it has the flag REQUEST, and its type is none of control messages, which are below
+    /// 16 (`NLMSG_MIN_TYPE`). The kernel passes over another message, but acknowledges it where that is wanted.
+    pub fn is_handled(&self) -> bool
+        ensures { result ≡ is_handled self.now }
+    {
+        self.header.nl_flags().contains(NlmF::REQUEST) && *self.header.nl_type() >= 16
+    }
+
+    /// Whether it wants an acknowledgement. An error is answered in any case, and in place of one.
+    pub fn wants_acknowledgement(&self) -> bool
+        ensures { result ≡ has_flags self.now 4 }
+    {
+        self.header.nl_flags().contains(NlmF::ACK)
+    }
+
+    /// Whether it wants a dump: both bits of `NLM_F_DUMP` are set. Only in requests that get something do they mean this.
+    pub fn wants_dump(&self) -> bool
+        ensures { result ≡ has_flags self.now 768 }
+    {
+        self.header.nl_flags().contains(NlmF::DUMP)
+    }
+
+    /// Whether it wants to be told what has changed, as groups are.
+    pub fn wants_echo(&self) -> bool
+        ensures { result ≡ has_flags self.now 8 }
+    {
+        self.header.nl_flags().contains(NlmF::ECHO)
+    }
+
+    /// The acknowledgement: code 0, and of the request its header alone, with these attributes.
+    ///
+    /// Refused as `Msg` where the length passes 32 bits, or as `Memory`.
+    pub fn acknowledgement(&self, alloc: Global, ext_ack: ExtAck) -> Result<Vec<u8>, SerError>
+        ensures bytes { IfOk result (λ bytes. message_or_refusal (λ n. n) (λ b. Ok b)
+            (acknowledgement self.now ext_ack) ≡ Ok bytes.items) }
+        ensures refused { IfErr result (RefusesMessage (λ n. n) (λ b. Ok b)
+            (acknowledgement self.now ext_ack)) }
+    {
+        let flags = answer_flags(NlmF::CAPPED, &ext_ack);
+        let payload: NlPayload<u16, Buffer> = NlPayload::Ack(answer(
+            alloc,
+            0,
+            self.header,
+            ext_ack,
+        ));
+        message(alloc, 2, flags, self.number(), self.port, payload)
+    }
+
+    /// The error with this code, as -22 for `EINVAL`, to a socket that wants errors capped (`NETLINK_CAP_ACK`): of the
+    /// request its header alone, with the length of the whole, and these attributes.
+    ///
+    /// Refused as `Msg` where the length passes 32 bits, or as `Memory`.
+    pub fn capped_error(
+        &self,
+        alloc: Global,
+        code: i32,
+        ext_ack: ExtAck,
+    ) -> Result<Vec<u8>, SerError>
+        ensures bytes { IfOk result (λ bytes. message_or_refusal (λ n. n) (λ b. Ok b)
+            (capped_error self.now code ext_ack) ≡ Ok bytes.items) }
+        ensures refused { IfErr result (RefusesMessage (λ n. n) (λ b. Ok b)
+            (capped_error self.now code ext_ack)) }
+    {
+        let flags = answer_flags(NlmF::CAPPED, &ext_ack);
+        let payload: NlPayload<u16, Buffer> = NlPayload::Capped(answer(
+            alloc,
+            code,
+            self.header,
+            ext_ack,
+        ));
+        message(alloc, 2, flags, self.number(), self.port, payload)
+    }
+
+    /// The error with this code, as -22 for `EINVAL`: the request whole, with zeros up to a multiple of four, and these
+    /// attributes.
+    ///
+    /// Refused as `Msg` where the length passes 32 bits, or as `Memory`.
+    pub fn error(&self, alloc: Global, code: i32, ext_ack: ExtAck) -> Result<Vec<u8>, SerError>
+        ensures bytes { IfOk result (λ bytes. message_or_refusal (λ n. n) (λ b. Ok b)
+            (error self.now code ext_ack) ≡ Ok bytes.items) }
+        ensures refused { IfErr result (RefusesMessage (λ n. n) (λ b. Ok b)
+            (error self.now code ext_ack)) }
+    {
+        let flags = answer_flags(NlmF::empty(), &ext_ack);
+        let echo = Nlmsghdr::from_header(self.header, NlPayload::Payload(self.payload));
+        let payload = NlPayload::Payload(answer(alloc, code, echo, ext_ack));
+        message(alloc, 2u16, flags, self.number(), self.port, payload)
+    }
+
+    /// One reply, with the request's sequence number. What a socket gets that asked for an echo of a change is one too.
+    ///
+    /// Refused as `Msg` where the length passes 32 bits, then as the body is refused, or as `Memory`.
+    pub fn reply<T: NlType + Drop, P: ToBytes + Drop>(
+        &self,
+        alloc: Global,
+        nl_type: T,
+        nl_flags: NlmF,
+        body: P,
+    ) -> Result<Vec<u8>, SerError>
+        ensures bytes { IfOk result (λ bytes. message_or_refusal T.wire_number P.wire
+            (reply P.Size.wire_length self.now nl_type nl_flags body) ≡ Ok bytes.items) }
+        ensures refused { IfErr result (RefusesMessage T.wire_number P.wire
+            (reply P.Size.wire_length self.now nl_type nl_flags body)) }
+    {
+        message(
+            alloc,
+            nl_type,
+            nl_flags,
+            self.number(),
+            self.port,
+            NlPayload::Payload(body),
+        )
+    }
+
+    /// A dump, whose datagrams have at most `limit` bytes. It takes no memory.
+    pub fn dump(&self, alloc: Global, limit: usize) -> Dump<'b>
+        ensures request { result.request ≡ self.now }
+        ensures limit { result.limit ≡ limit }
+        ensures packed { packed_in result ≡ ([], []) }
+    {
+        Dump::new(alloc, *self, limit)
+    }
+
+    /// The end of a dump.
+    pub(crate) fn dump_end(
+        &self,
+        alloc: Global,
+        nl_flags: NlmF,
+        code: i32,
+        ext_ack: ExtAck,
+    ) -> Result<Vec<u8>, SerError>
+        ensures bytes { IfOk result (λ bytes. message_or_refusal (λ n. n) (λ b. Ok b)
+            (dump_end self.now nl_flags code ext_ack) ≡ Ok bytes.items) }
+        ensures refused { IfErr result (RefusesMessage (λ n. n) (λ b. Ok b)
+            (dump_end self.now nl_flags code ext_ack)) }
+    {
+        let flags = answer_flags(nl_flags | NlmF::MULTI, &ext_ack);
+        let answer = answer(alloc, code, (), ext_ack);
+        let payload: NlPayload<u16, Buffer> = NlPayload::DumpExtAck(answer);
+        message(alloc, 3, flags, self.number(), self.port, payload)
+    }
+
+    /// Its sequence number, which each answer has.
+    fn number(&self) -> u32
+        ensures { result ≡ self.now.header.sequence_number }
+    {
+        *self.header.nl_seq()
+    }
+}

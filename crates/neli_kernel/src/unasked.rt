@@ -1,0 +1,29 @@
+//! What the kernel sends unasked.
+
+ghost use Rattle.std.specs.Prelude.{◌≡◌, Ok, IfOk, IfErr};
+ghost use Rattle.neli_msg.specs.NlPayload.TheVariants as payload;
+ghost use Rattle.neli_kernel.specs.Answers.{RefusesMessage, message_or_refusal, message_with};
+
+use crate::message::message;
+use neli_consts::{NlType, NlmF};
+use neli_msg::NlPayload;
+use neli_wire::{SerError, ToBytes};
+use std::alloc::Global;
+
+/// A message to groups: its sequence number and its port are 0. The groups are no part of the bytes; a socket is told
+/// them beside the datagram, as a router's `processing_loop` is.
+///
+/// Refused as `Msg` where the length passes 32 bits, then as the body is refused, or as `Memory`.
+pub fn notification<T: NlType + Drop, P: ToBytes + Drop>(
+    alloc: Global,
+    nl_type: T,
+    nl_flags: NlmF,
+    body: P,
+) -> Result<Vec<u8>, SerError>
+    ensures bytes { IfOk result (λ bytes. message_or_refusal T.wire_number P.wire
+        (message_with P.Size.wire_length nl_type nl_flags 0 0 (payload.Payload body)) ≡ Ok bytes.items) }
+    ensures refused { IfErr result (RefusesMessage T.wire_number P.wire
+        (message_with P.Size.wire_length nl_type nl_flags 0 0 (payload.Payload body))) }
+{
+    message(alloc, nl_type, nl_flags, 0, 0, NlPayload::Payload(body))
+}
