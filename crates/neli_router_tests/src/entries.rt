@@ -67,7 +67,7 @@ const SCRIPTS: [(&str, &[(Step, Told, [usize; 2])]); 3] = [
 ];
 
 /// How many entries a router keeps, and how many bytes of datagrams.
-fn kept(asker: &Asker<Log>) -> [usize; 2] {
+pub fn kept(asker: &Asker<Log>) -> [usize; 2] {
     let log = asker.router.deliveries();
     [log.kept(), log.kept_bytes()]
 }

@@ -3,6 +3,7 @@
 use crate::steps::called;
 use crate::support::assert_is_at;
 use crate::{answers, conversations, datagrams, faults, numbers};
+use example_store::Limited;
 use neli::consts::nl::NlmF;
 use neli::err::{DeError, NoMemory, RouterError, SocketError};
 use neli::nl::{NlPayload, Nlmsghdr};
@@ -280,11 +281,13 @@ fn play_over<D: Deliveries + Drop>(
     of_run
 }
 
-/// Plays steps over each store, and asserts that the outcomes over both are equal.
+/// Plays steps over each store, and asserts that the outcomes are equal.
 pub fn play(rt: &impl Abort, alloc: Global, row: &str, port: u32, steps: &[(Step, Told)]) {
     let plain = play_over::<Queues>(rt, alloc, row, port, steps);
     let shared = play_over::<Log>(rt, alloc, row, port, steps);
+    let limited = play_over::<Limited<1_000_000>>(rt, alloc, row, port, steps);
     assert_alike(rt, alloc, row, &plain, &shared);
+    assert_alike(rt, alloc, row, &plain, &limited);
 }
 
 /// Plays these scripts.
