@@ -8,6 +8,7 @@ use std::io::{ErrorKind, Write};
 pub struct Kept {
     bytes: [u8; 1024],
     count: usize,
+    flushed: usize,
 }
 
 impl Kept {
@@ -16,12 +17,13 @@ impl Kept {
         Kept {
             bytes: [0; 1024],
             count: 0,
+            flushed: 0,
         }
     }
 
-    /// What it has kept.
+    /// What it had kept at the last flush.
     pub fn text(&self) -> &[u8] {
-        self.bytes.get(..self.count).unwrap_or(&[])
+        self.bytes.get(..self.flushed).unwrap_or(&[])
     }
 }
 
@@ -36,6 +38,7 @@ impl Write for Kept {
     }
 
     fn flush(&mut self) -> io::Result<()> {
+        self.flushed = self.count;
         Ok(())
     }
 }
