@@ -1,0 +1,113 @@
+//! `example_links`: the links of a host, a line each, as the kernel answers a request for all of them.
+//!
+//! Standard input is what came back: the datagrams one after the other. Here they are recorded, 0215 to 0218 of
+//! docs/RECORDINGS.md, so the request's port and number are those that the answers name; a program with a socket sends
+//! the request in between. The lines in `stdout` are what pyroute2 reads in them.
+//!
+//! What is refused is said on standard error, after the links before it, and the status is 1.
+#![tactic(auto)]
+
+mod link;
+
+ghost use Rattle.std.specs.Prelude.{◌≡◌, length, take};
+
+use crate::link::Link;
+use neli::Cursor;
+use neli::consts::nl::NlmF;
+use neli::consts::rtnl::{RtAddrFamily, Rtm};
+use neli::err::{DeError, RouterError};
+use neli::lent::LentMessage;
+use neli::nl::{NlPayload, Nlmsghdr};
+use neli::router::synchronous::{Log, NlRouter, NlRouterReceiverHandle, Reply};
+use neli::rtnl::{Ifinfomsg, IfinfomsgBuilder};
+use neli::utils::Groups;
+use std::alloc::Global;
+use std::io;
+use std::io::Read;
+use std::process::ExitCode;
+
+/// Why the links are not listed to the end.
+type Trouble = RouterError<Rtm, Ifinfomsg>;
+
+/// The port and the number of the request that these datagrams answer, as their first message has them.
+fn asked(datagrams: &[u8]) -> Result<(u32, u32), DeError> {
+    let first = LentMessage::<u16>::lend(&mut Cursor::new(datagrams))?;
+    Ok((*first.nl_pid(), *first.nl_seq()))
+}
+
+/// Asks for all links: the request that a socket sends, and who reads the answers.
+fn ask(
+    alloc: Global,
+    router: &mut NlRouter,
+) -> Result<(Vec<u8>, NlRouterReceiverHandle<Rtm, Ifinfomsg>), Trouble> {
+    let all = IfinfomsgBuilder::default()
+        .ifi_family(RtAddrFamily::Unspecified)
+        .build(alloc);
+    let body = match all {
+        Ok(all) => NlPayload::Payload(all),
+        Err(error) => return Err(RouterError::new(alloc, error)?),
+    };
+    router.send::<_, _, Rtm, Ifinfomsg>(alloc, Rtm::Getlink, NlmF::DUMP, body)
+}
+
+/// Appends the link of an item, if it has one.
+fn add_link(
+    alloc: Global,
+    item: Result<Nlmsghdr<Rtm, Ifinfomsg>, Trouble>,
+    links: &mut Vec<Link>,
+) -> Result<(), Trouble>
+    ensures kept { take (length links.old.items) links.new.items ≡ links.old.items }
+{
+    if let Some(body) = item?.get_payload() {
+        links.push(Link::of(alloc, body)?)?;
+    }
+    Ok(())
+}
+
+/// Appends the links of the answers, up to their end. Each turn takes one of them, so the loop ends.
+fn read_answers(
+    alloc: Global,
+    router: &mut NlRouter,
+    handle: &mut NlRouterReceiverHandle<Rtm, Ifinfomsg>,
+    links: &mut Vec<Link>,
+) -> Result<(), Trouble>
+    ensures kept { take (length links.old.items) links.new.items ≡ links.old.items }
+{
+    for _ in 0..u64::MAX {
+        match router.next_typed::<Rtm, Ifinfomsg, _, _>(alloc, handle)? {
+            Reply::Item(item) => add_link(alloc, item, links)?,
+            Reply::End => return Ok(()),
+            Reply::Waits => break,
+        }
+    }
+    Err(RouterError::new(alloc, "the answer does not end")?)
+}
+
+/// Asks for all links, and appends those of the answer.
+fn read_links(alloc: Global, datagrams: &[u8], links: &mut Vec<Link>) -> Result<(), Trouble>
+    ensures kept { take (length links.old.items) links.new.items ≡ links.old.items }
+{
+    let (port, number) = asked(datagrams)?;
+    let (mut router, _multicast) = NlRouter::<Log>::new(alloc, port);
+    router.set_next_seq(number);
+    let (_request, mut handle) = ask(alloc, &mut router)?;
+    // A socket sends the request here, and gives the datagrams.
+    router.processing_loop(datagrams, &Groups::empty(alloc))?;
+    read_answers(alloc, &mut router, &mut handle, links)
+}
+
+fn main(rt: HostRuntime) -> io::Result<ExitCode> {
+    let alloc = rt.alloc();
+    let mut datagrams = Vec::new(alloc);
+    rt.stdin().read_to_end(&mut datagrams)?;
+    let mut links = Vec::new(alloc);
+    let read = read_links(alloc, &datagrams, &mut links);
+    for link in &links {
+        println!(rt; "{link}")?;
+    }
+    if let Err(error) = read {
+        eprintln!(rt; "example_links: {error}")?;
+        return Ok(ExitCode::from(1));
+    }
+    Ok(ExitCode::from(0))
+}
