@@ -28,10 +28,10 @@ module _ {H V : Type 0} (layout : Layout H V) (placed : IsPlaced layout) (some :
   each-join a b (m ∷ ms) ns f p q =
       (p.0, p.1 ++ b, ap (λ (x : List ℕ). x ++ b) p.2 ∙ append_assoc p.0 p.1 b, p.3, each-join p.1 b ms ns f p.4 q)
 
-  cut_of-each : (b : List ℕ) → Each b (cut_of layout b).0 (cut_of layout b).1
+  pub cut_of-each : (b : List ℕ) → Each b (cut_of layout b).0 (cut_of layout b).1
   cut_of-each b = Cuts-each layout placed some b _ _ (cut_of-Cuts layout placed some b)
 
-  each-cut_of : (b : List ℕ) (ms : List (H × V)) (f : Option DeError) → Each b ms f → cut_of layout b ≡ (ms, f)
+  pub each-cut_of : (b : List ℕ) (ms : List (H × V)) (f : Option DeError) → Each b ms f → cut_of layout b ≡ (ms, f)
   each-cut_of b ms f each =
       let same = one_cut layout placed some b (cut_of layout b).0 ms (cut_of layout b).1 f (cut_of-Cuts layout placed some b) (each-Cuts layout placed some b ms f each) in
       ap (λ (x : List (H × V)). (x, (cut_of layout b).1)) same.0 ∙ ap (λ (g : Option DeError). (ms, g)) same.1

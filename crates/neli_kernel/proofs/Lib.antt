@@ -1,3 +1,5 @@
 mod Answers
 mod Dumps
 mod Datagrams
+mod Delivered
+mod Acknowledged

@@ -2,3 +2,4 @@ pub mod Answers
 pub mod Dumps
 pub mod Datagrams
 pub mod Requests
+pub mod Delivered

@@ -1,14 +1,23 @@
 //! Laws of answers, over the definitions alone. The calls do nothing: their contracts are the laws.
 
-ghost use Rattle.std.specs.Prelude.{◌≡◌, ◌<◌, ◌++◌, ◌∷◌, [], ℕ, ℤ, List, Ok, None};
+ghost use Rattle.std.specs.Prelude.{◌≡◌, ◌≢◌, ◌<◌, ◌+◌, ◌++◌, ◌∷◌, [], ℕ, ℤ, true, All, Bool, FitsSigned, List, Option, Ok, None, Some, length, map, pos};
+ghost use Rattle.std.specs.Int.{w32};
+ghost use Rattle.neli_wire.specs.Numbers.{signed_bytes};
 ghost use Rattle.neli_consts.specs.declared.nlm_f.NlmF.{NlmF as Flags};
-ghost use Rattle.neli_msg.specs.Answers.{Attributes};
+ghost use Rattle.neli_msg.specs.Agreement.{untyped_layout};
+ghost use Rattle.neli_msg.specs.Answers.{Attributes, answer};
+ghost use Rattle.neli_msg.specs.Cuts.{cut_of};
+ghost use Rattle.neli_msg.specs.Headers.{Header};
+ghost use Rattle.neli_msg.specs.Kinds.{is_multi};
+ghost use Rattle.neli_msg.specs.NlPayload.TheVariants as payload;
 ghost use Rattle.neli_msg.specs.NlPayload.{NlPayload as Payload};
 ghost use Rattle.neli_lent.specs.Messages.{Lent, messages_in};
 ghost use Rattle.neli_lent.specs.Written.{IsWalked};
+ghost use Rattle.neli_deliveries.specs.Deliveries.{Untyped, datagram_share, message};
 ghost use Rattle.neli_kernel.specs.Answers.{IsAddressed, acknowledgement, capped_error, error, message_or_refusal, message_with};
 ghost use Rattle.neli_kernel.specs.declared.request.Request.{Request as Asked};
 ghost use Rattle.neli_kernel.specs.Datagrams.{AreRead, AreWithin};
+ghost use Rattle.neli_kernel.specs.Delivered.{IsAnswer, IsDelivered, IsFor, IsPlain, IsReply, answer_kept, kept, reply_kept, shares, untyped};
 ghost use Rattle.neli_kernel.specs.Dumps.{Packed, begun, datagrams_of, put_wire};
 
 use neli_consts::NlType;
@@ -58,4 +67,70 @@ pub fn datagrams_keep_the_limit()
         → AreWithin limit (datagrams_of p) → AreWithin limit (datagrams_of q) }
     ensures begun { (limit : ℕ) (p : Packed) → AreWithin limit (datagrams_of p)
         → AreWithin limit (datagrams_of (begun p)) }
+{}
+
+/// A reply is delivered to the handle that asked, once, and to no other one: where a router has the reply's port and the
+/// request's number is still open there, a datagram of the reply's bytes is one message for that handle, with the body's
+/// bytes and zeros up to a multiple of four, and nothing for each other handle and for the one for multicast. So it is of
+/// each message of [`Request::reply`](crate::Request::reply) whose type is neither 2 (an error) nor 3 (the end of a dump).
+pub fn reply_is_delivered<T: NlType, P: ToBytes>()
+    ensures one_message { (t : T) (flags : Flags) (number port : ℕ) (body : P) (text bytes : List ℕ)
+        → IsReply T.wire_number P.wire P.Size.wire_length t flags number port body text bytes
+        → cut_of untyped_layout bytes ≡ (reply_kept (T.wire_number t) flags number port text ∷ [], None) }
+    ensures asker { (t : T) (flags : Flags) (number port : ℕ) (body : P) (text bytes : List ℕ) (is_open : ℕ → Bool)
+        → IsReply T.wire_number P.wire P.Size.wire_length t flags number port body text bytes → is_open number ≡ true
+        → datagram_share port is_open (Some number) (cut_of untyped_layout bytes) []
+        ≡ message (reply_kept (T.wire_number t) flags number port text) ∷ [] }
+    ensures others { (t : T) (flags : Flags) (number port : ℕ) (body : P) (text bytes : List ℕ) (is_open : ℕ → Bool)
+        → IsReply T.wire_number P.wire P.Size.wire_length t flags number port body text bytes → is_open number ≡ true
+        → (other : Option ℕ) → other ≢ Some number
+        → datagram_share port is_open other (cut_of untyped_layout bytes) [] ≡ [] }
+{}
+
+/// A dump is delivered to the handle that asked, message by message and in order, and to no other one: where its
+/// datagrams are read as some messages, each with the router's port and a number that is still open there, and `ms` are
+/// these as the router keeps them, then the handle of the number gets all of `ms` of the datagrams, one after the other,
+/// and each other handle nothing. A message whose type is neither 2 nor 3 is kept with its bytes
+/// as body, and an end without attributes with its code.
+pub fn dump_is_delivered()
+    ensures asker { (datagrams : List (List ℕ)) (said : List (Lent ℕ)) (ms : List Untyped) (number port : ℕ)
+        (is_open : ℕ → Bool) → AreRead datagrams said → map untyped said ≡ map (λ m. Ok m) ms
+        → All (IsFor number port) ms → is_open number ≡ true
+        → shares port is_open (Some number) datagrams ≡ map message ms }
+    ensures others { (datagrams : List (List ℕ)) (said : List (Lent ℕ)) (ms : List Untyped) (number port : ℕ)
+        (is_open : ℕ → Bool) → AreRead datagrams said → map untyped said ≡ map (λ m. Ok m) ms
+        → All (IsFor number port) ms → is_open number ≡ true
+        → (other : Option ℕ) → other ≢ Some number → shares port is_open other datagrams ≡ [] }
+    ensures plain { (m : Lent ℕ) → IsPlain m.0.message_type → untyped m ≡ Ok (kept m) }
+    ensures end { (h : Header ℕ) (code : ℤ) → h.message_type ≡ 3 → is_multi h.flags ≡ true → FitsSigned w32 code
+        → untyped (h, signed_bytes w32 4 code) ≡ Ok (h, payload.DumpExtAck (answer code tt [])) }
+{}
+
+/// An acknowledgement without attributes is delivered to the handle that asked, once, and to no other one: where a router
+/// has the port of the request's socket and the request's number is still open there, a datagram of its bytes is one
+/// message for that handle, an acknowledgement with code 0 that echoes the request's header, and nothing for each other
+/// handle and for the one for multicast.
+pub fn acknowledgement_is_delivered()
+    ensures one_message { (asked : Asked) (bytes : List ℕ) → IsAnswer asked (acknowledgement asked []) bytes
+        → cut_of untyped_layout bytes ≡ (answer_kept (acknowledgement asked []) ∷ [], None) }
+    ensures asker { (asked : Asked) (bytes : List ℕ) → IsAnswer asked (acknowledgement asked []) bytes
+        → (is_open : ℕ → Bool) → is_open asked.header.sequence_number ≡ true
+        → datagram_share asked.port is_open (Some asked.header.sequence_number) (cut_of untyped_layout bytes) []
+        ≡ message (answer_kept (acknowledgement asked [])) ∷ [] }
+    ensures others { (asked : Asked) (bytes : List ℕ) → IsAnswer asked (acknowledgement asked []) bytes
+        → (is_open : ℕ → Bool) → is_open asked.header.sequence_number ≡ true
+        → (other : Option ℕ) → other ≢ Some asked.header.sequence_number
+        → datagram_share asked.port is_open other (cut_of untyped_layout bytes) [] ≡ [] }
+{}
+
+/// An error without attributes is delivered to the handle that asked, once, and to no other one, where its code is not 0
+/// and fits 32 bits: a capped one with that code and the request's header, and a whole one with the request's payload as
+/// well, where the request states its own length.
+pub fn error_is_delivered()
+    ensures capped { (asked : Asked) (code : ℤ) (bytes : List ℕ) → code ≢ pos 0 → FitsSigned w32 code
+        → IsAnswer asked (capped_error asked code []) bytes
+        → IsDelivered asked (capped_error asked code []) bytes }
+    ensures whole { (asked : Asked) (code : ℤ) (bytes : List ℕ) → code ≢ pos 0 → FitsSigned w32 code
+        → asked.header.len ≡ 16 + length asked.payload.now → IsAnswer asked (error asked code []) bytes
+        → IsDelivered asked (error asked code []) bytes }
 {}

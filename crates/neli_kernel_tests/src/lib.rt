@@ -3,7 +3,7 @@
 //! - [`answers`]: acknowledgements and errors. [`dumps`]: dumps. [`single`]: single replies and notifications. Each is a
 //!   table of what was recorded from a kernel, built again from its values. Numbers are those of docs/RECORDINGS.md.
 //! - [`family`]: a family of generic netlink, served, and its client on the router.
-//! - [`support`]: what the tests share.
+//! - [`laws`]: the laws are called. [`support`]: what the tests share.
 #![tactic(auto)]
 
 #[cfg(test)]
@@ -12,6 +12,8 @@ mod answers;
 mod dumps;
 #[cfg(test)]
 mod family;
+#[cfg(test)]
+mod laws;
 #[cfg(test)]
 mod single;
 #[cfg(test)]

@@ -1,0 +1,75 @@
+-- Messages as a router keeps and delivers them.
+use Rattle.std.specs.Prelude.{◌≡◌, ◌≢◌, ◌<◌, ℕ, ◌+◌, List, [], ◌∷◌, ◌++◌, Bool, true, Option, None, Some, Result, Ok, flat_map, length}
+use Rattle.neli_wire.specs.DeError.{DeError}
+use Rattle.neli_wire.specs.Sizes.{align}
+use Rattle.neli_wire.specs.Writing.{Wire, zeros_for}
+use Rattle.neli_consts.specs.declared.nlm_f.NlmF.{NlmF}
+use Rattle.neli_msg.specs.Agreement.{untyped_layout}
+use Rattle.neli_msg.specs.Builders.{header_with}
+use Rattle.neli_msg.specs.Cuts.{cut_of}
+use Rattle.neli_msg.specs.Nlmsghdr.{Nlmsghdr}
+use Rattle.neli_msg.specs.NlPayload.TheVariants as payload
+use Rattle.neli_lent.specs.Messages.{Lent, as_owned}
+use Rattle.neli_lent.specs.Written.{HeaderFits}
+use Rattle.neli_deliveries.specs.Deliveries.{Untyped, datagram_share, message}
+use Rattle.neli_deliveries.specs.declared.delivery.Delivery.{Delivery}
+use Rattle.neli_kernel.specs.Answers.{message_or_refusal, message_with}
+use Rattle.neli_kernel.specs.declared.request.Request.{Request}
+
+-- a message as a router keeps it, its body as bytes; or why its payload is refused
+abbrev pub untyped : Lent ℕ → Result Untyped DeError
+untyped = as_owned (λ n. n) (λ n. n) (λ bytes. Ok bytes)
+
+-- the message has this number and this port
+abbrev pub IsFor : ℕ → ℕ → Untyped → Type 0
+IsFor number port m = (m.0.sequence_number ≡ number) × (m.0.port ≡ port)
+
+-- what a handle, the one with a number or the one for multicast, gets of datagrams that came to no group
+abbrev pub shares : ℕ → (ℕ → Bool) → Option ℕ → List (List ℕ) → List Delivery
+shares port is_open handle = flat_map (λ d. datagram_share port is_open handle (cut_of untyped_layout d) [])
+
+-- ---- messages with a body
+
+-- the type of a message with a body: neither 2, NLMSG_ERROR, nor 3, NLMSG_DONE
+abbrev pub IsPlain : ℕ → Type 0
+IsPlain number = (number ≢ 2) × (number ≢ 3)
+
+-- a message of such a type: its bytes are its body
+abbrev pub kept : Lent ℕ → Untyped
+kept m = (m.0, payload.Payload m.1)
+
+-- ---- a reply
+
+-- a message of this type, flags, number and port, with these bytes and zeros up to a multiple of four as body
+abbrev pub reply_kept : ℕ → NlmF → ℕ → ℕ → List ℕ → Untyped
+reply_kept message_type flags number port text =
+    kept (header_with (align (16 + length text)) message_type flags number port, text ++ zeros_for (16 + length text))
+
+-- `text` are the bytes of the body, and `bytes` those of a message with it, whose type is plain and whose fields fit
+pub record IsReply {T P : Type 0} (number_of : T → ℕ) (wire : P → Wire) (size : P → ℕ) (t : T) (flags : NlmF) (number port : ℕ) (body : P) (text bytes : List ℕ) : Type 0 where
+  pub is_plain : IsPlain (number_of t)
+  pub type_fits : number_of t < 65536
+  pub flags_fit : flags.0 < 65536
+  pub number_fits : number < 4294967296
+  pub port_fits : port < 4294967296
+  pub text_is : wire body ≡ Ok text
+  pub bytes_are : message_or_refusal number_of wire (message_with size t flags number port (payload.Payload body)) ≡ Ok bytes
+
+-- ---- acknowledgements and errors, without attributes
+
+-- `bytes` are those of this answer; the request's header and the port of its socket fit their fields
+pub record IsAnswer (asked : Request) (m : Nlmsghdr ℕ (List ℕ)) (bytes : List ℕ) : Type 0 where
+  pub header_fits : HeaderFits asked.header
+  pub port_fits : asked.port < 4294967296
+  pub bytes_are : message_or_refusal (λ n. n) (λ b. Ok b) m ≡ Ok bytes
+
+-- an answer as a router keeps it: its header, and its payload by its kind
+abbrev pub answer_kept : Nlmsghdr ℕ (List ℕ) → Untyped
+answer_kept m = (m.header, m.payload)
+
+-- as a datagram the bytes are this answer alone; where a router has the port of the request's socket, and the request's
+-- number is open there, the handle of that number gets it, once, and no other handle gets anything
+pub record IsDelivered (asked : Request) (m : Nlmsghdr ℕ (List ℕ)) (bytes : List ℕ) : Type 0 where
+  pub one_message : cut_of untyped_layout bytes ≡ (answer_kept m ∷ [], None)
+  pub asker : (is_open : ℕ → Bool) → is_open asked.header.sequence_number ≡ true → datagram_share asked.port is_open (Some asked.header.sequence_number) (cut_of untyped_layout bytes) [] ≡ message (answer_kept m) ∷ []
+  pub others : (is_open : ℕ → Bool) → is_open asked.header.sequence_number ≡ true → (other : Option ℕ) → other ≢ Some asked.header.sequence_number → datagram_share asked.port is_open other (cut_of untyped_layout bytes) [] ≡ []

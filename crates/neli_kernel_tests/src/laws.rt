@@ -1,0 +1,20 @@
+//! That each law can be called at real types. The calls do nothing when they run.
+
+use neli::simulator::laws::{
+    acknowledgement_is_delivered, answers_are_one_frame, datagrams_keep_the_limit,
+    dump_is_delivered, dump_is_read_as_its_messages, error_is_delivered, message_is_one_frame,
+    reply_is_delivered,
+};
+use neli::types::Buffer;
+
+#[test]
+fn laws_are_called() {
+    message_is_one_frame::<u16, Buffer>();
+    answers_are_one_frame();
+    dump_is_read_as_its_messages();
+    datagrams_keep_the_limit();
+    reply_is_delivered::<u16, Buffer>();
+    dump_is_delivered();
+    acknowledgement_is_delivered();
+    error_is_delivered();
+}
