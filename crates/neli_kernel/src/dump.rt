@@ -1,6 +1,6 @@
 //! A dump: an answer in several messages, cut into datagrams.
 
-ghost use Rattle.std.specs.Prelude.{⊤, ◌≡◌, [], Ok, IfOk, IfErr, OnOk, OnErr, map};
+ghost use Rattle.std.specs.Prelude.{⊤, ◌≡◌, ◌≢◌, [], Ok, IfOk, IfErr, OnOk, OnErr, map};
 ghost use Rattle.neli_wire.specs.Refusals.{IsRefusal, ser_ran_out};
 ghost use Rattle.neli_kernel.specs.Answers.{message_or_refusal};
 ghost use Rattle.neli_kernel.specs.Dumps.{RefusesPut, begun, datagrams_of, dump_end, dump_message, finished, packed_in, put_wire};
@@ -67,12 +67,13 @@ impl<'b> Dump<'b> {
 
     /// Begins a datagram, unless the last one is empty.
     ///
-    /// Refused only where memory runs out, and then the dump is as it was.
+    /// Refused only where memory runs out, of which an empty one takes none, and then the dump is as it was.
     pub fn begin_datagram(&mut self, alloc: Global) -> Result<(), NoMemory>
         ensures request { self.new.request ≡ self.old.request }
         ensures limit { self.new.limit ≡ self.old.limit }
         ensures begun { OnOk result (packed_in self.new ≡ begun (packed_in self.old)) }
         ensures unchanged { OnErr result (packed_in self.new ≡ packed_in self.old) }
+        ensures memory { OnErr result ((packed_in self.old).1 ≢ []) }
     {
         if !self.last.is_empty() {
             self.full.reserve(1)?;
