@@ -9,12 +9,14 @@
 //!   are re-exports of `neli_wire_base`.
 //! - [`implementing`]: what an implementer of these traits calls. [`laws`]: what holds of the definitions.
 //!
-//! What is implemented here: the integer types, lowest byte first, [`BeU64`], `Vec<T>`, texts, byte
-//! slices and arrays, `()` and `PhantomData`. What a read or a write means is stated in `specs/`: `Sizes`,
-//! `Writing`, `Reading`, `Numbers`, `Constants`, `Strings` and `Frames`.
+//! What is implemented here: the integer types, lowest byte first, [`BeU16`], [`BeU32`] and [`BeU64`], `bool`,
+//! `Ipv4Addr`, `Ipv6Addr`, `Vec<T>`, texts, byte slices and arrays, `()` and `PhantomData`. What a read or a write means
+//! is stated in `specs/`: `Sizes`, `Writing`, `Reading`, `Numbers`, `Constants`, `Strings` and `Frames`.
 #![tactic(auto)]
 
+mod addresses;
 mod big_endian;
+mod booleans;
 mod bytes;
 mod constants;
 mod frames;
@@ -28,7 +30,7 @@ mod texts;
 mod unit;
 mod writing;
 
-pub use big_endian::BeU64;
+pub use big_endian::{BeU16, BeU32, BeU64};
 pub use constants::{Constant, WireNumber};
 pub use neli_wire_base::{
     Cursor, DeError, MsgError, NoMemory, SerError, UninitializedFieldError, Utf8,
