@@ -1,5 +1,5 @@
 -- Looking attributes up by their type, and reading what was found.
-use Rattle.std.specs.Prelude.{ℕ, ◌<◌, List, Bool, Option, Some, None, Result, Err, IsSomeAnd, codes, find, length, option_map}
+use Rattle.std.specs.Prelude.{ℕ, ◌<◌, List, Bool, Option, Some, None, Result, Err, IsSomeAnd, bit_and, codes, find, length, nat_eq, option_map}
 use Rattle.neli_wire.specs.DeError.{DeError}
 use Rattle.neli_wire.specs.DeError.TheVariants.{Msg}
 use Rattle.neli_wire.specs.Bytes.{Reading}
@@ -8,6 +8,14 @@ use Rattle.neli_wire.specs.laws.Elements.{elements}
 -- the first attribute with this type
 abbrev pub first_of_type : {I K : Type 0} → (I → K) → (K → K → Bool) → K → List I → Option I
 first_of_type type_of same kind attrs = find (λ a. same (type_of a) kind) attrs
+
+-- whether a type in a header has the number of this type, the two flags' bits aside
+abbrev pub is_masked : {K : Type 0} → (K → ℕ) → K → K → Bool
+is_masked number_of kind other = nat_eq (bit_and (number_of other) 16383) (number_of kind)
+
+-- the first attribute whose type has the number of this type, the two flags' bits aside
+abbrev pub first_masked : {I K : Type 0} → (I → K) → (K → ℕ) → K → List I → Option I
+first_masked type_of number_of kind attrs = find (λ a. is_masked number_of kind (type_of a)) attrs
 
 -- the payload of the first attribute with this type
 abbrev pub payload_of_type : {I K : Type 0} → (I → K) → (K → K → Bool) → (I → List ℕ) → K → List I → Option (List ℕ)

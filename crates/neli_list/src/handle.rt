@@ -7,14 +7,19 @@ ghost use Rattle.neli_wire.specs.Refusals.{Refuses};
 ghost use Rattle.neli_wire.specs.DeError.TheVariants.{Memory};
 ghost use Rattle.neli_wire.specs.laws.Elements.{elements};
 ghost use Rattle.neli_list.specs.Payloads.{ReadsFirst, RefusesAs};
-ghost use Rattle.neli_list.specs.Lookup.{first_of_type, list_found, list_found_takes, payload_of_type, read_found, read_found_takes};
+ghost use Rattle.neli_list.specs.Lookup.{first_masked, first_of_type, list_found, list_found_takes, payload_of_type, read_found, read_found_takes};
 
 use crate::{FrameList, handle_of_payload, read_borrowed, read_first, read_whole};
 use neli_wire::{
-    DeError, FromBytes, FromBytesWithInput, FromBytesWithInputBorrowed, MsgError, NoMemory,
+    Constant, DeError, FromBytes, FromBytesWithInput, FromBytesWithInputBorrowed, MsgError,
+    NoMemory,
 };
 use std::alloc::Global;
 use std::slice::Iter;
+
+/// The bits of a type field that are the type itself (`NLA_TYPE_MASK` of `linux/netlink.h`). The other two are the flags
+/// `NLA_F_NESTED` and `NLA_F_NET_BYTEORDER`.
+const TYPE_MASK: u16 = 0x3fff;
 
 /// An attribute as handles see it: a type, by which it is found, and a payload of bytes.
 pub trait TypedPayload {
@@ -130,6 +135,22 @@ impl<'a, O: AttrSlice<I>, I: TypedPayload> AttrHandle<'a, O, I> {
             ≡ first_of_type I.type_of I.Kind.eq t (attrs_by O.attrs_of self.now) }
     {
         self.get_attrs().iter().find(|attr| *attr.own_type() == t)
+    }
+
+    /// The first attribute whose number is that of this type, whatever its two highest bits are. These are the flags
+    /// `NLA_F_NESTED` and `NLA_F_NET_BYTEORDER`, which a routing attribute has in its type and some kernels set.
+    ///
+    /// A type with a number of 16384 or more is never found.
+    pub fn get_attribute_masked(&self, t: I::Kind) -> Option<&I>
+    where
+        I::Kind: Constant<Number = u16>,
+        ensures { option_copied result
+            ≡ first_masked I.type_of I.Kind.wire_number t (attrs_by O.attrs_of self.now) }
+    {
+        let number = t.to_wire();
+        self.get_attrs()
+            .iter()
+            .find(|attr| attr.own_type().to_wire() & TYPE_MASK == number)
     }
 
     /// The attributes that the payload of the first attribute of this type lists.

@@ -2,6 +2,7 @@
 
 ghost use Rattle.std.specs.Prelude.{◌≡◌, IfOk};
 
+use crate::FrameList;
 use neli_wire::NoMemory;
 
 /// A value of which a copy can be made where memory allows.
@@ -11,4 +12,16 @@ pub trait TryClone: Sized + Drop {
     /// Refused only where memory runs out.
     fn try_clone(&self) -> Result<Self, NoMemory>
         ensures { IfOk result (λ v. v ≡ self.now) };
+}
+
+impl TryClone for () {
+    fn try_clone(&self) -> Result<(), NoMemory> {
+        Ok(())
+    }
+}
+
+impl<I: TryClone> TryClone for FrameList<I> {
+    fn try_clone(&self) -> Result<Self, NoMemory> {
+        FrameList::try_clone(self)
+    }
 }
