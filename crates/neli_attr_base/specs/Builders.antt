@@ -13,6 +13,12 @@ error_text (UninitializedField name) = uninitialized name.now
 error_text (ValidationError text) = text.now
 error_text Memory = codes "Out of memory"
 
+-- the words of an error, as another error's message; none where memory ran out
+abbrev pub message_in : {of : ℕ} → BuildError of → Option (List ℕ)
+message_in (UninitializedField name) = Some (uninitialized name.now)
+message_in (ValidationError text) = Some text.now
+message_in Memory = None
+
 -- why nothing can be made of the fields: one is missing, or the value that they would make is not allowed
 pub data Fault : Type 0 where
   Missing : List ℕ → Fault

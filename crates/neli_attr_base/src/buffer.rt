@@ -10,6 +10,7 @@ ghost use Rattle.neli_wire.specs.laws.Sizes.{unpadded-rounded, unpadded-zeros};
 ghost use Rattle.neli_wire.specs.laws.Writing.{written-length, written-no_memory};
 ghost use Rattle.neli_attr_base.specs.Buffers.{LendsBytes};
 
+use neli_list::TryClone;
 use neli_wire::{Cursor, DeError, FromBytesWithInput, NoMemory, SerError, Size, ToBytes};
 use std::alloc::Global;
 use std::fmt;
@@ -97,6 +98,12 @@ impl Buffer {
         ensures { IfOk result (λ b. b ≡ self.now) }
     {
         Buffer::from_slice(*self.bytes.allocator(), self.as_ref())
+    }
+}
+
+impl TryClone for Buffer {
+    fn try_clone(&self) -> Result<Buffer, NoMemory> {
+        Buffer::try_clone(self)
     }
 }
 

@@ -7,7 +7,7 @@
 
 ghost use Rattle.std.specs.Prelude.{◌≡◌, Some, codes};
 
-use neli_wire::{NoMemory, SerError, UninitializedFieldError};
+use neli_wire::{MsgError, NoMemory, SerError, UninitializedFieldError};
 use std::alloc::{AllocError, AllocFailed};
 use std::error::Error;
 use std::fmt;
@@ -82,6 +82,24 @@ pub enum BuildError<const OF: u8> {
     ValidationError(&'static str),
     /// Memory ran out.
     Memory,
+}
+
+impl<const OF: u8> BuildError<OF> {
+    ghost use Rattle.neli_attr_base.specs.Builders.{message_in};
+
+    /// The words that it prints, as the message of an error that is told in words; none where memory ran out. It takes no
+    /// memory.
+    pub fn into_message(self) -> Option<MsgError>
+        ensures { result ≡ message_in self.entry }
+    {
+        match self {
+            BuildError::UninitializedField(name) => {
+                Some(MsgError::from(UninitializedFieldError::new(name)))
+            }
+            BuildError::ValidationError(text) => Some(MsgError::from_static(text)),
+            BuildError::Memory => None,
+        }
+    }
 }
 
 impl<const OF: u8> fmt::Display for BuildError<OF> {
