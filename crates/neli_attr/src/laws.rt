@@ -20,7 +20,7 @@ ghost use Rattle.neli_attr.specs.Nlattr.{built_nlattr};
 ghost use Rattle.neli_attr.specs.Rtattr.{built_rtattr};
 ghost use Rattle.neli_attr.specs.RoundTrips.{IsReadBack, KeepsField};
 
-use crate::{AttrType, Buffer, Nlattr};
+use crate::{AttrType, Buffer, Nlattr, Rtattr};
 use neli_consts::NlAttrType;
 use neli_consts_rta::RtaType;
 use neli_list::FrameList;
@@ -81,12 +81,14 @@ pub fn nested_attribute_comes_last<
         ≡ Ok (attrs ++ attr len (K.wire_value (S.wire_number kind)) bytes ∷ []) }
 {}
 
-/// `==` of generic attributes, of lists and of their parts is true exactly where the two values are equal, field by
+/// `==` of attributes, of lists and of their parts is true exactly where the two values are equal, field by
 /// field, where the types and payloads in them have such an `==`.
 pub fn equality<T: PartialEq, P: PartialEq>()
     ensures buffer { IsEquality ⟦<Buffer as PartialEq>⟧.eq }
     ensures type_field { IsEquality T.eq → IsEquality ⟦<AttrType<T> as PartialEq>⟧.eq }
     ensures attribute { IsEquality T.eq → IsEquality P.eq
         → IsEquality ⟦<Nlattr<T, P> as PartialEq>⟧.eq }
+    ensures routing { IsEquality T.eq → IsEquality P.eq
+        → IsEquality ⟦<Rtattr<T, P> as PartialEq>⟧.eq }
     ensures list { IsEquality P.eq → IsEquality ⟦<FrameList<P> as PartialEq>⟧.eq }
 {}

@@ -40,7 +40,7 @@ pub type RtAttrHandle<'a, T> = AttrHandle<'a, RtBuffer<T, Buffer>, Rtattr<T, Buf
 ///
 /// On the wire it is a length of two bytes, which counts these four and the payload and not the padding,
 /// a type of two bytes, the payload, and zeros up to a multiple of four (`linux/rtnetlink.h`, `struct rtattr`).
-#[derive(Debug, Drop)]
+#[derive(Debug, Drop, PartialEq, Eq)]
 pub struct Rtattr<T, P> {
     rta_len: u16,
     rta_type: T,

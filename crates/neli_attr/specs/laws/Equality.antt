@@ -1,5 +1,5 @@
 -- When `==` is equality: of lists, of bytes and flags, and of attributes.
-use Rattle.std.specs.Prelude.{◌≡◌, ℕ, Bool, true, false, List, [], ◌∷◌, ◌&&◌, nat_eq, refl}
+use Rattle.std.specs.Prelude.{◌≡◌, Bool, true, false, List, [], ◌∷◌, ◌&&◌, nat_eq, refl}
 use Rattle.std.specs.Cmp.Lexicographic.{pointwise}
 use Rattle.std.specs.Cmp.{first_so, second_so, unsigned_Decides}
 use Rattle.std.specs.Cmp.Derive.{both_true}
@@ -9,6 +9,7 @@ use Rattle.neli_wire.specs.Constants.{IsEquality}
 use Rattle.neli_attr_base.specs.declared.attr_type.AttrType.{AttrType}
 use Rattle.neli_attr_base.specs.TypeField.{attr_type_eq}
 use Rattle.neli_attr.specs.declared.nlattr.Nlattr.{Nlattr}
+use Rattle.neli_attr.specs.declared.rtattr.Rtattr.{Rtattr}
 use Rattle.neli_attr.specs.Nlattr.{nlattr_eq}
 
 -- it tells values apart, and each is equal to itself
@@ -53,6 +54,19 @@ flags-equality = from-parts apart same
 pub both-apart : {A B C : Type 0} {p : A → A → Bool} {q : B → B → Bool} → IsEquality p → IsEquality q → (f : C → A) (g : C → B) (a b : C) → (p (f a) (f b) && q (g a) (g b)) ≡ true → (f a ≡ f b) × (g a ≡ g b)
 both-apart {A} {B} {C} {p} {q} h k f g a b e = ((h (f a) (f b)).0 (first_so (p (f a) (f b)) (q (g a) (g b)) e), (k (g a) (g b)).0 (second_so (p (f a) (f b)) (q (g a) (g b)) e))
 
+-- pairs, part by part
+pub pair-equality : {A B : Type 0} {p : A → A → Bool} {q : B → B → Bool} → IsEquality p → IsEquality q → IsEquality {T = A × B} (λ a b. p a.0 b.0 && q a.1 b.1)
+pair-equality {A} {B} {p} {q} h k = from-parts apart (λ a. both_true ((h a.0 a.0).1 refl) ((k a.1 a.1).1 refl))
+  where
+    apart : (a b : A × B) → (p a.0 b.0 && q a.1 b.1) ≡ true → a ≡ b
+    apart a b e =
+        let both = both-apart h k (λ (c : A × B). c.0) (λ c. c.1) a b e in
+        λ i. (both.0 i, both.1 i)
+
+-- values by their parts, which make the value
+pub parts-equality : {C T : Type 0} {eq : T → T → Bool} (parts : C → T) (whole : T → C) → ((c : C) → whole (parts c) ≡ c) → IsEquality eq → IsEquality (λ a b. eq (parts a) (parts b))
+parts-equality parts whole back h = from-parts (λ a b e. sym (back a) ∙ ap whole ((h (parts a) (parts b)).0 e) ∙ back b) (λ a. (h (parts a) (parts a)).1 refl)
+
 -- ---- attributes
 
 module _ {T : Type 0} {same : T → T → Bool} (h : IsEquality same) where
@@ -76,3 +90,18 @@ module _ {T : Type 0} {same : T → T → Bool} (h : IsEquality same) where
 
     pub attribute-equality : IsEquality (nlattr_eq same same_payload)
     attribute-equality = from-parts attribute-apart (λ a. both_true (both_true ((bytes-equality a.nla_len a.nla_len).1 refl) ((field-equality a.nla_type a.nla_type).1 refl)) ((k a.nla_payload a.nla_payload).1 refl))
+
+-- ---- routing attributes
+
+abbrev pub routing_eq : {T P : Type 0} → (T → T → Bool) → (P → P → Bool) → Rtattr T P → Rtattr T P → Bool
+routing_eq same same_payload a b = nat_eq a.rta_len b.rta_len && (same a.rta_type b.rta_type && same_payload a.rta_payload b.rta_payload)
+
+pub routing-equality : {T P : Type 0} {same : T → T → Bool} {same_payload : P → P → Bool} → IsEquality same → IsEquality same_payload → IsEquality (routing_eq same same_payload)
+routing-equality h k =
+    parts-equality (λ a. (a.rta_len, (a.rta_type, a.rta_payload)))
+    (λ t. record { rta_len = t.0; rta_type = t.1.0; rta_payload = t.1.1 }) (λ a. refl)
+    (pair-equality bytes-equality (pair-equality h k))
+
+-- lists of them, with payloads of bytes
+pub routing_list-equality : {T : Type 0} {same : T → T → Bool} → IsEquality same → IsEquality (pointwise (routing_eq same (pointwise nat_eq)))
+routing_list-equality h = lists-equality (routing-equality h (lists-equality bytes-equality))
