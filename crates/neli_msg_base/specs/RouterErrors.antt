@@ -27,6 +27,11 @@ socket_of (socket.De e) = Socket (socket.De e)
 socket_of (socket.Io kind) = Socket (socket.Io kind)
 socket_of socket.Memory = Memory
 
+-- words as an error; without words memory ran out
+abbrev pub router_of_message : {T P : Type 0} → Option (List ℕ) → RouterError T P
+router_of_message (Some text) = Msg text
+router_of_message None = Memory
+
 -- the text, where it is this library's; the standard library has those of an `Io` and a `Utf8`
 abbrev pub router_text : {T P : Type 0} → RouterError T P → Option (List ℕ)
 router_text (Msg text) = Some text

@@ -24,6 +24,11 @@ of_de (de.Utf8 error) = De (de.Utf8 error)
 of_de (de.InvalidInput n) = De (de.InvalidInput n)
 of_de de.Memory = Memory
 
+-- words as an error; without words memory ran out
+abbrev pub socket_of_message : Option (List ℕ) → SocketError
+socket_of_message (Some text) = Msg text
+socket_of_message None = Memory
+
 -- the text, where it is this library's; the standard library has those of an `Io` and a `Utf8`
 abbrev pub socket_text : SocketError → Option (List ℕ)
 socket_text (Msg text) = Some text

@@ -18,7 +18,7 @@ use crate::{NlmsghdrAck, NlmsghdrErr, RouterError};
 use byteorder::{ByteOrder, LittleEndian};
 use neli_attr::{Buffer, BuildError, GenlBuffer, of};
 use neli_consts::{NlType, NlmsgerrAttr};
-use neli_list::read_whole;
+use neli_list::{TryClone, read_whole};
 use neli_wire::{
     Constant, Cursor, DeError, FromBytesWithInput, NoMemory, SerError, Size, ToBytes,
     UninitializedFieldError, alignto,
@@ -401,31 +401,7 @@ fn answer_with<M>(error: i32, nlmsg: M, ext_ack: GenlBuffer<NlmsgerrAttr, Buffer
     }
 }
 
-impl Nlmsgerr<()> {
-    /// An equal answer.
-    ///
-    /// Refused only where memory runs out.
-    pub fn try_clone(&self) -> Result<Self, NoMemory>
-        ensures { IfOk result (λ e. e ≡ self.now) }
-    {
-        let ext_ack = self.ext_ack.try_clone()?;
-        Ok(answer_with(self.error, (), ext_ack))
-    }
-}
-
-impl<T: NlType> Nlmsgerr<NlmsghdrAck<T>> {
-    /// An equal answer.
-    ///
-    /// Refused only where memory runs out.
-    pub fn try_clone(&self) -> Result<Self, NoMemory>
-        ensures { IfOk result (λ e. e ≡ self.now) }
-    {
-        let ext_ack = self.ext_ack.try_clone()?;
-        Ok(answer_with(self.error, self.nlmsg, ext_ack))
-    }
-}
-
-impl<T: NlType> Nlmsgerr<NlmsghdrErr<T, Buffer>> {
+impl<M: TryClone> Nlmsgerr<M> {
     /// An equal answer.
     ///
     /// Refused only where memory runs out.
@@ -435,6 +411,12 @@ impl<T: NlType> Nlmsgerr<NlmsghdrErr<T, Buffer>> {
         let nlmsg = self.nlmsg.try_clone()?;
         let ext_ack = self.ext_ack.try_clone()?;
         Ok(answer_with(self.error, nlmsg, ext_ack))
+    }
+}
+
+impl<M: TryClone> TryClone for Nlmsgerr<M> {
+    fn try_clone(&self) -> Result<Self, NoMemory> {
+        Nlmsgerr::try_clone(self)
     }
 }
 

@@ -19,7 +19,7 @@ use crate::parts::{length_with, write_framed};
 use crate::{NlmsghdrAck, RouterError};
 use neli_attr::{Buffer, BuildError, of};
 use neli_consts::{NlType, NlmF};
-use neli_list::read_whole;
+use neli_list::{TryClone, read_whole};
 use neli_wire::implementing::padded_length;
 use neli_wire::{
     Cursor, DeError, FromBytes, FromBytesWithInput, Header, MsgError, NoMemory, SerError, Size,
@@ -262,7 +262,7 @@ impl<T: NlType + Drop, P: Size + Drop> NlmsghdrErrBuilder<T, P> {
     }
 }
 
-impl<T: NlType> NlmsghdrErr<T, Buffer> {
+impl<T: NlType, P: TryClone> NlmsghdrErr<T, P> {
     /// An equal message.
     ///
     /// Refused only where memory runs out.
@@ -274,6 +274,12 @@ impl<T: NlType> NlmsghdrErr<T, Buffer> {
             header: self.header,
             payload,
         })
+    }
+}
+
+impl<T: NlType, P: TryClone> TryClone for NlmsghdrErr<T, P> {
+    fn try_clone(&self) -> Result<Self, NoMemory> {
+        NlmsghdrErr::try_clone(self)
     }
 }
 

@@ -15,9 +15,11 @@ ghost use Rattle.neli_msg_base.specs.laws.Headers.{header_wire-length, header_wi
 use byteorder::{ByteOrder, LittleEndian};
 use neli_attr::{BuildError, of};
 use neli_consts::{NlType, NlmF};
+use neli_list::TryClone;
 use neli_wire::implementing::undo_on_refusal;
 use neli_wire::{
-    Constant, Cursor, DeError, FromBytes, SerError, Size, ToBytes, UninitializedFieldError,
+    Constant, Cursor, DeError, FromBytes, NoMemory, SerError, Size, ToBytes,
+    UninitializedFieldError,
 };
 use std::alloc::Global;
 
@@ -97,6 +99,12 @@ impl<T: NlType> NlmsghdrAck<T> {
             return None;
         }
         Some(header_of(bytes))
+    }
+}
+
+impl<T: NlType> TryClone for NlmsghdrAck<T> {
+    fn try_clone(&self) -> Result<Self, NoMemory> {
+        Ok(*self)
     }
 }
 

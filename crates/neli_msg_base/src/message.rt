@@ -354,7 +354,7 @@ impl<T: NlType, P: Size + Drop> Nlmsghdr<T, P> {
     }
 }
 
-impl<T: NlType> Nlmsghdr<T, Buffer> {
+impl<T: NlType, P: TryClone> Nlmsghdr<T, P> {
     /// An equal message.
     ///
     /// Refused only where memory runs out.
@@ -402,7 +402,7 @@ impl Nlmsghdr<u16, Buffer> {
     }
 }
 
-impl<T: NlType> TryClone for Nlmsghdr<T, Buffer> {
+impl<T: NlType, P: TryClone> TryClone for Nlmsghdr<T, P> {
     fn try_clone(&self) -> Result<Self, NoMemory> {
         Nlmsghdr::try_clone(self)
     }

@@ -16,7 +16,7 @@ use bitflags::Flags;
 use byteorder::{ByteOrder, LittleEndian};
 use neli_attr::Buffer;
 use neli_consts::{NlType, NlmF};
-use neli_list::read_whole;
+use neli_list::{TryClone, read_whole};
 use neli_wire::{Constant, Cursor, DeError, FromBytesWithInput, NoMemory, SerError, Size, ToBytes};
 use std::alloc::Global;
 
@@ -207,7 +207,7 @@ impl<T: NlType, P: ToBytes> ToBytes for NlPayload<T, P> {
     }
 }
 
-impl<T: NlType> NlPayload<T, Buffer> {
+impl<T: NlType, P: TryClone> NlPayload<T, P> {
     /// An equal payload.
     ///
     /// Refused only where memory runs out.
@@ -222,6 +222,12 @@ impl<T: NlType> NlPayload<T, Buffer> {
             NlPayload::Payload(body) => NlPayload::Payload(body.try_clone()?),
             NlPayload::Empty => NlPayload::Empty,
         })
+    }
+}
+
+impl<T: NlType, P: TryClone> TryClone for NlPayload<T, P> {
+    fn try_clone(&self) -> Result<Self, NoMemory> {
+        NlPayload::try_clone(self)
     }
 }
 

@@ -1,13 +1,15 @@
 //! What a router reports.
 
 ghost use Rattle.std.specs.Prelude.{◌≡◌, IfErr, IfOk, IfSome};
+ghost use Rattle.neli_attr.specs.Builders.{message_in};
 ghost use Rattle.neli_msg_base.specs.declared.router_error.RouterError.TheVariants as router;
 ghost use Rattle.neli_msg_base.specs.Retyping.{IsTypedError, RefusesTypingError};
-ghost use Rattle.neli_msg_base.specs.RouterErrors.{de_of, router_text, socket_of};
+ghost use Rattle.neli_msg_base.specs.RouterErrors.{de_of, router_of_message, router_text, socket_of};
 
 use crate::{Nlmsgerr, Nlmsghdr, NlmsghdrAck, NlmsghdrErr, SocketError};
-use neli_attr::Buffer;
+use neli_attr::{Buffer, BuildError};
 use neli_consts::NlType;
+use neli_list::TryClone;
 use neli_wire::{DeError, FromBytesWithInput, MsgError, NoMemory, Size};
 use std::alloc::{AllocError, AllocFailed, Global};
 use std::error::Error;
@@ -57,7 +59,7 @@ impl<T, P> RouterError<T, P> {
     }
 }
 
-impl<T: NlType> RouterError<T, Buffer> {
+impl<T: NlType, P: TryClone> RouterError<T, P> {
     /// An equal error.
     ///
     /// Refused only where memory runs out.
@@ -78,6 +80,12 @@ impl<T: NlType> RouterError<T, Buffer> {
             RouterError::SeqInUse(number) => RouterError::SeqInUse(*number),
             RouterError::Memory => RouterError::Memory,
         })
+    }
+}
+
+impl<T: NlType, P: TryClone> TryClone for RouterError<T, P> {
+    fn try_clone(&self) -> Result<Self, NoMemory> {
+        RouterError::try_clone(self)
     }
 }
 
@@ -177,6 +185,18 @@ impl<T, P> From<SocketError> for RouterError<T, P> {
         match error {
             SocketError::Memory => RouterError::Memory,
             error => RouterError::Socket(error),
+        }
+    }
+}
+
+impl<T, P, const OF: u8> From<BuildError<OF>> for RouterError<T, P> {
+    ghost from_gives = { λ error e. e ≡ router_of_message (message_in error) };
+
+    /// The words of the builder's error. Memory that ran out stays so.
+    fn from(error: BuildError<OF>) -> Self {
+        match error.into_message() {
+            Some(message) => RouterError::Msg(message),
+            None => RouterError::Memory,
         }
     }
 }

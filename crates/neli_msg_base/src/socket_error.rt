@@ -2,9 +2,11 @@
 
 ghost use Rattle.std.specs.Prelude.{◌≡◌, IfOk, IfSome};
 ghost use Rattle.std.specs.IoError.{error_kind};
+ghost use Rattle.neli_attr.specs.Builders.{message_in};
 ghost use Rattle.neli_msg_base.specs.declared.socket_error.SocketError.TheVariants as socket;
-ghost use Rattle.neli_msg_base.specs.SocketErrors.{of_ser, of_de, socket_text};
+ghost use Rattle.neli_msg_base.specs.SocketErrors.{of_ser, of_de, socket_of_message, socket_text};
 
+use neli_attr::BuildError;
 use neli_wire::{DeError, MsgError, NoMemory, SerError};
 use std::alloc::{AllocError, AllocFailed, Global};
 use std::error::Error;
@@ -103,6 +105,18 @@ impl From<io::Error> for SocketError {
 
     fn from(error: io::Error) -> SocketError {
         SocketError::Io(error.kind())
+    }
+}
+
+impl<const OF: u8> From<BuildError<OF>> for SocketError {
+    ghost from_gives = { λ error e. e ≡ socket_of_message (message_in error) };
+
+    /// The words of the builder's error. Memory that ran out stays so.
+    fn from(error: BuildError<OF>) -> SocketError {
+        match error.into_message() {
+            Some(message) => SocketError::Msg(message),
+            None => SocketError::Memory,
+        }
     }
 }
 
