@@ -2,24 +2,11 @@
 use Rattle.std.specs.Prelude.{ℕ, List, Option, Some, None}
 use Rattle.neli_wire.specs.DeError.{DeError}
 use Rattle.neli_wire.specs.DeError.TheVariants as de
-use Rattle.neli_wire.specs.Messages.{uninitialized}
-use Rattle.neli_attr.specs.BuildError.{BuildError}
-use Rattle.neli_attr.specs.BuildError.TheVariants.{UninitializedField, ValidationError, Memory}
-use Rattle.neli_attr.specs.Builders.{error_text}
-use Rattle.neli_msg_base.specs.declared.socket_error.SocketError.{SocketError}
-use Rattle.neli_msg_base.specs.declared.socket_error.SocketError.TheVariants as socket
-use Rattle.neli_msg_base.specs.declared.router_error.RouterError.{RouterError}
-use Rattle.neli_msg_base.specs.declared.router_error.RouterError.TheVariants as router
+use Rattle.neli_attr.specs.Builders.{error_text, message_in}
 use Rattle.neli_msg.specs.declared.builder_error.BuilderError.{BuilderError}
 use Rattle.neli_msg.specs.declared.builder_error.BuilderError.TheVariants.{Nlmsghdr, Nlmsgerr, NlmsghdrErr, NlmsghdrAck, AttrType, Nlattr, Rtattr, Genlmsghdr, Ifinfomsg, Ifaddrmsg, Rtgenmsg, Rtmsg, Ndmsg, NdaCacheinfo, Tcmsg}
 
 -- the words of an error; none where memory ran out
-abbrev pub message_in : {of : ℕ} → BuildError of → Option (List ℕ)
-message_in (UninitializedField name) = Some (uninitialized name.now)
-message_in (ValidationError text) = Some text.now
-message_in Memory = None
-
--- the same of the error of any builder
 abbrev pub message_of : BuilderError → Option (List ℕ)
 message_of (Nlmsghdr e) = message_in e
 message_of (Nlmsgerr e) = message_in e
@@ -56,16 +43,6 @@ builder_text (NdaCacheinfo e) = error_text e
 builder_text (Tcmsg e) = error_text e
 
 -- words as an error; without words memory ran out
-abbrev pub socket_of_message : Option (List ℕ) → SocketError
-socket_of_message (Some text) = socket.Msg text
-socket_of_message None = socket.Memory
-
--- words as an error; without words memory ran out
 abbrev pub de_of_message : Option (List ℕ) → DeError
 de_of_message (Some text) = de.Msg text
 de_of_message None = de.Memory
-
--- the same as an error of a router
-abbrev pub router_of_message : {T P : Type 0} → Option (List ℕ) → RouterError T P
-router_of_message (Some text) = router.Msg text
-router_of_message None = router.Memory

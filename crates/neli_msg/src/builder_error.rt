@@ -2,12 +2,14 @@
 //! `IflaVlanFlags` and `IflaVlanQosMapping` have their own error alone.
 
 ghost use Rattle.std.specs.Prelude.{◌≡◌, Some};
+ghost use Rattle.neli_msg_base.specs.RouterErrors.{router_of_message};
+ghost use Rattle.neli_msg_base.specs.SocketErrors.{socket_of_message};
 ghost use Rattle.neli_msg.specs.declared.builder_error.BuilderError.TheVariants as builder;
-ghost use Rattle.neli_msg.specs.BuilderErrors.{builder_text, de_of_message, message_in, message_of, router_of_message, socket_of_message};
+ghost use Rattle.neli_msg.specs.BuilderErrors.{builder_text, de_of_message, message_of};
 
 use neli_attr::{BuildError, of};
 use neli_msg_base::{RouterError, SocketError};
-use neli_wire::{DeError, MsgError, UninitializedFieldError};
+use neli_wire::{DeError, MsgError};
 use std::error::Error;
 use std::fmt;
 
@@ -46,39 +48,26 @@ pub enum BuilderError {
     Tcmsg(BuildError<{ of::TCMSG }>),
 }
 
-/// The words of an error; none where memory ran out.
-fn words_of<const OF: u8>(error: BuildError<OF>) -> Option<MsgError>
-    ensures { result ≡ message_in error.entry }
-{
-    match error {
-        BuildError::UninitializedField(name) => {
-            Some(MsgError::from(UninitializedFieldError::new(name)))
-        }
-        BuildError::ValidationError(text) => Some(MsgError::from_static(text)),
-        BuildError::Memory => None,
-    }
-}
-
 /// The words of a builder's error; none where memory ran out. They take no memory.
 fn message_of(error: BuilderError) -> Option<MsgError>
     ensures { result ≡ message_of error }
 {
     match error {
-        BuilderError::Nlmsghdr(error) => words_of(error),
-        BuilderError::Nlmsgerr(error) => words_of(error),
-        BuilderError::NlmsghdrErr(error) => words_of(error),
-        BuilderError::NlmsghdrAck(error) => words_of(error),
-        BuilderError::AttrType(error) => words_of(error),
-        BuilderError::Nlattr(error) => words_of(error),
-        BuilderError::Rtattr(error) => words_of(error),
-        BuilderError::Genlmsghdr(error) => words_of(error),
-        BuilderError::Ifinfomsg(error) => words_of(error),
-        BuilderError::Ifaddrmsg(error) => words_of(error),
-        BuilderError::Rtgenmsg(error) => words_of(error),
-        BuilderError::Rtmsg(error) => words_of(error),
-        BuilderError::Ndmsg(error) => words_of(error),
-        BuilderError::NdaCacheinfo(error) => words_of(error),
-        BuilderError::Tcmsg(error) => words_of(error),
+        BuilderError::Nlmsghdr(error) => error.into_message(),
+        BuilderError::Nlmsgerr(error) => error.into_message(),
+        BuilderError::NlmsghdrErr(error) => error.into_message(),
+        BuilderError::NlmsghdrAck(error) => error.into_message(),
+        BuilderError::AttrType(error) => error.into_message(),
+        BuilderError::Nlattr(error) => error.into_message(),
+        BuilderError::Rtattr(error) => error.into_message(),
+        BuilderError::Genlmsghdr(error) => error.into_message(),
+        BuilderError::Ifinfomsg(error) => error.into_message(),
+        BuilderError::Ifaddrmsg(error) => error.into_message(),
+        BuilderError::Rtgenmsg(error) => error.into_message(),
+        BuilderError::Rtmsg(error) => error.into_message(),
+        BuilderError::Ndmsg(error) => error.into_message(),
+        BuilderError::NdaCacheinfo(error) => error.into_message(),
+        BuilderError::Tcmsg(error) => error.into_message(),
     }
 }
 

@@ -1,6 +1,6 @@
 //! The reader of a datagram.
 
-ghost use Rattle.std.specs.Prelude.{◌≡◌, ◌+◌, ◌≤◌, ℕ, List, [], IfOk, IfSome, OnOk, length, map};
+ghost use Rattle.std.specs.Prelude.{◌≡◌, ◌≢◌, ◌+◌, ◌≤◌, ℕ, List, [], IfOk, IfSome, OnErr, OnOk, length, map};
 ghost use Rattle.neli_wire.specs.Frames.{frame_takes};
 ghost use Rattle.neli_msg_base.specs.Messages.{message_layout, message_of, message_takes};
 ghost use Rattle.neli_msg.specs.Cuts.{IsNext, cut_of, cut_with, item_of};
@@ -58,6 +58,14 @@ impl<'b, T: NlType, P: FromBytesWithInput> NlBufferIter<'b, T, P> {
         self.next_typed(alloc)
     }
 
+    /// The bytes that it still has to read. What is asked of before `next` tells where a message, or the fault, begins: as
+    /// many bytes before the datagram's end as there are here.
+    pub fn rest(&self) -> &'b [u8]
+        ensures { result.now ≡ self.now }
+    {
+        self.cursor.rest()
+    }
+
     /// What `next` answers, read as other types.
     pub fn next_typed<T2: NlType, P2: FromBytesWithInput>(
         &mut self,
@@ -93,8 +101,23 @@ impl<'b, T: NlType, P: FromBytesWithInput> NlBufferIter<'b, T, P> {
 
 /// All the messages of a datagram, and the fault after them, if there is one.
 ///
-/// Refused only where memory runs out.
+/// Refused only where memory runs out, which a datagram of no bytes does not ask for.
 pub fn cut<T: NlType, P: FromBytesWithInput>(
+    alloc: Global,
+    bytes: &[u8],
+) -> Result<(Vec<Nlmsghdr<T, P>>, Option<DeError>), NoMemory>
+    ensures cut { IfOk result (λ c. cut_of (message_layout T.wire_value T.wire_number P.read) bytes.now
+        ≡ (map (message_of P.view) c.0.items, c.1)) }
+    ensures memory { OnErr result (bytes.now ≢ []) }
+{
+    if bytes.is_empty() {
+        return Ok((Vec::new(alloc), None));
+    }
+    cut_messages(alloc, bytes)
+}
+
+/// The messages of a datagram, and the fault after them.
+fn cut_messages<T: NlType, P: FromBytesWithInput>(
     alloc: Global,
     bytes: &[u8],
 ) -> Result<(Vec<Nlmsghdr<T, P>>, Option<DeError>), NoMemory>

@@ -99,7 +99,7 @@ module _ {H V : Type 0} (layout : Layout H V) (placed : IsPlaced layout) (some :
   cut_by-each (suc fuel) (b ∷ s) le =
       cut_from-each (b ∷ s) (read (b ∷ s)) (cut_by read fuel) (λ e. cc) refl (λ t lt. cut_by-each fuel t (omega arith))
 
-  cut_of-each : (b : List ℕ) → CutsEach b (cut_of layout b).0 (cut_of layout b).1
+  pub cut_of-each : (b : List ℕ) → CutsEach b (cut_of layout b).0 (cut_of layout b).1
   unfolding cut_of
   cut_of-each b = cut_by-each (length b) b (omega arith)
 
@@ -107,7 +107,7 @@ module _ {H V : Type 0} (layout : Layout H V) (placed : IsPlaced layout) (some :
   cut_of-Cuts b = each-Cuts b (cut_of layout b).0 (cut_of layout b).1 (cut_of-each b)
 
   -- each cut is `cut_of`
-  cut_of-is : (b : List ℕ) (ms : List (H × V)) (f : Option DeError) → CutsEach b ms f → cut_of layout b ≡ (ms, f)
+  pub cut_of-is : (b : List ℕ) (ms : List (H × V)) (f : Option DeError) → CutsEach b ms f → cut_of layout b ≡ (ms, f)
   cut_of-is b ms f c =
       let same = one_each b (cut_of layout b).0 ms (cut_of layout b).1 f (cut_of-each b) c in
       ap (λ (x : List (H × V)). (x, (cut_of layout b).1)) same.0 ∙ ap (λ (g : Option DeError). (ms, g)) same.1
@@ -123,6 +123,16 @@ module _ {H V : Type 0} (layout : Layout H V) (placed : IsPlaced layout) (some :
 
   pub cut_of-fault : (s : List ℕ) (e : DeError) → s ≢ [] → read s ≡ Err e → cut_of layout s ≡ ([], Some e)
   cut_of-fault s e any is = cut_of-is s [] (Some e) (any, is)
+
+  each-join : (a b : List ℕ) (ms ns : List (H × V)) (f : Option DeError) → CutsEach a ms None → CutsEach b ns f → CutsEach (a ++ b) (ms ++ ns) f
+  each-join a b [] ns f p q = subst (λ (x : List ℕ). CutsEach (x ++ b) ns f) (sym p) q
+  each-join a b (m ∷ ms) ns f p q =
+      (p.0, p.1 ++ b, ap (λ (x : List ℕ). x ++ b) p.2 ∙ append_assoc p.0 p.1 b, p.3, each-join p.1 b ms ns f p.4 q)
+
+  -- without a fault the first bytes are cut as they are alone, and so are those after them
+  pub cut_of-join : (a b : List ℕ) → (cut_of layout a).1 ≡ None → cut_of layout (a ++ b) ≡ messages_before (cut_of layout a).0 (cut_of layout b)
+  cut_of-join a b whole =
+      cut_of-is (a ++ b) _ _ (each-join a b _ _ _ (subst (λ (g : Option DeError). CutsEach a (cut_of layout a).0 g) whole (cut_of-each a)) (cut_of-each b))
 
   -- what begins with messages, and then has the end, a message or a fault
   pub messages_before-end : (b : List ℕ) (ms : List (H × V)) → cut_of layout b ≡ messages_before ms (cut_of layout []) → cut_of layout b ≡ (ms, None)

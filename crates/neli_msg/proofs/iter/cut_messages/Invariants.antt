@@ -2,7 +2,7 @@ use Rattle.std.proofs.Common.{◌≡◌, length}
 use Rattle.std.specs.Prelude.{map}
 use Rattle.neli_msg_base.specs.Messages.{message_layout, message_of}
 use Rattle.neli_msg.specs.Cuts.{cut_of, messages_before}
-use Rattle.neli_msg.proofs.iter.cut.Given as goal
+use Rattle.neli_msg.proofs.iter.cut_messages.Given as goal
 
 abbrev pub decreases-loop-item : goal.decreases-loop-item
 decreases-loop-item g l = length l.iter
