@@ -3,11 +3,14 @@
 ghost use Rattle.std.specs.Prelude.{◌≡◌, ◌+◌, ◌≤◌, [], None, IfSome, IsNone, OnErr, OnOk, length};
 ghost use Rattle.std.specs.Iterator.{YieldsFirstBy, item_count};
 ghost use Rattle.neli_wire.specs.Place.{Place, whole};
+ghost use Rattle.neli_attr.specs.Lookup.{is_masked};
 ghost use Rattle.neli_lent.specs.Walks.{count_of, cut_with, find_in, items_of, map_found, map_item, map_ok};
 ghost use Rattle.neli_lent.specs.Attributes.{attribute_said, attributes_at};
 
+use crate::selector::Masked;
 use crate::{AttrSelector, LentAttr};
 use neli_attr::AttrType;
+use neli_consts_rta::RtaType;
 use neli_wire::implementing::within_input;
 use neli_wire::{Constant, Cursor, DeError};
 use std::marker::{Model, PhantomData};
@@ -118,6 +121,21 @@ impl<'b, K: Constant<Number = u16>> LentAttrs<'b, K> {
             count += 1;
         }
         Ok(count)
+    }
+}
+
+impl<'b, T: RtaType> LentAttrs<'b, T> {
+    /// The first of the attributes that are left whose number is that of this type, whatever its two highest bits are;
+    /// the walk stays where it is. These are the flags `NLA_F_NESTED` and `NLA_F_NET_BYTEORDER`, which a routing
+    /// attribute has in its type and some kernels set.
+    ///
+    /// A type with a number of 16384 or more is never found. Refused with the fault of what is left, where no such
+    /// attribute stands before it.
+    pub fn get_attribute_masked(&self, t: T) -> Result<Option<LentAttr<'b, T>>, DeError>
+        ensures { map_found attribute_said result
+            ≡ find_in (λ a. is_masked T.wire_number t a.0.kind) (attributes_at T.wire_value self.now) }
+    {
+        self.get_attribute(Masked(t))
     }
 }
 

@@ -59,6 +59,14 @@ impl<'b, T: NlType> LentMessages<'b, T> {
         }
     }
 
+    /// The bytes that it still has to read. What is asked of before [`next`](Iterator::next) tells where a message, or the
+    /// fault, begins: as many bytes before the datagram's end as there are here.
+    pub fn rest(&self) -> &'b [u8]
+        ensures { result.now ≡ self.now }
+    {
+        self.cursor.rest()
+    }
+
     /// A second walk from the same place.
     pub fn ahead(&self) -> Self
         ensures { result ≡ self.now }

@@ -1,10 +1,15 @@
 //! What attributes are looked up by.
 
 ghost use Rattle.std.specs.Prelude.{◌≡◌, Bool};
+ghost use Rattle.neli_attr.specs.Lookup.{is_masked};
 
 use neli_attr::AttrType;
 use neli_consts::NlAttrType;
 use neli_consts_rta::RtaType;
+use neli_wire::Constant;
+
+/// The bits of a type field that are the type itself (`NLA_TYPE_MASK` of `linux/netlink.h`).
+const TYPE_MASK: u16 = 0x3fff;
 
 /// A type by which attributes are looked up whose type field is a `K`.
 ///
@@ -31,5 +36,17 @@ impl<T: RtaType> AttrSelector<T> for T {
 
     fn selects(&self, field: &T) -> bool {
         field == self
+    }
+}
+
+/// A routing type by whose number attributes are looked up, whatever the two flags above it are.
+#[derive(Clone, Copy)]
+pub(crate) struct Masked<T>(pub(crate) T);
+
+impl<T: RtaType> AttrSelector<T> for Masked<T> {
+    ghost selects = { λ t field. is_masked T.wire_number t.0 field };
+
+    fn selects(&self, field: &T) -> bool {
+        field.to_wire() & TYPE_MASK == self.0.to_wire()
     }
 }
