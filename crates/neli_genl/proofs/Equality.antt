@@ -1,10 +1,11 @@
 -- When `==` of messages is equality.
-use Rattle.std.specs.Prelude.{◌≡◌, ℕ, Bool, true, List, ◌&&◌, nat_eq, refl}
-use Rattle.std.specs.Cmp.{first_so, second_so}
+use Rattle.std.specs.Prelude.{◌≡◌, ℕ, ℤ, Bool, true, List, ◌&&◌, nat_eq, refl}
+use Rattle.std.specs.Ordering.{int_eq}
+use Rattle.std.specs.Cmp.{first_so, second_so, signed_Decides}
 use Rattle.std.specs.Cmp.Derive.{both_true}
 use Rattle.neli_wire.specs.Constants.{IsEquality}
 use Rattle.neli_attr.specs.declared.nlattr.Nlattr.{Nlattr}
-use Rattle.neli_attr.specs.laws.Equality.{both-apart, bytes-equality, from-parts}
+use Rattle.neli_attr.specs.laws.Equality.{both-apart, bytes-equality, from-parts, pair-equality}
 use Rattle.neli_consts_sys.specs.declared.connector.CnMsgIdx.{CnMsgIdx}
 use Rattle.neli_consts_sys.specs.declared.connector.CnMsgVal.{CnMsgVal}
 use Rattle.neli_genl.specs.declared.cn_msg.CnMsg.{CnMsg}
@@ -67,3 +68,22 @@ module _ {C T H : Type 0} {cmd : C → C → Bool} {attrs : Attrs T → Attrs T 
 
   pub generic-equality : IsEquality generic_eq
   generic-equality = from-parts generic-apart (λ a. both_true ((c a.cmd a.cmd).1 refl) (both_true ((bytes-equality a.version a.version).1 refl) (both_true ((bytes-equality a.reserved a.reserved).1 refl) (both_true ((u a.header a.header).1 refl) ((l a.attrs a.attrs).1 refl)))))
+
+-- ---- events of processes
+
+pub signed : IsEquality int_eq
+signed = λ a b. signed_Decides a b
+
+-- the last field of a variant
+pub last-field : {A : Type 0} {eq : A → A → Bool} → IsEquality eq → IsEquality {T = A × Unit {0}} (λ x y. eq x.0 y.0)
+last-field {A} {eq} h = from-parts (λ x y e i. ((h x.0 y.0).0 e i, tt)) (λ x. (h x.0 x.0).1 refl)
+
+-- two process numbers, and what follows them
+pub processes : {A : Type 0} {eq : A → A → Bool} → IsEquality eq → IsEquality {T = ℤ × (ℤ × A)} (λ x y. int_eq x.0 y.0 && (int_eq x.1.0 y.1.0 && eq x.1.1 y.1.1))
+processes h = pair-equality signed (pair-equality signed h)
+
+pub pair-of-processes : IsEquality {T = ℤ × (ℤ × Unit {0})} (λ x y. int_eq x.0 y.0 && int_eq x.1.0 y.1.0)
+pair-of-processes = pair-equality signed (last-field signed)
+
+pub pair-of-numbers : IsEquality {T = ℕ × (ℕ × Unit {0})} (λ x y. nat_eq x.0 y.0 && nat_eq x.1.0 y.1.0)
+pair-of-numbers = pair-equality bytes-equality (last-field bytes-equality)

@@ -8,7 +8,7 @@ ghost use Rattle.neli_body.specs.laws.Bodies.{body_of-never_short, body_of-no_me
 ghost use Rattle.neli_genl.specs.CnMsg.{IsPlainCnMsg, cn_msg_built, cn_msg_bytes, cn_msg_header};
 ghost use Rattle.neli_genl.specs.laws.CnMsg.{cn_msg-reads_back, cn_msg-width, cn_msg-writes_back};
 
-use neli_attr::{Buffer, BuildError, of};
+use neli_attr::{BuildError, TryClone, of};
 use neli_body::numbers::{u16_in, u32_in};
 use neli_body::{FixedHeader, HeaderBytes, read_body, size_of_body, write_body};
 use neli_consts_sys::{CnMsgIdx, CnMsgVal};
@@ -87,7 +87,7 @@ impl<P> CnMsg<P> {
     }
 }
 
-impl CnMsg<Buffer> {
+impl<P: TryClone> CnMsg<P> {
     /// An equal message.
     ///
     /// Refused only where memory runs out.
@@ -98,6 +98,12 @@ impl CnMsg<Buffer> {
             header: self.header,
             payload: self.payload.try_clone()?,
         })
+    }
+}
+
+impl<P: TryClone> TryClone for CnMsg<P> {
+    fn try_clone(&self) -> Result<Self, NoMemory> {
+        CnMsg::try_clone(self)
     }
 }
 

@@ -13,7 +13,7 @@ ghost use Rattle.neli_genl.specs.View.{says};
 ghost use Rattle.neli_genl.specs.laws.Genlmsghdr.{genlmsghdr_of-never_short, genlmsghdr_of-no_memory, genlmsghdr_wire-length, genlmsghdr_wire-zeros, genlmsghdr_wire-no_memory};
 
 use crate::NoUserHeader;
-use neli_attr::{Buffer, BuildError, GenlBuffer, of};
+use neli_attr::{Buffer, BuildError, GenlBuffer, TryClone, of};
 use neli_body::HeaderBytes;
 use neli_body::numbers::{u8_in, u16_in};
 use neli_consts::{Cmd, NlAttrType};
@@ -79,6 +79,12 @@ impl<C: Cmd, T: NlAttrType, H: Copy> Genlmsghdr<C, T, H> {
             header: self.header,
             attrs: self.attrs.try_clone()?,
         })
+    }
+}
+
+impl<C: Cmd, T: NlAttrType, H: Copy> TryClone for Genlmsghdr<C, T, H> {
+    fn try_clone(&self) -> Result<Self, NoMemory> {
+        Genlmsghdr::try_clone(self)
     }
 }
 

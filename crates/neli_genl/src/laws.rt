@@ -10,9 +10,9 @@ ghost use Rattle.neli_genl.specs.ProcEventHeader.{IsPlainProcEvent, proc_event_b
 ghost use Rattle.neli_genl.specs.RoundTrips.{ArePlainNlattrs, GenlReadsBack, GenlReadsBackWhole, IsPlainGenlmsghdr};
 ghost use Rattle.neli_genl.specs.declared.cn_msg.CnMsg.{CnMsg as Connector};
 ghost use Rattle.neli_genl.specs.declared.genlmsghdr.Genlmsghdr.{Genlmsghdr as Generic};
-ghost use Rattle.neli_genl.specs.declared.proc_event_header.ProcEventHeader.{ProcEventHeader};
+ghost use Rattle.neli_genl.specs.declared.proc_event_header.ProcEventHeader.{ProcEventHeader as Event};
 
-use crate::{CnMsg, Genlmsghdr, NoUserHeader};
+use crate::{CnMsg, Genlmsghdr, NoUserHeader, ProcEvent, ProcEventHeader};
 use neli_consts::{Cmd, NlAttrType};
 use neli_wire::{FromBytesWithInput, ToBytes, TypeSize};
 
@@ -44,19 +44,21 @@ pub fn genlmsghdr_is_read_back<C: Cmd, T: NlAttrType, H: TypeSize>()
 /// A process event with its header is written as bytes that are read as the same, where each number
 /// fits its field. What follows those bytes is skipped.
 pub fn proc_event_is_read_back()
-    ensures back { (h : ProcEventHeader) → IsPlainProcEvent h
+    ensures back { (h : Event) → IsPlainProcEvent h
         → proc_event_of (proc_event_bytes h) ≡ Ok h }
-    ensures skipped { (h : ProcEventHeader) (rest : List ℕ) → IsPlainProcEvent h
+    ensures skipped { (h : Event) (rest : List ℕ) → IsPlainProcEvent h
         → proc_event_of (proc_event_bytes h ++ rest) ≡ Ok h }
 {}
 
 /// `==` of messages of generic netlink and of the connector is true exactly where the two values are equal, field by
-/// field, where the commands, types, headers and payloads in them have such an `==`.
+/// field, where the commands, types, headers and payloads in them have such an `==`; so is that of events of processes.
 pub fn equality<C: PartialEq, T: PartialEq, H: PartialEq, P: PartialEq>()
     ensures user_header { IsEquality ⟦<NoUserHeader as PartialEq>⟧.eq }
     ensures generic { IsEquality C.eq → IsEquality T.eq → IsEquality H.eq
         → IsEquality ⟦<Genlmsghdr<C, T, H> as PartialEq>⟧.eq }
     ensures connector { IsEquality P.eq → IsEquality ⟦<CnMsg<P> as PartialEq>⟧.eq }
+    ensures event { IsEquality ⟦<ProcEvent as PartialEq>⟧.eq }
+    ensures event_with_header { IsEquality ⟦<ProcEventHeader as PartialEq>⟧.eq }
 {
     neli_consts_sys::laws::equality();
 }

@@ -12,7 +12,7 @@ use neli_wire::Size;
 
 /// What happened to a process: the union in `struct proc_event` of `linux/cn_proc.h`. Process numbers
 /// are those of the first namespace; a `tgid` is the number of a process, a `pid` that of its thread.
-#[derive(Clone, Copy, Debug)]
+#[derive(Clone, Copy, Debug, PartialEq, Eq)]
 pub enum ProcEvent {
     /// The answer to a request, with an error number or 0.
     Ack {

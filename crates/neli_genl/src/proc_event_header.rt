@@ -10,15 +10,16 @@ ghost use Rattle.neli_genl.specs.laws.ProcEvents.{proc_event_bytes-length, proc_
 use crate::ProcEvent;
 use crate::event_reading::read_event;
 use crate::proc_event::spell_event;
+use neli_attr::TryClone;
 use neli_body::HeaderBytes;
 use neli_body::numbers::{u32_in, u64_in};
 use neli_consts_sys::ProcEventType;
-use neli_wire::{Constant, Cursor, DeError, FromBytesWithInput, SerError, Size, ToBytes};
+use neli_wire::{Constant, Cursor, DeError, FromBytesWithInput, NoMemory, SerError, Size, ToBytes};
 use std::alloc::Global;
 
 /// An event of a process, with its header: `struct proc_event` of `linux/cn_proc.h`. On the wire it is
 /// the event's type, the processor, the time, and the event's fields from place 16 on.
-#[derive(Debug, Drop)]
+#[derive(Debug, Drop, PartialEq, Eq)]
 pub struct ProcEventHeader {
     /// The processor that the event was seen on.
     pub cpu: u32,
@@ -26,6 +27,25 @@ pub struct ProcEventHeader {
     pub timestamp_ns: u64,
     /// What happened.
     pub event: ProcEvent,
+}
+
+impl ProcEventHeader {
+    /// An equal event. It takes no memory.
+    pub fn try_clone(&self) -> Result<Self, NoMemory>
+        ensures { result ≡ Ok self.now }
+    {
+        Ok(ProcEventHeader {
+            cpu: self.cpu,
+            timestamp_ns: self.timestamp_ns,
+            event: self.event,
+        })
+    }
+}
+
+impl TryClone for ProcEventHeader {
+    fn try_clone(&self) -> Result<Self, NoMemory> {
+        ProcEventHeader::try_clone(self)
+    }
 }
 
 impl Size for ProcEventHeader {

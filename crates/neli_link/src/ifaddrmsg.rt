@@ -10,7 +10,7 @@ ghost use Rattle.neli_consts_rta.specs.Ifa.{ifa_number, ifa_of};
 ghost use Rattle.neli_link.specs.Ifaddrmsg.{IsPlainIfaddrmsg, ifaddrmsg_built, ifaddrmsg_bytes, ifaddrmsg_header};
 ghost use Rattle.neli_link.specs.laws.Ifaddrmsg.{ifaddrmsg-reads_back, ifaddrmsg-width, ifaddrmsg-writes_back};
 
-use neli_attr::{Buffer, BuildError, RtBuffer, of};
+use neli_attr::{Buffer, BuildError, RtBuffer, TryClone, of};
 use neli_body::numbers::{u8_in, u32_in};
 use neli_body::{FixedHeader, HeaderBytes, read_body, size_of_body, write_body};
 use neli_consts_rt::{RtAddrFamily, RtScope};
@@ -23,7 +23,7 @@ use neli_wire::{
 use std::alloc::Global;
 
 /// The fields of an address before its attributes.
-#[derive(Clone, Copy, Debug)]
+#[derive(Clone, Copy, Debug, PartialEq, Eq)]
 struct IfaddrmsgHeader {
     ifa_family: RtAddrFamily,
     ifa_prefixlen: u8,
@@ -33,7 +33,7 @@ struct IfaddrmsgHeader {
 }
 
 /// An address of a link: `struct ifaddrmsg` of `linux/if_addr.h`, 8 bytes, and the address's attributes.
-#[derive(Debug, Drop)]
+#[derive(Debug, Drop, PartialEq, Eq)]
 pub struct Ifaddrmsg {
     header: IfaddrmsgHeader,
     rtattrs: RtBuffer<Ifa, Buffer>,
@@ -92,6 +92,12 @@ impl Ifaddrmsg {
             header: self.header,
             rtattrs: self.rtattrs.try_clone()?,
         })
+    }
+}
+
+impl TryClone for Ifaddrmsg {
+    fn try_clone(&self) -> Result<Self, NoMemory> {
+        Ifaddrmsg::try_clone(self)
     }
 }
 

@@ -10,7 +10,7 @@ ghost use Rattle.neli_consts_rta.specs.Ifla.{ifla_number, ifla_of};
 ghost use Rattle.neli_link.specs.Ifinfomsg.{IsPlainIfinfomsg, ifinfomsg_built, ifinfomsg_bytes, ifinfomsg_down, ifinfomsg_header, ifinfomsg_up};
 ghost use Rattle.neli_link.specs.laws.Ifinfomsg.{ifinfomsg-reads_back, ifinfomsg-width, ifinfomsg-writes_back};
 
-use neli_attr::{Buffer, BuildError, RtBuffer, of};
+use neli_attr::{Buffer, BuildError, RtBuffer, TryClone, of};
 use neli_body::numbers::{i32_in, u8_in, u16_in, u32_in};
 use neli_body::{FixedHeader, HeaderBytes, read_body, size_of_body, write_body};
 use neli_consts_rt::{Arphrd, RtAddrFamily};
@@ -23,7 +23,7 @@ use neli_wire::{
 use std::alloc::Global;
 
 /// The fields of a link before its attributes.
-#[derive(Clone, Copy, Debug)]
+#[derive(Clone, Copy, Debug, PartialEq, Eq)]
 struct IfinfomsgHeader {
     ifi_family: RtAddrFamily,
     padding: u8,
@@ -34,7 +34,7 @@ struct IfinfomsgHeader {
 }
 
 /// A link: `struct ifinfomsg` of `linux/rtnetlink.h`, 16 bytes, and the link's attributes.
-#[derive(Debug, Drop)]
+#[derive(Debug, Drop, PartialEq, Eq)]
 pub struct Ifinfomsg {
     header: IfinfomsgHeader,
     rtattrs: RtBuffer<Ifla, Buffer>,
@@ -93,6 +93,12 @@ impl Ifinfomsg {
             header: self.header,
             rtattrs: self.rtattrs.try_clone()?,
         })
+    }
+}
+
+impl TryClone for Ifinfomsg {
+    fn try_clone(&self) -> Result<Self, NoMemory> {
+        Ifinfomsg::try_clone(self)
     }
 }
 

@@ -9,18 +9,19 @@ ghost use Rattle.neli_attr.specs.Builders.{IsWhyNot};
 ghost use Rattle.neli_link.specs.IflaVlanFlags.{IsPlainIflaVlanFlags, ifla_vlan_flags_built, ifla_vlan_flags_bytes, ifla_vlan_flags_header};
 ghost use Rattle.neli_link.specs.laws.IflaVlanFlags.{ifla_vlan_flags-reads_back, ifla_vlan_flags-width, ifla_vlan_flags-writes_back};
 
-use neli_attr::{BuildError, of};
+use neli_attr::{BuildError, TryClone, of};
 use neli_body::numbers::u8_in;
 use neli_body::{FixedHeader, HeaderBytes, read_fixed, write_fixed};
 use neli_consts_rtf::VlanFlags;
 use neli_wire::{
-    Constant, Cursor, DeError, FromBytes, SerError, Size, ToBytes, UninitializedFieldError,
+    Constant, Cursor, DeError, FromBytes, NoMemory, SerError, Size, ToBytes,
+    UninitializedFieldError,
 };
 use std::alloc::Global;
 
 /// The flags of a virtual network, after `struct ifla_vlan_flags` of `linux/if_link.h`, 2 bytes: one for each
 /// field.
-#[derive(Debug, Drop)]
+#[derive(Debug, Drop, PartialEq, Eq)]
 pub struct IflaVlanFlags {
     flags: VlanFlags,
     mask: VlanFlags,
@@ -39,6 +40,22 @@ impl IflaVlanFlags {
         ensures { result.now ≡ self.now.mask }
     {
         &self.mask
+    }
+
+    /// An equal pair. It takes no memory.
+    pub fn try_clone(&self) -> Result<Self, NoMemory>
+        ensures { result ≡ Ok self.now }
+    {
+        Ok(IflaVlanFlags {
+            flags: self.flags,
+            mask: self.mask,
+        })
+    }
+}
+
+impl TryClone for IflaVlanFlags {
+    fn try_clone(&self) -> Result<Self, NoMemory> {
+        IflaVlanFlags::try_clone(self)
     }
 }
 

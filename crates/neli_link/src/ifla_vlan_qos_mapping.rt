@@ -9,15 +9,17 @@ ghost use Rattle.neli_attr.specs.Builders.{IsWhyNot};
 ghost use Rattle.neli_link.specs.IflaVlanQosMapping.{IsPlainIflaVlanQosMapping, ifla_vlan_qos_mapping_built, ifla_vlan_qos_mapping_bytes, ifla_vlan_qos_mapping_header};
 ghost use Rattle.neli_link.specs.laws.IflaVlanQosMapping.{ifla_vlan_qos_mapping-reads_back, ifla_vlan_qos_mapping-width, ifla_vlan_qos_mapping-writes_back};
 
-use neli_attr::{BuildError, of};
+use neli_attr::{BuildError, TryClone, of};
 use neli_body::numbers::u32_in;
 use neli_body::{FixedHeader, HeaderBytes, read_fixed, write_fixed};
-use neli_wire::{Cursor, DeError, FromBytes, SerError, Size, ToBytes, UninitializedFieldError};
+use neli_wire::{
+    Cursor, DeError, FromBytes, NoMemory, SerError, Size, ToBytes, UninitializedFieldError,
+};
 use std::alloc::Global;
 
 /// How a virtual network maps a priority: `struct ifla_vlan_qos_mapping` of `linux/if_link.h`, 8 bytes, the
 /// payload of `IflaVlanQos::Mapping`.
-#[derive(Debug, Drop)]
+#[derive(Debug, Drop, PartialEq, Eq)]
 pub struct IflaVlanQosMapping {
     from: u32,
     to: u32,
@@ -36,6 +38,22 @@ impl IflaVlanQosMapping {
         ensures { result.now ≡ self.now.to }
     {
         &self.to
+    }
+
+    /// An equal mapping. It takes no memory.
+    pub fn try_clone(&self) -> Result<Self, NoMemory>
+        ensures { result ≡ Ok self.now }
+    {
+        Ok(IflaVlanQosMapping {
+            from: self.from,
+            to: self.to,
+        })
+    }
+}
+
+impl TryClone for IflaVlanQosMapping {
+    fn try_clone(&self) -> Result<Self, NoMemory> {
+        IflaVlanQosMapping::try_clone(self)
     }
 }
 

@@ -1,7 +1,8 @@
-//! Laws over the definitions alone: what is written of a body is read again as what is equal to it. The
-//! functions do nothing: their contracts are the laws.
+//! Laws over the definitions alone: what is written of a body is read again as what is equal to it, and when two
+//! bodies are equal. The functions do nothing: their contracts are the laws.
 
 ghost use Rattle.std.specs.Prelude.{◌≡◌, List, ℕ, length};
+ghost use Rattle.neli_wire.specs.Constants.{IsEquality};
 ghost use Rattle.neli_wire.specs.Numbers.{AreBytes};
 ghost use Rattle.neli_body.specs.Attributes.{attrs_of, attrs_wire};
 ghost use Rattle.neli_body.specs.RoundTrips.{ArePlainAttrs, ReadsBack, ReadsBackWhole};
@@ -95,3 +96,18 @@ pub fn ifla_vlan_qos_mapping_is_read_back()
     ensures bytes { (s : List ℕ) → length s ≡ 8 → AreBytes s
         → ifla_vlan_qos_mapping_bytes (ifla_vlan_qos_mapping_header s) ≡ s }
 {}
+
+/// `==` of links, addresses and neighbours, and of the values that their attributes carry, is true exactly where the two
+/// values are equal, field by field.
+pub fn equality()
+    ensures ifinfomsg { IsEquality ⟦<crate::Ifinfomsg as PartialEq>⟧.eq }
+    ensures ifaddrmsg { IsEquality ⟦<crate::Ifaddrmsg as PartialEq>⟧.eq }
+    ensures ndmsg { IsEquality ⟦<crate::Ndmsg as PartialEq>⟧.eq }
+    ensures nda_cacheinfo { IsEquality ⟦<crate::NdaCacheinfo as PartialEq>⟧.eq }
+    ensures ifla_vlan_flags { IsEquality ⟦<crate::IflaVlanFlags as PartialEq>⟧.eq }
+    ensures ifla_vlan_qos_mapping { IsEquality ⟦<crate::IflaVlanQosMapping as PartialEq>⟧.eq }
+{
+    neli_consts_rt::laws::equality();
+    neli_consts_rta::laws::equality();
+    neli_consts_rtf::laws::equality();
+}

@@ -9,15 +9,17 @@ ghost use Rattle.neli_attr.specs.Builders.{IsWhyNot};
 ghost use Rattle.neli_link.specs.NdaCacheinfo.{IsPlainNdaCacheinfo, nda_cacheinfo_built, nda_cacheinfo_bytes, nda_cacheinfo_header};
 ghost use Rattle.neli_link.specs.laws.NdaCacheinfo.{nda_cacheinfo-reads_back, nda_cacheinfo-width, nda_cacheinfo-writes_back};
 
-use neli_attr::{BuildError, of};
+use neli_attr::{BuildError, TryClone, of};
 use neli_body::numbers::u32_in;
 use neli_body::{FixedHeader, HeaderBytes, read_fixed, write_fixed};
-use neli_wire::{Cursor, DeError, FromBytes, SerError, Size, ToBytes, UninitializedFieldError};
+use neli_wire::{
+    Cursor, DeError, FromBytes, NoMemory, SerError, Size, ToBytes, UninitializedFieldError,
+};
 use std::alloc::Global;
 
 /// When a neighbour was last heard of: `struct nda_cacheinfo` of `linux/neighbour.h`, 16 bytes, the payload
 /// of `Nda::Cacheinfo`. Times are counted back from now, in hundredths of a second.
-#[derive(Debug, Drop)]
+#[derive(Debug, Drop, PartialEq, Eq)]
 pub struct NdaCacheinfo {
     ndm_confirmed: u32,
     ndm_used: u32,
@@ -52,6 +54,24 @@ impl NdaCacheinfo {
         ensures { result.now ≡ self.now.ndm_refcnt }
     {
         &self.ndm_refcnt
+    }
+
+    /// An equal cache entry. It takes no memory.
+    pub fn try_clone(&self) -> Result<Self, NoMemory>
+        ensures { result ≡ Ok self.now }
+    {
+        Ok(NdaCacheinfo {
+            ndm_confirmed: self.ndm_confirmed,
+            ndm_used: self.ndm_used,
+            ndm_updated: self.ndm_updated,
+            ndm_refcnt: self.ndm_refcnt,
+        })
+    }
+}
+
+impl TryClone for NdaCacheinfo {
+    fn try_clone(&self) -> Result<Self, NoMemory> {
+        NdaCacheinfo::try_clone(self)
     }
 }
 

@@ -10,20 +10,20 @@ ghost use Rattle.neli_consts_rta.specs.Nda.{nda_number, nda_of};
 ghost use Rattle.neli_link.specs.Ndmsg.{IsPlainNdmsg, ndmsg_built, ndmsg_bytes, ndmsg_header};
 ghost use Rattle.neli_link.specs.laws.Ndmsg.{ndmsg-reads_back, ndmsg-width, ndmsg-writes_back};
 
-use neli_attr::{Buffer, BuildError, RtBuffer, of};
+use neli_attr::{Buffer, BuildError, RtBuffer, TryClone, of};
 use neli_body::numbers::{i32_in, u8_in, u16_in};
 use neli_body::{FixedHeader, HeaderBytes, read_body, size_of_body, write_body};
 use neli_consts_rt::{RtAddrFamily, Rtn};
 use neli_consts_rta::Nda;
 use neli_consts_rtf::{Ntf, Nud};
 use neli_wire::{
-    Constant, Cursor, DeError, FromBytesWithInput, Header, SerError, Size, ToBytes,
+    Constant, Cursor, DeError, FromBytesWithInput, Header, NoMemory, SerError, Size, ToBytes,
     UninitializedFieldError,
 };
 use std::alloc::Global;
 
 /// The fields of a neighbour before its attributes.
-#[derive(Clone, Copy, Debug)]
+#[derive(Clone, Copy, Debug, PartialEq, Eq)]
 struct NdmsgHeader {
     ndm_family: RtAddrFamily,
     pad1: u8,
@@ -35,7 +35,7 @@ struct NdmsgHeader {
 }
 
 /// A neighbour of a link: `struct ndmsg` of `linux/neighbour.h`, 12 bytes, and the neighbour's attributes.
-#[derive(Debug, Drop)]
+#[derive(Debug, Drop, PartialEq, Eq)]
 pub struct Ndmsg {
     header: NdmsgHeader,
     rtattrs: RtBuffer<Nda, Buffer>,
@@ -82,6 +82,24 @@ impl Ndmsg {
         ensures { result.now ≡ self.now.rtattrs }
     {
         &self.rtattrs
+    }
+
+    /// An equal neighbour.
+    ///
+    /// Refused only where memory runs out.
+    pub fn try_clone(&self) -> Result<Self, NoMemory>
+        ensures { IfOk result (λ m. m ≡ self.now) }
+    {
+        Ok(Ndmsg {
+            header: self.header,
+            rtattrs: self.rtattrs.try_clone()?,
+        })
+    }
+}
+
+impl TryClone for Ndmsg {
+    fn try_clone(&self) -> Result<Self, NoMemory> {
+        Ndmsg::try_clone(self)
     }
 }
 

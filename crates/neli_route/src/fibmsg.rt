@@ -10,20 +10,20 @@ ghost use Rattle.neli_consts_rta.specs.Frattr.{frattr_number, frattr_of};
 ghost use Rattle.neli_route.specs.Fibmsg.{IsPlainFibmsg, fibmsg_built, fibmsg_bytes, fibmsg_header};
 ghost use Rattle.neli_route.specs.laws.Fibmsg.{fibmsg-reads_back, fibmsg-width, fibmsg-writes_back};
 
-use neli_attr::{Buffer, BuildError, RtBuffer, of};
+use neli_attr::{Buffer, BuildError, RtBuffer, TryClone, of};
 use neli_body::numbers::{u8_in, u32_in};
 use neli_body::{FixedHeader, HeaderBytes, read_body, size_of_body, write_body};
 use neli_consts_rt::{FrAct, RtAddrFamily, RtTable};
 use neli_consts_rta::Frattr;
 use neli_consts_rtf::Frf;
 use neli_wire::{
-    Constant, Cursor, DeError, FromBytesWithInput, Header, SerError, Size, ToBytes,
+    Constant, Cursor, DeError, FromBytesWithInput, Header, NoMemory, SerError, Size, ToBytes,
     UninitializedFieldError,
 };
 use std::alloc::Global;
 
 /// The fields of a rule before its attributes.
-#[derive(Clone, Copy, Debug)]
+#[derive(Clone, Copy, Debug, PartialEq, Eq)]
 struct FibmsgHeader {
     fib_family: RtAddrFamily,
     fib_dst_len: u8,
@@ -37,7 +37,7 @@ struct FibmsgHeader {
 }
 
 /// A rule of routing: `struct fib_rule_hdr` of `linux/fib_rules.h`, 12 bytes, and the rule's attributes.
-#[derive(Debug, Drop)]
+#[derive(Debug, Drop, PartialEq, Eq)]
 pub struct Fibmsg {
     header: FibmsgHeader,
     rtattrs: RtBuffer<Frattr, Buffer>,
@@ -98,6 +98,24 @@ impl Fibmsg {
         ensures { result.now ≡ self.now.rtattrs }
     {
         &self.rtattrs
+    }
+
+    /// An equal rule.
+    ///
+    /// Refused only where memory runs out.
+    pub fn try_clone(&self) -> Result<Self, NoMemory>
+        ensures { IfOk result (λ m. m ≡ self.now) }
+    {
+        Ok(Fibmsg {
+            header: self.header,
+            rtattrs: self.rtattrs.try_clone()?,
+        })
+    }
+}
+
+impl TryClone for Fibmsg {
+    fn try_clone(&self) -> Result<Self, NoMemory> {
+        Fibmsg::try_clone(self)
     }
 }
 

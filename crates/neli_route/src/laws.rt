@@ -1,7 +1,8 @@
-//! Laws over the definitions alone: what is written of a body is read again as what is equal to it. The
-//! functions do nothing: their contracts are the laws.
+//! Laws over the definitions alone: what is written of a body is read again as what is equal to it, and when two
+//! bodies are equal. The functions do nothing: their contracts are the laws.
 
 ghost use Rattle.std.specs.Prelude.{◌≡◌, List, ℕ, length};
+ghost use Rattle.neli_wire.specs.Constants.{IsEquality};
 ghost use Rattle.neli_wire.specs.Numbers.{AreBytes};
 ghost use Rattle.neli_body.specs.Attributes.{attrs_of, attrs_wire};
 ghost use Rattle.neli_body.specs.RoundTrips.{ArePlainAttrs, ReadsBack, ReadsBackWhole};
@@ -80,3 +81,16 @@ pub fn rtgenmsg_is_read_back()
     ensures bytes { (s : List ℕ) → length s ≡ 4 → AreBytes s
         → rtgenmsg_bytes (rtgenmsg_header s) ≡ s }
 {}
+
+/// `==` of routes, queueing disciplines, rules and requests by family is true exactly where the two values are equal,
+/// field by field.
+pub fn equality()
+    ensures rtmsg { IsEquality ⟦<crate::Rtmsg as PartialEq>⟧.eq }
+    ensures tcmsg { IsEquality ⟦<crate::Tcmsg as PartialEq>⟧.eq }
+    ensures fibmsg { IsEquality ⟦<crate::Fibmsg as PartialEq>⟧.eq }
+    ensures rtgenmsg { IsEquality ⟦<crate::Rtgenmsg as PartialEq>⟧.eq }
+{
+    neli_consts_rt::laws::equality();
+    neli_consts_rta::laws::equality();
+    neli_consts_rtf::laws::equality();
+}

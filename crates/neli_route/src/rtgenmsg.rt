@@ -10,19 +10,19 @@ ghost use Rattle.neli_consts_rta.specs.Ifa.{ifa_number, ifa_of};
 ghost use Rattle.neli_route.specs.Rtgenmsg.{IsPlainRtgenmsg, rtgenmsg_built, rtgenmsg_bytes, rtgenmsg_header};
 ghost use Rattle.neli_route.specs.laws.Rtgenmsg.{rtgenmsg-reads_back, rtgenmsg-width, rtgenmsg-writes_back};
 
-use neli_attr::{Buffer, BuildError, RtBuffer, of};
+use neli_attr::{Buffer, BuildError, RtBuffer, TryClone, of};
 use neli_body::numbers::{u8_in, u16_in};
 use neli_body::{FixedHeader, HeaderBytes, read_body, size_of_body, write_body};
 use neli_consts_rt::RtAddrFamily;
 use neli_consts_rta::Ifa;
 use neli_wire::{
-    Constant, Cursor, DeError, FromBytesWithInput, Header, SerError, Size, ToBytes,
+    Constant, Cursor, DeError, FromBytesWithInput, Header, NoMemory, SerError, Size, ToBytes,
     UninitializedFieldError,
 };
 use std::alloc::Global;
 
 /// The fields of a request by family before its attributes.
-#[derive(Clone, Copy, Debug)]
+#[derive(Clone, Copy, Debug, PartialEq, Eq)]
 struct RtgenmsgHeader {
     rtgen_family: RtAddrFamily,
     pad1: u8,
@@ -31,7 +31,7 @@ struct RtgenmsgHeader {
 
 /// A request by family alone: `struct rtgenmsg` of `linux/rtnetlink.h` and three bytes of padding, 4 bytes,
 /// and attributes.
-#[derive(Debug, Drop)]
+#[derive(Debug, Drop, PartialEq, Eq)]
 pub struct Rtgenmsg {
     header: RtgenmsgHeader,
     rtattrs: RtBuffer<Ifa, Buffer>,
@@ -50,6 +50,24 @@ impl Rtgenmsg {
         ensures { result.now ≡ self.now.rtattrs }
     {
         &self.rtattrs
+    }
+
+    /// An equal request.
+    ///
+    /// Refused only where memory runs out.
+    pub fn try_clone(&self) -> Result<Self, NoMemory>
+        ensures { IfOk result (λ m. m ≡ self.now) }
+    {
+        Ok(Rtgenmsg {
+            header: self.header,
+            rtattrs: self.rtattrs.try_clone()?,
+        })
+    }
+}
+
+impl TryClone for Rtgenmsg {
+    fn try_clone(&self) -> Result<Self, NoMemory> {
+        Rtgenmsg::try_clone(self)
     }
 }
 

@@ -10,7 +10,7 @@ ghost use Rattle.neli_consts_rta.specs.Rta.{rta_number, rta_of};
 ghost use Rattle.neli_route.specs.Rtmsg.{IsPlainRtmsg, rtmsg_built, rtmsg_bytes, rtmsg_header};
 ghost use Rattle.neli_route.specs.laws.Rtmsg.{rtmsg-reads_back, rtmsg-width, rtmsg-writes_back};
 
-use neli_attr::{Buffer, BuildError, RtBuffer, of};
+use neli_attr::{Buffer, BuildError, RtBuffer, TryClone, of};
 use neli_body::numbers::{u8_in, u32_in};
 use neli_body::{FixedHeader, HeaderBytes, read_body, size_of_body, write_body};
 use neli_consts_rt::{RtAddrFamily, RtScope, RtTable, Rtn, Rtprot};
@@ -23,7 +23,7 @@ use neli_wire::{
 use std::alloc::Global;
 
 /// The fields of a route before its attributes.
-#[derive(Clone, Copy, Debug)]
+#[derive(Clone, Copy, Debug, PartialEq, Eq)]
 struct RtmsgHeader {
     rtm_family: RtAddrFamily,
     rtm_dst_len: u8,
@@ -37,7 +37,7 @@ struct RtmsgHeader {
 }
 
 /// A route: `struct rtmsg` of `linux/rtnetlink.h`, 12 bytes, and the route's attributes.
-#[derive(Debug, Drop)]
+#[derive(Debug, Drop, PartialEq, Eq)]
 pub struct Rtmsg {
     header: RtmsgHeader,
     rtattrs: RtBuffer<Rta, Buffer>,
@@ -124,6 +124,12 @@ impl Rtmsg {
             header: self.header,
             rtattrs: self.rtattrs.try_clone()?,
         })
+    }
+}
+
+impl TryClone for Rtmsg {
+    fn try_clone(&self) -> Result<Self, NoMemory> {
+        Rtmsg::try_clone(self)
     }
 }
 

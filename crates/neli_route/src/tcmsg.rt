@@ -10,7 +10,7 @@ ghost use Rattle.neli_consts_rta.specs.Tca.{tca_number, tca_of};
 ghost use Rattle.neli_route.specs.Tcmsg.{IsPlainTcmsg, tcmsg_built, tcmsg_bytes, tcmsg_header};
 ghost use Rattle.neli_route.specs.laws.Tcmsg.{tcmsg-reads_back, tcmsg-width, tcmsg-writes_back};
 
-use neli_attr::{Buffer, BuildError, RtBuffer, of};
+use neli_attr::{Buffer, BuildError, RtBuffer, TryClone, of};
 use neli_body::numbers::{i32_in, u8_in, u16_in, u32_in};
 use neli_body::{FixedHeader, HeaderBytes, read_body, size_of_body, write_body};
 use neli_consts_rta::Tca;
@@ -21,7 +21,7 @@ use neli_wire::{
 use std::alloc::Global;
 
 /// The fields of a queueing discipline before its attributes.
-#[derive(Clone, Copy, Debug)]
+#[derive(Clone, Copy, Debug, PartialEq, Eq)]
 struct TcmsgHeader {
     tcm_family: u8,
     padding_char: u8,
@@ -34,7 +34,7 @@ struct TcmsgHeader {
 
 /// A queueing discipline, a class or a filter: `struct tcmsg` of `linux/rtnetlink.h`, 20 bytes, and its
 /// attributes.
-#[derive(Debug, Drop)]
+#[derive(Debug, Drop, PartialEq, Eq)]
 pub struct Tcmsg {
     header: TcmsgHeader,
     rtattrs: RtBuffer<Tca, Buffer>,
@@ -93,6 +93,12 @@ impl Tcmsg {
             header: self.header,
             rtattrs: self.rtattrs.try_clone()?,
         })
+    }
+}
+
+impl TryClone for Tcmsg {
+    fn try_clone(&self) -> Result<Self, NoMemory> {
+        Tcmsg::try_clone(self)
     }
 }
 
