@@ -1,5 +1,5 @@
 -- The items of a handle: messages of the controller, and errors in place of messages.
-use Rattle.std.specs.Prelude.{◌≡◌, List, [], ◌∷◌, Option, None, Result, Ok, Err, filter_map, map, option_map, ◌⊎◌}
+use Rattle.std.specs.Prelude.{◌≡◌, List, [], ◌∷◌, Option, None, Some, IsSome, Result, Ok, Err, filter_map, map, option_map, ◌⊎◌}
 use Rattle.std.specs.List.{cons_option, last_or}
 use Rattle.std.specs.Option.{option_or}
 use Rattle.std.specs.Result.{result_err, result_ok}
@@ -78,3 +78,7 @@ IsReadRefusal outcome e = (e ≡ de.Memory) ⊎ (outcome ≡ Err e)
 -- the same of a resolver, which takes memory where this is said
 abbrev pub IsRefusal : {A : Type 0} → Result A Error → Type 0 → Error → Type 0
 IsRefusal outcome takes e = ((e ≡ router.Memory) × takes) ⊎ (outcome ≡ Err e)
+
+-- e is this error; or there is one, and memory ran out
+abbrev pub IsCopyOf : Option Error → Error → Type 0
+IsCopyOf error e = ((e ≡ router.Memory) × IsSome error) ⊎ (error ≡ Some e)

@@ -1,5 +1,5 @@
 -- What the resolvers answer, by the whole list of items.
-use Rattle.std.specs.Prelude.{ℕ, ◌==◌, Bool, false, ◌≡◌, List, [], ◌++◌, codes, if◌then◌else◌, nat_eq, filter_map, Option, Some, None, Result, Ok, Err, IsSome, ok_or, option_and_then, option_map, unwrap_or}
+use Rattle.std.specs.Prelude.{ℕ, ◌==◌, ◌⊎◌, Bool, false, ◌≡◌, List, [], ◌++◌, codes, if◌then◌else◌, nat_eq, filter_map, Option, Some, None, Result, Ok, Err, IsSome, ok_or, option_and_then, option_map, unwrap_or}
 use Rattle.std.specs.Cmp.Lexicographic.{pointwise}
 use Rattle.std.specs.List.{last_or}
 use Rattle.std.specs.Option.{option_map_or}
@@ -59,6 +59,10 @@ family_answer family items =
 abbrev pub family_takes : List ℕ → List Item → Type 0
 family_takes family items = family_answer family items ≡ Err (Msg (no_family family))
 
+-- the same where the items are lent: an error among them is copied
+abbrev pub lent_family_takes : List ℕ → List Item → Type 0
+lent_family_takes family items = IsSome (first_error items) ⊎ family_takes family items
+
 -- ---- the number of a group
 
 -- the group has this name
@@ -88,6 +92,11 @@ group_answer family name items =
 -- memory is asked for where no item is an error
 abbrev pub group_takes : List Item → Type 0
 group_takes items = first_error items ≡ None
+
+-- the numbers of both: the family's refusal comes before the group's
+abbrev pub both_answer : List ℕ → List ℕ → List Item → Result (ℕ × ℕ) Error
+both_answer family name items =
+    after (λ f. after (λ g. Ok (f, g)) (group_answer family name items)) (family_answer family items)
 
 -- ---- the names of a group
 

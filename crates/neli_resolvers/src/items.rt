@@ -3,7 +3,7 @@
 ghost use Rattle.std.specs.Prelude.{◌≡◌, ◌≢◌, Err, IfErr, IfOk, IsSome, None, OnErr, OnOk, Some, is_some};
 ghost use Rattle.std.specs.Result.{result_ok};
 ghost use Rattle.neli_wire.specs.DeError.TheVariants.{Memory as no_memory};
-ghost use Rattle.neli_resolvers.specs.Items.{first_error};
+ghost use Rattle.neli_resolvers.specs.Items.{IsCopyOf, first_error};
 
 use neli_consts::{CtrlAttr, CtrlCmd, GenlId};
 use neli_genl::Genlmsghdr;
@@ -56,6 +56,19 @@ pub(crate) fn without_errors(items: Vec<CtrlItem>) -> Result<Vec<CtrlItem>, Ctrl
     } else {
         Ok(items)
     }
+}
+
+/// Refused with a copy of the first error among the items, or where there is one and memory runs out.
+pub(crate) fn refuse_errors(items: &[CtrlItem]) -> Result<(), CtrlError>
+    ensures whole { OnOk result (first_error items.now ≡ None) }
+    ensures refused { IfErr result (IsCopyOf (first_error items.now)) }
+{
+    for item in items {
+        if let Err(error) = item {
+            return Err(error.try_clone()?);
+        }
+    }
+    Ok(())
 }
 
 /// The value, or `None` where it can't be read. That memory ran out stays a refusal.

@@ -3,6 +3,8 @@
 //!
 //! - [`resolve_genl_family`], [`resolve_nl_mcast_group`], [`lookup_id`]: each takes the items that
 //!   a request to the controller brought, as a router hands them out.
+//! - [`find_genl_family`], [`find_nl_mcast_group`]: the same of items that stay with the caller, and
+//!   [`find_genl_family_and_group`] gives both numbers of one reply.
 //!
 //! Nothing is sent or waited for here. The kernel's message has the family's name and number as
 //! attributes, and a list of its groups, of which each is again a list of attributes:
@@ -27,4 +29,7 @@ mod resolvers;
 mod texts;
 
 pub use items::{CtrlError, CtrlItem};
-pub use resolvers::{lookup_id, resolve_genl_family, resolve_nl_mcast_group};
+pub use resolvers::{
+    find_genl_family, find_genl_family_and_group, find_nl_mcast_group, lookup_id,
+    resolve_genl_family, resolve_nl_mcast_group,
+};

@@ -1,14 +1,14 @@
 //! The resolvers.
 
-ghost use Rattle.std.specs.Prelude.{◌≡◌, Err, IfErr, IfOk, IsSome, Ok, OnErr, None, map, option_map, string_bytes};
+ghost use Rattle.std.specs.Prelude.{⊤, ◌≡◌, Err, IfErr, IfOk, IsSome, Ok, OnErr, None, map, option_map, string_bytes};
 ghost use Rattle.neli_attr.specs.Handles.{attrs_in};
 ghost use Rattle.neli_attr.specs.Nlattr.{nlattr_says};
 ghost use Rattle.neli_resolvers.specs.Items.{IsReadRefusal, IsRefusal, attributes_said};
-ghost use Rattle.neli_resolvers.specs.Resolvers.{family_answer, family_takes, group_answer, group_takes, match_in, names_answer, names_in, names_said, names_take, number_told};
+ghost use Rattle.neli_resolvers.specs.Resolvers.{both_answer, family_answer, family_takes, group_answer, group_takes, lent_family_takes, match_in, names_answer, names_in, names_said, names_take, number_told};
 
 use crate::attributes::{family_id, family_name, groups};
 use crate::groups::{first_match, last_name};
-use crate::items::{CtrlMessage, readable, without_errors};
+use crate::items::{CtrlMessage, readable, refuse_errors, without_errors};
 use crate::texts::{NoFamily, NoGroup};
 use crate::{CtrlError, CtrlItem};
 use neli_attr::GenlAttrHandle;
@@ -25,6 +25,29 @@ fn number_told(alloc: Global, message: &CtrlMessage) -> Option<u16>
     family_id(alloc, &body.attrs().get_attr_handle())
 }
 
+/// The number of the family that was asked for: the last that a message of the controller tells. The items stay with
+/// the caller.
+///
+/// Refused with a copy of the first error among the items; else, where no number is told, with a text that
+/// names the family. Memory is asked for the copy or the text alone.
+pub fn find_genl_family(alloc: Global, family: &str, items: &[CtrlItem]) -> Result<u16, CtrlError>
+    ensures value { IfOk result (λ n. family_answer family.now items.now ≡ Ok n) }
+    ensures refused { IfErr result (IsRefusal (family_answer family.now items.now)
+        (lent_family_takes family.now items.now)) }
+{
+    refuse_errors(items)?;
+    let mut found = None;
+    for item in items {
+        if let Ok(message) = item {
+            found = number_told(alloc, message).or(found);
+        }
+    }
+    match found {
+        Some(number) => Ok(number),
+        None => Err(RouterError::new(alloc, NoFamily { family })?),
+    }
+}
+
 /// The number of the family that was asked for: the last that a message of the controller tells.
 ///
 /// Refused with the first error among the items; else, where no number is told, with a text that
@@ -38,14 +61,7 @@ pub fn resolve_genl_family(
     ensures refused { IfErr result (IsRefusal (family_answer family.now items.items)
         (family_takes family.now items.items)) }
 {
-    let mut found = None;
-    for item in items {
-        found = number_told(alloc, &item?).or(found);
-    }
-    match found {
-        Some(number) => Ok(number),
-        None => Err(RouterError::new(alloc, NoFamily { family })?),
-    }
+    find_genl_family(alloc, family, &without_errors(items)?)
 }
 
 /// The number of the first group of this name in a message.
@@ -59,6 +75,33 @@ fn match_in(alloc: Global, message: &CtrlMessage, name: &str) -> Result<Option<u
     let attrs = body.attrs().get_attr_handle();
     let all = groups(alloc, &attrs)?;
     Ok(first_match(alloc, all.get_attrs(), name)?)
+}
+
+/// The number of the group of this name: that of the last message with such a group, and the first
+/// in that message. A group without a readable name and number is passed over. The items stay with the caller.
+///
+/// Refused with a copy of the first error among the items; else with the refusal of the first payload of
+/// which the groups can't be read; else, where no group has the name, with a text that names both. Memory may run out.
+pub fn find_nl_mcast_group(
+    alloc: Global,
+    family: &str,
+    group: &str,
+    items: &[CtrlItem],
+) -> Result<u32, CtrlError>
+    ensures value { IfOk result (λ n. group_answer family.now group.now items.now ≡ Ok n) }
+    ensures refused { IfErr result (IsRefusal (group_answer family.now group.now items.now) ⊤) }
+{
+    refuse_errors(items)?;
+    let mut found = None;
+    for item in items {
+        if let Ok(message) = item {
+            found = match_in(alloc, message, group)?.or(found);
+        }
+    }
+    match found {
+        Some(number) => Ok(number),
+        None => Err(RouterError::new(alloc, NoGroup { family, group })?),
+    }
 }
 
 /// The number of the group of this name: that of the last message with such a group, and the first
@@ -77,14 +120,25 @@ pub fn resolve_nl_mcast_group(
     ensures refused { IfErr result (IsRefusal (group_answer family.now group.now items.items)
         (group_takes items.items)) }
 {
-    let mut found = None;
-    for item in without_errors(items)? {
-        found = match_in(alloc, &item?, group)?.or(found);
-    }
-    match found {
-        Some(number) => Ok(number),
-        None => Err(RouterError::new(alloc, NoGroup { family, group })?),
-    }
+    find_nl_mcast_group(alloc, family, group, &without_errors(items)?)
+}
+
+/// The numbers of the family and of its group of this name, of one reply: each as [`find_genl_family`] and
+/// [`find_nl_mcast_group`] find it.
+///
+/// Refused as the family is; else as the group is. Memory may run out.
+pub fn find_genl_family_and_group(
+    alloc: Global,
+    family: &str,
+    group: &str,
+    items: &[CtrlItem],
+) -> Result<(u16, u32), CtrlError>
+    ensures value { IfOk result (λ both. both_answer family.now group.now items.now ≡ Ok both) }
+    ensures refused { IfErr result (IsRefusal (both_answer family.now group.now items.now) ⊤) }
+{
+    let number = find_genl_family(alloc, family, items)?;
+    let group = find_nl_mcast_group(alloc, family, group, items)?;
+    Ok((number, group))
 }
 
 /// The names of the family and of its last group with this number. Groups that can't be read as a
