@@ -43,7 +43,7 @@ flags-fit n (a ∷ attrs) lt = or_lt 16 n 512 lt (omega arith)
 abbrev as_bytes : List ℕ → Wire
 as_bytes b = Ok b
 
-bytes-sized : (p bytes : List ℕ) → as_bytes p ≡ Ok bytes → length bytes ≡ length p
+pub bytes-sized : (p bytes : List ℕ) → as_bytes p ≡ Ok bytes → length bytes ≡ length p
 bytes-sized p bytes e = cc
 
 pub one-answer : (asked : Request) (n : ℕ) (attrs : Attributes) (payload : NlPayload ℕ (List ℕ)) (bytes : List ℕ) → n < 65536 → IsAddressed asked → message_or_refusal (λ t. t) (λ b. Ok b) (answer_with asked (answer_flags (flags_of n) attrs) payload) ≡ Ok bytes → IsWalked (λ t. t) (λ b. Ok b) (answer_with asked (answer_flags (flags_of n) attrs) payload) bytes

@@ -1,45 +1,20 @@
 -- A dump that grows is read as its messages, and keeps its limit.
-use Rattle.std.proofs.Common.{◌≡◌, ℕ, ◌+◌, ◌<◌, ◌≤◌, Bool, true, false, cond, List, [], ◌∷◌, ◌++◌, length, Option, Some, None, Ok, Err, refl, sym, ap, subst, ◌∙◌, append_assoc, arith, length-append}
+use Rattle.std.proofs.Common.{◌≡◌, ℕ, ◌+◌, ◌≤◌, Bool, true, false, cond, List, [], ◌∷◌, ◌++◌, length, Some, None, Ok, Err, refl, sym, ap, subst, ◌∙◌, append_assoc, arith, length-append}
 use Rattle.std.specs.Prelude.{All, codes, nat_lt, Result}
 use Rattle.std.proofs.lemmas.Bool.{ltb-false}
 use Rattle.std.proofs.lemmas.List.{append-nil}
 use Rattle.std.proofs.lemmas.List.Concat.{flat_map-append}
 use Rattle.std.proofs.lemmas.List.Elements.{All-nil, All-pop, All-push}
-use Rattle.neli_wire.specs.DeError.{DeError}
-use Rattle.neli_wire.specs.Frames.{Layout}
 use Rattle.neli_wire.specs.SerError.{SerError}
 use Rattle.neli_wire.specs.SerError.TheVariants as ser
-use Rattle.neli_wire.specs.laws.Frames.{IsPlaced}
 use Rattle.neli_msg.specs.Cuts.{Cut, cut_of, messages_before}
-use Rattle.neli_msg.specs.laws.Cuts.{CutsEach, Cuts-each, cut_of-Cuts, cut_of-end, each-Cuts, one_cut}
+use Rattle.neli_msg.specs.laws.Cuts.{cut_of-end, cut_of-join}
 use Rattle.neli_msg.specs.laws.Messages.{layout_with-placed}
 use Rattle.neli_lent.specs.Messages.{Lent, lent_message, messages_in}
 use Rattle.neli_kernel.specs.Datagrams.{AreRead, AreWithin, HasNoFault, messages_of}
 use Rattle.neli_kernel.specs.Dumps.{Packed, begun, datagrams_of, put, put_wire}
 
 -- ---- bytes that are joined
-
-module _ {H V : Type 0} (layout : Layout H V) (placed : IsPlaced layout) (some : 0 < layout.size) where
-  abbrev Each : List ℕ → List (H × V) → Option DeError → Type 0
-  Each = CutsEach layout placed some
-
-  each-join : (a b : List ℕ) (ms ns : List (H × V)) (f : Option DeError) → Each a ms None → Each b ns f → Each (a ++ b) (ms ++ ns) f
-  each-join a b [] ns f p q = subst (λ (x : List ℕ). Each (x ++ b) ns f) (sym p) q
-  each-join a b (m ∷ ms) ns f p q =
-      (p.0, p.1 ++ b, ap (λ (x : List ℕ). x ++ b) p.2 ∙ append_assoc p.0 p.1 b, p.3, each-join p.1 b ms ns f p.4 q)
-
-  pub cut_of-each : (b : List ℕ) → Each b (cut_of layout b).0 (cut_of layout b).1
-  cut_of-each b = Cuts-each layout placed some b _ _ (cut_of-Cuts layout placed some b)
-
-  pub each-cut_of : (b : List ℕ) (ms : List (H × V)) (f : Option DeError) → Each b ms f → cut_of layout b ≡ (ms, f)
-  each-cut_of b ms f each =
-      let same = one_cut layout placed some b (cut_of layout b).0 ms (cut_of layout b).1 f (cut_of-Cuts layout placed some b) (each-Cuts layout placed some b ms f each) in
-      ap (λ (x : List (H × V)). (x, (cut_of layout b).1)) same.0 ∙ ap (λ (g : Option DeError). (ms, g)) same.1
-
-  -- without a fault the first bytes are cut as they are alone, and so are those after them
-  cut_of-join : (a b : List ℕ) → (cut_of layout a).1 ≡ None → cut_of layout (a ++ b) ≡ messages_before (cut_of layout a).0 (cut_of layout b)
-  cut_of-join a b whole =
-      each-cut_of (a ++ b) _ _ (each-join a b _ _ _ (subst (λ (g : Option DeError). Each a (cut_of layout a).0 g) whole (cut_of-each a)) (cut_of-each b))
 
 abbrev same : ℕ → ℕ
 same n = n

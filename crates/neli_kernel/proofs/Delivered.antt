@@ -1,6 +1,6 @@
 -- Messages as a router keeps and delivers them.
 use Rattle.std.proofs.Common.{◌≡◌, ◌≢◌, ℕ, ◌+◌, ◌-◌, All, Bool, true, false, ltb, List, [], ◌∷◌, ◌++◌, length, map, take, drop, Option, Some, None, Result, Ok, Err, refl, sym, ap, subst, ◌∙◌, arith}
-use Rattle.std.specs.Prelude.{ℤ, FitsSigned, nat_eq}
+use Rattle.std.specs.Prelude.{ℤ, FitsSigned, flat_map, nat_eq}
 use Rattle.std.specs.Int.{w32}
 use Rattle.std.proofs.lemmas.Bool.{eq-eqb, ne_eqb}
 use Rattle.std.proofs.lemmas.List.{append-nil, map-append}
@@ -24,7 +24,7 @@ use Rattle.neli_msg.specs.Headers.{Header}
 use Rattle.neli_msg.specs.Kinds.{is_multi, payload_in}
 use Rattle.neli_msg.specs.NlPayload.{NlPayload}
 use Rattle.neli_msg.specs.NlPayload.TheVariants as payload
-use Rattle.neli_msg.specs.laws.Cuts.{CutsEach, drop_whole}
+use Rattle.neli_msg.specs.laws.Cuts.{CutsEach, cut_of-each, cut_of-is, drop_whole}
 use Rattle.neli_msg.specs.laws.Messages.{layout_with-placed}
 use Rattle.neli_lent.specs.Messages.{Lent, lent_message, messages_in}
 use Rattle.neli_deliveries.specs.Deliveries.{Untyped, datagram_share, message, message_to, messages_to}
@@ -32,7 +32,6 @@ use Rattle.neli_deliveries.specs.declared.delivery.Delivery.{Delivery}
 use Rattle.neli_kernel.specs.Datagrams.{AreRead, HasNoFault, messages_of}
 use Rattle.neli_kernel.specs.Delivered.{IsFor, IsPlain, IsReply, kept, reply_kept, shares, untyped}
 use Rattle.neli_kernel.proofs.Answers.{one-message}
-use Rattle.neli_kernel.proofs.Datagrams.{cut_of-each, each-cut_of}
 
 abbrev same : ℕ → ℕ
 same n = n
@@ -119,7 +118,7 @@ each-untyped b (m ∷ ms) (u ∷ us) are c =
 pub cut-untyped : (b : List ℕ) (ms : List (Lent ℕ)) (us : List Untyped) → AreKept ms us → messages_in same b ≡ (ms, None) → cut_of untyped_layout b ≡ (us, None)
 unfolding messages_in
 cut-untyped b ms us are is =
-    each-cut_of untyped_layout (layout_with-placed same _) (omega arith) b us None
+    cut_of-is untyped_layout (layout_with-placed same _) (omega arith) b us None
     (each-untyped b ms us are (subst (λ (c : Cut (Lent ℕ)). Each b c.0 c.1) is (cut_of-each (lent_message same) (layout_with-placed same _) (omega arith) b)))
 
 -- ---- whose they are
@@ -215,6 +214,28 @@ module _ (number port : ℕ) (is_open : ℕ → Bool) (opened : is_open number �
       let here = share-other number port is_open opened other d h.before differs (All-first For h.before h.after both) cut in
       let more = all-others other ds h.after differs (All-tail HasNoFault d ds none) h.later (All-later For h.before h.after both) in
       rw (here, more) refl
+
+-- ---- how they are cut
+
+abbrev IsWhole : List ℕ → Type 0
+IsWhole d = (cut_of untyped_layout d).1 ≡ None
+
+abbrev messages_cut : List ℕ → List Untyped
+messages_cut d = (cut_of untyped_layout d).0
+
+all-cut : (ds : List (List ℕ)) (us : List Untyped) → All HasNoFault ds → AreKept (messages_of ds) us → (flat_map messages_cut ds ≡ us) × All IsWhole ds
+all-cut [] [] none are = (refl, All-nil IsWhole)
+all-cut [] (u ∷ us) none are = absurd cc
+all-cut (d ∷ ds) us none are =
+    let h = halves (messages_in same d).0 (messages_of ds) us are in
+    let cut = cut-untyped d (messages_in same d).0 h.before h.first (read-whole d (All-head HasNoFault d ds none)) in
+    let r = all-cut ds h.after (All-tail HasNoFault d ds none) h.later in (
+      ap (λ (c : Cut Untyped). c.0 ++ flat_map messages_cut ds) cut ∙ ap (λ (xs : List Untyped). h.before ++ xs) r.0 ∙ sym h.joined,
+      All-cons IsWhole d ds (ap (λ (c : Cut Untyped). c.1) cut) r.1,
+    )
+
+pub dump-cut : (ds : List (List ℕ)) (said : List (Lent ℕ)) (us : List Untyped) → AreRead ds said → AreKept said us → (flat_map (λ d. (cut_of untyped_layout d).0) ds ≡ us) × All (λ d. (cut_of untyped_layout d).1 ≡ None) ds
+dump-cut ds said us read are = all-cut ds us read.1 (subst (λ (ms : List (Lent ℕ)). AreKept ms us) (sym read.0) are)
 
 pub dump-asker : (ds : List (List ℕ)) (said : List (Lent ℕ)) (us : List Untyped) (number port : ℕ) (is_open : ℕ → Bool) → AreRead ds said → AreKept said us → All (IsFor number port) us → is_open number ≡ true → shares port is_open (Some number) ds ≡ map message us
 dump-asker ds said us number port is_open read are all opened =

@@ -3,3 +3,4 @@ mod Dumps
 mod Datagrams
 mod Delivered
 mod Acknowledged
+mod Finished

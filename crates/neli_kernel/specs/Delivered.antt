@@ -1,6 +1,8 @@
 -- Messages as a router keeps and delivers them.
-use Rattle.std.specs.Prelude.{◌≡◌, ◌≢◌, ◌<◌, ℕ, ◌+◌, List, [], ◌∷◌, ◌++◌, Bool, true, Option, None, Some, Result, Ok, flat_map, length}
+use Rattle.std.specs.Prelude.{◌≡◌, ◌≢◌, ◌<◌, ℕ, ◌+◌, ℤ, FitsSigned, List, [], ◌∷◌, ◌++◌, Bool, true, Option, None, Some, Result, Ok, flat_map, length}
+use Rattle.std.specs.Int.{w32}
 use Rattle.neli_wire.specs.DeError.{DeError}
+use Rattle.neli_wire.specs.Numbers.{signed_bytes}
 use Rattle.neli_wire.specs.Sizes.{align}
 use Rattle.neli_wire.specs.Writing.{Wire, zeros_for}
 use Rattle.neli_consts.specs.declared.nlm_f.NlmF.{NlmF}
@@ -14,6 +16,7 @@ use Rattle.neli_lent.specs.Written.{HeaderFits}
 use Rattle.neli_deliveries.specs.Deliveries.{Untyped, datagram_share, message}
 use Rattle.neli_deliveries.specs.declared.delivery.Delivery.{Delivery}
 use Rattle.neli_kernel.specs.Answers.{message_or_refusal, message_with}
+use Rattle.neli_kernel.specs.Dumps.{dump_end}
 use Rattle.neli_kernel.specs.declared.request.Request.{Request}
 
 -- a message as a router keeps it, its body as bytes; or why its payload is refused
@@ -66,6 +69,17 @@ pub record IsAnswer (asked : Request) (m : Nlmsghdr ℕ (List ℕ)) (bytes : Lis
 -- an answer as a router keeps it: its header, and its payload by its kind
 abbrev pub answer_kept : Nlmsghdr ℕ (List ℕ) → Untyped
 answer_kept m = (m.header, m.payload)
+
+-- the number, the port, the flags and the code of a dump's end fit their fields
+pub record IsEnd (asked : Request) (flags : NlmF) (code : ℤ) : Type 0 where
+  pub number_fits : asked.header.sequence_number < 4294967296
+  pub port_fits : asked.port < 4294967296
+  pub flags_fit : flags.0 < 65536
+  pub code_fits : FitsSigned w32 code
+
+-- what an end without attributes says: its header, and the bytes of its code
+abbrev pub end_said : Request → NlmF → ℤ → Lent ℕ
+end_said asked flags code = ((dump_end asked flags code []).header, signed_bytes w32 4 code)
 
 -- as a datagram the bytes are this answer alone; where a router has the port of the request's socket, and the request's
 -- number is open there, the handle of that number gets it, once, and no other handle gets anything

@@ -1,6 +1,6 @@
 //! Laws of answers, over the definitions alone. The calls do nothing: their contracts are the laws.
 
-ghost use Rattle.std.specs.Prelude.{◌≡◌, ◌≢◌, ◌<◌, ◌+◌, ◌++◌, ◌∷◌, [], ℕ, ℤ, true, All, Bool, FitsSigned, List, Option, Ok, None, Some, length, map, pos};
+ghost use Rattle.std.specs.Prelude.{◌≡◌, ◌≢◌, ◌<◌, ◌+◌, ◌++◌, ◌∷◌, [], ℕ, ℤ, true, All, Bool, FitsSigned, List, Option, Ok, None, Some, flat_map, length, map, pos};
 ghost use Rattle.std.specs.Int.{w32};
 ghost use Rattle.neli_wire.specs.Numbers.{signed_bytes};
 ghost use Rattle.neli_consts.specs.declared.nlm_f.NlmF.{NlmF as Flags};
@@ -17,8 +17,8 @@ ghost use Rattle.neli_deliveries.specs.Deliveries.{Untyped, datagram_share, mess
 ghost use Rattle.neli_kernel.specs.Answers.{IsAddressed, acknowledgement, capped_error, error, message_or_refusal, message_with};
 ghost use Rattle.neli_kernel.specs.declared.request.Request.{Request as Asked};
 ghost use Rattle.neli_kernel.specs.Datagrams.{AreRead, AreWithin};
-ghost use Rattle.neli_kernel.specs.Delivered.{IsAnswer, IsDelivered, IsFor, IsPlain, IsReply, answer_kept, kept, reply_kept, shares, untyped};
-ghost use Rattle.neli_kernel.specs.Dumps.{Packed, begun, datagrams_of, put_wire};
+ghost use Rattle.neli_kernel.specs.Delivered.{IsAnswer, IsDelivered, IsEnd, IsFor, IsPlain, IsReply, answer_kept, end_said, kept, reply_kept, shares, untyped};
+ghost use Rattle.neli_kernel.specs.Dumps.{Packed, begun, datagrams_of, dump_end, finished, put_wire};
 
 use neli_consts::NlType;
 use neli_wire::ToBytes;
@@ -90,8 +90,8 @@ pub fn reply_is_delivered<T: NlType, P: ToBytes>()
 /// A dump is delivered to the handle that asked, message by message and in order, and to no other one: where its
 /// datagrams are read as some messages, each with the router's port and a number that is still open there, and `ms` are
 /// these as the router keeps them, then the handle of the number gets all of `ms` of the datagrams, one after the other,
-/// and each other handle nothing. A message whose type is neither 2 nor 3 is kept with its bytes
-/// as body, and an end without attributes with its code.
+/// and each other handle nothing; the datagrams are cut into them, and without a fault. A message whose type is neither 2
+/// nor 3 is kept with its bytes as body, and an end without attributes with its code.
 pub fn dump_is_delivered()
     ensures asker { (datagrams : List (List ℕ)) (said : List (Lent ℕ)) (ms : List Untyped) (number port : ℕ)
         (is_open : ℕ → Bool) → AreRead datagrams said → map untyped said ≡ map (λ m. Ok m) ms
@@ -101,9 +101,40 @@ pub fn dump_is_delivered()
         (is_open : ℕ → Bool) → AreRead datagrams said → map untyped said ≡ map (λ m. Ok m) ms
         → All (IsFor number port) ms → is_open number ≡ true
         → (other : Option ℕ) → other ≢ Some number → shares port is_open other datagrams ≡ [] }
+    ensures cut { (datagrams : List (List ℕ)) (said : List (Lent ℕ)) (ms : List Untyped) → AreRead datagrams said
+        → map untyped said ≡ map (λ m. Ok m) ms → (flat_map (λ d. (cut_of untyped_layout d).0) datagrams ≡ ms)
+        × All (λ d. (cut_of untyped_layout d).1 ≡ None) datagrams }
     ensures plain { (m : Lent ℕ) → IsPlain m.0.message_type → untyped m ≡ Ok (kept m) }
     ensures end { (h : Header ℕ) (code : ℤ) → h.message_type ≡ 3 → is_multi h.flags ≡ true → FitsSigned w32 code
         → untyped (h, signed_bytes w32 4 code) ≡ Ok (h, payload.DumpExtAck (answer code tt [])) }
+{}
+
+/// A dump that was finished is delivered whole: where what was put in is read as some messages, kept as `ms`, with the
+/// request's number and port, the datagrams of [`Dump::finish`](crate::Dump::finish) give the handle of that number `ms`
+/// and then the end with its code, which has no attributes, and each other handle nothing; however they were cut.
+pub fn finished_dump_is_delivered()
+    ensures read { (limit : ℕ) (asked : Asked) (flags : Flags) (code : ℤ) (p : Packed) (said : List (Lent ℕ))
+        (datagrams : List (List ℕ)) → IsEnd asked flags code → AreRead (datagrams_of p) said
+        → finished limit (message_or_refusal (λ n. n) (λ b. Ok b) (dump_end asked flags code [])) p ≡ Ok datagrams
+        → AreRead datagrams (said ++ end_said asked flags code ∷ []) }
+    ensures kept { (asked : Asked) (flags : Flags) (code : ℤ) (said : List (Lent ℕ)) (ms : List Untyped)
+        → FitsSigned w32 code → map untyped said ≡ map (λ m. Ok m) ms
+        → map untyped (said ++ end_said asked flags code ∷ [])
+        ≡ map (λ m. Ok m) (ms ++ answer_kept (dump_end asked flags code []) ∷ []) }
+    ensures asker { (limit : ℕ) (asked : Asked) (flags : Flags) (code : ℤ) (p : Packed) (said : List (Lent ℕ))
+        (ms : List Untyped) (datagrams : List (List ℕ)) (is_open : ℕ → Bool) → IsEnd asked flags code
+        → AreRead (datagrams_of p) said → map untyped said ≡ map (λ m. Ok m) ms
+        → All (IsFor asked.header.sequence_number asked.port) ms → is_open asked.header.sequence_number ≡ true
+        → finished limit (message_or_refusal (λ n. n) (λ b. Ok b) (dump_end asked flags code [])) p ≡ Ok datagrams
+        → shares asked.port is_open (Some asked.header.sequence_number) datagrams
+        ≡ map message (ms ++ answer_kept (dump_end asked flags code []) ∷ []) }
+    ensures others { (limit : ℕ) (asked : Asked) (flags : Flags) (code : ℤ) (p : Packed) (said : List (Lent ℕ))
+        (ms : List Untyped) (datagrams : List (List ℕ)) (is_open : ℕ → Bool) (other : Option ℕ)
+        → other ≢ Some asked.header.sequence_number → IsEnd asked flags code
+        → AreRead (datagrams_of p) said → map untyped said ≡ map (λ m. Ok m) ms
+        → All (IsFor asked.header.sequence_number asked.port) ms → is_open asked.header.sequence_number ≡ true
+        → finished limit (message_or_refusal (λ n. n) (λ b. Ok b) (dump_end asked flags code [])) p ≡ Ok datagrams
+        → shares asked.port is_open other datagrams ≡ [] }
 {}
 
 /// An acknowledgement without attributes is delivered to the handle that asked, once, and to no other one: where a router

@@ -1,7 +1,8 @@
 use Rattle.std.proofs.Common.{arith}
 use Rattle.neli_msg.specs.Messages.{message_layout}
 use Rattle.neli_msg.specs.laws.Messages.{layout_with-placed}
-use Rattle.neli_router.proofs.Regrouping.{cut_of-join, untyped-join}
+use Rattle.neli_msg.specs.laws.Cuts.{cut_of-join}
+use Rattle.neli_router.proofs.Regrouping.{untyped-join}
 use Rattle.neli_router.proofs.laws.cuts_join.Goals as goal
 
 pub returns-clause-typed : goal.returns-clause-typed
