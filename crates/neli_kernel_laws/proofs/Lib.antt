@@ -1,0 +1,5 @@
+mod Turns
+mod Complete
+mod Typed
+mod Given
+mod Came
