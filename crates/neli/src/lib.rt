@@ -153,6 +153,6 @@ pub mod utils;
 
 pub use neli_lent as lent;
 pub use neli_wire::{
-    BeU64, Cursor, FromBytes, FromBytesWithInput, FromBytesWithInputBorrowed, Header, Size,
-    ToBytes, TypeSize, laws,
+    BeU16, BeU32, BeU64, Cursor, FromBytes, FromBytesWithInput, FromBytesWithInputBorrowed, Header,
+    Size, ToBytes, TypeSize, laws,
 };

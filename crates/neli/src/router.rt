@@ -5,7 +5,8 @@ pub mod synchronous {
     pub use neli_log::Log;
     pub use neli_queues::Queues;
     pub use neli_resolvers::{
-        CtrlError, CtrlItem, lookup_id, resolve_genl_family, resolve_nl_mcast_group,
+        CtrlError, CtrlItem, find_genl_family, find_genl_family_and_group, find_nl_mcast_group,
+        lookup_id, resolve_genl_family, resolve_nl_mcast_group,
     };
     pub use neli_router::{
         Command, Deliveries, Delivery, HandleState, NlRouter, NlRouterReceiverHandle, Outcome,

@@ -12,13 +12,15 @@ pub use neli_route::{
     Rtmsg, RtmsgBuilder, RtmsgBuilderError, Tcmsg, TcmsgBuilder, TcmsgBuilderError,
 };
 
-/// What was built and written is read back.
+/// What was built and written is read back, and `==` is equality.
 pub mod laws {
     pub use neli_link::laws::{
-        ifaddrmsg_is_read_back, ifinfomsg_is_read_back, ifla_vlan_flags_is_read_back,
-        ifla_vlan_qos_mapping_is_read_back, nda_cacheinfo_is_read_back, ndmsg_is_read_back,
+        equality as equality_of_links, ifaddrmsg_is_read_back, ifinfomsg_is_read_back,
+        ifla_vlan_flags_is_read_back, ifla_vlan_qos_mapping_is_read_back,
+        nda_cacheinfo_is_read_back, ndmsg_is_read_back,
     };
     pub use neli_route::laws::{
-        fibmsg_is_read_back, rtgenmsg_is_read_back, rtmsg_is_read_back, tcmsg_is_read_back,
+        equality as equality_of_routes, fibmsg_is_read_back, rtgenmsg_is_read_back,
+        rtmsg_is_read_back, tcmsg_is_read_back,
     };
 }
