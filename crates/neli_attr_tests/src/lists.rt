@@ -118,7 +118,32 @@ fn copies_of_lists(rt: HostRuntime) {
     let copy: GenlBuffer<u16, Buffer> = copied(&rt, alloc);
     assert!(rt; copy == read_list(&rt, alloc, &TWO));
     let routes: RtBuffer<Rta, Buffer> = copied(&rt, alloc);
-    assert_is(&rt, routes.len(), 2);
+    assert!(rt; routes == read_list(&rt, alloc, &TWO));
+    assert!(rt; routes != RtBuffer::new(alloc));
+}
+
+/// A copy that is made through the trait.
+fn generic_copy<V: TryClone>(rt: &impl Abort, value: &V) -> V {
+    value.try_clone().expect(rt, "memory")
+}
+
+#[test]
+fn copies_through_the_trait(rt: HostRuntime) {
+    let alloc = rt.alloc();
+    let list: RtBuffer<Rta, Buffer> = read_list(&rt, alloc, &TWO);
+    assert!(rt; generic_copy(&rt, &list) == list);
+    let bytes = Buffer::from_slice(alloc, &TWO).expect(&rt, "memory");
+    assert!(rt; generic_copy(&rt, &bytes) == bytes);
+    assert_is(&rt, generic_copy(&rt, &()), ());
+}
+
+#[test]
+fn routing_attributes_are_compared(rt: HostRuntime) {
+    let alloc = rt.alloc();
+    let attr = routing(&rt, alloc, Rta::Oif, 1u32);
+    assert!(rt; attr == routing(&rt, alloc, Rta::Oif, 1u32));
+    assert!(rt; attr != routing(&rt, alloc, Rta::Iif, 1u32));
+    assert!(rt; attr != routing(&rt, alloc, Rta::Oif, 2u32));
 }
 
 #[test]

@@ -1,9 +1,9 @@
 //! Looking attributes up in a handle.
 
-use crate::support::{Handle, assert_lent, assert_number, assert_refused, read_list};
+use crate::support::{Handle, assert_is_at, assert_lent, assert_number, assert_refused, read_list};
 use neli::attr::AttrHandle;
 use neli::consts::genl::{CtrlAttr, Index};
-use neli::consts::rtnl::Frattr;
+use neli::consts::rtnl::{Frattr, Ifla, RtaType};
 use neli::err::DeError;
 use neli::genl::{GenlAttrHandle, Nlattr};
 use neli::rtnl::Rtattr;
@@ -79,6 +79,63 @@ fn lookup_goes_by_equality(rt: HostRuntime) {
     assert!(rt; handle.get_attribute(Frattr::Ifname).is_none());
     assert_whole(&rt, alloc, &handle, &[1, 0, 0, 0]);
     assert_lent(&rt, &handle, Frattr::Iifname, &[1, 0, 0, 0]);
+}
+
+/// Attributes of one byte: type 12 with both flags, then 12 without, 3 in network byte order, and 16384.
+const FLAGGED: [u8; 32] = [
+    5, 0, 12, 0xc0, 1, 0, 0, 0, 5, 0, 12, 0, 2, 0, 0, 0, 5, 0, 3, 0x40, 3, 0, 0, 0, 5, 0, 0, 0x40,
+    4, 0, 0, 0,
+];
+
+/// The first byte of an attribute that is found.
+fn byte_of<T>(found: Option<&Rtattr<T, Buffer>>) -> Option<u8> {
+    found?.rta_payload().as_ref().first().copied()
+}
+
+/// What is found of a type in [`FLAGGED`], as it is and with the flags passed over.
+fn found_of<T: RtaType>(rt: &impl Abort, alloc: Global, kind: T) -> (Option<u8>, Option<u8>) {
+    let list: RtBuffer<T, Buffer> = read_list(rt, alloc, &FLAGGED);
+    let handle = list.get_attr_handle();
+    let masked = byte_of(handle.get_attribute_masked(kind));
+    (byte_of(handle.get_attribute(kind)), masked)
+}
+
+// `NLA_F_NESTED` is bit 15, `NLA_F_NET_BYTEORDER` bit 14 (linux/netlink.h). Types are compared by their numbers.
+#[test]
+fn flags_are_passed_over(rt: HostRuntime) {
+    let alloc = rt.alloc();
+    let rows = [
+        (
+            "with and without",
+            found_of(&rt, alloc, Ifla::Protinfo),
+            (Some(2), Some(1)),
+        ),
+        (
+            "with one",
+            found_of(&rt, alloc, Ifla::Ifname),
+            (None, Some(3)),
+        ),
+        ("not there", found_of(&rt, alloc, Ifla::Mtu), (None, None)),
+        (
+            "no type",
+            found_of(&rt, alloc, Ifla::Unspec),
+            (None, Some(4)),
+        ),
+        ("a flag", found_of(&rt, alloc, 0x400cu16), (None, None)),
+        (
+            "a number of the flags",
+            found_of(&rt, alloc, 0x4000u16),
+            (Some(4), None),
+        ),
+        (
+            "an older name",
+            found_of(&rt, alloc, Frattr::Ifname),
+            (None, Some(3)),
+        ),
+    ];
+    for (row, found, want) in rows {
+        assert_is_at(&rt, row, found, want);
+    }
 }
 
 // A handle of a list lends it; one that is made of a list owns it.

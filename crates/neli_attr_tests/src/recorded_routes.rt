@@ -253,6 +253,25 @@ fn attributes_are_as_libmnl_reads_them(rt: HostRuntime) {
     }
 }
 
+/// Asserts that each type that libmnl reads is found whatever its flags are, with the payload of the first.
+fn assert_found(rt: &impl Abort, list: RtBuffer<u16, Buffer>, row: Row) {
+    let handle = list.get_attr_handle();
+    for seen in row.2 {
+        let kind = seen.0;
+        let first = row.2.iter().find(|other| other.0 == kind);
+        let found = handle.get_attribute_masked(kind);
+        let length = found.map(|attr| attr.rta_payload().len());
+        assert_is_at(rt, row.0, length, first.map(|other| other.1));
+    }
+}
+
+#[test]
+fn attributes_are_found_as_libmnl_reads_them(rt: HostRuntime) {
+    for row in ROWS {
+        assert_found(&rt, read_row(&rt, rt.alloc(), row), row);
+    }
+}
+
 /// Asserts a text and a number in the attributes of a row.
 fn assert_values<I: FromBytes + TypedPayload, R: FromBytes + Copy + PartialEq>(
     rt: &impl Abort,

@@ -76,7 +76,8 @@ fn a_link_with_attributes(rt: HostRuntime) {
         2u8, 0, 0, 0, 0, 0, 0, 0, 0, 0, 0, 0, 0, 0, 0, 0, 8, 0, 4, 0, 0xdc, 5, 0, 0,
     ];
     let link = made(&rt, alloc, "a link", link, &bytes);
-    let _copy = made(&rt, alloc, "its copy", link.try_clone(), &bytes);
+    let copy = made(&rt, alloc, "its copy", link.try_clone(), &bytes);
+    assert!(rt; copy == link);
 }
 
 #[test]
@@ -91,7 +92,8 @@ fn an_address(rt: HostRuntime) {
         .build(alloc);
     let bytes = [10, 64, 0x80, 253, 4, 3, 2, 1];
     let address = made(&rt, alloc, "an address", address, &bytes);
-    let _copy = made(&rt, alloc, "its copy", address.try_clone(), &bytes);
+    let copy = made(&rt, alloc, "its copy", address.try_clone(), &bytes);
+    assert!(rt; copy == address);
 }
 
 #[test]
@@ -105,7 +107,9 @@ fn a_neighbour(rt: HostRuntime) {
         .ndm_type(Rtn::Unicast)
         .build(alloc);
     let bytes = [2, 0, 0, 0, 0xfe, 0xff, 0xff, 0xff, 4, 0, 2, 1];
-    let _neighbour = made(&rt, alloc, "a neighbour", neighbour, &bytes);
+    let neighbour = made(&rt, alloc, "a neighbour", neighbour, &bytes);
+    let copy = made(&rt, alloc, "its copy", neighbour.try_clone(), &bytes);
+    assert!(rt; copy == neighbour);
 }
 
 #[test]
@@ -118,7 +122,9 @@ fn a_cache_entry(rt: HostRuntime) {
         .ndm_refcnt(4)
         .build();
     let bytes = [1, 0, 0, 0, 2, 0, 0, 0, 3, 0, 0, 0, 4, 0, 0, 0];
-    let _entry = made(&rt, alloc, "what is built", entry, &bytes);
+    let built = made(&rt, alloc, "what is built", entry, &bytes);
+    let copy = made(&rt, alloc, "its copy", built.try_clone(), &bytes);
+    assert!(rt; copy == built);
     let mut cursor = Cursor::new(&bytes);
     let read = NdaCacheinfo::from_bytes(alloc, &mut cursor);
     let entry = made(&rt, alloc, "what is read", read, &bytes);
@@ -137,9 +143,12 @@ fn flags_of_a_vlan(rt: HostRuntime) {
         .flags(VlanFlags::GVRP)
         .mask(VlanFlags::GVRP | VlanFlags::MVRP)
         .build();
-    let _built = made(&rt, alloc, "what is built", flags, &[2, 10]);
+    let built = made(&rt, alloc, "what is built", flags, &[2, 10]);
+    let copy = made(&rt, alloc, "its copy", built.try_clone(), &[2, 10]);
+    assert!(rt; copy == built);
     let read = IflaVlanFlags::from_bytes(alloc, &mut Cursor::new(&[0xffu8, 1]));
-    let _read = made(&rt, alloc, "what is read", read, &[0xff, 1]);
+    let read = made(&rt, alloc, "what is read", read, &[0xff, 1]);
+    assert!(rt; copy != read);
 }
 
 #[test]
@@ -147,7 +156,9 @@ fn a_priority_of_a_vlan(rt: HostRuntime) {
     let alloc = rt.alloc();
     let mapping = IflaVlanQosMappingBuilder::default().from(7).to(3).build();
     let bytes = [7, 0, 0, 0, 3, 0, 0, 0];
-    let _built = made(&rt, alloc, "what is built", mapping, &bytes);
+    let built = made(&rt, alloc, "what is built", mapping, &bytes);
+    let copy = made(&rt, alloc, "its copy", built.try_clone(), &bytes);
+    assert!(rt; copy == built);
     let mut cursor = Cursor::new(&[1u8, 0, 0, 0, 2, 0, 0, 0, 9]);
     let read = IflaVlanQosMapping::from_bytes(alloc, &mut cursor);
     let mapping = made(&rt, alloc, "what is read", read, &[1, 0, 0, 0, 2, 0, 0, 0]);
@@ -173,7 +184,8 @@ fn a_route(rt: HostRuntime) {
         2u8, 24, 1, 2, 254, 4, 0, 1, 0, 1, 0, 0, 8, 0, 4, 0, 3, 0, 0, 0,
     ];
     let route = made(&rt, alloc, "a route", route, &bytes);
-    let _copy = made(&rt, alloc, "its copy", route.try_clone(), &bytes);
+    let copy = made(&rt, alloc, "its copy", route.try_clone(), &bytes);
+    assert!(rt; copy == route);
 }
 
 #[test]
@@ -189,7 +201,9 @@ fn a_rule(rt: HostRuntime) {
         .fib_flags(Frf::INVERT)
         .build(alloc);
     let bytes = [2, 8, 16, 0, 255, 0, 0, 1, 2, 0, 0, 0];
-    let _rule = made(&rt, alloc, "a rule", rule, &bytes);
+    let rule = made(&rt, alloc, "a rule", rule, &bytes);
+    let copy = made(&rt, alloc, "its copy", rule.try_clone(), &bytes);
+    assert!(rt; copy == rule);
 }
 
 #[test]
@@ -198,7 +212,9 @@ fn a_request_by_family(rt: HostRuntime) {
     let request = RtgenmsgBuilder::default()
         .rtgen_family(RtAddrFamily::Inet)
         .build(alloc);
-    let _request = made(&rt, alloc, "a request", request, &[2, 0, 0, 0]);
+    let request = made(&rt, alloc, "a request", request, &[2, 0, 0, 0]);
+    let copy = made(&rt, alloc, "its copy", request.try_clone(), &[2, 0, 0, 0]);
+    assert!(rt; copy == request);
 }
 
 #[test]
@@ -215,7 +231,8 @@ fn a_queueing_discipline(rt: HostRuntime) {
         0, 0, 0, 0, 0xff, 0xff, 0xff, 0xff, 0, 0, 1, 0, 0xff, 0xff, 0xff, 0xff, 2, 0, 0, 0,
     ];
     let queue = made(&rt, alloc, "a discipline", queue, &bytes);
-    let _copy = made(&rt, alloc, "its copy", queue.try_clone(), &bytes);
+    let copy = made(&rt, alloc, "its copy", queue.try_clone(), &bytes);
+    assert!(rt; copy == queue);
 }
 
 /// The field that a builder names as missing.

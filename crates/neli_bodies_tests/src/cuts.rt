@@ -67,6 +67,9 @@ fn a_process_event(rt: HostRuntime) {
         }
     );
     assert_is_at(&rt, "its fields", is_exec, true);
+    assert!(rt; event.try_clone().expect(&rt, "memory") == *event);
+    assert!(rt; m.try_clone().expect(&rt, "memory") == m);
+    assert!(rt; event.event != ProcEvent::Ack { err: 0 });
 }
 
 // What is read of a process event that is cut to `k` bytes.

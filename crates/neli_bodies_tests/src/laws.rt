@@ -8,9 +8,10 @@ use neli::genl::laws::{equality, genlmsghdr_is_read_back};
 use neli::implementing::bodies::laws::{attributes_are_read_back, body_is_read_back};
 use neli::rtnl::NdaCacheinfo;
 use neli::rtnl::laws::{
-    fibmsg_is_read_back, ifaddrmsg_is_read_back, ifinfomsg_is_read_back,
-    ifla_vlan_flags_is_read_back, ifla_vlan_qos_mapping_is_read_back, nda_cacheinfo_is_read_back,
-    ndmsg_is_read_back, rtgenmsg_is_read_back, rtmsg_is_read_back, tcmsg_is_read_back,
+    equality_of_links, equality_of_routes, fibmsg_is_read_back, ifaddrmsg_is_read_back,
+    ifinfomsg_is_read_back, ifla_vlan_flags_is_read_back, ifla_vlan_qos_mapping_is_read_back,
+    nda_cacheinfo_is_read_back, ndmsg_is_read_back, rtgenmsg_is_read_back, rtmsg_is_read_back,
+    tcmsg_is_read_back,
 };
 use neli::types::Buffer;
 
@@ -32,4 +33,6 @@ fn laws_are_called() {
     genlmsghdr_is_read_back::<CtrlCmd, CtrlAttr, NoUserHeader>();
     proc_event_is_read_back();
     equality::<CtrlCmd, CtrlAttr, NoUserHeader, Buffer>();
+    equality_of_links();
+    equality_of_routes();
 }

@@ -1,9 +1,10 @@
 //! That each law can be called at real types. The calls do nothing when they run.
 
 use neli::simulator::laws::{
-    acknowledgement_is_delivered, answers_are_one_frame, datagrams_keep_the_limit,
-    dump_is_delivered, dump_is_read_as_its_messages, error_is_delivered, message_is_one_frame,
-    reply_is_delivered,
+    acknowledgement_is_delivered, answers_are_complete, answers_are_given_in_turn,
+    answers_are_one_frame, datagrams_bring_their_own, datagrams_keep_the_limit, dump_is_delivered,
+    dump_is_read_as_its_messages, error_is_delivered, finished_dump_is_delivered,
+    message_is_one_frame, reply_is_delivered, requests_are_answered_in_turn,
 };
 use neli::types::Buffer;
 
@@ -17,4 +18,9 @@ fn laws_are_called() {
     dump_is_delivered();
     acknowledgement_is_delivered();
     error_is_delivered();
+    finished_dump_is_delivered();
+    answers_are_given_in_turn::<u16, Buffer>();
+    answers_are_complete();
+    datagrams_bring_their_own();
+    requests_are_answered_in_turn::<u16, Buffer, u16, Buffer>();
 }

@@ -56,6 +56,60 @@ fn the_first_of_its_type_is_found_or_the_fault_before_it(rt: HostRuntime) {
     }
 }
 
+/// The same where the flags are passed over.
+fn looked_up_masked<'b>(
+    attrs: &LentRtattrs<'b, Rta>,
+    kind: Rta,
+) -> Result<Option<&'b [u8]>, Refusal> {
+    match attrs.get_attribute_masked(kind) {
+        Ok(None) => Ok(None),
+        Ok(Some(attr)) => Ok(Some(attr.attr_payload())),
+        Err(error) => Err(refusal_of(&error)),
+    }
+}
+
+/// Attributes of type 5 with both flags, 1 without, and 5 without, and then a length that no attribute has.
+const FLAGGED: [u8; 28] = [
+    8, 0, 5, 0xc0, 192, 0, 2, 1, 8, 0, 1, 0, 10, 0, 0, 0, 8, 0, 5, 0, 192, 0, 2, 2, 3, 0, 4, 0,
+];
+
+// `NLA_F_NESTED` is bit 15, `NLA_F_NET_BYTEORDER` bit 14 (linux/netlink.h).
+#[test]
+fn the_flags_of_a_routing_attribute_are_passed_over(rt: HostRuntime) {
+    let rows: [Row; 6] = [
+        (
+            "with flags",
+            &FLAGGED,
+            Rta::Gateway,
+            Ok(Some(&[192, 0, 2, 1])),
+        ),
+        (
+            "without flags",
+            &FLAGGED,
+            Rta::Dst,
+            Ok(Some(&[10, 0, 0, 0])),
+        ),
+        ("no link", &FLAGGED[..24], Rta::Oif, Ok(None)),
+        (
+            "a fault before a link",
+            &FLAGGED,
+            Rta::Oif,
+            Err(Refusal::Input(3)),
+        ),
+        ("one flag", &[4, 0, 1, 0x40], Rta::Dst, Ok(Some(&[]))),
+        (
+            "a number of the flags",
+            &[4, 0, 1, 0x80],
+            Rta::UnrecognizedConst(0x8001),
+            Ok(None),
+        ),
+    ];
+    for (row, bytes, kind, want) in rows {
+        let attrs = LentRtattrs::<'_, Rta>::new(bytes);
+        assert_is_at(&rt, row, looked_up_masked(&attrs, kind), want);
+    }
+}
+
 #[test]
 fn what_is_left_of_a_walk_is_looked_up(rt: HostRuntime) {
     let mut attrs = LentRtattrs::<'_, Rta>::new(&ROUTE);

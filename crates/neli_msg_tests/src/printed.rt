@@ -204,6 +204,20 @@ fn errors_of_builders_become_words(rt: HostRuntime) {
     assert_is(&rt, router_refusal(&Error::from(error)), Refusal::Memory);
 }
 
+// Without the error that is one for most builders.
+#[test]
+fn an_error_of_one_builder_becomes_words(rt: HostRuntime) {
+    let alloc = rt.alloc();
+    let missing = "`id` must be initialized";
+    let error = BuildError::<{ of::CN_MSG }>::UninitializedField("id");
+    assert_prints(&rt, alloc, &SocketError::from(error), missing);
+    let error = BuildError::<{ of::FIBMSG }>::UninitializedField("id");
+    router_prints(&rt, alloc, Error::from(error), missing);
+    assert!(rt; is_memory(SocketError::from(BuildError::<{ of::CN_MSG }>::Memory)));
+    let error = BuildError::<{ of::FIBMSG }>::Memory;
+    assert_is(&rt, router_refusal(&Error::from(error)), Refusal::Memory);
+}
+
 /// Whether the error says that memory ran out.
 fn is_memory(error: SocketError) -> bool {
     matches!(error, SocketError::Memory)

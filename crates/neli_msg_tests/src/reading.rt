@@ -7,6 +7,7 @@ use crate::support::{
 use neli::consts::nl::{NlmF, Nlmsg};
 use neli::err::{DeError, SocketError};
 use neli::iter::{NlBufferIter, cut};
+use neli::lent::LentMessages;
 use neli::nl::{NlPayload, Nlmsghdr};
 use neli::types::Buffer;
 use neli::{Cursor, FromBytes};
@@ -65,6 +66,30 @@ fn one_message_is_read_or_refused(rt: HostRuntime) {
         assert_is_at(&rt, row, body_of(&read), want);
         let end = if want.is_ok() { bytes.len() } else { 0 };
         assert_is_at(&rt, row, place, end);
+    }
+}
+
+/// The message of [`ONE`], and the same without its padding.
+const CUT_OFF: [u8; 37] = [
+    17, 0, 0, 0, 0, 4, 0, 0, 0, 0, 0, 0, 0, 0, 0, 0, 0x61, 0xff, 0xff, 0xff, //
+    17, 0, 0, 0, 0, 4, 0, 0, 0, 0, 0, 0, 0, 0, 0, 0, 0x61,
+];
+
+// A fault is in the last 17 bytes.
+#[test]
+fn a_reader_says_where_it_stands(rt: HostRuntime) {
+    let mut owned: NlBufferIter<'_, u16, Buffer> = NlBufferIter::new(&CUT_OFF);
+    let mut lent = LentMessages::<'_, u16>::new(&CUT_OFF);
+    for (row, rest, is_whole) in [("first", 37, true), ("fault", 17, false), ("end", 0, false)] {
+        assert_is_at(
+            &rt,
+            row,
+            (owned.rest().len(), lent.rest().len()),
+            (rest, rest),
+        );
+        let read = (owned.next(rt.alloc()), lent.next());
+        let whole = (matches!(read.0, Some(Ok(_))), matches!(read.1, Some(Ok(_))));
+        assert_is_at(&rt, row, whole, (is_whole, is_whole));
     }
 }
 

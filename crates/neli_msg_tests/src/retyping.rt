@@ -5,9 +5,11 @@ use crate::kinds::ERROR;
 use crate::support::{Raw, RawError, Refusal, assert_is, error_in, raw_message, router_refusal};
 use neli::consts::netfilter::NetfilterMsg;
 use neli::consts::nl::{NlType, NlTypeWrapper, NlmF, NlmsgerrAttr};
+use neli::consts::rtnl::{RtAddrFamily, Rtm};
 use neli::err::{Nlmsgerr, NlmsghdrErr, NoMemory, RouterError};
-use neli::nl::{NlPayload, Nlmsghdr};
-use neli::types::Buffer;
+use neli::nl::{NlPayload, Nlmsghdr, NlmsghdrBuilder};
+use neli::rtnl::{Ifinfomsg, IfinfomsgBuilder};
+use neli::types::{Buffer, FrameList, TryClone};
 use neli::{FromBytesWithInput, Size};
 use std::alloc::Global;
 use std::fmt::Debug;
@@ -227,4 +229,54 @@ fn copies_are_equal(rt: HostRuntime) {
     assert_copy(&rt, answer.nlmsg().try_clone(), answer.nlmsg());
     let handle = answer.ext_ack().get_attr_handle();
     assert!(rt; handle.get_attribute(NlmsgerrAttr::Msg).is_some());
+}
+
+/// A message of one link.
+fn message_of_a_link(rt: &impl Abort, alloc: Global) -> Nlmsghdr<Rtm, Ifinfomsg> {
+    let link = IfinfomsgBuilder::default()
+        .ifi_family(RtAddrFamily::Unspecified)
+        .ifi_index(3)
+        .build(alloc)
+        .expect(rt, "a link");
+    NlmsghdrBuilder::default()
+        .nl_type(Rtm::Newlink)
+        .nl_flags(NlmF::empty())
+        .nl_payload(NlPayload::Payload(link))
+        .build()
+        .expect(rt, "a message")
+}
+
+/// A copy that is made through the trait.
+fn generic_copy<V: TryClone>(value: &V) -> Result<V, NoMemory> {
+    value.try_clone()
+}
+
+#[test]
+fn copies_of_typed_messages_are_equal(rt: HostRuntime) {
+    let alloc = rt.alloc();
+    let message = message_of_a_link(&rt, alloc);
+    assert_copy(&rt, message.try_clone(), &message);
+    assert_copy(
+        &rt,
+        generic_copy(message.nl_payload()),
+        message.nl_payload(),
+    );
+    let mut list = FrameList::new(alloc);
+    list.push(message).expect(&rt, "memory");
+    assert_copy(&rt, generic_copy(&list), &list);
+}
+
+// The parts of an error, through the trait: the answer, its echo, and the header of another answer.
+#[test]
+fn copies_of_answers_are_equal(rt: HostRuntime) {
+    let alloc = rt.alloc();
+    let raw = raw_message(&rt, alloc, &ERROR);
+    let answer = error_in(&rt, &raw);
+    assert_copy(&rt, generic_copy(answer), answer);
+    assert_copy(&rt, generic_copy(answer.nlmsg()), answer.nlmsg());
+    let stray = RouterError::BadSeqOrPid(message_of_a_link(&rt, alloc));
+    match generic_copy(&stray).expect(&rt, "memory") {
+        RouterError::BadSeqOrPid(copy) => assert_is(&rt, &copy, &message_of_a_link(&rt, alloc)),
+        _ => rt.panic("another error"),
+    }
 }

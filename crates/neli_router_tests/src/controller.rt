@@ -7,7 +7,8 @@ use neli::err::{DeError, NoMemory, RouterError};
 use neli::genl::Genlmsghdr;
 use neli::nl::Nlmsghdr;
 use neli::router::synchronous::{
-    CtrlError, CtrlItem, lookup_id, resolve_genl_family, resolve_nl_mcast_group,
+    CtrlError, CtrlItem, find_genl_family, find_genl_family_and_group, find_nl_mcast_group,
+    lookup_id, resolve_genl_family, resolve_nl_mcast_group,
 };
 use neli::{Cursor, FromBytes};
 use std::alloc::Global;
@@ -107,5 +108,36 @@ pub fn answer(
             said(alloc, resolve_nl_mcast_group(alloc, family, name, list))
         }
         Lookup::Names(number) => said(alloc, names(alloc, number, list)),
+    }
+}
+
+/// The same of items that are lent; of names nothing comes, since these take the items.
+///
+/// Refused only where memory runs out.
+pub fn lent_answer(
+    alloc: Global,
+    lookup: Lookup,
+    list: &[CtrlItem],
+) -> Result<Option<(Cause, String)>, NoMemory> {
+    match lookup {
+        Lookup::Family(name) => Ok(Some(said(alloc, find_genl_family(alloc, name, list))?)),
+        Lookup::Group(family, name) => {
+            let found = find_nl_mcast_group(alloc, family, name, list);
+            Ok(Some(said(alloc, found)?))
+        }
+        Lookup::Names(_) => Ok(None),
+    }
+}
+
+/// The numbers of a family and of its group in one reply, or why there are none.
+pub fn both_numbers(
+    alloc: Global,
+    family: &str,
+    group: &str,
+    list: &[CtrlItem],
+) -> Result<(u16, u32), Cause> {
+    match find_genl_family_and_group(alloc, family, group, list) {
+        Ok(numbers) => Ok(numbers),
+        Err(error) => Err(cause_of(&error)),
     }
 }

@@ -5,7 +5,7 @@
 
 use crate::controller::Cause::{DeInput, DeMsg, Found, Msg, NoAck};
 use crate::controller::Lookup::{Family, Group, Names};
-use crate::controller::{Cause, Lookup, answer, items};
+use crate::controller::{Cause, Lookup, answer, both_numbers, items, lent_answer};
 use crate::support::assert_is_at;
 use neli::err::NoMemory;
 use neli::router::synchronous::resolve_genl_family;
@@ -270,6 +270,9 @@ const LOOKUPS: [Row; 27] = [
 fn look_up(rt: &impl Abort, alloc: Global, row: &Row) {
     let (name, lookup, (frames, errors), want) = *row;
     let list = items(alloc, frames, errors).expect(rt, "messages");
+    if let Some((cause, text)) = lent_answer(alloc, lookup, &list).expect(rt, "memory") {
+        assert_is_at(rt, name, (cause, text.as_str()), want);
+    }
     let (cause, text) = answer(alloc, lookup, list).expect(rt, "memory");
     assert_is_at(rt, name, (cause, text.as_str()), want);
 }
@@ -278,6 +281,30 @@ fn look_up(rt: &impl Abort, alloc: Global, row: &Row) {
 fn lookups_are_answered(rt: HostRuntime) {
     for row in &LOOKUPS {
         look_up(&rt, rt.alloc(), row);
+    }
+}
+
+/// Messages, how many errors come after them, and both numbers of the family and its group, or why there are none.
+type Both = (
+    &'static str,
+    &'static [&'static str],
+    usize,
+    (&'static str, &'static str),
+    Result<(u16, u32), Cause>,
+);
+
+#[test]
+fn both_numbers_of_one_reply(rt: HostRuntime) {
+    let rows: [Both; 4] = [
+        ("both", &[NLCTRL, ACK], 0, ("nlctrl", "notify"), Ok((16, 5))),
+        ("no family", &[OTHER_NAMES], 0, ("a", "b"), Err(Msg)),
+        ("no group", &[NLCTRL], 0, ("nlctrl", "x"), Err(Msg)),
+        ("an error", &[NLCTRL], 1, ("nlctrl", "notify"), Err(NoAck)),
+    ];
+    for (row, frames, errors, (family, group), want) in rows {
+        let list = items(rt.alloc(), frames, errors).expect(&rt, "messages");
+        let found = both_numbers(rt.alloc(), family, group, &list);
+        assert_is_at(&rt, row, found, want);
     }
 }
 

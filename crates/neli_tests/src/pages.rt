@@ -1,13 +1,16 @@
 //! The examples of the pages of docs on attributes, the router and groups, line by line.
 
 use crate::support::{assert_is, assert_spelled, assert_written, bytes_of};
-use neli::ToBytes;
 use neli::consts::genl::{CtrlAttr, CtrlAttrMcastGrp, Index, NlAttrType};
+use neli::consts::rtnl::Ifla;
 use neli::genl::{AttrType, Nlattr, NlattrBuilder, NlattrBuilderError};
+use neli::lent::LentRtattrs;
 use neli::nl::Nlmsghdr;
 use neli::router::synchronous::{NlRouter, NlRouterReceiverHandle};
+use neli::rtnl::Ifinfomsg;
 use neli::types::Buffer;
 use neli::utils::Groups;
+use neli::{Cursor, FromBytesWithInput, ToBytes};
 use std::alloc::Global;
 use std::test::Fail;
 
@@ -45,6 +48,43 @@ fn nested_attributes(rt: HostRuntime) -> Result<(), Fail> {
     let groups = groups_of_a_family(rt.alloc(), group_of_a_family(rt.alloc())?)?;
     let want = "1c000780180001800b0001006e6f7469667900000800020005000000";
     assert_written(&rt, rt.alloc(), &groups, want);
+    Ok(())
+}
+
+/// The state of a bridge's port, where the link tells it.
+fn state_of_a_port(alloc: Global, link: &Ifinfomsg) -> Result<Option<u8>, Fail> {
+    let attrs = link.rtattrs().get_attr_handle();
+    if let Some(port) = attrs.get_attribute_masked(Ifla::Protinfo) {
+        let state: u8 = port
+            .get_attr_handle::<u16>(alloc)?
+            .get_attr_payload_as(alloc, 1)?;
+        return Ok(Some(state));
+    }
+    Ok(None)
+}
+
+/// How many attributes a bridge's port has, where the link tells them.
+fn attributes_of_a_port(attrs: &LentRtattrs<'_, Ifla>) -> Result<Option<usize>, Fail> {
+    if let Some(port) = attrs.get_attribute_masked(Ifla::Protinfo)? {
+        let inner = port.get_attrs::<u16>();
+        return Ok(Some(inner.try_count()?));
+    }
+    Ok(None)
+}
+
+/// A link's fields, 16 bytes, and the front of the list that a port of a bridge has as `IFLA_PROTINFO`, marked as nested:
+/// its state, 3, and its priority, 32.
+const PORT: &str = "0700000005000000000000000000000014000c8005000100030000000600020020000000";
+
+#[test]
+fn a_list_that_is_marked_as_nested(rt: HostRuntime) -> Result<(), Fail> {
+    let bytes = bytes_of(&rt, rt.alloc(), PORT);
+    let mut cursor = Cursor::new(&bytes);
+    let link = Ifinfomsg::from_bytes_with_input(rt.alloc(), &mut cursor, bytes.len())?;
+    assert!(rt; state_of_a_port(rt.alloc(), &link)? == Some(3));
+    let list = bytes.get(16..).expect(&rt, "attributes");
+    let attrs = LentRtattrs::<'_, Ifla>::new(list);
+    assert!(rt; attributes_of_a_port(&attrs)? == Some(2));
     Ok(())
 }
 

@@ -3,12 +3,17 @@
 use crate::support::{assert_is, assert_spelled, bytes_of};
 use neli::consts::nl::NlmF;
 use neli::consts::rtnl::{Ifa, RtAddrFamily, RtScope, Rtm};
+use neli::err::RouterError;
 use neli::nl::NlPayload;
 use neli::router::synchronous::{Log, NlRouter, Reply};
 use neli::rtnl::{Ifaddrmsg, IfaddrmsgBuilder};
 use neli::utils::Groups;
 use std::alloc::Global;
+use std::net::Ipv4Addr;
 use std::test::Fail;
+
+/// What the link, the router or a builder refused.
+type Trouble = RouterError<Rtm, Ifaddrmsg>;
 
 /// Reads the answers to the request.
 type Handle = neli::router::synchronous::NlRouterReceiverHandle<Rtm, Ifaddrmsg>;
@@ -19,7 +24,7 @@ fn first_address(
     alloc: Global,
     port: u32,
     datagram: &[u8],
-) -> Result<(Vec<u8>, Option<[u8; 4]>), Fail> {
+) -> Result<(Vec<u8>, Option<Ipv4Addr>), Trouble> {
     let (mut router, _multicast) = NlRouter::<Log>::new(alloc, port);
     let asked = IfaddrmsgBuilder::default()
         .ifa_family(RtAddrFamily::Inet)
@@ -44,10 +49,10 @@ fn first_answer(
     router: &mut NlRouter,
     mut handle: Handle,
     datagram: &[u8],
-) -> Result<Option<[u8; 4]>, Fail> {
+) -> Result<Option<Ipv4Addr>, Trouble> {
     // Your link sends `request`, and `datagram` comes back.
     router.processing_loop(datagram, &Groups::empty(alloc))?;
-    let mut address: Option<[u8; 4]> = None;
+    let mut address: Option<Ipv4Addr> = None;
     if let Reply::Item(item) = router.next_typed::<Rtm, Ifaddrmsg, _, _>(alloc, &mut handle)? {
         if let Some(body) = item?.get_payload() {
             let attrs = body.rtattrs().get_attr_handle();
@@ -70,7 +75,7 @@ fn addresses_of_a_link(rt: HostRuntime) -> Result<(), Fail> {
     let (request, address) = first_address(alloc, 4136408453, &datagram)?;
     let want = "18000000160001030000000085958cf60200000003000000";
     assert_spelled(&rt, alloc, &request, want);
-    assert_is(&rt, address, Some([192, 0, 2, 1]));
+    assert_is(&rt, address, Some(Ipv4Addr::new(192, 0, 2, 1)));
     Ok(())
 }
 
