@@ -15,19 +15,37 @@ use crate::link::Link;
 use neli::Cursor;
 use neli::consts::nl::NlmF;
 use neli::consts::rtnl::{RtAddrFamily, Rtm};
-use neli::err::{DeError, RouterError};
+use neli::err::{DeError, NoMemory, RouterError};
 use neli::lent::LentMessage;
 use neli::nl::{NlPayload, Nlmsghdr};
 use neli::router::synchronous::{Log, NlRouter, NlRouterReceiverHandle, Reply};
-use neli::rtnl::{Ifinfomsg, IfinfomsgBuilder};
+use neli::rtnl::{Ifinfomsg, IfinfomsgBuilder, IfinfomsgBuilderError};
 use neli::utils::Groups;
 use std::alloc::Global;
 use std::io;
 use std::io::Read;
 use std::process::ExitCode;
+use thiserror::Error;
 
-/// Why the links are not listed to the end.
-type Trouble = RouterError<Rtm, Ifinfomsg>;
+/// Why the links are not listed to the end. Every refusal of the library becomes one by `?`.
+#[derive(Debug, Drop, Error)]
+enum Trouble {
+    /// The first message, or what an answer says of a link, is not readable.
+    #[error("not readable: {0}")]
+    Read(#[from] DeError),
+    /// The request's body was not built.
+    #[error("no request: {0}")]
+    Build(#[from] IfinfomsgBuilderError),
+    /// The router refuses the request or the datagrams, or the kernel answers with an error.
+    #[error("no answer: {0}")]
+    Answer(#[from] RouterError<Rtm, Ifinfomsg>),
+    /// The datagrams end before the answer does.
+    #[error("the answer does not end")]
+    NoEnd,
+    /// Memory ran out.
+    #[error("out of memory")]
+    Memory(#[from] NoMemory),
+}
 
 /// The port and the number of the request that these datagrams answer, as their first message has them.
 fn asked(datagrams: &[u8]) -> Result<(u32, u32), DeError> {
@@ -42,24 +60,21 @@ fn ask(
 ) -> Result<(Vec<u8>, NlRouterReceiverHandle<Rtm, Ifinfomsg>), Trouble> {
     let all = IfinfomsgBuilder::default()
         .ifi_family(RtAddrFamily::Unspecified)
-        .build(alloc);
-    let body = match all {
-        Ok(all) => NlPayload::Payload(all),
-        Err(error) => return Err(RouterError::new(alloc, error)?),
-    };
-    router.send::<_, _, Rtm, Ifinfomsg>(alloc, Rtm::Getlink, NlmF::DUMP, body)
+        .build(alloc)?;
+    let body = NlPayload::Payload(all);
+    Ok(router.send::<_, _, Rtm, Ifinfomsg>(alloc, Rtm::Getlink, NlmF::DUMP, body)?)
 }
 
 /// Appends the link of an item, if it has one.
 fn add_link(
     alloc: Global,
-    item: Result<Nlmsghdr<Rtm, Ifinfomsg>, Trouble>,
+    item: Result<Nlmsghdr<Rtm, Ifinfomsg>, RouterError<Rtm, Ifinfomsg>>,
     links: &mut Vec<Link>,
 ) -> Result<(), Trouble>
     ensures kept { take (length links.old.items) links.new.items ≡ links.old.items }
 {
     if let Some(body) = item?.get_payload() {
-        links.push(Link::of(alloc, body)?)?;
+        links.push(Link::of(alloc, body)?).map_err(NoMemory::from)?;
     }
     Ok(())
 }
@@ -80,7 +95,7 @@ fn read_answers(
             Reply::Waits => break,
         }
     }
-    Err(RouterError::new(alloc, "the answer does not end")?)
+    Err(Trouble::NoEnd)
 }
 
 /// Asks for all links, and appends those of the answer.
