@@ -1,0 +1,44 @@
+//! Any input.
+
+ghost use Rattle.std.specs.Prelude.{◌≡◌, [], ◌∷◌, IfOk};
+ghost use Rattle.neli_inputs.specs.Inputs.{IsInput, raw_item};
+
+use crate::item::{Input, Item, Packet};
+use crate::pcap::{order_of, read_pcap};
+use crate::text::read_text;
+use std::alloc::{AllocError, Global};
+
+/// The one item of raw bytes.
+fn raw(alloc: Global, length: usize) -> Result<Vec<Item>, AllocError>
+    ensures { IfOk result (λ items. items.items ≡ raw_item length ∷ []) }
+{
+    let mut items = Vec::new(alloc);
+    items.push(Item {
+        place: 0,
+        packet: Ok(Packet {
+            family: None,
+            start: 0,
+            end: length,
+        }),
+    })?;
+    Ok(items)
+}
+
+/// The datagrams of an input: of a pcap file where it begins with a pcap file's magic number, of raw bytes where a
+/// byte of it is 0, and else of hexadecimal text.
+///
+/// Raw bytes are one datagram, or several without a gap, whose messages are the same: the length before each message
+/// has a zero byte, which no text has. The bytes of a pcap file and raw ones are kept, and not copied.
+pub fn read_input(alloc: Global, bytes: Vec<u8>) -> Result<Input, AllocError>
+    ensures { IfOk result (λ input. IsInput bytes.items input.bytes.items input.items.items) }
+{
+    if let Some(order) = order_of(&bytes) {
+        let items = read_pcap(alloc, order, &bytes)?;
+        return Ok(Input { bytes, items });
+    }
+    if bytes.contains(&0) {
+        let items = raw(alloc, bytes.len())?;
+        return Ok(Input { bytes, items });
+    }
+    read_text(alloc, &bytes)
+}
