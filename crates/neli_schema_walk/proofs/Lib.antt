@@ -1,0 +1,4 @@
+pub mod Checks
+pub mod Neighbours
+pub mod Steps
+pub mod Walks

@@ -1,0 +1,4 @@
+pub mod Shapes
+pub mod Walks
+pub mod Breaches
+pub mod Found
