@@ -1,0 +1,6 @@
+pub mod AsBox
+pub mod Frames
+pub mod Opened
+pub mod Padding
+pub mod Replies
+pub mod Requests

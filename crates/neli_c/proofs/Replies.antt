@@ -1,0 +1,73 @@
+-- What a read of a session answers, by what its router answers.
+use Rattle.std.proofs.Common.{◌≡◌, ◌≢◌, ◌⊎◌, ◌||◌, ℕ, ◌<◌, ℤ, true, false, List, [], ◌∷◌, length, Option, Some, None, Result, Ok, Err, IfOk, OnErr, slice_get, slice_set, refl, sym, ap, subst, ◌∙◌, inl, inr, IfSome, length-set}
+use Rattle.std.proofs.lemmas.List.{get_or-set_same}
+use Rattle.std.proofs.lemmas.Option.{slice_get-get_or}
+use Rattle.neli_deliveries.specs.declared.delivery.Delivery.{Delivery}
+use Rattle.neli_deliveries.specs.Readings.{IsReading, Item}
+use Rattle.neli_router_base.specs.declared.handle.HandleState.{HandleState}
+use Rattle.neli_router_base.specs.declared.reply.Reply.{Reply}
+use Rattle.neli_router_base.specs.declared.reply.Reply.TheVariants as reply
+use Rattle.neli_router_base.specs.Rule.{ends_at, has_number, is_single, item_of}
+use Rattle.neli_msg.specs.Nlmsghdr.{Nlmsghdr}
+use Rattle.neli_msg.specs.RouterError.TheVariants as router
+use Rattle.neli_c.specs.declared.session.NeliItem.{NeliItem}
+use Rattle.neli_c.specs.declared.session.Session.{Session}
+use Rattle.neli_c.specs.Codes.{memory}
+use Rattle.neli_c.specs.Sessions.{GivesDelivery, Holds, ReadsHandle, handle_at, handle_in, item_shown, pending, reply_code}
+
+-- the handle that was put at a place is there
+pub handle-put : (handles : List (Option HandleState)) (k : ℕ) (h : Option HandleState) → k < length handles → handle_at k (slice_set handles k h) ≡ h
+handle-put handles k h within =
+    let there : k < length (slice_set handles k h) = subst (λ (n : ℕ). k < n) (sym (length-set handles k h)) within in
+    ap handle_in (slice_get-get_or (slice_set handles k h) k h there ∙ ap (λ (x : Option HandleState). Some x) (get_or-set_same handles k h h within)) ∙ in-some h
+  where
+    in-some : (h : Option HandleState) → handle_in (Some h) ≡ h
+    in-some h = refl
+
+-- what holds of the value that is there
+pub of-value : {A : Type 0} (o : Option A) (P : A → Type 0) (x : A) → Some x ≡ o → P x → IfSome o P
+of-value {A} o P x is p = subst (λ (o : Option A). IfSome o P) is p
+
+-- a message that was given is held, and shown
+given-held : (E : Type 0) (i : Item ℕ (List ℕ)) (old new : Option (Nlmsghdr ℕ (List ℕ))) (a b : NeliItem) → Holds {E = E} (Ok (reply.Item i)) old new a b
+    → IfOk i (λ m. (new ≡ Some m) × (b ≡ item_shown m))
+given-held E (Ok m) old new a b held = held
+given-held E (Err e) old new a b held = tt
+
+module _ {E : Type 0} (h after : HandleState) (s t : Session) (code : ℤ) (a b : NeliItem) where
+  -- what next_typed says of the first delivery
+  abbrev Given : Result (Reply ℕ (List ℕ)) E → Delivery → List Delivery → Type 0
+  Given r d ds =
+      IfOk r (λ answer. (given : Item ℕ (List ℕ)) × IsReading (λ n. n) (λ b. b) length (λ b. Ok b) d given
+      × (answer ≡ reply.Item (item_of (λ n. n) h.needs_ack (has_number h.number) h.single_given given))
+      × (pending t h.number ≡ Some ds)
+      × (after ≡ record h {
+        single_given = h.single_given || is_single (λ n. n) (has_number h.number) given;
+        ended = ends_at (λ n. n) h.needs_ack (has_number h.number) h.single_given given;
+      }))
+
+  gives : (r : Result (Reply ℕ (List ℕ)) E) (d : Delivery) (ds : List Delivery) → code ≡ reply_code r → Holds r s.held t.held a b → Given r d ds
+      → OnErr r ((after ≡ h) × (t.router ≡ s.router)) → ((code ≡ memory) × (after ≡ h) × (t.router ≡ s.router)) ⊎ GivesDelivery code h after t d ds b
+  gives (Ok answer) d ds is held given err =
+      let i : Item ℕ (List ℕ) = item_of (λ n. n) h.needs_ack (has_number h.number) h.single_given given.0 in
+      let same : answer ≡ reply.Item i = given.2 in
+      let shows : Holds {E = E} (Ok (reply.Item i)) s.held t.held a b = subst (λ (x : Reply ℕ (List ℕ)). Holds {E = E} (Ok x) s.held t.held a b) same held in
+      inr (given.0, given.1, is ∙ ap (λ (x : Reply ℕ (List ℕ)). reply_code {E = E} (Ok x)) same, given-held E i s.held t.held a b shows, given.3, given.4)
+  gives (Err e) d ds is held given err = inl (is, err.0, err.1)
+
+  pub reads : (r : Result (Reply ℕ (List ℕ)) E) → code ≡ reply_code r → Holds r s.held t.held a b → (t.router.next_seq ≡ s.router.next_seq)
+      → (h.ended ≡ true → (r ≡ Ok reply.End) × (after ≡ h) × (t.router ≡ s.router))
+      → (h.ended ≡ false → pending s h.number ≡ None → (r ≡ Ok (reply.Item (Err router.ClosedChannel))) × (after ≡ record h { ended = true }) × (t.router ≡ s.router))
+      → (h.ended ≡ false → pending s h.number ≡ Some [] → (r ≡ Ok reply.Waits) × (after ≡ h) × (t.router ≡ s.router))
+      → (h.ended ≡ false → (d : Delivery) (ds : List Delivery) → pending s h.number ≡ Some (d ∷ ds) → Given r d ds)
+      → ((w : Option ℕ) → w ≢ h.number → pending t w ≡ pending s w)
+      → OnErr r ((after ≡ h) × (t.router ≡ s.router))
+      → ReadsHandle code h after s t b
+  reads r is held next ended closed waiting given others err = (
+    λ e. (is ∙ ap reply_code (ended e).0, (ended e).1),
+    λ e p. (is ∙ ap reply_code (closed e p).0, (closed e p).1),
+    λ e p. (is ∙ ap reply_code (waiting e p).0, (waiting e p).1),
+    λ e d ds p. gives r d ds is held (given e d ds p) err,
+    others,
+    next,
+  )

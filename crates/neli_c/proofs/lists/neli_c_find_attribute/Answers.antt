@@ -1,0 +1,10 @@
+use Rattle.std.proofs.Common.{refl, rules}
+use Rattle.neli_c.specs.Lists.{none, one}
+use Rattle.neli_c.proofs.lists.neli_c_find_attribute.Goals as goal
+
+pub loop-ahead-init : goal.loop-ahead-init
+loop-ahead-init c = (none, refl)
+
+pub loop-ahead-preserved : goal.loop-ahead-preserved
+loop-ahead-preserved c =
+    (one _ c.loop-ahead.invariant.0 (c.neli_c_next_attribute-code.ensures.attribute (first_of (search rules, cc))) (first_of (search rules, cc)), c.loop-ahead.invariant.1)

@@ -1,0 +1,65 @@
+-- What calls answer: numbers from 0 on are answers, those below 0 refusals (`enum neli_code` of include/neli.h).
+use Rattle.std.specs.Prelude.{ℤ, pos, negsuc}
+
+-- it is done, or nothing more comes; a message, an attribute or an item was given; none is here yet
+abbrev pub ok : ℤ
+ok = pos 0
+
+abbrev pub item : ℤ
+item = pos 1
+
+abbrev pub waits : ℤ
+waits = pos 2
+
+-- the kernel answered with an error
+abbrev pub kernel_error : ℤ
+kernel_error = pos 3
+
+-- the bytes end too early; a length does not fit; memory ran out; the room is too small
+abbrev pub short : ℤ
+short = negsuc 0
+
+abbrev pub bad_length : ℤ
+bad_length = negsuc 1
+
+abbrev pub memory : ℤ
+memory = negsuc 2
+
+abbrev pub room : ℤ
+room = negsuc 3
+
+-- the router is closed, or open already; there is no such handle
+abbrev pub state : ℤ
+state = negsuc 4
+
+abbrev pub no_handle : ℤ
+no_handle = negsuc 5
+
+-- what came in place of an item
+abbrev pub in_use : ℤ
+in_use = negsuc 6
+
+abbrev pub stray : ℤ
+stray = negsuc 7
+
+abbrev pub no_ack : ℤ
+no_ack = negsuc 8
+
+abbrev pub unexpected_ack : ℤ
+unexpected_ack = negsuc 9
+
+abbrev pub link : ℤ
+link = negsuc 10
+
+abbrev pub bad_bytes : ℤ
+bad_bytes = negsuc 11
+
+-- a place is past the bytes; the message is of another kind; no zero byte ends the text
+abbrev pub place : ℤ
+place = negsuc 13
+
+abbrev pub kind : ℤ
+kind = negsuc 14
+
+abbrev pub text : ℤ
+text = negsuc 15

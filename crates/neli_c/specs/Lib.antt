@@ -1,0 +1,9 @@
+pub mod AnswersShown
+pub mod Codes
+pub mod Held
+pub mod Lists
+pub mod Reads
+pub mod Sessions
+pub mod Texts
+pub mod Walks
+pub mod Writes

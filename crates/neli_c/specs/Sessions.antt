@@ -1,0 +1,211 @@
+-- What the calls of a router do to it, for every handle: as neli_router_base says it of its own calls.
+use Rattle.std.specs.Prelude.{◌≡◌, ◌≢◌, ◌⊎◌, ◌||◌, ⊤, ℕ, ℤ, pos, Bool, List, [], ◌∷◌, ◌++◌, Option, Some, None, IfSome, is_some, option_map, nat_eq, nat_le, unsigned_abs, if◌then◌else◌, length, slice_get, slice_set, Result, Ok, Err, IfOk, true, false}
+use Rattle.std.specs.declared.io.ErrorKind.{ErrorKind}
+use Rattle.std.specs.declared.io.ErrorKind.TheVariants as kind
+use Rattle.neli_wire.specs.Writing.{Wire}
+use Rattle.neli_msg.specs.Agreement.{untyped_layout}
+use Rattle.neli_msg.specs.Cuts.{cut_of}
+use Rattle.neli_msg.specs.Nlmsghdr.{Nlmsghdr}
+use Rattle.neli_msg.specs.SocketError.{SocketError}
+use Rattle.neli_msg.specs.SocketError.TheVariants as socket
+use Rattle.neli_msg.specs.Wires.{message_wire}
+use Rattle.neli_util.specs.Groups.{without_zeros}
+use Rattle.neli_deliveries.specs.declared.delivery.Delivery.{Delivery}
+use Rattle.neli_deliveries.specs.Deliveries.{datagram_share, fault_share}
+use Rattle.neli_log.specs.Log.{pending_of}
+use Rattle.neli_router_base.specs.declared.handle.HandleState.{HandleState}
+use Rattle.neli_router_base.specs.declared.reply.Reply.{Reply}
+use Rattle.neli_router_base.specs.declared.reply.Reply.TheVariants as reply
+use Rattle.neli_router_base.specs.Rule.{ends_at, has_number, is_single, item_of}
+use Rattle.neli_router_base.specs.Sends.{asks, frame_or_refusal, number_after}
+use Rattle.neli_deliveries.specs.Readings.{IsReading, Item}
+use Rattle.neli_msg.specs.Headers.{flags_of}
+use Rattle.neli_msg.specs.NlPayload.{NlPayload}
+use Rattle.neli_msg.specs.NlPayload.TheVariants as payload
+use Rattle.neli_msg.specs.RouterError.{RouterError}
+use Rattle.neli_msg.specs.RouterError.TheVariants as router
+use Rattle.neli_c.specs.declared.session.NeliItem.{NeliItem}
+use Rattle.neli_c.specs.declared.session.NeliSent.{NeliSent}
+use Rattle.neli_c.specs.Walks.{refusal_code}
+use Rattle.neli_c.specs.declared.session.Session.{Session}
+use Rattle.neli_c.specs.Codes.{bad_bytes, bad_length, in_use, item, kernel_error, link, memory, no_ack, no_handle, ok, room, stray, unexpected_ack, waits}
+use Rattle.neli_c.specs.Writes.{put_first}
+
+-- what waits for a handle with this number, or for multicast; nothing where that is not open
+abbrev pub pending : Session → Option ℕ → Option (List Delivery)
+pending s w = pending_of s.router.deliveries w
+
+-- whether this number is open
+abbrev pub is_open : Session → ℕ → Bool
+is_open s q = is_some (pending s (Some q))
+
+-- port, next number, handles and the held message are the same
+abbrev pub KeepsRest : Session → Session → Type 0
+KeepsRest s t =
+    (t.router.deliveries.port ≡ s.router.deliveries.port) × (t.router.next_seq ≡ s.router.next_seq)
+    × (t.handles.items ≡ s.handles.items) × (t.held ≡ s.held)
+
+-- a new router of this port: nothing waits for multicast, and no number is open
+abbrev pub IsNew : ℕ → Session → Type 0
+IsNew port s =
+    (s.router.deliveries.port ≡ port) × (s.router.next_seq ≡ 0) × (pending s None ≡ Some [])
+    × ((q : ℕ) → pending s (Some q) ≡ None) × (s.held ≡ None)
+
+-- the next request has this number; all else is the same
+abbrev pub SetsNumber : ℕ → Session → Session → Type 0
+SetsNumber number s t =
+    (t.router.next_seq ≡ number) × (t.router.deliveries ≡ s.router.deliveries) × (t.handles.items ≡ s.handles.items)
+    × (t.held ≡ s.held)
+
+-- each handle gets its share of the datagram; or memory ran out, and what waits is the same
+abbrev pub TakesDatagram : ℤ → List ℕ → List ℕ → Session → Session → Type 0
+TakesDatagram code bytes groups s t =
+    ((code ≡ ok) ⊎ (code ≡ memory))
+    × (code ≡ ok → (w : Option ℕ) → pending t w
+    ≡ option_map (λ ds. ds ++ datagram_share s.router.deliveries.port (is_open s) w (cut_of untyped_layout bytes) (without_zeros groups)) (pending s w))
+    × (code ≡ memory → (w : Option ℕ) → pending t w ≡ pending s w)
+    × KeepsRest s t
+
+-- the link's fault of a number of errno.h, negated or not: EAGAIN (11), ECONNRESET (104), or another one
+abbrev pub fault_kind : ℤ → ErrorKind
+fault_kind n =
+    if nat_eq (unsigned_abs n) 11 then kind.WouldBlock else (if nat_eq (unsigned_abs n) 104 then kind.ConnectionReset else kind.Other)
+
+-- each handle gets its share of the fault; or memory ran out, and what waits is the same
+abbrev pub TakesFault : ℤ → ℤ → Session → Session → Type 0
+TakesFault code errno s t =
+    ((code ≡ ok) ⊎ (code ≡ memory))
+    × (code ≡ ok → (w : Option ℕ) → pending t w ≡ option_map (λ ds. ds ++ fault_share w (socket.Io (fault_kind errno))) (pending s w))
+    × (code ≡ memory → (w : Option ℕ) → pending t w ≡ pending s w)
+    × KeepsRest s t
+
+-- the bytes of the held message are written where there is room, and `length` is how many there are
+abbrev pub WritesMessage : ℤ → Wire → List ℕ → List ℕ → ℕ → Type 0
+WritesMessage code (Ok bytes) old new size =
+    (size ≡ length bytes) × (code ≡ (if nat_le (length bytes) (length old) then ok else room))
+    × (code ≡ ok → new ≡ put_first bytes old)
+WritesMessage code e old new size = ⊥
+
+-- the same of the message that is held; none is, or memory ran out
+abbrev pub WritesItem : ℤ → Session → List ℕ → List ℕ → ℕ → ℕ → Type 0
+WritesItem code s old new size size' =
+    (s.held ≡ None → (code ≡ no_handle) × (size' ≡ size))
+    × (code ≡ memory → size' ≡ size)
+    × (code ≢ ok → new ≡ old)
+    × IfSome s.held (λ m. code ≢ memory → WritesMessage code (message_wire (λ n. n) (λ b. Ok b) m) old new size')
+
+-- the handle at a place, if there is one
+abbrev pub handle_in : Option (Option HandleState) → Option HandleState
+handle_in (Some h) = h
+handle_in None = None
+
+abbrev pub handle_at : ℕ → List (Option HandleState) → Option HandleState
+handle_at k handles = handle_in (slice_get handles k)
+
+-- what waits for the handle at a place is given up, and the place is free; or there is none, and nothing changes
+abbrev pub ClosesHandle : ℤ → ℕ → Session → Session → Type 0
+ClosesHandle code k s t =
+    (handle_at k s.handles.items ≡ None → (code ≡ no_handle) × (t ≡ s))
+    × ((h : HandleState) → handle_at k s.handles.items ≡ Some h
+    → (code ≡ ok) × (pending t h.number ≡ None) × ((w : Option ℕ) → w ≢ h.number → pending t w ≡ pending s w)
+    × (t.handles.items ≡ slice_set s.handles.items k None)
+    × (t.router.deliveries.port ≡ s.router.deliveries.port) × (t.router.next_seq ≡ s.router.next_seq) × (t.held ≡ s.held))
+
+-- the request of this body is written, the place has its handle, and its number is used up
+abbrev pub SendsRequest : ℕ → ℕ → List ℕ → Session → Session → List ℕ → List ℕ → NeliSent → Type 0
+SendsRequest message_type flags body s t old new sent =
+    let number = s.router.next_seq in
+    (bytes : List ℕ)
+    × (frame_or_refusal {T = ℕ} {P = List ℕ} (λ n. n) (λ b. Ok b) length s.router.deliveries.port number (is_open s number) message_type (flags_of flags) (payload.Payload body) ≡ Ok bytes)
+    × (new ≡ put_first bytes old) × (sent.length ≡ length bytes)
+    × (handle_at sent.handle t.handles.items ≡ Some (asks number (flags_of flags)))
+    × (t.router.next_seq ≡ number_after number) × (pending t (Some number) ≡ Some [])
+    × ((w : Option ℕ) → w ≢ Some number → pending t w ≡ pending s w)
+
+-- nothing is sent: the next number, what waits and what is held are the same
+abbrev pub SendsNothing : Session → Session → Type 0
+SendsNothing s t =
+    (t.router.next_seq ≡ s.router.next_seq) × ((w : Option ℕ) → pending t w ≡ pending s w) × (t.held ≡ s.held)
+
+-- what a read answers: of a fault of the link or of a datagram, of what came in place of a message, of an item
+abbrev pub socket_code : SocketError → ℤ
+socket_code (socket.De e) = refusal_code e
+socket_code (socket.Io k) = link
+socket_code socket.Memory = memory
+socket_code e = bad_bytes
+
+abbrev pub error_code : {K P : Type 0} → RouterError K P → ℤ
+error_code (router.De e) = refusal_code e
+error_code (router.Socket e) = socket_code e
+error_code (router.Nlmsgerr e) = kernel_error
+error_code (router.Capped e) = kernel_error
+error_code (router.BadSeqOrPid m) = stray
+error_code router.NoAck = no_ack
+error_code router.UnexpectedAck = unexpected_ack
+error_code router.ClosedChannel = no_handle
+error_code (router.SeqInUse n) = in_use
+error_code router.Memory = memory
+error_code (router.Io k) = link
+error_code (router.Msg m) = bad_length
+
+abbrev pub item_code : {K P : Type 0} → Item K P → ℤ
+item_code (Ok m) = item
+item_code (Err e) = error_code e
+
+-- of what the router answers
+abbrev pub reply_code : {E : Type 0} → Result (Reply ℕ (List ℕ)) E → ℤ
+reply_code (Ok (reply.Item i)) = item_code i
+reply_code (Ok reply.End) = ok
+reply_code (Ok reply.Waits) = waits
+reply_code (Err e) = memory
+
+-- the code of an error, an acknowledgement or the end of a dump, and 0 elsewhere
+abbrev pub payload_error : NlPayload ℕ (List ℕ) → ℤ
+payload_error (payload.Ack e) = e.error
+payload_error (payload.Capped e) = e.error
+payload_error (payload.DumpExtAck e) = e.error
+payload_error (payload.Err e) = e.error
+payload_error p = pos 0
+
+-- what is shown of a message
+abbrev pub item_shown : Nlmsghdr ℕ (List ℕ) → NeliItem
+item_shown m =
+    record { message_type = m.header.message_type; flags = m.header.flags.0; number = m.header.sequence_number; port = m.header.port; error = payload_error m.payload }
+
+-- a message is held, and shown; without an item both are as before
+abbrev pub Holds : {E : Type 0} → Result (Reply ℕ (List ℕ)) E → Option (Nlmsghdr ℕ (List ℕ)) → Option (Nlmsghdr ℕ (List ℕ)) → NeliItem → NeliItem → Type 0
+Holds (Ok (reply.Item (Ok m))) old new a b = (new ≡ Some m) × (b ≡ item_shown m)
+Holds (Ok (reply.Item (Err e))) old new a b = ⊤
+Holds r old new a b = (new ≡ old) × (b ≡ a)
+
+-- the first delivery of a handle is given by the reply rule, and what waits is `ds`
+abbrev pub GivesDelivery : ℤ → HandleState → HandleState → Session → Delivery → List Delivery → NeliItem → Type 0
+GivesDelivery code h h' t d ds shown =
+    (given : Item ℕ (List ℕ)) × IsReading (λ n. n) (λ b. b) length (λ b. Ok b) d given
+    × (code ≡ item_code (item_of (λ n. n) h.needs_ack (has_number h.number) h.single_given given))
+    × IfOk (item_of (λ n. n) h.needs_ack (has_number h.number) h.single_given given)
+    (λ m. (t.held ≡ Some m) × (shown ≡ item_shown m))
+    × (pending t h.number ≡ Some ds)
+    × (h' ≡ record h {
+      single_given = h.single_given || is_single (λ n. n) (has_number h.number) given;
+      ended = ends_at (λ n. n) h.needs_ack (has_number h.number) h.single_given given;
+    })
+
+-- of a handle that is there, and is h' then: its end, that it is not open, a wait, or its first delivery; or memory
+-- ran out, and all is as before
+abbrev pub ReadsHandle : ℤ → HandleState → HandleState → Session → Session → NeliItem → Type 0
+ReadsHandle code h h' s t shown =
+    (h.ended ≡ true → (code ≡ ok) × (h' ≡ h))
+    × (h.ended ≡ false → pending s h.number ≡ None → (code ≡ no_handle) × (h' ≡ record h { ended = true }))
+    × (h.ended ≡ false → pending s h.number ≡ Some [] → (code ≡ waits) × (h' ≡ h))
+    × (h.ended ≡ false → (d : Delivery) (ds : List Delivery) → pending s h.number ≡ Some (d ∷ ds)
+    → ((code ≡ memory) × (h' ≡ h) × (t.router ≡ s.router)) ⊎ GivesDelivery code h h' t d ds shown)
+    × ((w : Option ℕ) → w ≢ h.number → pending t w ≡ pending s w)
+    × (t.router.next_seq ≡ s.router.next_seq)
+
+-- a read of the handle at a place; where there is none, nothing changes
+abbrev pub ReadsPlace : ℤ → ℕ → Session → Session → NeliItem → Type 0
+ReadsPlace code k s t shown =
+    (handle_at k s.handles.items ≡ None → (code ≡ no_handle) × (t ≡ s))
+    × IfSome (handle_at k s.handles.items) (λ h. (after : HandleState)
+    × (t.handles.items ≡ slice_set s.handles.items k (Some after)) × ReadsHandle code h after s t shown)

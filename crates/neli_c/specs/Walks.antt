@@ -1,0 +1,88 @@
+-- Walks over a caller's bytes: what is left, what a call gives of it, and what it answers.
+use Rattle.std.specs.Prelude.{◌≡◌, ◌≤◌, ℕ, ◌+◌, ◌-◌, ℤ, Bool, ◌&&◌, bit_and, nat_le, if◌then◌else◌, List, [], ◌∷◌, length, take, drop, Option, Some, None, Ok, Err}
+use Rattle.std.specs.declared.io.ErrorKind.TheVariants.{UnexpectedEof}
+use Rattle.neli_wire.specs.Bytes.{Reading}
+use Rattle.neli_wire.specs.DeError.{DeError}
+use Rattle.neli_wire.specs.DeError.TheVariants as de
+use Rattle.neli_wire.specs.Frames.{Layout, frame_at}
+use Rattle.neli_wire.specs.Sizes.{align}
+use Rattle.neli_attr.specs.Attributes.{Head}
+use Rattle.neli_msg.specs.Headers.{Header, flags_of}
+use Rattle.neli_lent.specs.Attributes.{lent_attribute}
+use Rattle.neli_lent.specs.Messages.{lent_message}
+use Rattle.neli_c.specs.declared.lent.NeliWalk.{NeliWalk}
+use Rattle.neli_c.specs.declared.lent.NeliMessage.{NeliMessage}
+use Rattle.neli_c.specs.declared.lent.NeliAttribute.{NeliAttribute}
+use Rattle.neli_c.specs.Codes.{bad_bytes, bad_length, item, memory, ok, place, short}
+
+-- how messages and attributes lie, with their numbers as they are and each payload's bytes
+abbrev pub message_layout : Layout (Header ℕ) (List ℕ)
+message_layout = lent_message (λ n. n)
+
+abbrev pub attribute_layout : Layout (Head ℕ) (List ℕ)
+attribute_layout = lent_attribute (λ n. n)
+
+-- the bytes from a place on, so many
+abbrev pub bytes_from : ℕ → ℕ → List ℕ → List ℕ
+bytes_from at n bytes = take n (drop at bytes)
+
+-- the places of a walk are in order and within so many bytes
+abbrev pub is_within : NeliWalk → ℕ → Bool
+is_within w size = nat_le w.place w.end && nat_le w.end size
+
+-- the bytes that are left of a walk
+abbrev pub bytes_left : List ℕ → NeliWalk → Option (List ℕ)
+bytes_left bytes w = if is_within w (length bytes) then Some (bytes_from w.place (w.end - w.place) bytes) else None
+
+-- ---- what a step answers
+
+-- of bytes that are refused
+abbrev pub refusal_code : DeError → ℤ
+refusal_code (de.Io UnexpectedEof) = short
+refusal_code (de.InvalidInput n) = bad_length
+refusal_code de.Memory = memory
+refusal_code e = bad_bytes
+
+-- of a reading
+abbrev pub reading_code : {A : Type 0} → Reading A → ℤ
+reading_code (Ok r) = item
+reading_code (Err e) = refusal_code e
+
+-- of the bytes that are left, if there are such bytes
+abbrev pub walk_code : {H : Type 0} → Layout H (List ℕ) → Option (List ℕ) → ℤ
+walk_code layout None = place
+walk_code layout (Some []) = ok
+walk_code layout (Some (b ∷ s)) = reading_code (frame_at layout (b ∷ s))
+
+-- ---- what a step gives
+
+-- the header that a message shows
+abbrev pub header_shown : NeliMessage → Header ℕ
+header_shown m = record { len = m.length; message_type = m.message_type; flags = flags_of m.flags; sequence_number = m.number; port = m.port }
+
+-- the message is the frame that begins the bytes that were left; the walk goes past it
+abbrev pub GivesMessage : List ℕ → NeliWalk → NeliWalk → NeliMessage → Type 0
+GivesMessage bytes old new m =
+    let s = bytes_from old.place (old.end - old.place) bytes in
+    (frame_at message_layout s ≡ Ok ((header_shown m, bytes_from m.payload m.payload_length bytes), drop (align m.length) s))
+    × (m.payload ≡ old.place + 16) × (m.payload_length ≡ m.length - 16) × (m.payload + m.payload_length ≤ new.place)
+    × (new ≡ record old { place = old.place + align m.length })
+    × (new.place ≤ old.end)
+
+-- the header that an attribute shows
+abbrev pub head_shown : NeliAttribute → Head ℕ
+head_shown a = record { len = a.length; kind = a.field }
+
+-- number and flags are the parts of the type field
+abbrev pub IsInParts : NeliAttribute → Type 0
+IsInParts a = (a.number ≡ bit_and a.field 16383) × (a.flags ≡ bit_and a.field 49152)
+
+-- the attribute is the frame that begins the bytes that were left; the walk goes past it
+abbrev pub GivesAttribute : List ℕ → NeliWalk → NeliWalk → NeliAttribute → Type 0
+GivesAttribute bytes old new a =
+    let s = bytes_from old.place (old.end - old.place) bytes in
+    (frame_at attribute_layout s ≡ Ok ((head_shown a, bytes_from a.payload a.payload_length bytes), drop (align a.length) s))
+    × IsInParts a
+    × (a.payload ≡ old.place + 4) × (a.payload_length ≡ a.length - 4) × (a.payload + a.payload_length ≤ new.place)
+    × (new ≡ record old { place = old.place + align a.length })
+    × (new.place ≤ old.end)

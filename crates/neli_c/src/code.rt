@@ -1,0 +1,44 @@
+//! What a call answers: a number from 0 on is an answer, one below 0 is a refusal. `include/neli.h` says when each
+//! comes.
+
+/// It is done; of what is read one by one, that nothing more comes.
+pub const OK: i32 = 0;
+/// A message, an attribute or an item was given.
+pub const ITEM: i32 = 1;
+/// No item is here yet.
+pub const WAITS: i32 = 2;
+/// The kernel answered with an error.
+pub const KERNEL_ERROR: i32 = 3;
+
+/// The bytes end too early.
+pub const SHORT: i32 = -1;
+/// A length does not fit.
+pub const LENGTH: i32 = -2;
+/// Memory ran out.
+pub const MEMORY: i32 = -3;
+/// The room is too small.
+pub const ROOM: i32 = -4;
+/// The router is closed, or is open already.
+pub const STATE: i32 = -5;
+/// There is no such handle, or no item that was read.
+pub const HANDLE: i32 = -6;
+/// The sequence number is in use.
+pub const IN_USE: i32 = -7;
+/// A message came that no request has asked for.
+pub const STRAY: i32 = -8;
+/// Something came in place of an acknowledgement.
+pub const NO_ACK: i32 = -9;
+/// An acknowledgement came that was not asked for.
+pub const UNEXPECTED_ACK: i32 = -10;
+/// The link failed.
+pub const LINK: i32 = -11;
+/// Bytes cannot be read.
+pub const BYTES: i32 = -12;
+/// A pointer is null: the header answers it.
+pub const NULL: i32 = -13;
+/// A place is past the bytes.
+pub const PLACE: i32 = -14;
+/// The message is of another kind.
+pub const KIND: i32 = -15;
+/// No zero byte ends the text.
+pub const TEXT: i32 = -16;

@@ -1,0 +1,177 @@
+//! Walks over messages and attributes where they lie in the caller's bytes. They take no memory.
+
+ghost use Rattle.std.specs.Prelude.{◌≡◌, ◌≢◌, ◌≤◌, ◌-◌, IfSome, IsNone, Some, None, length};
+ghost use Rattle.neli_c.specs.Codes.{item, ok};
+ghost use Rattle.neli_c.specs.Walks.{GivesAttribute, GivesMessage, IsInParts, attribute_layout, bytes_from, bytes_left, header_shown, message_layout, refusal_code, walk_code};
+
+use crate::code::{BYTES, ITEM, LENGTH, MEMORY, OK, PLACE, SHORT};
+use neli_lent::{LentAttr, LentMessage};
+use neli_wire::{Cursor, DeError, alignto};
+use std::io::ErrorKind;
+
+/// What is left of a walk: the bytes from a place to an end.
+#[repr(C)]
+#[derive(Clone, Copy)]
+pub struct NeliWalk {
+    pub place: usize,
+    pub end: usize,
+}
+
+/// A message: its header, and where its payload lies.
+#[repr(C)]
+#[derive(Clone, Copy)]
+pub struct NeliMessage {
+    pub length: u32,
+    pub message_type: u16,
+    pub flags: u16,
+    pub number: u32,
+    pub port: u32,
+    pub payload: usize,
+    pub payload_length: usize,
+}
+
+/// An attribute: its header, and where its payload lies. The type field is a number of 14 bits and two flags.
+#[repr(C)]
+#[derive(Clone, Copy)]
+pub struct NeliAttribute {
+    pub length: u16,
+    pub field: u16,
+    pub number: u16,
+    pub flags: u16,
+    pub payload: usize,
+    pub payload_length: usize,
+}
+
+/// The bytes that are left of a walk, where its places are in order and within the bytes.
+fn left<'b>(bytes: &'b [u8], walk: NeliWalk) -> Option<&'b [u8]>
+    ensures some { IfSome result (λ rest. bytes_left bytes.now walk ≡ Some rest.now) }
+    ensures places { IfSome result (λ rest. (walk.place ≤ walk.end) × (walk.end ≤ length bytes.now)
+        × (rest.now ≡ bytes_from walk.place (walk.end - walk.place) bytes.now)) }
+    ensures none { IsNone result → bytes_left bytes.now walk ≡ None }
+{
+    if walk.end < walk.place || bytes.len() < walk.end {
+        return None;
+    }
+    Some(&bytes[walk.place..walk.end])
+}
+
+/// What a message shows whose payload lies at this place.
+fn message_at(lent: &LentMessage<'_, u16>, payload: usize) -> NeliMessage
+    ensures header { header_shown result ≡ lent.now.header }
+    ensures payload { result.payload ≡ payload }
+    ensures payload_length { result.payload_length ≡ length lent.now.payload.now }
+{
+    NeliMessage {
+        length: *lent.nl_len(),
+        message_type: *lent.nl_type(),
+        flags: u16::from(*lent.nl_flags()),
+        number: *lent.nl_seq(),
+        port: *lent.nl_pid(),
+        payload,
+        payload_length: lent.nl_payload().len(),
+    }
+}
+
+/// What an attribute shows whose payload lies at this place.
+fn attribute_at(lent: &LentAttr<'_, u16>, payload: usize) -> NeliAttribute
+    ensures length { result.length ≡ lent.now.len }
+    ensures field { result.field ≡ lent.now.kind }
+    ensures parts { IsInParts result }
+    ensures payload { result.payload ≡ payload }
+    ensures payload_length { result.payload_length ≡ length lent.now.payload.now }
+{
+    let field = *lent.attr_type();
+    NeliAttribute {
+        length: *lent.attr_len(),
+        field,
+        number: field & 0x3fff,
+        flags: field & 0xc000,
+        payload,
+        payload_length: lent.attr_payload().len(),
+    }
+}
+
+/// The code of bytes that are refused.
+pub(crate) fn code_of(error: &DeError) -> i32
+    ensures code { result ≡ refusal_code error.now }
+    ensures refused { result ≢ ok }
+{
+    match error {
+        DeError::Io(ErrorKind::UnexpectedEof) => SHORT,
+        DeError::InvalidInput(_) => LENGTH,
+        DeError::Memory => MEMORY,
+        _ => BYTES,
+    }
+}
+
+/// The next message of a walk, which goes past it and its padding.
+///
+/// Answers `ITEM`, or `OK` where nothing is left; `PLACE` where the walk's places are not in order or past the bytes;
+/// `SHORT` where the header or the padding is cut off, `LENGTH` where the stated length is below 16 or past the end.
+/// Without a message the walk and `message` stay.
+#[unsafe(no_mangle)]
+pub extern "C" fn neli_c_next_message(
+    bytes: &[u8],
+    walk: &mut NeliWalk,
+    message: &mut NeliMessage,
+) -> i32
+    ensures code { result ≡ walk_code message_layout (bytes_left bytes.now walk.old) }
+    ensures message { result ≡ item → GivesMessage bytes.now walk.old walk.new message.new }
+    ensures unchanged { result ≢ item → (walk.new ≡ walk.old) × (message.new ≡ message.old) }
+{
+    let NeliWalk { place, end } = *walk;
+    let Some(rest) = left(bytes, *walk) else {
+        return PLACE;
+    };
+    if rest.is_empty() {
+        return OK;
+    }
+    let mut cursor = Cursor::new(rest);
+    match LentMessage::<u16>::lend(&mut cursor) {
+        Ok(lent) => {
+            *message = message_at(&lent, place + 16);
+            *walk = NeliWalk {
+                place: place + alignto(message.length as usize),
+                end,
+            };
+            ITEM
+        }
+        Err(error) => code_of(&error),
+    }
+}
+
+/// The next attribute of a walk, which goes past it and its padding.
+///
+/// Answers `ITEM`, or `OK` where nothing is left; `PLACE` where the walk's places are not in order or past the bytes;
+/// `SHORT` where the header or the padding is cut off, `LENGTH` where the stated length is below 4 or past the end.
+/// Without an attribute the walk and `attribute` stay.
+#[unsafe(no_mangle)]
+pub extern "C" fn neli_c_next_attribute(
+    bytes: &[u8],
+    walk: &mut NeliWalk,
+    attribute: &mut NeliAttribute,
+) -> i32
+    ensures code { result ≡ walk_code attribute_layout (bytes_left bytes.now walk.old) }
+    ensures attribute { result ≡ item → GivesAttribute bytes.now walk.old walk.new attribute.new }
+    ensures unchanged { result ≢ item → (walk.new ≡ walk.old) × (attribute.new ≡ attribute.old) }
+{
+    let NeliWalk { place, end } = *walk;
+    let Some(rest) = left(bytes, *walk) else {
+        return PLACE;
+    };
+    if rest.is_empty() {
+        return OK;
+    }
+    let mut cursor = Cursor::new(rest);
+    match LentAttr::<u16>::lend(&mut cursor) {
+        Ok(lent) => {
+            *attribute = attribute_at(&lent, place + 4);
+            *walk = NeliWalk {
+                place: place + alignto(attribute.length as usize),
+                end,
+            };
+            ITEM
+        }
+        Err(error) => code_of(&error),
+    }
+}

@@ -1,0 +1,201 @@
+//! A router for C. What C holds is a `struct neli_router`, which is closed where all its bytes are 0.
+//!
+//! Each call but the first answers `STATE` where the router is closed, and changes nothing then.
+
+ghost use Rattle.std.specs.Prelude.{◌≡◌, ◌≢◌, IfSome, IsSome, None};
+ghost use Rattle.neli_c.specs.Codes.{ok, state};
+ghost use Rattle.neli_c.specs.Sessions.{ClosesHandle, IsNew, ReadsPlace, SendsNothing, SendsRequest, SetsNumber, TakesDatagram, TakesFault, WritesItem};
+
+use crate::code::{MEMORY, OK, STATE};
+use crate::opaque::NeliRouter;
+use crate::session::{NeliItem, NeliSent, Session};
+use std::alloc::Global;
+
+/// Opens a router for the port of the caller's socket.
+///
+/// Answers `OK`; `STATE` where it is open, or `MEMORY`, and then it is as it was.
+#[unsafe(no_mangle)]
+pub extern "C" fn neli_c_router_new(alloc: Global, router: &mut NeliRouter, port: u32) -> i32
+    ensures new { result ≡ ok → IfSome router.new.place.value (IsNew port) }
+    ensures open { IsSome router.old.place.value → result ≡ state }
+    ensures unchanged { result ≢ ok → router.new.place.value ≡ router.old.place.value }
+{
+    if let Some(session) = router.take(alloc) {
+        router.put(session);
+        return STATE;
+    }
+    let Some(session) = Session::new(alloc, port) else {
+        return MEMORY;
+    };
+    match Box::new(alloc, session) {
+        Ok(session) => {
+            router.put(session);
+            OK
+        }
+        Err(_) => MEMORY,
+    }
+}
+
+/// Frees what a router has, and closes it; of a closed one, nothing. Answers `OK`.
+#[unsafe(no_mangle)]
+pub extern "C" fn neli_c_router_free(alloc: Global, router: &mut NeliRouter) -> i32
+    ensures code { result ≡ ok }
+    ensures closed { router.new.place.value ≡ None }
+{
+    drop(router.take(alloc));
+    OK
+}
+
+/// Sets the sequence number of the next request. Answers `OK`.
+#[unsafe(no_mangle)]
+pub extern "C" fn neli_c_router_set_number(
+    alloc: Global,
+    router: &mut NeliRouter,
+    number: u32,
+) -> i32
+    ensures closed { router.old.place.value ≡ None → (result ≡ state) × (router.new.place.value ≡ None) }
+    ensures open { IfSome router.old.place.value (λ s. (result ≡ ok) × IsSome router.new.place.value
+        × IfSome router.new.place.value (SetsNumber number s)) }
+{
+    let Some(mut session) = router.take(alloc) else {
+        return STATE;
+    };
+    session.set_number(number);
+    router.put(session);
+    OK
+}
+
+/// A request of this type, with these flags and REQUEST, as bytes to be sent, and the handle that its replies are read
+/// by. The body is its payload.
+///
+/// Answers `OK`; `LENGTH` where the length passes 32 bits, `ROOM` where the request has more bytes than `out`, and then
+/// `sent` has how many; `IN_USE` where the number belongs to a request that is not closed; or `MEMORY`.
+#[unsafe(no_mangle)]
+pub extern "C" fn neli_c_router_send(
+    alloc: Global,
+    router: &mut NeliRouter,
+    nl_type: u16,
+    flags: u16,
+    body: &[u8],
+    out: &mut [u8],
+    sent: &mut NeliSent,
+) -> i32
+    ensures closed { router.old.place.value ≡ None
+        → (result ≡ state) × (router.new.place.value ≡ None) × (out.new ≡ out.old) }
+    ensures open { IfSome router.old.place.value (λ s. IsSome router.new.place.value
+        × IfSome router.new.place.value (λ t. (result ≢ ok → SendsNothing s t)
+        × (result ≡ ok → SendsRequest nl_type flags body.now s t out.old out.new sent.new))) }
+    ensures unwritten { result ≢ ok → out.new ≡ out.old }
+{
+    let Some(mut session) = router.take(alloc) else {
+        return STATE;
+    };
+    let code = session.send(alloc, nl_type, flags, body, out, sent);
+    router.put(session);
+    code
+}
+
+/// Takes in a datagram that came to these groups; zeros among them are left out.
+///
+/// Answers `OK`, or `MEMORY`, and then nothing is handed to anybody.
+#[unsafe(no_mangle)]
+pub extern "C" fn neli_c_router_datagram(
+    alloc: Global,
+    router: &mut NeliRouter,
+    bytes: &[u8],
+    groups: &[u32],
+) -> i32
+    ensures closed { router.old.place.value ≡ None → (result ≡ state) × (router.new.place.value ≡ None) }
+    ensures open { IfSome router.old.place.value (λ s. IsSome router.new.place.value
+        × IfSome router.new.place.value (TakesDatagram result bytes.now groups.now s)) }
+{
+    let Some(mut session) = router.take(alloc) else {
+        return STATE;
+    };
+    let code = session.datagram(alloc, bytes, groups);
+    router.put(session);
+    code
+}
+
+/// Takes in a fault of the link, by its number in `errno.h`: 11 (`EAGAIN`) gives nobody anything.
+///
+/// Answers `OK`, or `MEMORY`, and then nothing is handed to anybody.
+#[unsafe(no_mangle)]
+pub extern "C" fn neli_c_router_fault(alloc: Global, router: &mut NeliRouter, errno: i32) -> i32
+    ensures closed { router.old.place.value ≡ None → (result ≡ state) × (router.new.place.value ≡ None) }
+    ensures open { IfSome router.old.place.value (λ s. IsSome router.new.place.value
+        × IfSome router.new.place.value (TakesFault result errno s)) }
+{
+    let Some(mut session) = router.take(alloc) else {
+        return STATE;
+    };
+    let code = session.fault(errno);
+    router.put(session);
+    code
+}
+
+/// Reads the next item of a handle; 0 is the handle of multicast.
+///
+/// Answers `ITEM`, `KERNEL_ERROR`, `OK` where no item comes any more, or `WAITS`; `STRAY`, `NO_ACK`, `UNEXPECTED_ACK`,
+/// `LINK`, `SHORT`, `LENGTH` or `BYTES` for what came in place of an item; `HANDLE` where the handle is not open, or
+/// `MEMORY`, and then the router is as it was.
+#[unsafe(no_mangle)]
+pub extern "C" fn neli_c_router_read(
+    alloc: Global,
+    router: &mut NeliRouter,
+    handle: usize,
+    item: &mut NeliItem,
+) -> i32
+    ensures closed { router.old.place.value ≡ None
+        → (result ≡ state) × (router.new.place.value ≡ None) × (item.new ≡ item.old) }
+    ensures open { IfSome router.old.place.value (λ s. IsSome router.new.place.value
+        × IfSome router.new.place.value (λ t. ReadsPlace result handle s t item.new)) }
+{
+    let Some(mut session) = router.take(alloc) else {
+        return STATE;
+    };
+    let code = session.read(alloc, handle, item);
+    router.put(session);
+    code
+}
+
+/// Copies the bytes of the message that was read last, of whatever handle.
+///
+/// Answers `OK`; `HANDLE` where nothing was read, or something without a message; `ROOM` where it has more bytes than
+/// `out`, and then `size` is how many; or `MEMORY`. The router is as it was.
+#[unsafe(no_mangle)]
+pub extern "C" fn neli_c_router_item(
+    alloc: Global,
+    router: &mut NeliRouter,
+    out: &mut [u8],
+    size: &mut usize,
+) -> i32
+    ensures closed { router.old.place.value ≡ None → (result ≡ state) × (out.new ≡ out.old) }
+    ensures same { router.new.place.value ≡ router.old.place.value }
+    ensures open { IfSome router.old.place.value
+        (λ s. WritesItem result s out.old out.new size.old size.new) }
+{
+    let Some(session) = router.take(alloc) else {
+        return STATE;
+    };
+    let code = session.item(alloc, out, size);
+    router.put(session);
+    code
+}
+
+/// Closes a handle: what waits for it is given up, and its place may be given to a later request.
+///
+/// Answers `OK`, or `HANDLE` where the handle is not open.
+#[unsafe(no_mangle)]
+pub extern "C" fn neli_c_router_close(alloc: Global, router: &mut NeliRouter, handle: usize) -> i32
+    ensures closed { router.old.place.value ≡ None → (result ≡ state) × (router.new.place.value ≡ None) }
+    ensures open { IfSome router.old.place.value (λ s. IsSome router.new.place.value
+        × IfSome router.new.place.value (ClosesHandle result handle s)) }
+{
+    let Some(mut session) = router.take(alloc) else {
+        return STATE;
+    };
+    let code = session.close(handle);
+    router.put(session);
+    code
+}

@@ -1,0 +1,390 @@
+//! A router with the handles that it gave, and the item that was read last.
+
+ghost use Rattle.std.specs.Prelude.{◌≡◌, ◌≢◌, ◌<◌, IfOk, IfSome, IsNone, IsSome, Some, None, length, slice_set, nat_le, if◌then◌else◌};
+ghost use Rattle.neli_router_base.specs.declared.handle.HandleState.{HandleState};
+ghost use Rattle.neli_c.specs.Codes.{no_handle, ok, room};
+ghost use Rattle.neli_c.specs.Sessions.{Holds, SendsNothing, SendsRequest, ReadsHandle, error_code, item_code, item_shown, reply_code, socket_code, ClosesHandle, handle_at, IsNew, fault_kind, SetsNumber, TakesDatagram, TakesFault, WritesItem};
+ghost use Rattle.neli_c.specs.Writes.{put_first};
+
+use crate::code::{
+    BYTES, HANDLE, IN_USE, ITEM, KERNEL_ERROR, LENGTH, LINK, MEMORY, NO_ACK, OK, ROOM, STRAY,
+    UNEXPECTED_ACK, WAITS,
+};
+use crate::lent::code_of;
+use neli_attr::Buffer;
+use neli_consts::NlmF;
+use neli_log::Log;
+use neli_msg::{NlPayload, Nlmsghdr, NlmsghdrBuilder, RouterError, SocketError};
+use neli_router_base::{NlRouter, NlRouterReceiverHandle, Reply};
+use neli_util::Groups;
+use neli_wire::{Constant, NoMemory, ToBytes};
+use std::alloc::Global;
+use std::io::ErrorKind;
+use std::mem::replace;
+
+type Handle = NlRouterReceiverHandle<u16, Buffer>;
+
+type Message = Nlmsghdr<u16, Buffer>;
+
+type Item = Result<Message, RouterError<u16, Buffer>>;
+
+/// What was sent.
+#[repr(C)]
+#[derive(Clone, Copy)]
+pub struct NeliSent {
+    /// How many bytes the request has; at `ROOM`, how many are needed.
+    pub length: usize,
+    /// The handle that its replies are read by.
+    pub handle: usize,
+}
+
+/// What was read: the header of a message.
+#[repr(C)]
+#[derive(Clone, Copy)]
+pub struct NeliItem {
+    pub message_type: u16,
+    pub flags: u16,
+    pub number: u32,
+    pub port: u32,
+    /// The code of an error, an acknowledgement or the end of a dump; 0 elsewhere.
+    pub error: i32,
+}
+
+/// A router, its handles by their places, and the last item as a message.
+#[derive(Drop)]
+pub struct Session {
+    router: NlRouter<Log>,
+    handles: Vec<Option<Handle>>,
+    held: Option<Message>,
+}
+
+/// Takes the handle out of a place, if there is one.
+fn take(handles: &mut Vec<Option<Handle>>, k: usize) -> Option<Handle>
+    ensures taken { result ≡ handle_at k handles.old.items }
+    ensures some { IsSome result → (k < length handles.new.items)
+        × (handles.new.items ≡ slice_set handles.old.items k None) }
+    ensures none { IsNone result → handles.new ≡ handles.old }
+{
+    let Some(Some(_)) = handles.get(k) else {
+        return None;
+    };
+    replace(&mut handles[k], None)
+}
+
+/// The first place after that of multicast which has no handle; a new one where each has one.
+fn free_place(handles: &mut Vec<Option<Handle>>) -> Option<usize>
+    ensures place { IfSome result (λ k. k < length handles.new.items) }
+{
+    for k in 1..handles.len() {
+        if handles[k].is_none() {
+            return Some(k);
+        }
+    }
+    let k = handles.len();
+    match handles.push(None) {
+        Ok(()) => Some(k),
+        Err(_) => None,
+    }
+}
+
+/// The link's fault of a number of `errno.h`, negated or not: `EAGAIN`, `ECONNRESET`, or another one.
+fn kind_of(errno: i32) -> ErrorKind
+    ensures { result ≡ fault_kind errno }
+{
+    match errno.unsigned_abs() {
+        11 => ErrorKind::WouldBlock,
+        104 => ErrorKind::ConnectionReset,
+        _ => ErrorKind::Other,
+    }
+}
+
+/// The code of a link's or a datagram's fault.
+fn of_socket(error: &SocketError) -> i32
+    ensures code { result ≡ socket_code error.now }
+    ensures refused { result ≢ ok }
+{
+    match error {
+        SocketError::De(error) => code_of(error),
+        SocketError::Io(_) => LINK,
+        SocketError::Memory => MEMORY,
+        _ => BYTES,
+    }
+}
+
+/// The code of what came in place of a message, or of why nothing is sent.
+fn of_error<T, P>(error: &RouterError<T, P>) -> i32
+    ensures code { result ≡ error_code error.now }
+    ensures refused { result ≢ ok }
+{
+    match error {
+        RouterError::De(error) => code_of(error),
+        RouterError::Socket(error) => of_socket(error),
+        RouterError::Nlmsgerr(_) => KERNEL_ERROR,
+        RouterError::Capped(_) => KERNEL_ERROR,
+        RouterError::BadSeqOrPid(_) => STRAY,
+        RouterError::NoAck => NO_ACK,
+        RouterError::UnexpectedAck => UNEXPECTED_ACK,
+        RouterError::ClosedChannel => HANDLE,
+        RouterError::SeqInUse(_) => IN_USE,
+        RouterError::Memory => MEMORY,
+        RouterError::Io(_) => LINK,
+        RouterError::Msg(_) => LENGTH,
+    }
+}
+
+/// The flags of an error message: whether the header alone is echoed, and whether attributes follow.
+fn error_flags(is_capped: bool, has_attributes: bool) -> NlmF {
+    let capped = if is_capped {
+        NlmF::CAPPED
+    } else {
+        NlmF::empty()
+    };
+    if has_attributes {
+        capped | NlmF::ACK_TLVS
+    } else {
+        capped
+    }
+}
+
+/// An error as the message that it came in.
+fn error_message(
+    flags: NlmF,
+    number: u32,
+    port: u32,
+    payload: NlPayload<u16, Buffer>,
+) -> Option<Message> {
+    let built = NlmsghdrBuilder::default()
+        .nl_type(2)
+        .nl_flags(flags)
+        .nl_seq(number)
+        .nl_pid(port)
+        .nl_payload(payload)
+        .build();
+    match built {
+        Ok(message) => Some(message),
+        Err(_) => None,
+    }
+}
+
+/// The code of an item, and its message, if it has one.
+fn split(item: Item) -> (i32, Option<Message>)
+    ensures code { result.0 ≡ item_code item }
+    ensures message { IfOk item (λ m. result.1 ≡ Some m) }
+{
+    match item {
+        Ok(message) => (ITEM, Some(message)),
+        Err(RouterError::Nlmsgerr(answer)) => {
+            let flags = error_flags(false, !answer.ext_ack().is_empty());
+            let number = *answer.nlmsg().nl_seq();
+            let port = *answer.nlmsg().nl_pid();
+            (
+                KERNEL_ERROR,
+                error_message(flags, number, port, NlPayload::Err(answer)),
+            )
+        }
+        Err(RouterError::Capped(answer)) => {
+            let flags = error_flags(true, !answer.ext_ack().is_empty());
+            let number = *answer.nlmsg().nl_seq();
+            let port = *answer.nlmsg().nl_pid();
+            (
+                KERNEL_ERROR,
+                error_message(flags, number, port, NlPayload::Capped(answer)),
+            )
+        }
+        Err(error) => (of_error(&error), None),
+    }
+}
+
+/// What a message shows beside its bytes.
+fn shown(message: &Message) -> NeliItem
+    ensures { result ≡ item_shown message.now }
+{
+    NeliItem {
+        message_type: *message.nl_type(),
+        flags: u16::from(*message.nl_flags()),
+        number: *message.nl_seq(),
+        port: *message.nl_pid(),
+        error: match message.nl_payload() {
+            NlPayload::Ack(answer) => *answer.error(),
+            NlPayload::Capped(answer) => *answer.error(),
+            NlPayload::DumpExtAck(answer) => *answer.error(),
+            NlPayload::Err(answer) => *answer.error(),
+            _ => 0,
+        },
+    }
+}
+
+/// Holds the message that the router answers, and shows it; without an item both stay.
+fn hold(
+    answer: Result<Reply<u16, Buffer>, NoMemory>,
+    held: &mut Option<Message>,
+    item: &mut NeliItem,
+) -> i32
+    ensures code { result ≡ reply_code answer }
+    ensures held { Holds answer held.old held.new item.old item.new }
+{
+    match answer {
+        Ok(Reply::Item(given)) => {
+            let (code, message) = split(given);
+            if let Some(message) = &message {
+                *item = shown(message);
+            }
+            *held = message;
+            code
+        }
+        Ok(Reply::End) => OK,
+        Ok(Reply::Waits) => WAITS,
+        Err(_) => MEMORY,
+    }
+}
+
+/// Copies bytes where there is room for all; `size` is how many there are.
+fn copy(bytes: &[u8], out: &mut [u8], size: &mut usize) -> i32
+    ensures code { result ≡ (if nat_le (length bytes.now) (length out.old) then ok else room) }
+    ensures size { size.new ≡ length bytes.now }
+    ensures copied { result ≡ ok → out.new ≡ put_first bytes.now out.old }
+    ensures unchanged { result ≢ ok → out.new ≡ out.old }
+{
+    *size = bytes.len();
+    if out.len() < bytes.len() {
+        return ROOM;
+    }
+    out[..bytes.len()].copy_from_slice(bytes);
+    OK
+}
+
+impl Session {
+    /// A new router, with the handle 0 for multicast.
+    pub fn new(alloc: Global, port: u32) -> Option<Session>
+        ensures { IfSome result (IsNew port) }
+    {
+        let (router, multicast) = NlRouter::<Log>::new(alloc, port);
+        let mut handles = Vec::new(alloc);
+        if handles.push(Some(multicast.retyped())).is_err() {
+            return None;
+        }
+        Some(Session {
+            router,
+            handles,
+            held: None,
+        })
+    }
+
+    /// Sets the sequence number of the next request.
+    pub fn set_number(&mut self, number: u32)
+        ensures { SetsNumber number self.old self.new }
+    {
+        self.router.set_next_seq(number);
+    }
+
+    /// A request as bytes to be sent.
+    pub fn send(
+        &mut self,
+        alloc: Global,
+        nl_type: u16,
+        flags: u16,
+        body: &[u8],
+        out: &mut [u8],
+        sent: &mut NeliSent,
+    ) -> i32
+        ensures sent { result ≡ ok
+            → SendsRequest nl_type flags body.now self.old self.new out.old out.new sent.new }
+        ensures unwritten { result ≢ ok → out.new ≡ out.old }
+        ensures refused { result ≢ ok → SendsNothing self.old self.new }
+    {
+        if body.len() > 0xffff_ffff - 19 {
+            return LENGTH;
+        }
+        let wanted = (body.len() + 19) / 4 * 4;
+        if out.len() < wanted {
+            sent.length = wanted;
+            return ROOM;
+        }
+        let Ok(buffer) = Buffer::from_slice(alloc, body) else {
+            return MEMORY;
+        };
+        let Some(k) = free_place(&mut self.handles) else {
+            return MEMORY;
+        };
+        let flags = NlmF::from_wire(flags);
+        let payload = NlPayload::Payload(buffer);
+        match self
+            .router
+            .send::<u16, Buffer, u16, Buffer>(alloc, nl_type, flags, payload)
+        {
+            Ok((bytes, handle)) => {
+                self.handles[k] = Some(handle);
+                sent.handle = k;
+                copy(&bytes, out, &mut sent.length)
+            }
+            Err(error) => of_error(&error),
+        }
+    }
+
+    /// Takes in a datagram that came to these groups.
+    pub fn datagram(&mut self, alloc: Global, bytes: &[u8], groups: &[u32]) -> i32
+        ensures { TakesDatagram result bytes.now groups.now self.old self.new }
+    {
+        let Ok(groups) = Groups::new_groups(alloc, groups) else {
+            return MEMORY;
+        };
+        match self.router.processing_loop(bytes, &groups) {
+            Ok(()) => OK,
+            Err(_) => MEMORY,
+        }
+    }
+
+    /// Takes in a fault of the link, by its number in `errno.h`.
+    pub fn fault(&mut self, errno: i32) -> i32
+        ensures { TakesFault result errno self.old self.new }
+    {
+        match self.router.error_handling(SocketError::Io(kind_of(errno))) {
+            Ok(()) => OK,
+            Err(_) => MEMORY,
+        }
+    }
+
+    /// Reads the next item of a handle, whose message is held until the next one is read.
+    pub fn read(&mut self, alloc: Global, k: usize, item: &mut NeliItem) -> i32
+        ensures none { handle_at k self.old.handles.items ≡ None → (result ≡ no_handle) × (self.new ≡ self.old) }
+        ensures some { IfSome (handle_at k self.old.handles.items) (λ h. (after : HandleState)
+            × (self.new.handles.items ≡ slice_set self.old.handles.items k (Some after))
+            × ReadsHandle result h after self.old self.new item.new) }
+    {
+        let Some(mut handle) = take(&mut self.handles, k) else {
+            return HANDLE;
+        };
+        let answer = self
+            .router
+            .next_typed::<u16, Buffer, _, _>(alloc, &mut handle);
+        self.handles[k] = Some(handle);
+        hold(answer, &mut self.held, item)
+    }
+
+    /// Copies the bytes of the message that is held.
+    pub fn item(&self, alloc: Global, out: &mut [u8], size: &mut usize) -> i32
+        ensures { WritesItem result self.now out.old out.new size.old size.new }
+    {
+        let Some(message) = &self.held else {
+            return HANDLE;
+        };
+        let mut bytes = Vec::new(alloc);
+        match message.to_bytes(&mut bytes) {
+            Ok(()) => copy(&bytes, out, size),
+            Err(_) => MEMORY,
+        }
+    }
+
+    /// Closes a handle.
+    pub fn close(&mut self, k: usize) -> i32
+        ensures { ClosesHandle result k self.old self.new }
+    {
+        match take(&mut self.handles, k) {
+            Some(handle) => {
+                self.router.close(handle);
+                OK
+            }
+            None => HANDLE,
+        }
+    }
+}

@@ -1,0 +1,249 @@
+//! Messages, attributes and nests, written into the caller's bytes. They take no memory.
+//!
+//! What lies before the writer's end and after what is written stays as it is.
+
+ghost use Rattle.std.specs.Prelude.{◌≡◌, ◌≢◌, ◌≤◌, ◌-◌, ◌+◌, ◌++◌, [], Ok, IfOk, bit_or, length, nat_le, if◌then◌else◌};
+ghost use Rattle.byteorder.specs.Endian.{little_bytes};
+ghost use Rattle.neli_attr.specs.Attributes.{attribute_wire};
+ghost use Rattle.neli_wire.specs.Sizes.{align};
+ghost use Rattle.neli_wire.specs.Writing.{pad_wire};
+ghost use Rattle.neli_c.specs.Codes.{ok, room};
+ghost use Rattle.neli_c.specs.Writes.{attribute_code, header_bytes, message_end_code, nest_end_code, put, put_first};
+
+use crate::code::{LENGTH, OK, PLACE, ROOM};
+use byteorder::{ByteOrder, LittleEndian};
+use neli_wire::alignto;
+
+/// The size of a message's header, in bytes (`NLMSG_HDRLEN` of `linux/netlink.h`).
+const HEADER_SIZE: usize = 16;
+
+/// The size of an attribute's header, in bytes (`NLA_HDRLEN` of `linux/netlink.h`).
+const ATTR_HEADER_SIZE: usize = 4;
+
+/// The longest attribute, in bytes: its length has 16 bits.
+const MAX_ATTR_SIZE: usize = 65535;
+
+/// The flag of a type field that says that the payload lists attributes (`NLA_F_NESTED` of `linux/netlink.h`).
+const NESTED: u16 = 0x8000;
+
+/// Where a caller writes: the message that was begun last, and the end of what is written, as places in its bytes.
+#[repr(C)]
+#[derive(Clone, Copy)]
+pub struct NeliWriter {
+    pub start: usize,
+    pub end: usize,
+}
+
+/// Writes a message's header.
+fn write_header(out: &mut [u8], nl_type: u16, flags: u16, number: u32, port: u32)
+    requires { 16 ≤ length out.old }
+    ensures { out.new ≡ put_first (header_bytes 16 nl_type flags number port) out.old }
+{
+    LittleEndian::write_u32(out, 16);
+    LittleEndian::write_u16(&mut out[4..], nl_type);
+    LittleEndian::write_u16(&mut out[6..], flags);
+    LittleEndian::write_u32(&mut out[8..], number);
+    LittleEndian::write_u32(&mut out[12..], port);
+}
+
+/// Begins a message at the writer's end, which goes past the header. Its length is 16 until `neli_c_end_message`.
+///
+/// Answers `OK`, or `ROOM` where 16 bytes are not there; then nothing is written.
+#[unsafe(no_mangle)]
+pub extern "C" fn neli_c_begin_message(
+    out: &mut [u8],
+    writer: &mut NeliWriter,
+    nl_type: u16,
+    flags: u16,
+    number: u32,
+    port: u32,
+) -> i32
+    ensures code { result ≡ (if nat_le (writer.old.end + 16) (length out.old) then ok else room) }
+    ensures written { result ≡ ok → out.new ≡ put writer.old.end (header_bytes 16 nl_type flags number port) out.old }
+    ensures moved { result ≡ ok → writer.new ≡ record { start = writer.old.end; end = writer.old.end + 16 } }
+    ensures unchanged { result ≢ ok → (out.new ≡ out.old) × (writer.new ≡ writer.old) }
+{
+    let start = writer.end;
+    if out.len() < HEADER_SIZE || out.len() - HEADER_SIZE < start {
+        return ROOM;
+    }
+    write_header(&mut out[start..], nl_type, flags, number, port);
+    *writer = NeliWriter {
+        start,
+        end: start + HEADER_SIZE,
+    };
+    OK
+}
+
+/// Writes bytes, and zeros up to a multiple of four.
+fn write_padded(out: &mut [u8], bytes: &[u8])
+    requires { align (length bytes.now) ≤ length out.old }
+    ensures { IfOk (pad_wire (Ok bytes.now)) (λ written. out.new ≡ put_first written out.old) }
+{
+    let size = bytes.len();
+    let end = alignto(size);
+    out[..size].copy_from_slice(bytes);
+    out[size..end].fill(0);
+}
+
+/// Appends bytes, as a body's header, and zeros up to a multiple of four.
+///
+/// Answers `OK`, or `ROOM` where all these bytes are not there; then nothing is written.
+#[unsafe(no_mangle)]
+pub extern "C" fn neli_c_put_bytes(out: &mut [u8], writer: &mut NeliWriter, bytes: &[u8]) -> i32
+    ensures code { result
+        ≡ (if nat_le (writer.old.end + align (length bytes.now)) (length out.old) then ok else room) }
+    ensures written { result ≡ ok → IfOk (pad_wire (Ok bytes.now))
+        (λ written. out.new ≡ put writer.old.end written out.old) }
+    ensures moved { result ≡ ok
+        → writer.new ≡ record writer.old { end = writer.old.end + align (length bytes.now) } }
+    ensures unchanged { result ≢ ok → (out.new ≡ out.old) × (writer.new ≡ writer.old) }
+{
+    let start = writer.end;
+    let size = alignto(bytes.len());
+    if out.len() < size || out.len() - size < start {
+        return ROOM;
+    }
+    write_padded(&mut out[start..], bytes);
+    writer.end = start + size;
+    OK
+}
+
+/// Writes an attribute's header: its length and its type field.
+fn write_attribute_header(out: &mut [u8], len: u16, nl_type: u16)
+    requires { 4 ≤ length out.old }
+    ensures { out.new ≡ put_first (little_bytes 2 len ++ little_bytes 2 nl_type) out.old }
+{
+    LittleEndian::write_u16(out, len);
+    LittleEndian::write_u16(&mut out[2..], nl_type);
+}
+
+/// Writes an attribute, and zeros up to a multiple of four.
+fn write_attribute(out: &mut [u8], nl_type: u16, payload: &[u8])
+    requires fits { 4 + length payload.now ≤ 65535 }
+    requires room { align (4 + length payload.now) ≤ length out.old }
+    ensures { IfOk (attribute_wire (4 + length payload.now) nl_type (Ok payload.now))
+        (λ written. out.new ≡ put_first written out.old) }
+{
+    let size = ATTR_HEADER_SIZE + payload.len();
+    write_attribute_header(out, size as u16, nl_type);
+    write_padded(&mut out[ATTR_HEADER_SIZE..], payload);
+}
+
+/// Appends an attribute.
+fn append(out: &mut [u8], writer: &mut NeliWriter, nl_type: u16, payload: &[u8]) -> i32
+    ensures code { result ≡ attribute_code (length payload.now) writer.old.end (length out.old) }
+    ensures written { result ≡ ok → IfOk (attribute_wire (4 + length payload.now) nl_type (Ok payload.now))
+        (λ written. out.new ≡ put writer.old.end written out.old) }
+    ensures moved { result ≡ ok
+        → writer.new ≡ record writer.old { end = writer.old.end + align (4 + length payload.now) } }
+    ensures unchanged { result ≢ ok → (out.new ≡ out.old) × (writer.new ≡ writer.old) }
+{
+    if MAX_ATTR_SIZE - ATTR_HEADER_SIZE < payload.len() {
+        return LENGTH;
+    }
+    let start = writer.end;
+    let size = alignto(ATTR_HEADER_SIZE + payload.len());
+    if out.len() < size || out.len() - size < start {
+        return ROOM;
+    }
+    write_attribute(&mut out[start..], nl_type, payload);
+    writer.end = start + size;
+    OK
+}
+
+/// Appends an attribute with this type field, and zeros up to a multiple of four.
+///
+/// Answers `OK`; `LENGTH` where the payload has more than 65531 bytes, so that the attribute's length passes 16 bits;
+/// then `ROOM` where all these bytes are not there. Then nothing is written.
+#[unsafe(no_mangle)]
+pub extern "C" fn neli_c_put_attribute(
+    out: &mut [u8],
+    writer: &mut NeliWriter,
+    nl_type: u16,
+    payload: &[u8],
+) -> i32
+    ensures code { result ≡ attribute_code (length payload.now) writer.old.end (length out.old) }
+    ensures written { result ≡ ok → IfOk (attribute_wire (4 + length payload.now) nl_type (Ok payload.now))
+        (λ written. out.new ≡ put writer.old.end written out.old) }
+    ensures moved { result ≡ ok
+        → writer.new ≡ record writer.old { end = writer.old.end + align (4 + length payload.now) } }
+    ensures unchanged { result ≢ ok → (out.new ≡ out.old) × (writer.new ≡ writer.old) }
+{
+    append(out, writer, nl_type, payload)
+}
+
+/// Begins an attribute that lists attributes: its header, with the nested flag and with 4 as its length until
+/// `neli_c_end_nest`; `nest` is where it lies.
+///
+/// Answers `OK`, or `ROOM` where four bytes are not there; then nothing is written.
+#[unsafe(no_mangle)]
+pub extern "C" fn neli_c_begin_nest(
+    out: &mut [u8],
+    writer: &mut NeliWriter,
+    nl_type: u16,
+    nest: &mut usize,
+) -> i32
+    ensures code { result ≡ (if nat_le (writer.old.end + 4) (length out.old) then ok else room) }
+    ensures written { result ≡ ok → IfOk (attribute_wire 4 (bit_or nl_type 32768) (Ok []))
+        (λ written. out.new ≡ put writer.old.end written out.old) }
+    ensures moved { result ≡ ok → writer.new ≡ record writer.old { end = writer.old.end + 4 } }
+    ensures nest { result ≡ ok → nest.new ≡ writer.old.end }
+    ensures unchanged { result ≢ ok
+        → (out.new ≡ out.old) × (writer.new ≡ writer.old) × (nest.new ≡ nest.old) }
+{
+    let start = writer.end;
+    let code = append(out, writer, nl_type | NESTED, &[]);
+    if code == OK {
+        *nest = start;
+    }
+    code
+}
+
+/// Sets the length of the nest that was begun at this place to what was written since.
+///
+/// Answers `OK`; `PLACE` where no nest can lie there: before the header of the message that was begun last ends, or
+/// less than four bytes before the writer's end, or where that is past the bytes; then `LENGTH` where the length passes
+/// 16 bits. Then nothing is written.
+#[unsafe(no_mangle)]
+pub extern "C" fn neli_c_end_nest(out: &mut [u8], writer: &NeliWriter, nest: usize) -> i32
+    ensures code { result ≡ nest_end_code writer.now.start writer.now.end nest (length out.old) }
+    ensures written { result ≡ ok → out.new ≡ put nest (little_bytes 2 (writer.now.end - nest)) out.old }
+    ensures unchanged { result ≢ ok → out.new ≡ out.old }
+{
+    let NeliWriter { start, end } = *writer;
+    if nest < HEADER_SIZE || nest - HEADER_SIZE < start {
+        return PLACE;
+    }
+    if end < ATTR_HEADER_SIZE || end - ATTR_HEADER_SIZE < nest || out.len() < end {
+        return PLACE;
+    }
+    let size = end - nest;
+    if MAX_ATTR_SIZE < size {
+        return LENGTH;
+    }
+    LittleEndian::write_u16(&mut out[nest..], size as u16);
+    OK
+}
+
+/// Sets the length of the message that was begun last to what was written since.
+///
+/// Answers `OK`; `PLACE` where no message can lie there: it begins less than 16 bytes before the writer's end, or that
+/// is past the bytes; then `LENGTH` where the length passes 32 bits. Then nothing is written.
+#[unsafe(no_mangle)]
+pub extern "C" fn neli_c_end_message(out: &mut [u8], writer: &NeliWriter) -> i32
+    ensures code { result ≡ message_end_code writer.now.start writer.now.end (length out.old) }
+    ensures written { result ≡ ok
+        → out.new ≡ put writer.now.start (little_bytes 4 (writer.now.end - writer.now.start)) out.old }
+    ensures unchanged { result ≢ ok → out.new ≡ out.old }
+{
+    let NeliWriter { start, end } = *writer;
+    if end < HEADER_SIZE || end - HEADER_SIZE < start || out.len() < end {
+        return PLACE;
+    }
+    let Ok(size) = u32::try_from(end - start) else {
+        return LENGTH;
+    };
+    LittleEndian::write_u32(&mut out[start..], size);
+    OK
+}

@@ -1,0 +1,203 @@
+/* Checks include/neli.h against the library: each call once, and its answer; then what each refuses. Compile it with all
+ * warnings, and with the address sanitizer. */
+#include "neli.h"
+
+#include <stdio.h>
+#include <string.h>
+
+static int failures;
+
+#define CHECK(condition)                                                      \
+    do {                                                                      \
+        if (!(condition)) {                                                   \
+            fprintf(stderr, "header.c:%d: %s\n", __LINE__, #condition);       \
+            failures++;                                                       \
+        }                                                                     \
+    } while (0)
+
+/* An answer of the kernel to a request for a link that is not there (ENODEV, 19), with the request's header, and as a
+ * text "no". Type 2, flags CAPPED and ACK_TLVS, number 7, port 9. */
+static const uint8_t error_bytes[] = {
+    44, 0, 0, 0, 2, 0, 0, 3, 7, 0, 0, 0, 9, 0, 0, 0, /* the header */
+    0xed, 0xff, 0xff, 0xff,                          /* -19 */
+    32, 0, 0, 0, 18, 0, 5, 0, 7, 0, 0, 0, 9, 0, 0, 0, /* the request's header */
+    7, 0, 1, 0, 'n', 'o', 0, 0,                      /* the text */
+};
+
+static void check_texts(void) {
+    char text[NELI_TEXT_SIZE];
+    CHECK(neli_error_text(NELI_MEMORY, text, sizeof text) == NELI_OK);
+    CHECK(strcmp(text, "memory ran out") == 0);
+    CHECK(neli_error_text(4711, text, sizeof text) == NELI_OK);
+    CHECK(strcmp(text, "not a code of this library") == 0);
+    CHECK(neli_error_text(NELI_MEMORY, text, 14) == NELI_ROOM);
+    CHECK(neli_error_text(NELI_MEMORY, text, 15) == NELI_OK);
+    for (int32_t code = NELI_TEXT; code <= NELI_KERNEL_ERROR; code++)
+        CHECK(neli_error_text(code, text, sizeof text) == NELI_OK && strcmp(text, "not a code of this library") != 0);
+}
+
+/* A link with a name, and in a nest its kind: written, and then read again. */
+static void check_writing_and_reading(void) {
+    uint8_t out[128];
+    const uint8_t body[16] = {0, 0, 1, 0, 3};
+    const uint32_t mtu = 1500;
+    struct neli_writer writer = {0, 0};
+    size_t nest = 0;
+    CHECK(neli_begin_message(out, sizeof out, &writer, 16, 0x605, 7, 9) == NELI_OK);
+    CHECK(writer.start == 0 && writer.end == 16);
+    CHECK(neli_put_bytes(out, sizeof out, &writer, body, sizeof body) == NELI_OK && writer.end == 32);
+    CHECK(neli_put_attribute(out, sizeof out, &writer, 3, "veth0", 6) == NELI_OK && writer.end == 44);
+    CHECK(neli_put_attribute(out, sizeof out, &writer, 4, &mtu, sizeof mtu) == NELI_OK && writer.end == 52);
+    CHECK(neli_begin_nest(out, sizeof out, &writer, 18, &nest) == NELI_OK && nest == 52 && writer.end == 56);
+    CHECK(neli_put_attribute(out, sizeof out, &writer, 1, "veth", 5) == NELI_OK && writer.end == 68);
+    CHECK(neli_end_nest(out, sizeof out, &writer, nest) == NELI_OK);
+    CHECK(neli_end_message(out, sizeof out, &writer) == NELI_OK);
+    /* linux/netlink.h, by hand */
+    const uint8_t want[68] = {68, 0, 0, 0, 16, 0, 5, 6, 7, 0, 0, 0, 9, 0, 0, 0,
+                              0, 0, 1, 0, 3, 0, 0, 0, 0, 0, 0, 0, 0, 0, 0, 0,
+                              10, 0, 3, 0, 'v', 'e', 't', 'h', '0', 0, 0, 0,
+                              8, 0, 4, 0, 0xdc, 5, 0, 0,
+                              16, 0, 18, 0x80, 9, 0, 1, 0, 'v', 'e', 't', 'h', 0, 0, 0, 0};
+    CHECK(memcmp(out, want, sizeof want) == 0);
+
+    struct neli_walk messages = {0, writer.end}, attributes, inner;
+    struct neli_message message;
+    struct neli_attribute attribute;
+    uint32_t number = 0;
+    size_t length = 0;
+    CHECK(neli_next_message(out, sizeof out, &messages, &message) == NELI_ITEM);
+    CHECK(message.length == 68 && message.type == 16 && message.flags == 0x605);
+    CHECK(message.number == 7 && message.port == 9 && message.payload == 16 && message.payload_length == 52);
+    CHECK(neli_next_message(out, sizeof out, &messages, &message) == NELI_END);
+    CHECK(neli_attributes_of(&message, 16, &attributes) == NELI_OK && attributes.place == 32 && attributes.end == 68);
+    CHECK(neli_attributes_of(&message, 53, &attributes) == NELI_SHORT);
+    CHECK(neli_find_attribute(out, sizeof out, &attributes, 18, &attribute) == NELI_ITEM);
+    CHECK(attribute.length == 16 && attribute.type == 0x8012 && attribute.number == 18);
+    CHECK(attribute.flags == NELI_NESTED && attribute.payload == 56 && attribute.payload_length == 12);
+    CHECK(neli_attributes_in(&attribute, &inner) == NELI_OK && inner.place == 56 && inner.end == 68);
+    CHECK(neli_next_attribute(out, sizeof out, &inner, &attribute) == NELI_ITEM && attribute.payload == 60);
+    CHECK(neli_next_attribute(out, sizeof out, &inner, &attribute) == NELI_END);
+    CHECK(neli_find_attribute(out, sizeof out, &attributes, 5, &attribute) == NELI_END);
+    CHECK(neli_next_attribute(out, sizeof out, &attributes, &attribute) == NELI_ITEM && attribute.number == 3);
+    CHECK(neli_text_length(out + attribute.payload, attribute.payload_length, &length) == NELI_OK && length == 5);
+    CHECK(strcmp((const char *)out + attribute.payload, "veth0") == 0);
+    CHECK(neli_next_attribute(out, sizeof out, &attributes, &attribute) == NELI_ITEM && attribute.number == 4);
+    CHECK(neli_get_u32(out + attribute.payload, attribute.payload_length, 0, &number) == NELI_OK && number == 1500);
+}
+
+static void check_numbers(void) {
+    const uint8_t bytes[9] = {1, 2, 3, 4, 5, 6, 7, 8, 9};
+    uint8_t a = 0;
+    uint16_t b = 0;
+    uint32_t c = 0;
+    uint64_t d = 0;
+    size_t length = 0;
+    CHECK(neli_get_u8(bytes, 9, 8, &a) == NELI_OK && a == 9);
+    CHECK(neli_get_u16(bytes, 9, 1, &b) == NELI_OK && b == 0x0302);
+    CHECK(neli_get_u32(bytes, 9, 1, &c) == NELI_OK && c == 0x05040302);
+    CHECK(neli_get_u64(bytes, 9, 1, &d) == NELI_OK && d == 0x0908070605040302);
+    CHECK(neli_get_be16(bytes, 9, 1, &b) == NELI_OK && b == 0x0203);
+    CHECK(neli_get_be32(bytes, 9, 1, &c) == NELI_OK && c == 0x02030405);
+    CHECK(neli_get_be64(bytes, 9, 1, &d) == NELI_OK && d == 0x0203040506070809);
+    CHECK(neli_get_u64(bytes, 9, 2, &d) == NELI_SHORT && neli_get_u8(bytes, 9, SIZE_MAX, &a) == NELI_SHORT);
+    CHECK(neli_text_length(bytes, 9, &length) == NELI_TEXT);
+}
+
+static void check_answer(const uint8_t *bytes, size_t size) {
+    struct neli_walk messages = {0, size};
+    struct neli_message message;
+    struct neli_answer answer;
+    struct neli_attribute attribute;
+    CHECK(neli_next_message(bytes, size, &messages, &message) == NELI_ITEM);
+    CHECK(neli_get_answer(bytes, size, &message, &answer) == NELI_OK);
+    CHECK(answer.code == -19 && answer.echo_length == 32 && answer.echo_type == 18 && answer.echo_flags == 5);
+    CHECK(answer.echo_number == 7 && answer.echo_port == 9);
+    CHECK(neli_find_attribute(bytes, size, &answer.attributes, NELI_ANSWER_TEXT, &attribute) == NELI_ITEM);
+    CHECK(strcmp((const char *)bytes + attribute.payload, "no") == 0);
+    CHECK(neli_find_attribute(bytes, size, &answer.attributes, NELI_ANSWER_OFFSET, &attribute) == NELI_END);
+    message.type = 16;
+    CHECK(neli_get_answer(bytes, size, &message, &answer) == NELI_KIND);
+}
+
+static void check_refusals(void) {
+    uint8_t bytes[20] = {16};
+    struct neli_walk walk = {0, 16};
+    struct neli_message message;
+    struct neli_attribute attribute = {0, 0, 0, 0, SIZE_MAX, 2};
+    struct neli_writer writer = {0, 8};
+    walk.place = 17;
+    CHECK(neli_next_message(bytes, 16, &walk, &message) == NELI_PLACE);
+    walk.place = 0, walk.end = 15;
+    CHECK(neli_next_message(bytes, 16, &walk, &message) == NELI_SHORT && walk.place == 0);
+    walk.end = 17;
+    CHECK(neli_next_message(bytes, 16, &walk, &message) == NELI_PLACE);
+    walk.end = 16, bytes[0] = 15;
+    CHECK(neli_next_message(bytes, 16, &walk, &message) == NELI_LENGTH);
+    bytes[0] = 20;
+    CHECK(neli_next_message(bytes, 16, &walk, &message) == NELI_LENGTH);
+    CHECK(neli_attributes_in(&attribute, &walk) == NELI_PLACE);
+    CHECK(neli_begin_message(bytes, 20, &writer, 1, 1, 1, 1) == NELI_ROOM && writer.end == 8 && bytes[8] == 0);
+    CHECK(neli_put_attribute(bytes, 20, &writer, 1, bytes, 65532) == NELI_LENGTH);
+    CHECK(neli_put_attribute(bytes, 20, &writer, 1, "abcdefghi", 9) == NELI_ROOM);
+    CHECK(neli_end_message(bytes, 20, &writer) == NELI_PLACE);
+    CHECK(neli_end_nest(bytes, 20, &writer, 8) == NELI_PLACE);
+    CHECK(neli_next_message(NULL, 16, &walk, &message) == NELI_NULL);
+    CHECK(neli_next_message(bytes, SIZE_MAX, &walk, &message) == NELI_NULL);
+    walk.place = 0, walk.end = 0;
+    CHECK(neli_next_message(NULL, 0, &walk, &message) == NELI_END);
+    CHECK(neli_next_message(bytes, 16, NULL, &message) == NELI_NULL);
+    CHECK(neli_router_new(NULL, 1) == NELI_NULL);
+}
+
+static void check_router(void) {
+    struct neli_router router = NELI_ROUTER_CLOSED;
+    struct neli_sent sent;
+    struct neli_item item;
+    uint8_t out[64];
+    const uint8_t body[17] = {0};
+    const uint32_t group = 1;
+    uint8_t stray[16] = {16, 0, 0, 0, 16, 0, 0, 0, 9, 0, 0, 0, 9, 0, 0, 0};
+    size_t size = 0;
+    CHECK(neli_router_read(&router, NELI_MULTICAST, &item) == NELI_STATE);
+    CHECK(neli_router_set_number(&router, 7) == NELI_STATE);
+    CHECK(neli_router_new(&router, 9) == NELI_OK && neli_router_new(&router, 9) == NELI_STATE);
+    CHECK(neli_router_set_number(&router, 7) == NELI_OK);
+    CHECK(neli_router_send(&router, 18, 4, body, 17, out, 35, &sent) == NELI_ROOM && sent.length == 36);
+    CHECK(neli_router_send(&router, 18, 4, body, 17, out, 36, &sent) == NELI_OK);
+    CHECK(sent.length == 36 && sent.handle == 1);
+    const uint8_t header[16] = {36, 0, 0, 0, 18, 0, 5, 0, 7, 0, 0, 0, 9, 0, 0, 0};
+    CHECK(memcmp(out, header, sizeof header) == 0);
+    CHECK(neli_router_item(&router, out, sizeof out, &size) == NELI_HANDLE);
+    CHECK(neli_router_read(&router, 1, &item) == NELI_WAITS && neli_router_read(&router, 2, &item) == NELI_HANDLE);
+    CHECK(neli_router_datagram(&router, error_bytes, sizeof error_bytes, NULL, 0) == NELI_OK);
+    CHECK(neli_router_read(&router, 1, &item) == NELI_KERNEL_ERROR);
+    CHECK(item.type == 2 && item.flags == 0x300 && item.number == 7 && item.port == 9 && item.error == -19);
+    CHECK(neli_router_item(&router, out, 43, &size) == NELI_ROOM && size == 44);
+    CHECK(neli_router_item(&router, out, 44, &size) == NELI_OK && size == 44);
+    CHECK(memcmp(out, error_bytes, 44) == 0);
+    CHECK(neli_router_read(&router, 1, &item) == NELI_END);
+    CHECK(neli_router_close(&router, 1) == NELI_OK && neli_router_close(&router, 1) == NELI_HANDLE);
+    CHECK(neli_router_datagram(&router, stray, sizeof stray, &group, 1) == NELI_OK);
+    CHECK(neli_router_read(&router, NELI_MULTICAST, &item) == NELI_ITEM && item.type == 16 && item.number == 9);
+    CHECK(neli_router_item(&router, out, sizeof out, &size) == NELI_OK && size == 16 && memcmp(out, stray, 16) == 0);
+    CHECK(neli_router_read(&router, NELI_MULTICAST, &item) == NELI_WAITS);
+    CHECK(neli_router_send(&router, 18, 0, NULL, 0, out, sizeof out, &sent) == NELI_OK && sent.handle == 1);
+    CHECK(neli_router_datagram(&router, stray, sizeof stray, NULL, 0) == NELI_OK);
+    CHECK(neli_router_read(&router, 1, &item) == NELI_STRAY);
+    CHECK(neli_router_send(&router, 18, 0, NULL, 0, out, sizeof out, &sent) == NELI_OK && sent.handle == 2);
+    CHECK(neli_router_fault(&router, 11) == NELI_OK && neli_router_read(&router, 2, &item) == NELI_WAITS);
+    CHECK(neli_router_fault(&router, 105) == NELI_OK && neli_router_read(&router, 2, &item) == NELI_LINK);
+    CHECK(neli_router_free(&router) == NELI_OK && neli_router_free(&router) == NELI_OK);
+    CHECK(neli_router_read(&router, 1, &item) == NELI_STATE);
+}
+
+int main(void) {
+    check_texts();
+    check_writing_and_reading();
+    check_numbers();
+    check_answer(error_bytes, sizeof error_bytes);
+    check_refusals();
+    check_router();
+    printf("header.c: %s\n", failures == 0 ? "each call answers as include/neli.h says" : "failed");
+    return failures != 0;
+}
