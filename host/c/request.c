@@ -1,0 +1,83 @@
+#include "request.h"
+#include <errno.h>
+#include <linux/if_link.h>
+#include <linux/rtnetlink.h>
+#include <linux/veth.h>
+#include <net/if.h>
+#include <stdio.h>
+#include <stdlib.h>
+#include <string.h>
+
+void fail(const struct host *host, const char *what, int32_t code, const struct neli_message *message) {
+    char text[512];
+    host_explain(host, code, message, text, sizeof text);
+    fprintf(stderr, "%s: %s\n", what, text);
+    exit(1);
+}
+
+void open_or_fail(struct host *host, int family, const uint32_t *groups, size_t count) {
+    int32_t code = host_open(host, family, groups, count);
+    if (code != NELI_OK) fail(host, "a netlink socket", code, NULL);
+}
+
+static void written(int32_t code) {
+    if (code != NELI_OK) fail(NULL, "a request", code, NULL);
+}
+
+void put(struct body *body, const void *bytes, size_t length) {
+    written(neli_put_bytes(body->bytes, sizeof body->bytes, &body->writer, bytes, length));
+}
+
+void put_attribute(struct body *body, uint16_t type, const void *payload, size_t length) {
+    written(neli_put_attribute(body->bytes, sizeof body->bytes, &body->writer, type, payload, length));
+}
+
+void put_text(struct body *body, uint16_t type, const char *text) {
+    put_attribute(body, type, text, strlen(text) + 1);
+}
+
+size_t begin_nest(struct body *body, uint16_t type) {
+    size_t nest = 0;
+    written(neli_begin_nest(body->bytes, sizeof body->bytes, &body->writer, type, &nest));
+    return nest;
+}
+
+void end_nest(struct body *body, size_t nest) {
+    written(neli_end_nest(body->bytes, sizeof body->bytes, &body->writer, nest));
+}
+
+struct body pair(const char *name, const char *peer) {
+    struct body body = link_body(0, false);
+    struct ifinfomsg other = {0};
+    put_text(&body, IFLA_IFNAME, name);
+    size_t info = begin_nest(&body, IFLA_LINKINFO);
+    put_text(&body, IFLA_INFO_KIND, "veth");
+    size_t data = begin_nest(&body, IFLA_INFO_DATA);
+    size_t end = begin_nest(&body, VETH_INFO_PEER);
+    put(&body, &other, sizeof other);
+    put_text(&body, IFLA_IFNAME, peer);
+    end_nest(&body, end);
+    end_nest(&body, data);
+    end_nest(&body, info);
+    return body;
+}
+
+struct body link_body(int index, bool is_up) {
+    struct body body = {0};
+    struct ifinfomsg link = {.ifi_index = index};
+    if (index != 0) link.ifi_change = IFF_UP;
+    if (is_up) link.ifi_flags = IFF_UP;
+    put(&body, &link, sizeof link);
+    return body;
+}
+
+int32_t ask(struct host *host, uint16_t type, uint16_t flags, const struct body *body, struct neli_message *message) {
+    size_t handle;
+    int32_t code = host_send(host, type, flags | NLM_F_ACK, body->bytes, body->writer.end, &handle);
+    if (code != NELI_OK) return code;
+    do
+        code = host_next(host, handle, message);
+    while (code == NELI_ITEM);
+    neli_router_close(&host->router, handle);
+    return code;
+}

@@ -1,0 +1,53 @@
+/* `resolve FAMILY` prints the number of a family of generic netlink, and those of its multicast groups. */
+#include "request.h"
+#include <linux/genetlink.h>
+#include <linux/netlink.h>
+#include <stdio.h>
+
+/* A group's name and number, out of the attribute that has both. */
+static void print_group(const struct host *host, const struct neli_attribute *group) {
+    struct neli_walk fields;
+    struct neli_attribute name, number;
+    uint32_t id;
+    if (neli_attributes_in(group, &fields) != NELI_OK) return;
+    if (!host_find(host, &fields, CTRL_ATTR_MCAST_GRP_NAME, &name) || host_text(host, &name) == NULL) return;
+    if (!host_find(host, &fields, CTRL_ATTR_MCAST_GRP_ID, &number)) return;
+    if (neli_get_u32(host->item + number.payload, number.payload_length, 0, &id) != NELI_OK) return;
+    printf("group %s %u\n", host_text(host, &name), id);
+}
+
+/* What the controller tells of a family. */
+static void print_family(const struct host *host, const struct neli_message *message, const char *family) {
+    struct neli_walk walk, groups;
+    struct neli_attribute found, group;
+    uint16_t id;
+    if (neli_attributes_of(message, sizeof(struct genlmsghdr), &walk) != NELI_OK) return;
+    if (host_find(host, &walk, CTRL_ATTR_FAMILY_ID, &found) &&
+        neli_get_u16(host->item + found.payload, found.payload_length, 0, &id) == NELI_OK)
+        printf("family %s %u\n", family, id);
+    if (!host_find(host, &walk, CTRL_ATTR_MCAST_GROUPS, &found)) return;
+    if (neli_attributes_in(&found, &groups) != NELI_OK) return;
+    while (neli_next_attribute(host->item, host->item_length, &groups, &group) == NELI_ITEM) print_group(host, &group);
+}
+
+int main(int argc, char **argv) {
+    struct host host;
+    struct body body = {0};
+    struct genlmsghdr ask = {.cmd = CTRL_CMD_GETFAMILY, .version = 2};
+    struct neli_message message;
+    size_t handle;
+    if (argc != 2) {
+        fputs("usage: resolve FAMILY\n", stderr);
+        return 1;
+    }
+    open_or_fail(&host, NETLINK_GENERIC, NULL, 0);
+    put(&body, &ask, sizeof ask);
+    put_text(&body, CTRL_ATTR_FAMILY_NAME, argv[1]);
+    int32_t code = host_send(&host, GENL_ID_CTRL, NLM_F_ACK, body.bytes, body.writer.end, &handle);
+    if (code != NELI_OK) fail(&host, "resolve", code, NULL);
+    while ((code = host_next(&host, handle, &message)) == NELI_ITEM)
+        if (message.type == GENL_ID_CTRL) print_family(&host, &message, argv[1]);
+    if (code != NELI_END) fail(&host, "resolve", code, &message);
+    host_close(&host);
+    return 0;
+}

@@ -1,0 +1,138 @@
+//! Links the proved library and the heap of the kit, and writes the tables of numbers as Rust.
+//!
+//! `NELI_C` is the folder of `libneli_c.a`, `RATTLE_C` that of `liblibc_c.a`. Without them the library is looked for
+//! where `rt lib` leaves it, and the heap beside the page that `rt doc` names. The numbers are those that the program
+//! `neli_constants` prints, and the gate compares.
+
+use std::collections::BTreeMap;
+use std::path::{Path, PathBuf};
+use std::process::Command;
+use std::{env, fs};
+
+/// A module: its name, what it has, and its tables with the type of their numbers.
+type Module = (&'static str, &'static str, &'static [(&'static str, &'static str)]);
+
+/// The tables of each module, with the type of their numbers. A set of flags is told by its upper-case names.
+const MODULES: &[Module] = &[
+    (
+        "nl",
+        "Types and flags of messages.",
+        &[("Nlmsg", "u16"), ("GenlId", "u16"), ("NlmF", "u16"), ("NlmsgerrAttr", "u16")],
+    ),
+    ("socket", "Families of netlink.", &[("NlFamily", "i32")]),
+    (
+        "genl",
+        "Generic netlink, and its controller.",
+        &[("CtrlCmd", "u8"), ("CtrlAttr", "u16"), ("CtrlAttrMcastGrp", "u16")],
+    ),
+    (
+        "connector",
+        "The connector.",
+        &[("CnMsgIdx", "u32"), ("CnMsgVal", "u32"), ("ProcCnMcastOp", "u32"), ("ProcEventType", "u32")],
+    ),
+    (
+        "rtnl",
+        "Routing.",
+        &[
+            ("RtAddrFamily", "u8"),
+            ("Rtm", "u16"),
+            ("Rtn", "u8"),
+            ("Rtprot", "u8"),
+            ("RtScope", "u8"),
+            ("RtTable", "u8"),
+            ("Arphrd", "u16"),
+            ("Ifla", "u16"),
+            ("IflaInfo", "u16"),
+            ("IflaVlan", "u16"),
+            ("Ifa", "u16"),
+            ("Rta", "u16"),
+            ("Nda", "u16"),
+            ("Frattr", "u16"),
+            ("Tca", "u16"),
+            ("Iff", "u32"),
+            ("IfaF", "u8"),
+            ("RtmF", "u32"),
+            ("Nud", "u16"),
+            ("Ntf", "u8"),
+        ],
+    ),
+];
+
+/// The names of a table with their numbers, in its order.
+type Rows = Vec<(String, u64)>;
+
+fn main() {
+    let here = PathBuf::from(env::var("CARGO_MANIFEST_DIR").expect("cargo says where the crate is"));
+    let top = here.join("../..");
+    link("NELI_C", "neli_c", || top.join("crates/neli_c/out"));
+    link("RATTLE_C", "libc_c", kit);
+    let table = top.join("crates/neli_constants/stdout");
+    println!("cargo::rerun-if-changed={}", table.display());
+    let text = fs::read_to_string(&table).unwrap_or_else(|error| panic!("{}: {error}", table.display()));
+    let out = PathBuf::from(env::var("OUT_DIR").expect("cargo says where to write"));
+    fs::write(out.join("consts.rs"), written(&tables(&text))).expect("the constants are written");
+}
+
+/// Has a static library linked: from the folder that a variable names, or else from a place where it is looked for.
+fn link(variable: &str, library: &str, place: impl FnOnce() -> PathBuf) {
+    println!("cargo::rerun-if-env-changed={variable}");
+    let folder = env::var_os(variable).map_or_else(place, PathBuf::from);
+    let file = folder.join(format!("lib{library}.a"));
+    println!("cargo::rerun-if-changed={}", file.display());
+    if !file.is_file() {
+        println!("cargo::warning={} is not there: see docs/CALLING.md, or set {variable}", file.display());
+    }
+    println!("cargo::rustc-link-search=native={}", folder.display());
+    println!("cargo::rustc-link-lib=static={library}");
+}
+
+/// The kit's folder of C libraries, as its `rt` says.
+fn kit() -> PathBuf {
+    let said = Command::new("rt").arg("doc").output().map(|it| it.stdout).unwrap_or_default();
+    let page = String::from_utf8_lossy(&said);
+    Path::new(page.trim()).parent().map_or_else(PathBuf::new, |it| it.join("c"))
+}
+
+/// The rows `TABLE NUMBER NAME ..`, or `TABLE NAME NUMBER ..` of a flag and of a second name of a number.
+fn tables(text: &str) -> BTreeMap<&str, Rows> {
+    let mut found: BTreeMap<&str, Rows> = BTreeMap::new();
+    for line in text.lines() {
+        let words: Vec<&str> = line.split(' ').collect();
+        let (name, number) = match words[..] {
+            [_, number, name, _, _, _] => (name, number.parse().ok()),
+            [_, name, number, _] => (name, number.parse().ok()),
+            [_, name, number, _, _] => {
+                let bits = number.strip_prefix("0x").and_then(|it| u64::from_str_radix(it, 16).ok());
+                (name, bits.filter(|_| name.starts_with(|it: char| it.is_ascii_uppercase()) && name != "From"))
+            }
+            _ => continue,
+        };
+        let is_name = name.chars().all(|it| it.is_ascii_alphanumeric() || it == '_');
+        if let (Some(number), true) = (number, is_name) {
+            found.entry(words[0]).or_default().push((name.to_owned(), number));
+        }
+    }
+    found
+}
+
+fn written(tables: &BTreeMap<&str, Rows>) -> String {
+    let mut out = String::new();
+    for (module, says, names) in MODULES {
+        out += &format!("/// {says}\npub mod {module} {{\n");
+        for (name, kind) in *names {
+            let rows = tables.get(name).unwrap_or_else(|| panic!("no table {name}"));
+            let is_set = rows.iter().all(|(name, _)| !name.contains(|it: char| it.is_ascii_lowercase()));
+            let macro_name = if is_set { "flags" } else { "numbers" };
+            let (first, second): (Vec<_>, Vec<_>) = rows
+                .iter()
+                .enumerate()
+                .partition(|(at, (_, number))| is_set || rows[..*at].iter().all(|(_, earlier)| earlier != number));
+            let list = |rows: &[(usize, &(String, u64))]| {
+                rows.iter().map(|(_, (name, number))| format!("{name} = {number}, ")).collect::<String>()
+            };
+            out += &format!("    {macro_name}!({name}: {kind} {{ {}}} {{ {}}});\n", list(&first), list(&second));
+        }
+        out += "}\n";
+    }
+    out
+}

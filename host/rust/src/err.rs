@@ -1,0 +1,260 @@
+//! Why a call is refused.
+
+use crate::ffi;
+use crate::nl::Nlmsgerr;
+use std::error::Error;
+use std::fmt;
+use std::io;
+
+/// A refusal of the proved library, by its code in `neli.h`.
+#[derive(Clone, Copy, PartialEq, Eq)]
+pub struct Refusal(i32);
+
+impl Refusal {
+    /// The bytes end too early.
+    pub const SHORT: Refusal = Refusal(-1);
+    /// A stated length does not fit.
+    pub const LENGTH: Refusal = Refusal(-2);
+    /// The sequence number belongs to a request that is not closed.
+    pub const IN_USE: Refusal = Refusal(-7);
+    /// A datagram is not made of messages to its end.
+    pub const BYTES: Refusal = Refusal(-12);
+
+    /// The code in `neli.h`.
+    pub fn code(self) -> i32 {
+        self.0
+    }
+}
+
+impl fmt::Display for Refusal {
+    fn fmt(&self, f: &mut fmt::Formatter<'_>) -> fmt::Result {
+        f.write_str(&ffi::error_text(self.0))
+    }
+}
+
+impl fmt::Debug for Refusal {
+    fn fmt(&self, f: &mut fmt::Formatter<'_>) -> fmt::Result {
+        write!(f, "Refusal({}: {self})", self.0)
+    }
+}
+
+impl Error for Refusal {}
+
+/// Whether a call that only does something has done it.
+pub(crate) fn done(code: i32) -> Result<(), Refusal> {
+    if code == ffi::END { Ok(()) } else { Err(Refusal(code)) }
+}
+
+pub(crate) fn refused(code: i32) -> Refusal {
+    Refusal(code)
+}
+
+/// Why bytes are not read.
+#[derive(Clone, Debug, PartialEq, Eq)]
+pub enum DeError {
+    /// The library refuses them: they end too early, or a length does not fit.
+    Refused(Refusal),
+    /// A payload has another length than its value.
+    InvalidInput(usize),
+    /// A text is not UTF-8, or has no zero byte at its end.
+    Utf8,
+    /// No attribute of this number is there.
+    Missing(u16),
+}
+
+/// Why something is not written.
+#[derive(Clone, Debug, PartialEq, Eq)]
+pub enum SerError {
+    /// The library refuses it: a length does not fit its field.
+    Refused(Refusal),
+}
+
+/// A field that a builder was not given.
+#[derive(Clone, Debug, PartialEq, Eq)]
+pub struct UninitializedFieldError(pub(crate) &'static str);
+
+/// Why a builder makes nothing.
+#[derive(Clone, Debug, PartialEq, Eq)]
+pub enum BuildError {
+    /// A field was not given.
+    Uninitialized(UninitializedFieldError),
+    /// A payload is not written.
+    Ser(SerError),
+}
+
+/// Why a socket gives nothing.
+#[derive(Debug)]
+pub enum SocketError {
+    /// The system refuses.
+    Io(io::Error),
+    /// A datagram was longer than the room for it, and its rest is lost.
+    Truncated {
+        /// How many bytes were sent.
+        length: usize,
+        /// How many bytes there was room for.
+        room: usize,
+    },
+    /// What came cannot be read.
+    De(DeError),
+    /// What is to be sent cannot be written.
+    Ser(SerError),
+}
+
+/// What a router says in place of a message.
+#[derive(Debug)]
+pub enum RouterError {
+    /// The kernel answers with an error.
+    Nlmsgerr(Nlmsgerr<u16>),
+    /// The socket failed; what was on its way may be lost.
+    Socket(SocketError),
+    /// A reply cannot be read.
+    De(DeError),
+    /// A request cannot be written.
+    Ser(SerError),
+    /// A message came with a sequence number or a port that no request has.
+    BadSeqOrPid,
+    /// An acknowledgement was asked for, and something else came.
+    NoAck,
+    /// An acknowledgement came that was not asked for.
+    UnexpectedAck,
+    /// The handle is closed.
+    ClosedChannel,
+    /// The next sequence number belongs to a request that is not closed.
+    SeqInUse,
+    /// The proved library found no memory; the router is as before.
+    Memory,
+    /// In words: what was looked for is not there.
+    Msg(String),
+}
+
+impl RouterError {
+    /// The error with these words.
+    pub fn new(text: impl Into<String>) -> Self {
+        RouterError::Msg(text.into())
+    }
+
+    /// The number by which the kernel refuses, above 0, where it does.
+    pub fn errno(&self) -> Option<i32> {
+        match self {
+            RouterError::Nlmsgerr(answer) => Some(-answer.error()),
+            _ => None,
+        }
+    }
+}
+
+impl fmt::Display for DeError {
+    fn fmt(&self, f: &mut fmt::Formatter<'_>) -> fmt::Result {
+        match self {
+            DeError::Refused(refusal) => write!(f, "{refusal}"),
+            DeError::InvalidInput(length) => write!(f, "a payload of {length} bytes has another length than its value"),
+            DeError::Utf8 => write!(f, "a text is not UTF-8, or has no zero byte at its end"),
+            DeError::Missing(number) => write!(f, "there is no attribute {number}"),
+        }
+    }
+}
+
+impl fmt::Display for SerError {
+    fn fmt(&self, f: &mut fmt::Formatter<'_>) -> fmt::Result {
+        let SerError::Refused(refusal) = self;
+        write!(f, "{refusal}")
+    }
+}
+
+impl fmt::Display for UninitializedFieldError {
+    fn fmt(&self, f: &mut fmt::Formatter<'_>) -> fmt::Result {
+        write!(f, "`{}` must be initialized", self.0)
+    }
+}
+
+impl fmt::Display for BuildError {
+    fn fmt(&self, f: &mut fmt::Formatter<'_>) -> fmt::Result {
+        match self {
+            BuildError::Uninitialized(error) => write!(f, "{error}"),
+            BuildError::Ser(error) => write!(f, "{error}"),
+        }
+    }
+}
+
+impl fmt::Display for SocketError {
+    fn fmt(&self, f: &mut fmt::Formatter<'_>) -> fmt::Result {
+        match self {
+            SocketError::Io(error) => write!(f, "{error}"),
+            SocketError::Truncated { length, room } => {
+                write!(f, "a datagram of {length} bytes was cut to {room}")
+            }
+            SocketError::De(error) => write!(f, "{error}"),
+            SocketError::Ser(error) => write!(f, "{error}"),
+        }
+    }
+}
+
+impl fmt::Display for RouterError {
+    fn fmt(&self, f: &mut fmt::Formatter<'_>) -> fmt::Result {
+        match self {
+            RouterError::Nlmsgerr(answer) => write!(f, "{answer}"),
+            RouterError::Socket(error) => write!(f, "{error}"),
+            RouterError::De(error) => write!(f, "{error}"),
+            RouterError::Ser(error) => write!(f, "{error}"),
+            RouterError::BadSeqOrPid => write!(f, "a message came that no request has asked for"),
+            RouterError::NoAck => write!(f, "no acknowledgement came"),
+            RouterError::UnexpectedAck => write!(f, "an acknowledgement came that was not asked for"),
+            RouterError::ClosedChannel => write!(f, "the handle is closed"),
+            RouterError::SeqInUse => write!(f, "the next sequence number is in use"),
+            RouterError::Memory => write!(f, "memory ran out"),
+            RouterError::Msg(text) => write!(f, "{text}"),
+        }
+    }
+}
+
+impl Error for DeError {}
+impl Error for SerError {}
+impl Error for UninitializedFieldError {}
+impl Error for BuildError {}
+
+impl Error for SocketError {
+    fn source(&self) -> Option<&(dyn Error + 'static)> {
+        match self {
+            SocketError::Io(error) => Some(error),
+            _ => None,
+        }
+    }
+}
+
+impl Error for RouterError {
+    fn source(&self) -> Option<&(dyn Error + 'static)> {
+        match self {
+            RouterError::Socket(SocketError::Io(error)) => Some(error),
+            _ => None,
+        }
+    }
+}
+
+/// `From` for errors that one variant carries.
+macro_rules! carries {
+    ($($outer:ident::$variant:ident($inner:ty),)*) => {
+        $(impl From<$inner> for $outer {
+            fn from(error: $inner) -> Self {
+                $outer::$variant(error)
+            }
+        })*
+    };
+}
+
+carries! {
+    DeError::Refused(Refusal),
+    SerError::Refused(Refusal),
+    BuildError::Uninitialized(UninitializedFieldError),
+    BuildError::Ser(SerError),
+    SocketError::Io(io::Error),
+    SocketError::De(DeError),
+    SocketError::Ser(SerError),
+    RouterError::Socket(SocketError),
+    RouterError::De(DeError),
+    RouterError::Ser(SerError),
+}
+
+impl From<io::Error> for RouterError {
+    fn from(error: io::Error) -> Self {
+        RouterError::Socket(error.into())
+    }
+}

@@ -1,0 +1,471 @@
+//! All that is unsafe: the exports of the proved library, as `include/neli.h` declares them, and the calls of the C
+//! library that std links and does not offer. What it hands out is safe.
+#![allow(unsafe_code)]
+
+use std::ffi::{c_int, c_uint, c_void};
+use std::io;
+use std::os::fd::{AsRawFd, FromRawFd, OwnedFd, RawFd};
+
+// ---- The proved library ----
+
+pub const ITEM: i32 = 1;
+pub const END: i32 = 0;
+pub const WAITS: i32 = 2;
+pub const KERNEL_ERROR: i32 = 3;
+pub const MEMORY: i32 = -3;
+pub const ROOM: i32 = -4;
+pub const HANDLE: i32 = -6;
+pub const STRAY: i32 = -8;
+pub const NO_ACK: i32 = -9;
+pub const UNEXPECTED_ACK: i32 = -10;
+pub const LINK: i32 = -11;
+
+/// `struct neli_walk`: bytes `place` to `end`.
+#[repr(C)]
+#[derive(Clone, Copy, Debug, Default)]
+pub struct Walk {
+    pub place: usize,
+    pub end: usize,
+}
+
+/// `struct neli_message`.
+#[repr(C)]
+#[derive(Clone, Copy, Debug, Default)]
+pub struct Message {
+    pub length: u32,
+    pub kind: u16,
+    pub flags: u16,
+    pub number: u32,
+    pub port: u32,
+    pub payload: usize,
+    pub payload_length: usize,
+}
+
+/// `struct neli_attribute`.
+#[repr(C)]
+#[derive(Clone, Copy, Debug, Default)]
+pub struct Attribute {
+    pub length: u16,
+    pub kind: u16,
+    pub number: u16,
+    pub flags: u16,
+    pub payload: usize,
+    pub payload_length: usize,
+}
+
+/// `struct neli_answer`.
+#[repr(C)]
+#[derive(Clone, Copy, Debug, Default)]
+pub struct Answer {
+    pub code: i32,
+    pub echo_length: u32,
+    pub echo_type: u16,
+    pub echo_flags: u16,
+    pub echo_number: u32,
+    pub echo_port: u32,
+    pub attributes: Walk,
+}
+
+/// `struct neli_writer`.
+#[repr(C)]
+#[derive(Clone, Copy, Debug, Default)]
+pub struct Writer {
+    pub start: usize,
+    pub end: usize,
+}
+
+/// `struct neli_sent`.
+#[repr(C)]
+#[derive(Clone, Copy, Debug, Default)]
+pub struct Sent {
+    pub length: usize,
+    pub handle: usize,
+}
+
+/// `struct neli_item`.
+#[repr(C)]
+#[derive(Clone, Copy, Debug, Default)]
+pub struct Item {
+    pub kind: u16,
+    pub flags: u16,
+    pub number: u32,
+    pub port: u32,
+    pub error: i32,
+}
+
+/// `struct neli_router`.
+#[repr(C)]
+#[derive(Debug)]
+struct RawRouter {
+    is_open: bool,
+    state: *mut c_void,
+}
+
+unsafe extern "C" {
+    fn neli_c_error_text(code: i32, out: *mut u8, room: usize, length: *mut usize) -> i32;
+    fn neli_c_next_message(bytes: *const u8, length: usize, walk: *mut Walk, message: *mut Message) -> i32;
+    fn neli_c_next_attribute(bytes: *const u8, length: usize, walk: *mut Walk, attribute: *mut Attribute) -> i32;
+    fn neli_c_get_answer(bytes: *const u8, length: usize, message: *const Message, answer: *mut Answer) -> i32;
+    fn neli_c_begin_message(
+        out: *mut u8,
+        room: usize,
+        writer: *mut Writer,
+        kind: u16,
+        flags: u16,
+        number: u32,
+        port: u32,
+    ) -> i32;
+    fn neli_c_put_bytes(out: *mut u8, room: usize, writer: *mut Writer, bytes: *const u8, length: usize) -> i32;
+    fn neli_c_put_attribute(
+        out: *mut u8,
+        room: usize,
+        writer: *mut Writer,
+        kind: u16,
+        payload: *const u8,
+        payload_length: usize,
+    ) -> i32;
+    fn neli_c_end_message(out: *mut u8, room: usize, writer: *const Writer) -> i32;
+    fn neli_c_router_new(router: *mut RawRouter, port: u32) -> i32;
+    fn neli_c_router_free(router: *mut RawRouter) -> i32;
+    fn neli_c_router_set_number(router: *mut RawRouter, number: u32) -> i32;
+    fn neli_c_router_send(
+        router: *mut RawRouter,
+        kind: u16,
+        flags: u16,
+        body: *const u8,
+        body_length: usize,
+        out: *mut u8,
+        room: usize,
+        sent: *mut Sent,
+    ) -> i32;
+    fn neli_c_router_datagram(
+        router: *mut RawRouter,
+        bytes: *const u8,
+        length: usize,
+        groups: *const u32,
+        group_count: usize,
+    ) -> i32;
+    fn neli_c_router_fault(router: *mut RawRouter, error_number: i32) -> i32;
+    fn neli_c_router_read(router: *mut RawRouter, handle: usize, item: *mut Item) -> i32;
+    fn neli_c_router_item(router: *mut RawRouter, out: *mut u8, room: usize, length: *mut usize) -> i32;
+    fn neli_c_router_close(router: *mut RawRouter, handle: usize) -> i32;
+}
+
+/// The text of a code.
+pub fn error_text(code: i32) -> String {
+    let mut out = [0; 80];
+    let mut length = 0;
+    // SAFETY: pointer and size are those of one array, and `length` is this function's; nothing is kept.
+    unsafe { neli_c_error_text(code, out.as_mut_ptr(), out.len(), &mut length) };
+    String::from_utf8_lossy(out.get(..length).unwrap_or_default()).into_owned()
+}
+
+/// The next message of a walk over these bytes.
+pub fn next_message(bytes: &[u8], walk: &mut Walk, message: &mut Message) -> i32 {
+    // SAFETY: pointer and length are those of one slice, and the others are exclusive borrows; nothing is kept.
+    unsafe { neli_c_next_message(bytes.as_ptr(), bytes.len(), walk, message) }
+}
+
+/// The next attribute of a walk over these bytes.
+pub fn next_attribute(bytes: &[u8], walk: &mut Walk, attribute: &mut Attribute) -> i32 {
+    // SAFETY: pointer and length are those of one slice, and the others are exclusive borrows; nothing is kept.
+    unsafe { neli_c_next_attribute(bytes.as_ptr(), bytes.len(), walk, attribute) }
+}
+
+/// What an error, an acknowledgement or the end of a dump says.
+pub fn get_answer(bytes: &[u8], message: &Message, answer: &mut Answer) -> i32 {
+    // SAFETY: pointer and length are those of one slice, and the others are borrows, that of `answer` exclusive.
+    unsafe { neli_c_get_answer(bytes.as_ptr(), bytes.len(), message, answer) }
+}
+
+/// Begins a message at the writer's end.
+pub fn begin_message(out: &mut [u8], writer: &mut Writer, head: &Message) -> i32 {
+    // SAFETY: pointer and length are those of one exclusive slice, and `writer` is an exclusive borrow.
+    unsafe { neli_c_begin_message(out.as_mut_ptr(), out.len(), writer, head.kind, head.flags, head.number, head.port) }
+}
+
+/// Appends bytes and their padding.
+pub fn put_bytes(out: &mut [u8], writer: &mut Writer, bytes: &[u8]) -> i32 {
+    // SAFETY: each pointer and its length are those of one slice; that of `out` is exclusive, so they are apart.
+    unsafe { neli_c_put_bytes(out.as_mut_ptr(), out.len(), writer, bytes.as_ptr(), bytes.len()) }
+}
+
+/// Appends an attribute and its padding.
+pub fn put_attribute(out: &mut [u8], writer: &mut Writer, kind: u16, payload: &[u8]) -> i32 {
+    // SAFETY: each pointer and its length are those of one slice; that of `out` is exclusive, so they are apart.
+    unsafe { neli_c_put_attribute(out.as_mut_ptr(), out.len(), writer, kind, payload.as_ptr(), payload.len()) }
+}
+
+/// Sets the length of the message that was begun last.
+pub fn end_message(out: &mut [u8], writer: &Writer) -> i32 {
+    // SAFETY: pointer and length are those of one exclusive slice, and `writer` is a borrow.
+    unsafe { neli_c_end_message(out.as_mut_ptr(), out.len(), writer) }
+}
+
+/// A router of the library that is open until it is dropped. Each call is `&mut`, so that no two overlap.
+#[derive(Debug)]
+pub struct Router(RawRouter);
+
+// SAFETY: the state is memory of the C library's heap, which any thread may use and free, and the library keeps nothing
+// of a thread. It is reached by `&mut` alone.
+unsafe impl Send for Router {}
+
+impl Router {
+    /// A router for a port, or the code of a refusal.
+    pub fn new(port: u32) -> Result<Router, i32> {
+        let mut raw = RawRouter { is_open: false, state: std::ptr::null_mut() };
+        // SAFETY: all bytes of a closed router are zero, and the library keeps nothing of its address, so that it may
+        // be moved afterwards; it is neither `Copy` nor `Clone`.
+        match unsafe { neli_c_router_new(&mut raw, port) } {
+            END => Ok(Router(raw)),
+            code => Err(code),
+        }
+    }
+
+    /// Sets the sequence number of the next request.
+    pub fn set_number(&mut self, number: u32) -> i32 {
+        // SAFETY: the router is open, and borrowed exclusively.
+        unsafe { neli_c_router_set_number(&mut self.0, number) }
+    }
+
+    /// A request with this body, written into `out`.
+    pub fn send(&mut self, kind: u16, flags: u16, body: &[u8], out: &mut [u8], sent: &mut Sent) -> i32 {
+        // SAFETY: the router is open, and borrowed exclusively; each pointer and its length are those of one slice, and
+        // that of `out` is exclusive, so they are apart.
+        unsafe {
+            neli_c_router_send(&mut self.0, kind, flags, body.as_ptr(), body.len(), out.as_mut_ptr(), out.len(), sent)
+        }
+    }
+
+    /// Takes in a datagram that came to these groups.
+    pub fn datagram(&mut self, bytes: &[u8], groups: &[u32]) -> i32 {
+        // SAFETY: the router is open, and borrowed exclusively; each pointer and its length are those of one slice.
+        // The library copies what it keeps.
+        unsafe { neli_c_router_datagram(&mut self.0, bytes.as_ptr(), bytes.len(), groups.as_ptr(), groups.len()) }
+    }
+
+    /// Takes in a fault of the socket.
+    pub fn fault(&mut self, error_number: i32) -> i32 {
+        // SAFETY: the router is open, and borrowed exclusively.
+        unsafe { neli_c_router_fault(&mut self.0, error_number) }
+    }
+
+    /// Reads the next item of a handle.
+    pub fn read(&mut self, handle: usize, item: &mut Item) -> i32 {
+        // SAFETY: the router is open, and borrowed exclusively, as `item` is.
+        unsafe { neli_c_router_read(&mut self.0, handle, item) }
+    }
+
+    /// The bytes of the item that was read last.
+    pub fn item(&mut self, out: &mut [u8], length: &mut usize) -> i32 {
+        // SAFETY: the router is open, and borrowed exclusively; pointer and length are those of one exclusive slice.
+        unsafe { neli_c_router_item(&mut self.0, out.as_mut_ptr(), out.len(), length) }
+    }
+
+    /// Closes a handle.
+    pub fn close(&mut self, handle: usize) -> i32 {
+        // SAFETY: the router is open, and borrowed exclusively.
+        unsafe { neli_c_router_close(&mut self.0, handle) }
+    }
+}
+
+impl Drop for Router {
+    fn drop(&mut self) {
+        // SAFETY: the router is open, and nobody uses it afterwards.
+        unsafe { neli_c_router_free(&mut self.0) };
+    }
+}
+
+// ---- Sockets, by the C library of Linux on x86-64 ----
+
+const AF_NETLINK: u16 = 16;
+const SOCK_RAW: c_int = 3;
+const SOCK_CLOEXEC: c_int = 0o2_000_000;
+const SOL_NETLINK: c_int = 270;
+const NETLINK_PKTINFO: c_int = 3;
+const NETLINK_LIST_MEMBERSHIPS: c_int = 9;
+const MSG_PEEK: c_int = 2;
+const MSG_TRUNC: c_int = 0x20;
+
+/// `struct sockaddr_nl`.
+#[repr(C)]
+#[derive(Clone, Copy, Debug, Default)]
+struct Address {
+    family: u16,
+    pad: u16,
+    port: u32,
+    groups: u32,
+}
+
+const ADDRESS_SIZE: c_uint = size_of::<Address>() as c_uint;
+
+/// `struct iovec`.
+#[repr(C)]
+struct Slice {
+    base: *mut c_void,
+    length: usize,
+}
+
+/// `struct msghdr`.
+#[repr(C)]
+struct Header {
+    name: *mut Address,
+    name_size: c_uint,
+    slices: *mut Slice,
+    slice_count: usize,
+    control: *mut Control,
+    control_size: usize,
+    flags: c_int,
+}
+
+/// A `struct cmsghdr` that carries a `struct nl_pktinfo`, with its padding: the one control message that is asked for.
+#[repr(C, align(8))]
+#[derive(Clone, Copy, Debug, Default)]
+struct Control {
+    size: usize,
+    level: c_int,
+    kind: c_int,
+    group: u32,
+    pad: u32,
+}
+
+/// The bytes of a `struct cmsghdr` and a `struct nl_pktinfo` without the padding.
+const CONTROL_SIZE: usize = size_of::<Control>() - size_of::<u32>();
+
+unsafe extern "C" {
+    fn socket(domain: c_int, kind: c_int, protocol: c_int) -> c_int;
+    fn bind(fd: c_int, address: *const Address, size: c_uint) -> c_int;
+    fn getsockname(fd: c_int, address: *mut Address, size: *mut c_uint) -> c_int;
+    fn setsockopt(fd: c_int, level: c_int, name: c_int, value: *const c_void, size: c_uint) -> c_int;
+    fn getsockopt(fd: c_int, level: c_int, name: c_int, value: *mut c_void, size: *mut c_uint) -> c_int;
+    fn sendto(fd: c_int, bytes: *const u8, length: usize, flags: c_int, address: *const Address, size: c_uint)
+    -> isize;
+    fn recvmsg(fd: c_int, header: *mut Header, flags: c_int) -> isize;
+}
+
+fn checked(result: c_int) -> io::Result<c_int> {
+    if result < 0 { Err(io::Error::last_os_error()) } else { Ok(result) }
+}
+
+/// A length that a call of the system answered, or its error.
+fn counted(result: isize) -> io::Result<usize> {
+    usize::try_from(result).map_err(|_| io::Error::last_os_error())
+}
+
+/// A datagram that was received: its length as it was sent, the sender's port, and the group that it came to, or 0.
+#[derive(Clone, Copy, Debug, PartialEq, Eq)]
+pub struct Received {
+    pub length: usize,
+    pub port: u32,
+    pub group: u32,
+}
+
+/// A netlink socket of a family, bound to a port, or to one of the kernel's choice where it is 0.
+pub fn open(family: i32, port: u32) -> io::Result<OwnedFd> {
+    let address = Address { family: AF_NETLINK, port, ..Address::default() };
+    // SAFETY: no pointer is passed, and the new descriptor is this function's alone. The pointer is to `address`, with
+    // its size.
+    unsafe {
+        let fd = OwnedFd::from_raw_fd(checked(socket(c_int::from(AF_NETLINK), SOCK_RAW | SOCK_CLOEXEC, family))?);
+        checked(bind(fd.as_raw_fd(), &address, ADDRESS_SIZE))?;
+        set_netlink_option(fd.as_raw_fd(), NETLINK_PKTINFO, 1)?;
+        Ok(fd)
+    }
+}
+
+/// The port that a socket is bound to.
+pub fn port_of(fd: RawFd) -> io::Result<u32> {
+    let mut address = Address::default();
+    let mut size = ADDRESS_SIZE;
+    // SAFETY: the pointers are to `address` and `size`, and `size` is that of `address`.
+    checked(unsafe { getsockname(fd, &mut address, &mut size) })?;
+    Ok(address.port)
+}
+
+/// Sets an option of 4 bytes of the netlink level.
+pub fn set_netlink_option(fd: RawFd, name: c_int, value: c_int) -> io::Result<()> {
+    set_option(fd, SOL_NETLINK, name, &value)
+}
+
+/// Sets an option whose value is of this type, which has no padding and no pointer.
+pub fn set_option<T: Plain>(fd: RawFd, level: c_int, name: c_int, value: &T) -> io::Result<()> {
+    // SAFETY: pointer and size are those of `value`, all of whose bytes are there.
+    let result = unsafe { setsockopt(fd, level, name, std::ptr::from_ref(value).cast(), size_of::<T>() as c_uint) };
+    checked(result).map(|_| ())
+}
+
+/// What an option of a socket may have as its value.
+pub trait Plain: Copy {}
+
+impl Plain for c_int {}
+
+/// `struct timeval`.
+impl Plain for [i64; 2] {}
+
+/// An option of 4 bytes of the netlink level.
+pub fn netlink_option(fd: RawFd, name: c_int) -> io::Result<c_int> {
+    let mut value: c_int = 0;
+    let mut size = size_of::<c_int>() as c_uint;
+    // SAFETY: the pointers are to `value` and `size`, and `size` is that of `value`.
+    checked(unsafe { getsockopt(fd, SOL_NETLINK, name, (&raw mut value).cast(), &mut size) })?;
+    Ok(value)
+}
+
+/// The groups that a socket is in, a bit each.
+pub fn memberships(fd: RawFd) -> io::Result<Vec<u32>> {
+    let mut words: Vec<u32> = Vec::new();
+    loop {
+        let room = size_of_val(&words[..]);
+        let mut size = room as c_uint;
+        // SAFETY: pointer and size are those of the words; the kernel writes no more than `size` says.
+        checked(unsafe {
+            getsockopt(fd, SOL_NETLINK, NETLINK_LIST_MEMBERSHIPS, words.as_mut_ptr().cast(), &mut size)
+        })?;
+        if size as usize <= room {
+            return Ok(words);
+        }
+        words.resize((size as usize).div_ceil(4), 0);
+    }
+}
+
+/// Sends a datagram to a port: 0 is the kernel's.
+pub fn send(fd: RawFd, bytes: &[u8], port: u32) -> io::Result<usize> {
+    let address = Address { family: AF_NETLINK, port, ..Address::default() };
+    // SAFETY: pointer and length are those of one slice, and the other pointer is to `address`, with its size.
+    counted(unsafe { sendto(fd, bytes.as_ptr(), bytes.len(), 0, &address, ADDRESS_SIZE) })
+}
+
+/// Receives a datagram into these bytes; one that is longer loses its rest, and its whole length is given all the same.
+pub fn receive(fd: RawFd, bytes: &mut [u8]) -> io::Result<Received> {
+    receive_by(fd, bytes, 0)
+}
+
+/// The length of the datagram that comes next, which stays where it is.
+pub fn next_length(fd: RawFd) -> io::Result<usize> {
+    receive_by(fd, &mut [], MSG_PEEK).map(|it| it.length)
+}
+
+fn receive_by(fd: RawFd, bytes: &mut [u8], flags: c_int) -> io::Result<Received> {
+    let mut from = Address::default();
+    let mut control = Control::default();
+    let mut slice = Slice { base: bytes.as_mut_ptr().cast(), length: bytes.len() };
+    let mut header = Header {
+        name: &mut from,
+        name_size: ADDRESS_SIZE,
+        slices: &mut slice,
+        slice_count: 1,
+        control: &mut control,
+        control_size: size_of::<Control>(),
+        flags: 0,
+    };
+    // SAFETY: each pointer of the header is to a value of this function, or to the exclusive slice, with its size.
+    let length = counted(unsafe { recvmsg(fd, &mut header, flags | MSG_TRUNC) })?;
+    let is_group = header.control_size >= CONTROL_SIZE
+        && control.size >= CONTROL_SIZE
+        && (control.level, control.kind) == (SOL_NETLINK, NETLINK_PKTINFO);
+    Ok(Received { length, port: from.port, group: if is_group { control.group } else { 0 } })
+}
+
+#[cfg(test)]
+#[path = "ffi_tests.rs"]
+mod tests;

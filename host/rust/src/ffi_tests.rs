@@ -1,0 +1,106 @@
+//! What `ffi.rs` declares is what `include/neli.h` declares.
+
+use super::{Answer, Attribute, Item, Message, RawRouter, Sent, Walk, Writer};
+use std::mem::offset_of;
+
+const HEADER: &str = include_str!("../../../include/neli.h");
+const DECLARED: &str = include_str!("ffi.rs");
+
+/// The codes that this crate names.
+const CODES: [(&str, i32); 11] = [
+    ("NELI_ITEM", super::ITEM),
+    ("NELI_END", super::END),
+    ("NELI_WAITS", super::WAITS),
+    ("NELI_KERNEL_ERROR", super::KERNEL_ERROR),
+    ("NELI_MEMORY", super::MEMORY),
+    ("NELI_ROOM", super::ROOM),
+    ("NELI_HANDLE", super::HANDLE),
+    ("NELI_STRAY", super::STRAY),
+    ("NELI_NO_ACK", super::NO_ACK),
+    ("NELI_UNEXPECTED_ACK", super::UNEXPECTED_ACK),
+    ("NELI_LINK", super::LINK),
+];
+
+/// A type of the header, as this crate writes it.
+fn rust_type(c: &str) -> String {
+    let (is_const, plain) = c.strip_prefix("const ").map_or((false, c), |it| (true, it));
+    let (is_pointer, plain) = plain.strip_suffix('*').map_or((false, plain), |it| (true, it));
+    let name = match plain.trim() {
+        "uint8_t" => "u8",
+        "uint16_t" => "u16",
+        "uint32_t" => "u32",
+        "int32_t" => "i32",
+        "size_t" => "usize",
+        "struct neli_walk" => "Walk",
+        "struct neli_message" => "Message",
+        "struct neli_attribute" => "Attribute",
+        "struct neli_answer" => "Answer",
+        "struct neli_writer" => "Writer",
+        "struct neli_sent" => "Sent",
+        "struct neli_item" => "Item",
+        "struct neli_router" => "RawRouter",
+        other => panic!("{other}"),
+    };
+    let pointer = if is_const { "*const " } else { "*mut " };
+    format!("{}{name}", if is_pointer { pointer } else { "" })
+}
+
+/// The types of the parameters of a declaration of C.
+fn types_in_c(parameters: &str) -> Vec<String> {
+    let without_name = |it: &str| {
+        let end = it.trim_end_matches(|c: char| c.is_ascii_alphanumeric() || c == '_').len();
+        rust_type(it[..end].trim())
+    };
+    parameters.split(',').map(|it| without_name(it.trim())).collect()
+}
+
+/// The types of the parameters of a declaration of Rust.
+fn types_in_rust(parameters: &str) -> Vec<&str> {
+    parameters.split(',').filter_map(|it| it.split_once(": ")).map(|(_, kind)| kind.trim()).collect()
+}
+
+#[test]
+fn calls_are_declared_as_in_the_header() {
+    let mut count = 0;
+    for call in DECLARED.split("fn neli_c_").skip(1) {
+        let (name, rest) = call.split_once('(').expect("a call has parameters");
+        let (parameters, rest) = rest.split_once(')').expect("which end");
+        assert!(rest.starts_with(" -> i32;"), "{name}");
+        let declaration = format!("\nint32_t neli_c_{name}(");
+        let (_, rest) = HEADER.split_once(&declaration).expect("the header has the call");
+        let (in_header, _) = rest.split_once(')').expect("whose parameters end");
+        assert_eq!(types_in_rust(parameters), types_in_c(in_header), "{name}");
+        count += 1;
+    }
+    assert!(count > 10, "{count} calls");
+}
+
+#[test]
+fn codes_are_those_of_the_header() {
+    for (name, code) in CODES {
+        assert!(HEADER.contains(&format!("    {name} = {code},")), "{name}");
+    }
+}
+
+/// Sizes and places are those of a C compiler for x86-64.
+#[test]
+fn structs_are_laid_out_as_in_c() {
+    let sizes = [
+        (size_of::<Walk>(), 16),
+        (size_of::<Message>(), 32),
+        (size_of::<Attribute>(), 24),
+        (size_of::<Answer>(), 40),
+        (size_of::<Writer>(), 16),
+        (size_of::<Sent>(), 16),
+        (size_of::<Item>(), 16),
+        (size_of::<RawRouter>(), 16),
+    ];
+    for (found, wanted) in sizes {
+        assert_eq!(found, wanted);
+    }
+    assert_eq!((offset_of!(Message, number), offset_of!(Message, payload)), (8, 16));
+    assert_eq!((offset_of!(Attribute, number), offset_of!(Attribute, payload)), (4, 8));
+    assert_eq!((offset_of!(Answer, echo_number), offset_of!(Answer, attributes)), (12, 24));
+    assert_eq!((offset_of!(Item, number), offset_of!(Item, error)), (4, 12));
+    assert_eq!(offset_of!(RawRouter, state), 8);
+}

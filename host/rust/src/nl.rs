@@ -1,0 +1,385 @@
+//! Messages: a header, and a payload of one of six kinds.
+
+use crate::attr::{AttrHandle, AttrList, Nlattr};
+use crate::consts::nl::{NlmF, NlmsgerrAttr};
+use crate::err::{BuildError, DeError, SerError, UninitializedFieldError, done, refused};
+use crate::ffi;
+use crate::{FromBytes, ToBytes};
+use std::fmt;
+use std::io;
+use std::marker::PhantomData;
+
+/// A number that tells what a message is.
+pub trait NlType: Copy + fmt::Debug + From<u16> + Into<u16> {}
+
+impl<T: Copy + fmt::Debug + From<u16> + Into<u16>> NlType for T {}
+
+const ERROR: u16 = 2;
+const DONE: u16 = 3;
+
+/// A message.
+#[derive(Clone, Debug)]
+pub struct Nlmsghdr<T, P> {
+    nl_len: u32,
+    nl_type: T,
+    nl_flags: NlmF,
+    nl_seq: u32,
+    nl_pid: u32,
+    nl_payload: NlPayload<T, P>,
+}
+
+/// What a message carries.
+#[derive(Clone, Debug)]
+pub enum NlPayload<T, P> {
+    /// The request was done: an error of code 0.
+    Ack(Nlmsgerr<T>),
+    /// The request was refused.
+    Err(Nlmsgerr<T>),
+    /// The end of a dump that says something: a code, which is 0 or below, and attributes.
+    DumpExtAck(Nlmsgerr<T>),
+    /// A body.
+    Payload(P),
+    /// Nothing.
+    Empty,
+}
+
+/// What the kernel answers to a request.
+#[derive(Clone, Debug)]
+pub struct Nlmsgerr<T> {
+    error: i32,
+    nlmsg: NlmsghdrAck<T>,
+    ext_ack: AttrList<Nlattr<NlmsgerrAttr>>,
+}
+
+/// The header of the request that is answered; of the end of a dump, zeros.
+#[derive(Clone, Debug, PartialEq, Eq)]
+pub struct NlmsghdrAck<T> {
+    nl_len: u32,
+    nl_type: T,
+    nl_flags: NlmF,
+    nl_seq: u32,
+    nl_pid: u32,
+}
+
+impl<T> NlmsghdrAck<T> {
+    /// The length that the request stated.
+    pub fn nl_len(&self) -> u32 {
+        self.nl_len
+    }
+
+    /// Its type.
+    pub fn nl_type(&self) -> &T {
+        &self.nl_type
+    }
+
+    /// Its flags.
+    pub fn nl_flags(&self) -> &NlmF {
+        &self.nl_flags
+    }
+
+    /// Its sequence number.
+    pub fn nl_seq(&self) -> &u32 {
+        &self.nl_seq
+    }
+
+    /// The port that it came from.
+    pub fn nl_pid(&self) -> &u32 {
+        &self.nl_pid
+    }
+}
+
+impl<T> Nlmsgerr<T> {
+    /// 0, or an error number of Linux, negated.
+    pub fn error(&self) -> i32 {
+        self.error
+    }
+
+    /// The header of the request.
+    pub fn nlmsg(&self) -> &NlmsghdrAck<T> {
+        &self.nlmsg
+    }
+
+    /// The attributes of the extended acknowledgement.
+    pub fn ext_ack(&self) -> AttrHandle<'_, Nlattr<NlmsgerrAttr>> {
+        self.ext_ack.get_attr_handle()
+    }
+
+    /// What the kernel says in words.
+    pub fn text(&self) -> Option<String> {
+        self.ext_ack().get_attr_payload_as_with_len(NlmsgerrAttr::Msg).ok()
+    }
+
+    /// Where in the request the kernel found what it refuses, in bytes from the front of its header.
+    pub fn offset(&self) -> Option<u32> {
+        self.ext_ack().get_attr_payload_as(NlmsgerrAttr::Offset).ok()
+    }
+
+    fn with_number(self) -> Nlmsgerr<u16>
+    where
+        T: NlType,
+    {
+        let NlmsghdrAck { nl_len, nl_type, nl_flags, nl_seq, nl_pid } = self.nlmsg;
+        let nlmsg = NlmsghdrAck { nl_len, nl_type: nl_type.into(), nl_flags, nl_seq, nl_pid };
+        Nlmsgerr { error: self.error, nlmsg, ext_ack: self.ext_ack }
+    }
+}
+
+/// The meaning of the error number, and the text and the offset where the kernel gives them.
+impl<T> fmt::Display for Nlmsgerr<T> {
+    fn fmt(&self, f: &mut fmt::Formatter<'_>) -> fmt::Result {
+        write!(f, "{}", io::Error::from_raw_os_error(self.error.wrapping_neg()))?;
+        if let Some(text) = self.text() {
+            write!(f, ": {text}")?;
+        }
+        if let Some(offset) = self.offset() {
+            write!(f, ", at byte {offset} of the request")?;
+        }
+        Ok(())
+    }
+}
+
+impl<T, P> Nlmsghdr<T, P> {
+    /// The length that the header states, in bytes, padding left out.
+    pub fn nl_len(&self) -> u32 {
+        self.nl_len
+    }
+
+    /// What the message is.
+    pub fn nl_type(&self) -> &T {
+        &self.nl_type
+    }
+
+    /// Its flags.
+    pub fn nl_flags(&self) -> &NlmF {
+        &self.nl_flags
+    }
+
+    /// Its sequence number: a reply has that of its request.
+    pub fn nl_seq(&self) -> &u32 {
+        &self.nl_seq
+    }
+
+    /// The port of the one who asks.
+    pub fn nl_pid(&self) -> &u32 {
+        &self.nl_pid
+    }
+
+    /// What it carries.
+    pub fn nl_payload(&self) -> &NlPayload<T, P> {
+        &self.nl_payload
+    }
+
+    /// The body, where there is one.
+    pub fn get_payload(&self) -> Option<&P> {
+        match &self.nl_payload {
+            NlPayload::Payload(body) => Some(body),
+            _ => None,
+        }
+    }
+
+    /// The error, where it is one.
+    pub fn get_err(&self) -> Option<&Nlmsgerr<T>> {
+        match &self.nl_payload {
+            NlPayload::Err(answer) => Some(answer),
+            _ => None,
+        }
+    }
+}
+
+impl<T: NlType, P: FromBytes> Nlmsghdr<T, P> {
+    /// The message that lies in these bytes.
+    pub(crate) fn of_message(bytes: &[u8], head: &ffi::Message) -> Result<Self, DeError> {
+        let payload = &bytes[head.payload..][..head.payload_length];
+        let nl_payload = match head.kind {
+            ERROR => match answer_in(bytes, head)? {
+                answer if answer.error == 0 => NlPayload::Ack(answer),
+                answer => NlPayload::Err(answer),
+            },
+            DONE if head.flags & NlmF::MULTI.bits() != 0 && !payload.is_empty() => {
+                NlPayload::DumpExtAck(answer_in(bytes, head)?)
+            }
+            _ if payload.is_empty() => P::from_bytes(payload).map_or(NlPayload::Empty, NlPayload::Payload),
+            _ => NlPayload::Payload(P::from_bytes(payload)?),
+        };
+        Ok(Nlmsghdr {
+            nl_len: head.length,
+            nl_type: T::from(head.kind),
+            nl_flags: NlmF::from_bits_retain(head.flags),
+            nl_seq: head.number,
+            nl_pid: head.port,
+            nl_payload,
+        })
+    }
+
+    /// The one message that these bytes are, padding left out.
+    pub(crate) fn of_bytes(bytes: &[u8]) -> Result<Self, DeError> {
+        let mut padded = bytes.to_vec();
+        padded.resize(bytes.len().next_multiple_of(4), 0);
+        let mut walk = ffi::Walk { place: 0, end: padded.len() };
+        let mut head = ffi::Message::default();
+        match ffi::next_message(&padded, &mut walk, &mut head) {
+            ffi::ITEM => Self::of_message(&padded, &head),
+            code => Err(refused(code).into()),
+        }
+    }
+}
+
+impl<T: NlType, P> Nlmsghdr<T, P> {
+    /// The answer by which the kernel refuses, with its type as a number.
+    pub(crate) fn into_err(self) -> Option<Nlmsgerr<u16>> {
+        match self.nl_payload {
+            NlPayload::Err(answer) => Some(answer.with_number()),
+            _ => None,
+        }
+    }
+}
+
+fn answer_in<T: NlType>(bytes: &[u8], head: &ffi::Message) -> Result<Nlmsgerr<T>, DeError> {
+    let mut found = ffi::Answer::default();
+    done(ffi::get_answer(bytes, head, &mut found))?;
+    Ok(Nlmsgerr {
+        error: found.code,
+        nlmsg: NlmsghdrAck {
+            nl_len: found.echo_length,
+            nl_type: T::from(found.echo_type),
+            nl_flags: NlmF::from_bits_retain(found.echo_flags),
+            nl_seq: found.echo_number,
+            nl_pid: found.echo_port,
+        },
+        ext_ack: AttrList::from_bytes(&bytes[found.attributes.place..found.attributes.end])?,
+    })
+}
+
+/// The messages of a datagram, and then its fault, if it has one.
+#[derive(Clone, Debug)]
+pub struct NlBufferIter<T, P> {
+    bytes: Vec<u8>,
+    walk: ffi::Walk,
+    of: PhantomData<(T, P)>,
+}
+
+impl<T, P> NlBufferIter<T, P> {
+    pub(crate) fn new(bytes: Vec<u8>) -> Self {
+        let walk = ffi::Walk { place: 0, end: bytes.len() };
+        NlBufferIter { bytes, walk, of: PhantomData }
+    }
+}
+
+impl<T: NlType, P: FromBytes> Iterator for NlBufferIter<T, P> {
+    type Item = Result<Nlmsghdr<T, P>, DeError>;
+
+    fn next(&mut self) -> Option<Self::Item> {
+        let mut head = ffi::Message::default();
+        match ffi::next_message(&self.bytes, &mut self.walk, &mut head) {
+            ffi::ITEM => Some(Nlmsghdr::of_message(&self.bytes, &head)),
+            ffi::END => None,
+            code => {
+                self.walk.place = self.walk.end;
+                Some(Err(refused(code).into()))
+            }
+        }
+    }
+}
+
+/// Makes an [`Nlmsghdr`].
+#[derive(Clone, Debug)]
+pub struct NlmsghdrBuilder<T, P> {
+    nl_type: Option<T>,
+    nl_flags: NlmF,
+    nl_seq: u32,
+    nl_pid: u32,
+    nl_payload: Option<NlPayload<T, P>>,
+}
+
+impl<T, P> Default for NlmsghdrBuilder<T, P> {
+    fn default() -> Self {
+        NlmsghdrBuilder { nl_type: None, nl_flags: NlmF::empty(), nl_seq: 0, nl_pid: 0, nl_payload: None }
+    }
+}
+
+impl<T: NlType, P: ToBytes> NlmsghdrBuilder<T, P> {
+    /// What the message is.
+    pub fn nl_type(mut self, nl_type: T) -> Self {
+        self.nl_type = Some(nl_type);
+        self
+    }
+
+    /// Its flags; none, if they are not given.
+    pub fn nl_flags(mut self, flags: NlmF) -> Self {
+        self.nl_flags = flags;
+        self
+    }
+
+    /// Its sequence number; 0, if it is not given.
+    pub fn nl_seq(mut self, number: u32) -> Self {
+        self.nl_seq = number;
+        self
+    }
+
+    /// Its port; 0, which the kernel takes for that of the socket, if it is not given.
+    pub fn nl_pid(mut self, port: u32) -> Self {
+        self.nl_pid = port;
+        self
+    }
+
+    /// What it carries.
+    pub fn nl_payload(mut self, payload: NlPayload<T, P>) -> Self {
+        self.nl_payload = Some(payload);
+        self
+    }
+
+    /// The message, where type and payload were given.
+    pub fn build(self) -> Result<Nlmsghdr<T, P>, BuildError> {
+        let nl_type = self.nl_type.ok_or(UninitializedFieldError("nl_type"))?;
+        let nl_payload = self.nl_payload.ok_or(UninitializedFieldError("nl_payload"))?;
+        let mut made = Nlmsghdr {
+            nl_len: 0,
+            nl_type,
+            nl_flags: self.nl_flags,
+            nl_seq: self.nl_seq,
+            nl_pid: self.nl_pid,
+            nl_payload,
+        };
+        made.nl_len = made.to_message()?.len() as u32;
+        Ok(made)
+    }
+}
+
+impl<T, P: ToBytes> NlPayload<T, P> {
+    /// The bytes of a body; none of another kind, which a program does not send.
+    pub(crate) fn body(&self) -> Result<Vec<u8>, SerError> {
+        let mut out = Vec::new();
+        if let NlPayload::Payload(body) = self {
+            body.to_bytes(&mut out)?;
+        }
+        Ok(out)
+    }
+}
+
+impl<T: NlType, P: ToBytes> Nlmsghdr<T, P> {
+    /// The bytes of the message, with its padding.
+    pub(crate) fn to_message(&self) -> Result<Vec<u8>, SerError> {
+        let body = self.nl_payload.body()?;
+        let head = ffi::Message {
+            kind: self.nl_type.into(),
+            flags: self.nl_flags.bits(),
+            number: self.nl_seq,
+            port: self.nl_pid,
+            ..ffi::Message::default()
+        };
+        let mut out = vec![0; 16 + body.len().next_multiple_of(4)];
+        let mut writer = ffi::Writer::default();
+        done(ffi::begin_message(&mut out, &mut writer, &head))?;
+        done(ffi::put_bytes(&mut out, &mut writer, &body))?;
+        done(ffi::end_message(&mut out, &writer))?;
+        Ok(out)
+    }
+}
+
+/// With its padding.
+impl<T: NlType, P: ToBytes> ToBytes for Nlmsghdr<T, P> {
+    fn to_bytes(&self, out: &mut Vec<u8>) -> Result<(), SerError> {
+        out.extend(self.to_message()?);
+        Ok(())
+    }
+}

@@ -1,0 +1,204 @@
+//! Bodies of routing: links, addresses and routes, with what makes them.
+
+use crate::attr::RtBuffer;
+use crate::consts::rtnl::{Arphrd, Ifa, IfaF, Iff, Ifla, RtAddrFamily, RtScope, RtTable, Rta, RtmF, Rtn, Rtprot};
+use crate::err::{BuildError, DeError, SerError, UninitializedFieldError};
+use crate::types::Buffer;
+use crate::{Fields, FromBytes, ToBytes};
+
+pub use crate::attr::{RtAttrHandle, Rtattr, RtattrBuilder};
+
+/// A body of fields and attributes, its getters, its builder, and how it is written and read. A field is
+/// `name: type as number`; zeros stand before it where `gap` says how many.
+macro_rules! body {
+    (
+        $(#[$doc:meta])*
+        $body:ident, $builder:ident, $size:literal bytes, attributes $attribute:ty;
+        $($(#[$says:meta])* $([gap $gap:literal])? $field:ident: $kind:ty as $number:ty $(= $default:expr)?,)*
+    ) => {
+        $(#[$doc])*
+        #[derive(Clone, Debug, PartialEq, Eq)]
+        pub struct $body {
+            $($field: $kind,)*
+            rtattrs: RtBuffer<$attribute, Buffer>,
+        }
+
+        impl $body {
+            $(
+                $(#[$says])*
+                pub fn $field(&self) -> &$kind {
+                    &self.$field
+                }
+            )*
+
+            /// The attributes.
+            pub fn rtattrs(&self) -> &RtBuffer<$attribute, Buffer> {
+                &self.rtattrs
+            }
+        }
+
+        #[doc = concat!("Makes an [`", stringify!($body), "`].")]
+        #[derive(Clone, Debug, Default)]
+        pub struct $builder {
+            $($field: Option<$kind>,)*
+            rtattrs: RtBuffer<$attribute, Buffer>,
+        }
+
+        impl $builder {
+            $(
+                $(#[$says])*
+                pub fn $field(mut self, value: $kind) -> Self {
+                    self.$field = Some(value);
+                    self
+                }
+            )*
+
+            /// The attributes; none, if they are not given.
+            pub fn rtattrs(mut self, attributes: RtBuffer<$attribute, Buffer>) -> Self {
+                self.rtattrs = attributes;
+                self
+            }
+
+            /// The body, where each field without a default was given.
+            pub fn build(self) -> Result<$body, BuildError> {
+                Ok($body {
+                    $($field: body!(@field self.$field, stringify!($field) $(, $default)?),)*
+                    rtattrs: self.rtattrs,
+                })
+            }
+        }
+
+        impl ToBytes for $body {
+            fn to_bytes(&self, out: &mut Vec<u8>) -> Result<(), SerError> {
+                $(
+                    $(out.extend([0; $gap]);)?
+                    <$number>::from(self.$field).to_bytes(out)?;
+                )*
+                self.rtattrs.to_bytes(out)
+            }
+        }
+
+        impl FromBytes for $body {
+            fn from_bytes(bytes: &[u8]) -> Result<Self, DeError> {
+                let (mut fields, rest) = Fields::of(bytes, $size)?;
+                $(
+                    $(let _: [u8; $gap] = fields.next()?;)?
+                    let $field = fields.next::<$number>()?.into();
+                )*
+                Ok($body { $($field,)* rtattrs: RtBuffer::from_bytes(rest)? })
+            }
+        }
+    };
+    (@field $value:expr, $name:expr) => {
+        $value.ok_or(UninitializedFieldError($name))?
+    };
+    (@field $value:expr, $name:expr, $default:expr) => {
+        $value.unwrap_or($default)
+    };
+}
+
+impl From<Iff> for u32 {
+    fn from(flags: Iff) -> u32 {
+        flags.bits()
+    }
+}
+
+impl From<u32> for Iff {
+    fn from(bits: u32) -> Iff {
+        Iff::from_bits_retain(bits)
+    }
+}
+
+impl From<IfaF> for u8 {
+    fn from(flags: IfaF) -> u8 {
+        flags.bits()
+    }
+}
+
+impl From<u8> for IfaF {
+    fn from(bits: u8) -> IfaF {
+        IfaF::from_bits_retain(bits)
+    }
+}
+
+impl From<RtmF> for u32 {
+    fn from(flags: RtmF) -> u32 {
+        flags.bits()
+    }
+}
+
+impl From<u32> for RtmF {
+    fn from(bits: u32) -> RtmF {
+        RtmF::from_bits_retain(bits)
+    }
+}
+
+body! {
+    /// A link: `struct ifinfomsg`, 16 bytes, and attributes.
+    Ifinfomsg, IfinfomsgBuilder, 16 bytes, attributes Ifla;
+    /// The address family.
+    ifi_family: RtAddrFamily as u8,
+    /// The hardware's type; none, if it is not given.
+    [gap 1] ifi_type: Arphrd as u16 = Arphrd::of(0),
+    /// The index; 0, which is none, if it is not given.
+    ifi_index: i32 as i32 = 0,
+    /// The flags; none, if they are not given.
+    ifi_flags: Iff as u32 = Iff::empty(),
+    /// Which flags are to be changed; none, if they are not given.
+    ifi_change: Iff as u32 = Iff::empty(),
+}
+
+impl IfinfomsgBuilder {
+    /// The link is to be set up.
+    pub fn up(mut self) -> Self {
+        self.ifi_flags = Some(self.ifi_flags.unwrap_or_default() | Iff::UP);
+        self.ifi_change = Some(self.ifi_change.unwrap_or_default() | Iff::UP);
+        self
+    }
+
+    /// The link is to be set down.
+    pub fn down(mut self) -> Self {
+        let flags = self.ifi_flags.unwrap_or_default().bits() & !Iff::UP.bits();
+        self.ifi_flags = Some(Iff::from_bits_retain(flags));
+        self.ifi_change = Some(self.ifi_change.unwrap_or_default() | Iff::UP);
+        self
+    }
+}
+
+body! {
+    /// An address of a link: `struct ifaddrmsg`, 8 bytes, and attributes.
+    Ifaddrmsg, IfaddrmsgBuilder, 8 bytes, attributes Ifa;
+    /// The address family.
+    ifa_family: RtAddrFamily as u8,
+    /// How many bits of the address are those of the net.
+    ifa_prefixlen: u8 as u8,
+    /// The flags; none, if they are not given.
+    ifa_flags: IfaF as u8 = IfaF::empty(),
+    /// How far the address is valid.
+    ifa_scope: RtScope as u8,
+    /// The index of the link.
+    ifa_index: u32 as u32,
+}
+
+body! {
+    /// A route: `struct rtmsg`, 12 bytes, and attributes.
+    Rtmsg, RtmsgBuilder, 12 bytes, attributes Rta;
+    /// The address family.
+    rtm_family: RtAddrFamily as u8,
+    /// How many bits of the destination count.
+    rtm_dst_len: u8 as u8,
+    /// How many bits of the source count.
+    rtm_src_len: u8 as u8,
+    /// The type of service.
+    rtm_tos: u8 as u8,
+    /// The table.
+    rtm_table: RtTable as u8,
+    /// Who made the route.
+    rtm_protocol: Rtprot as u8,
+    /// How far the destination is.
+    rtm_scope: RtScope as u8,
+    /// What is done with a packet.
+    rtm_type: Rtn as u8,
+    /// The flags; none, if they are not given.
+    rtm_flags: RtmF as u32 = RtmF::empty(),
+}
