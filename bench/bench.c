@@ -1,10 +1,11 @@
 /*
- * Times reading netlink dumps by this library and by libmnl.
+ * Times reading netlink dumps by this library and by libmnl, from C and within one export.
  *
  * Each dump is repeated in memory up to 1, 4 and 16 MB. Each reader walks the same bytes and adds up the
  * same numbers: the lengths that the messages state, or the types of the attributes and the lengths of their
  * payloads. A reader that finds a fault, or another sum than libmnl, ends the run with status 1.
  */
+#include "neli.h"
 #include <libmnl/libmnl.h>
 #include <linux/rtnetlink.h>
 #include <stdbool.h>
@@ -17,7 +18,7 @@
 #define MEGABYTE (1u << 20)
 #define LARGEST (16 * MEGABYTE)
 #define SIZES 3
-#define READERS 3
+#define READERS 4
 #ifndef ROUNDS
 #define ROUNDS 40
 #endif
@@ -100,6 +101,53 @@ static bool mnl_link_attributes(const uint8_t *bytes, size_t length, uint64_t *t
 static bool mnl_route_attributes(const uint8_t *bytes, size_t length, uint64_t *total)
 {
 	return mnl_attributes(bytes, length, sizeof(struct rtmsg), total);
+}
+
+/* ---- this library, by its calls for C */
+
+static bool call_headers(const uint8_t *bytes, size_t length, uint64_t *total)
+{
+	struct neli_walk walk = { 0, length };
+	struct neli_message message;
+	uint64_t sum = 0;
+	int32_t code;
+
+	while ((code = neli_next_message(bytes, length, &walk, &message)) == NELI_ITEM)
+		sum += message.length;
+	*total = sum;
+	return code == NELI_END;
+}
+
+static inline bool call_attributes(const uint8_t *bytes, size_t length, size_t header, uint64_t *total)
+{
+	struct neli_walk walk = { 0, length };
+	struct neli_message message;
+	uint64_t sum = 0;
+	int32_t code;
+
+	while ((code = neli_next_message(bytes, length, &walk, &message)) == NELI_ITEM) {
+		struct neli_walk attributes;
+		struct neli_attribute attribute;
+
+		if (neli_attributes_of(&message, header, &attributes) != NELI_OK)
+			return false;
+		while ((code = neli_next_attribute(bytes, length, &attributes, &attribute)) == NELI_ITEM)
+			sum += attribute.number + attribute.payload_length;
+		if (code != NELI_END)
+			return false;
+	}
+	*total = sum;
+	return code == NELI_END;
+}
+
+static bool call_link_attributes(const uint8_t *bytes, size_t length, uint64_t *total)
+{
+	return call_attributes(bytes, length, sizeof(struct ifinfomsg), total);
+}
+
+static bool call_route_attributes(const uint8_t *bytes, size_t length, uint64_t *total)
+{
+	return call_attributes(bytes, length, sizeof(struct rtmsg), total);
 }
 
 /* ---- the bytes */
@@ -268,20 +316,24 @@ int main(int argc, char **argv)
 	struct subject links[] = {
 		{ "headers",
 		  { { .name = "libmnl", .run = mnl_headers },
+		    { .name = "calls", .run = call_headers },
 		    { .name = "lent", .run = neli_bench_lent_headers },
 		    { .name = "owned", .run = neli_bench_owned_headers } } },
 		{ "attributes",
 		  { { .name = "libmnl", .run = mnl_link_attributes },
+		    { .name = "calls", .run = call_link_attributes },
 		    { .name = "lent", .run = neli_bench_lent_link_attributes },
 		    { .name = "owned", .run = neli_bench_owned_link_attributes } } },
 	};
 	struct subject routes[] = {
 		{ "headers",
 		  { { .name = "libmnl", .run = mnl_headers },
+		    { .name = "calls", .run = call_headers },
 		    { .name = "lent", .run = neli_bench_lent_headers },
 		    { .name = "owned", .run = neli_bench_owned_headers } } },
 		{ "attributes",
 		  { { .name = "libmnl", .run = mnl_route_attributes },
+		    { .name = "calls", .run = call_route_attributes },
 		    { .name = "lent", .run = neli_bench_lent_route_attributes },
 		    { .name = "owned", .run = neli_bench_owned_route_attributes } } },
 	};

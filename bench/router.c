@@ -1,7 +1,9 @@
-/* Times the router of this library by the program `neli_tool replay`, a process for each run.
+/* Times the router of this library by the program `neli_tool replay`, and through the calls for C, a process for each
+ * run.
  *
- * A script opens handles, hands in messages of 16 bytes, a datagram each, and reads them. What the program prints is
- * counted; where a count is not what it has to be, the driver ends with status 1. */
+ * A script opens handles, hands in messages of 16 bytes, a datagram each, and reads them. What the program prints, and
+ * what the calls answer, is counted; where a count is not what it has to be, the driver ends with status 1. */
+#include "neli.h"
 #include <stdbool.h>
 #include <stdio.h>
 #include <stdlib.h>
@@ -58,6 +60,23 @@ static unsigned count(FILE *in, const char *word) {
     return found;
 }
 
+/* How many messages a script reads. */
+static unsigned items_of(const struct script *s) {
+    return s->over && !s->dropped ? s->messages : 0;
+}
+
+/* What a process took, which has to end with status 0. */
+static struct cost cost_of(pid_t child, const char *otherwise) {
+    int status;
+    struct rusage use;
+    if (wait4(child, &status, 0, &use) != child || status) fail(otherwise);
+    struct cost cost = {
+        use.ru_utime.tv_sec + use.ru_stime.tv_sec + (use.ru_utime.tv_usec + use.ru_stime.tv_usec) / 1e6,
+        use.ru_maxrss,
+    };
+    return cost;
+}
+
 static struct cost run(const char *tool, const struct script *s) {
     FILE *in = tmpfile(), *out = tmpfile();
     if (!in || !out) fail("no temporary file");
@@ -73,24 +92,73 @@ static struct cost run(const char *tool, const struct script *s) {
         execl(tool, tool, "replay", (char *)NULL);
         _exit(127);
     }
-    int status;
-    struct rusage use;
-    if (wait4(child, &status, 0, &use) != child || status) fail("neli_tool did not end with status 0");
-    unsigned items = s->over && !s->dropped ? s->messages : 0;
+    struct cost cost = cost_of(child, "neli_tool did not end with status 0");
     if (count(out, "sent ") != s->open) fail("not all handles were opened");
-    if (count(out, "item ") != items) fail("not each message was read once");
+    if (count(out, "item ") != items_of(s)) fail("not each message was read once");
     if (count(out, "error ") || count(out, "refused ") || count(out, "bad ")) fail("something was refused");
     fclose(in);
     fclose(out);
-    struct cost cost = {
-        use.ru_utime.tv_sec + use.ru_stime.tv_sec + (use.ru_utime.tv_usec + use.ru_stime.tv_usec) / 1e6,
-        use.ru_maxrss,
-    };
     return cost;
 }
 
+/* ---- through the calls for C */
+
+/* Hands in a message of type 16 with flag MULTI, for this number. */
+static void hand_in(struct neli_router *router, bool dropped, uint32_t number) {
+    static const uint32_t group = 1;
+    uint8_t message[16] = {16, 0, 0, 0, 16, 0, 2, 0};
+    memcpy(message + 8, &number, sizeof number);
+    int32_t code = neli_router_datagram(router, message, sizeof message, &group, dropped);
+    if (code != NELI_OK) fail("a datagram is refused");
+}
+
+/* Reads a message and its bytes; one that was dropped is not there. */
+static unsigned read_one(struct neli_router *router, size_t handle) {
+    struct neli_item item;
+    uint8_t bytes[16];
+    size_t length;
+    int32_t code = neli_router_read(router, handle, &item);
+    if (code == NELI_WAITS) return 0;
+    if (code != NELI_ITEM || neli_router_item(router, bytes, sizeof bytes, &length) != NELI_OK || length != 16)
+        fail("a message is not read");
+    return 1;
+}
+
+/* Does what a script says, and ends the process. */
+static void play(const struct script *s) {
+    struct neli_router router = NELI_ROUTER_CLOSED;
+    size_t *handles = malloc(s->open * sizeof *handles);
+    unsigned items = 0;
+    if (!handles || neli_router_new(&router, 0) != NELI_OK) fail("no memory");
+    for (unsigned i = 0; i < s->open; i++) {
+        struct neli_sent sent;
+        uint8_t out[16];
+        if (neli_router_send(&router, 16, 0, NULL, 0, out, sizeof out, &sent) != NELI_OK) fail("no handle");
+        handles[i] = sent.handle;
+    }
+    if (s->dropped) neli_router_close(&router, NELI_MULTICAST);
+    for (unsigned i = 0; i < s->messages; i += s->batch) {
+        for (unsigned k = i; k < i + s->batch; k++) hand_in(&router, s->dropped, s->over ? k % s->over : ~0u);
+        for (unsigned k = i; s->over && k < i + s->batch; k++) items += read_one(&router, handles[k % s->over]);
+    }
+    _exit(items != items_of(s));
+}
+
+/* The tool is not needed. */
+static struct cost run_calls(const char *tool, const struct script *s) {
+    (void)tool;
+    pid_t child = fork();
+    if (child < 0) fail("no process");
+    if (!child) play(s);
+    return cost_of(child, "not each message was read once through C");
+}
+
+/* ---- the table */
+
+typedef struct cost runner(const char *tool, const struct script *s);
+
 /* The best of some runs. */
-static struct cost best(const char *tool, struct script s) {
+static struct cost best(runner *run, const char *tool, struct script s) {
     struct cost least = run(tool, &s);
     for (int i = 1; i < ROUNDS; i++) {
         struct cost next = run(tool, &s);
@@ -100,15 +168,23 @@ static struct cost best(const char *tool, struct script s) {
     return least;
 }
 
-/* A line of the table: a script, and the same one with its messages dropped. */
-static void compare(const char *tool, struct script kept, unsigned first, unsigned second) {
+/* A script, and the same one with its messages dropped. */
+static void compare_by(runner *run, const char *tool, struct script kept) {
     struct script dropped = kept;
     dropped.dropped = true;
-    struct cost all = best(tool, kept), rest = best(tool, dropped);
+    struct cost all = best(run, tool, kept), rest = best(run, tool, dropped);
     double each = 1e9 / kept.messages;
-    printf("%8u %9u %9.0f %9.0f %11.0f %9.1f %9.1f\n", first, second, all.seconds * each,
-           rest.seconds * each, (all.seconds - rest.seconds) * each, all.kilobytes / 1024.0,
-           rest.kilobytes / 1024.0);
+    printf(" %7.0f %7.0f %7.0f %7.1f", all.seconds * each, rest.seconds * each, (all.seconds - rest.seconds) * each,
+           all.kilobytes / 1024.0);
+}
+
+/* A line of the table. */
+static void compare(const char *tool, struct script kept, unsigned first, unsigned second) {
+    printf("%8u %8u ", first, second);
+    compare_by(run, tool, kept);
+    printf("  ");
+    compare_by(run_calls, tool, kept);
+    printf("\n");
     fflush(stdout);
 }
 
@@ -119,16 +195,16 @@ int main(int argc, char **argv) {
         return 2;
     }
     printf("%d messages of 16 bytes, a datagram each, with %d open handles\n\n", MESSAGES, OPEN);
-    puts(" waiting   handles        ns for each message                 MB");
-    puts(" at most  they are       all   dropped  difference       all   dropped");
+    puts(" waiting  handles     neli_tool: ns a message      MB      through C: ns a message      MB");
+    puts(" at most they are      all dropped  differ     all        all dropped  differ     all");
     for (unsigned batch = 1000; batch <= MESSAGES; batch *= 1000)
         for (int i = 0; i < 3; i++) {
             struct script script = {OPEN, MESSAGES, handles[i], batch, false};
             compare(argv[1], script, batch, handles[i]);
         }
     printf("\n%d strays, of which none is read\n\n", STRAYS);
-    puts("                           ns for each stray                  MB");
-    puts("  strays      open       all   dropped  difference       all   dropped");
+    puts("                      neli_tool: ns a stray        MB      through C: ns a stray        MB");
+    puts("  strays     open      all dropped  differ     all        all dropped  differ     all");
     for (int i = 0; i < 3; i++) {
         struct script script = {handles[i], STRAYS, 0, STRAYS, false};
         compare(argv[1], script, STRAYS, handles[i]);
