@@ -49,9 +49,13 @@ pub fn attribute(rt: &impl Abort, alloc: Global, number: u16, payload: &[u8]) ->
         .extend_from_slice(&number.to_le_bytes())
         .expect(rt, "memory");
     bytes.extend_from_slice(payload).expect(rt, "memory");
-    while bytes.len() % 4 != 0 {
-        bytes.push(0).expect(rt, "memory");
-    }
+    let zeros: &[u8] = match bytes.len() % 4 {
+        1 => b"\0\0\0",
+        2 => b"\0\0",
+        3 => b"\0",
+        _ => b"",
+    };
+    bytes.extend_from_slice(zeros).expect(rt, "memory");
     bytes
 }
 
