@@ -35,7 +35,7 @@ module _ {T P : Type 0} (number_of : T → ℕ) (wire : P → Wire) where
 -- ---- acknowledgements and errors
 
 -- the flags of an answer fit their field
-flags-fit : (n : ℕ) (attrs : Attributes) → n < 65536 → (answer_flags (flags_of n) attrs).0 < 65536
+pub flags-fit : (n : ℕ) (attrs : Attributes) → n < 65536 → (answer_flags (flags_of n) attrs).0 < 65536
 flags-fit n [] lt = lt
 flags-fit n (a ∷ attrs) lt = or_lt 16 n 512 lt (omega arith)
 

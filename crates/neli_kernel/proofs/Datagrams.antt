@@ -7,7 +7,7 @@ use Rattle.std.proofs.lemmas.List.Concat.{flat_map-append}
 use Rattle.std.proofs.lemmas.List.Elements.{All-nil, All-pop, All-push}
 use Rattle.neli_wire.specs.SerError.{SerError}
 use Rattle.neli_wire.specs.SerError.TheVariants as ser
-use Rattle.neli_msg.specs.Cuts.{Cut, cut_of, messages_before}
+use Rattle.neli_msg.specs.Cuts.{Cut, messages_before}
 use Rattle.neli_msg.specs.laws.Cuts.{cut_of-end, cut_of-join}
 use Rattle.neli_msg.specs.laws.Messages.{layout_with-placed}
 use Rattle.neli_lent.specs.Messages.{Lent, lent_message, messages_in}

@@ -1,18 +1,20 @@
 -- Messages as a router keeps and delivers them.
-use Rattle.std.proofs.Common.{◌≡◌, ◌≢◌, ℕ, ◌+◌, ◌-◌, All, Bool, true, false, ltb, List, [], ◌∷◌, ◌++◌, length, map, take, drop, Option, Some, None, Result, Ok, Err, refl, sym, ap, subst, ◌∙◌, arith}
+use Rattle.std.proofs.Common.{◌≡◌, ◌≢◌, ℕ, ◌+◌, ◌-◌, All, Bool, true, false, ltb, List, [], ◌∷◌, ◌++◌, length, map, take, drop, Option, Some, None, Result, Ok, Err, refl, sym, ap, subst, ◌∙◌, arith, length-append}
 use Rattle.std.specs.Prelude.{ℤ, FitsSigned, flat_map, nat_eq}
-use Rattle.std.specs.Int.{w32}
-use Rattle.std.proofs.lemmas.Bool.{eq-eqb, ne_eqb}
-use Rattle.std.proofs.lemmas.List.{append-nil, map-append}
+use Rattle.std.specs.Int.{w32, cast_signed, cast_unsigned}
+use Rattle.std.proofs.Math.Facts.{Fits-of_z}
+use Rattle.std.proofs.lemmas.Bool.{eq-eqb, le-ltb, ne_eqb}
+use Rattle.std.proofs.lemmas.Int.{to_z-of_z}
+use Rattle.std.proofs.lemmas.List.{append-nil, drop_at, map-append}
 use Rattle.std.proofs.lemmas.List.Elements.{All-cons, All-head, All-nil, All-push, All-tail}
+use Rattle.byteorder.specs.Numbers.{little_number-reads_back}
 use Rattle.neli_wire.specs.DeError.{DeError}
-use Rattle.neli_wire.specs.Frames.{IsFrame}
+use Rattle.neli_wire.specs.Frames.{IsFrame, number_in}
 use Rattle.neli_wire.specs.Numbers.{signed_bytes, signed_number}
 use Rattle.neli_wire.specs.Reading.{◌>>=◌}
 use Rattle.neli_wire.specs.Sizes.{align}
 use Rattle.neli_wire.specs.Writing.{Wire, zeros_for}
-use Rattle.neli_wire.specs.laws.Elements.{elements_by}
-use Rattle.neli_wire.specs.laws.Numbers.{count-signed, reads_back-signed}
+use Rattle.neli_wire.specs.laws.Numbers.{count-signed}
 use Rattle.neli_wire.specs.laws.Reading.{ok_is}
 use Rattle.neli_consts.specs.declared.nlm_f.NlmF.{NlmF}
 use Rattle.neli_msg.specs.Answers.{Attributes, after, answer, dump_end_in, ext_ack_in}
@@ -24,13 +26,13 @@ use Rattle.neli_msg.specs.Headers.{Header}
 use Rattle.neli_msg.specs.Kinds.{is_multi, payload_in}
 use Rattle.neli_msg.specs.NlPayload.{NlPayload}
 use Rattle.neli_msg.specs.NlPayload.TheVariants as payload
-use Rattle.neli_msg.specs.laws.Cuts.{CutsEach, cut_of-each, cut_of-is, drop_whole}
+use Rattle.neli_msg.specs.laws.Cuts.{CutsEach, cut_of-each, cut_of-is}
 use Rattle.neli_msg.specs.laws.Messages.{layout_with-placed}
 use Rattle.neli_lent.specs.Messages.{Lent, lent_message, messages_in}
 use Rattle.neli_deliveries.specs.Deliveries.{Untyped, datagram_share, message, message_to, messages_to}
 use Rattle.neli_deliveries.specs.declared.delivery.Delivery.{Delivery}
 use Rattle.neli_kernel.specs.Datagrams.{AreRead, HasNoFault, messages_of}
-use Rattle.neli_kernel.specs.Delivered.{IsFor, IsPlain, IsReply, kept, reply_kept, shares, untyped}
+use Rattle.neli_kernel.specs.Delivered.{AreReadBack, IsFor, IsPlain, IsReply, kept, reply_kept, shares, untyped}
 use Rattle.neli_kernel.proofs.Answers.{one-message}
 
 abbrev same : ℕ → ℕ
@@ -47,32 +49,31 @@ payload-plain number flags s v plain is =
 pub untyped-plain : (m : Lent ℕ) → IsPlain m.0.message_type → untyped m ≡ Ok (kept m)
 untyped-plain m plain = rw (payload-plain m.0.message_type m.0.flags m.1 m.1 plain refl) refl
 
--- ---- the end of a dump, without attributes
-
-pub no-attributes : ext_ack_in [] ≡ Ok []
-unfolding elements_by
-no-attributes = refl
+-- ---- the end of a dump
 
 abbrev end_with : List ℕ → Attributes → Result (Nlmsgerr (Unit {0})) DeError
 end_with s attrs = Ok (answer (signed_number w32 4 s) tt attrs)
 
-end-read : (flags : NlmF) (s : List ℕ) (code : ℤ) → length s ≡ 4 → drop 4 s ≡ [] → signed_number w32 4 s ≡ code → is_multi flags ≡ true → payload_in same (λ bytes. Ok bytes) 3 flags s ≡ Ok (payload.DumpExtAck (answer code tt []))
-end-read flags s code long nothing says multi =
-    let some : nat_eq (length s) 0 ≡ false = ap (λ (n : ℕ). nat_eq n 0) long in
-    let enough : ltb (length s) 4 ≡ false = ap (λ (n : ℕ). ltb n 4) long in
-    let after_code : after 4 s ≡ Ok [] = rw (enough, nothing) refl in
-    let read : dump_end_in s ≡ Ok (answer code tt []) =
-    ap (λ (r : Result (List ℕ) DeError). r >>= λ rest. ext_ack_in rest >>= λ attrs. end_with s attrs) after_code
-    ∙ ap (λ (r : Result Attributes DeError). r >>= λ attrs. end_with s attrs) no-attributes
-    ∙ ap (λ (c : ℤ). Ok (answer c tt [])) says in
+end-read : (flags : NlmF) (s text : List ℕ) (code : ℤ) (attrs : Attributes) → length s ≡ 4 + length text → drop 4 s ≡ text → signed_number w32 4 s ≡ code → ext_ack_in text ≡ Ok attrs → is_multi flags ≡ true → payload_in same (λ bytes. Ok bytes) 3 flags s ≡ Ok (payload.DumpExtAck (answer code tt attrs))
+end-read flags s text code attrs long text_is says lists multi =
+    let some : nat_eq (length s) 0 ≡ false = ne_eqb _ _ (λ e. omega (arith, e, long)) in
+    let enough : ltb (length s) 4 ≡ false = le-ltb _ _ (omega (arith, long)) in
+    let after_code : after 4 s ≡ Ok text = rw (enough, text_is) refl in
+    let read : dump_end_in s ≡ Ok (answer code tt attrs) =
+    ap (λ (r : Result (List ℕ) DeError). r >>= λ rest. ext_ack_in rest >>= λ list. end_with s list) after_code
+    ∙ ap (λ (r : Result Attributes DeError). r >>= λ list. end_with s list) lists
+    ∙ ap (λ (c : ℤ). Ok (answer c tt attrs)) says in
     rw (some, multi) (ap (λ (r : Result (Nlmsgerr (Unit {0})) DeError). r >>= λ e. Ok (payload.DumpExtAck e)) read)
 
-pub untyped-end : (h : Header ℕ) (code : ℤ) → h.message_type ≡ 3 → is_multi h.flags ≡ true → FitsSigned w32 code → untyped (h, signed_bytes w32 4 code) ≡ Ok (h, payload.DumpExtAck (answer code tt []))
-untyped-end h code three multi fits =
-    let s : List ℕ = signed_bytes w32 4 code in
-    let long : length s ≡ 4 = count-signed w32 4 refl code in
-    let nothing : drop 4 s ≡ [] = ap (λ (n : ℕ). drop n s) (sym long) ∙ drop_whole s in
-    let read = end-read h.flags s code long nothing (reads_back-signed w32 4 refl code fits) multi in
+pub untyped-end : (h : Header ℕ) (code : ℤ) (attrs : Attributes) (text : List ℕ) → h.message_type ≡ 3 → is_multi h.flags ≡ true → FitsSigned w32 code → AreReadBack attrs text → untyped (h, signed_bytes w32 4 code ++ text) ≡ Ok (h, payload.DumpExtAck (answer code tt attrs))
+untyped-end h code attrs text three multi fits back =
+    let s : List ℕ = signed_bytes w32 4 code ++ text in
+    let four : length (signed_bytes w32 4 code) ≡ 4 = count-signed w32 4 refl code in
+    let long : length s ≡ 4 + length text = omega (arith, length-append (signed_bytes w32 4 code) text, four) in
+    let text_is : drop 4 s ≡ text = drop_at (signed_bytes w32 4 code) text 4 four in
+    let number : number_in 4 0 s ≡ cast_unsigned w32 code = let low = Fits-of_z fits in little_number-reads_back 4 (cast_unsigned w32 code) text low.fits in
+    let says : signed_number w32 4 s ≡ code = ap (cast_signed w32) number ∙ to_z-of_z w32 code fits in
+    let read = end-read h.flags s text code attrs long text_is says back.read multi in
     let typed = ap (λ (n : ℕ). payload_in same (λ bytes. Ok bytes) n h.flags s) three ∙ read in
     ap (λ (r : Result (NlPayload ℕ (List ℕ)) DeError). r >>= λ p. Ok (h, p)) typed
 

@@ -2,5 +2,6 @@ mod Answers
 mod Dumps
 mod Datagrams
 mod Delivered
+mod ExtAcks
 mod Acknowledged
 mod Finished

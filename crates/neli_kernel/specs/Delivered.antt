@@ -5,12 +5,17 @@ use Rattle.neli_wire.specs.DeError.{DeError}
 use Rattle.neli_wire.specs.Numbers.{signed_bytes}
 use Rattle.neli_wire.specs.Sizes.{align}
 use Rattle.neli_wire.specs.Writing.{Wire, zeros_for}
+use Rattle.neli_consts.specs.NlmsgerrAttr.{nlmsgerr_attr_number, nlmsgerr_attr_of}
 use Rattle.neli_consts.specs.declared.nlm_f.NlmF.{NlmF}
+use Rattle.neli_consts.specs.declared.nlmsg.NlmsgerrAttr.{NlmsgerrAttr}
+use Rattle.neli_attr.specs.declared.nlattr.Nlattr.{Nlattr}
 use Rattle.neli_msg.specs.Agreement.{untyped_layout}
+use Rattle.neli_msg.specs.Answers.{Attributes, ext_ack_in}
 use Rattle.neli_msg.specs.Builders.{header_with}
 use Rattle.neli_msg.specs.Cuts.{cut_of}
 use Rattle.neli_msg.specs.Nlmsghdr.{Nlmsghdr}
 use Rattle.neli_msg.specs.NlPayload.TheVariants as payload
+use Rattle.neli_msg.specs.Wires.{attributes_wire}
 use Rattle.neli_lent.specs.Messages.{Lent, as_owned}
 use Rattle.neli_lent.specs.Written.{HeaderFits}
 use Rattle.neli_deliveries.specs.Deliveries.{Untyped, datagram_share, message}
@@ -58,7 +63,21 @@ pub record IsReply {T P : Type 0} (number_of : T → ℕ) (wire : P → Wire) (s
   pub text_is : wire body ≡ Ok text
   pub bytes_are : message_or_refusal number_of wire (message_with size t flags number port (payload.Payload body)) ≡ Ok bytes
 
--- ---- acknowledgements and errors, without attributes
+-- ---- attributes of an extended acknowledgement
+
+-- `text` are the bytes of these attributes, which are read from them again
+pub record AreReadBack (attrs : Attributes) (text : List ℕ) : Type 0 where
+  pub written : attributes_wire attrs ≡ Ok text
+  pub read : ext_ack_in text ≡ Ok attrs
+
+-- the length is that of the header and the payload, and the type is what its number of 14 bits is read as
+pub record IsPlainAttribute (a : Nlattr NlmsgerrAttr (List ℕ)) : Type 0 where
+  pub len : a.nla_len ≡ 4 + length a.nla_payload
+  pub fits : a.nla_len < 65536
+  pub kind : nlmsgerr_attr_number a.nla_type.nla_type < 16384
+  pub named : nlmsgerr_attr_of (nlmsgerr_attr_number a.nla_type.nla_type) ≡ a.nla_type.nla_type
+
+-- ---- acknowledgements and errors
 
 -- `bytes` are those of this answer; the request's header and the port of its socket fit their fields
 pub record IsAnswer (asked : Request) (m : Nlmsghdr ℕ (List ℕ)) (bytes : List ℕ) : Type 0 where
@@ -77,9 +96,9 @@ pub record IsEnd (asked : Request) (flags : NlmF) (code : ℤ) : Type 0 where
   pub flags_fit : flags.0 < 65536
   pub code_fits : FitsSigned w32 code
 
--- what an end without attributes says: its header, and the bytes of its code
-abbrev pub end_said : Request → NlmF → ℤ → Lent ℕ
-end_said asked flags code = ((dump_end asked flags code []).header, signed_bytes w32 4 code)
+-- what an end says: its header, and the bytes of its code and of its attributes
+abbrev pub end_said : Request → NlmF → ℤ → Attributes → List ℕ → Lent ℕ
+end_said asked flags code attrs text = ((dump_end asked flags code attrs).header, signed_bytes w32 4 code ++ text)
 
 -- as a datagram the bytes are this answer alone; where a router has the port of the request's socket, and the request's
 -- number is open there, the handle of that number gets it, once, and no other handle gets anything

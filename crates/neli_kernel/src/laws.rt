@@ -17,7 +17,7 @@ ghost use Rattle.neli_deliveries.specs.Deliveries.{Untyped, datagram_share, mess
 ghost use Rattle.neli_kernel.specs.Answers.{IsAddressed, acknowledgement, capped_error, error, message_or_refusal, message_with};
 ghost use Rattle.neli_kernel.specs.declared.request.Request.{Request as Asked};
 ghost use Rattle.neli_kernel.specs.Datagrams.{AreRead, AreWithin};
-ghost use Rattle.neli_kernel.specs.Delivered.{IsAnswer, IsDelivered, IsEnd, IsFor, IsPlain, IsReply, answer_kept, end_said, kept, reply_kept, shares, untyped};
+ghost use Rattle.neli_kernel.specs.Delivered.{AreReadBack, IsAnswer, IsDelivered, IsEnd, IsFor, IsPlain, IsPlainAttribute, IsReply, answer_kept, end_said, kept, reply_kept, shares, untyped};
 ghost use Rattle.neli_kernel.specs.Dumps.{Packed, begun, datagrams_of, dump_end, finished, put_wire};
 
 use neli_consts::NlType;
@@ -87,11 +87,20 @@ pub fn reply_is_delivered<T: NlType, P: ToBytes>()
         → datagram_share port is_open other (cut_of untyped_layout bytes) [] ≡ [] }
 {}
 
+/// Attributes of an extended acknowledgement are read back from their bytes, as the laws below want them: where there are
+/// none, and where each one's length is that of its header and payload and fits 16 bits, and its type is what its number of
+/// 14 bits means. A builder gives an attribute such a length. A type without a name has such a number where it is 5 or
+/// more, and below 16384.
+pub fn attributes_are_read_back()
+    ensures nothing { AreReadBack [] [] }
+    ensures plain { (attrs : Attributes) → All IsPlainAttribute attrs → (text : List ℕ) × AreReadBack attrs text }
+{}
+
 /// A dump is delivered to the handle that asked, message by message and in order, and to no other one: where its
 /// datagrams are read as some messages, each with the router's port and a number that is still open there, and `ms` are
 /// these as the router keeps them, then the handle of the number gets all of `ms` of the datagrams, one after the other,
 /// and each other handle nothing; the datagrams are cut into them, and without a fault. A message whose type is neither 2
-/// nor 3 is kept with its bytes as body, and an end without attributes with its code.
+/// nor 3 is kept with its bytes as body, and an end with its code and with attributes that are read back.
 pub fn dump_is_delivered()
     ensures asker { (datagrams : List (List ℕ)) (said : List (Lent ℕ)) (ms : List Untyped) (number port : ℕ)
         (is_open : ℕ → Bool) → AreRead datagrams said → map untyped said ≡ map (λ m. Ok m) ms
@@ -105,63 +114,72 @@ pub fn dump_is_delivered()
         → map untyped said ≡ map (λ m. Ok m) ms → (flat_map (λ d. (cut_of untyped_layout d).0) datagrams ≡ ms)
         × All (λ d. (cut_of untyped_layout d).1 ≡ None) datagrams }
     ensures plain { (m : Lent ℕ) → IsPlain m.0.message_type → untyped m ≡ Ok (kept m) }
-    ensures end { (h : Header ℕ) (code : ℤ) → h.message_type ≡ 3 → is_multi h.flags ≡ true → FitsSigned w32 code
-        → untyped (h, signed_bytes w32 4 code) ≡ Ok (h, payload.DumpExtAck (answer code tt [])) }
+    ensures end { (h : Header ℕ) (code : ℤ) (attrs : Attributes) (text : List ℕ) → h.message_type ≡ 3
+        → is_multi h.flags ≡ true → FitsSigned w32 code → AreReadBack attrs text
+        → untyped (h, signed_bytes w32 4 code ++ text) ≡ Ok (h, payload.DumpExtAck (answer code tt attrs)) }
 {}
 
 /// A dump that was finished is delivered whole: where what was put in is read as some messages, kept as `ms`, with the
 /// request's number and port, the datagrams of [`Dump::finish`](crate::Dump::finish) give the handle of that number `ms`
-/// and then the end with its code, which has no attributes, and each other handle nothing; however they were cut.
+/// and then the end with its code and attributes, and each other handle nothing; however they were cut. The attributes are
+/// ones that are read back from their bytes.
 pub fn finished_dump_is_delivered()
-    ensures read { (limit : ℕ) (asked : Asked) (flags : Flags) (code : ℤ) (p : Packed) (said : List (Lent ℕ))
-        (datagrams : List (List ℕ)) → IsEnd asked flags code → AreRead (datagrams_of p) said
-        → finished limit (message_or_refusal (λ n. n) (λ b. Ok b) (dump_end asked flags code [])) p ≡ Ok datagrams
-        → AreRead datagrams (said ++ end_said asked flags code ∷ []) }
-    ensures kept { (asked : Asked) (flags : Flags) (code : ℤ) (said : List (Lent ℕ)) (ms : List Untyped)
-        → FitsSigned w32 code → map untyped said ≡ map (λ m. Ok m) ms
-        → map untyped (said ++ end_said asked flags code ∷ [])
-        ≡ map (λ m. Ok m) (ms ++ answer_kept (dump_end asked flags code []) ∷ []) }
-    ensures asker { (limit : ℕ) (asked : Asked) (flags : Flags) (code : ℤ) (p : Packed) (said : List (Lent ℕ))
-        (ms : List Untyped) (datagrams : List (List ℕ)) (is_open : ℕ → Bool) → IsEnd asked flags code
+    ensures read { (limit : ℕ) (asked : Asked) (flags : Flags) (code : ℤ) (attrs : Attributes) (text : List ℕ)
+        (p : Packed) (said : List (Lent ℕ)) (datagrams : List (List ℕ)) → IsEnd asked flags code
+        → AreReadBack attrs text → AreRead (datagrams_of p) said
+        → finished limit (message_or_refusal (λ n. n) (λ b. Ok b) (dump_end asked flags code attrs)) p ≡ Ok datagrams
+        → AreRead datagrams (said ++ end_said asked flags code attrs text ∷ []) }
+    ensures kept { (asked : Asked) (flags : Flags) (code : ℤ) (attrs : Attributes) (text : List ℕ)
+        (said : List (Lent ℕ)) (ms : List Untyped) → FitsSigned w32 code → AreReadBack attrs text
+        → map untyped said ≡ map (λ m. Ok m) ms
+        → map untyped (said ++ end_said asked flags code attrs text ∷ [])
+        ≡ map (λ m. Ok m) (ms ++ answer_kept (dump_end asked flags code attrs) ∷ []) }
+    ensures asker { (limit : ℕ) (asked : Asked) (flags : Flags) (code : ℤ) (attrs : Attributes) (text : List ℕ)
+        (p : Packed) (said : List (Lent ℕ)) (ms : List Untyped) (datagrams : List (List ℕ)) (is_open : ℕ → Bool)
+        → IsEnd asked flags code → AreReadBack attrs text
         → AreRead (datagrams_of p) said → map untyped said ≡ map (λ m. Ok m) ms
         → All (IsFor asked.header.sequence_number asked.port) ms → is_open asked.header.sequence_number ≡ true
-        → finished limit (message_or_refusal (λ n. n) (λ b. Ok b) (dump_end asked flags code [])) p ≡ Ok datagrams
+        → finished limit (message_or_refusal (λ n. n) (λ b. Ok b) (dump_end asked flags code attrs)) p ≡ Ok datagrams
         → shares asked.port is_open (Some asked.header.sequence_number) datagrams
-        ≡ map message (ms ++ answer_kept (dump_end asked flags code []) ∷ []) }
-    ensures others { (limit : ℕ) (asked : Asked) (flags : Flags) (code : ℤ) (p : Packed) (said : List (Lent ℕ))
-        (ms : List Untyped) (datagrams : List (List ℕ)) (is_open : ℕ → Bool) (other : Option ℕ)
-        → other ≢ Some asked.header.sequence_number → IsEnd asked flags code
+        ≡ map message (ms ++ answer_kept (dump_end asked flags code attrs) ∷ []) }
+    ensures others { (limit : ℕ) (asked : Asked) (flags : Flags) (code : ℤ) (attrs : Attributes) (text : List ℕ)
+        (p : Packed) (said : List (Lent ℕ)) (ms : List Untyped) (datagrams : List (List ℕ)) (is_open : ℕ → Bool)
+        (other : Option ℕ) → other ≢ Some asked.header.sequence_number → IsEnd asked flags code → AreReadBack attrs text
         → AreRead (datagrams_of p) said → map untyped said ≡ map (λ m. Ok m) ms
         → All (IsFor asked.header.sequence_number asked.port) ms → is_open asked.header.sequence_number ≡ true
-        → finished limit (message_or_refusal (λ n. n) (λ b. Ok b) (dump_end asked flags code [])) p ≡ Ok datagrams
+        → finished limit (message_or_refusal (λ n. n) (λ b. Ok b) (dump_end asked flags code attrs)) p ≡ Ok datagrams
         → shares asked.port is_open other datagrams ≡ [] }
 {}
 
-/// An acknowledgement without attributes is delivered to the handle that asked, once, and to no other one: where a router
-/// has the port of the request's socket and the request's number is still open there, a datagram of its bytes is one
-/// message for that handle, an acknowledgement with code 0 that echoes the request's header, and nothing for each other
-/// handle and for the one for multicast.
+/// An acknowledgement is delivered to the handle that asked, once, and to no other one: where a router has the port of the
+/// request's socket and the request's number is still open there, a datagram of its bytes is one message for that handle,
+/// an acknowledgement with code 0 that echoes the request's header and has its attributes, and nothing for each other
+/// handle and for the one for multicast. The attributes are ones that are read back from their bytes.
 pub fn acknowledgement_is_delivered()
-    ensures one_message { (asked : Asked) (bytes : List ℕ) → IsAnswer asked (acknowledgement asked []) bytes
-        → cut_of untyped_layout bytes ≡ (answer_kept (acknowledgement asked []) ∷ [], None) }
-    ensures asker { (asked : Asked) (bytes : List ℕ) → IsAnswer asked (acknowledgement asked []) bytes
+    ensures one_message { (asked : Asked) (attrs : Attributes) (text bytes : List ℕ) → AreReadBack attrs text
+        → IsAnswer asked (acknowledgement asked attrs) bytes
+        → cut_of untyped_layout bytes ≡ (answer_kept (acknowledgement asked attrs) ∷ [], None) }
+    ensures asker { (asked : Asked) (attrs : Attributes) (text bytes : List ℕ) → AreReadBack attrs text
+        → IsAnswer asked (acknowledgement asked attrs) bytes
         → (is_open : ℕ → Bool) → is_open asked.header.sequence_number ≡ true
         → datagram_share asked.port is_open (Some asked.header.sequence_number) (cut_of untyped_layout bytes) []
-        ≡ message (answer_kept (acknowledgement asked [])) ∷ [] }
-    ensures others { (asked : Asked) (bytes : List ℕ) → IsAnswer asked (acknowledgement asked []) bytes
+        ≡ message (answer_kept (acknowledgement asked attrs)) ∷ [] }
+    ensures others { (asked : Asked) (attrs : Attributes) (text bytes : List ℕ) → AreReadBack attrs text
+        → IsAnswer asked (acknowledgement asked attrs) bytes
         → (is_open : ℕ → Bool) → is_open asked.header.sequence_number ≡ true
         → (other : Option ℕ) → other ≢ Some asked.header.sequence_number
         → datagram_share asked.port is_open other (cut_of untyped_layout bytes) [] ≡ [] }
 {}
 
-/// An error without attributes is delivered to the handle that asked, once, and to no other one, where its code is not 0
-/// and fits 32 bits: a capped one with that code and the request's header, and a whole one with the request's payload as
-/// well, where the request states its own length.
+/// An error is delivered to the handle that asked, once, and to no other one, where its code is not 0 and fits 32 bits: a
+/// capped one with that code, the request's header and its attributes, and a whole one with the request's payload as well,
+/// where the request states its own length. The attributes are ones that are read back from their bytes.
 pub fn error_is_delivered()
-    ensures capped { (asked : Asked) (code : ℤ) (bytes : List ℕ) → code ≢ pos 0 → FitsSigned w32 code
-        → IsAnswer asked (capped_error asked code []) bytes
-        → IsDelivered asked (capped_error asked code []) bytes }
-    ensures whole { (asked : Asked) (code : ℤ) (bytes : List ℕ) → code ≢ pos 0 → FitsSigned w32 code
-        → asked.header.len ≡ 16 + length asked.payload.now → IsAnswer asked (error asked code []) bytes
-        → IsDelivered asked (error asked code []) bytes }
+    ensures capped { (asked : Asked) (code : ℤ) (attrs : Attributes) (text bytes : List ℕ) → code ≢ pos 0
+        → FitsSigned w32 code → AreReadBack attrs text → IsAnswer asked (capped_error asked code attrs) bytes
+        → IsDelivered asked (capped_error asked code attrs) bytes }
+    ensures whole { (asked : Asked) (code : ℤ) (attrs : Attributes) (text bytes : List ℕ) → code ≢ pos 0
+        → FitsSigned w32 code → asked.header.len ≡ 16 + length asked.payload.now → AreReadBack attrs text
+        → IsAnswer asked (error asked code attrs) bytes
+        → IsDelivered asked (error asked code attrs) bytes }
 {}

@@ -2,9 +2,10 @@
 
 use neli::simulator::laws::{
     acknowledgement_is_delivered, answers_are_complete, answers_are_given_in_turn,
-    answers_are_one_frame, datagrams_bring_their_own, datagrams_keep_the_limit, dump_is_delivered,
-    dump_is_read_as_its_messages, error_is_delivered, finished_dump_is_delivered,
-    message_is_one_frame, reply_is_delivered, requests_are_answered_in_turn,
+    answers_are_one_frame, attributes_are_read_back, datagrams_bring_their_own,
+    datagrams_keep_the_limit, dump_is_delivered, dump_is_read_as_its_messages, error_is_delivered,
+    finished_dump_is_delivered, message_is_one_frame, reply_is_delivered,
+    requests_are_answered_in_turn,
 };
 use neli::types::Buffer;
 
@@ -12,6 +13,7 @@ use neli::types::Buffer;
 fn laws_are_called() {
     message_is_one_frame::<u16, Buffer>();
     answers_are_one_frame();
+    attributes_are_read_back();
     dump_is_read_as_its_messages();
     datagrams_keep_the_limit();
     reply_is_delivered::<u16, Buffer>();
