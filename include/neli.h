@@ -126,9 +126,13 @@ struct neli_item {
 
 int32_t neli_c_error_text(int32_t code, uint8_t *out, size_t room, size_t *length);
 int32_t neli_c_next_message(const uint8_t *bytes, size_t length, struct neli_walk *walk, struct neli_message *message);
+int32_t neli_c_next_messages(const uint8_t *bytes, size_t length, struct neli_walk *walk,
+                             struct neli_message *messages, size_t room, size_t *count);
 int32_t neli_c_attributes_of(const struct neli_message *message, size_t header_size, struct neli_walk *walk);
 int32_t neli_c_next_attribute(const uint8_t *bytes, size_t length, struct neli_walk *walk,
                               struct neli_attribute *attribute);
+int32_t neli_c_next_attributes(const uint8_t *bytes, size_t length, struct neli_walk *walk,
+                               struct neli_attribute *attributes, size_t room, size_t *count);
 int32_t neli_c_find_attribute(const uint8_t *bytes, size_t length, const struct neli_walk *walk, uint16_t number,
                               struct neli_attribute *attribute);
 int32_t neli_c_attributes_in(const struct neli_attribute *attribute, struct neli_walk *walk);
@@ -200,6 +204,18 @@ static inline int32_t neli_next_message(const uint8_t *bytes, size_t length, str
     return neli_c_next_message(neli_read_at(bytes), length, walk, message);
 }
 
+/* The next messages of a walk, which goes past them: as many as there is room for, or as come before the walk's end or a
+ * fault. NELI_ITEM, and `count` is how many; without a message `count` is 0, and the answer is that of
+ * `neli_next_message`, so the end and a fault are answered by the call after the last message. NELI_ROOM where there is
+ * room for none. What follows those that are given stays. */
+static inline int32_t neli_next_messages(const uint8_t *bytes, size_t length, struct neli_walk *walk,
+                                         struct neli_message *messages, size_t room, size_t *count) {
+    static struct neli_message none[1];
+    if (!neli_is_slice(bytes, length) || walk == NULL || count == NULL) return NELI_NULL;
+    if (room > PTRDIFF_MAX / sizeof *messages || !neli_is_slice(messages, room)) return NELI_NULL;
+    return neli_c_next_messages(neli_read_at(bytes), length, walk, messages != NULL ? messages : none, room, count);
+}
+
 /* A walk over the attributes of a message, after a body's header of this size (16 of a link, 8 of an address, 12 of a
  * route, 4 of generic netlink), rounded up to four. NELI_SHORT where the payload is shorter. */
 static inline int32_t neli_attributes_of(const struct neli_message *message, size_t header_size,
@@ -213,6 +229,16 @@ static inline int32_t neli_next_attribute(const uint8_t *bytes, size_t length, s
                                           struct neli_attribute *attribute) {
     if (!neli_is_slice(bytes, length) || walk == NULL || attribute == NULL) return NELI_NULL;
     return neli_c_next_attribute(neli_read_at(bytes), length, walk, attribute);
+}
+
+/* The next attributes of a walk, which goes past them; as `neli_next_messages`. */
+static inline int32_t neli_next_attributes(const uint8_t *bytes, size_t length, struct neli_walk *walk,
+                                           struct neli_attribute *attributes, size_t room, size_t *count) {
+    static struct neli_attribute none[1];
+    if (!neli_is_slice(bytes, length) || walk == NULL || count == NULL) return NELI_NULL;
+    if (room > PTRDIFF_MAX / sizeof *attributes || !neli_is_slice(attributes, room)) return NELI_NULL;
+    return neli_c_next_attributes(neli_read_at(bytes), length, walk, attributes != NULL ? attributes : none, room,
+                                  count);
 }
 
 /* The first attribute with this number among those that are left: NELI_ITEM, or NELI_END where there is none. Refused

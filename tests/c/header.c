@@ -85,6 +85,53 @@ static void check_writing_and_reading(void) {
     CHECK(neli_get_u32(out + attribute.payload, attribute.payload_length, 0, &number) == NELI_OK && number == 1500);
 }
 
+/* Three messages and a cut one, of which two are given at once, then one; and attributes. What is not given stays. */
+static void check_several(void) {
+    uint8_t out[64] = {0};
+    struct neli_writer writer = {0, 0};
+    struct neli_message messages[4], message;
+    struct neli_attribute attributes[2], attribute;
+    size_t count = 7;
+    for (uint16_t i = 0; i < 3; i++) CHECK(neli_begin_message(out, 56, &writer, 16 + i, 0, i, 0) == NELI_OK);
+    struct neli_walk walk = {0, 56}, single = {0, 56};
+    memset(messages, 0x5a, sizeof messages);
+    for (size_t room = 2, given = 0; given < 3; room = 4, given += count) {
+        CHECK(neli_next_messages(out, 56, &walk, messages + given, room - given, &count) == NELI_ITEM);
+        CHECK(count == (given == 0 ? 2 : 1));
+    }
+    for (size_t i = 0; i < 3; i++) {
+        CHECK(neli_next_message(out, 56, &single, &message) == NELI_ITEM);
+        CHECK(memcmp(&messages[i], &message, sizeof message) == 0 && message.type == 16 + i);
+    }
+    CHECK(walk.place == 48 && single.place == 48 && messages[3].length == 0x5a5a5a5a);
+    CHECK(neli_next_messages(out, 56, &walk, messages, 4, &count) == NELI_SHORT && count == 0 && walk.place == 48);
+    walk.end = 48;
+    CHECK(neli_next_messages(out, 56, &walk, messages, 4, &count) == NELI_END && count == 0);
+    CHECK(neli_next_messages(out, 56, &walk, NULL, 0, &count) == NELI_ROOM && count == 0);
+    walk.end = 57;
+    CHECK(neli_next_messages(out, 56, &walk, messages, 4, &count) == NELI_PLACE && messages[0].type == 16);
+    CHECK(neli_next_messages(out, 56, &walk, NULL, 1, &count) == NELI_NULL);
+    CHECK(neli_next_messages(out, 56, &walk, messages, SIZE_MAX / 32, &count) == NELI_NULL);
+    CHECK(neli_next_messages(out, 56, &walk, messages, 4, NULL) == NELI_NULL);
+
+    writer.start = writer.end = 0;
+    for (uint16_t i = 1; i < 4; i++) CHECK(neli_put_attribute(out, 64, &writer, i, "abcdef", i) == NELI_OK);
+    struct neli_walk list = {0, 24}, each = {0, 24};
+    size_t found = 0;
+    while (neli_next_attributes(out, 64, &list, attributes, 2, &count) == NELI_ITEM)
+        for (size_t i = 0; i < count; i++, found++) {
+            CHECK(neli_next_attribute(out, 64, &each, &attribute) == NELI_ITEM);
+            CHECK(memcmp(&attributes[i], &attribute, sizeof attribute) == 0);
+            CHECK(attribute.number == found + 1 && attribute.payload_length == found + 1);
+        }
+    CHECK(found == 3 && list.place == 24 && count == 0);
+    list.place = 0, out[8] = 3;
+    CHECK(neli_next_attributes(out, 64, &list, attributes, 2, &count) == NELI_ITEM && count == 1);
+    CHECK(neli_next_attributes(out, 64, &list, attributes, 2, &count) == NELI_LENGTH && list.place == 8);
+    CHECK(neli_next_attributes(out, 64, &list, NULL, 0, &count) == NELI_ROOM);
+    CHECK(neli_next_attributes(NULL, 64, &list, attributes, 2, &count) == NELI_NULL);
+}
+
 static void check_numbers(void) {
     const uint8_t bytes[9] = {1, 2, 3, 4, 5, 6, 7, 8, 9};
     uint8_t a = 0;
@@ -194,6 +241,7 @@ static void check_router(void) {
 int main(void) {
     check_texts();
     check_writing_and_reading();
+    check_several();
     check_numbers();
     check_answer(error_bytes, sizeof error_bytes);
     check_refusals();

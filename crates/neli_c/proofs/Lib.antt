@@ -4,3 +4,4 @@ pub mod Opened
 pub mod Padding
 pub mod Replies
 pub mod Requests
+pub mod Steps

@@ -4,6 +4,7 @@ pub mod Held
 pub mod Lists
 pub mod Reads
 pub mod Sessions
+pub mod Several
 pub mod Texts
 pub mod Walks
 pub mod Writes

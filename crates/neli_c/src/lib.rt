@@ -20,5 +20,6 @@ pub mod opaque;
 pub mod place;
 pub mod router;
 pub mod session;
+pub mod several;
 pub mod text;
 pub mod write;

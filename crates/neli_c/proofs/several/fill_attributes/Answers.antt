@@ -1,0 +1,16 @@
+use Rattle.std.proofs.Common.{rules}
+use Rattle.neli_c.specs.Several.{AttributeStep}
+use Rattle.neli_c.proofs.Steps.{each-stored, rest-stored, within-stored}
+use Rattle.neli_c.proofs.several.fill_attributes.Goals as goal
+
+pub loop-given-preserved : goal.loop-given-preserved
+loop-given-preserved c =
+    let k = c.loop-given.given in
+    let ms = c.loop-given.attributes in
+    let was = c.loop-given.invariant in
+    let r = c.neli_c_next_attribute-code in
+    let step : AttributeStep c.args.bytes.now c.loop-given.walk r.new.walk r.new.attribute = (first_of (search rules, cc), r.ensures.attribute (first_of (search rules, cc))) in (
+      within-stored ms k _ c.loop-given-test.true,
+      each-stored (AttributeStep c.args.bytes.now) _ _ _ ms k _ c.loop-given-test.true was.1 step,
+      rest-stored ms _ k _ was.2,
+    )
