@@ -1,0 +1,278 @@
+//! Every table of the kernel's in one list, as [`Schema::new`](neli_schema::Schema::new) takes them.
+#![tactic(auto)]
+
+use neli_schema::tables::{
+    BODIES, action, address, address_label, bond, bridge, controller, encapsulation,
+    extended_acknowledgement, link, link_family, link_info, namespace, neighbour, netconf,
+    next_hop, queueing, route, rule, statistics, virtual_function,
+};
+use neli_schema::{Body, Table};
+use std::alloc::{AllocError, Global};
+
+/// Extended acknowledgements.
+static EXTENDED_ACKNOWLEDGEMENT: [Table<'static>; 1] = [extended_acknowledgement::TABLE];
+
+/// Extended acknowledgements.
+fn extended_acknowledgement_tables() -> &'static [Table<'static>] {
+    &EXTENDED_ACKNOWLEDGEMENT
+}
+
+/// Links.
+static LINK: [Table<'static>; 4] = [
+    link::TABLE,
+    link::PROPERTIES_TABLE,
+    link::PROTO_DOWN_REASON_TABLE,
+    link::XDP_TABLE,
+];
+
+/// Links.
+fn link_tables() -> &'static [Table<'static>] {
+    &LINK
+}
+
+/// Kinds of links, and what each has.
+static LINK_INFO: [Table<'static>; 10] = [
+    link_info::TABLE,
+    link_info::VLAN_TABLE,
+    link_info::VLAN_QOS_TABLE,
+    link_info::VETH_TABLE,
+    link_info::VXLAN_TABLE,
+    link_info::MACVLAN_TABLE,
+    link_info::MACVLAN_ADDRESSES_TABLE,
+    link_info::VRF_TABLE,
+    link_info::VRF_PORT_TABLE,
+    link_info::TUN_TABLE,
+];
+
+/// Kinds of links, and what each has.
+fn link_info_tables() -> &'static [Table<'static>] {
+    &LINK_INFO
+}
+
+/// Bridges and their ports.
+static BRIDGE: [Table<'static>; 7] = [
+    bridge::TABLE,
+    bridge::BRIDGE_QUERIER_TABLE,
+    bridge::BRIDGE_PORT_TABLE,
+    bridge::BRIDGE_REQUEST_TABLE,
+    bridge::VLAN_TUNNEL_TABLE,
+    bridge::SPANNING_TREES_TABLE,
+    bridge::SPANNING_TREE_TABLE,
+];
+
+/// Bridges and their ports.
+fn bridge_tables() -> &'static [Table<'static>] {
+    &BRIDGE
+}
+
+/// Bonds and their ports.
+static BOND: [Table<'static>; 5] = [
+    bond::TABLE,
+    bond::ARP_TARGETS_TABLE,
+    bond::NS_TARGETS_TABLE,
+    bond::BOND_AGGREGATE_TABLE,
+    bond::BOND_PORT_TABLE,
+];
+
+/// Bonds and their ports.
+fn bond_tables() -> &'static [Table<'static>] {
+    &BOND
+}
+
+/// What address families have of a link.
+static LINK_FAMILY: [Table<'static>; 4] = [
+    link_family::TABLE,
+    link_family::INET_TABLE,
+    link_family::INET6_TABLE,
+    link_family::MCTP_TABLE,
+];
+
+/// What address families have of a link.
+fn link_family_tables() -> &'static [Table<'static>] {
+    &LINK_FAMILY
+}
+
+/// Virtual functions of a link.
+static VIRTUAL_FUNCTION: [Table<'static>; 6] = [
+    virtual_function::TABLE,
+    virtual_function::VIRTUAL_FUNCTION_TABLE,
+    virtual_function::FUNCTION_STATISTICS_TABLE,
+    virtual_function::FUNCTION_VLANS_TABLE,
+    virtual_function::FUNCTION_PORTS_TABLE,
+    virtual_function::FUNCTION_PORT_TABLE,
+];
+
+/// Virtual functions of a link.
+fn virtual_function_tables() -> &'static [Table<'static>] {
+    &VIRTUAL_FUNCTION
+}
+
+/// Statistics of links.
+static STATISTICS: [Table<'static>; 2] = [statistics::TABLE, statistics::STATISTICS_REQUEST_TABLE];
+
+/// Statistics of links.
+fn statistics_tables() -> &'static [Table<'static>] {
+    &STATISTICS
+}
+
+/// Addresses.
+static ADDRESS: [Table<'static>; 1] = [address::TABLE];
+
+/// Addresses.
+fn address_tables() -> &'static [Table<'static>] {
+    &ADDRESS
+}
+
+/// Neighbours and neighbour tables.
+static NEIGHBOUR: [Table<'static>; 4] = [
+    neighbour::TABLE,
+    neighbour::FORWARDING_TABLE,
+    neighbour::CACHE_TABLE,
+    neighbour::CACHE_SETTINGS_TABLE,
+];
+
+/// Neighbours and neighbour tables.
+fn neighbour_tables() -> &'static [Table<'static>] {
+    &NEIGHBOUR
+}
+
+/// Routes.
+static ROUTE: [Table<'static>; 3] = [route::TABLE, route::HOPS_TABLE, route::METRICS_TABLE];
+
+/// Routes.
+fn route_tables() -> &'static [Table<'static>] {
+    &ROUTE
+}
+
+/// What routes put before a packet.
+static ENCAPSULATION: [Table<'static>; 8] = [
+    encapsulation::TABLE,
+    encapsulation::TUNNEL_TABLE,
+    encapsulation::TUNNEL6_TABLE,
+    encapsulation::TUNNEL_OPTIONS_TABLE,
+    encapsulation::GENEVE_OPTION_TABLE,
+    encapsulation::VXLAN_OPTION_TABLE,
+    encapsulation::ERSPAN_OPTION_TABLE,
+    encapsulation::SEGMENTS_TABLE,
+];
+
+/// What routes put before a packet.
+fn encapsulation_tables() -> &'static [Table<'static>] {
+    &ENCAPSULATION
+}
+
+/// Rules.
+static RULE: [Table<'static>; 1] = [rule::TABLE];
+
+/// Rules.
+fn rule_tables() -> &'static [Table<'static>] {
+    &RULE
+}
+
+/// Queueing disciplines, classes and filters.
+static QUEUEING: [Table<'static>; 3] = [
+    queueing::TABLE,
+    queueing::QUEUE_STATISTICS_TABLE,
+    queueing::SIZES_TABLE,
+];
+
+/// Queueing disciplines, classes and filters.
+fn queueing_tables() -> &'static [Table<'static>] {
+    &QUEUEING
+}
+
+/// Actions of filters.
+static ACTION: [Table<'static>; 3] = [action::TABLE, action::ACTIONS_TABLE, action::ACTION_TABLE];
+
+/// Actions of filters.
+fn action_tables() -> &'static [Table<'static>] {
+    &ACTION
+}
+
+/// Next hops.
+static NEXT_HOP: [Table<'static>; 5] = [
+    next_hop::TABLE,
+    next_hop::RESILIENT_GROUP_TABLE,
+    next_hop::RESILIENT_BUCKET_TABLE,
+    next_hop::GROUP_STATISTICS_TABLE,
+    next_hop::MEMBER_STATISTICS_TABLE,
+];
+
+/// Next hops.
+fn next_hop_tables() -> &'static [Table<'static>] {
+    &NEXT_HOP
+}
+
+/// Network namespaces.
+static NAMESPACE: [Table<'static>; 1] = [namespace::TABLE];
+
+/// Network namespaces.
+fn namespace_tables() -> &'static [Table<'static>] {
+    &NAMESPACE
+}
+
+/// Labels of addresses.
+static ADDRESS_LABEL: [Table<'static>; 1] = [address_label::TABLE];
+
+/// Labels of addresses.
+fn address_label_tables() -> &'static [Table<'static>] {
+    &ADDRESS_LABEL
+}
+
+/// Settings of address families.
+static NETCONF: [Table<'static>; 1] = [netconf::TABLE];
+
+/// Settings of address families.
+fn netconf_tables() -> &'static [Table<'static>] {
+    &NETCONF
+}
+
+/// The controller of generic netlink.
+static CONTROLLER: [Table<'static>; 10] = [
+    controller::TABLE,
+    controller::COMMANDS_TABLE,
+    controller::COMMAND_TABLE,
+    controller::GROUPS_TABLE,
+    controller::GROUP_TABLE,
+    controller::POLICIES_TABLE,
+    controller::POLICY_TABLE,
+    controller::ATTRIBUTE_POLICY_TABLE,
+    controller::COMMAND_POLICIES_TABLE,
+    controller::COMMAND_POLICY_TABLE,
+];
+
+/// The controller of generic netlink.
+fn controller_tables() -> &'static [Table<'static>] {
+    &CONTROLLER
+}
+
+/// Every table of the kernel's.
+pub fn all_tables(alloc: Global) -> Result<Vec<Table<'static>>, AllocError> {
+    let mut all = Vec::new(alloc);
+    all.extend_from_slice(extended_acknowledgement_tables())?;
+    all.extend_from_slice(link_tables())?;
+    all.extend_from_slice(link_info_tables())?;
+    all.extend_from_slice(bridge_tables())?;
+    all.extend_from_slice(bond_tables())?;
+    all.extend_from_slice(link_family_tables())?;
+    all.extend_from_slice(virtual_function_tables())?;
+    all.extend_from_slice(statistics_tables())?;
+    all.extend_from_slice(address_tables())?;
+    all.extend_from_slice(neighbour_tables())?;
+    all.extend_from_slice(route_tables())?;
+    all.extend_from_slice(encapsulation_tables())?;
+    all.extend_from_slice(rule_tables())?;
+    all.extend_from_slice(queueing_tables())?;
+    all.extend_from_slice(action_tables())?;
+    all.extend_from_slice(next_hop_tables())?;
+    all.extend_from_slice(namespace_tables())?;
+    all.extend_from_slice(address_label_tables())?;
+    all.extend_from_slice(netconf_tables())?;
+    all.extend_from_slice(controller_tables())?;
+    Ok(all)
+}
+
+/// What messages carry, by protocol and type: the kernel's [`BODIES`].
+pub fn bodies() -> &'static [Body<'static>] {
+    &BODIES
+}
