@@ -1,0 +1,98 @@
+//! The header of a message, and the names of what it says.
+
+use byteorder::{ByteOrder, LittleEndian};
+use neli_lent::LentMessage;
+use neli_schema::{Body, Schema, Table};
+
+/// `NETLINK_ROUTE` of `linux/netlink.h`.
+pub const ROUTE: u16 = 0;
+
+/// `NETLINK_CONNECTOR`.
+pub const CONNECTOR: u16 = 11;
+
+/// `NETLINK_GENERIC`.
+pub const GENERIC: u16 = 16;
+
+/// What messages are read by: tables, and what carries which.
+#[derive(Clone, Copy)]
+pub struct Names<'t> {
+    pub schema: Schema<'t>,
+    pub bodies: &'t [Body<'t>],
+}
+
+impl<'t> Names<'t> {
+    /// The body of a protocol with this number.
+    pub fn body(&self, protocol: u16, number: u32) -> Option<&'t Body<'t>> {
+        self.bodies
+            .iter()
+            .find(|body| body.protocol == protocol && body.number == number)
+    }
+
+    /// The table of a body.
+    pub fn table(&self, body: &Body<'_>) -> Option<Table<'t>> {
+        self.schema.table(body.table)
+    }
+
+    /// The name of a type of messages.
+    fn type_name(&self, protocol: u16, message_type: u16) -> Option<&'t str> {
+        match message_type {
+            1 => Some("NLMSG_NOOP"),
+            2 => Some("NLMSG_ERROR"),
+            3 => Some("NLMSG_DONE"),
+            4 => Some("NLMSG_OVERRUN"),
+            _ => match self.body(protocol, u32::from(message_type)) {
+                Some(body) if protocol != CONNECTOR => Some(body.name),
+                _ => None,
+            },
+        }
+    }
+}
+
+/// The header of a message.
+#[derive(Clone, Copy)]
+pub struct Head<'t> {
+    /// The protocol of netlink that it is of.
+    pub protocol: u16,
+    /// The length that it states.
+    pub length: u32,
+    pub message_type: u16,
+    /// The name of the type, if it has one.
+    pub name: Option<&'t str>,
+    pub flags: u16,
+    /// The sequence number.
+    pub number: u32,
+    pub port: u32,
+}
+
+impl<'t> Head<'t> {
+    /// The header of a message that was read.
+    pub fn of(names: &Names<'t>, protocol: u16, message: &LentMessage<'_, u16>) -> Head<'t> {
+        let message_type = *message.nl_type();
+        Head {
+            protocol,
+            length: *message.nl_len(),
+            message_type,
+            name: names.type_name(protocol, message_type),
+            flags: u16::from(*message.nl_flags()),
+            number: *message.nl_seq(),
+            port: *message.nl_pid(),
+        }
+    }
+
+    /// The header that these bytes begin with, if they are as many.
+    pub fn read(names: &Names<'t>, protocol: u16, bytes: &[u8]) -> Option<Head<'t>> {
+        if bytes.len() < 16 {
+            return None;
+        }
+        let message_type = LittleEndian::read_u16(&bytes[4..]);
+        Some(Head {
+            protocol,
+            length: LittleEndian::read_u32(bytes),
+            message_type,
+            name: names.type_name(protocol, message_type),
+            flags: LittleEndian::read_u16(&bytes[6..]),
+            number: LittleEndian::read_u32(&bytes[8..]),
+            port: LittleEndian::read_u32(&bytes[12..]),
+        })
+    }
+}

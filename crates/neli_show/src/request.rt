@@ -1,0 +1,61 @@
+//! What the words of the command line ask for.
+
+use crate::head::{CONNECTOR, GENERIC, ROUTE};
+
+/// How messages are printed.
+#[derive(Clone, Copy, Debug, PartialEq, Eq)]
+pub enum Output {
+    /// As lines of text.
+    Text,
+    /// As text with names in colours.
+    Colour,
+    /// As lines of JSON.
+    Json,
+}
+
+/// What is asked for.
+#[derive(Clone, Copy, Debug, PartialEq, Eq)]
+pub struct Request {
+    /// How messages are printed.
+    pub output: Output,
+    /// The protocol of netlink of datagrams of which the input does not say it.
+    pub protocol: u16,
+}
+
+/// The output that a word asks for.
+fn output_of(word: &str) -> Option<Output> {
+    match word {
+        "json" => Some(Output::Json),
+        "color" => Some(Output::Colour),
+        _ => None,
+    }
+}
+
+/// The protocol that a word names, by its name or by its number.
+fn protocol_of(word: &str) -> Option<u16> {
+    match word {
+        "route" => Some(ROUTE),
+        "connector" => Some(CONNECTOR),
+        "generic" => Some(GENERIC),
+        _ => word.parse::<u16>().ok(),
+    }
+}
+
+/// What these words ask for: first an output, then a protocol, each of which may be left out.
+pub fn request_of(words: &[String]) -> Option<Request> {
+    let (output, protocol) = match words {
+        [] => return Some(asking(Output::Text, ROUTE)),
+        [word] => match output_of(word.as_str()) {
+            Some(output) => return Some(asking(output, ROUTE)),
+            None => (Output::Text, word),
+        },
+        [output, protocol] => (output_of(output.as_str())?, protocol),
+        _ => return None,
+    };
+    Some(asking(output, protocol_of(protocol.as_str())?))
+}
+
+/// These.
+fn asking(output: Output, protocol: u16) -> Request {
+    Request { output, protocol }
+}

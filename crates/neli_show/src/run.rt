@@ -1,0 +1,167 @@
+//! A run of the program.
+
+use crate::form::Form;
+use crate::head::Names;
+use crate::json::Json;
+use crate::request::{Output, Request, request_of};
+use crate::show::show_datagram;
+use crate::text::Text;
+use neli_inputs::{Input, read_input};
+use neli_kernel_tables::{all_tables, bodies};
+use neli_schema::Schema;
+use neli_schema::tables::process_event;
+use std::alloc::{AllocError, Global};
+use std::io;
+use std::io::{ErrorKind, Read, Write};
+
+/// How a run ends.
+#[derive(Clone, Copy, Debug, PartialEq, Eq)]
+pub enum Status {
+    /// All of the input is printed.
+    Whole,
+    /// A part of the input is no message, and a line says so.
+    Fault,
+    /// The input failed, and nothing is printed.
+    NoInput,
+    /// The output failed; a part of it may be written.
+    NoOutput,
+    /// The words ask for nothing that the program does.
+    Usage,
+    /// Memory ran out before anything was printed.
+    Memory,
+}
+
+impl Status {
+    /// The exit status.
+    pub fn code(self) -> u8 {
+        match self {
+            Status::Whole => 0,
+            Status::Fault | Status::NoInput | Status::NoOutput => 1,
+            Status::Usage => 2,
+            Status::Memory => 3,
+        }
+    }
+
+    /// What is said of it on standard error.
+    fn complaint(self) -> Option<&'static str> {
+        match self {
+            Status::Whole | Status::Fault => None,
+            Status::NoInput => Some("neli_show: the input cannot be read"),
+            Status::NoOutput => Some("neli_show: the output cannot be written"),
+            Status::Usage => Some(
+                "usage: neli_show [json | color] [route | connector | generic | NUMBER] < FILE",
+            ),
+            Status::Memory => Some("neli_show: out of memory"),
+        }
+    }
+}
+
+/// Prints the parts of an input, and answers whether all of them are messages.
+fn show_input<F: Form, W: Write>(
+    form: &mut F,
+    out: &mut W,
+    names: &Names<'_>,
+    protocol: u16,
+    input: &Input,
+) -> io::Result<bool> {
+    let mut is_whole = true;
+    for item in &input.items {
+        match item.packet {
+            Ok(packet) => {
+                let bytes = input.bytes.get(packet.start..packet.end).unwrap_or(&[]);
+                let protocol = packet.family.unwrap_or(protocol);
+                if !show_datagram(form, out, names, protocol, bytes)? {
+                    is_whole = false;
+                }
+            }
+            Err(refusal) => {
+                form.fault(out, "input", item.place, refusal)?;
+                is_whole = false;
+            }
+        }
+    }
+    out.flush()?;
+    Ok(is_whole)
+}
+
+/// Prints an input in the form that is asked for.
+fn show_request<W: Write>(
+    out: &mut W,
+    names: &Names<'_>,
+    request: Request,
+    input: &Input,
+) -> io::Result<bool> {
+    let protocol = request.protocol;
+    match request.output {
+        Output::Text => {
+            let mut form = Text { is_coloured: false };
+            show_input(&mut form, out, names, protocol, input)
+        }
+        Output::Colour => {
+            let mut form = Text { is_coloured: true };
+            show_input(&mut form, out, names, protocol, input)
+        }
+        Output::Json => show_input(&mut Json::new(), out, names, protocol, input),
+    }
+}
+
+/// Prints bytes in the form that is asked for.
+fn show_bytes<W: Write>(
+    alloc: Global,
+    request: Request,
+    bytes: Vec<u8>,
+    out: &mut W,
+) -> Result<Status, AllocError> {
+    let input = read_input(alloc, bytes)?;
+    let tables = all_tables(alloc)?;
+    let names = Names {
+        schema: Schema::new(&tables).with(&process_event::TABLES),
+        bodies: bodies(),
+    };
+    Ok(match show_request(out, &names, request, &input) {
+        Ok(true) => Status::Whole,
+        Ok(false) => Status::Fault,
+        Err(_) => Status::NoOutput,
+    })
+}
+
+/// Reads the input, and prints it in the form that is asked for.
+fn show<R: Read, W: Write>(alloc: Global, request: Request, input: &mut R, out: &mut W) -> Status {
+    let mut bytes = Vec::new(alloc);
+    match input.read_to_end(&mut bytes) {
+        Ok(_) => match show_bytes(alloc, request, bytes, out) {
+            Ok(status) => status,
+            Err(_) => Status::Memory,
+        },
+        Err(error) if error.kind() == ErrorKind::OutOfMemory => Status::Memory,
+        Err(_) => Status::NoInput,
+    }
+}
+
+/// What these words ask for; where they were not read, how the run ends.
+fn asked(words: &io::Result<Vec<String>>) -> Result<Request, Status> {
+    match words {
+        Ok(words) => request_of(words.as_slice()).ok_or(Status::Usage),
+        Err(error) if error.kind() == ErrorKind::OutOfMemory => Err(Status::Memory),
+        Err(_) => Err(Status::Usage),
+    }
+}
+
+/// Does what these words ask for, and answers how the run ends; what went wrong is said on `complaints`.
+pub fn run<R: Read, W: Write, C: Write>(
+    alloc: Global,
+    words: &io::Result<Vec<String>>,
+    input: &mut R,
+    out: &mut W,
+    complaints: &mut C,
+) -> Status {
+    let status = match asked(words) {
+        Ok(request) => show(alloc, request, input, out),
+        Err(status) => status,
+    };
+    if let Some(complaint) = status.complaint() {
+        // Where this fails too, the status alone says it.
+        let _ = writeln!(complaints, "{complaint}");
+    }
+    status
+}

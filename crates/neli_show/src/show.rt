@@ -1,0 +1,372 @@
+//! Messages, part by part, whatever the form that they are printed in.
+
+ghost use Rattle.std.specs.Prelude.{◌≤◌, IfSome, length};
+
+use crate::form::{Fault, Form, Place};
+use crate::head::{CONNECTOR, GENERIC, Head, Names, ROUTE};
+use byteorder::{ByteOrder, LittleEndian};
+use neli_lent::{LentMessage, LentMessages};
+use neli_schema::tables::extended_acknowledgement::EXTENDED_ACKNOWLEDGEMENT;
+use neli_schema::{Number, Structure, Table, TableId, fields};
+use neli_schema_walk::{Context, Item, Shape, Step, Walk};
+use neli_wire::implementing::padded_length;
+use std::io;
+use std::io::Write;
+
+/// What every message of generic netlink begins with (`struct genlmsghdr` of `linux/genetlink.h`), and attributes of
+/// which the family alone knows what they are.
+const ANY_GENERIC: Table<'static> = Table {
+    id: TableId(u16::MAX),
+    header: Structure {
+        name: "genlmsghdr",
+        size: 4,
+        fields: fields! {
+            cmd: 0..1, Number(Number::U8);
+            version: 1..2, Number(Number::U8);
+            reserved: 2..4, Number(Number::U16);
+        },
+    },
+    rows: &[],
+    each: None,
+};
+
+/// The bytes from this place on.
+fn bytes_from(bytes: &[u8], start: usize) -> &[u8] {
+    match bytes.get(start..) {
+        Some(rest) => rest,
+        None => &[],
+    }
+}
+
+/// Where an item stands whose body is at this level.
+fn place_of(level: usize, item: &Item<'_, '_>) -> Place {
+    let steps = item.path.steps().len();
+    let lists = match item.content {
+        Ok(_) => steps,
+        Err(_) => steps.saturating_add(1),
+    };
+    Place {
+        level: level.saturating_add(lists.saturating_sub(1)),
+        lists,
+    }
+}
+
+/// The attribute that an item is, by its number and its name.
+fn step_of<'t>(item: &Item<'_, 't>) -> Step<'t> {
+    match item.path.steps().last() {
+        Some(step) => *step,
+        None => Step::default(),
+    }
+}
+
+/// Prints an item of a walk.
+fn show_item<F: Form, W: Write>(
+    form: &mut F,
+    out: &mut W,
+    level: usize,
+    item: &Item<'_, '_>,
+) -> io::Result<()> {
+    let place = place_of(level, item);
+    match &item.content {
+        Ok(attribute) => form.attribute(out, place, &step_of(item), attribute),
+        Err(error) => form.rest(out, place, error),
+    }
+}
+
+/// Prints attributes; structures with attributes in them are printed as bytes.
+fn show_inner<F: Form, W: Write>(
+    form: &mut F,
+    out: &mut W,
+    level: usize,
+    context: Context<'_>,
+    table: Table<'_>,
+    bytes: &[u8],
+) -> io::Result<()> {
+    form.list(out)?;
+    for item in Walk::new(context, table, bytes) {
+        show_item(form, out, level, &item)?;
+    }
+    form.end_list(out)
+}
+
+/// How many bytes a structure and its attributes have, which it states first: as many as there are at most.
+fn hop_length(bytes: &[u8], least: usize) -> Option<usize>
+    ensures { IfSome result (λ n. n ≤ length bytes.now) }
+{
+    if bytes.len() < 2 {
+        return None;
+    }
+    let length = LittleEndian::read_u16(bytes) as usize;
+    if length < least || length < 4 || bytes.len() < length {
+        return None;
+    }
+    Some(length)
+}
+
+/// Prints a structure and the attributes after it.
+fn show_hop<F: Form, W: Write>(
+    form: &F,
+    out: &mut W,
+    level: usize,
+    is_first: bool,
+    context: Context<'_>,
+    table: Table<'_>,
+    bytes: &[u8],
+) -> io::Result<()> {
+    let mut inner = *form;
+    inner.hop(out, level, is_first, &table, bytes)?;
+    let attributes = bytes_from(bytes, padded_length(table.header.size));
+    show_inner(
+        &mut inner,
+        out,
+        level.saturating_add(1),
+        context,
+        table,
+        attributes,
+    )?;
+    inner.end_hop(out)
+}
+
+/// Prints structures that each state their length, and are each followed by attributes.
+fn show_hops<F: Form, W: Write>(
+    form: &mut F,
+    out: &mut W,
+    level: usize,
+    context: Context<'_>,
+    table: Table<'_>,
+    bytes: &[u8],
+) -> io::Result<()> {
+    let mut rest = bytes;
+    let mut is_first = true;
+    // Each has four bytes or more, so there are fewer than bytes.
+    for _hop in 0..bytes.len() {
+        let Some(length) = hop_length(rest, table.header.size) else {
+            break;
+        };
+        show_hop(form, out, level, is_first, context, table, &rest[..length])?;
+        is_first = false;
+        rest = bytes_from(rest, padded_length(length));
+    }
+    form.end_hops(out, level, is_first, rest)
+}
+
+/// Prints attributes.
+fn show_list<F: Form, W: Write>(
+    form: &mut F,
+    out: &mut W,
+    level: usize,
+    context: Context<'_>,
+    table: Table<'_>,
+    bytes: &[u8],
+) -> io::Result<()> {
+    form.list(out)?;
+    for item in Walk::new(context, table, bytes) {
+        let place = place_of(level, &item);
+        match &item.content {
+            Ok(attribute) if let Ok(Shape::Hops(table)) = attribute.shape => {
+                form.hops(out, place, &step_of(&item))?;
+                let deeper = place.level.saturating_add(1);
+                show_hops(form, out, deeper, context, table, attribute.payload)?;
+            }
+            _ => show_item(form, out, level, &item)?,
+        }
+    }
+    form.end_list(out)
+}
+
+/// The table of what a message of this protocol and type carries, and its name.
+fn table_of<'t>(
+    names: &Names<'t>,
+    protocol: u16,
+    message_type: u16,
+    payload: &[u8],
+) -> Option<(&'t str, Table<'t>)> {
+    if protocol == CONNECTOR {
+        return event_table(names, payload);
+    }
+    match names.body(protocol, u32::from(message_type)) {
+        Some(body) => {
+            let table = names.table(body)?;
+            Some((table.header.name, table))
+        }
+        None if protocol == GENERIC && 16 <= message_type => Some(("genlmsghdr", ANY_GENERIC)),
+        None => None,
+    }
+}
+
+/// The table of a process event, which says at 20 what it is, and its name.
+fn event_table<'t>(names: &Names<'t>, payload: &[u8]) -> Option<(&'t str, Table<'t>)> {
+    if payload.len() < 24 {
+        return None;
+    }
+    let is_process = LittleEndian::read_u32(payload) == 1
+        && LittleEndian::read_u32(&payload[4..]) == 1;
+    if !is_process {
+        return None;
+    }
+    let body = names.body(CONNECTOR, LittleEndian::read_u32(&payload[20..]))?;
+    Some((body.name, names.table(body)?))
+}
+
+/// The address family of a body: its first byte in messages of routing.
+fn family_of(protocol: u16, payload: &[u8]) -> u8 {
+    match payload.first() {
+        Some(family) if protocol == ROUTE => *family,
+        _ => 0,
+    }
+}
+
+/// Prints the body of a message.
+fn show_body<F: Form, W: Write>(
+    form: &mut F,
+    out: &mut W,
+    level: usize,
+    names: &Names<'_>,
+    head: &Head<'_>,
+    payload: &[u8],
+) -> io::Result<()> {
+    let Some((name, table)) = table_of(names, head.protocol, head.message_type, payload) else {
+        if payload.is_empty() {
+            return Ok(());
+        }
+        return form.bytes(out, level, payload);
+    };
+    form.structure(out, level, name, &table.header, payload)?;
+    let context = Context {
+        schema: names.schema,
+        family: family_of(head.protocol, payload),
+    };
+    let attributes = bytes_from(payload, padded_length(table.header.size));
+    show_list(form, out, level, context, table, attributes)
+}
+
+/// Prints the attributes of an answer.
+fn show_extended<F: Form, W: Write>(
+    form: &mut F,
+    out: &mut W,
+    names: &Names<'_>,
+    bytes: &[u8],
+) -> io::Result<()> {
+    let context = Context {
+        schema: names.schema,
+        family: 0,
+    };
+    match names.schema.table(EXTENDED_ACKNOWLEDGEMENT) {
+        Some(table) => show_list(form, out, 1, context, table, bytes),
+        None => form.bytes(out, 1, bytes),
+    }
+}
+
+/// `NLM_F_CAPPED` of `linux/netlink.h`: the request's header alone is echoed.
+const CAPPED: u16 = 0x100;
+
+/// `NLM_F_ACK_TLVS`: attributes follow.
+const ACK_TLVS: u16 = 0x200;
+
+/// Prints the request that an answer is for, and answers where the answer's attributes begin in its payload.
+fn show_request<F: Form, W: Write>(
+    form: &mut F,
+    out: &mut W,
+    names: &Names<'_>,
+    answer: &Head<'_>,
+    code: i32,
+    payload: &[u8],
+) -> io::Result<usize> {
+    let Some(request) = Head::read(names, answer.protocol, bytes_from(payload, 4)) else {
+        return Ok(payload.len());
+    };
+    form.head(out, 1, &request)?;
+    let is_whole = code != 0 && answer.flags & CAPPED == 0;
+    let echoed = bytes_from(payload, 20);
+    let mut end = 20;
+    if is_whole {
+        let length = (request.length as usize)
+            .saturating_sub(16)
+            .min(echoed.len());
+        show_body(form, out, 2, names, &request, &echoed[..length])?;
+        end = 20 + length;
+    }
+    form.end(out, 1)?;
+    if is_whole {
+        Ok(padded_length(end))
+    } else if answer.flags & ACK_TLVS != 0 {
+        Ok(end)
+    } else {
+        Ok(payload.len())
+    }
+}
+
+/// Prints an error or an acknowledgement.
+fn show_answer<F: Form, W: Write>(
+    form: &mut F,
+    out: &mut W,
+    names: &Names<'_>,
+    head: &Head<'_>,
+    payload: &[u8],
+) -> io::Result<()> {
+    if payload.len() < 4 {
+        return form.bytes(out, 1, payload);
+    }
+    let code = LittleEndian::read_i32(payload);
+    form.code(out, 1, code)?;
+    let start = show_request(form, out, names, head, code, payload)?;
+    show_extended(form, out, names, bytes_from(payload, start))
+}
+
+/// Prints the end of a dump.
+fn show_done<F: Form, W: Write>(
+    form: &mut F,
+    out: &mut W,
+    names: &Names<'_>,
+    payload: &[u8],
+) -> io::Result<()> {
+    if payload.len() < 4 {
+        return form.bytes(out, 1, payload);
+    }
+    form.code(out, 1, LittleEndian::read_i32(payload))?;
+    show_extended(form, out, names, &payload[4..])
+}
+
+/// Prints a message.
+fn show_message<F: Form, W: Write>(
+    form: &mut F,
+    out: &mut W,
+    names: &Names<'_>,
+    protocol: u16,
+    message: &LentMessage<'_, u16>,
+) -> io::Result<()> {
+    let head = Head::of(names, protocol, message);
+    let payload = message.nl_payload();
+    form.head(out, 0, &head)?;
+    match head.message_type {
+        2 if protocol != CONNECTOR => show_answer(form, out, names, &head, payload)?,
+        3 if protocol != CONNECTOR => show_done(form, out, names, payload)?,
+        _ => show_body(form, out, 1, names, &head, payload)?,
+    }
+    form.end(out, 0)
+}
+
+/// Prints the messages of a datagram, and the fault of what follows them; answers whether there is none.
+pub fn show_datagram<F: Form, W: Write>(
+    form: &mut F,
+    out: &mut W,
+    names: &Names<'_>,
+    protocol: u16,
+    bytes: &[u8],
+) -> io::Result<bool> {
+    let mut place: usize = 0;
+    for message in LentMessages::<u16>::new(bytes) {
+        match message {
+            Ok(message) => {
+                show_message(form, out, names, protocol, &message)?;
+                let length = padded_length(*message.nl_len() as usize);
+                place = place.saturating_add(length);
+            }
+            Err(error) => {
+                form.fault(out, "at", place, Fault(&error))?;
+                return Ok(false);
+            }
+        }
+    }
+    Ok(true)
+}

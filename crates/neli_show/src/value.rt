@@ -1,0 +1,161 @@
+//! Values: what payloads and fields of structures say.
+
+use crate::quoted::Quoted;
+use byteorder::{BigEndian, ByteOrder, LittleEndian};
+use neli_schema::{Field, FieldKind, Number};
+use std::net::IpAddr;
+use std::{fmt, str};
+
+/// What a payload or a field says.
+#[derive(Clone, Copy, Debug)]
+pub enum Value<'b> {
+    /// A number without a sign.
+    Unsigned(u64),
+    /// A number with a sign.
+    Signed(i64),
+    /// A text.
+    Text(&'b str),
+    /// A hardware address.
+    Hardware(&'b [u8]),
+    /// An address of IP.
+    Ip(IpAddr),
+    /// Bytes.
+    Bytes(&'b [u8]),
+}
+
+/// The number at the front of these bytes; bytes where they are too few.
+pub fn number_value(number: Number, bytes: &[u8]) -> Value<'_> {
+    let size = number.size();
+    if bytes.len() < size {
+        return Value::Bytes(bytes);
+    }
+    match number {
+        Number::U8 | Number::U16 | Number::U32 | Number::U64 => {
+            Value::Unsigned(LittleEndian::read_uint(bytes, size))
+        }
+        Number::S8 | Number::S16 | Number::S32 | Number::S64 => {
+            Value::Signed(LittleEndian::read_int(bytes, size))
+        }
+        Number::Be16 | Number::Be32 | Number::Be64 => {
+            Value::Unsigned(BigEndian::read_uint(bytes, size))
+        }
+    }
+}
+
+/// The text that these bytes are; bytes where they are not UTF-8.
+pub fn text_value(bytes: &[u8]) -> Value<'_> {
+    match str::from_utf8(bytes) {
+        Ok(text) => Value::Text(text),
+        Err(_) => Value::Bytes(bytes),
+    }
+}
+
+/// The bytes before the first zero.
+fn before_zero(bytes: &[u8]) -> &[u8] {
+    match bytes.iter().position(|byte| *byte == 0) {
+        Some(end) if end <= bytes.len() => &bytes[..end],
+        _ => bytes,
+    }
+}
+
+/// The bytes before a zero at the end.
+pub fn without_zero(bytes: &[u8]) -> &[u8] {
+    match bytes.split_last() {
+        Some((last, before)) if *last == 0 => before,
+        _ => bytes,
+    }
+}
+
+/// The IPv4 address that these four bytes are; bytes where they are not four.
+pub fn ipv4_value(bytes: &[u8]) -> Value<'_> {
+    match <[u8; 4]>::try_from(bytes) {
+        Ok(address) => Value::Ip(IpAddr::from(address)),
+        Err(_) => Value::Bytes(bytes),
+    }
+}
+
+/// The IPv6 address that these sixteen bytes are; bytes where they are not sixteen.
+pub fn ipv6_value(bytes: &[u8]) -> Value<'_> {
+    match <[u8; 16]>::try_from(bytes) {
+        Ok(address) => Value::Ip(IpAddr::from(address)),
+        Err(_) => Value::Bytes(bytes),
+    }
+}
+
+/// The bytes of a field in a structure that may end early: as many as are there of bytes, and else all or none.
+fn field_bytes<'b>(field: &Field<'_>, structure: &'b [u8]) -> Option<&'b [u8]> {
+    let whole = structure.get(field.start..field.end);
+    match field.kind {
+        FieldKind::Bytes if whole.is_none() && field.start < structure.len() => {
+            Some(&structure[field.start..])
+        }
+        _ => whole,
+    }
+}
+
+/// What a field of a structure says, if it is there.
+pub fn field_value<'b>(field: &Field<'_>, structure: &'b [u8]) -> Option<Value<'b>> {
+    let bytes = field_bytes(field, structure)?;
+    Some(match field.kind {
+        FieldKind::Number(number) => number_value(number, bytes),
+        FieldKind::Text => text_value(before_zero(bytes)),
+        FieldKind::HardwareAddress => Value::Hardware(bytes),
+        FieldKind::Ipv4 => ipv4_value(bytes),
+        FieldKind::Ipv6 => ipv6_value(bytes),
+        FieldKind::Bytes => Value::Bytes(bytes),
+    })
+}
+
+/// Bytes as hexadecimal digits, two each, with this between them.
+#[derive(Clone, Copy)]
+pub struct Hex<'b> {
+    pub bytes: &'b [u8],
+    pub between: &'static str,
+}
+
+impl fmt::Display for Hex<'_> {
+    fn fmt<W: fmt::Write>(&self, f: &mut fmt::Formatter<W>) -> fmt::Result {
+        let mut before = "";
+        for byte in self.bytes {
+            write!(f, "{before}{byte:02x}")?;
+            before = self.between;
+        }
+        Ok(())
+    }
+}
+
+/// Bytes as one hexadecimal number.
+pub fn plain_hex(bytes: &[u8]) -> Hex<'_> {
+    Hex { bytes, between: "" }
+}
+
+/// A hardware address, as `02:00:00:00:00:01`.
+pub fn hardware_hex(bytes: &[u8]) -> Hex<'_> {
+    Hex {
+        bytes,
+        between: ":",
+    }
+}
+
+impl fmt::Display for Value<'_> {
+    fn fmt<W: fmt::Write>(&self, f: &mut fmt::Formatter<W>) -> fmt::Result {
+        match self {
+            Value::Unsigned(number) => write!(f, "{number}"),
+            Value::Signed(number) => write!(f, "{number}"),
+            Value::Text(text) => {
+                let text = Quoted(text);
+                write!(f, "{text}")
+            }
+            Value::Ip(address) => write!(f, "{address}"),
+            Value::Hardware([]) | Value::Bytes([]) => write!(f, "empty"),
+            Value::Hardware(bytes) => {
+                let hex = hardware_hex(bytes);
+                write!(f, "{hex}")
+            }
+            Value::Bytes(bytes) => {
+                let hex = plain_hex(bytes);
+                write!(f, "0x{hex}")
+            }
+        }
+    }
+}
