@@ -1,0 +1,2 @@
+pub mod HardwareAddress
+pub mod Inline
