@@ -10,7 +10,8 @@ pub mod laws {
         error_is_delivered, finished_dump_is_delivered, message_is_one_frame, reply_is_delivered,
     };
     pub use neli_kernel_laws::{
-        answers_are_complete, answers_are_given_in_turn, datagrams_bring_their_own,
-        requests_are_answered_in_turn,
+        acknowledged_request_is_answered, answers_are_complete, answers_are_given_in_turn,
+        datagrams_bring_their_own, dump_request_is_answered, refused_request_is_answered,
+        replied_request_is_answered, request_is_answered, requests_are_answered_in_turn,
     };
 }

@@ -56,7 +56,7 @@ later-place j n le = grind (arith, nat_tests)
 same-place : (n : ℕ) → (n == n) ≡ true
 same-place n = grind (arith, nat_tests)
 
-is-given : (j n : ℕ) → suc j ≤ n → nat_le (suc j) n ≡ true
+pub is-given : (j n : ℕ) → suc j ≤ n → nat_le (suc j) n ≡ true
 is-given j n le = grind (arith, nat_tests)
 
 not-given : (n : ℕ) → nat_le (suc n) n ≡ false
@@ -82,11 +82,11 @@ taken-by : {A : Type 0} (same : Bool) (x y : A) → same ≡ true → (if true &
 taken-by true x y is = refl
 taken-by false x y is = cc
 
-or-later : (a b : Bool) → (a || b) ≡ false → b ≡ false
+pub or-later : (a b : Bool) → (a || b) ≡ false → b ≡ false
 or-later true b e = cc
 or-later false b e = e
 
-open-by : (given closed : Bool) → given ≡ true → closed ≡ false → (given && not closed) ≡ true
+pub open-by : (given closed : Bool) → given ≡ true → closed ≡ false → (given && not closed) ≡ true
 open-by true false is not = refl
 open-by true true is not = cc
 open-by false closed is not = cc
@@ -99,12 +99,12 @@ not-open false closed is = refl
 
 module _ {ST SP RT RP : Type 0} (port : ℕ) where
   -- what is known of a handle that was given: its number, and whether it needs an acknowledgement
-  record Keeps (j number : ℕ) (needs : Bool) (h : History ST SP RT RP) : Type 0 where
-    given : suc j ≤ requests_sent h
-    number_is : number_of (suc j) h ≡ number
-    needs_is : needs_of (suc j) h ≡ needs
+  pub record Keeps (j number : ℕ) (needs : Bool) (h : History ST SP RT RP) : Type 0 where
+    pub given : suc j ≤ requests_sent h
+    pub number_is : number_of (suc j) h ≡ number
+    pub needs_is : needs_of (suc j) h ≡ needs
 
-  keeps-more : (j number : ℕ) (needs : Bool) (e : Event ST SP RT RP) (h : History ST SP RT RP) → Keeps j number needs h → Keeps j number needs (e ∷ h)
+  pub keeps-more : (j number : ℕ) (needs : Bool) (e : Event ST SP RT RP) (h : History ST SP RT RP) → Keeps j number needs h → Keeps j number needs (e ∷ h)
   keeps-more j number needs e h k =
       let other = later-place j (requests_sent h) k.given in
       record {
@@ -168,7 +168,7 @@ module _ {ST SP RT RP : Type 0} (port : ℕ) where
     abbrev start : History ST SP RT RP
     start = history_sent before t flags p sent
 
-    start-keeps : Keeps (requests_sent before) (next_number before) (needs_ack flags) start
+    pub start-keeps : Keeps (requests_sent before) (next_number before) (needs_ack flags) start
     start-keeps = record {
       given = le-self (suc (requests_sent before));
       number_is = taken-by (suc (requests_sent before) == suc (requests_sent before)) _ _ (same-place (suc (requests_sent before)));

@@ -91,15 +91,15 @@ others-numbered number port datagram us cut all other differs =
 
 -- ---- several datagrams
 
-All-first : {A : Type 0} (P : A → Type 0) (xs ys : List A) → All P (xs ++ ys) → All P xs
+pub All-first : {A : Type 0} (P : A → Type 0) (xs ys : List A) → All P (xs ++ ys) → All P xs
 All-first P [] ys h = All-nil P
 All-first P (x ∷ xs) ys h = All-cons P x xs (All-head P x (xs ++ ys) h) (All-first P xs ys (All-tail P x (xs ++ ys) h))
 
-All-later : {A : Type 0} (P : A → Type 0) (xs ys : List A) → All P (xs ++ ys) → All P ys
+pub All-later : {A : Type 0} (P : A → Type 0) (xs ys : List A) → All P (xs ++ ys) → All P ys
 All-later P [] ys h = h
 All-later P (x ∷ xs) ys h = All-later P xs ys (All-tail P x (xs ++ ys) h)
 
-abbrev messages_cut : List ℕ → List Untyped
+abbrev pub messages_cut : List ℕ → List Untyped
 messages_cut d = (cut_of untyped_layout d).0
 
 module _ (number port : ℕ) where
@@ -130,7 +130,7 @@ module _ (number port : ℕ) (is_open : ℕ → Bool) (opened : is_open number �
       let still : is_open u.0.sequence_number ≡ true = ap is_open is.0 ∙ opened in
       rw (here, still) refl
 
-  all-answered : (us : List Untyped) → All (IsFor number port) us → All Answered us
+  pub all-answered : (us : List Untyped) → All (IsFor number port) us → All Answered us
   all-answered [] all = All-nil Answered
   all-answered (u ∷ us) all =
       All-cons Answered u us (one-answered u (All-head (IsFor number port) u us all)) (all-answered us (All-tail (IsFor number port) u us all))

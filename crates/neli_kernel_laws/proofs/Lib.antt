@@ -3,3 +3,4 @@ mod Complete
 mod Typed
 mod Given
 mod Came
+mod Exchanges

@@ -1,3 +1,4 @@
 pub mod Complete
+pub mod Exchanges
 pub mod Served
 pub mod Turns
