@@ -18,7 +18,8 @@
 #define MEGABYTE (1u << 20)
 #define LARGEST (16 * MEGABYTE)
 #define SIZES 3
-#define READERS 4
+#define READERS 5
+#define ROOM 64 /* messages or attributes that one call gives */
 #ifndef ROUNDS
 #define ROUNDS 40
 #endif
@@ -103,9 +104,69 @@ static bool mnl_route_attributes(const uint8_t *bytes, size_t length, uint64_t *
 	return mnl_attributes(bytes, length, sizeof(struct rtmsg), total);
 }
 
-/* ---- this library, by its calls for C */
+/* ---- this library, by its calls for C that give several messages or attributes at once */
 
 static bool call_headers(const uint8_t *bytes, size_t length, uint64_t *total)
+{
+	struct neli_walk walk = { 0, length };
+	struct neli_message messages[ROOM];
+	uint64_t sum = 0;
+	size_t count;
+	int32_t code;
+
+	while ((code = neli_next_messages(bytes, length, &walk, messages, ROOM, &count)) == NELI_ITEM)
+		for (size_t i = 0; i < count; i++)
+			sum += messages[i].length;
+	*total = sum;
+	return code == NELI_END;
+}
+
+/* Adds up the attributes of a message after a header of this size. */
+static inline bool add_attributes(const uint8_t *bytes, size_t length, const struct neli_message *message,
+				  size_t header, uint64_t *sum)
+{
+	struct neli_attribute attributes[ROOM];
+	struct neli_walk walk;
+	size_t count;
+	int32_t code;
+
+	if (neli_attributes_of(message, header, &walk) != NELI_OK)
+		return false;
+	while ((code = neli_next_attributes(bytes, length, &walk, attributes, ROOM, &count)) == NELI_ITEM)
+		for (size_t i = 0; i < count; i++)
+			*sum += attributes[i].number + attributes[i].payload_length;
+	return code == NELI_END;
+}
+
+static inline bool call_attributes(const uint8_t *bytes, size_t length, size_t header, uint64_t *total)
+{
+	struct neli_walk walk = { 0, length };
+	struct neli_message messages[ROOM];
+	uint64_t sum = 0;
+	size_t count;
+	int32_t code;
+
+	while ((code = neli_next_messages(bytes, length, &walk, messages, ROOM, &count)) == NELI_ITEM)
+		for (size_t i = 0; i < count; i++)
+			if (!add_attributes(bytes, length, &messages[i], header, &sum))
+				return false;
+	*total = sum;
+	return code == NELI_END;
+}
+
+static bool call_link_attributes(const uint8_t *bytes, size_t length, uint64_t *total)
+{
+	return call_attributes(bytes, length, sizeof(struct ifinfomsg), total);
+}
+
+static bool call_route_attributes(const uint8_t *bytes, size_t length, uint64_t *total)
+{
+	return call_attributes(bytes, length, sizeof(struct rtmsg), total);
+}
+
+/* ---- this library, by a call for each message and each attribute */
+
+static bool single_headers(const uint8_t *bytes, size_t length, uint64_t *total)
 {
 	struct neli_walk walk = { 0, length };
 	struct neli_message message;
@@ -118,7 +179,7 @@ static bool call_headers(const uint8_t *bytes, size_t length, uint64_t *total)
 	return code == NELI_END;
 }
 
-static inline bool call_attributes(const uint8_t *bytes, size_t length, size_t header, uint64_t *total)
+static inline bool single_attributes(const uint8_t *bytes, size_t length, size_t header, uint64_t *total)
 {
 	struct neli_walk walk = { 0, length };
 	struct neli_message message;
@@ -140,14 +201,14 @@ static inline bool call_attributes(const uint8_t *bytes, size_t length, size_t h
 	return code == NELI_END;
 }
 
-static bool call_link_attributes(const uint8_t *bytes, size_t length, uint64_t *total)
+static bool single_link_attributes(const uint8_t *bytes, size_t length, uint64_t *total)
 {
-	return call_attributes(bytes, length, sizeof(struct ifinfomsg), total);
+	return single_attributes(bytes, length, sizeof(struct ifinfomsg), total);
 }
 
-static bool call_route_attributes(const uint8_t *bytes, size_t length, uint64_t *total)
+static bool single_route_attributes(const uint8_t *bytes, size_t length, uint64_t *total)
 {
-	return call_attributes(bytes, length, sizeof(struct rtmsg), total);
+	return single_attributes(bytes, length, sizeof(struct rtmsg), total);
 }
 
 /* ---- the bytes */
@@ -317,11 +378,13 @@ int main(int argc, char **argv)
 		{ "headers",
 		  { { .name = "libmnl", .run = mnl_headers },
 		    { .name = "calls", .run = call_headers },
+		    { .name = "single", .run = single_headers },
 		    { .name = "lent", .run = neli_bench_lent_headers },
 		    { .name = "owned", .run = neli_bench_owned_headers } } },
 		{ "attributes",
 		  { { .name = "libmnl", .run = mnl_link_attributes },
 		    { .name = "calls", .run = call_link_attributes },
+		    { .name = "single", .run = single_link_attributes },
 		    { .name = "lent", .run = neli_bench_lent_link_attributes },
 		    { .name = "owned", .run = neli_bench_owned_link_attributes } } },
 	};
@@ -329,11 +392,13 @@ int main(int argc, char **argv)
 		{ "headers",
 		  { { .name = "libmnl", .run = mnl_headers },
 		    { .name = "calls", .run = call_headers },
+		    { .name = "single", .run = single_headers },
 		    { .name = "lent", .run = neli_bench_lent_headers },
 		    { .name = "owned", .run = neli_bench_owned_headers } } },
 		{ "attributes",
 		  { { .name = "libmnl", .run = mnl_route_attributes },
 		    { .name = "calls", .run = call_route_attributes },
+		    { .name = "single", .run = single_route_attributes },
 		    { .name = "lent", .run = neli_bench_lent_route_attributes },
 		    { .name = "owned", .run = neli_bench_owned_route_attributes } } },
 	};

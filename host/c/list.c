@@ -11,11 +11,16 @@
 static void print_link(const struct host *host, const struct neli_message *message) {
     struct ifinfomsg link;
     struct neli_walk walk;
-    struct neli_attribute name, mtu;
+    struct neli_attribute attributes[16], name = {0}, mtu = {0};
+    size_t count;
     uint32_t bytes;
     if (neli_attributes_of(message, sizeof link, &walk) != NELI_OK) return;
-    if (!host_find(host, &walk, IFLA_IFNAME, &name) || host_text(host, &name) == NULL) return;
-    if (!host_find(host, &walk, IFLA_MTU, &mtu)) return;
+    while (neli_next_attributes(host->item, host->item_length, &walk, attributes, 16, &count) == NELI_ITEM)
+        for (size_t i = 0; i < count; i++) {
+            if (attributes[i].number == IFLA_IFNAME) name = attributes[i];
+            if (attributes[i].number == IFLA_MTU) mtu = attributes[i];
+        }
+    if (name.number != IFLA_IFNAME || host_text(host, &name) == NULL || mtu.number != IFLA_MTU) return;
     if (neli_get_u32(host->item + mtu.payload, mtu.payload_length, 0, &bytes) != NELI_OK) return;
     memcpy(&link, host->item + message->payload, sizeof link);
     const char *state = link.ifi_flags & IFF_UP ? "up" : "down";

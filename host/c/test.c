@@ -53,6 +53,41 @@ static size_t send_dump(struct host *host) {
     return handle;
 }
 
+/* What one call gives of a message's attributes is what single calls give. */
+static void want_same_attributes(const uint8_t *bytes, size_t length, const struct neli_message *message) {
+    struct neli_walk walk, single;
+    struct neli_attribute attributes[5], attribute;
+    size_t count;
+    int32_t code;
+    WANT(neli_attributes_of(message, sizeof(struct ifinfomsg), &walk) == NELI_OK);
+    single = walk;
+    while ((code = neli_next_attributes(bytes, length, &walk, attributes, 5, &count)) == NELI_ITEM) {
+        for (size_t i = 0; i < count; i++) {
+            WANT(neli_next_attribute(bytes, length, &single, &attribute) == NELI_ITEM);
+            WANT(memcmp(&attributes[i], &attribute, sizeof attribute) == 0);
+        }
+        WANT(walk.place == single.place && (count == 5 || walk.place == walk.end));
+    }
+    WANT(code == NELI_END && neli_next_attribute(bytes, length, &single, &attribute) == NELI_END);
+}
+
+/* And so of a datagram's messages. */
+static void want_same_messages(const uint8_t *bytes, size_t length) {
+    struct neli_walk walk = {0, length}, single = {0, length};
+    struct neli_message messages[3], message;
+    size_t count;
+    int32_t code;
+    while ((code = neli_next_messages(bytes, length, &walk, messages, 3, &count)) == NELI_ITEM) {
+        for (size_t i = 0; i < count; i++) {
+            WANT(neli_next_message(bytes, length, &single, &message) == NELI_ITEM);
+            WANT(memcmp(&messages[i], &message, sizeof message) == 0);
+            if (message.type == RTM_NEWLINK) want_same_attributes(bytes, length, &message);
+        }
+        WANT(walk.place == single.place && (count == 3 || walk.place == walk.end));
+    }
+    WANT(code == NELI_END && neli_next_message(bytes, length, &single, &message) == NELI_END);
+}
+
 /* How many links are left of a dump, which is read to its end. */
 static int count_links(struct host *host, size_t dump) {
     struct neli_message message;
@@ -111,6 +146,7 @@ static void a_dump_of_many_datagrams(void) {
         int32_t code;
         WANT(host_receive(&host, &walk.end, &group) == NELI_OK && group == 0);
         size_t length = walk.end;
+        want_same_messages(host.datagram, length);
         while ((code = neli_next_message(host.datagram, length, &walk, &message)) == NELI_ITEM) {
             links += message.type == RTM_NEWLINK;
             is_done |= message.type == NLMSG_DONE;

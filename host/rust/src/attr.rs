@@ -11,6 +11,9 @@ const NESTED: u16 = 0x8000;
 /// Both flags of a type field.
 const FLAGS: u16 = 0xc000;
 
+/// So many attributes are read by one call.
+const AT_ONCE: usize = 16;
+
 /// A number that tells what an attribute is.
 pub trait AttrNumber: Copy + From<u16> + Into<u16> {}
 
@@ -124,14 +127,15 @@ impl<A: Attribute> FromBytes for AttrList<A> {
     fn from_bytes(bytes: &[u8]) -> Result<Self, DeError> {
         let mut list = AttrList::new();
         let mut walk = ffi::Walk { place: 0, end: bytes.len() };
+        let mut room = [ffi::Attribute::default(); AT_ONCE];
         loop {
-            let mut found = ffi::Attribute::default();
-            match ffi::next_attribute(bytes, &mut walk, &mut found) {
-                ffi::ITEM => {
-                    list.push(A::of_field(found.kind, &bytes[found.payload..][..found.payload_length]));
+            match ffi::next_attributes(bytes, &mut walk, &mut room) {
+                (ffi::ITEM, found) => {
+                    list.0
+                        .extend(found.iter().map(|it| A::of_field(it.kind, &bytes[it.payload..][..it.payload_length])));
                 }
-                ffi::END => return Ok(list),
-                code => return Err(refused(code).into()),
+                (ffi::END, _) => return Ok(list),
+                (code, _) => return Err(refused(code).into()),
             }
         }
     }

@@ -104,7 +104,22 @@ struct RawRouter {
 unsafe extern "C" {
     fn neli_c_error_text(code: i32, out: *mut u8, room: usize, length: *mut usize) -> i32;
     fn neli_c_next_message(bytes: *const u8, length: usize, walk: *mut Walk, message: *mut Message) -> i32;
-    fn neli_c_next_attribute(bytes: *const u8, length: usize, walk: *mut Walk, attribute: *mut Attribute) -> i32;
+    fn neli_c_next_messages(
+        bytes: *const u8,
+        length: usize,
+        walk: *mut Walk,
+        messages: *mut Message,
+        room: usize,
+        count: *mut usize,
+    ) -> i32;
+    fn neli_c_next_attributes(
+        bytes: *const u8,
+        length: usize,
+        walk: *mut Walk,
+        attributes: *mut Attribute,
+        room: usize,
+        count: *mut usize,
+    ) -> i32;
     fn neli_c_get_answer(bytes: *const u8, length: usize, message: *const Message, answer: *mut Answer) -> i32;
     fn neli_c_begin_message(
         out: *mut u8,
@@ -166,10 +181,22 @@ pub fn next_message(bytes: &[u8], walk: &mut Walk, message: &mut Message) -> i32
     unsafe { neli_c_next_message(bytes.as_ptr(), bytes.len(), walk, message) }
 }
 
-/// The next attribute of a walk over these bytes.
-pub fn next_attribute(bytes: &[u8], walk: &mut Walk, attribute: &mut Attribute) -> i32 {
-    // SAFETY: pointer and length are those of one slice, and the others are exclusive borrows; nothing is kept.
-    unsafe { neli_c_next_attribute(bytes.as_ptr(), bytes.len(), walk, attribute) }
+/// The next messages of a walk over these bytes, as many as there is room for: the code, and those that are given.
+pub fn next_messages<'m>(bytes: &[u8], walk: &mut Walk, room: &'m mut [Message]) -> (i32, &'m [Message]) {
+    let mut count = 0;
+    let (at, length) = (room.as_mut_ptr(), room.len());
+    // SAFETY: each pointer and its length are those of one slice, and all but `bytes` are exclusive borrows.
+    let code = unsafe { neli_c_next_messages(bytes.as_ptr(), bytes.len(), walk, at, length, &mut count) };
+    (code, room.get(..count).unwrap_or_default())
+}
+
+/// The next attributes of a walk over these bytes, as many as there is room for: the code, and those that are given.
+pub fn next_attributes<'a>(bytes: &[u8], walk: &mut Walk, room: &'a mut [Attribute]) -> (i32, &'a [Attribute]) {
+    let mut count = 0;
+    let (at, length) = (room.as_mut_ptr(), room.len());
+    // SAFETY: each pointer and its length are those of one slice, and all but `bytes` are exclusive borrows.
+    let code = unsafe { neli_c_next_attributes(bytes.as_ptr(), bytes.len(), walk, at, length, &mut count) };
+    (code, room.get(..count).unwrap_or_default())
 }
 
 /// What an error, an acknowledgement or the end of a dump says.

@@ -28,6 +28,9 @@ pub mod synchronous {
     /// `EMSGSIZE`, by which the router is told of a datagram that was cut.
     const CUT: i32 = 90;
 
+    /// So many messages are read by one call.
+    const AT_ONCE: usize = 16;
+
     type Controller = Genlmsghdr<CtrlCmd, CtrlAttr>;
 
     /// A router over a socket of its own. Handles can outlive it.
@@ -137,15 +140,17 @@ pub mod synchronous {
 
         fn mark_answered(&mut self, datagram: &[u8], port: u32) {
             let mut walk = ffi::Walk { place: 0, end: datagram.len() };
-            let mut message = ffi::Message::default();
-            while ffi::next_message(datagram, &mut walk, &mut message) == ffi::ITEM {
-                let Some(open) = self.open.get_mut(&message.number) else { continue };
-                if message.port != port || !open.ends_with(&message) {
-                    continue;
-                }
-                open.is_answered = true;
-                if open.is_dropped {
-                    self.close(message.number);
+            let mut room = [ffi::Message::default(); AT_ONCE];
+            while let (ffi::ITEM, messages) = ffi::next_messages(datagram, &mut walk, &mut room) {
+                for message in messages {
+                    let Some(open) = self.open.get_mut(&message.number) else { continue };
+                    if message.port != port || !open.ends_with(message) {
+                        continue;
+                    }
+                    open.is_answered = true;
+                    if open.is_dropped {
+                        self.close(message.number);
+                    }
                 }
             }
         }
