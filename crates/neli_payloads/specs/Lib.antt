@@ -1,2 +1,5 @@
 pub mod HardwareAddress
+pub mod IfaCacheinfo
+pub mod LinkStats64
+pub mod RtaCacheinfo
 pub mod laws
