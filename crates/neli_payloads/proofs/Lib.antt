@@ -1,1 +1,2 @@
 mod Inline
+mod Walks

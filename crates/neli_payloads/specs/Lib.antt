@@ -1,5 +1,6 @@
 pub mod HardwareAddress
 pub mod IfaCacheinfo
 pub mod LinkStats64
+pub mod NextHops
 pub mod RtaCacheinfo
 pub mod laws
