@@ -9,6 +9,7 @@ pub use Rattle.neli_consts_rtf.specs as consts_rtf
 pub use Rattle.neli_consts_sys.specs as consts_sys
 pub use Rattle.neli_route.specs as route
 pub use Rattle.neli_link.specs as link
+pub use Rattle.neli_payloads.specs as payloads
 pub use Rattle.neli_genl.specs as genl
 pub use Rattle.neli_msg.specs as msg
 pub use Rattle.neli_lent.specs as lent

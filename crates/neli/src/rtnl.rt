@@ -1,4 +1,5 @@
-//! Routing netlink: the bodies of links, addresses, neighbours, routes, queues and rules, and their attributes.
+//! Routing netlink: the bodies of links, addresses, neighbours, routes, queues and rules, their attributes, and what
+//! these carry as payloads: hardware addresses, counters, cache entries and next hops.
 
 pub use neli_attr::{RtAttrHandle, Rtattr, RtattrBuilder, RtattrBuilderError};
 pub use neli_link::{
@@ -6,6 +7,9 @@ pub use neli_link::{
     IfinfomsgBuilderError, IflaVlanFlags, IflaVlanFlagsBuilder, IflaVlanFlagsBuilderError,
     IflaVlanQosMapping, IflaVlanQosMappingBuilder, IflaVlanQosMappingBuilderError, NdaCacheinfo,
     NdaCacheinfoBuilder, NdaCacheinfoBuilderError, Ndmsg, NdmsgBuilder, NdmsgBuilderError,
+};
+pub use neli_payloads::{
+    HardwareAddress, IfaCacheinfo, LinkStats64, NextHop, NextHops, RtaCacheinfo,
 };
 pub use neli_route::{
     Fibmsg, FibmsgBuilder, FibmsgBuilderError, Rtgenmsg, RtgenmsgBuilder, RtgenmsgBuilderError,
@@ -18,6 +22,9 @@ pub mod laws {
         equality as equality_of_links, ifaddrmsg_is_read_back, ifinfomsg_is_read_back,
         ifla_vlan_flags_is_read_back, ifla_vlan_qos_mapping_is_read_back,
         nda_cacheinfo_is_read_back, ndmsg_is_read_back,
+    };
+    pub use neli_payloads::laws::{
+        equality as equality_of_payloads, ifa_cacheinfo_is_read_back, rta_cacheinfo_is_read_back,
     };
     pub use neli_route::laws::{
         equality as equality_of_routes, fibmsg_is_read_back, rtgenmsg_is_read_back,
