@@ -49,8 +49,8 @@ pub fn answers_are_one_frame()
 {}
 
 /// A dump is read as its messages: where the datagrams so far are read as some messages, and without a fault, they are
-/// read as these and one more after one more was put in, whether it begins the next datagram or not. So the datagrams of
-/// a dump are read as all that was put in, in that order, and the end is the last one.
+/// read as these and one more after one more was put in, whether it begins the next datagram or not. So the datagrams
+/// of a dump are read as all that was put in, in that order, and the end is the last one.
 pub fn dump_is_read_as_its_messages()
     ensures nothing { AreRead (datagrams_of ([], [])) [] }
     ensures put { (limit : ℕ) (frame : List ℕ) (m : Lent ℕ) (p q : Packed) (said : List (Lent ℕ))
@@ -69,10 +69,11 @@ pub fn datagrams_keep_the_limit()
         → AreWithin limit (datagrams_of (begun p)) }
 {}
 
-/// A reply is delivered to the handle that asked, once, and to no other one: where a router has the reply's port and the
-/// request's number is still open there, a datagram of the reply's bytes is one message for that handle, with the body's
-/// bytes and zeros up to a multiple of four, and nothing for each other handle and for the one for multicast. So it is of
-/// each message of [`Request::reply`](crate::Request::reply) whose type is neither 2 (an error) nor 3 (the end of a dump).
+/// A reply is delivered to the handle that asked, once, and to no other one: where a router has the reply's port and
+/// the request's number is still open there, a datagram of the reply's bytes is one message for that handle, with the
+/// body's bytes and zeros up to a multiple of four, and nothing for each other handle and for the one for multicast. So
+/// it is of each message of [`Request::reply`](crate::Request::reply) whose type is neither 2 (an error) nor 3 (the end
+/// of a dump).
 pub fn reply_is_delivered<T: NlType, P: ToBytes>()
     ensures one_message { (t : T) (flags : Flags) (number port : ℕ) (body : P) (text bytes : List ℕ)
         → IsReply T.wire_number P.wire P.Size.wire_length t flags number port body text bytes
@@ -87,10 +88,10 @@ pub fn reply_is_delivered<T: NlType, P: ToBytes>()
         → datagram_share port is_open other (cut_of untyped_layout bytes) [] ≡ [] }
 {}
 
-/// Attributes of an extended acknowledgement are read back from their bytes, as the laws below want them: where there are
-/// none, and where each one's length is that of its header and payload and fits 16 bits, and its type is what its number of
-/// 14 bits means. A builder gives an attribute such a length. A type without a name has such a number where it is 5 or
-/// more, and below 16384.
+/// Attributes of an extended acknowledgement are read back from their bytes, as the laws below want them: where there
+/// are none, and where each one's length is that of its header and payload and fits 16 bits, and its type is what its
+/// number of 14 bits means. A builder gives an attribute such a length. A type without a name has such a number where
+/// it is 5 or more, and below 16384.
 pub fn attributes_are_read_back()
     ensures nothing { AreReadBack [] [] }
     ensures plain { (attrs : Attributes) → All IsPlainAttribute attrs → (text : List ℕ) × AreReadBack attrs text }
@@ -98,9 +99,9 @@ pub fn attributes_are_read_back()
 
 /// A dump is delivered to the handle that asked, message by message and in order, and to no other one: where its
 /// datagrams are read as some messages, each with the router's port and a number that is still open there, and `ms` are
-/// these as the router keeps them, then the handle of the number gets all of `ms` of the datagrams, one after the other,
-/// and each other handle nothing; the datagrams are cut into them, and without a fault. A message whose type is neither 2
-/// nor 3 is kept with its bytes as body, and an end with its code and with attributes that are read back.
+/// these as the router keeps them, then the handle of the number gets all of `ms` of the datagrams, one after the
+/// other, and each other handle nothing; the datagrams are cut into them, and without a fault. A message whose type is
+/// neither 2 nor 3 is kept with its bytes as body, and an end with its code and with attributes that are read back.
 pub fn dump_is_delivered()
     ensures asker { (datagrams : List (List ℕ)) (said : List (Lent ℕ)) (ms : List Untyped) (number port : ℕ)
         (is_open : ℕ → Bool) → AreRead datagrams said → map untyped said ≡ map (λ m. Ok m) ms
@@ -120,9 +121,9 @@ pub fn dump_is_delivered()
 {}
 
 /// A dump that was finished is delivered whole: where what was put in is read as some messages, kept as `ms`, with the
-/// request's number and port, the datagrams of [`Dump::finish`](crate::Dump::finish) give the handle of that number `ms`
-/// and then the end with its code and attributes, and each other handle nothing; however they were cut. The attributes are
-/// ones that are read back from their bytes.
+/// request's number and port, the datagrams of [`Dump::finish`](crate::Dump::finish) give the handle of that number
+/// `ms` and then the end with its code and attributes, and each other handle nothing; however they were cut. The
+/// attributes are ones that are read back from their bytes.
 pub fn finished_dump_is_delivered()
     ensures read { (limit : ℕ) (asked : Asked) (flags : Flags) (code : ℤ) (attrs : Attributes) (text : List ℕ)
         (p : Packed) (said : List (Lent ℕ)) (datagrams : List (List ℕ)) → IsEnd asked flags code
@@ -151,10 +152,10 @@ pub fn finished_dump_is_delivered()
         → shares asked.port is_open other datagrams ≡ [] }
 {}
 
-/// An acknowledgement is delivered to the handle that asked, once, and to no other one: where a router has the port of the
-/// request's socket and the request's number is still open there, a datagram of its bytes is one message for that handle,
-/// an acknowledgement with code 0 that echoes the request's header and has its attributes, and nothing for each other
-/// handle and for the one for multicast. The attributes are ones that are read back from their bytes.
+/// An acknowledgement is delivered to the handle that asked, once, and to no other one: where a router has the port of
+/// the request's socket and the request's number is still open there, a datagram of its bytes is one message for that
+/// handle, an acknowledgement with code 0 that echoes the request's header and has its attributes, and nothing for each
+/// other handle and for the one for multicast. The attributes are ones that are read back from their bytes.
 pub fn acknowledgement_is_delivered()
     ensures one_message { (asked : Asked) (attrs : Attributes) (text bytes : List ℕ) → AreReadBack attrs text
         → IsAnswer asked (acknowledgement asked attrs) bytes
@@ -171,9 +172,9 @@ pub fn acknowledgement_is_delivered()
         → datagram_share asked.port is_open other (cut_of untyped_layout bytes) [] ≡ [] }
 {}
 
-/// An error is delivered to the handle that asked, once, and to no other one, where its code is not 0 and fits 32 bits: a
-/// capped one with that code, the request's header and its attributes, and a whole one with the request's payload as well,
-/// where the request states its own length. The attributes are ones that are read back from their bytes.
+/// An error is delivered to the handle that asked, once, and to no other one, where its code is not 0 and fits 32 bits:
+/// a capped one with that code, the request's header and its attributes, and a whole one with the request's payload as
+/// well, where the request states its own length. The attributes are ones that are read back from their bytes.
 pub fn error_is_delivered()
     ensures capped { (asked : Asked) (code : ℤ) (attrs : Attributes) (text bytes : List ℕ) → code ≢ pos 0
         → FitsSigned w32 code → AreReadBack attrs text → IsAnswer asked (capped_error asked code attrs) bytes

@@ -60,7 +60,8 @@ module _ {ST SP RT RP : Type 0} where
   -- so does each that was taken in after the history h
   abbrev pub AllOthersAnswer : ℕ → ℕ → History ST SP RT RP → History ST SP RT RP → Type 0
   AllOthersAnswer number port [] h = ⊤
-  AllOthersAnswer number port (e ∷ later) h = OthersAnswer number port (later ++ h) e.0 × AllOthersAnswer number port later h
+  AllOthersAnswer number port (e ∷ later) h =
+      OthersAnswer number port (later ++ h) e.0 × AllOthersAnswer number port later h
 
   -- the history with the request, and all of it
   abbrev pub history_with : Exchange ST SP RT RP → History ST SP RT RP
@@ -76,8 +77,8 @@ module _ {ST SP RT RP : Type 0} where
   abbrev pub own_handle : Exchange ST SP RT RP → ℕ
   own_handle x = handle_after x.before
 
-  -- the request's handle was not closed, and these datagrams, which answer a request of its number, came for it; the
-  -- others that came meanwhile answer other requests
+  -- what the other side answers has the request's number, its handle was not closed, and of the datagrams that came
+  -- since, these are the ones that have a message of that number; the others answer other requests
   pub record IsServed (x : Exchange ST SP RT RP) (asked : Request) (datagrams : List (List ℕ)) : Type 0 where
     pub number_is : asked.header.sequence_number ≡ own_number x
     pub stays_open : is_closed (own_handle x) (history_of x) ≡ false
@@ -94,5 +95,5 @@ module _ {ST SP K P V : Type 0} (type_of : ℕ → K) (number_of : K → ℕ) (v
   -- caller's types, and past the last of them, or once an error was given, by the end
   abbrev pub ReadsGive : ℕ → List Untyped → Exchange ST SP K P → Type 0
   ReadsGive port us x =
-      (o : Outcome ST SP K P) → IsAnswered type_of number_of view size read port (history_of x) (command.Read (own_handle x)) o
-      → IsReadInTurn (IsReadAs type_of view size read) us x o
+      (o : Outcome ST SP K P) → IsAnswered type_of number_of view size read port (history_of x)
+      (command.Read (own_handle x)) o → IsReadInTurn (IsReadAs type_of view size read) us x o

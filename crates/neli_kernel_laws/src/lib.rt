@@ -44,8 +44,8 @@ use neli_kernel::laws::{
 use neli_router::{Command, Outcome};
 use neli_wire::{FromBytesWithInput, Size, ToBytes};
 
-/// A whole answer is given in turn: where the deliveries to a handle with a number are the messages of one, each read is
-/// answered by the next of them, typed, an error as such; and past the last, or once an error was given, by the end.
+/// A whole answer is given in turn: where the deliveries to a handle with a number are the messages of one, each read
+/// is answered by the next of them, typed, an error as such; and past the last, or once an error was given, by the end.
 pub fn answers_are_given_in_turn<RT, RP>()
 where
     RT: NlType,
@@ -74,8 +74,8 @@ pub fn answers_are_complete()
         → IsComplete false (parts ++ (h, payload.DumpExtAck (answer code tt attrs)) ∷ []) }
 {}
 
-/// A datagram whose messages have one number and the router's port brings them to the handle of that number, and nothing
-/// to another one; so do several datagrams, as those of a dump. It answers a request where the number is open.
+/// A datagram whose messages have one number and the router's port brings them to the handle of that number, and
+/// nothing to another one; so do several datagrams, as those of a dump. It answers a request where the number is open.
 pub fn datagrams_bring_their_own()
     ensures own { (number port : ℕ) (datagram : List ℕ) (us : List Untyped)
         → cut_of untyped_layout datagram ≡ (us, None) → All (IsFor number port) us → numbered number datagram ≡ us }
@@ -118,10 +118,11 @@ where
         × (o ≡ outcome_of r) }
 {}
 
-/// A request is answered by the datagrams that came for it: where its handle is not closed, these datagrams were taken in
-/// since, and their messages have its number and the router's port and are a whole answer, each read of its handle is
-/// answered by these messages, in turn, and then by the end; whatever else is sent, read or closed meanwhile, and whatever
-/// comes for other requests. Each datagram came to no group, and one that is not for this request has no fault.
+/// A request is answered by the datagrams that came for it: where its handle is not closed, these datagrams were taken
+/// in since, and their messages have its number and the router's port and are a whole answer, each read of its handle
+/// is answered by these messages, in turn, and then by the end; whatever else is sent, read or closed meanwhile, and
+/// whatever comes for other requests. Each datagram came to no group, and one that is not for this request has no
+/// fault.
 pub fn request_is_answered<ST, SP, RT, RP>()
 where
     RT: NlType,
@@ -134,8 +135,8 @@ where
         → ReadsGive RT.wire_value RT.wire_number RP.view RP.wire_length RP.read asked.port us x }
 {}
 
-/// A request that needs an acknowledgement is answered by the one that the simulator makes of it: where its datagram came
-/// for the request, the first read of the request's handle gets it, and each later one the end.
+/// A request that needs an acknowledgement is answered by the one that the simulator makes of it: where its datagram
+/// came for the request, the reads of the request's handle are given it, once, and then the end.
 pub fn acknowledged_request_is_answered<ST, SP, RT, RP>()
 where
     RT: NlType,
@@ -149,8 +150,8 @@ where
     acknowledgement_is_delivered();
 }
 
-/// A request is answered by the error that the simulator makes of it, whether it needs an acknowledgement or not: where the
-/// error's datagram came for it, the first read of its handle gets the error, and each later one the end.
+/// A request is answered by the error that the simulator makes of it, whether it needs an acknowledgement or not: where
+/// the error's datagram came for it, the reads of its handle are given the error, once, and then the end.
 pub fn refused_request_is_answered<ST, SP, RT, RP>()
 where
     RT: NlType,
@@ -169,9 +170,10 @@ where
     error_is_delivered();
 }
 
-/// A request is answered by the simulator's reply: where it needs no acknowledgement, and the reply's datagram came for it,
-/// the first read of its handle gets the reply, and each later one the end; where it needs one, and that came in a second
-/// datagram, the second read gets the acknowledgement. The reply is without MULTI, and of a type that is neither 2 nor 3.
+/// A request is answered by the simulator's reply: where it needs no acknowledgement, and the reply's datagram came for
+/// it, the reads of its handle are given the reply, once, and then the end; where it needs one, and that came after the
+/// reply in a datagram of its own, they are given both. The reply is without MULTI, and of a type that is neither 2
+/// nor 3. One that can't be read as the caller's types is an error, and what is given last.
 pub fn replied_request_is_answered<ST, SP, RT, RP, T, P>()
 where
     RT: NlType,
@@ -180,14 +182,16 @@ where
     P: ToBytes,
     ensures alone { (x : Exchange ST SP RT RP) (asked : Asked) (t : T) (flags : Flags) (body : P) (text bytes : List ℕ)
         → needs_ack x.flags ≡ false → is_multi flags ≡ false
-        → IsReply T.wire_number P.wire P.Size.wire_length t flags asked.header.sequence_number asked.port body text bytes
+        → IsReply T.wire_number P.wire P.Size.wire_length t flags asked.header.sequence_number asked.port body
+        text bytes
         → IsServed x asked (bytes ∷ [])
         → ReadsGive RT.wire_value RT.wire_number RP.view RP.wire_length RP.read asked.port
         (reply_kept (T.wire_number t) flags asked.header.sequence_number asked.port text ∷ []) x }
     ensures acknowledged { (x : Exchange ST SP RT RP) (asked : Asked) (t : T) (flags : Flags) (body : P)
         (text bytes : List ℕ) (attrs : Attributes) (attrs_text ack_bytes : List ℕ)
         → needs_ack x.flags ≡ true → is_multi flags ≡ false
-        → IsReply T.wire_number P.wire P.Size.wire_length t flags asked.header.sequence_number asked.port body text bytes
+        → IsReply T.wire_number P.wire P.Size.wire_length t flags asked.header.sequence_number asked.port body
+        text bytes
         → AreReadBack attrs attrs_text → IsAnswer asked (acknowledgement asked attrs) ack_bytes
         → IsServed x asked (bytes ∷ ack_bytes ∷ [])
         → ReadsGive RT.wire_value RT.wire_number RP.view RP.wire_length RP.read asked.port
@@ -198,11 +202,11 @@ where
     acknowledgement_is_delivered();
 }
 
-/// A request that needs no acknowledgement, as each that asks for a dump, is answered by the simulator's dump: where what
-/// was put in is read as some messages with MULTI, kept as `ms`, with the request's number and the router's port, and the
-/// datagrams of [`Dump::finish`](neli_kernel::Dump::finish) came for the request, in their order, the reads of its handle
-/// get `ms`, then the end of the dump, and then the end. An item that can't be read as the caller's types is an error, and
-/// the last one.
+/// A request that needs no acknowledgement, as each that asks for a dump, is answered by the simulator's dump: where
+/// what was put in is read as some messages with MULTI, kept as `ms`, with the request's number and the router's port,
+/// and the datagrams of [`Dump::finish`](neli_kernel::Dump::finish) came for the request, in their order, the reads of
+/// its handle are given `ms`, then the end of the dump, and then the end. A message that can't be read as the caller's
+/// types is an error, and what is given last.
 pub fn dump_request_is_answered<ST, SP, RT, RP>()
 where
     RT: NlType,
