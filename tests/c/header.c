@@ -238,6 +238,27 @@ static void check_router(void) {
     CHECK(neli_router_read(&router, 1, &item) == NELI_STATE);
 }
 
+/* Handles that were closed are given again, the last one first, and then new ones; the others stay. */
+static void check_handles(void) {
+    struct neli_router router = NELI_ROUTER_CLOSED;
+    struct neli_sent sent;
+    struct neli_item item;
+    uint8_t out[16];
+    const size_t closed[] = {2, 4, 1}, again[] = {1, 4, 2, 5, 6};
+    CHECK(neli_router_new(&router, 9) == NELI_OK && neli_router_close(&router, NELI_MULTICAST) == NELI_OK);
+    for (size_t i = 1; i < 5; i++)
+        CHECK(neli_router_send(&router, 18, 0, NULL, 0, out, sizeof out, &sent) == NELI_OK && sent.handle == i);
+    for (size_t i = 0; i < 3; i++) CHECK(neli_router_close(&router, closed[i]) == NELI_OK);
+    CHECK(neli_router_send(&router, 18, 0, NULL, 0, out, 15, &sent) == NELI_ROOM);
+    for (size_t i = 0; i < 5; i++) {
+        CHECK(neli_router_send(&router, 18, 0, NULL, 0, out, sizeof out, &sent) == NELI_OK && sent.handle == again[i]);
+        CHECK(neli_router_read(&router, 3, &item) == NELI_WAITS);
+        CHECK(neli_router_read(&router, again[i], &item) == NELI_WAITS);
+    }
+    CHECK(neli_router_read(&router, NELI_MULTICAST, &item) == NELI_HANDLE);
+    CHECK(neli_router_free(&router) == NELI_OK);
+}
+
 int main(void) {
     check_texts();
     check_writing_and_reading();
@@ -246,6 +267,7 @@ int main(void) {
     check_answer(error_bytes, sizeof error_bytes);
     check_refusals();
     check_router();
+    check_handles();
     printf("header.c: %s\n", failures == 0 ? "each call answers as include/neli.h says" : "failed");
     return failures != 0;
 }

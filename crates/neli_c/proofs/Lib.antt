@@ -1,5 +1,6 @@
 pub mod AsBox
 pub mod Frames
+pub mod FreePlaces
 pub mod Opened
 pub mod Padding
 pub mod Replies

@@ -1,7 +1,5 @@
 -- What a read of a session answers, by what its router answers.
-use Rattle.std.proofs.Common.{◌≡◌, ◌≢◌, ◌⊎◌, ◌||◌, ℕ, ◌<◌, ℤ, true, false, List, [], ◌∷◌, length, Option, Some, None, Result, Ok, Err, IfOk, OnErr, slice_get, slice_set, refl, sym, ap, subst, ◌∙◌, inl, inr, IfSome, length-set}
-use Rattle.std.proofs.lemmas.List.{get_or-set_same}
-use Rattle.std.proofs.lemmas.Option.{slice_get-get_or}
+use Rattle.std.proofs.Common.{◌≡◌, ◌≢◌, ◌⊎◌, ◌||◌, ℕ, ℤ, true, false, List, [], ◌∷◌, length, Option, Some, None, Result, Ok, Err, IfOk, OnErr, ap, subst, ◌∙◌, inl, inr, IfSome}
 use Rattle.neli_deliveries.specs.declared.delivery.Delivery.{Delivery}
 use Rattle.neli_deliveries.specs.Readings.{IsReading, Item}
 use Rattle.neli_router_base.specs.declared.handle.HandleState.{HandleState}
@@ -13,16 +11,7 @@ use Rattle.neli_msg.specs.RouterError.TheVariants as router
 use Rattle.neli_c.specs.declared.session.NeliItem.{NeliItem}
 use Rattle.neli_c.specs.declared.session.Session.{Session}
 use Rattle.neli_c.specs.Codes.{memory}
-use Rattle.neli_c.specs.Sessions.{GivesDelivery, Holds, ReadsHandle, handle_at, handle_in, item_shown, pending, reply_code}
-
--- the handle that was put at a place is there
-pub handle-put : (handles : List (Option HandleState)) (k : ℕ) (h : Option HandleState) → k < length handles → handle_at k (slice_set handles k h) ≡ h
-handle-put handles k h within =
-    let there : k < length (slice_set handles k h) = subst (λ (n : ℕ). k < n) (sym (length-set handles k h)) within in
-    ap handle_in (slice_get-get_or (slice_set handles k h) k h there ∙ ap (λ (x : Option HandleState). Some x) (get_or-set_same handles k h h within)) ∙ in-some h
-  where
-    in-some : (h : Option HandleState) → handle_in (Some h) ≡ h
-    in-some h = refl
+use Rattle.neli_c.specs.Sessions.{GivesDelivery, Holds, ReadsHandle, item_shown, pending, reply_code}
 
 -- what holds of the value that is there
 pub of-value : {A : Type 0} (o : Option A) (P : A → Type 0) (x : A) → Some x ≡ o → P x → IfSome o P

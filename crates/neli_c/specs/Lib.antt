@@ -5,6 +5,7 @@ pub mod Lists
 pub mod Reads
 pub mod Sessions
 pub mod Several
+pub mod Slots
 pub mod Texts
 pub mod Walks
 pub mod Writes

@@ -1,5 +1,5 @@
 -- What the calls of a router do to it, for every handle: as neli_router_base says it of its own calls.
-use Rattle.std.specs.Prelude.{◌≡◌, ◌≢◌, ◌⊎◌, ◌||◌, ⊤, ℕ, ℤ, pos, Bool, List, [], ◌∷◌, ◌++◌, Option, Some, None, IfSome, is_some, option_map, nat_eq, nat_le, unsigned_abs, if◌then◌else◌, length, slice_get, slice_set, Result, Ok, Err, IfOk, true, false}
+use Rattle.std.specs.Prelude.{◌≡◌, ◌≢◌, ◌⊎◌, ◌||◌, ⊤, ℕ, ℤ, pos, Bool, List, [], ◌∷◌, ◌++◌, Option, Some, None, IfSome, is_some, option_map, nat_eq, nat_le, unsigned_abs, if◌then◌else◌, length, slice_set, Result, Ok, Err, IfOk, true, false}
 use Rattle.std.specs.declared.io.ErrorKind.{ErrorKind}
 use Rattle.std.specs.declared.io.ErrorKind.TheVariants as kind
 use Rattle.neli_wire.specs.Writing.{Wire}
@@ -28,6 +28,8 @@ use Rattle.neli_c.specs.declared.session.NeliItem.{NeliItem}
 use Rattle.neli_c.specs.declared.session.NeliSent.{NeliSent}
 use Rattle.neli_c.specs.Walks.{refusal_code}
 use Rattle.neli_c.specs.declared.session.Session.{Session}
+use Rattle.neli_c.specs.declared.session.Slot.TheVariants as slot
+use Rattle.neli_c.specs.Slots.{AreFree, handle_at, later_places, next_place, put_at}
 use Rattle.neli_c.specs.Codes.{bad_bytes, bad_length, in_use, item, kernel_error, link, memory, no_ack, no_handle, ok, room, stray, unexpected_ack, waits}
 use Rattle.neli_c.specs.Writes.{put_first}
 
@@ -39,23 +41,27 @@ pending s w = pending_of s.router.deliveries w
 abbrev pub is_open : Session → ℕ → Bool
 is_open s q = is_some (pending s (Some q))
 
+-- these places are free, the one that was freed last first
+abbrev pub HasFree : Session → List ℕ → Type 0
+HasFree s ks = AreFree s.handles.items s.freed ks
+
 -- port, next number, handles and the held message are the same
 abbrev pub KeepsRest : Session → Session → Type 0
 KeepsRest s t =
     (t.router.deliveries.port ≡ s.router.deliveries.port) × (t.router.next_seq ≡ s.router.next_seq)
-    × (t.handles.items ≡ s.handles.items) × (t.held ≡ s.held)
+    × (t.handles.items ≡ s.handles.items) × (t.freed ≡ s.freed) × (t.held ≡ s.held)
 
 -- a new router of this port: nothing waits for multicast, and no number is open
 abbrev pub IsNew : ℕ → Session → Type 0
 IsNew port s =
     (s.router.deliveries.port ≡ port) × (s.router.next_seq ≡ 0) × (pending s None ≡ Some [])
-    × ((q : ℕ) → pending s (Some q) ≡ None) × (s.held ≡ None)
+    × ((q : ℕ) → pending s (Some q) ≡ None) × HasFree s [] × (s.held ≡ None)
 
 -- the next request has this number; all else is the same
 abbrev pub SetsNumber : ℕ → Session → Session → Type 0
 SetsNumber number s t =
     (t.router.next_seq ≡ number) × (t.router.deliveries ≡ s.router.deliveries) × (t.handles.items ≡ s.handles.items)
-    × (t.held ≡ s.held)
+    × (t.freed ≡ s.freed) × (t.held ≡ s.held)
 
 -- each handle gets its share of the datagram; or memory ran out, and what waits is the same
 abbrev pub TakesDatagram : ℤ → List ℕ → List ℕ → Session → Session → Type 0
@@ -94,21 +100,14 @@ WritesItem code s old new size size' =
     × (code ≢ ok → new ≡ old)
     × IfSome s.held (λ m. code ≢ memory → WritesMessage code (message_wire (λ n. n) (λ b. Ok b) m) old new size')
 
--- the handle at a place, if there is one
-abbrev pub handle_in : Option (Option HandleState) → Option HandleState
-handle_in (Some h) = h
-handle_in None = None
-
-abbrev pub handle_at : ℕ → List (Option HandleState) → Option HandleState
-handle_at k handles = handle_in (slice_get handles k)
-
 -- what waits for the handle at a place is given up, and the place is free; or there is none, and nothing changes
 abbrev pub ClosesHandle : ℤ → ℕ → Session → Session → Type 0
 ClosesHandle code k s t =
     (handle_at k s.handles.items ≡ None → (code ≡ no_handle) × (t ≡ s))
     × ((h : HandleState) → handle_at k s.handles.items ≡ Some h
     → (code ≡ ok) × (pending t h.number ≡ None) × ((w : Option ℕ) → w ≢ h.number → pending t w ≡ pending s w)
-    × (t.handles.items ≡ slice_set s.handles.items k None)
+    × (t.handles.items ≡ slice_set s.handles.items k (slot.Free s.freed))
+    × (k ≢ 0 → (ks : List ℕ) → HasFree s ks → HasFree t (k ∷ ks))
     × (t.router.deliveries.port ≡ s.router.deliveries.port) × (t.router.next_seq ≡ s.router.next_seq) × (t.held ≡ s.held))
 
 -- the request of this body is written, the place has its handle, and its number is used up
@@ -118,14 +117,18 @@ SendsRequest message_type flags body s t old new sent =
     (bytes : List ℕ)
     × (frame_or_refusal {T = ℕ} {P = List ℕ} (λ n. n) (λ b. Ok b) length s.router.deliveries.port number (is_open s number) message_type (flags_of flags) (payload.Payload body) ≡ Ok bytes)
     × (new ≡ put_first bytes old) × (sent.length ≡ length bytes)
+    × (handle_at sent.handle s.handles.items ≡ None)
+    × (t.handles.items ≡ put_at sent.handle (asks number (flags_of flags)) s.handles.items)
     × (handle_at sent.handle t.handles.items ≡ Some (asks number (flags_of flags)))
+    × ((ks : List ℕ) → HasFree s ks → (sent.handle ≡ next_place s.handles.items ks) × HasFree t (later_places ks))
     × (t.router.next_seq ≡ number_after number) × (pending t (Some number) ≡ Some [])
     × ((w : Option ℕ) → w ≢ Some number → pending t w ≡ pending s w)
 
--- nothing is sent: the next number, what waits and what is held are the same
+-- nothing is sent: the next number, what waits, the handles and what is held are the same
 abbrev pub SendsNothing : Session → Session → Type 0
 SendsNothing s t =
     (t.router.next_seq ≡ s.router.next_seq) × ((w : Option ℕ) → pending t w ≡ pending s w) × (t.held ≡ s.held)
+    × (t.handles.items ≡ s.handles.items) × (t.freed ≡ s.freed)
 
 -- what a read answers: of a fault of the link or of a datagram, of what came in place of a message, of an item
 abbrev pub socket_code : SocketError → ℤ
@@ -208,4 +211,5 @@ abbrev pub ReadsPlace : ℤ → ℕ → Session → Session → NeliItem → Typ
 ReadsPlace code k s t shown =
     (handle_at k s.handles.items ≡ None → (code ≡ no_handle) × (t ≡ s))
     × IfSome (handle_at k s.handles.items) (λ h. (after : HandleState)
-    × (t.handles.items ≡ slice_set s.handles.items k (Some after)) × ReadsHandle code h after s t shown)
+    × (t.handles.items ≡ slice_set s.handles.items k (slot.Open after)) × (t.freed ≡ s.freed)
+    × ((ks : List ℕ) → HasFree s ks → HasFree t ks) × ReadsHandle code h after s t shown)

@@ -1,6 +1,7 @@
 //! The library for C: thin exports, which `include/neli.h` declares.
 //!
-//! - [`lent`] walks over messages and attributes where they lie, and [`number`] reads numbers and texts of a payload.
+//! - [`lent`] walks over messages and attributes where they lie, [`several`] gives many of them by one call, and
+//!   [`number`] reads numbers and texts of a payload.
 //! - [`lists`] says where attributes lie and looks them up, and [`answer`] what errors and acknowledgements say.
 //! - [`write`] writes messages, attributes and nests into the caller's bytes.
 //! - [`router`] has a router behind a struct that the library alone looks into: [`session`] is what it holds, [`place`]

@@ -1,9 +1,11 @@
 //! A router with the handles that it gave, and the item that was read last.
 
-ghost use Rattle.std.specs.Prelude.{◌≡◌, ◌≢◌, ◌<◌, IfOk, IfSome, IsNone, IsSome, Some, None, length, slice_set, nat_le, if◌then◌else◌};
+ghost use Rattle.std.specs.Prelude.{◌≡◌, ◌≢◌, ◌<◌, ℕ, IfOk, IfSome, IsNone, IsSome, List, ◌∷◌, Some, None, length, slice_get, slice_set, nat_le, vec_capacity, vec_len, if◌then◌else◌};
 ghost use Rattle.neli_router_base.specs.declared.handle.HandleState.{HandleState};
 ghost use Rattle.neli_c.specs.Codes.{no_handle, ok, room};
-ghost use Rattle.neli_c.specs.Sessions.{Holds, SendsNothing, SendsRequest, ReadsHandle, error_code, item_code, item_shown, reply_code, socket_code, ClosesHandle, handle_at, IsNew, fault_kind, SetsNumber, TakesDatagram, TakesFault, WritesItem};
+ghost use Rattle.neli_c.specs.Sessions.{Holds, SendsNothing, SendsRequest, ReadsHandle, error_code, item_code, item_shown, reply_code, socket_code, ClosesHandle, HasFree, IsNew, fault_kind, SetsNumber, TakesDatagram, TakesFault, WritesItem};
+ghost use Rattle.neli_c.specs.Slots.{AreFree, handle_at, later_places, next_place, put_at};
+ghost use Rattle.neli_c.specs.declared.session.Slot.TheVariants as slot;
 ghost use Rattle.neli_c.specs.Writes.{put_first};
 
 use crate::code::{
@@ -50,40 +52,94 @@ pub struct NeliItem {
     pub error: i32,
 }
 
-/// A router, its handles by their places, and the last item as a message.
+/// What stands at a place of a handle.
+#[derive(Drop)]
+pub enum Slot {
+    /// The handle that is open.
+    Open(Handle),
+    /// None: the place that was freed before this one, or 0.
+    Free(usize),
+}
+
+/// A router, its handles by their places, the place that was freed last, or 0, and the last item as a message.
 #[derive(Drop)]
 pub struct Session {
     router: NlRouter<Log>,
-    handles: Vec<Option<Handle>>,
+    handles: Vec<Slot>,
+    freed: usize,
     held: Option<Message>,
 }
 
-/// Takes the handle out of a place, if there is one.
-fn take(handles: &mut Vec<Option<Handle>>, k: usize) -> Option<Handle>
+/// Takes the handle out of a place, if there is one, and names the free place that comes after it.
+fn take(handles: &mut Vec<Slot>, k: usize, next: usize) -> Option<Handle>
     ensures taken { result ≡ handle_at k handles.old.items }
     ensures some { IsSome result → (k < length handles.new.items)
-        × (handles.new.items ≡ slice_set handles.old.items k None) }
+        × (handles.new.items ≡ slice_set handles.old.items k (slot.Free next)) }
     ensures none { IsNone result → handles.new ≡ handles.old }
 {
-    let Some(Some(_)) = handles.get(k) else {
+    let Some(Slot::Open(_)) = handles.get(k) else {
         return None;
     };
-    replace(&mut handles[k], None)
+    match replace(&mut handles[k], Slot::Free(next)) {
+        Slot::Open(handle) => Some(handle),
+        Slot::Free(_) => None,
+    }
 }
 
-/// The first place after that of multicast which has no handle; a new one where each has one.
-fn free_place(handles: &mut Vec<Option<Handle>>) -> Option<usize>
-    ensures place { IfSome result (λ k. k < length handles.new.items) }
+/// Takes the handle out of a place, if there is one; the place is then the first that is free, but that of multicast.
+fn free(handles: &mut Vec<Slot>, freed: &mut usize, k: usize) -> Option<Handle>
+    ensures taken { result ≡ handle_at k handles.old.items }
+    ensures some { IsSome result → handles.new.items ≡ slice_set handles.old.items k (slot.Free freed.old) }
+    ensures first { IsSome result → k ≢ 0 → (ks : List ℕ) → AreFree handles.old.items freed.old ks
+        → AreFree handles.new.items freed.new (k ∷ ks) }
+    ensures none { IsNone result → (handles.new ≡ handles.old) × (freed.new ≡ freed.old) }
 {
-    for k in 1..handles.len() {
-        if handles[k].is_none() {
-            return Some(k);
-        }
+    let Some(handle) = take(handles, k, *freed) else {
+        return None;
+    };
+    if k != 0 {
+        *freed = k;
     }
-    let k = handles.len();
-    match handles.push(None) {
-        Ok(()) => Some(k),
-        Err(_) => None,
+    Some(handle)
+}
+
+/// The place that is free after the first one; nothing where none is.
+fn next_free(handles: &[Slot], first: usize) -> Option<usize>
+    ensures some { IfSome result (λ n. (first ≢ 0) × (slice_get handles.now first ≡ Some (slot.Free n))) }
+    ensures none { IsNone result → (n : ℕ) → slice_get handles.now first ≡ Some (slot.Free n) → first ≡ 0 }
+{
+    if first == 0 {
+        return None;
+    }
+    match handles.get(first) {
+        Some(Slot::Free(next)) => Some(*next),
+        _ => None,
+    }
+}
+
+/// Puts a handle at the place that was freed last; at a new one where none is free, for which there is room.
+fn put(handles: &mut Vec<Slot>, freed: &mut usize, handle: Handle) -> usize
+    requires { vec_len handles.old < vec_capacity handles.old }
+    ensures free { handle_at result handles.old.items ≡ None }
+    ensures put { handles.new.items ≡ put_at result handle handles.old.items }
+    ensures handle { handle_at result handles.new.items ≡ Some handle }
+    ensures again { (ks : List ℕ) → AreFree handles.old.items freed.old ks
+        → (result ≡ next_place handles.old.items ks)
+        × AreFree handles.new.items freed.new (later_places ks) }
+{
+    match next_free(handles, *freed) {
+        Some(next) => {
+            let k = replace(freed, next);
+            handles[k] = Slot::Open(handle);
+            k
+        }
+        None => {
+            let k = handles.len();
+            match handles.push(Slot::Open(handle)) {
+                Ok(()) => k,
+                Err(_) => k,
+            }
+        }
     }
 }
 
@@ -260,12 +316,13 @@ impl Session {
     {
         let (router, multicast) = NlRouter::<Log>::new(alloc, port);
         let mut handles = Vec::new(alloc);
-        if handles.push(Some(multicast.retyped())).is_err() {
+        if handles.push(Slot::Open(multicast.retyped())).is_err() {
             return None;
         }
         Some(Session {
             router,
             handles,
+            freed: 0,
             held: None,
         })
     }
@@ -303,7 +360,7 @@ impl Session {
         let Ok(buffer) = Buffer::from_slice(alloc, body) else {
             return MEMORY;
         };
-        let Some(k) = free_place(&mut self.handles) else {
+        let Ok(()) = self.handles.reserve(1) else {
             return MEMORY;
         };
         let flags = NlmF::from_wire(flags);
@@ -313,8 +370,7 @@ impl Session {
             .send::<u16, Buffer, u16, Buffer>(alloc, nl_type, flags, payload)
         {
             Ok((bytes, handle)) => {
-                self.handles[k] = Some(handle);
-                sent.handle = k;
+                sent.handle = put(&mut self.handles, &mut self.freed, handle);
                 copy(&bytes, out, &mut sent.length)
             }
             Err(error) => of_error(&error),
@@ -348,16 +404,18 @@ impl Session {
     pub fn read(&mut self, alloc: Global, k: usize, item: &mut NeliItem) -> i32
         ensures none { handle_at k self.old.handles.items ≡ None → (result ≡ no_handle) × (self.new ≡ self.old) }
         ensures some { IfSome (handle_at k self.old.handles.items) (λ h. (after : HandleState)
-            × (self.new.handles.items ≡ slice_set self.old.handles.items k (Some after))
+            × (self.new.handles.items ≡ slice_set self.old.handles.items k (slot.Open after))
+            × (self.new.freed ≡ self.old.freed)
+            × ((ks : List ℕ) → HasFree self.old ks → HasFree self.new ks)
             × ReadsHandle result h after self.old self.new item.new) }
     {
-        let Some(mut handle) = take(&mut self.handles, k) else {
+        let Some(mut handle) = take(&mut self.handles, k, 0) else {
             return HANDLE;
         };
         let answer = self
             .router
             .next_typed::<u16, Buffer, _, _>(alloc, &mut handle);
-        self.handles[k] = Some(handle);
+        self.handles[k] = Slot::Open(handle);
         hold(answer, &mut self.held, item)
     }
 
@@ -375,11 +433,11 @@ impl Session {
         }
     }
 
-    /// Closes a handle.
+    /// Closes a handle; its place is the next that is given, but that of multicast.
     pub fn close(&mut self, k: usize) -> i32
         ensures { ClosesHandle result k self.old self.new }
     {
-        match take(&mut self.handles, k) {
+        match free(&mut self.handles, &mut self.freed, k) {
             Some(handle) => {
                 self.router.close(handle);
                 OK
