@@ -416,7 +416,8 @@ static inline int32_t neli_router_item(struct neli_router *router, uint8_t *out,
     return neli_c_router_item(router, neli_write_at(out), room, length);
 }
 
-/* Closes a handle: what waits for it is given up. */
+/* Closes a handle: what waits for it is given up. Its number is that of the next handle that is opened, but for that of
+ * multicast. */
 static inline int32_t neli_router_close(struct neli_router *router, size_t handle) {
     if (router == NULL) return NELI_NULL;
     return neli_c_router_close(router, handle);
