@@ -1,6 +1,9 @@
 //! Every table of the kernel's in one list, as [`Schema::new`](neli_schema::Schema::new) takes them.
 #![tactic(auto)]
 
+ghost use Rattle.std.specs.Prelude.{◌≡◌, [], ◌∷◌, ◌++◌, map, IfOk, OnOk};
+ghost use Rattle.neli_kernel_tables.specs.Numbers.{addresses_numbers, body_numbers, links_numbers, numbers, others_numbers, routes_numbers, table_numbers};
+
 use neli_schema::tables::{
     BODIES, action, address, address_label, bond, bridge, controller, encapsulation,
     extended_acknowledgement, link, link_family, link_info, namespace, neighbour, netconf,
@@ -13,7 +16,9 @@ use std::alloc::{AllocError, Global};
 static EXTENDED_ACKNOWLEDGEMENT: [Table<'static>; 1] = [extended_acknowledgement::TABLE];
 
 /// Extended acknowledgements.
-fn extended_acknowledgement_tables() -> &'static [Table<'static>] {
+fn extended_acknowledgement_tables() -> &'static [Table<'static>]
+    ensures { numbers result.now ≡ 1 ∷ [] }
+{
     &EXTENDED_ACKNOWLEDGEMENT
 }
 
@@ -26,7 +31,9 @@ static LINK: [Table<'static>; 4] = [
 ];
 
 /// Links.
-fn link_tables() -> &'static [Table<'static>] {
+fn link_tables() -> &'static [Table<'static>]
+    ensures { numbers result.now ≡ 10 ∷ 11 ∷ 12 ∷ 13 ∷ [] }
+{
     &LINK
 }
 
@@ -45,7 +52,9 @@ static LINK_INFO: [Table<'static>; 10] = [
 ];
 
 /// Kinds of links, and what each has.
-fn link_info_tables() -> &'static [Table<'static>] {
+fn link_info_tables() -> &'static [Table<'static>]
+    ensures { numbers result.now ≡ 20 ∷ 21 ∷ 22 ∷ 23 ∷ 24 ∷ 25 ∷ 26 ∷ 27 ∷ 28 ∷ 29 ∷ [] }
+{
     &LINK_INFO
 }
 
@@ -61,7 +70,9 @@ static BRIDGE: [Table<'static>; 7] = [
 ];
 
 /// Bridges and their ports.
-fn bridge_tables() -> &'static [Table<'static>] {
+fn bridge_tables() -> &'static [Table<'static>]
+    ensures { numbers result.now ≡ 40 ∷ 41 ∷ 42 ∷ 43 ∷ 44 ∷ 45 ∷ 46 ∷ [] }
+{
     &BRIDGE
 }
 
@@ -75,7 +86,9 @@ static BOND: [Table<'static>; 5] = [
 ];
 
 /// Bonds and their ports.
-fn bond_tables() -> &'static [Table<'static>] {
+fn bond_tables() -> &'static [Table<'static>]
+    ensures { numbers result.now ≡ 50 ∷ 51 ∷ 52 ∷ 53 ∷ 54 ∷ [] }
+{
     &BOND
 }
 
@@ -88,7 +101,9 @@ static LINK_FAMILY: [Table<'static>; 4] = [
 ];
 
 /// What address families have of a link.
-fn link_family_tables() -> &'static [Table<'static>] {
+fn link_family_tables() -> &'static [Table<'static>]
+    ensures { numbers result.now ≡ 60 ∷ 61 ∷ 62 ∷ 63 ∷ [] }
+{
     &LINK_FAMILY
 }
 
@@ -103,7 +118,9 @@ static VIRTUAL_FUNCTION: [Table<'static>; 6] = [
 ];
 
 /// Virtual functions of a link.
-fn virtual_function_tables() -> &'static [Table<'static>] {
+fn virtual_function_tables() -> &'static [Table<'static>]
+    ensures { numbers result.now ≡ 70 ∷ 71 ∷ 72 ∷ 73 ∷ 74 ∷ 75 ∷ [] }
+{
     &VIRTUAL_FUNCTION
 }
 
@@ -111,7 +128,9 @@ fn virtual_function_tables() -> &'static [Table<'static>] {
 static STATISTICS: [Table<'static>; 2] = [statistics::TABLE, statistics::STATISTICS_REQUEST_TABLE];
 
 /// Statistics of links.
-fn statistics_tables() -> &'static [Table<'static>] {
+fn statistics_tables() -> &'static [Table<'static>]
+    ensures { numbers result.now ≡ 80 ∷ 81 ∷ [] }
+{
     &STATISTICS
 }
 
@@ -119,7 +138,9 @@ fn statistics_tables() -> &'static [Table<'static>] {
 static ADDRESS: [Table<'static>; 1] = [address::TABLE];
 
 /// Addresses.
-fn address_tables() -> &'static [Table<'static>] {
+fn address_tables() -> &'static [Table<'static>]
+    ensures { numbers result.now ≡ 100 ∷ [] }
+{
     &ADDRESS
 }
 
@@ -132,7 +153,9 @@ static NEIGHBOUR: [Table<'static>; 4] = [
 ];
 
 /// Neighbours and neighbour tables.
-fn neighbour_tables() -> &'static [Table<'static>] {
+fn neighbour_tables() -> &'static [Table<'static>]
+    ensures { numbers result.now ≡ 120 ∷ 121 ∷ 122 ∷ 123 ∷ [] }
+{
     &NEIGHBOUR
 }
 
@@ -140,7 +163,9 @@ fn neighbour_tables() -> &'static [Table<'static>] {
 static ROUTE: [Table<'static>; 3] = [route::TABLE, route::HOPS_TABLE, route::METRICS_TABLE];
 
 /// Routes.
-fn route_tables() -> &'static [Table<'static>] {
+fn route_tables() -> &'static [Table<'static>]
+    ensures { numbers result.now ≡ 140 ∷ 141 ∷ 142 ∷ [] }
+{
     &ROUTE
 }
 
@@ -157,7 +182,9 @@ static ENCAPSULATION: [Table<'static>; 8] = [
 ];
 
 /// What routes put before a packet.
-fn encapsulation_tables() -> &'static [Table<'static>] {
+fn encapsulation_tables() -> &'static [Table<'static>]
+    ensures { numbers result.now ≡ 150 ∷ 151 ∷ 152 ∷ 153 ∷ 154 ∷ 155 ∷ 156 ∷ 157 ∷ [] }
+{
     &ENCAPSULATION
 }
 
@@ -165,7 +192,9 @@ fn encapsulation_tables() -> &'static [Table<'static>] {
 static RULE: [Table<'static>; 1] = [rule::TABLE];
 
 /// Rules.
-fn rule_tables() -> &'static [Table<'static>] {
+fn rule_tables() -> &'static [Table<'static>]
+    ensures { numbers result.now ≡ 180 ∷ [] }
+{
     &RULE
 }
 
@@ -177,7 +206,9 @@ static QUEUEING: [Table<'static>; 3] = [
 ];
 
 /// Queueing disciplines, classes and filters.
-fn queueing_tables() -> &'static [Table<'static>] {
+fn queueing_tables() -> &'static [Table<'static>]
+    ensures { numbers result.now ≡ 200 ∷ 201 ∷ 202 ∷ [] }
+{
     &QUEUEING
 }
 
@@ -185,7 +216,9 @@ fn queueing_tables() -> &'static [Table<'static>] {
 static ACTION: [Table<'static>; 3] = [action::TABLE, action::ACTIONS_TABLE, action::ACTION_TABLE];
 
 /// Actions of filters.
-fn action_tables() -> &'static [Table<'static>] {
+fn action_tables() -> &'static [Table<'static>]
+    ensures { numbers result.now ≡ 220 ∷ 221 ∷ 222 ∷ [] }
+{
     &ACTION
 }
 
@@ -199,7 +232,9 @@ static NEXT_HOP: [Table<'static>; 5] = [
 ];
 
 /// Next hops.
-fn next_hop_tables() -> &'static [Table<'static>] {
+fn next_hop_tables() -> &'static [Table<'static>]
+    ensures { numbers result.now ≡ 170 ∷ 171 ∷ 172 ∷ 173 ∷ 174 ∷ [] }
+{
     &NEXT_HOP
 }
 
@@ -207,7 +242,9 @@ fn next_hop_tables() -> &'static [Table<'static>] {
 static NAMESPACE: [Table<'static>; 1] = [namespace::TABLE];
 
 /// Network namespaces.
-fn namespace_tables() -> &'static [Table<'static>] {
+fn namespace_tables() -> &'static [Table<'static>]
+    ensures { numbers result.now ≡ 195 ∷ [] }
+{
     &NAMESPACE
 }
 
@@ -215,7 +252,9 @@ fn namespace_tables() -> &'static [Table<'static>] {
 static ADDRESS_LABEL: [Table<'static>; 1] = [address_label::TABLE];
 
 /// Labels of addresses.
-fn address_label_tables() -> &'static [Table<'static>] {
+fn address_label_tables() -> &'static [Table<'static>]
+    ensures { numbers result.now ≡ 110 ∷ [] }
+{
     &ADDRESS_LABEL
 }
 
@@ -223,7 +262,9 @@ fn address_label_tables() -> &'static [Table<'static>] {
 static NETCONF: [Table<'static>; 1] = [netconf::TABLE];
 
 /// Settings of address families.
-fn netconf_tables() -> &'static [Table<'static>] {
+fn netconf_tables() -> &'static [Table<'static>]
+    ensures { numbers result.now ≡ 190 ∷ [] }
+{
     &NETCONF
 }
 
@@ -242,37 +283,78 @@ static CONTROLLER: [Table<'static>; 10] = [
 ];
 
 /// The controller of generic netlink.
-fn controller_tables() -> &'static [Table<'static>] {
+fn controller_tables() -> &'static [Table<'static>]
+    ensures { numbers result.now ≡ 300 ∷ 301 ∷ 302 ∷ 303 ∷ 304 ∷ 305 ∷ 306 ∷ 307 ∷ 308 ∷ 309 ∷ [] }
+{
     &CONTROLLER
 }
 
+/// Appends these tables.
+fn append(all: &mut Vec<Table<'static>>, tables: &[Table<'static>]) -> Result<(), AllocError>
+    ensures { OnOk result (numbers all.new.items ≡ numbers all.old.items ++ numbers tables.now) }
+{
+    all.extend_from_slice(tables)
+}
+
+/// Links and what they have, and extended acknowledgements.
+fn append_links(all: &mut Vec<Table<'static>>) -> Result<(), AllocError>
+    ensures { OnOk result (numbers all.new.items ≡ numbers all.old.items ++ links_numbers) }
+{
+    append(all, extended_acknowledgement_tables())?;
+    append(all, link_tables())?;
+    append(all, link_info_tables())?;
+    append(all, bridge_tables())?;
+    append(all, bond_tables())?;
+    append(all, link_family_tables())?;
+    append(all, virtual_function_tables())
+}
+
+/// Statistics, addresses, neighbours and routes.
+fn append_addresses(all: &mut Vec<Table<'static>>) -> Result<(), AllocError>
+    ensures { OnOk result (numbers all.new.items ≡ numbers all.old.items ++ addresses_numbers) }
+{
+    append(all, statistics_tables())?;
+    append(all, address_tables())?;
+    append(all, neighbour_tables())?;
+    append(all, route_tables())
+}
+
+/// What belongs to routes and queues.
+fn append_routes(all: &mut Vec<Table<'static>>) -> Result<(), AllocError>
+    ensures { OnOk result (numbers all.new.items ≡ numbers all.old.items ++ routes_numbers) }
+{
+    append(all, encapsulation_tables())?;
+    append(all, rule_tables())?;
+    append(all, queueing_tables())?;
+    append(all, action_tables())?;
+    append(all, next_hop_tables())
+}
+
+/// The others.
+fn append_others(all: &mut Vec<Table<'static>>) -> Result<(), AllocError>
+    ensures { OnOk result (numbers all.new.items ≡ numbers all.old.items ++ others_numbers) }
+{
+    append(all, namespace_tables())?;
+    append(all, address_label_tables())?;
+    append(all, netconf_tables())?;
+    append(all, controller_tables())
+}
+
 /// Every table of the kernel's.
-pub fn all_tables(alloc: Global) -> Result<Vec<Table<'static>>, AllocError> {
-    let mut all = Vec::new(alloc);
-    all.extend_from_slice(extended_acknowledgement_tables())?;
-    all.extend_from_slice(link_tables())?;
-    all.extend_from_slice(link_info_tables())?;
-    all.extend_from_slice(bridge_tables())?;
-    all.extend_from_slice(bond_tables())?;
-    all.extend_from_slice(link_family_tables())?;
-    all.extend_from_slice(virtual_function_tables())?;
-    all.extend_from_slice(statistics_tables())?;
-    all.extend_from_slice(address_tables())?;
-    all.extend_from_slice(neighbour_tables())?;
-    all.extend_from_slice(route_tables())?;
-    all.extend_from_slice(encapsulation_tables())?;
-    all.extend_from_slice(rule_tables())?;
-    all.extend_from_slice(queueing_tables())?;
-    all.extend_from_slice(action_tables())?;
-    all.extend_from_slice(next_hop_tables())?;
-    all.extend_from_slice(namespace_tables())?;
-    all.extend_from_slice(address_label_tables())?;
-    all.extend_from_slice(netconf_tables())?;
-    all.extend_from_slice(controller_tables())?;
+pub fn all_tables(alloc: Global) -> Result<Vec<Table<'static>>, AllocError>
+    ensures { IfOk result (λ all. numbers all.items ≡ table_numbers) }
+{
+    let mut all: Vec<Table<'static>> = Vec::new(alloc);
+    append_links(&mut all)?;
+    append_addresses(&mut all)?;
+    append_routes(&mut all)?;
+    append_others(&mut all)?;
     Ok(all)
 }
 
 /// What messages carry, by protocol and type: the kernel's [`BODIES`].
-pub fn bodies() -> &'static [Body<'static>] {
+pub fn bodies() -> &'static [Body<'static>]
+    ensures { map (λ b. b.number) result.now ≡ body_numbers }
+{
     &BODIES
 }
