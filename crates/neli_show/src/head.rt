@@ -16,7 +16,9 @@ pub const GENERIC: u16 = 16;
 /// What messages are read by: tables, and what carries which.
 #[derive(Clone, Copy)]
 pub struct Names<'t> {
+    /// The tables.
     pub schema: Schema<'t>,
+    /// What messages carry, by protocol and type.
     pub bodies: &'t [Body<'t>],
 }
 
@@ -55,12 +57,15 @@ pub struct Head<'t> {
     pub protocol: u16,
     /// The length that it states.
     pub length: u32,
+    /// The number of its type.
     pub message_type: u16,
     /// The name of the type, if it has one.
     pub name: Option<&'t str>,
+    /// The flags, with all their bits.
     pub flags: u16,
     /// The sequence number.
     pub number: u32,
+    /// The port of the socket that the message belongs to; 0 is the kernel's.
     pub port: u32,
 }
 
@@ -79,7 +84,7 @@ impl<'t> Head<'t> {
         }
     }
 
-    /// The header that these bytes begin with, if they are as many.
+    /// The header that these bytes begin with, if they are as many as it has: 16 (`struct nlmsghdr`).
     pub fn read(names: &Names<'t>, protocol: u16, bytes: &[u8]) -> Option<Head<'t>> {
         if bytes.len() < 16 {
             return None;

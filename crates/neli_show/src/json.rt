@@ -5,7 +5,7 @@ use crate::flags::{FlagForm, write_flags};
 use crate::form::{Breach, Fault, Form, Place};
 use crate::head::Head;
 use crate::quoted::Quoted;
-use crate::value::{Value, field_value, hardware_hex, number_value, plain_hex};
+use crate::value::{Hardware, Hex, Value, field_value, number_value};
 use neli_errno::Errno;
 use neli_schema::{Number, Structure, Table};
 use neli_schema_walk::{Attribute, Shape, Step};
@@ -37,11 +37,11 @@ fn write_value<W: Write>(out: &mut W, value: &Value<'_>) -> io::Result<()> {
         }
         Value::Ip(address) => write!(out, "\"{address}\""),
         Value::Hardware(bytes) => {
-            let hex = hardware_hex(bytes);
+            let hex = Hardware(bytes);
             write!(out, "\"{hex}\"")
         }
         Value::Bytes(bytes) => {
-            let hex = plain_hex(bytes);
+            let hex = Hex(bytes);
             write!(out, "{{\"bytes\":\"{hex}\"}}")
         }
     }

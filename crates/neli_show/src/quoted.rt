@@ -1,4 +1,7 @@
-//! Texts in quotes, as a string of JSON (RFC 8259, section 7).
+//! Texts in quotes, as strings of JSON (RFC 8259, section 7).
+
+ghost use Rattle.std.specs.Prelude.{◌≡◌, Some};
+ghost use Rattle.neli_show.specs.Quoted.{escape_of, escaped, escaped_char, quoted};
 
 use std::fmt;
 
@@ -16,7 +19,9 @@ enum Escape {
 /// How a character stands in a string: quotes, the reverse solidus and control characters do not stand there as
 /// themselves. DEL and the control characters above it, which a string may have, are escaped too, since a terminal
 /// obeys them.
-fn escape_of(c: char) -> Escape {
+fn escape_of(c: char) -> Escape
+    ensures { result ≡ escape_of c }
+{
     match c {
         '"' | '\\' => Escape::Letter(c),
         '\n' => Escape::Letter('n'),
@@ -27,23 +32,52 @@ fn escape_of(c: char) -> Escape {
     }
 }
 
+/// A character as it stands in a string.
+#[derive(Clone, Copy)]
+struct EscapedChar(char);
+
+impl fmt::Display for EscapedChar {
+    ghost output = { λ c. Some (escaped_char c.0) };
+
+    fn fmt<W: fmt::Write>(&self, f: &mut fmt::Formatter<W>) -> fmt::Result {
+        let c = self.0;
+        match escape_of(c) {
+            Escape::Plain => write!(f, "{c}"),
+            Escape::Letter(letter) => write!(f, "\\{letter}"),
+            Escape::Number => {
+                let number = u32::from(c);
+                let (high, low) = (number / 16, number % 16);
+                write!(f, "\\u00{high:x}{low:x}")
+            }
+        }
+    }
+}
+
+/// The characters of a text as they stand in a string.
+#[derive(Clone, Copy)]
+struct Escaped<'t>(&'t str);
+
+impl fmt::Display for Escaped<'_> {
+    ghost output = { λ t. Some (escaped t.0.now) };
+
+    fn fmt<W: fmt::Write>(&self, f: &mut fmt::Formatter<W>) -> fmt::Result {
+        for c in self.0.chars() {
+            let written = EscapedChar(c);
+            write!(f, "{written}")?;
+        }
+        Ok(())
+    }
+}
+
 /// A text in quotes: a string of JSON, and safe to print on a terminal.
 #[derive(Clone, Copy)]
 pub struct Quoted<'t>(pub &'t str);
 
 impl fmt::Display for Quoted<'_> {
+    ghost output = { λ t. Some (quoted t.0.now) };
+
     fn fmt<W: fmt::Write>(&self, f: &mut fmt::Formatter<W>) -> fmt::Result {
-        write!(f, "\"")?;
-        for c in self.0.chars() {
-            match escape_of(c) {
-                Escape::Plain => write!(f, "{c}")?,
-                Escape::Letter(letter) => write!(f, "\\{letter}")?,
-                Escape::Number => {
-                    let number = u32::from(c);
-                    write!(f, "\\u{number:04x}")?
-                }
-            }
-        }
-        write!(f, "\"")
+        let escaped = Escaped(self.0);
+        write!(f, "\"{escaped}\"")
     }
 }

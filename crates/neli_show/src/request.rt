@@ -55,7 +55,7 @@ pub fn request_of(words: &[String]) -> Option<Request> {
     Some(asking(output, protocol_of(protocol.as_str())?))
 }
 
-/// These.
+/// A request for this output and this protocol.
 fn asking(output: Output, protocol: u16) -> Request {
     Request { output, protocol }
 }

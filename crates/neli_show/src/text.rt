@@ -15,6 +15,7 @@ use std::{fmt, io};
 /// Lines of text, with names in colours or without.
 #[derive(Clone, Copy)]
 pub struct Text {
+    /// Whether names are in colours (ANSI escapes).
     pub is_coloured: bool,
 }
 

@@ -1,5 +1,8 @@
 //! Values: what payloads and fields of structures say.
 
+ghost use Rattle.std.specs.Prelude.{Some};
+ghost use Rattle.neli_show.specs.Values.{hex_text, value_text};
+
 use crate::quoted::Quoted;
 use byteorder::{BigEndian, ByteOrder, LittleEndian};
 use neli_schema::{Field, FieldKind, Number};
@@ -106,38 +109,41 @@ pub fn field_value<'b>(field: &Field<'_>, structure: &'b [u8]) -> Option<Value<'
     })
 }
 
-/// Bytes as hexadecimal digits, two each, with this between them.
+/// Bytes as hexadecimal digits, two each.
 #[derive(Clone, Copy)]
-pub struct Hex<'b> {
-    pub bytes: &'b [u8],
-    pub between: &'static str,
-}
+pub struct Hex<'b>(pub &'b [u8]);
 
 impl fmt::Display for Hex<'_> {
+    ghost output = { λ h. Some (hex_text h.0.now) };
+
     fn fmt<W: fmt::Write>(&self, f: &mut fmt::Formatter<W>) -> fmt::Result {
-        let mut before = "";
-        for byte in self.bytes {
-            write!(f, "{before}{byte:02x}")?;
-            before = self.between;
+        for byte in self.0 {
+            let byte = *byte;
+            let (high, low) = (byte / 16, byte % 16);
+            write!(f, "{high:x}{low:x}")?;
         }
         Ok(())
     }
 }
 
-/// Bytes as one hexadecimal number.
-pub fn plain_hex(bytes: &[u8]) -> Hex<'_> {
-    Hex { bytes, between: "" }
-}
-
 /// A hardware address, as `02:00:00:00:00:01`.
-pub fn hardware_hex(bytes: &[u8]) -> Hex<'_> {
-    Hex {
-        bytes,
-        between: ":",
+#[derive(Clone, Copy)]
+pub struct Hardware<'b>(pub &'b [u8]);
+
+impl fmt::Display for Hardware<'_> {
+    fn fmt<W: fmt::Write>(&self, f: &mut fmt::Formatter<W>) -> fmt::Result {
+        let mut before = "";
+        for byte in self.0 {
+            write!(f, "{before}{byte:02x}")?;
+            before = ":";
+        }
+        Ok(())
     }
 }
 
 impl fmt::Display for Value<'_> {
+    ghost output = { value_text };
+
     fn fmt<W: fmt::Write>(&self, f: &mut fmt::Formatter<W>) -> fmt::Result {
         match self {
             Value::Unsigned(number) => write!(f, "{number}"),
@@ -147,15 +153,21 @@ impl fmt::Display for Value<'_> {
                 write!(f, "{text}")
             }
             Value::Ip(address) => write!(f, "{address}"),
-            Value::Hardware([]) | Value::Bytes([]) => write!(f, "empty"),
-            Value::Hardware(bytes) => {
-                let hex = hardware_hex(bytes);
-                write!(f, "{hex}")
-            }
+            Value::Hardware(bytes) => write_hardware(f, bytes),
+            Value::Bytes([]) => write!(f, "empty"),
             Value::Bytes(bytes) => {
-                let hex = plain_hex(bytes);
+                let hex = Hex(bytes);
                 write!(f, "0x{hex}")
             }
         }
     }
+}
+
+/// Writes a hardware address.
+fn write_hardware<W: fmt::Write>(f: &mut fmt::Formatter<W>, bytes: &[u8]) -> fmt::Result {
+    if bytes.is_empty() {
+        return write!(f, "empty");
+    }
+    let address = Hardware(bytes);
+    write!(f, "{address}")
 }
