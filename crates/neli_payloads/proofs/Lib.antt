@@ -1,2 +1,3 @@
 mod Inline
+mod Texts
 mod Walks

@@ -1,4 +1,5 @@
 pub mod HardwareAddress
+pub mod HardwareText
 pub mod IfaCacheinfo
 pub mod Inline
 pub mod LinkStats64

@@ -1,13 +1,21 @@
 //! Laws over the definitions alone: what is written of a value is read again as the same, and when two values are
 //! equal. The functions do nothing: their contracts are the laws.
 
-ghost use Rattle.std.specs.Prelude.{◌≡◌, List, ℕ, length};
+ghost use Rattle.std.specs.Prelude.{◌≡◌, ◌≤◌, List, ℕ, Some, length};
 ghost use Rattle.neli_wire.specs.Constants.{IsEquality};
 ghost use Rattle.neli_wire.specs.Numbers.{AreBytes};
 ghost use Rattle.neli_payloads.specs.declared.ifa_cacheinfo.IfaCacheinfo.{IfaCacheinfo};
 ghost use Rattle.neli_payloads.specs.declared.rta_cacheinfo.RtaCacheinfo.{RtaCacheinfo};
+ghost use Rattle.neli_payloads.specs.HardwareAddress.{hardware_text};
+ghost use Rattle.neli_payloads.specs.HardwareText.{hardware_parsed};
 ghost use Rattle.neli_payloads.specs.IfaCacheinfo.{IsPlainIfaCacheinfo, ifa_cacheinfo_bytes, ifa_cacheinfo_header};
 ghost use Rattle.neli_payloads.specs.RtaCacheinfo.{IsPlainRtaCacheinfo, rta_cacheinfo_bytes, rta_cacheinfo_header};
+
+/// The text that is printed of a hardware address is read as that address.
+pub fn hardware_text_is_read_back()
+    ensures { (bytes : List ℕ) → length bytes ≤ 32 → AreBytes bytes
+        → hardware_parsed (hardware_text bytes) ≡ Some bytes }
+{}
 
 /// The lifetimes of an address are written as bytes that are read as the same, where each field has a number of its
 /// size. And bytes that are read as them are those that they are written as.

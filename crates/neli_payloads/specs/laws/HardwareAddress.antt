@@ -1,5 +1,5 @@
 -- Laws of hardware addresses.
-use Rattle.std.proofs.Common.{◌≡◌, ◌≢◌, ℕ, Bool, true, false, cond, ltb, leb, List, length, Result, Ok, Err}
+use Rattle.std.proofs.Common.{◌≢◌, ℕ, Bool, true, false, cond, List, length, Ok, Err}
 use Rattle.neli_wire.specs.Bytes.{short}
 use Rattle.neli_wire.specs.DeError.{DeError}
 use Rattle.neli_wire.specs.DeError.TheVariants.{InvalidInput, Memory}

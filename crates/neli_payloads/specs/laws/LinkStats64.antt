@@ -1,5 +1,5 @@
 -- Laws of the counters of links: no bytes are refused.
-use Rattle.std.proofs.Common.{◌≡◌, ◌≢◌, ℕ, List, Result, Ok, Err}
+use Rattle.std.proofs.Common.{◌≢◌, ℕ, List, Ok, Err}
 use Rattle.neli_wire.specs.Bytes.{short}
 use Rattle.neli_wire.specs.DeError.{DeError}
 use Rattle.neli_wire.specs.DeError.TheVariants.{Memory}
