@@ -77,8 +77,8 @@ impl FromStr for HardwareAddress {
 
     ghost from_str_gives = { λ text r. result_ok r ≡ hardware_parsed text };
 
-    /// The address that a text spells as `Display` prints it, with letters in either case: two hexadecimal digits a byte,
-    /// a colon between two bytes, at most 32 bytes, and none of the empty text. Any other text is refused.
+    /// The address that a text spells as `Display` prints it, with letters in either case: two hexadecimal digits a
+    /// byte, a colon between two bytes, at most 32 bytes, and none of the empty text. Any other text is refused.
     fn from_str(text: &str) -> Result<HardwareAddress, HardwareAddressError> {
         let text = text.as_bytes();
         let mut held = [0; 32];

@@ -26,7 +26,7 @@ pub struct LinkStats64 {
     pub rx_errors: u64,
     /// Packets that were not sent because of an error.
     pub tx_errors: u64,
-    /// Packets received and dropped for want of room.
+    /// Packets received and not processed, for want of room or of a protocol.
     pub rx_dropped: u64,
     /// Packets dropped on their way out for want of room.
     pub tx_dropped: u64,

@@ -22,7 +22,7 @@ pub struct RtaCacheinfo {
     pub rta_lastuse: u32,
     /// In how many such ticks it expires; 0 where it does not, and below 0 where it has.
     pub rta_expires: i32,
-    /// The number of the error that its packets are refused with, or 0.
+    /// The error that its packets are refused with, or 0: a kernel puts the number below 0, in two's complement.
     pub rta_error: u32,
     /// How often it was used.
     pub rta_used: u32,

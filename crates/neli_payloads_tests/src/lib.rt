@@ -1,0 +1,19 @@
+//! Tests of `neli_payloads`: hardware addresses, counters, cache entries and next hops.
+//!
+//! The bytes are payloads of recorded datagrams, named by their numbers (docs/RECORDINGS.md), or were made by hand.
+//! What is wanted of them was counted by hand from the structs of linux/if_link.h, linux/if_addr.h and
+//! linux/rtnetlink.h.
+#![tactic(auto)]
+
+#[cfg(test)]
+mod addresses;
+#[cfg(test)]
+mod cache_entries;
+#[cfg(test)]
+mod counters;
+#[cfg(test)]
+mod next_hops;
+#[cfg(test)]
+mod support;
+#[cfg(test)]
+mod texts;
