@@ -1,8 +1,12 @@
 -- Values as text.
-use Rattle.std.specs.Prelude.{ℕ, ◌/◌, ◌%◌, false, List, [], ◌∷◌, ◌++◌, codes, Option, Some, None}
+use Rattle.std.specs.Prelude.{ℕ, ◌/◌, ◌%◌, false, nat_lt, if◌then◌else◌, List, [], ◌∷◌, ◌++◌, length, codes, Option, Some, None}
 use Rattle.std.specs.Fmt.{decimal, digits, signed_decimal}
 use Rattle.std.specs.List.{flat_map}
 use Rattle.std.specs.Net.Text.{ip_text}
+use Rattle.byteorder.specs.Endian.{big_number, little_number, twos_complement}
+use Rattle.neli_schema.specs.Kinds.{number_size}
+use Rattle.neli_schema.specs.declared.kind.Number.{Number}
+use Rattle.neli_schema.specs.declared.kind.Number.TheVariants.{U8, U16, U32, U64, S8, S16, S32, S64, Be16, Be32, Be64}
 use Rattle.neli_show.specs.declared.value.Value.{Value}
 use Rattle.neli_show.specs.declared.value.Value.TheVariants as value
 use Rattle.neli_show.specs.Quoted.{quoted}
@@ -28,3 +32,28 @@ value_text (value.Text text) = Some (quoted text.now)
 value_text (value.Ip address) = Some (ip_text address)
 value_text (value.Hardware bytes) = None
 value_text (value.Bytes bytes) = Some (bytes_text bytes.now)
+
+-- ---- numbers in bytes
+
+-- a number with a sign, of so many bytes
+abbrev pub signed_text : ℕ → List ℕ → List ℕ
+signed_text n bytes = signed_decimal (twos_complement n (little_number n bytes))
+
+-- the number that as many bytes as it has are
+abbrev pub whole_number_text : Number → List ℕ → List ℕ
+whole_number_text U8 bytes = decimal (little_number 1 bytes)
+whole_number_text U16 bytes = decimal (little_number 2 bytes)
+whole_number_text U32 bytes = decimal (little_number 4 bytes)
+whole_number_text U64 bytes = decimal (little_number 8 bytes)
+whole_number_text S8 bytes = signed_text 1 bytes
+whole_number_text S16 bytes = signed_text 2 bytes
+whole_number_text S32 bytes = signed_text 4 bytes
+whole_number_text S64 bytes = signed_text 8 bytes
+whole_number_text Be16 bytes = decimal (big_number 2 bytes)
+whole_number_text Be32 bytes = decimal (big_number 4 bytes)
+whole_number_text Be64 bytes = decimal (big_number 8 bytes)
+
+-- the number at the front of bytes, or these where they are too few
+abbrev pub number_text : Number → List ℕ → List ℕ
+number_text number bytes =
+    if nat_lt (length bytes) (number_size number) then bytes_text bytes else whole_number_text number bytes

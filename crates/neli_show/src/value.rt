@@ -1,7 +1,7 @@
 //! Values: what payloads and fields of structures say.
 
-ghost use Rattle.std.specs.Prelude.{Some};
-ghost use Rattle.neli_show.specs.Values.{hex_text, value_text};
+ghost use Rattle.std.specs.Prelude.{◌≡◌, ◌≤◌, Some, length};
+ghost use Rattle.neli_show.specs.Values.{hex_text, number_text, signed_text, value_text};
 
 use crate::quoted::Quoted;
 use byteorder::{BigEndian, ByteOrder, LittleEndian};
@@ -26,8 +26,21 @@ pub enum Value<'b> {
     Bytes(&'b [u8]),
 }
 
+/// The number with a sign that these many bytes at the front are.
+fn signed_value(bytes: &[u8], size: usize) -> Value<'_>
+    requires some { 1 ≤ size }
+    requires few { size ≤ 8 }
+    requires room { size ≤ length bytes.now }
+    ensures { value_text result ≡ Some (signed_text size bytes.now) }
+{
+    let number = LittleEndian::read_int(bytes, size);
+    Value::Signed(number)
+}
+
 /// The number at the front of these bytes; bytes where they are too few.
-pub fn number_value(number: Number, bytes: &[u8]) -> Value<'_> {
+pub fn number_value(number: Number, bytes: &[u8]) -> Value<'_>
+    ensures { value_text result ≡ Some (number_text number bytes.now) }
+{
     let size = number.size();
     if bytes.len() < size {
         return Value::Bytes(bytes);
@@ -36,9 +49,10 @@ pub fn number_value(number: Number, bytes: &[u8]) -> Value<'_> {
         Number::U8 | Number::U16 | Number::U32 | Number::U64 => {
             Value::Unsigned(LittleEndian::read_uint(bytes, size))
         }
-        Number::S8 | Number::S16 | Number::S32 | Number::S64 => {
-            Value::Signed(LittleEndian::read_int(bytes, size))
-        }
+        Number::S8 => signed_value(bytes, 1),
+        Number::S16 => signed_value(bytes, 2),
+        Number::S32 => signed_value(bytes, 4),
+        Number::S64 => signed_value(bytes, 8),
         Number::Be16 | Number::Be32 | Number::Be64 => {
             Value::Unsigned(BigEndian::read_uint(bytes, size))
         }
