@@ -9,7 +9,8 @@ pub use neli_link::{
     NdaCacheinfoBuilder, NdaCacheinfoBuilderError, Ndmsg, NdmsgBuilder, NdmsgBuilderError,
 };
 pub use neli_payloads::{
-    HardwareAddress, IfaCacheinfo, LinkStats64, NextHop, NextHops, RtaCacheinfo,
+    HardwareAddress, HardwareAddressError, IfaCacheinfo, LinkStats64, NextHop, NextHops,
+    RtaCacheinfo,
 };
 pub use neli_route::{
     Fibmsg, FibmsgBuilder, FibmsgBuilderError, Rtgenmsg, RtgenmsgBuilder, RtgenmsgBuilderError,
@@ -24,7 +25,8 @@ pub mod laws {
         nda_cacheinfo_is_read_back, ndmsg_is_read_back,
     };
     pub use neli_payloads::laws::{
-        equality as equality_of_payloads, ifa_cacheinfo_is_read_back, rta_cacheinfo_is_read_back,
+        equality as equality_of_payloads, hardware_text_is_read_back, ifa_cacheinfo_is_read_back,
+        rta_cacheinfo_is_read_back,
     };
     pub use neli_route::laws::{
         equality as equality_of_routes, fibmsg_is_read_back, rtgenmsg_is_read_back,
