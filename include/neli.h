@@ -100,7 +100,7 @@ struct neli_writer {
 
 /* A router, which only the library looks into. It begins as NELI_ROUTER_CLOSED, is not copied while it is open, is used
  * by one thread at a time, and is freed by its last owner. */
-struct neli_router {
+struct neli_runs {
     bool is_open;
     void *state;
 };
@@ -154,17 +154,17 @@ int32_t neli_c_put_attribute(uint8_t *out, size_t room, struct neli_writer *writ
 int32_t neli_c_begin_nest(uint8_t *out, size_t room, struct neli_writer *writer, uint16_t type, size_t *nest);
 int32_t neli_c_end_nest(uint8_t *out, size_t room, const struct neli_writer *writer, size_t nest);
 int32_t neli_c_end_message(uint8_t *out, size_t room, const struct neli_writer *writer);
-int32_t neli_c_router_new(struct neli_router *router, uint32_t port);
-int32_t neli_c_router_free(struct neli_router *router);
-int32_t neli_c_router_set_number(struct neli_router *router, uint32_t number);
-int32_t neli_c_router_send(struct neli_router *router, uint16_t type, uint16_t flags, const uint8_t *body,
+int32_t neli_c_router_new(struct neli_runs *router, uint32_t port);
+int32_t neli_c_router_free(struct neli_runs *router);
+int32_t neli_c_router_set_number(struct neli_runs *router, uint32_t number);
+int32_t neli_c_router_send(struct neli_runs *router, uint16_t type, uint16_t flags, const uint8_t *body,
                            size_t body_length, uint8_t *out, size_t room, struct neli_sent *sent);
-int32_t neli_c_router_datagram(struct neli_router *router, const uint8_t *bytes, size_t length,
+int32_t neli_c_router_datagram(struct neli_runs *router, const uint8_t *bytes, size_t length,
                                const uint32_t *groups, size_t group_count);
-int32_t neli_c_router_fault(struct neli_router *router, int32_t error_number);
-int32_t neli_c_router_read(struct neli_router *router, size_t handle, struct neli_item *item);
-int32_t neli_c_router_item(struct neli_router *router, uint8_t *out, size_t room, size_t *length);
-int32_t neli_c_router_close(struct neli_router *router, size_t handle);
+int32_t neli_c_router_fault(struct neli_runs *router, int32_t error_number);
+int32_t neli_c_router_read(struct neli_runs *router, size_t handle, struct neli_item *item);
+int32_t neli_c_router_item(struct neli_runs *router, uint8_t *out, size_t room, size_t *length);
+int32_t neli_c_router_close(struct neli_runs *router, size_t handle);
 
 /* ---- Pointers and lengths ---- */
 
@@ -357,19 +357,19 @@ static inline int32_t neli_end_message(uint8_t *out, size_t room, const struct n
 /* ---- The router ---- */
 
 /* Opens a router for the port of the caller's socket; NELI_STATE where it is open. */
-static inline int32_t neli_router_new(struct neli_router *router, uint32_t port) {
+static inline int32_t neli_router_new(struct neli_runs *router, uint32_t port) {
     if (router == NULL) return NELI_NULL;
     return neli_c_router_new(router, port);
 }
 
 /* Frees what a router has, and closes it. Of a closed one, nothing. */
-static inline int32_t neli_router_free(struct neli_router *router) {
+static inline int32_t neli_router_free(struct neli_runs *router) {
     if (router == NULL) return NELI_NULL;
     return neli_c_router_free(router);
 }
 
 /* Sets the sequence number of the next request. The first is 0, and each request takes the next one. */
-static inline int32_t neli_router_set_number(struct neli_router *router, uint32_t number) {
+static inline int32_t neli_router_set_number(struct neli_runs *router, uint32_t number) {
     if (router == NULL) return NELI_NULL;
     return neli_c_router_set_number(router, number);
 }
@@ -377,7 +377,7 @@ static inline int32_t neli_router_set_number(struct neli_router *router, uint32_
 /* A request of this type with these flags and NLM_F_REQUEST, whose payload is the body, as bytes to be sent; and the
  * handle that its replies are read by. At NELI_ROOM `sent->length` is what is needed. NELI_LENGTH where the length
  * passes 32 bits, NELI_IN_USE. */
-static inline int32_t neli_router_send(struct neli_router *router, uint16_t type, uint16_t flags, const void *body,
+static inline int32_t neli_router_send(struct neli_runs *router, uint16_t type, uint16_t flags, const void *body,
                                        size_t body_length, uint8_t *out, size_t room, struct neli_sent *sent) {
     if (router == NULL || !neli_is_slice(body, body_length) || !neli_is_slice(out, room) || sent == NULL)
         return NELI_NULL;
@@ -386,7 +386,7 @@ static inline int32_t neli_router_send(struct neli_router *router, uint16_t type
 }
 
 /* Takes in a datagram that came to these groups; none where it came to the router's port alone. */
-static inline int32_t neli_router_datagram(struct neli_router *router, const uint8_t *bytes, size_t length,
+static inline int32_t neli_router_datagram(struct neli_runs *router, const uint8_t *bytes, size_t length,
                                            const uint32_t *groups, size_t group_count) {
     static const uint32_t none[1] = {0};
     if (router == NULL || !neli_is_slice(bytes, length)) return NELI_NULL;
@@ -396,14 +396,14 @@ static inline int32_t neli_router_datagram(struct neli_router *router, const uin
 
 /* Takes in a fault of the link, by its number in errno.h: each open request is given NELI_LINK. EAGAIN gives nobody
  * anything. */
-static inline int32_t neli_router_fault(struct neli_router *router, int32_t error_number) {
+static inline int32_t neli_router_fault(struct neli_runs *router, int32_t error_number) {
     if (router == NULL) return NELI_NULL;
     return neli_c_router_fault(router, error_number);
 }
 
 /* Reads the next item of a handle: NELI_ITEM, NELI_KERNEL_ERROR, NELI_END, NELI_WAITS; or what came in its place
  * (NELI_STRAY, NELI_LINK, ..). NELI_HANDLE where the handle is not open. */
-static inline int32_t neli_router_read(struct neli_router *router, size_t handle, struct neli_item *item) {
+static inline int32_t neli_router_read(struct neli_runs *router, size_t handle, struct neli_item *item) {
     if (router == NULL || item == NULL) return NELI_NULL;
     return neli_c_router_read(router, handle, item);
 }
@@ -411,14 +411,14 @@ static inline int32_t neli_router_read(struct neli_router *router, size_t handle
 /* The bytes of the item that was read last, of whatever handle: at NELI_ITEM the message, at NELI_KERNEL_ERROR an error
  * message, which both can be walked by the calls above. At NELI_ROOM `length` is what is needed; the item stays.
  * NELI_HANDLE where nothing was read, or something without bytes. */
-static inline int32_t neli_router_item(struct neli_router *router, uint8_t *out, size_t room, size_t *length) {
+static inline int32_t neli_router_item(struct neli_runs *router, uint8_t *out, size_t room, size_t *length) {
     if (router == NULL || !neli_is_slice(out, room) || length == NULL) return NELI_NULL;
     return neli_c_router_item(router, neli_write_at(out), room, length);
 }
 
 /* Closes a handle: what waits for it is given up. Its number is that of the next handle that is opened, but for that of
  * multicast. */
-static inline int32_t neli_router_close(struct neli_router *router, size_t handle) {
+static inline int32_t neli_router_close(struct neli_runs *router, size_t handle) {
     if (router == NULL) return NELI_NULL;
     return neli_c_router_close(router, handle);
 }

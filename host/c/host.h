@@ -9,7 +9,7 @@
 struct host {
     int fd;
     uint32_t port;
-    struct neli_router router;
+    struct neli_runs router;
     int fault;      /* of the socket, the last one; 0 at first */
     bool is_untold; /* whether the handle of multicast has not told it yet */
     uint8_t *datagram;

@@ -3,15 +3,15 @@ pub use Rattle.neli_list.specs as list
 pub use Rattle.neli_attr.specs as attr
 pub use Rattle.neli_body.specs as body
 pub use Rattle.neli_consts.specs as consts
-pub use Rattle.neli_consts_rt.specs as consts_rt
-pub use Rattle.neli_consts_rta.specs as consts_rta
-pub use Rattle.neli_consts_rtf.specs as consts_rtf
-pub use Rattle.neli_consts_sys.specs as consts_sys
+pub use Rattle.neli_consts_routing.specs as consts_rt
+pub use Rattle.neli_consts_attrs.specs as consts_rta
+pub use Rattle.neli_consts_flags.specs as consts_rtf
+pub use Rattle.neli_consts_system.specs as consts_sys
 pub use Rattle.neli_route.specs as route
 pub use Rattle.neli_link.specs as link
 pub use Rattle.neli_payloads.specs as payloads
 pub use Rattle.neli_genl.specs as genl
-pub use Rattle.neli_msg.specs as msg
+pub use Rattle.neli_reader.specs as msg
 pub use Rattle.neli_lent.specs as lent
 pub use Rattle.neli_kernel.specs as kernel
 pub use Rattle.neli_util.specs as util
@@ -20,6 +20,6 @@ pub use Rattle.neli_queues.specs as queues
 pub use Rattle.neli_places.specs as places
 pub use Rattle.neli_spans.specs as spans
 pub use Rattle.neli_log.specs as log
-pub use Rattle.neli_router.specs as router
+pub use Rattle.neli_runs.specs as router
 pub use Rattle.neli_resolvers.specs as resolvers
 pub mod laws

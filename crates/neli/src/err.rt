@@ -2,7 +2,7 @@
 
 pub use neli_attr::{BuildError, of};
 pub use neli_errno::Errno;
-pub use neli_msg::{
+pub use neli_reader::{
     BuilderError, Explained, Nlmsgerr, NlmsgerrBuilder, NlmsgerrBuilderError, NlmsghdrAck,
     NlmsghdrAckBuilder, NlmsghdrAckBuilderError, NlmsghdrErr, NlmsghdrErrBuilder,
     NlmsghdrErrBuilderError, RouterError, SocketError,

@@ -1,3 +1,3 @@
 //! The messages of a datagram, one by one or all at once.
 
-pub use neli_msg::{NlBufferIter, cut};
+pub use neli_reader::{NlBufferIter, cut};

@@ -1,3 +1,3 @@
 //! Messages: the header, and the kinds of payload.
 
-pub use neli_msg::{NlPayload, Nlmsghdr, NlmsghdrBuilder, NlmsghdrBuilderError, laws};
+pub use neli_reader::{NlPayload, Nlmsghdr, NlmsghdrBuilder, NlmsghdrBuilderError, laws};

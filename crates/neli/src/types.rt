@@ -1,4 +1,4 @@
 //! Payloads of bytes, and lists of attributes and of messages.
 
 pub use neli_attr::{Buffer, FrameList, GenlBuffer, RtBuffer, TryClone};
-pub use neli_msg::NlBuffer;
+pub use neli_reader::NlBuffer;

@@ -1,9 +1,9 @@
-pub use Rattle.neli_attr_base.specs.declared.attr_type.AttrType
-pub use Rattle.neli_attr_base.specs.declared.buffer.Buffer
-pub use Rattle.neli_attr_base.specs.declared.builders.BuildError
-pub use Rattle.neli_attr_base.specs.Builders
-pub use Rattle.neli_attr_base.specs.TypeField
-pub use Rattle.neli_attr_base.specs.Attributes
+pub use Rattle.neli_attr_parts.specs.declared.attr_type.AttrType
+pub use Rattle.neli_attr_parts.specs.declared.buffer.Buffer
+pub use Rattle.neli_attr_parts.specs.declared.builders.BuildError
+pub use Rattle.neli_attr_parts.specs.Builders
+pub use Rattle.neli_attr_parts.specs.TypeField
+pub use Rattle.neli_attr_parts.specs.Attributes
 pub use Rattle.neli_list.specs.Handles
 pub use Rattle.neli_list.specs.Lookup
 pub use Rattle.neli_list.specs.Payloads

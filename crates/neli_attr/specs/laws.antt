@@ -1,5 +1,5 @@
-pub use Rattle.neli_attr_base.specs.laws.Attributes
-pub use Rattle.neli_attr_base.specs.laws.TypeField
+pub use Rattle.neli_attr_parts.specs.laws.Attributes
+pub use Rattle.neli_attr_parts.specs.laws.TypeField
 pub mod Equality
 pub mod Nlattr
 pub mod Rtattr

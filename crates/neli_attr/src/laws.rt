@@ -22,7 +22,7 @@ ghost use Rattle.neli_attr.specs.RoundTrips.{IsReadBack, KeepsField};
 
 use crate::{AttrType, Buffer, Nlattr, Rtattr};
 use neli_consts::NlAttrType;
-use neli_consts_rta::RtaType;
+use neli_consts_attrs::RtaType;
 use neli_list::FrameList;
 use neli_wire::{Constant, FromBytesWithInput, ToBytes};
 

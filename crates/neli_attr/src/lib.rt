@@ -10,14 +10,14 @@
 //!
 //! What is read and written is stated in `specs/`: `Attributes`, `TypeField`, `Builders`, `Nlattr`, `Rtattr`
 //! and `RoundTrips`, and for lists and handles `Handles`, `Lookup` and `Payloads`. Lists and handles are those
-//! of `neli_list`; [`Buffer`], [`AttrType`], [`Attribute`] and [`BuildError`] those of `neli_attr_base`.
+//! of `neli_list`; [`Buffer`], [`AttrType`], [`Attribute`] and [`BuildError`] those of `neli_attr_parts`.
 #![tactic(auto)]
 
 pub mod laws;
 mod nlattr;
 mod rtattr;
 
-pub use neli_attr_base::{
+pub use neli_attr_parts::{
     AttrType, AttrTypeBuilder, AttrTypeBuilderError, Attribute, Buffer, BuildError, of,
 };
 pub use neli_list::{AttrHandle, AttrSlice, FrameList, TryClone};

@@ -17,7 +17,7 @@ ghost use Rattle.neli_attr.specs.Nlattr.{built_nlattr, nlattr_says, nlattr_wire,
 ghost use Rattle.neli_attr.specs.laws.Nlattr.{nlattr_wire-length, nlattr_wire-no_memory, nlattr_wire-zeros, nlattr_equiv, nlattr_per};
 
 use crate::{AttrType, Attribute, Buffer, BuildError, of};
-use neli_attr_base::frame::{
+use neli_attr_parts::frame::{
     HEADER_SIZE, length_with, nested_bytes, payload_bytes, read_attribute, size_with,
     write_attribute, written,
 };

@@ -15,11 +15,11 @@ ghost use Rattle.neli_attr.specs.Rtattr.{built_rtattr, rtattr_says, rtattr_wire,
 ghost use Rattle.neli_attr.specs.laws.Rtattr.{rtattr_wire-length, rtattr_wire-no_memory, rtattr_wire-zeros};
 
 use crate::{Attribute, Buffer, BuildError, of};
-use neli_attr_base::frame::{
+use neli_attr_parts::frame::{
     HEADER_SIZE, length_with, nested_bytes, payload_bytes, read_attribute, size_with,
     write_attribute, written,
 };
-use neli_consts_rta::RtaType;
+use neli_consts_attrs::RtaType;
 use neli_list::{
     AttrHandle, FrameList, Retyped, TryClone, TypedPayload, handle_of_payload, read_borrowed,
 };

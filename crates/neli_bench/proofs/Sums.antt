@@ -1,7 +1,7 @@
 -- A sum that is made message by message.
 use Rattle.std.proofs.Common.{◌≡◌, ℕ, ◌+◌, ◌-◌, ◌^◌, ◌≤◌, [], None, sym, ap, ◌∙◌, arith}
 use Rattle.std.specs.Prelude.{sum_by}
-use Rattle.neli_msg.specs.Cuts.{Cut}
+use Rattle.neli_reader.specs.Cuts.{Cut}
 use Rattle.neli_bench.specs.Walks.{IsSum, as_u64}
 
 -- the sum over all messages is the sum so far and that over the messages that are left

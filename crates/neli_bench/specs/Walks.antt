@@ -2,18 +2,18 @@
 use Rattle.std.specs.Prelude.{◌≡◌, ℕ, ◌+◌, ◌-◌, ◌^◌, List, [], bit_and, drop, length, min, sum_by, Option, Some, None}
 use Rattle.neli_body.specs.Attributes.{Says, attrs_of}
 use Rattle.neli_body.specs.Bodies.{body_of as header_then}
-use Rattle.neli_consts_rta.specs.Ifla.{ifla_number, ifla_of}
-use Rattle.neli_consts_rta.specs.Rta.{rta_number, rta_of}
-use Rattle.neli_consts_rta.specs.declared.links.Ifla.{Ifla}
-use Rattle.neli_consts_rta.specs.declared.routes.Rta.{Rta}
+use Rattle.neli_consts_attrs.specs.Ifla.{ifla_number, ifla_of}
+use Rattle.neli_consts_attrs.specs.Rta.{rta_number, rta_of}
+use Rattle.neli_consts_attrs.specs.declared.links.Ifla.{Ifla}
+use Rattle.neli_consts_attrs.specs.declared.routes.Rta.{Rta}
 use Rattle.neli_lent.specs.Attributes.{attributes_at}
 use Rattle.neli_lent.specs.Messages.{Lent, messages_in}
 use Rattle.neli_link.specs.Ifinfomsg.{ifinfomsg_header}
 use Rattle.neli_link.specs.declared.ifinfomsg.IfinfomsgHeader.{IfinfomsgHeader}
-use Rattle.neli_msg.specs.Agreement.{untyped_layout}
-use Rattle.neli_msg.specs.Cuts.{Cut, cut_of}
-use Rattle.neli_msg.specs.Messages.{Message, message_layout}
-use Rattle.neli_msg.specs.Retyping.{body_of}
+use Rattle.neli_reader.specs.Agreement.{untyped_layout}
+use Rattle.neli_reader.specs.Cuts.{Cut, cut_of}
+use Rattle.neli_reader.specs.Messages.{Message, message_layout}
+use Rattle.neli_reader.specs.Retyping.{body_of}
 use Rattle.neli_route.specs.Rtmsg.{rtmsg_header}
 use Rattle.neli_route.specs.declared.rtmsg.RtmsgHeader.{RtmsgHeader}
 

@@ -4,14 +4,14 @@
 
 ghost use Rattle.std.specs.Prelude.{◌≡◌, IsTrue, false, sum_by};
 ghost use Rattle.neli_body.specs.Attributes.{attrs_say};
-ghost use Rattle.neli_msg.specs.Messages.{message_of};
+ghost use Rattle.neli_reader.specs.Messages.{message_of};
 ghost use Rattle.neli_bench.specs.Walks.{IsSum, as_u64, link_adds, link_cut, raw_cut, route_adds, route_cut, stated_length, type_and_length};
 
 use crate::plus;
 use neli_attr::{Buffer, RtBuffer};
-use neli_consts_rta::RtaType;
+use neli_consts_attrs::RtaType;
 use neli_link::Ifinfomsg;
-use neli_msg::{NlBufferIter, Nlmsghdr};
+use neli_reader::{NlBufferIter, Nlmsghdr};
 use neli_route::Rtmsg;
 use std::alloc::Global;
 

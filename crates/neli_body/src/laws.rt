@@ -6,7 +6,7 @@ ghost use Rattle.neli_body.specs.Attributes.{Attrs};
 ghost use Rattle.neli_body.specs.RoundTrips.{ArePlainAttrs, AreReadBack, ReadsBack, ReadsBackWhole};
 
 use crate::FixedHeader;
-use neli_consts_rta::RtaType;
+use neli_consts_attrs::RtaType;
 use neli_wire::{FromBytesWithInput, ToBytes};
 
 /// A body is written as bytes that are read as its header and as what the bytes after the header are

@@ -8,7 +8,7 @@ use Rattle.neli_wire.specs.Frames.{Layout, frame_at, frame_after}
 use Rattle.neli_wire.specs.Sizes.{align}
 use Rattle.neli_wire.specs.laws.Reading.{guard_ok, ok_is}
 use Rattle.neli_attr.specs.Attributes.{Head}
-use Rattle.neli_msg.specs.Headers.{Header, header_in}
+use Rattle.neli_reader.specs.Headers.{Header, header_in}
 use Rattle.neli_wire.specs.Frames.{number_in}
 use Rattle.neli_c.specs.declared.lent.NeliWalk.{NeliWalk}
 use Rattle.neli_c.specs.declared.lent.NeliMessage.{NeliMessage}

@@ -1,7 +1,7 @@
 -- The free places of handles: what a store at one place changes of them.
 use Rattle.std.proofs.Common.{◌≡◌, ◌≢◌, ◌<◌, ℕ, List, [], ◌∷◌, ◌++◌, length, length-set, Option, Some, None, slice_get, slice_set, arith, refl, suc, sym, subst, ap, ◌∙◌, zero}
 use Rattle.std.proofs.lemmas.Option.{slice_get_past}
-use Rattle.neli_router_base.specs.declared.handle.HandleState.{HandleState}
+use Rattle.neli_router.specs.declared.handle.HandleState.{HandleState}
 use Rattle.neli_c.specs.declared.session.Slot.{Slot}
 use Rattle.neli_c.specs.declared.session.Slot.TheVariants as slot
 use Rattle.neli_c.specs.Slots.{AreFree, IsApart, handle_at, handle_in, later_places, next_place}

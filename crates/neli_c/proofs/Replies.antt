@@ -2,12 +2,12 @@
 use Rattle.std.proofs.Common.{◌≡◌, ◌≢◌, ◌⊎◌, ◌||◌, ℕ, ℤ, true, false, List, [], ◌∷◌, length, Option, Some, None, Result, Ok, Err, IfOk, OnErr, ap, subst, ◌∙◌, inl, inr, IfSome}
 use Rattle.neli_deliveries.specs.declared.delivery.Delivery.{Delivery}
 use Rattle.neli_deliveries.specs.Readings.{IsReading, Item}
-use Rattle.neli_router_base.specs.declared.handle.HandleState.{HandleState}
-use Rattle.neli_router_base.specs.declared.reply.Reply.{Reply}
-use Rattle.neli_router_base.specs.declared.reply.Reply.TheVariants as reply
-use Rattle.neli_router_base.specs.Rule.{ends_at, has_number, is_single, item_of}
-use Rattle.neli_msg.specs.Nlmsghdr.{Nlmsghdr}
-use Rattle.neli_msg.specs.RouterError.TheVariants as router
+use Rattle.neli_router.specs.declared.handle.HandleState.{HandleState}
+use Rattle.neli_router.specs.declared.reply.Reply.{Reply}
+use Rattle.neli_router.specs.declared.reply.Reply.TheVariants as reply
+use Rattle.neli_router.specs.Rule.{ends_at, has_number, is_single, item_of}
+use Rattle.neli_reader.specs.Nlmsghdr.{Nlmsghdr}
+use Rattle.neli_reader.specs.RouterError.TheVariants as router
 use Rattle.neli_c.specs.declared.session.NeliItem.{NeliItem}
 use Rattle.neli_c.specs.declared.session.Session.{Session}
 use Rattle.neli_c.specs.Codes.{memory}

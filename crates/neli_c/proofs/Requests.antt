@@ -1,9 +1,9 @@
 -- The frame of a request whose flags and body were converted.
 use Rattle.std.proofs.Common.{◌≡◌, ℕ, ◌+◌, Bool, true, false, List, Result, length, Ok, Err, if◌then◌else◌, nat_lt, ap, refl, subst}
 use Rattle.neli_consts.specs.declared.nlm_f.NlmF.{NlmF}
-use Rattle.neli_msg.specs.NlPayload.TheVariants as payload
-use Rattle.neli_msg.specs.laws.Wires.{message_wire-length}
-use Rattle.neli_router_base.specs.Sends.{as_request, frame_or_refusal, request, request_length}
+use Rattle.neli_reader.specs.NlPayload.TheVariants as payload
+use Rattle.neli_reader.specs.laws.Wires.{message_wire-length}
+use Rattle.neli_router.specs.Sends.{as_request, frame_or_refusal, request, request_length}
 use Rattle.neli_wire.specs.Sizes.{align}
 use Rattle.neli_wire.specs.Writing.{Wire}
 use Rattle.neli_wire.specs.laws.Writing.{written-length}

@@ -1,9 +1,9 @@
--- What is shown of an error, an acknowledgement or the end of a dump: by the kinds of neli_msg.
+-- What is shown of an error, an acknowledgement or the end of a dump: by the kinds of neli_reader.
 use Rattle.std.specs.Prelude.{◌≡◌, ℕ, ◌+◌, ℤ, Bool, ◌&&◌, ◌||◌, not, nat_eq, nat_lt, nat_le, min, if◌then◌else◌, List, length, drop, Option, Some, None, Result, Ok, Err}
 use Rattle.neli_wire.specs.DeError.{DeError}
-use Rattle.neli_msg.specs.Answers.{code_in, echo_end, echoed_in}
-use Rattle.neli_msg.specs.Headers.{Header, flags_of, header_in}
-use Rattle.neli_msg.specs.Kinds.{has_attributes, is_acknowledged, is_capped, is_multi}
+use Rattle.neli_reader.specs.Answers.{code_in, echo_end, echoed_in}
+use Rattle.neli_reader.specs.Headers.{Header, flags_of, header_in}
+use Rattle.neli_reader.specs.Kinds.{has_attributes, is_acknowledged, is_capped, is_multi}
 use Rattle.neli_c.specs.declared.lent.NeliMessage.{NeliMessage}
 use Rattle.neli_c.specs.declared.answer.NeliAnswer.{NeliAnswer}
 use Rattle.neli_c.specs.Codes.{bad_length, kind, ok, place, short}

@@ -1,29 +1,29 @@
--- What the calls of a router do to it, for every handle: as neli_router_base says it of its own calls.
+-- What the calls of a router do to it, for every handle: as neli_router says it of its own calls.
 use Rattle.std.specs.Prelude.{◌≡◌, ◌≢◌, ◌⊎◌, ◌||◌, ⊤, ℕ, ℤ, pos, Bool, List, [], ◌∷◌, ◌++◌, Option, Some, None, IfSome, is_some, option_map, nat_eq, nat_le, unsigned_abs, if◌then◌else◌, length, slice_set, Result, Ok, Err, IfOk, true, false}
 use Rattle.std.specs.declared.io.ErrorKind.{ErrorKind}
 use Rattle.std.specs.declared.io.ErrorKind.TheVariants as kind
 use Rattle.neli_wire.specs.Writing.{Wire}
-use Rattle.neli_msg.specs.Agreement.{untyped_layout}
-use Rattle.neli_msg.specs.Cuts.{cut_of}
-use Rattle.neli_msg.specs.Nlmsghdr.{Nlmsghdr}
-use Rattle.neli_msg.specs.SocketError.{SocketError}
-use Rattle.neli_msg.specs.SocketError.TheVariants as socket
-use Rattle.neli_msg.specs.Wires.{message_wire}
+use Rattle.neli_reader.specs.Agreement.{untyped_layout}
+use Rattle.neli_reader.specs.Cuts.{cut_of}
+use Rattle.neli_reader.specs.Nlmsghdr.{Nlmsghdr}
+use Rattle.neli_reader.specs.SocketError.{SocketError}
+use Rattle.neli_reader.specs.SocketError.TheVariants as socket
+use Rattle.neli_reader.specs.Wires.{message_wire}
 use Rattle.neli_util.specs.Groups.{without_zeros}
 use Rattle.neli_deliveries.specs.declared.delivery.Delivery.{Delivery}
 use Rattle.neli_deliveries.specs.Deliveries.{datagram_share, fault_share}
 use Rattle.neli_log.specs.Log.{pending_of}
-use Rattle.neli_router_base.specs.declared.handle.HandleState.{HandleState}
-use Rattle.neli_router_base.specs.declared.reply.Reply.{Reply}
-use Rattle.neli_router_base.specs.declared.reply.Reply.TheVariants as reply
-use Rattle.neli_router_base.specs.Rule.{ends_at, has_number, is_single, item_of}
-use Rattle.neli_router_base.specs.Sends.{asks, frame_or_refusal, number_after}
+use Rattle.neli_router.specs.declared.handle.HandleState.{HandleState}
+use Rattle.neli_router.specs.declared.reply.Reply.{Reply}
+use Rattle.neli_router.specs.declared.reply.Reply.TheVariants as reply
+use Rattle.neli_router.specs.Rule.{ends_at, has_number, is_single, item_of}
+use Rattle.neli_router.specs.Sends.{asks, frame_or_refusal, number_after}
 use Rattle.neli_deliveries.specs.Readings.{IsReading, Item}
-use Rattle.neli_msg.specs.Headers.{flags_of}
-use Rattle.neli_msg.specs.NlPayload.{NlPayload}
-use Rattle.neli_msg.specs.NlPayload.TheVariants as payload
-use Rattle.neli_msg.specs.RouterError.{RouterError}
-use Rattle.neli_msg.specs.RouterError.TheVariants as router
+use Rattle.neli_reader.specs.Headers.{flags_of}
+use Rattle.neli_reader.specs.NlPayload.{NlPayload}
+use Rattle.neli_reader.specs.NlPayload.TheVariants as payload
+use Rattle.neli_reader.specs.RouterError.{RouterError}
+use Rattle.neli_reader.specs.RouterError.TheVariants as router
 use Rattle.neli_c.specs.declared.session.NeliItem.{NeliItem}
 use Rattle.neli_c.specs.declared.session.NeliSent.{NeliSent}
 use Rattle.neli_c.specs.Walks.{refusal_code}

@@ -7,7 +7,7 @@ use Rattle.neli_wire.specs.DeError.TheVariants as de
 use Rattle.neli_wire.specs.Frames.{Layout, frame_at}
 use Rattle.neli_wire.specs.Sizes.{align}
 use Rattle.neli_attr.specs.Attributes.{Head}
-use Rattle.neli_msg.specs.Headers.{Header, flags_of}
+use Rattle.neli_reader.specs.Headers.{Header, flags_of}
 use Rattle.neli_lent.specs.Attributes.{lent_attribute}
 use Rattle.neli_lent.specs.Messages.{lent_message}
 use Rattle.neli_c.specs.declared.lent.NeliWalk.{NeliWalk}

@@ -1,8 +1,8 @@
 //! What an error, an acknowledgement or the end of a dump says. It takes no memory.
 
 ghost use Rattle.std.specs.Prelude.{◌≡◌, ◌≢◌, ◌≤◌, true, false, Some, None, IfErr, IfOk, IfSome, IsErr, IsNone, IsOk, drop, length, min};
-ghost use Rattle.neli_msg.specs.Answers.{code_in, echo_end, echoed_in};
-ghost use Rattle.neli_msg.specs.Headers.{header_in};
+ghost use Rattle.neli_reader.specs.Answers.{code_in, echo_end, echoed_in};
+ghost use Rattle.neli_reader.specs.Headers.{header_in};
 ghost use Rattle.neli_c.specs.Codes.{ok};
 ghost use Rattle.neli_c.specs.AnswersShown.{IsShown, answer_code, attributes_begin, echo_shown, no_header, payload_code, payload_shown};
 

@@ -1,7 +1,7 @@
 //! A router with the handles that it gave, and the item that was read last.
 
 ghost use Rattle.std.specs.Prelude.{◌≡◌, ◌≢◌, ◌<◌, ℕ, IfOk, IfSome, IsNone, IsSome, List, ◌∷◌, Some, None, length, slice_get, slice_set, nat_le, vec_capacity, vec_len, if◌then◌else◌};
-ghost use Rattle.neli_router_base.specs.declared.handle.HandleState.{HandleState};
+ghost use Rattle.neli_router.specs.declared.handle.HandleState.{HandleState};
 ghost use Rattle.neli_c.specs.Codes.{no_handle, ok, room};
 ghost use Rattle.neli_c.specs.Sessions.{Holds, SendsNothing, SendsRequest, ReadsHandle, error_code, item_code, item_shown, reply_code, socket_code, ClosesHandle, HasFree, IsNew, fault_kind, SetsNumber, TakesDatagram, TakesFault, WritesItem};
 ghost use Rattle.neli_c.specs.Slots.{AreFree, handle_at, later_places, next_place, put_at};
@@ -16,8 +16,8 @@ use crate::lent::code_of;
 use neli_attr::Buffer;
 use neli_consts::NlmF;
 use neli_log::Log;
-use neli_msg::{NlPayload, Nlmsghdr, NlmsghdrBuilder, RouterError, SocketError};
-use neli_router_base::{NlRouter, NlRouterReceiverHandle, Reply};
+use neli_reader::{NlPayload, Nlmsghdr, NlmsghdrBuilder, RouterError, SocketError};
+use neli_router::{NlRouter, NlRouterReceiverHandle, Reply};
 use neli_util::Groups;
 use neli_wire::{Constant, NoMemory, ToBytes};
 use std::alloc::Global;

@@ -1,7 +1,7 @@
 //! The tables of attributes in routing messages.
 
 use crate::rows::{write_name, write_rows};
-use neli_consts_rta::{
+use neli_consts_attrs::{
     Frattr, Ifa, Ifla, IflaInfo, IflaVlan, IflaVlanQos, Nda, Rta, RtaTypeWrapper, Tca,
 };
 use std::io::{self, Write};

@@ -3,8 +3,8 @@
 use crate::sets::{Samples, write_flags, write_operators};
 use bitflags::Flags;
 use neli_consts::NlmF;
-use neli_consts_rtf::{Frf, IfaF, Iff, Ntf, Nud, RtmF, VlanFlags};
-use neli_consts_sys::Msg;
+use neli_consts_flags::{Frf, IfaF, Iff, Ntf, Nud, RtmF, VlanFlags};
+use neli_consts_system::Msg;
 use neli_wire::Constant;
 use std::io::{self, Write};
 

@@ -1,7 +1,7 @@
 //! The tables of routing.
 
 use crate::rows::{write_name, write_rows};
-use neli_consts_rt::{Af, Arphrd, FrAct, RtAddrFamily, RtScope, RtTable, Rtm, Rtn, Rtprot};
+use neli_consts_routing::{Af, Arphrd, FrAct, RtAddrFamily, RtScope, RtTable, Rtm, Rtn, Rtprot};
 use std::io::{self, Write};
 
 /// The lines of these tables.

@@ -1,7 +1,7 @@
 //! The tables of the connector, of netfilter's log and of sockets.
 
 use crate::rows::{write_name, write_rows};
-use neli_consts_sys::{
+use neli_consts_system::{
     AddrFamily, CnMsgIdx, CnMsgVal, LogCmd, LogCopyMode, NetfilterMsg, NfLogAttr, NfLogCfg,
     NlFamily, ProcCnMcastOp, ProcEventType,
 };

@@ -1,7 +1,7 @@
 -- The meaning of a logging command's number.
 use Rattle.std.specs.Prelude.{ℕ, Bool, List, [], ◌∷◌}
 use Rattle.neli_wire.specs.Constants.{reading, first_recognized}
-use Rattle.neli_consts_sys.specs.LogCmd.{log_cmd_number, log_cmd_of, log_cmd_is_unrecognized}
+use Rattle.neli_consts_system.specs.LogCmd.{log_cmd_number, log_cmd_of, log_cmd_is_unrecognized}
 use Rattle.neli_consts.specs.declared.commands.LogCfgCmdWrapper.{LogCfgCmdWrapper}
 use Rattle.neli_consts.specs.declared.commands.LogCfgCmdWrapper.TheVariants.{LogCmd, UnrecognizedConst}
 

@@ -3,8 +3,8 @@ use Rattle.std.specs.Prelude.{ℕ, Bool, List, [], ◌∷◌}
 use Rattle.neli_wire.specs.Constants.{reading, first_recognized}
 use Rattle.neli_consts.specs.Nlmsg.{nlmsg_number, nlmsg_of, nlmsg_is_unrecognized}
 use Rattle.neli_consts.specs.GenlId.{genl_id_number, genl_id_of, genl_id_is_unrecognized}
-use Rattle.neli_consts_rt.specs.Rtm.{rtm_number, rtm_of, rtm_is_unrecognized}
-use Rattle.neli_consts_sys.specs.NetfilterMsg.{netfilter_msg_number, netfilter_msg_of, netfilter_msg_is_unrecognized}
+use Rattle.neli_consts_routing.specs.Rtm.{rtm_number, rtm_of, rtm_is_unrecognized}
+use Rattle.neli_consts_system.specs.NetfilterMsg.{netfilter_msg_number, netfilter_msg_of, netfilter_msg_is_unrecognized}
 use Rattle.neli_consts.specs.declared.nl_type.NlTypeWrapper.{NlTypeWrapper}
 use Rattle.neli_consts.specs.declared.nl_type.NlTypeWrapper.TheVariants.{Nlmsg, GenlId, Rtm, NetfilterMsg, UnrecognizedConst}
 

@@ -7,7 +7,7 @@ ghost use Rattle.neli_consts.specs.LogCfgCmdWrapper.{log_cfg_cmd_wrapper_number,
 ghost use Rattle.neli_wire.specs.laws.Constants.{first_recognized-number, first_with-number};
 
 use crate::CtrlCmd;
-use neli_consts_sys::LogCmd;
+use neli_consts_system::LogCmd;
 use neli_wire::Constant;
 
 /// A command of a family of generic netlink: a value for each number of 8 bits, and each value's

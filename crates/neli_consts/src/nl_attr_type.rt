@@ -7,7 +7,7 @@ ghost use Rattle.neli_consts.specs.NlAttrTypeWrapper.{nl_attr_type_wrapper_numbe
 ghost use Rattle.neli_wire.specs.laws.Constants.{first_recognized-number, first_with-number};
 
 use crate::{CtrlAttr, CtrlAttrMcastGrp, Index, NlmsgerrAttr};
-use neli_consts_sys::{NfLogAttr, NfLogCfg};
+use neli_consts_system::{NfLogAttr, NfLogCfg};
 use neli_wire::Constant;
 
 /// A type of attributes: a value for each number of 16 bits, and each value's number. What a number

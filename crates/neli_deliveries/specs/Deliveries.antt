@@ -3,10 +3,10 @@ use Rattle.std.specs.Prelude.{ℕ, Bool, true, false, ◌&&◌, ◌==◌, if◌t
 use Rattle.std.specs.List.{flat_map}
 use Rattle.std.specs.declared.io.ErrorKind.TheVariants.{WouldBlock}
 use Rattle.neli_wire.specs.DeError.{DeError}
-use Rattle.neli_msg.specs.Cuts.{Cut}
-use Rattle.neli_msg.specs.Messages.{Message, message_from}
-use Rattle.neli_msg.specs.SocketError.{SocketError}
-use Rattle.neli_msg.specs.SocketError.TheVariants as socket
+use Rattle.neli_reader.specs.Cuts.{Cut}
+use Rattle.neli_reader.specs.Messages.{Message, message_from}
+use Rattle.neli_reader.specs.SocketError.{SocketError}
+use Rattle.neli_reader.specs.SocketError.TheVariants as socket
 use Rattle.neli_deliveries.specs.declared.delivery.Delivery.{Delivery}
 use Rattle.neli_deliveries.specs.declared.delivery.Delivery.TheVariants as delivery
 

@@ -1,10 +1,10 @@
 -- What a delivery is as a caller's types: a message, or why there is none.
 use Rattle.std.specs.Prelude.{◌≡◌, ◌≢◌, ℕ, List, Option, Some, None, Result, Ok, Err}
 use Rattle.neli_wire.specs.DeError.{DeError}
-use Rattle.neli_msg.specs.Nlmsghdr.{Nlmsghdr}
-use Rattle.neli_msg.specs.RouterError.{RouterError}
-use Rattle.neli_msg.specs.RouterError.TheVariants as router
-use Rattle.neli_msg.specs.Retyping.{IsTyped, RefusesTypingMessage}
+use Rattle.neli_reader.specs.Nlmsghdr.{Nlmsghdr}
+use Rattle.neli_reader.specs.RouterError.{RouterError}
+use Rattle.neli_reader.specs.RouterError.TheVariants as router
+use Rattle.neli_reader.specs.Retyping.{IsTyped, RefusesTypingMessage}
 use Rattle.neli_deliveries.specs.declared.delivery.Delivery.{Delivery}
 use Rattle.neli_deliveries.specs.declared.delivery.Delivery.TheVariants as delivery
 

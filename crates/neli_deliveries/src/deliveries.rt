@@ -1,14 +1,14 @@
 //! What a store of deliveries has to keep.
 
 ghost use Rattle.std.specs.Prelude.{true, ◌≡◌, ◌≢◌, ℕ, List, [], ◌∷◌, ◌++◌, Option, None, Some, IsOk, IfOk, OnOk, OnErr, is_some, option_map};
-ghost use Rattle.neli_msg.specs.Cuts.{cut_of};
-ghost use Rattle.neli_msg.specs.Agreement.{untyped_layout};
+ghost use Rattle.neli_reader.specs.Cuts.{cut_of};
+ghost use Rattle.neli_reader.specs.Agreement.{untyped_layout};
 ghost use Rattle.neli_deliveries.specs.declared.delivery.Delivery.{Delivery as Waiting};
 ghost use Rattle.neli_deliveries.specs.Deliveries.{fault_share, head_of, is_would_block, datagram_share};
 ghost use Rattle.neli_deliveries.specs.Readings.{IsFirst};
 
 use neli_consts::NlType;
-use neli_msg::{Nlmsghdr, RouterError, SocketError};
+use neli_reader::{Nlmsghdr, RouterError, SocketError};
 use neli_util::Groups;
 use neli_wire::{FromBytesWithInput, NoMemory, Size};
 use std::alloc::Global;

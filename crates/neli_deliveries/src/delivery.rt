@@ -1,7 +1,7 @@
 //! What waits for a handle.
 
 use neli_attr::Buffer;
-use neli_msg::{Nlmsghdr, SocketError};
+use neli_reader::{Nlmsghdr, SocketError};
 
 /// What waits for a handle until it is read.
 #[derive(Debug, Drop)]

@@ -6,8 +6,8 @@ use Rattle.std.specs.Cmp.Derive.{both_true}
 use Rattle.neli_wire.specs.Constants.{IsEquality}
 use Rattle.neli_attr.specs.declared.nlattr.Nlattr.{Nlattr}
 use Rattle.neli_attr.specs.laws.Equality.{both-apart, bytes-equality, from-parts, pair-equality}
-use Rattle.neli_consts_sys.specs.declared.connector.CnMsgIdx.{CnMsgIdx}
-use Rattle.neli_consts_sys.specs.declared.connector.CnMsgVal.{CnMsgVal}
+use Rattle.neli_consts_system.specs.declared.connector.CnMsgIdx.{CnMsgIdx}
+use Rattle.neli_consts_system.specs.declared.connector.CnMsgVal.{CnMsgVal}
 use Rattle.neli_genl.specs.declared.cn_msg.CnMsg.{CnMsg}
 use Rattle.neli_genl.specs.declared.cn_msg.CnMsgHeader.{CnMsgHeader}
 use Rattle.neli_genl.specs.declared.genlmsghdr.Genlmsghdr.{Genlmsghdr}

@@ -5,9 +5,9 @@ use Rattle.std.proofs.lemmas.Bool.{le-ltb}
 use Rattle.std.proofs.lemmas.List.{append-nil, take_at}
 use Rattle.neli_body.specs.Headers.{IsNamed}
 use Rattle.neli_body.specs.laws.Headers.{number-back, signed-back, value-back}
-use Rattle.neli_consts_sys.specs.ProcEventType.{proc_event_type_number, proc_event_type_of}
-use Rattle.neli_consts_sys.specs.declared.connector.ProcEventType.{ProcEventType}
-use Rattle.neli_consts_sys.specs.declared.connector.ProcEventType.TheVariants as kind
+use Rattle.neli_consts_system.specs.ProcEventType.{proc_event_type_number, proc_event_type_of}
+use Rattle.neli_consts_system.specs.declared.connector.ProcEventType.{ProcEventType}
+use Rattle.neli_consts_system.specs.declared.connector.ProcEventType.TheVariants as kind
 use Rattle.neli_wire.specs.Frames.{number_in}
 use Rattle.neli_wire.specs.Numbers.{little_bytes}
 use Rattle.neli_genl.specs.ProcEventHeader.{IsPlainProcEvent, proc_event_bytes, proc_event_of}

@@ -4,11 +4,11 @@ use Rattle.neli_wire.specs.Frames.{number_in}
 use Rattle.neli_wire.specs.Numbers.{FitsBytes, little_bytes}
 use Rattle.neli_attr.specs.Builders.{Outcome, require_field}
 use Rattle.neli_body.specs.Headers.{IsNamed}
-use Rattle.neli_consts_sys.specs.CnMsgIdx.{cn_msg_idx_number, cn_msg_idx_of}
-use Rattle.neli_consts_sys.specs.CnMsgVal.{cn_msg_val_number, cn_msg_val_of}
+use Rattle.neli_consts_system.specs.CnMsgIdx.{cn_msg_idx_number, cn_msg_idx_of}
+use Rattle.neli_consts_system.specs.CnMsgVal.{cn_msg_val_number, cn_msg_val_of}
 use Rattle.neli_attr.specs.Builders.Fault.{Invalid}
-use Rattle.neli_consts_sys.specs.declared.connector.CnMsgIdx.{CnMsgIdx}
-use Rattle.neli_consts_sys.specs.declared.connector.CnMsgVal.{CnMsgVal}
+use Rattle.neli_consts_system.specs.declared.connector.CnMsgIdx.{CnMsgIdx}
+use Rattle.neli_consts_system.specs.declared.connector.CnMsgVal.{CnMsgVal}
 use Rattle.neli_genl.specs.declared.cn_msg.CnMsg.{CnMsg}
 use Rattle.neli_genl.specs.declared.cn_msg.CnMsgBuilder.{CnMsgBuilder}
 use Rattle.neli_genl.specs.declared.cn_msg.CnMsgHeader.{CnMsgHeader}

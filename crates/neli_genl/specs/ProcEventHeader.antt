@@ -1,6 +1,6 @@
 -- A process event with its header: `struct proc_event` of linux/cn_proc.h.
 use Rattle.std.specs.Prelude.{ℕ, ◌+◌, ◌≤◌, List, ◌++◌, length, nat_lt, Result, Ok, Err, if◌then◌else◌}
-use Rattle.neli_consts_sys.specs.ProcEventType.{proc_event_type_number, proc_event_type_of}
+use Rattle.neli_consts_system.specs.ProcEventType.{proc_event_type_number, proc_event_type_of}
 use Rattle.neli_genl.specs.ProcEvents.{IsPlainEvent, IsUnknown, event_bytes, event_kind, event_of, event_size}
 use Rattle.neli_genl.specs.declared.proc_event_header.ProcEventHeader.{ProcEventHeader}
 use Rattle.neli_wire.specs.DeError.{DeError}

@@ -2,8 +2,8 @@
 use Rattle.std.specs.Prelude.{◌≡◌, ℕ, ℤ, ◌+◌, List, ◌++◌, codes, drop, length, nat_eq, nat_lt, take, FitsSigned, Result, Ok, Err, if◌then◌else◌}
 use Rattle.std.specs.Fmt.{decimal}
 use Rattle.std.specs.Int.{w32}
-use Rattle.neli_consts_sys.specs.declared.connector.ProcEventType.{ProcEventType}
-use Rattle.neli_consts_sys.specs.declared.connector.ProcEventType.TheVariants as kind
+use Rattle.neli_consts_system.specs.declared.connector.ProcEventType.{ProcEventType}
+use Rattle.neli_consts_system.specs.declared.connector.ProcEventType.TheVariants as kind
 use Rattle.neli_genl.specs.declared.proc_event.ProcEvent.{ProcEvent}
 use Rattle.neli_genl.specs.declared.proc_event.ProcEvent.TheVariants.{Ack, Fork, Exec, Uid, Gid, Sid, Ptrace, Comm, Coredump, Exit}
 use Rattle.neli_wire.specs.DeError.{DeError}

@@ -11,7 +11,7 @@ ghost use Rattle.neli_genl.specs.laws.CnMsg.{cn_msg-reads_back, cn_msg-width, cn
 use neli_attr::{BuildError, TryClone, of};
 use neli_body::numbers::{u16_in, u32_in};
 use neli_body::{FixedHeader, HeaderBytes, read_body, size_of_body, write_body};
-use neli_consts_sys::{CnMsgIdx, CnMsgVal};
+use neli_consts_system::{CnMsgIdx, CnMsgVal};
 use neli_wire::{
     Constant, Cursor, DeError, FromBytesWithInput, Header, NoMemory, SerError, Size, ToBytes,
     UninitializedFieldError,

@@ -6,7 +6,7 @@ ghost use Rattle.neli_genl.specs.ProcEvents.{IsUnknown, ack_of, comm_of, coredum
 
 use crate::ProcEvent;
 use neli_body::numbers::{i32_in, u32_in};
-use neli_consts_sys::ProcEventType;
+use neli_consts_system::ProcEventType;
 use neli_wire::DeError;
 use std::alloc::Global;
 use std::fmt;

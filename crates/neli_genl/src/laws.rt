@@ -60,5 +60,5 @@ pub fn equality<C: PartialEq, T: PartialEq, H: PartialEq, P: PartialEq>()
     ensures event { IsEquality ⟦<ProcEvent as PartialEq>⟧.eq }
     ensures event_with_header { IsEquality ⟦<ProcEventHeader as PartialEq>⟧.eq }
 {
-    neli_consts_sys::laws::equality();
+    neli_consts_system::laws::equality();
 }

@@ -7,7 +7,7 @@ ghost use Rattle.neli_wire.specs.laws.Sizes.{unpadded-rounded};
 ghost use Rattle.neli_genl.specs.ProcEvents.{event_bytes, event_kind, event_size, four_numbers};
 
 use neli_body::HeaderBytes;
-use neli_consts_sys::ProcEventType;
+use neli_consts_system::ProcEventType;
 use neli_wire::Size;
 
 /// What happened to a process: the union in `struct proc_event` of `linux/cn_proc.h`. Process numbers

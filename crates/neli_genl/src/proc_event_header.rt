@@ -13,7 +13,7 @@ use crate::proc_event::spell_event;
 use neli_attr::TryClone;
 use neli_body::HeaderBytes;
 use neli_body::numbers::{u32_in, u64_in};
-use neli_consts_sys::ProcEventType;
+use neli_consts_system::ProcEventType;
 use neli_wire::{Constant, Cursor, DeError, FromBytesWithInput, NoMemory, SerError, Size, ToBytes};
 use std::alloc::Global;
 

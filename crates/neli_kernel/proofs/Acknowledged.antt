@@ -16,17 +16,17 @@ use Rattle.neli_wire.specs.Sizes.{align, gap}
 use Rattle.neli_wire.specs.Writing.{Wire, ◌+++◌, zeros_for}
 use Rattle.neli_wire.specs.laws.Numbers.{count-signed, count-unsigned}
 use Rattle.neli_consts.specs.declared.nlm_f.NlmF.{NlmF}
-use Rattle.neli_msg.specs.Agreement.{untyped_layout}
-use Rattle.neli_msg.specs.Answers.{Attributes, after, after_echo, answer, code_in, echo_with, echoed_count, echoed_in, echoed_length, ext_ack_in, failure_in, headed_in, tail_in}
-use Rattle.neli_msg.specs.Cuts.{cut_of}
-use Rattle.neli_msg.specs.Headers.{Header, flags_of, header_in, header_wire}
-use Rattle.neli_msg.specs.Kinds.{is_acknowledged, payload_in, tail_of}
-use Rattle.neli_msg.specs.NlPayload.{NlPayload}
-use Rattle.neli_msg.specs.NlmsghdrErr.{NlmsghdrErr}
-use Rattle.neli_msg.specs.Nlmsgerr.{Nlmsgerr}
-use Rattle.neli_msg.specs.NlPayload.TheVariants as payload
-use Rattle.neli_msg.specs.Wires.{answer_wire, payload_wire}
-use Rattle.neli_msg.specs.laws.Headers.{fields-length}
+use Rattle.neli_reader.specs.Agreement.{untyped_layout}
+use Rattle.neli_reader.specs.Answers.{Attributes, after, after_echo, answer, code_in, echo_with, echoed_count, echoed_in, echoed_length, ext_ack_in, failure_in, headed_in, tail_in}
+use Rattle.neli_reader.specs.Cuts.{cut_of}
+use Rattle.neli_reader.specs.Headers.{Header, flags_of, header_in, header_wire}
+use Rattle.neli_reader.specs.Kinds.{is_acknowledged, payload_in, tail_of}
+use Rattle.neli_reader.specs.NlPayload.{NlPayload}
+use Rattle.neli_reader.specs.NlmsghdrErr.{NlmsghdrErr}
+use Rattle.neli_reader.specs.Nlmsgerr.{Nlmsgerr}
+use Rattle.neli_reader.specs.NlPayload.TheVariants as payload
+use Rattle.neli_reader.specs.Wires.{answer_wire, payload_wire}
+use Rattle.neli_reader.specs.laws.Headers.{fields-length}
 use Rattle.neli_lent.specs.Messages.{messages_in}
 use Rattle.neli_lent.specs.Written.{HeaderFits}
 use Rattle.neli_deliveries.specs.Deliveries.{Untyped}

@@ -6,11 +6,11 @@ use Rattle.std.proofs.lemmas.Nat.{or_lt}
 use Rattle.neli_wire.specs.SerError.TheVariants as ser
 use Rattle.neli_wire.specs.Writing.{Wire}
 use Rattle.neli_consts.specs.declared.nlm_f.NlmF.{NlmF}
-use Rattle.neli_msg.specs.Answers.{Attributes}
-use Rattle.neli_msg.specs.Headers.{flags_of}
-use Rattle.neli_msg.specs.Nlmsghdr.{Nlmsghdr}
-use Rattle.neli_msg.specs.NlPayload.{NlPayload}
-use Rattle.neli_msg.specs.Wires.{message_wire}
+use Rattle.neli_reader.specs.Answers.{Attributes}
+use Rattle.neli_reader.specs.Headers.{flags_of}
+use Rattle.neli_reader.specs.Nlmsghdr.{Nlmsghdr}
+use Rattle.neli_reader.specs.NlPayload.{NlPayload}
+use Rattle.neli_reader.specs.Wires.{message_wire}
 use Rattle.neli_lent.specs.Written.{IsWalked}
 use Rattle.neli_lent.specs.laws.Written.{written-walked}
 use Rattle.neli_kernel.specs.Answers.{IsAddressed, answer_flags, answer_with, message_or_refusal, message_with}

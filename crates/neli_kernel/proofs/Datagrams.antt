@@ -7,9 +7,9 @@ use Rattle.std.proofs.lemmas.List.Concat.{flat_map-append}
 use Rattle.std.proofs.lemmas.List.Elements.{All-nil, All-pop, All-push}
 use Rattle.neli_wire.specs.SerError.{SerError}
 use Rattle.neli_wire.specs.SerError.TheVariants as ser
-use Rattle.neli_msg.specs.Cuts.{Cut, messages_before}
-use Rattle.neli_msg.specs.laws.Cuts.{cut_of-end, cut_of-join}
-use Rattle.neli_msg.specs.laws.Messages.{layout_with-placed}
+use Rattle.neli_reader.specs.Cuts.{Cut, messages_before}
+use Rattle.neli_reader.specs.laws.Cuts.{cut_of-end, cut_of-join}
+use Rattle.neli_reader.specs.laws.Messages.{layout_with-placed}
 use Rattle.neli_lent.specs.Messages.{Lent, lent_message, messages_in}
 use Rattle.neli_kernel.specs.Datagrams.{AreRead, AreWithin, HasNoFault, messages_of}
 use Rattle.neli_kernel.specs.Dumps.{Packed, begun, datagrams_of, put, put_wire}

@@ -17,17 +17,17 @@ use Rattle.neli_wire.specs.Writing.{Wire, zeros_for}
 use Rattle.neli_wire.specs.laws.Numbers.{count-signed}
 use Rattle.neli_wire.specs.laws.Reading.{ok_is}
 use Rattle.neli_consts.specs.declared.nlm_f.NlmF.{NlmF}
-use Rattle.neli_msg.specs.Answers.{Attributes, after, answer, dump_end_in, ext_ack_in}
-use Rattle.neli_msg.specs.Nlmsgerr.{Nlmsgerr}
-use Rattle.neli_msg.specs.Agreement.{untyped_layout}
-use Rattle.neli_msg.specs.Builders.{header_with}
-use Rattle.neli_msg.specs.Cuts.{Cut, cut_of}
-use Rattle.neli_msg.specs.Headers.{Header}
-use Rattle.neli_msg.specs.Kinds.{is_multi, payload_in}
-use Rattle.neli_msg.specs.NlPayload.{NlPayload}
-use Rattle.neli_msg.specs.NlPayload.TheVariants as payload
-use Rattle.neli_msg.specs.laws.Cuts.{CutsEach, cut_of-each, cut_of-is}
-use Rattle.neli_msg.specs.laws.Messages.{layout_with-placed}
+use Rattle.neli_reader.specs.Answers.{Attributes, after, answer, dump_end_in, ext_ack_in}
+use Rattle.neli_reader.specs.Nlmsgerr.{Nlmsgerr}
+use Rattle.neli_reader.specs.Agreement.{untyped_layout}
+use Rattle.neli_reader.specs.Builders.{header_with}
+use Rattle.neli_reader.specs.Cuts.{Cut, cut_of}
+use Rattle.neli_reader.specs.Headers.{Header}
+use Rattle.neli_reader.specs.Kinds.{is_multi, payload_in}
+use Rattle.neli_reader.specs.NlPayload.{NlPayload}
+use Rattle.neli_reader.specs.NlPayload.TheVariants as payload
+use Rattle.neli_reader.specs.laws.Cuts.{CutsEach, cut_of-each, cut_of-is}
+use Rattle.neli_reader.specs.laws.Messages.{layout_with-placed}
 use Rattle.neli_lent.specs.Messages.{Lent, lent_message, messages_in}
 use Rattle.neli_deliveries.specs.Deliveries.{Untyped, datagram_share, message, message_to, messages_to}
 use Rattle.neli_deliveries.specs.declared.delivery.Delivery.{Delivery}

@@ -2,7 +2,7 @@
 use Rattle.std.proofs.Common.{◌≡◌, ℕ, ℤ, List, Ok, sym, ap, subst, ◌∙◌}
 use Rattle.neli_wire.specs.Writing.{Wire}
 use Rattle.neli_consts.specs.declared.nlm_f.NlmF.{NlmF}
-use Rattle.neli_msg.specs.Answers.{Attributes}
+use Rattle.neli_reader.specs.Answers.{Attributes}
 use Rattle.neli_kernel.specs.Answers.{message_or_refusal}
 use Rattle.neli_kernel.specs.Dumps.{Packed, all_of, datagrams_of, dump_end, finished, put_wire}
 use Rattle.neli_kernel.specs.declared.request.Request.{Request}

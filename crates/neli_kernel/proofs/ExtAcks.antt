@@ -17,8 +17,8 @@ use Rattle.neli_attr.specs.TypeField.{number_of, type_of}
 use Rattle.neli_attr.specs.declared.nlattr.Nlattr.{Nlattr}
 use Rattle.neli_attr.specs.laws.Nlattr.{nlattr_wire-length}
 use Rattle.neli_attr.specs.laws.RoundTrips.{IsWrittenAs, attribute-written, list-reads_back, number_of-small, type_of-named}
-use Rattle.neli_msg.specs.Answers.{Attributes, attribute_of, ext_ack_in}
-use Rattle.neli_msg.specs.Wires.{attributes_wire}
+use Rattle.neli_reader.specs.Answers.{Attributes, attribute_of, ext_ack_in}
+use Rattle.neli_reader.specs.Wires.{attributes_wire}
 use Rattle.neli_kernel.specs.Delivered.{AreReadBack, IsPlainAttribute}
 
 abbrev as_bytes : List ℕ → Wire

@@ -12,10 +12,10 @@ use Rattle.neli_wire.specs.Sizes.{gap}
 use Rattle.neli_wire.specs.Writing.{Wire, ◌+++◌, zeros_for}
 use Rattle.neli_wire.specs.laws.Numbers.{count-signed}
 use Rattle.neli_consts.specs.declared.nlm_f.NlmF.{NlmF}
-use Rattle.neli_msg.specs.Answers.{Attributes}
-use Rattle.neli_msg.specs.Headers.{Header}
-use Rattle.neli_msg.specs.Kinds.{is_multi}
-use Rattle.neli_msg.specs.Wires.{payload_wire}
+use Rattle.neli_reader.specs.Answers.{Attributes}
+use Rattle.neli_reader.specs.Headers.{Header}
+use Rattle.neli_reader.specs.Kinds.{is_multi}
+use Rattle.neli_reader.specs.Wires.{payload_wire}
 use Rattle.neli_lent.specs.Messages.{Lent, messages_in}
 use Rattle.neli_deliveries.specs.Deliveries.{Untyped, message}
 use Rattle.neli_kernel.specs.declared.request.Request.{Request}

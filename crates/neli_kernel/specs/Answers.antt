@@ -6,13 +6,13 @@ use Rattle.neli_wire.specs.SerError.TheVariants as ser
 use Rattle.neli_wire.specs.Sizes.{align}
 use Rattle.neli_wire.specs.Writing.{Wire}
 use Rattle.neli_consts.specs.declared.nlm_f.NlmF.{NlmF}
-use Rattle.neli_msg.specs.Answers.{Attributes, answer}
-use Rattle.neli_msg.specs.Builders.{header_with}
-use Rattle.neli_msg.specs.Headers.{flags_of}
-use Rattle.neli_msg.specs.Nlmsghdr.{Nlmsghdr}
-use Rattle.neli_msg.specs.NlPayload.{NlPayload}
-use Rattle.neli_msg.specs.NlPayload.TheVariants as payload
-use Rattle.neli_msg.specs.Wires.{message_wire, payload_size}
+use Rattle.neli_reader.specs.Answers.{Attributes, answer}
+use Rattle.neli_reader.specs.Builders.{header_with}
+use Rattle.neli_reader.specs.Headers.{flags_of}
+use Rattle.neli_reader.specs.Nlmsghdr.{Nlmsghdr}
+use Rattle.neli_reader.specs.NlPayload.{NlPayload}
+use Rattle.neli_reader.specs.NlPayload.TheVariants as payload
+use Rattle.neli_reader.specs.Wires.{message_wire, payload_size}
 use Rattle.neli_kernel.specs.declared.request.Request.{Request}
 
 -- ---- messages

@@ -9,13 +9,13 @@ use Rattle.neli_consts.specs.NlmsgerrAttr.{nlmsgerr_attr_number, nlmsgerr_attr_o
 use Rattle.neli_consts.specs.declared.nlm_f.NlmF.{NlmF}
 use Rattle.neli_consts.specs.declared.nlmsg.NlmsgerrAttr.{NlmsgerrAttr}
 use Rattle.neli_attr.specs.declared.nlattr.Nlattr.{Nlattr}
-use Rattle.neli_msg.specs.Agreement.{untyped_layout}
-use Rattle.neli_msg.specs.Answers.{Attributes, ext_ack_in}
-use Rattle.neli_msg.specs.Builders.{header_with}
-use Rattle.neli_msg.specs.Cuts.{cut_of}
-use Rattle.neli_msg.specs.Nlmsghdr.{Nlmsghdr}
-use Rattle.neli_msg.specs.NlPayload.TheVariants as payload
-use Rattle.neli_msg.specs.Wires.{attributes_wire}
+use Rattle.neli_reader.specs.Agreement.{untyped_layout}
+use Rattle.neli_reader.specs.Answers.{Attributes, ext_ack_in}
+use Rattle.neli_reader.specs.Builders.{header_with}
+use Rattle.neli_reader.specs.Cuts.{cut_of}
+use Rattle.neli_reader.specs.Nlmsghdr.{Nlmsghdr}
+use Rattle.neli_reader.specs.NlPayload.TheVariants as payload
+use Rattle.neli_reader.specs.Wires.{attributes_wire}
 use Rattle.neli_lent.specs.Messages.{Lent, as_owned}
 use Rattle.neli_lent.specs.Written.{HeaderFits}
 use Rattle.neli_deliveries.specs.Deliveries.{Untyped, datagram_share, message}

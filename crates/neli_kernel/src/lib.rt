@@ -18,7 +18,7 @@
 //! and their attributes begin at 36. The number and the port are those of the request.
 //!
 //! `specs/Answers.antt` says which message each answer is. It is written as every message is: what its bytes are stands
-//! in `specs/Wires.antt` of `neli_msg_base`.
+//! in `specs/Wires.antt` of `neli_msg`.
 #![tactic(auto)]
 
 mod dump;

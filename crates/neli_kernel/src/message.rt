@@ -4,7 +4,7 @@ ghost use Rattle.std.specs.Prelude.{◌≡◌, Ok, IfOk, IfErr};
 ghost use Rattle.neli_kernel.specs.Answers.{RefusesMessage, message_or_refusal, message_with};
 
 use neli_consts::{NlType, NlmF};
-use neli_msg::{NlPayload, NlmsghdrBuilder};
+use neli_reader::{NlPayload, NlmsghdrBuilder};
 use neli_wire::{MsgError, SerError, ToBytes};
 use std::alloc::Global;
 

@@ -1,7 +1,7 @@
 //! A request, and what the kernel answers to it.
 
 ghost use Rattle.std.specs.Prelude.{◌≡◌, [], Ok, IfOk, IfErr};
-ghost use Rattle.neli_msg.specs.NlPayload.TheVariants as payload;
+ghost use Rattle.neli_reader.specs.NlPayload.TheVariants as payload;
 ghost use Rattle.neli_kernel.specs.Answers.{RefusesMessage, acknowledgement, answer_flags, capped_error, error, message_or_refusal, reply};
 ghost use Rattle.neli_kernel.specs.Dumps.{dump_end, packed_in};
 ghost use Rattle.neli_kernel.specs.Requests.{has_flags, is_handled};
@@ -12,7 +12,9 @@ use bitflags::Flags;
 use neli_attr::{Buffer, GenlBuffer};
 use neli_consts::{NlType, NlmF, NlmsgerrAttr};
 use neli_lent::LentMessage;
-use neli_msg::{NlPayload, Nlmsgerr, NlmsgerrBuilder, Nlmsghdr, NlmsghdrAck, NlmsghdrAckBuilder};
+use neli_reader::{
+    NlPayload, Nlmsgerr, NlmsgerrBuilder, Nlmsghdr, NlmsghdrAck, NlmsghdrAckBuilder,
+};
 use neli_wire::{SerError, ToBytes};
 use std::alloc::Global;
 

@@ -1,12 +1,12 @@
 //! What the kernel sends unasked.
 
 ghost use Rattle.std.specs.Prelude.{◌≡◌, Ok, IfOk, IfErr};
-ghost use Rattle.neli_msg.specs.NlPayload.TheVariants as payload;
+ghost use Rattle.neli_reader.specs.NlPayload.TheVariants as payload;
 ghost use Rattle.neli_kernel.specs.Answers.{RefusesMessage, message_or_refusal, message_with};
 
 use crate::message::message;
 use neli_consts::{NlType, NlmF};
-use neli_msg::NlPayload;
+use neli_reader::NlPayload;
 use neli_wire::{SerError, ToBytes};
 use std::alloc::Global;
 

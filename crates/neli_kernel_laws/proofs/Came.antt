@@ -7,23 +7,23 @@ use Rattle.std.proofs.lemmas.List.{append-nil, map-append}
 use Rattle.std.proofs.lemmas.List.Elements.{All-head, All-tail}
 use Rattle.neli_wire.specs.DeError.{DeError}
 use Rattle.neli_consts.specs.declared.nlm_f.NlmF.{NlmF}
-use Rattle.neli_msg.specs.Agreement.{untyped_layout}
-use Rattle.neli_msg.specs.Cuts.{Cut, cut_of}
-use Rattle.neli_msg.specs.NlPayload.{NlPayload}
+use Rattle.neli_reader.specs.Agreement.{untyped_layout}
+use Rattle.neli_reader.specs.Cuts.{Cut, cut_of}
+use Rattle.neli_reader.specs.NlPayload.{NlPayload}
 use Rattle.neli_deliveries.specs.Deliveries.{Untyped, datagram_share, is_reply, message, messages_to, reader_fault, stray}
 use Rattle.neli_deliveries.specs.declared.delivery.Delivery.{Delivery}
 use Rattle.neli_deliveries.specs.Readings.{Item}
-use Rattle.neli_router.specs.declared.command.Command.{Command}
-use Rattle.neli_router.specs.declared.command.Command.TheVariants as command
-use Rattle.neli_router.specs.declared.command.Outcome.{Outcome}
-use Rattle.neli_router.specs.declared.command.Outcome.TheVariants as outcome
-use Rattle.neli_router.specs.Deliveries.{deliveries, handed_over}
-use Rattle.neli_router.specs.History.{Event, History, is_closed, is_handle_open, is_open, is_sent, items_of, needs_of, next_number, number_of, requests_sent}
-use Rattle.neli_router.specs.Outcomes.{IsAnswered, IsNextAnswer, IsReadOf, outcome_of}
-use Rattle.neli_router.specs.Regrouping.{Bytes}
-use Rattle.neli_router.specs.Reply.{Reply}
-use Rattle.neli_router.specs.Rule.{needs_ack}
-use Rattle.neli_router.specs.laws.Deliveries.{deliveries-more}
+use Rattle.neli_runs.specs.declared.command.Command.{Command}
+use Rattle.neli_runs.specs.declared.command.Command.TheVariants as command
+use Rattle.neli_runs.specs.declared.command.Outcome.{Outcome}
+use Rattle.neli_runs.specs.declared.command.Outcome.TheVariants as outcome
+use Rattle.neli_runs.specs.Deliveries.{deliveries, handed_over}
+use Rattle.neli_runs.specs.History.{Event, History, is_closed, is_handle_open, is_open, is_sent, items_of, needs_of, next_number, number_of, requests_sent}
+use Rattle.neli_runs.specs.Outcomes.{IsAnswered, IsNextAnswer, IsReadOf, outcome_of}
+use Rattle.neli_runs.specs.Regrouping.{Bytes}
+use Rattle.neli_runs.specs.Reply.{Reply}
+use Rattle.neli_runs.specs.Rule.{needs_ack}
+use Rattle.neli_runs.specs.laws.Deliveries.{deliveries-more}
 use Rattle.neli_kernel_laws.specs.Complete.{IsComplete}
 use Rattle.neli_kernel_laws.specs.Served.{AllAnswer, Answers, brought, came, handle_after, history_sent}
 use Rattle.neli_kernel_laws.specs.Turns.{IsInTurn, IsReadAs}

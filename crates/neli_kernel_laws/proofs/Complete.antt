@@ -5,12 +5,12 @@ use Rattle.std.specs.List.{filter}
 use Rattle.std.proofs.lemmas.Bool.{eq-eqb, ne_eqb}
 use Rattle.std.proofs.lemmas.List.Elements.{All-cons, All-head, All-nil, All-tail}
 use Rattle.neli_consts.specs.declared.nlm_f.NlmF.{NlmF}
-use Rattle.neli_msg.specs.Agreement.{untyped_layout}
-use Rattle.neli_msg.specs.Answers.{Attributes, answer}
-use Rattle.neli_msg.specs.Cuts.{Cut, cut_of}
-use Rattle.neli_msg.specs.Headers.{Header}
-use Rattle.neli_msg.specs.Kinds.{is_multi}
-use Rattle.neli_msg.specs.NlPayload.TheVariants as payload
+use Rattle.neli_reader.specs.Agreement.{untyped_layout}
+use Rattle.neli_reader.specs.Answers.{Attributes, answer}
+use Rattle.neli_reader.specs.Cuts.{Cut, cut_of}
+use Rattle.neli_reader.specs.Headers.{Header}
+use Rattle.neli_reader.specs.Kinds.{is_multi}
+use Rattle.neli_reader.specs.NlPayload.TheVariants as payload
 use Rattle.neli_deliveries.specs.Deliveries.{Untyped, is_reply}
 use Rattle.neli_kernel.specs.Answers.{acknowledgement, capped_error, error}
 use Rattle.neli_kernel.specs.Delivered.{IsFor, answer_kept, reply_kept}

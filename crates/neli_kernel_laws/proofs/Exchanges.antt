@@ -7,13 +7,13 @@ use Rattle.std.proofs.lemmas.List.{append-nil}
 use Rattle.std.proofs.lemmas.List.Concat.{flat_map-append}
 use Rattle.std.proofs.lemmas.List.Elements.{All-cons, All-head, All-nil, All-tail}
 use Rattle.neli_wire.specs.DeError.{DeError}
-use Rattle.neli_msg.specs.Agreement.{untyped_layout}
-use Rattle.neli_msg.specs.Cuts.{Cut, cut_of}
+use Rattle.neli_reader.specs.Agreement.{untyped_layout}
+use Rattle.neli_reader.specs.Cuts.{Cut, cut_of}
 use Rattle.neli_deliveries.specs.Deliveries.{Untyped}
-use Rattle.neli_router.specs.declared.command.Command.{Command}
-use Rattle.neli_router.specs.declared.command.Command.TheVariants as command
-use Rattle.neli_router.specs.History.{History, any_upto, is_closed, is_handle_open, is_open, number_of, requests_sent}
-use Rattle.neli_router.specs.Rule.{needs_ack}
+use Rattle.neli_runs.specs.declared.command.Command.{Command}
+use Rattle.neli_runs.specs.declared.command.Command.TheVariants as command
+use Rattle.neli_runs.specs.History.{History, any_upto, is_closed, is_handle_open, is_open, number_of, requests_sent}
+use Rattle.neli_runs.specs.Rule.{needs_ack}
 use Rattle.neli_kernel.specs.Delivered.{IsFor}
 use Rattle.neli_kernel.specs.declared.request.Request.{Request}
 use Rattle.neli_kernel_laws.specs.Complete.{IsComplete}

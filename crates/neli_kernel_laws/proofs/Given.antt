@@ -3,14 +3,14 @@ use Rattle.std.proofs.Common.{◌≡◌, ◌<◌, ℕ, ◌++◌, All, Bool, true
 use Rattle.std.proofs.lemmas.List.{length-map}
 use Rattle.std.proofs.lemmas.List.Elements.{All-head, All-tail}
 use Rattle.neli_wire.specs.DeError.{DeError}
-use Rattle.neli_msg.specs.Nlmsghdr.{Nlmsghdr}
-use Rattle.neli_msg.specs.NlPayload.{NlPayload}
-use Rattle.neli_msg.specs.NlPayload.TheVariants as payload
+use Rattle.neli_reader.specs.Nlmsghdr.{Nlmsghdr}
+use Rattle.neli_reader.specs.NlPayload.{NlPayload}
+use Rattle.neli_reader.specs.NlPayload.TheVariants as payload
 use Rattle.neli_deliveries.specs.Deliveries.{Untyped, message}
 use Rattle.neli_deliveries.specs.Readings.{Item}
-use Rattle.neli_router.specs.Outcomes.{AreReadings, IsNextAnswer}
-use Rattle.neli_router.specs.Reply.{Reply}
-use Rattle.neli_router.specs.Rule.{ends_alone, is_answer, is_single, last_by, last_item, last_place}
+use Rattle.neli_runs.specs.Outcomes.{AreReadings, IsNextAnswer}
+use Rattle.neli_runs.specs.Reply.{Reply}
+use Rattle.neli_runs.specs.Rule.{ends_alone, is_answer, is_single, last_by, last_item, last_place}
 use Rattle.neli_kernel_laws.specs.Complete.{IsComplete, IsEnding, IsPart, is_acknowledgement}
 use Rattle.neli_kernel_laws.specs.Turns.{IsInTurn, IsReadAs}
 use Rattle.neli_kernel_laws.proofs.Turns.{AreRead, InTurn, alone-last, over-turn, pair-turn, quiet-turn, single-last}

@@ -3,14 +3,14 @@ use Rattle.std.proofs.Common.{ℕ, suc, ◌≡◌, Bool, true, false, min, List,
 use Rattle.std.specs.Prelude.{⊤, nat_lt, ◌==◌}
 use Rattle.std.specs.List.{list_any, slice_get}
 use Rattle.std.proofs.lemmas.Bool.Decides.{nat_tests}
-use Rattle.neli_msg.specs.Nlmsghdr.{Nlmsghdr}
-use Rattle.neli_msg.specs.NlPayload.{NlPayload}
-use Rattle.neli_msg.specs.NlPayload.TheVariants as payload
-use Rattle.neli_router.specs.Reply.{Reply}
-use Rattle.neli_router.specs.Reply.TheVariants as reply
+use Rattle.neli_reader.specs.Nlmsghdr.{Nlmsghdr}
+use Rattle.neli_reader.specs.NlPayload.{NlPayload}
+use Rattle.neli_reader.specs.NlPayload.TheVariants as payload
+use Rattle.neli_runs.specs.Reply.{Reply}
+use Rattle.neli_runs.specs.Reply.TheVariants as reply
 use Rattle.neli_deliveries.specs.Readings.{Item}
-use Rattle.neli_router.specs.Rule.{answer, answer_at, ends_alone, first_place, is_answer, is_single, last_by, last_item, last_place, single_place}
-use Rattle.neli_router.specs.Outcomes.{WereAnswers}
+use Rattle.neli_runs.specs.Rule.{answer, answer_at, ends_alone, first_place, is_answer, is_single, last_by, last_item, last_place, single_place}
+use Rattle.neli_runs.specs.Outcomes.{WereAnswers}
 use Rattle.neli_kernel_laws.specs.Turns.{IsInTurn, IsReplyOrEnd, is_err}
 
 lt_suc : (m n : ℕ) → nat_lt (suc m) (suc n) ≡ nat_lt m n

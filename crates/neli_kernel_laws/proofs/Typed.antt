@@ -5,15 +5,15 @@ use Rattle.std.proofs.lemmas.Bool.{ne_eqb}
 use Rattle.neli_wire.specs.DeError.{DeError}
 use Rattle.neli_wire.specs.laws.Reading.{bind_ok, ok_is}
 use Rattle.neli_consts.specs.declared.nlm_f.NlmF.{NlmF}
-use Rattle.neli_msg.specs.Headers.{Header}
-use Rattle.neli_msg.specs.Kinds.{is_multi}
-use Rattle.neli_msg.specs.Messages.{message_from}
-use Rattle.neli_msg.specs.Nlmsghdr.{Nlmsghdr}
-use Rattle.neli_msg.specs.NlPayload.{NlPayload}
-use Rattle.neli_msg.specs.NlPayload.TheVariants as payload
-use Rattle.neli_msg.specs.Retyping.{payload_stating, stated_echo, typed_failure, typed_payload}
+use Rattle.neli_reader.specs.Headers.{Header}
+use Rattle.neli_reader.specs.Kinds.{is_multi}
+use Rattle.neli_reader.specs.Messages.{message_from}
+use Rattle.neli_reader.specs.Nlmsghdr.{Nlmsghdr}
+use Rattle.neli_reader.specs.NlPayload.{NlPayload}
+use Rattle.neli_reader.specs.NlPayload.TheVariants as payload
+use Rattle.neli_reader.specs.Retyping.{payload_stating, stated_echo, typed_failure, typed_payload}
 use Rattle.neli_deliveries.specs.Deliveries.{Untyped}
-use Rattle.neli_router.specs.Rule.{ends_alone, is_answer, is_single, is_whole_reply}
+use Rattle.neli_runs.specs.Rule.{ends_alone, is_answer, is_single, is_whole_reply}
 use Rattle.neli_kernel_laws.specs.Complete.{IsPart, IsWhole, is_acknowledgement}
 use Rattle.neli_kernel_laws.specs.Turns.{IsReadAs}
 

@@ -1,11 +1,11 @@
 -- Which messages are a whole answer to a request, as a router keeps them.
 use Rattle.std.specs.Prelude.{◌≡◌, ◌≢◌, ◌<◌, ◌⊎◌, ◌++◌, Bool, true, false, All, List, [], ◌∷◌}
-use Rattle.neli_msg.specs.Kinds.{is_multi}
-use Rattle.neli_msg.specs.Messages.{message_from}
-use Rattle.neli_msg.specs.NlPayload.{NlPayload}
-use Rattle.neli_msg.specs.NlPayload.TheVariants as payload
+use Rattle.neli_reader.specs.Kinds.{is_multi}
+use Rattle.neli_reader.specs.Messages.{message_from}
+use Rattle.neli_reader.specs.NlPayload.{NlPayload}
+use Rattle.neli_reader.specs.NlPayload.TheVariants as payload
 use Rattle.neli_deliveries.specs.Deliveries.{Untyped}
-use Rattle.neli_router.specs.Rule.{is_answer, is_whole_reply}
+use Rattle.neli_runs.specs.Rule.{is_answer, is_whole_reply}
 
 -- it is an acknowledgement
 abbrev pub is_acknowledgement : {K P : Type 0} → NlPayload K P → Bool

@@ -2,16 +2,16 @@
 use Rattle.std.specs.Prelude.{◌≡◌, ⊤, ◌++◌, ◌∷◌, ℕ, false, List, [], Result}
 use Rattle.neli_wire.specs.DeError.{DeError}
 use Rattle.neli_consts.specs.declared.nlm_f.NlmF.{NlmF}
-use Rattle.neli_msg.specs.NlPayload.{NlPayload}
+use Rattle.neli_reader.specs.NlPayload.{NlPayload}
 use Rattle.neli_deliveries.specs.Deliveries.{Untyped}
 use Rattle.neli_deliveries.specs.Readings.{Item}
-use Rattle.neli_router.specs.declared.command.Command.{Command}
-use Rattle.neli_router.specs.declared.command.Command.TheVariants as command
-use Rattle.neli_router.specs.declared.command.Outcome.{Outcome}
-use Rattle.neli_router.specs.History.{History, is_closed, items_of, next_number}
-use Rattle.neli_router.specs.Outcomes.{IsAnswered, outcome_of}
-use Rattle.neli_router.specs.Regrouping.{Bytes}
-use Rattle.neli_router.specs.Reply.{Reply}
+use Rattle.neli_runs.specs.declared.command.Command.{Command}
+use Rattle.neli_runs.specs.declared.command.Command.TheVariants as command
+use Rattle.neli_runs.specs.declared.command.Outcome.{Outcome}
+use Rattle.neli_runs.specs.History.{History, is_closed, items_of, next_number}
+use Rattle.neli_runs.specs.Outcomes.{IsAnswered, outcome_of}
+use Rattle.neli_runs.specs.Regrouping.{Bytes}
+use Rattle.neli_runs.specs.Reply.{Reply}
 use Rattle.neli_kernel.specs.declared.request.Request.{Request}
 use Rattle.neli_kernel_laws.specs.Served.{Answers, handle_after, history_sent, numbered}
 use Rattle.neli_kernel_laws.specs.Turns.{IsInTurn, IsReadAs}

@@ -2,15 +2,15 @@
 use Rattle.std.specs.Prelude.{◌≡◌, ⊤, ◌==◌, ◌++◌, ℕ, suc, true, All, List, [], ◌∷◌, None}
 use Rattle.std.specs.List.{filter}
 use Rattle.neli_consts.specs.declared.nlm_f.NlmF.{NlmF}
-use Rattle.neli_msg.specs.Agreement.{untyped_layout}
-use Rattle.neli_msg.specs.Cuts.{cut_of}
-use Rattle.neli_msg.specs.NlPayload.{NlPayload}
+use Rattle.neli_reader.specs.Agreement.{untyped_layout}
+use Rattle.neli_reader.specs.Cuts.{cut_of}
+use Rattle.neli_reader.specs.NlPayload.{NlPayload}
 use Rattle.neli_deliveries.specs.Deliveries.{Untyped, is_reply}
-use Rattle.neli_router.specs.declared.command.Command.{Command}
-use Rattle.neli_router.specs.declared.command.Command.TheVariants as command
-use Rattle.neli_router.specs.declared.command.Outcome.TheVariants as outcome
-use Rattle.neli_router.specs.History.{History, is_open, requests_sent}
-use Rattle.neli_router.specs.Regrouping.{Bytes}
+use Rattle.neli_runs.specs.declared.command.Command.{Command}
+use Rattle.neli_runs.specs.declared.command.Command.TheVariants as command
+use Rattle.neli_runs.specs.declared.command.Outcome.TheVariants as outcome
+use Rattle.neli_runs.specs.History.{History, is_open, requests_sent}
+use Rattle.neli_runs.specs.Regrouping.{Bytes}
 
 -- the messages of a datagram that have this number
 abbrev pub numbered : ℕ → List ℕ → List Untyped

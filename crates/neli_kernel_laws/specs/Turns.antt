@@ -4,9 +4,9 @@ use Rattle.std.specs.List.{list_any, slice_get}
 use Rattle.neli_wire.specs.DeError.{DeError}
 use Rattle.neli_deliveries.specs.Deliveries.{Untyped, message}
 use Rattle.neli_deliveries.specs.Readings.{IsReading, Item}
-use Rattle.neli_router.specs.Reply.{Reply}
-use Rattle.neli_router.specs.Reply.TheVariants as reply
-use Rattle.neli_router.specs.Rule.{last_item}
+use Rattle.neli_runs.specs.Reply.{Reply}
+use Rattle.neli_runs.specs.Reply.TheVariants as reply
+use Rattle.neli_runs.specs.Rule.{last_item}
 
 -- the item is what this message is read as: the message, typed, or why it can't be
 abbrev pub IsReadAs : {K P V : Type 0} → (ℕ → K) → (P → V) → (P → ℕ) → (List ℕ → Result V DeError) → Untyped → Item K P → Type 0

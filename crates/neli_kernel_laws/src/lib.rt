@@ -10,13 +10,13 @@
 ghost use Rattle.std.specs.Prelude.{◌≡◌, ◌≢◌, ◌<◌, ◌+◌, ◌++◌, ◌∷◌, [], ℕ, ℤ, Bool, true, false, All, FitsSigned, List, Ok, None, flat_map, length, map, pos};
 ghost use Rattle.std.specs.Int.{w32};
 ghost use Rattle.neli_consts.specs.declared.nlm_f.NlmF.{NlmF as Flags};
-ghost use Rattle.neli_msg.specs.Agreement.{untyped_layout};
-ghost use Rattle.neli_msg.specs.Answers.{Attributes, answer};
-ghost use Rattle.neli_msg.specs.Cuts.{cut_of};
-ghost use Rattle.neli_msg.specs.Headers.{Header};
-ghost use Rattle.neli_msg.specs.Kinds.{is_multi};
-ghost use Rattle.neli_msg.specs.NlPayload.TheVariants as payload;
-ghost use Rattle.neli_msg.specs.NlPayload.{NlPayload as Payload};
+ghost use Rattle.neli_reader.specs.Agreement.{untyped_layout};
+ghost use Rattle.neli_reader.specs.Answers.{Attributes, answer};
+ghost use Rattle.neli_reader.specs.Cuts.{cut_of};
+ghost use Rattle.neli_reader.specs.Headers.{Header};
+ghost use Rattle.neli_reader.specs.Kinds.{is_multi};
+ghost use Rattle.neli_reader.specs.NlPayload.TheVariants as payload;
+ghost use Rattle.neli_reader.specs.NlPayload.{NlPayload as Payload};
 ghost use Rattle.neli_lent.specs.Messages.{Lent};
 ghost use Rattle.neli_deliveries.specs.Deliveries.{Untyped, is_reply, message};
 ghost use Rattle.neli_deliveries.specs.Readings.{Item};
@@ -25,12 +25,12 @@ ghost use Rattle.neli_kernel.specs.Delivered.{AreReadBack, IsAnswer, IsEnd, IsFo
 ghost use Rattle.neli_kernel.specs.Datagrams.{AreRead};
 ghost use Rattle.neli_kernel.specs.Dumps.{Packed, datagrams_of, dump_end, finished};
 ghost use Rattle.neli_kernel.specs.declared.request.Request.{Request as Asked};
-ghost use Rattle.neli_router.specs.Deliveries.{deliveries};
-ghost use Rattle.neli_router.specs.History.{History, is_closed, items_of, next_number};
-ghost use Rattle.neli_router.specs.Outcomes.{IsAnswered, IsNextAnswer, outcome_of};
-ghost use Rattle.neli_router.specs.Regrouping.{Bytes};
-ghost use Rattle.neli_router.specs.Reply.{Reply as Answer};
-ghost use Rattle.neli_router.specs.Rule.{needs_ack};
+ghost use Rattle.neli_runs.specs.Deliveries.{deliveries};
+ghost use Rattle.neli_runs.specs.History.{History, is_closed, items_of, next_number};
+ghost use Rattle.neli_runs.specs.Outcomes.{IsAnswered, IsNextAnswer, outcome_of};
+ghost use Rattle.neli_runs.specs.Regrouping.{Bytes};
+ghost use Rattle.neli_runs.specs.Reply.{Reply as Answer};
+ghost use Rattle.neli_runs.specs.Rule.{needs_ack};
 ghost use Rattle.neli_kernel_laws.specs.Complete.{IsComplete, IsPart};
 ghost use Rattle.neli_kernel_laws.specs.Exchanges.{Exchange, IsServed, ReadsGive};
 ghost use Rattle.neli_kernel_laws.specs.Served.{AllAnswer, came, handle_after, history_sent, numbered};
@@ -41,7 +41,7 @@ use neli_kernel::laws::{
     acknowledgement_is_delivered, dump_is_delivered, error_is_delivered,
     finished_dump_is_delivered, reply_is_delivered,
 };
-use neli_router::{Command, Outcome};
+use neli_runs::{Command, Outcome};
 use neli_wire::{FromBytesWithInput, Size, ToBytes};
 
 /// A whole answer is given in turn: where the deliveries to a handle with a number are the messages of one, each read

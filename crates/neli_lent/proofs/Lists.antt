@@ -6,8 +6,8 @@ use Rattle.neli_wire.specs.Reading.{refusal_within}
 use Rattle.neli_wire.specs.laws.FrameLists.{frames-list, frames-refusal}
 use Rattle.neli_attr.specs.Attributes.{Attr, attributes_in}
 use Rattle.neli_attr.specs.laws.Attributes.{attribute-placed}
-use Rattle.neli_msg.specs.Cuts.{Cut, Cuts, cut_of}
-use Rattle.neli_msg.specs.laws.Cuts.{cut_of-Cuts, whole_frames}
+use Rattle.neli_reader.specs.Cuts.{Cut, Cuts, cut_of}
+use Rattle.neli_reader.specs.laws.Cuts.{cut_of-Cuts, whole_frames}
 use Rattle.neli_lent.specs.Attributes.{attributes_at, lent_attribute}
 
 some-byte : (s : List ℕ) → s ≢ [] → 0 < length s

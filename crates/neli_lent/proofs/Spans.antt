@@ -7,13 +7,13 @@ use Rattle.neli_wire.specs.Frames.{frame_at}
 use Rattle.neli_wire.specs.Sizes.{align}
 use Rattle.neli_wire.specs.laws.Reading.{bind_ok, ok_is}
 use Rattle.neli_attr.specs.Builders.{Fault}
-use Rattle.neli_msg.specs.Builders.{own_length}
-use Rattle.neli_msg.specs.Agreement.{untyped_layout}
-use Rattle.neli_msg.specs.Kinds.{payload_view}
-use Rattle.neli_msg.specs.Messages.{Message, message_of}
-use Rattle.neli_msg.specs.Nlmsghdr.{Nlmsghdr}
-use Rattle.neli_msg.specs.NlPayload.{NlPayload}
-use Rattle.neli_msg.specs.NlPayload.TheVariants as payload
+use Rattle.neli_reader.specs.Builders.{own_length}
+use Rattle.neli_reader.specs.Agreement.{untyped_layout}
+use Rattle.neli_reader.specs.Kinds.{payload_view}
+use Rattle.neli_reader.specs.Messages.{Message, message_of}
+use Rattle.neli_reader.specs.Nlmsghdr.{Nlmsghdr}
+use Rattle.neli_reader.specs.NlPayload.{NlPayload}
+use Rattle.neli_reader.specs.NlPayload.TheVariants as payload
 use Rattle.neli_lent.specs.Messages.{Lent, as_owned, lent_message}
 use Rattle.neli_lent.specs.Spans.{Spells}
 use Rattle.neli_lent.specs.laws.Messages.{owned-read, owned-refused}

@@ -7,9 +7,9 @@ use Rattle.neli_wire.specs.Place.{Place, whole}
 use Rattle.neli_wire.specs.Reading.{refusal_within}
 use Rattle.neli_attr.specs.Attributes.{Attr}
 use Rattle.neli_attr.specs.laws.Attributes.{attribute-placed}
-use Rattle.neli_msg.specs.Cuts.{Cut, cut_of, message_before}
-use Rattle.neli_msg.specs.laws.Cuts.{cut_of-end, cut_of-message, cut_of-fault, frame_at-longer}
-use Rattle.neli_msg.specs.laws.Messages.{layout_with-placed}
+use Rattle.neli_reader.specs.Cuts.{Cut, cut_of, message_before}
+use Rattle.neli_reader.specs.laws.Cuts.{cut_of-end, cut_of-message, cut_of-fault, frame_at-longer}
+use Rattle.neli_reader.specs.laws.Messages.{layout_with-placed}
 use Rattle.neli_lent.specs.Attributes.{attributes_at, lent_attribute}
 use Rattle.neli_lent.specs.Walks.{count_of, cut_with, find_in, items_of, map_item, map_ok}
 use Rattle.neli_lent.specs.Messages.{Lent, lent_message, messages_in}

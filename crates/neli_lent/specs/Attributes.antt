@@ -4,7 +4,7 @@ use Rattle.neli_wire.specs.Frames.{Layout}
 use Rattle.neli_wire.specs.Place.{Place, whole}
 use Rattle.neli_wire.specs.Reading.{refusal_within}
 use Rattle.neli_attr.specs.Attributes.{Attr, Head, attr, attribute}
-use Rattle.neli_msg.specs.Cuts.{Cut, cut_of}
+use Rattle.neli_reader.specs.Cuts.{Cut, cut_of}
 use Rattle.neli_lent.specs.declared.attribute.LentAttr.{LentAttr}
 
 -- how they lie: as attributes do, each with its payload's bytes

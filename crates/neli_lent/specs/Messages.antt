@@ -4,10 +4,10 @@ use Rattle.neli_wire.specs.Bytes.{Reading}
 use Rattle.neli_wire.specs.DeError.{DeError}
 use Rattle.neli_wire.specs.Frames.{Layout}
 use Rattle.neli_wire.specs.Reading.{◌>>=◌}
-use Rattle.neli_msg.specs.Cuts.{Cut, cut_of}
-use Rattle.neli_msg.specs.Headers.{Header}
-use Rattle.neli_msg.specs.Kinds.{payload_in, payload_takes}
-use Rattle.neli_msg.specs.Messages.{Message, layout_with}
+use Rattle.neli_reader.specs.Cuts.{Cut, cut_of}
+use Rattle.neli_reader.specs.Headers.{Header}
+use Rattle.neli_reader.specs.Kinds.{payload_in, payload_takes}
+use Rattle.neli_reader.specs.Messages.{Message, layout_with}
 use Rattle.neli_lent.specs.declared.message.LentMessage.{LentMessage}
 
 -- what one says: its header and its payload's bytes

@@ -1,8 +1,8 @@
 -- Spans: the bytes of one message, from its header to the end of its padding.
 use Rattle.std.specs.Prelude.{◌≡◌, ℕ, List, [], Ok}
 use Rattle.neli_wire.specs.Frames.{frame_at}
-use Rattle.neli_msg.specs.Agreement.{untyped_layout}
-use Rattle.neli_msg.specs.Messages.{Message}
+use Rattle.neli_reader.specs.Agreement.{untyped_layout}
+use Rattle.neli_reader.specs.Messages.{Message}
 
 -- the bytes are this message, read untyped
 abbrev pub Spells : List ℕ → Message ℕ (List ℕ) → Type 0

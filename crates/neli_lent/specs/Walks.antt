@@ -1,7 +1,7 @@
 -- Walks: what comes of the values in a byte list, one by one, and of the fault after them.
 use Rattle.std.specs.Prelude.{ℕ, Bool, List, [], ◌∷◌, ◌++◌, find, length, map, Option, Some, None, Result, Ok, Err}
 use Rattle.neli_wire.specs.DeError.{DeError}
-use Rattle.neli_msg.specs.Cuts.{Cut, message_before}
+use Rattle.neli_reader.specs.Cuts.{Cut, message_before}
 
 -- the fault, if there is one, as the last item
 abbrev pub fault_item : {A : Type 0} → Option DeError → List (Result A DeError)

@@ -1,9 +1,9 @@
 -- Messages that were written, as a walk reads them.
 use Rattle.std.specs.Prelude.{◌≡◌, ◌<◌, ℕ, ◌+◌, List, [], ◌∷◌, ◌++◌, length, None, Ok}
 use Rattle.neli_wire.specs.Writing.{Wire, zeros_for}
-use Rattle.neli_msg.specs.Headers.{Header}
-use Rattle.neli_msg.specs.Nlmsghdr.{Nlmsghdr}
-use Rattle.neli_msg.specs.Wires.{payload_wire}
+use Rattle.neli_reader.specs.Headers.{Header}
+use Rattle.neli_reader.specs.Nlmsghdr.{Nlmsghdr}
+use Rattle.neli_reader.specs.Wires.{payload_wire}
 use Rattle.neli_lent.specs.Messages.{messages_in}
 
 -- the header with the number of its type

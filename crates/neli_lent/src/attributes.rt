@@ -10,7 +10,7 @@ ghost use Rattle.neli_lent.specs.Attributes.{attribute_said, attributes_at};
 use crate::selector::Masked;
 use crate::{AttrSelector, LentAttr};
 use neli_attr::AttrType;
-use neli_consts_rta::RtaType;
+use neli_consts_attrs::RtaType;
 use neli_wire::implementing::within_input;
 use neli_wire::{Constant, Cursor, DeError};
 use std::marker::{Model, PhantomData};

@@ -4,15 +4,15 @@ ghost use Rattle.std.specs.Prelude.{◌≡◌, ◌≢◌, ◌↔◌, [], Ok, Err
 ghost use Rattle.neli_wire.specs.Frames.{frame_at};
 ghost use Rattle.neli_wire.specs.Place.{whole};
 ghost use Rattle.neli_wire.specs.Refusals.{Refuses};
-ghost use Rattle.neli_msg.specs.Answers.{after};
-ghost use Rattle.neli_msg.specs.Messages.{message_of};
-ghost use Rattle.neli_msg.specs.NlPayload.TheVariants as payload;
-ghost use Rattle.neli_msg.specs.Retyping.{typed_header};
+ghost use Rattle.neli_reader.specs.Answers.{after};
+ghost use Rattle.neli_reader.specs.Messages.{message_of};
+ghost use Rattle.neli_reader.specs.NlPayload.TheVariants as payload;
+ghost use Rattle.neli_reader.specs.Retyping.{typed_header};
 ghost use Rattle.neli_lent.specs.Messages.{as_owned, as_owned_takes, lent_message, message_said};
 
 use crate::LentAttrs;
 use neli_consts::{NlType, NlmF};
-use neli_msg::{NlPayload, Nlmsghdr, NlmsghdrAck};
+use neli_reader::{NlPayload, Nlmsghdr, NlmsghdrAck};
 use neli_wire::{Constant, Cursor, DeError, FromBytesWithInput, Header, alignto};
 use std::alloc::Global;
 use std::io::ErrorKind;

@@ -5,7 +5,7 @@ ghost use Rattle.neli_attr.specs.Lookup.{is_masked};
 
 use neli_attr::AttrType;
 use neli_consts::NlAttrType;
-use neli_consts_rta::RtaType;
+use neli_consts_attrs::RtaType;
 use neli_wire::Constant;
 
 /// The bits of a type field that are the type itself (`NLA_TYPE_MASK` of `linux/netlink.h`).

@@ -2,17 +2,17 @@
 
 ghost use Rattle.std.specs.Prelude.{◌≡◌, ℕ, List, Ok, IfOk, IfErr};
 ghost use Rattle.neli_wire.specs.Sizes.{align};
-ghost use Rattle.neli_msg.specs.Messages.{Message};
-ghost use Rattle.neli_msg.specs.NlPayload.TheVariants as payload;
-ghost use Rattle.neli_msg.specs.Retyping.{HasOwnEcho, IsMessageTooLong, RefusesTyping, payload_stating, stated_echo, typed_header, typed_payload, with_len};
-ghost use Rattle.neli_msg.specs.Wires.{message_size};
+ghost use Rattle.neli_reader.specs.Messages.{Message};
+ghost use Rattle.neli_reader.specs.NlPayload.TheVariants as payload;
+ghost use Rattle.neli_reader.specs.Retyping.{HasOwnEcho, IsMessageTooLong, RefusesTyping, payload_stating, stated_echo, typed_header, typed_payload, with_len};
+ghost use Rattle.neli_reader.specs.Wires.{message_size};
 ghost use Rattle.neli_lent.specs.Spans.{IsSpan, Spells};
 
 use crate::LentMessage;
 use neli_attr::Buffer;
 use neli_consts::NlType;
 use neli_list::read_whole;
-use neli_msg::{NlPayload, Nlmsghdr, NlmsghdrAck, RouterError};
+use neli_reader::{NlPayload, Nlmsghdr, NlmsghdrAck, RouterError};
 use neli_wire::{Cursor, FromBytesWithInput, MsgError, Size};
 use std::alloc::Global;
 

@@ -4,8 +4,8 @@ use Rattle.neli_wire.specs.Frames.{number_in}
 use Rattle.neli_wire.specs.Numbers.{FitsBytes, little_bytes}
 use Rattle.neli_attr.specs.Builders.{Outcome, require_field}
 use Rattle.neli_body.specs.Headers.{IsNamed}
-use Rattle.neli_consts_rt.specs.RtAddrFamily.{rt_addr_family_number, rt_addr_family_of}
-use Rattle.neli_consts_rt.specs.RtScope.{rt_scope_number, rt_scope_of}
+use Rattle.neli_consts_routing.specs.RtAddrFamily.{rt_addr_family_number, rt_addr_family_of}
+use Rattle.neli_consts_routing.specs.RtScope.{rt_scope_number, rt_scope_of}
 use Rattle.neli_link.specs.declared.ifaddrmsg.Ifaddrmsg.{Ifaddrmsg}
 use Rattle.neli_link.specs.declared.ifaddrmsg.IfaddrmsgBuilder.{IfaddrmsgBuilder}
 use Rattle.neli_link.specs.declared.ifaddrmsg.IfaddrmsgHeader.{IfaddrmsgHeader}

@@ -5,13 +5,13 @@ use Rattle.neli_wire.specs.Frames.{number_in}
 use Rattle.neli_wire.specs.Numbers.{FitsBytes, little_bytes, signed_bytes, signed_number}
 use Rattle.neli_attr.specs.Builders.{Outcome, require_field}
 use Rattle.neli_body.specs.Headers.{IsNamed}
-use Rattle.neli_consts_rt.specs.Arphrd.{arphrd_number, arphrd_of}
-use Rattle.neli_consts_rt.specs.RtAddrFamily.{rt_addr_family_number, rt_addr_family_of}
+use Rattle.neli_consts_routing.specs.Arphrd.{arphrd_number, arphrd_of}
+use Rattle.neli_consts_routing.specs.RtAddrFamily.{rt_addr_family_number, rt_addr_family_of}
 use Rattle.std.specs.Int.RustNames.{bit_and, bit_or}
 use Rattle.bitflags.specs.Sets.{known_bits}
-use Rattle.neli_consts_rtf.specs.Iff.{iff_names}
-use Rattle.neli_consts_rtf.specs.declared.iff.Iff.{Iff}
-use Rattle.neli_consts_rt.specs.declared.links.Arphrd.TheVariants.{Netrom}
+use Rattle.neli_consts_flags.specs.Iff.{iff_names}
+use Rattle.neli_consts_flags.specs.declared.iff.Iff.{Iff}
+use Rattle.neli_consts_routing.specs.declared.links.Arphrd.TheVariants.{Netrom}
 use Rattle.neli_link.specs.declared.ifinfomsg.Ifinfomsg.{Ifinfomsg}
 use Rattle.neli_link.specs.declared.ifinfomsg.IfinfomsgBuilder.{IfinfomsgBuilder}
 use Rattle.neli_link.specs.declared.ifinfomsg.IfinfomsgHeader.{IfinfomsgHeader}

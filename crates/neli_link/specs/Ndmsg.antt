@@ -5,8 +5,8 @@ use Rattle.neli_wire.specs.Frames.{number_in}
 use Rattle.neli_wire.specs.Numbers.{FitsBytes, little_bytes, signed_bytes, signed_number}
 use Rattle.neli_attr.specs.Builders.{Outcome, require_field}
 use Rattle.neli_body.specs.Headers.{IsNamed}
-use Rattle.neli_consts_rt.specs.RtAddrFamily.{rt_addr_family_number, rt_addr_family_of}
-use Rattle.neli_consts_rt.specs.Rtn.{rtn_number, rtn_of}
+use Rattle.neli_consts_routing.specs.RtAddrFamily.{rt_addr_family_number, rt_addr_family_of}
+use Rattle.neli_consts_routing.specs.Rtn.{rtn_number, rtn_of}
 use Rattle.neli_link.specs.declared.ndmsg.Ndmsg.{Ndmsg}
 use Rattle.neli_link.specs.declared.ndmsg.NdmsgBuilder.{NdmsgBuilder}
 use Rattle.neli_link.specs.declared.ndmsg.NdmsgHeader.{NdmsgHeader}

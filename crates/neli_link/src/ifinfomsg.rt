@@ -6,16 +6,16 @@ ghost use Rattle.neli_attr.specs.Builders.{IsWhyNot};
 ghost use Rattle.neli_body.specs.Attributes.{Says, attrs_of, attrs_say, attrs_size, attrs_wire};
 ghost use Rattle.neli_body.specs.Bodies.{body_of, body_takes, body_wire};
 ghost use Rattle.neli_body.specs.laws.Attributes.{with_attributes-length, with_attributes-zeros, with_attributes-no_memory, with_attributes_of-never_short, with_attributes_of-no_memory};
-ghost use Rattle.neli_consts_rta.specs.Ifla.{ifla_number, ifla_of};
+ghost use Rattle.neli_consts_attrs.specs.Ifla.{ifla_number, ifla_of};
 ghost use Rattle.neli_link.specs.Ifinfomsg.{IsPlainIfinfomsg, ifinfomsg_built, ifinfomsg_bytes, ifinfomsg_down, ifinfomsg_header, ifinfomsg_up};
 ghost use Rattle.neli_link.specs.laws.Ifinfomsg.{ifinfomsg-reads_back, ifinfomsg-width, ifinfomsg-writes_back};
 
 use neli_attr::{Buffer, BuildError, RtBuffer, TryClone, of};
 use neli_body::numbers::{i32_in, u8_in, u16_in, u32_in};
 use neli_body::{FixedHeader, HeaderBytes, read_body, size_of_body, write_body};
-use neli_consts_rt::{Arphrd, RtAddrFamily};
-use neli_consts_rta::Ifla;
-use neli_consts_rtf::Iff;
+use neli_consts_attrs::Ifla;
+use neli_consts_flags::Iff;
+use neli_consts_routing::{Arphrd, RtAddrFamily};
 use neli_wire::{
     Constant, Cursor, DeError, FromBytesWithInput, Header, NoMemory, SerError, Size, ToBytes,
     UninitializedFieldError,
@@ -186,7 +186,7 @@ impl ToBytes for Ifinfomsg {
 
 impl FromBytesWithInput for Ifinfomsg {
     ghost use Rattle.neli_link.specs.declared.ifinfomsg.IfinfomsgHeader.{IfinfomsgHeader as Fields};
-    ghost use Rattle.neli_consts_rta.specs.declared.links.Ifla.{Ifla as Kind};
+    ghost use Rattle.neli_consts_attrs.specs.declared.links.Ifla.{Ifla as Kind};
 
     ghost Value = { Fields × Says Kind };
 

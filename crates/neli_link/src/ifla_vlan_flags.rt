@@ -12,7 +12,7 @@ ghost use Rattle.neli_link.specs.laws.IflaVlanFlags.{ifla_vlan_flags-reads_back,
 use neli_attr::{BuildError, TryClone, of};
 use neli_body::numbers::u8_in;
 use neli_body::{FixedHeader, HeaderBytes, read_fixed, write_fixed};
-use neli_consts_rtf::VlanFlags;
+use neli_consts_flags::VlanFlags;
 use neli_wire::{
     Constant, Cursor, DeError, FromBytes, NoMemory, SerError, Size, ToBytes,
     UninitializedFieldError,

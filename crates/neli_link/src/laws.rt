@@ -6,9 +6,9 @@ ghost use Rattle.neli_wire.specs.Constants.{IsEquality};
 ghost use Rattle.neli_wire.specs.Numbers.{AreBytes};
 ghost use Rattle.neli_body.specs.Attributes.{attrs_of, attrs_wire};
 ghost use Rattle.neli_body.specs.RoundTrips.{ArePlainAttrs, ReadsBack, ReadsBackWhole};
-ghost use Rattle.neli_consts_rta.specs.Ifa.{ifa_number, ifa_of};
-ghost use Rattle.neli_consts_rta.specs.Ifla.{ifla_number, ifla_of};
-ghost use Rattle.neli_consts_rta.specs.Nda.{nda_number, nda_of};
+ghost use Rattle.neli_consts_attrs.specs.Ifa.{ifa_number, ifa_of};
+ghost use Rattle.neli_consts_attrs.specs.Ifla.{ifla_number, ifla_of};
+ghost use Rattle.neli_consts_attrs.specs.Nda.{nda_number, nda_of};
 ghost use Rattle.neli_link.specs.declared.ifaddrmsg.Ifaddrmsg.{Ifaddrmsg};
 ghost use Rattle.neli_link.specs.declared.ifinfomsg.Ifinfomsg.{Ifinfomsg};
 ghost use Rattle.neli_link.specs.declared.ifla_vlan_flags.IflaVlanFlags.{IflaVlanFlags};
@@ -107,7 +107,7 @@ pub fn equality()
     ensures ifla_vlan_flags { IsEquality ⟦<crate::IflaVlanFlags as PartialEq>⟧.eq }
     ensures ifla_vlan_qos_mapping { IsEquality ⟦<crate::IflaVlanQosMapping as PartialEq>⟧.eq }
 {
-    neli_consts_rt::laws::equality();
-    neli_consts_rta::laws::equality();
-    neli_consts_rtf::laws::equality();
+    neli_consts_routing::laws::equality();
+    neli_consts_attrs::laws::equality();
+    neli_consts_flags::laws::equality();
 }

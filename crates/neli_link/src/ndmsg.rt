@@ -6,16 +6,16 @@ ghost use Rattle.neli_attr.specs.Builders.{IsWhyNot};
 ghost use Rattle.neli_body.specs.Attributes.{Says, attrs_of, attrs_say, attrs_size, attrs_wire};
 ghost use Rattle.neli_body.specs.Bodies.{body_of, body_takes, body_wire};
 ghost use Rattle.neli_body.specs.laws.Attributes.{with_attributes-length, with_attributes-zeros, with_attributes-no_memory, with_attributes_of-never_short, with_attributes_of-no_memory};
-ghost use Rattle.neli_consts_rta.specs.Nda.{nda_number, nda_of};
+ghost use Rattle.neli_consts_attrs.specs.Nda.{nda_number, nda_of};
 ghost use Rattle.neli_link.specs.Ndmsg.{IsPlainNdmsg, ndmsg_built, ndmsg_bytes, ndmsg_header};
 ghost use Rattle.neli_link.specs.laws.Ndmsg.{ndmsg-reads_back, ndmsg-width, ndmsg-writes_back};
 
 use neli_attr::{Buffer, BuildError, RtBuffer, TryClone, of};
 use neli_body::numbers::{i32_in, u8_in, u16_in};
 use neli_body::{FixedHeader, HeaderBytes, read_body, size_of_body, write_body};
-use neli_consts_rt::{RtAddrFamily, Rtn};
-use neli_consts_rta::Nda;
-use neli_consts_rtf::{Ntf, Nud};
+use neli_consts_attrs::Nda;
+use neli_consts_flags::{Ntf, Nud};
+use neli_consts_routing::{RtAddrFamily, Rtn};
 use neli_wire::{
     Constant, Cursor, DeError, FromBytesWithInput, Header, NoMemory, SerError, Size, ToBytes,
     UninitializedFieldError,
@@ -189,7 +189,7 @@ impl ToBytes for Ndmsg {
 
 impl FromBytesWithInput for Ndmsg {
     ghost use Rattle.neli_link.specs.declared.ndmsg.NdmsgHeader.{NdmsgHeader as Fields};
-    ghost use Rattle.neli_consts_rta.specs.declared.neighbours.Nda.{Nda as Kind};
+    ghost use Rattle.neli_consts_attrs.specs.declared.neighbours.Nda.{Nda as Kind};
 
     ghost Value = { Fields × Says Kind };
 

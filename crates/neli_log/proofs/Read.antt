@@ -1,9 +1,9 @@
 -- The next message of a datagram.
 use Rattle.std.proofs.Common.{◌≡◌, ℕ, ◌+◌, ◌≤◌, List, length, Ok, refl, ◌∙◌, arith}
 use Rattle.neli_wire.specs.Frames.{frame_at}
-use Rattle.neli_msg.specs.Agreement.{untyped_layout}
-use Rattle.neli_msg.specs.laws.Cuts.{frame_at-longer}
-use Rattle.neli_msg.specs.laws.Messages.{layout_with-placed}
+use Rattle.neli_reader.specs.Agreement.{untyped_layout}
+use Rattle.neli_reader.specs.laws.Cuts.{frame_at-longer}
+use Rattle.neli_reader.specs.laws.Messages.{layout_with-placed}
 use Rattle.neli_deliveries.specs.Deliveries.{Untyped}
 use Rattle.neli_lent.specs.Messages.{Lent, as_owned, lent_message}
 use Rattle.neli_lent.specs.laws.Messages.{owned-read}

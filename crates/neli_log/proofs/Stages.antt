@@ -6,10 +6,10 @@ use Rattle.std.proofs.lemmas.List.{append-nil, map-append}
 use Rattle.neli_wire.specs.DeError.{DeError}
 use Rattle.neli_wire.specs.Frames.{frame_at}
 use Rattle.neli_wire.specs.laws.Frames.{frame_at-frame, frame_of-frame_at}
-use Rattle.neli_msg.specs.Agreement.{untyped_layout}
-use Rattle.neli_msg.specs.Cuts.{Cut, cut_of, message_before}
-use Rattle.neli_msg.specs.laws.Cuts.{cut_of-end, cut_of-fault, cut_of-message, empty_is}
-use Rattle.neli_msg.specs.laws.Messages.{layout_with-placed}
+use Rattle.neli_reader.specs.Agreement.{untyped_layout}
+use Rattle.neli_reader.specs.Cuts.{Cut, cut_of, message_before}
+use Rattle.neli_reader.specs.laws.Cuts.{cut_of-end, cut_of-fault, cut_of-message, empty_is}
+use Rattle.neli_reader.specs.laws.Messages.{layout_with-placed}
 use Rattle.neli_lent.specs.Spans.{IsSpan, Spells}
 use Rattle.neli_deliveries.specs.Deliveries.{Untyped, message_to, messages_to, reader_fault, datagram_share}
 use Rattle.neli_places.specs.declared.entry.Entry.{Entry}
@@ -17,7 +17,7 @@ use Rattle.neli_places.specs.Places.{HasReader}
 use Rattle.neli_places.specs.Routes.{items_for, leads}
 use Rattle.neli_spans.specs.declared.span.Span.{Span}
 use Rattle.neli_spans.specs.Spans.{AreApart, AreOf, Apart, IsWithin}
-use Rattle.neli_msg.specs.SocketError.TheVariants as socket
+use Rattle.neli_reader.specs.SocketError.TheVariants as socket
 use Rattle.neli_places.specs.declared.entry.Route.TheVariants as route
 use Rattle.neli_log.specs.declared.content.Content.{Content}
 use Rattle.neli_log.specs.declared.content.Content.TheVariants as content

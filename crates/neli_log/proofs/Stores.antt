@@ -3,11 +3,11 @@ use Rattle.std.proofs.Common.{◌≡◌, ℕ, zero, suc, ◌+◌, ◌-◌, ◌�
 use Rattle.std.specs.List.{slice_get}
 use Rattle.std.specs.Prelude.{slice_range, Result, Ok, Err, OnErr, OnOk}
 use Rattle.std.proofs.lemmas.List.{append-nil, map-append}
-use Rattle.neli_msg.specs.Agreement.{untyped_layout}
-use Rattle.neli_msg.specs.Cuts.{Cut, cut_of}
-use Rattle.neli_msg.specs.SocketError.{SocketError}
-use Rattle.neli_msg.specs.laws.Cuts.{cut_of-end}
-use Rattle.neli_msg.specs.laws.Messages.{layout_with-placed}
+use Rattle.neli_reader.specs.Agreement.{untyped_layout}
+use Rattle.neli_reader.specs.Cuts.{Cut, cut_of}
+use Rattle.neli_reader.specs.SocketError.{SocketError}
+use Rattle.neli_reader.specs.laws.Cuts.{cut_of-end}
+use Rattle.neli_reader.specs.laws.Messages.{layout_with-placed}
 use Rattle.neli_lent.specs.Spans.{IsSpan}
 use Rattle.neli_deliveries.specs.declared.delivery.Delivery.{Delivery}
 use Rattle.neli_deliveries.specs.Deliveries.{Untyped, fault_share, head_of, is_would_block, messages_to, reader_fault, datagram_share}

@@ -1,6 +1,6 @@
 //! What an entry holds.
 
-use neli_msg::SocketError;
+use neli_reader::SocketError;
 use neli_spans::Span;
 
 /// A delivery, of which a message is the span of its bytes.

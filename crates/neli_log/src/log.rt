@@ -1,8 +1,8 @@
 //! The log as a store of deliveries.
 
 ghost use Rattle.std.specs.Prelude.{◌≡◌, ◌≢◌, ◌↔◌, ◌≤◌, ◌+◌, ◌++◌, ℕ, List, [], Option, None, Some, IsOk, OnErr, OnOk, is_some, option_map, true};
-ghost use Rattle.neli_msg.specs.Agreement.{untyped_layout};
-ghost use Rattle.neli_msg.specs.Cuts.{cut_of};
+ghost use Rattle.neli_reader.specs.Agreement.{untyped_layout};
+ghost use Rattle.neli_reader.specs.Cuts.{cut_of};
 ghost use Rattle.neli_deliveries.specs.declared.delivery.Delivery.{Delivery as Waiting};
 ghost use Rattle.neli_deliveries.specs.Deliveries.{datagram_share, fault_share, is_would_block};
 ghost use Rattle.neli_log.specs.Log.{IsAsBefore, KeepsEntries, byte_count, entry_count, pending_of};
@@ -11,7 +11,7 @@ ghost use Rattle.neli_log.specs.Staged.{delivery_count};
 use crate::store::Store;
 use neli_consts::NlType;
 use neli_deliveries::Deliveries;
-use neli_msg::{Nlmsghdr, RouterError, SocketError};
+use neli_reader::{Nlmsghdr, RouterError, SocketError};
 use neli_util::Groups;
 use neli_wire::{FromBytesWithInput, NoMemory, Size};
 use std::alloc::Global;

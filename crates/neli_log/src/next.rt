@@ -3,12 +3,12 @@
 ghost use Rattle.std.specs.Prelude.{◌≡◌, ◌+◌, ◌≤◌, Ok, Err, IfErr, IfOk, OnErr, OnOk, length};
 ghost use Rattle.neli_wire.specs.Frames.{frame_at};
 ghost use Rattle.neli_wire.specs.Place.{whole};
-ghost use Rattle.neli_msg.specs.Agreement.{untyped_layout};
+ghost use Rattle.neli_reader.specs.Agreement.{untyped_layout};
 ghost use Rattle.neli_log.specs.Next.{IsAddressOf};
 
 use neli_attr::Buffer;
 use neli_lent::LentMessage;
-use neli_msg::Nlmsghdr;
+use neli_reader::Nlmsghdr;
 use neli_wire::{Cursor, DeError, FromBytes, NoMemory};
 use std::alloc::Global;
 

@@ -1,7 +1,7 @@
 //! An entry as a caller's types.
 
 ghost use Rattle.std.specs.Prelude.{IfOk};
-ghost use Rattle.neli_msg.specs.Messages.{message_from};
+ghost use Rattle.neli_reader.specs.Messages.{message_from};
 ghost use Rattle.neli_lent.specs.Spans.{IsSpan, Spells};
 ghost use Rattle.neli_deliveries.specs.declared.delivery.Delivery.TheVariants as delivery;
 ghost use Rattle.neli_deliveries.specs.Deliveries.{Untyped};
@@ -9,7 +9,7 @@ ghost use Rattle.neli_deliveries.specs.Readings.{IsReading};
 
 use neli_consts::NlType;
 use neli_lent::from_span;
-use neli_msg::{Nlmsghdr, RouterError};
+use neli_reader::{Nlmsghdr, RouterError};
 use neli_wire::{FromBytesWithInput, NoMemory, Size};
 use std::alloc::Global;
 

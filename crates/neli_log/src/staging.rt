@@ -2,9 +2,9 @@
 
 ghost use Rattle.std.specs.Prelude.{◌≡◌, ◌<◌, ℕ, List, [], ◌∷◌, None, Some, Option, IfOk, OnOk, length};
 ghost use Rattle.neli_wire.specs.Place.{whole};
-ghost use Rattle.neli_msg.specs.Agreement.{untyped_layout};
-ghost use Rattle.neli_msg.specs.Cuts.{Cut as Rest};
-ghost use Rattle.neli_msg.specs.Cuts.{cut_of, message_before};
+ghost use Rattle.neli_reader.specs.Agreement.{untyped_layout};
+ghost use Rattle.neli_reader.specs.Cuts.{Cut as Rest};
+ghost use Rattle.neli_reader.specs.Cuts.{cut_of, message_before};
 ghost use Rattle.neli_deliveries.specs.Deliveries.{Untyped};
 ghost use Rattle.neli_lent.specs.Spans.{Spells};
 ghost use Rattle.neli_places.specs.Places.{pending_of};
@@ -13,8 +13,8 @@ ghost use Rattle.neli_log.specs.Staged.{AreStaged, IsFound, cut_left, deliveries
 
 use crate::content::Content;
 use crate::next::{Address, next_message};
-use neli_msg::SocketError;
 use neli_places::{Entry, Places, Route};
+use neli_reader::SocketError;
 use neli_spans::Span;
 use neli_util::Groups;
 use neli_wire::{Cursor, DeError, NoMemory};

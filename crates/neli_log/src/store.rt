@@ -1,8 +1,8 @@
 //! The parts of a log, and what is done to them.
 
 ghost use Rattle.std.specs.Prelude.{◌≡◌, ◌≢◌, ◌↔◌, ◌++◌, ◌+◌, ◌≤◌, ℕ, List, [], ◌∷◌, Option, None, Some, IfOk, IsOk, OnErr, OnOk, is_some, length, option_map, true};
-ghost use Rattle.neli_msg.specs.Agreement.{untyped_layout};
-ghost use Rattle.neli_msg.specs.Cuts.{cut_of};
+ghost use Rattle.neli_reader.specs.Agreement.{untyped_layout};
+ghost use Rattle.neli_reader.specs.Cuts.{cut_of};
 ghost use Rattle.neli_deliveries.specs.declared.delivery.Delivery.{Delivery as Waiting};
 ghost use Rattle.neli_deliveries.specs.Deliveries.{fault_share, head_of, is_would_block, datagram_share};
 ghost use Rattle.neli_deliveries.specs.Readings.{IsFirst, IsReading};
@@ -17,8 +17,8 @@ use crate::handing::{keep_copy, push_all, release, span_count};
 use crate::reading::typed;
 use crate::staging::staged;
 use neli_consts::NlType;
-use neli_msg::{Nlmsghdr, RouterError, SocketError};
 use neli_places::{Entry, Places, Route};
+use neli_reader::{Nlmsghdr, RouterError, SocketError};
 use neli_spans::Datagrams;
 use neli_util::Groups;
 use neli_wire::{FromBytesWithInput, NoMemory, Size};

@@ -1,1 +1,4 @@
-mod Equality
+pub mod Words
+pub mod Attributes
+pub mod Retyped
+pub mod Messages

@@ -1,40 +1,29 @@
-//! Netlink messages, and the reader of a datagram.
+//! What messages are made of: their header, their payload by its kind, errors and acknowledgements.
 //!
-//! A message is a header of 16 bytes, a payload, and padding up to a multiple of four (RFC 3549
-//! section 2.3.2; `struct nlmsghdr` of linux/netlink.h). All numbers are little-endian.
+//! - [`NlmsghdrAck`]: the header that every message begins with, and that an acknowledgement answers.
+//! - [`NlmsghdrErr`]: the message that an error answers, as it is echoed.
+//! - [`Nlmsgerr`]: an answer, which is a code, what it answers, and attributes.
+//! - [`Explained`]: an answer as a person reads it.
+//! - [`NlPayload`]: the payload of a message, by its kind.
 //!
-//! ```text
-//!  0       4       6       8       12      16         16 + L   align(16 + L)
-//!  +-------+-------+-------+-------+-------+----- - - - -+- - - - +
-//!  | length| type  | flags | number| port  | payload     | padding|
-//!  +-------+-------+-------+-------+-------+----- - - - -+- - - - +
-//! ```
-//!
-//! The length counts the header and the payload, and not the padding, so L is the length less 16. The
-//! number is the sequence number. A datagram is such messages, one after the other.
-//!
-//! - [`Nlmsghdr`] is a message, [`NlPayload`] what it carries by its kind, and [`Nlmsgerr`] an error, an
-//!   acknowledgement or the end of a dump; [`NlmsghdrErr`] and [`NlmsghdrAck`] are what these answer.
-//! - [`NlBufferIter`] reads the messages of a datagram one by one, [`cut`] reads all of them, and
-//!   [`NlBuffer`] is a list of messages.
-//! - [`SocketError`] is what a reader, or a link below it, reports, [`RouterError`] what a router does, and
-//!   [`BuilderError`] why a builder made nothing, for most builders.
-//! - [`laws`] says that each byte list has one cut, how many messages it can have, that reading a
-//!   message as other types agrees with retyping it, and what of a datagram is written again.
-//!
-//! `specs/Kinds.antt` of `neli_msg_base` says on one page which kind a payload is; `specs/Messages.antt` how
-//! a message lies in bytes; `specs/Cuts.antt` what a whole datagram means. What stands in `neli_msg_base`
-//! is re-exported here.
+//! `specs/Kinds.antt` says on one page which kind a payload is and what its bytes say.
 #![tactic(auto)]
 
-mod builder_error;
-mod iter;
-pub mod laws;
+mod answer;
+mod echo;
+mod explained;
+mod header;
+mod message;
+mod parts;
+mod payload;
+mod router_error;
+mod socket_error;
 
-pub use builder_error::BuilderError;
-pub use iter::{NlBuffer, NlBufferIter, cut};
-pub use neli_msg_base::{
-    Explained, NlPayload, Nlmsgerr, NlmsgerrBuilder, NlmsgerrBuilderError, Nlmsghdr, NlmsghdrAck,
-    NlmsghdrAckBuilder, NlmsghdrAckBuilderError, NlmsghdrBuilder, NlmsghdrBuilderError,
-    NlmsghdrErr, NlmsghdrErrBuilder, NlmsghdrErrBuilderError, RouterError, SocketError,
-};
+pub use answer::{Nlmsgerr, NlmsgerrBuilder, NlmsgerrBuilderError};
+pub use echo::{NlmsghdrErr, NlmsghdrErrBuilder, NlmsghdrErrBuilderError};
+pub use explained::Explained;
+pub use header::{NlmsghdrAck, NlmsghdrAckBuilder, NlmsghdrAckBuilderError};
+pub use message::{Nlmsghdr, NlmsghdrBuilder, NlmsghdrBuilderError};
+pub use payload::NlPayload;
+pub use router_error::RouterError;
+pub use socket_error::SocketError;

@@ -6,8 +6,8 @@ use Rattle.neli_wire.specs.Frames.{frame_at}
 use Rattle.neli_wire.specs.laws.Frames.{IsPlaced, number_in-take}
 use Rattle.neli_wire.specs.Place.{Place, whole}
 use Rattle.neli_wire.specs.Reading.{refusal_within}
-use Rattle.neli_msg.specs.Cuts.{Cut, cut_of, message_before}
-use Rattle.neli_msg.specs.laws.Cuts.{cut_of-end, cut_of-message, cut_of-fault, frame_at-longer}
+use Rattle.neli_reader.specs.Cuts.{Cut, cut_of, message_before}
+use Rattle.neli_reader.specs.laws.Cuts.{cut_of-end, cut_of-message, cut_of-fault, frame_at-longer}
 use Rattle.neli_lent.specs.Walks.{cut_with, items_of, map_item, map_ok}
 use Rattle.neli_payloads.specs.NextHops.{HopHead, next_hop, next_hops_at}
 

@@ -5,7 +5,7 @@ use Rattle.neli_wire.specs.Frames.{Layout, number_in}
 use Rattle.neli_wire.specs.Numbers.{signed_number}
 use Rattle.neli_wire.specs.Place.{Place, whole}
 use Rattle.neli_wire.specs.Reading.{refusal_within}
-use Rattle.neli_msg.specs.Cuts.{Cut, cut_of}
+use Rattle.neli_reader.specs.Cuts.{Cut, cut_of}
 use Rattle.neli_payloads.specs.declared.next_hops.NextHop.{NextHop}
 
 -- what stands before the attributes

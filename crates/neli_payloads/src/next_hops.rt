@@ -8,7 +8,7 @@ ghost use Rattle.neli_lent.specs.Walks.{cut_with, items_of, map_item, map_ok};
 ghost use Rattle.neli_payloads.specs.NextHops.{next_hop, next_hop_view, next_hops_at};
 
 use neli_body::numbers::{i32_in, u8_in, u16_in};
-use neli_consts_rta::Rta;
+use neli_consts_attrs::Rta;
 use neli_lent::LentRtattrs;
 use neli_wire::implementing::within_input;
 use neli_wire::{Cursor, DeError, alignto};

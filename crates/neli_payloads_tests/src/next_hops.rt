@@ -1,7 +1,7 @@
 //! Next hops of routes.
 
 use crate::support::{assert_is, assert_is_at, bytes_of};
-use neli_consts_rta::Rta;
+use neli_consts_attrs::Rta;
 use neli_payloads::NextHops;
 use neli_wire::DeError;
 use std::process::Abort;

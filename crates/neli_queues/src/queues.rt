@@ -1,8 +1,8 @@
 //! A list of deliveries for each open number.
 
 ghost use Rattle.std.specs.Prelude.{◌≡◌, ◌++◌, ℕ, Option, IfOk, OnOk, OnErr, option_map};
-ghost use Rattle.neli_msg.specs.Agreement.{untyped_layout};
-ghost use Rattle.neli_msg.specs.Cuts.{cut_of};
+ghost use Rattle.neli_reader.specs.Agreement.{untyped_layout};
+ghost use Rattle.neli_reader.specs.Cuts.{cut_of};
 ghost use Rattle.neli_deliveries.specs.Deliveries.{is_would_block, datagram_share};
 ghost use Rattle.neli_queues.specs.Pieces.{is_open};
 ghost use Rattle.neli_queues.specs.Queues.{AreDue, share_of_both, kept_port, pending_of};
@@ -13,7 +13,7 @@ use crate::reading::read;
 use crate::staging::{listed, stage_each, stage_fault, stage_messages};
 use neli_consts::NlType;
 use neli_deliveries::{Deliveries, Delivery};
-use neli_msg::{Nlmsghdr, RouterError, SocketError, cut};
+use neli_reader::{Nlmsghdr, RouterError, SocketError, cut};
 use neli_util::Groups;
 use neli_wire::{FromBytesWithInput, NoMemory, Size};
 use std::alloc::Global;

@@ -7,7 +7,7 @@ ghost use Rattle.neli_deliveries.specs.Readings.{IsReading};
 use neli_attr::Buffer;
 use neli_consts::NlType;
 use neli_deliveries::Delivery;
-use neli_msg::{Nlmsghdr, RouterError};
+use neli_reader::{Nlmsghdr, RouterError};
 use neli_wire::{FromBytesWithInput, NoMemory, Size};
 use std::alloc::Global;
 

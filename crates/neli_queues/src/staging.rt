@@ -1,7 +1,7 @@
 //! What a datagram or a fault of the link brings, before any list changes.
 
 ghost use Rattle.std.specs.Prelude.{◌≡◌, ◌++◌, ◌==◌, ℕ, true, if◌then◌else◌, [], ◌∷◌, IfOk, OnOk, map};
-ghost use Rattle.neli_msg.specs.Messages.{message_of};
+ghost use Rattle.neli_reader.specs.Messages.{message_of};
 ghost use Rattle.neli_deliveries.specs.Deliveries.{is_reply, message, message_to, messages_to, reader_fault};
 ghost use Rattle.neli_queues.specs.Pieces.{gain_of, is_open};
 
@@ -9,7 +9,7 @@ use crate::appending::Numbers;
 use crate::piece::Piece;
 use neli_attr::Buffer;
 use neli_deliveries::Delivery;
-use neli_msg::{Nlmsghdr, SocketError};
+use neli_reader::{Nlmsghdr, SocketError};
 use neli_wire::{DeError, NoMemory};
 use std::alloc::Global;
 use std::collections::LinkedList;

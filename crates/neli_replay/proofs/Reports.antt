@@ -2,7 +2,7 @@
 use Rattle.std.proofs.Common.{◌≡◌, ◌∙◌, ℕ, ◌+◌, List, [], ◌∷◌, ◌++◌, codes, Option, refl, sym, ap, subst, append_assoc, ◌≤◌, arith}
 use Rattle.std.proofs.lemmas.List.{append-nil}
 use Rattle.std.specs.Io.KnownBytes.{Appends}
-use Rattle.neli_router.specs.declared.command.Outcome.TheVariants as outcome
+use Rattle.neli_runs.specs.declared.command.Outcome.TheVariants as outcome
 use Rattle.neli_replay.specs.Report.{RawOutcome, outcome_text, report, sends}
 use Rattle.neli_replay.proofs.Streams.{appends_more, appends_none}
 

@@ -5,7 +5,7 @@ use Rattle.std.specs.Option.{option_to_list}
 use Rattle.std.proofs.lemmas.Grind.{flat_map-append}
 use Rattle.std.proofs.lemmas.List.{append-nil, drop_more, get_or-map, length-map}
 use Rattle.std.proofs.lemmas.Bool.Decides.{nat_tests}
-use Rattle.neli_router.specs.declared.command.Command.{Command}
+use Rattle.neli_runs.specs.declared.command.Command.{Command}
 use Rattle.neli_replay.specs.declared.line.Entry.{Entry}
 use Rattle.neli_replay.specs.Script.{AreCommands, IsTold, entry_if, entries_from, entry_in, with_line, words_in}
 

@@ -5,13 +5,13 @@ use Rattle.std.specs.declared.io.ErrorKind.TheVariants.{ConnectionReset, Unexpec
 use Rattle.hex.specs.Hex.{encode_lower}
 use Rattle.neli_wire.specs.DeError.{DeError}
 use Rattle.neli_wire.specs.DeError.TheVariants as de
-use Rattle.neli_msg.specs.Messages.{message_of}
-use Rattle.neli_msg.specs.RouterError.{RouterError}
-use Rattle.neli_msg.specs.RouterError.TheVariants as router
-use Rattle.neli_msg.specs.SocketError.TheVariants as socket
-use Rattle.neli_router.specs.declared.command.Outcome.{Outcome}
-use Rattle.neli_router.specs.declared.command.Outcome.TheVariants as outcome
-use Rattle.neli_tool_base.specs.Listing.{line_of}
+use Rattle.neli_reader.specs.Messages.{message_of}
+use Rattle.neli_reader.specs.RouterError.{RouterError}
+use Rattle.neli_reader.specs.RouterError.TheVariants as router
+use Rattle.neli_reader.specs.SocketError.TheVariants as socket
+use Rattle.neli_runs.specs.declared.command.Outcome.{Outcome}
+use Rattle.neli_runs.specs.declared.command.Outcome.TheVariants as outcome
+use Rattle.neli_listing.specs.Listing.{line_of}
 
 -- what came of a command of a script: types are numbers, payloads bytes
 abbrev pub RawOutcome : Type 0

@@ -2,11 +2,11 @@
 use Rattle.std.specs.Prelude.{◌≡◌, ⊤, ℕ, List, ◌++◌, length, codes, Option, Ok, Err}
 use Rattle.std.specs.Fmt.{decimal}
 use Rattle.std.specs.Io.KnownBytes.{Appends, Keeps}
-use Rattle.neli_router.specs.declared.command.Command.{Command}
-use Rattle.neli_router.specs.Outcomes.{Each, IsAnswered, IsSent}
-use Rattle.neli_tool_base.specs.declared.status.Status.{Status}
-use Rattle.neli_tool_base.specs.declared.status.Status.TheVariants as status
-use Rattle.neli_tool_base.specs.Inputs.{IsInput}
+use Rattle.neli_runs.specs.declared.command.Command.{Command}
+use Rattle.neli_runs.specs.Outcomes.{Each, IsAnswered, IsSent}
+use Rattle.neli_listing.specs.declared.status.Status.{Status}
+use Rattle.neli_listing.specs.declared.status.Status.TheVariants as status
+use Rattle.neli_listing.specs.Inputs.{IsInput}
 use Rattle.neli_replay.specs.Report.{RawOutcome, report}
 use Rattle.neli_replay.specs.Script.{IsScript, entries_of}
 

@@ -9,11 +9,11 @@ use Rattle.bitflags.specs.Sets.{known_bits}
 use Rattle.neli_consts.specs.NlmF.{nlm_f_names}
 use Rattle.neli_consts.specs.declared.nlm_f.NlmF.{NlmF}
 use Rattle.neli_util.specs.Masks.{groups_of}
-use Rattle.neli_msg.specs.Headers.{flags_of}
-use Rattle.neli_msg.specs.NlPayload.TheVariants as payload
-use Rattle.neli_msg.specs.SocketError.TheVariants as socket
-use Rattle.neli_router.specs.declared.command.Command.{Command}
-use Rattle.neli_router.specs.declared.command.Command.TheVariants as command
+use Rattle.neli_reader.specs.Headers.{flags_of}
+use Rattle.neli_reader.specs.NlPayload.TheVariants as payload
+use Rattle.neli_reader.specs.SocketError.TheVariants as socket
+use Rattle.neli_runs.specs.declared.command.Command.{Command}
+use Rattle.neli_runs.specs.declared.command.Command.TheVariants as command
 use Rattle.neli_replay.specs.declared.line.Entry.{Entry}
 use Rattle.neli_replay.specs.declared.line.Entry.TheVariants.{Port, Number, Request, Datagram, Fault, Read, Close}
 use Rattle.neli_replay.specs.declared.script.ScriptError.{ScriptError}

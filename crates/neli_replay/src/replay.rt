@@ -1,15 +1,15 @@
 //! A script that is read and answered.
 
 ghost use Rattle.std.specs.Prelude.{◌≡◌, IfOk};
-ghost use Rattle.neli_tool_base.specs.declared.status.Status.TheVariants as status;
+ghost use Rattle.neli_listing.specs.declared.status.Status.TheVariants as status;
 ghost use Rattle.neli_replay.specs.Runs.{AreOutcomes, PrintsBadLine, PrintsMemory, PrintsReplay};
 
 use crate::report::{RawOutcome, write_report};
 use crate::script::{Script, ScriptError, read_script};
 use neli_attr::Buffer;
-use neli_router::{Deliveries, run};
-use neli_tool_base::input::{InputError, read_whole};
-use neli_tool_base::status::Status;
+use neli_listing::input::{InputError, read_whole};
+use neli_listing::status::Status;
+use neli_runs::{Deliveries, run};
 use neli_wire::NoMemory;
 use std::alloc::Global;
 use std::io::{Read, Write};

@@ -6,9 +6,9 @@ ghost use Rattle.hex.specs.Hex.{encode_lower};
 ghost use Rattle.neli_replay.specs.Report.{error_text, fault_text, outcome_text, refusal_text, report, sends};
 
 use neli_attr::Buffer;
-use neli_msg::{RouterError, SocketError};
-use neli_router::Outcome;
-use neli_tool_base::line::Line;
+use neli_listing::line::Line;
+use neli_reader::{RouterError, SocketError};
+use neli_runs::Outcome;
 use neli_wire::DeError;
 use std::io;
 use std::io::{ErrorKind, Write};

@@ -8,8 +8,8 @@ use Rattle.neli_wire.specs.DeError.{DeError}
 use Rattle.neli_consts.specs.declared.genl.CtrlAttr.{CtrlAttr}
 use Rattle.neli_consts.specs.declared.genl.CtrlAttrMcastGrp.{CtrlAttrMcastGrp}
 use Rattle.neli_genl.specs.Genlmsghdr.{Says}
-use Rattle.neli_msg.specs.RouterError.TheVariants.{Msg}
-use Rattle.neli_msg.specs.RouterErrors.{de_of}
+use Rattle.neli_reader.specs.RouterError.TheVariants.{Msg}
+use Rattle.neli_reader.specs.RouterErrors.{de_of}
 use Rattle.neli_resolvers.specs.Attributes.{Group, family_id, family_name, group_attrs, group_id, group_name, groups}
 use Rattle.neli_resolvers.specs.Items.{Error, Item, Message, after, first_error, first_found, last_found, messages, attributes_said}
 

@@ -7,7 +7,7 @@ ghost use Rattle.neli_resolvers.specs.Items.{IsCopyOf, first_error};
 
 use neli_consts::{CtrlAttr, CtrlCmd, GenlId};
 use neli_genl::Genlmsghdr;
-use neli_msg::{Nlmsghdr, RouterError};
+use neli_reader::{Nlmsghdr, RouterError};
 use neli_wire::{DeError, NoMemory};
 use std::alloc::Global;
 

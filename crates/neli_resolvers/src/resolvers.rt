@@ -13,7 +13,7 @@ use crate::texts::{NoFamily, NoGroup};
 use crate::{CtrlError, CtrlItem};
 use neli_attr::GenlAttrHandle;
 use neli_consts::CtrlAttr;
-use neli_msg::RouterError;
+use neli_reader::RouterError;
 use neli_wire::{DeError, MsgError};
 use std::alloc::Global;
 

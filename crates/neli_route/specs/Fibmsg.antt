@@ -4,9 +4,9 @@ use Rattle.neli_wire.specs.Frames.{number_in}
 use Rattle.neli_wire.specs.Numbers.{FitsBytes, little_bytes}
 use Rattle.neli_attr.specs.Builders.{Outcome, require_field}
 use Rattle.neli_body.specs.Headers.{IsNamed}
-use Rattle.neli_consts_rt.specs.FrAct.{fr_act_number, fr_act_of}
-use Rattle.neli_consts_rt.specs.RtAddrFamily.{rt_addr_family_number, rt_addr_family_of}
-use Rattle.neli_consts_rt.specs.RtTable.{rt_table_number, rt_table_of}
+use Rattle.neli_consts_routing.specs.FrAct.{fr_act_number, fr_act_of}
+use Rattle.neli_consts_routing.specs.RtAddrFamily.{rt_addr_family_number, rt_addr_family_of}
+use Rattle.neli_consts_routing.specs.RtTable.{rt_table_number, rt_table_of}
 use Rattle.neli_route.specs.declared.fibmsg.Fibmsg.{Fibmsg}
 use Rattle.neli_route.specs.declared.fibmsg.FibmsgBuilder.{FibmsgBuilder}
 use Rattle.neli_route.specs.declared.fibmsg.FibmsgHeader.{FibmsgHeader}

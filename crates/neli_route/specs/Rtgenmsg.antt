@@ -4,7 +4,7 @@ use Rattle.neli_wire.specs.Frames.{number_in}
 use Rattle.neli_wire.specs.Numbers.{FitsBytes, little_bytes}
 use Rattle.neli_attr.specs.Builders.{Outcome, require_field}
 use Rattle.neli_body.specs.Headers.{IsNamed}
-use Rattle.neli_consts_rt.specs.RtAddrFamily.{rt_addr_family_number, rt_addr_family_of}
+use Rattle.neli_consts_routing.specs.RtAddrFamily.{rt_addr_family_number, rt_addr_family_of}
 use Rattle.neli_route.specs.declared.rtgenmsg.Rtgenmsg.{Rtgenmsg}
 use Rattle.neli_route.specs.declared.rtgenmsg.RtgenmsgBuilder.{RtgenmsgBuilder}
 use Rattle.neli_route.specs.declared.rtgenmsg.RtgenmsgHeader.{RtgenmsgHeader}

@@ -4,11 +4,11 @@ use Rattle.neli_wire.specs.Frames.{number_in}
 use Rattle.neli_wire.specs.Numbers.{FitsBytes, little_bytes}
 use Rattle.neli_attr.specs.Builders.{Outcome, require_field}
 use Rattle.neli_body.specs.Headers.{IsNamed}
-use Rattle.neli_consts_rt.specs.RtAddrFamily.{rt_addr_family_number, rt_addr_family_of}
-use Rattle.neli_consts_rt.specs.RtScope.{rt_scope_number, rt_scope_of}
-use Rattle.neli_consts_rt.specs.RtTable.{rt_table_number, rt_table_of}
-use Rattle.neli_consts_rt.specs.Rtn.{rtn_number, rtn_of}
-use Rattle.neli_consts_rt.specs.Rtprot.{rtprot_number, rtprot_of}
+use Rattle.neli_consts_routing.specs.RtAddrFamily.{rt_addr_family_number, rt_addr_family_of}
+use Rattle.neli_consts_routing.specs.RtScope.{rt_scope_number, rt_scope_of}
+use Rattle.neli_consts_routing.specs.RtTable.{rt_table_number, rt_table_of}
+use Rattle.neli_consts_routing.specs.Rtn.{rtn_number, rtn_of}
+use Rattle.neli_consts_routing.specs.Rtprot.{rtprot_number, rtprot_of}
 use Rattle.neli_route.specs.declared.rtmsg.Rtmsg.{Rtmsg}
 use Rattle.neli_route.specs.declared.rtmsg.RtmsgBuilder.{RtmsgBuilder}
 use Rattle.neli_route.specs.declared.rtmsg.RtmsgHeader.{RtmsgHeader}

@@ -6,16 +6,16 @@ ghost use Rattle.neli_attr.specs.Builders.{IsWhyNot};
 ghost use Rattle.neli_body.specs.Attributes.{Says, attrs_of, attrs_say, attrs_size, attrs_wire};
 ghost use Rattle.neli_body.specs.Bodies.{body_of, body_takes, body_wire};
 ghost use Rattle.neli_body.specs.laws.Attributes.{with_attributes-length, with_attributes-zeros, with_attributes-no_memory, with_attributes_of-never_short, with_attributes_of-no_memory};
-ghost use Rattle.neli_consts_rta.specs.Frattr.{frattr_number, frattr_of};
+ghost use Rattle.neli_consts_attrs.specs.Frattr.{frattr_number, frattr_of};
 ghost use Rattle.neli_route.specs.Fibmsg.{IsPlainFibmsg, fibmsg_built, fibmsg_bytes, fibmsg_header};
 ghost use Rattle.neli_route.specs.laws.Fibmsg.{fibmsg-reads_back, fibmsg-width, fibmsg-writes_back};
 
 use neli_attr::{Buffer, BuildError, RtBuffer, TryClone, of};
 use neli_body::numbers::{u8_in, u32_in};
 use neli_body::{FixedHeader, HeaderBytes, read_body, size_of_body, write_body};
-use neli_consts_rt::{FrAct, RtAddrFamily, RtTable};
-use neli_consts_rta::Frattr;
-use neli_consts_rtf::Frf;
+use neli_consts_attrs::Frattr;
+use neli_consts_flags::Frf;
+use neli_consts_routing::{FrAct, RtAddrFamily, RtTable};
 use neli_wire::{
     Constant, Cursor, DeError, FromBytesWithInput, Header, NoMemory, SerError, Size, ToBytes,
     UninitializedFieldError,
@@ -209,7 +209,7 @@ impl ToBytes for Fibmsg {
 
 impl FromBytesWithInput for Fibmsg {
     ghost use Rattle.neli_route.specs.declared.fibmsg.FibmsgHeader.{FibmsgHeader as Fields};
-    ghost use Rattle.neli_consts_rta.specs.declared.rules.Frattr.{Frattr as Kind};
+    ghost use Rattle.neli_consts_attrs.specs.declared.rules.Frattr.{Frattr as Kind};
 
     ghost Value = { Fields × Says Kind };
 

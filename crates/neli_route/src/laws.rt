@@ -6,10 +6,10 @@ ghost use Rattle.neli_wire.specs.Constants.{IsEquality};
 ghost use Rattle.neli_wire.specs.Numbers.{AreBytes};
 ghost use Rattle.neli_body.specs.Attributes.{attrs_of, attrs_wire};
 ghost use Rattle.neli_body.specs.RoundTrips.{ArePlainAttrs, ReadsBack, ReadsBackWhole};
-ghost use Rattle.neli_consts_rta.specs.Frattr.{frattr_number, frattr_of};
-ghost use Rattle.neli_consts_rta.specs.Ifa.{ifa_number, ifa_of};
-ghost use Rattle.neli_consts_rta.specs.Rta.{rta_number, rta_of};
-ghost use Rattle.neli_consts_rta.specs.Tca.{tca_number, tca_of};
+ghost use Rattle.neli_consts_attrs.specs.Frattr.{frattr_number, frattr_of};
+ghost use Rattle.neli_consts_attrs.specs.Ifa.{ifa_number, ifa_of};
+ghost use Rattle.neli_consts_attrs.specs.Rta.{rta_number, rta_of};
+ghost use Rattle.neli_consts_attrs.specs.Tca.{tca_number, tca_of};
 ghost use Rattle.neli_route.specs.declared.fibmsg.Fibmsg.{Fibmsg};
 ghost use Rattle.neli_route.specs.declared.rtgenmsg.Rtgenmsg.{Rtgenmsg};
 ghost use Rattle.neli_route.specs.declared.rtmsg.Rtmsg.{Rtmsg};
@@ -90,7 +90,7 @@ pub fn equality()
     ensures fibmsg { IsEquality ⟦<crate::Fibmsg as PartialEq>⟧.eq }
     ensures rtgenmsg { IsEquality ⟦<crate::Rtgenmsg as PartialEq>⟧.eq }
 {
-    neli_consts_rt::laws::equality();
-    neli_consts_rta::laws::equality();
-    neli_consts_rtf::laws::equality();
+    neli_consts_routing::laws::equality();
+    neli_consts_attrs::laws::equality();
+    neli_consts_flags::laws::equality();
 }

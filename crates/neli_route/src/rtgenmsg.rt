@@ -6,15 +6,15 @@ ghost use Rattle.neli_attr.specs.Builders.{IsWhyNot};
 ghost use Rattle.neli_body.specs.Attributes.{Says, attrs_of, attrs_say, attrs_size, attrs_wire};
 ghost use Rattle.neli_body.specs.Bodies.{body_of, body_takes, body_wire};
 ghost use Rattle.neli_body.specs.laws.Attributes.{with_attributes-length, with_attributes-zeros, with_attributes-no_memory, with_attributes_of-never_short, with_attributes_of-no_memory};
-ghost use Rattle.neli_consts_rta.specs.Ifa.{ifa_number, ifa_of};
+ghost use Rattle.neli_consts_attrs.specs.Ifa.{ifa_number, ifa_of};
 ghost use Rattle.neli_route.specs.Rtgenmsg.{IsPlainRtgenmsg, rtgenmsg_built, rtgenmsg_bytes, rtgenmsg_header};
 ghost use Rattle.neli_route.specs.laws.Rtgenmsg.{rtgenmsg-reads_back, rtgenmsg-width, rtgenmsg-writes_back};
 
 use neli_attr::{Buffer, BuildError, RtBuffer, TryClone, of};
 use neli_body::numbers::{u8_in, u16_in};
 use neli_body::{FixedHeader, HeaderBytes, read_body, size_of_body, write_body};
-use neli_consts_rt::RtAddrFamily;
-use neli_consts_rta::Ifa;
+use neli_consts_attrs::Ifa;
+use neli_consts_routing::RtAddrFamily;
 use neli_wire::{
     Constant, Cursor, DeError, FromBytesWithInput, Header, NoMemory, SerError, Size, ToBytes,
     UninitializedFieldError,
@@ -149,7 +149,7 @@ impl ToBytes for Rtgenmsg {
 
 impl FromBytesWithInput for Rtgenmsg {
     ghost use Rattle.neli_route.specs.declared.rtgenmsg.RtgenmsgHeader.{RtgenmsgHeader as Fields};
-    ghost use Rattle.neli_consts_rta.specs.declared.addresses.Ifa.{Ifa as Kind};
+    ghost use Rattle.neli_consts_attrs.specs.declared.addresses.Ifa.{Ifa as Kind};
 
     ghost Value = { Fields × Says Kind };
 

@@ -6,16 +6,16 @@ ghost use Rattle.neli_attr.specs.Builders.{IsWhyNot};
 ghost use Rattle.neli_body.specs.Attributes.{Says, attrs_of, attrs_say, attrs_size, attrs_wire};
 ghost use Rattle.neli_body.specs.Bodies.{body_of, body_takes, body_wire};
 ghost use Rattle.neli_body.specs.laws.Attributes.{with_attributes-length, with_attributes-zeros, with_attributes-no_memory, with_attributes_of-never_short, with_attributes_of-no_memory};
-ghost use Rattle.neli_consts_rta.specs.Rta.{rta_number, rta_of};
+ghost use Rattle.neli_consts_attrs.specs.Rta.{rta_number, rta_of};
 ghost use Rattle.neli_route.specs.Rtmsg.{IsPlainRtmsg, rtmsg_built, rtmsg_bytes, rtmsg_header};
 ghost use Rattle.neli_route.specs.laws.Rtmsg.{rtmsg-reads_back, rtmsg-width, rtmsg-writes_back};
 
 use neli_attr::{Buffer, BuildError, RtBuffer, TryClone, of};
 use neli_body::numbers::{u8_in, u32_in};
 use neli_body::{FixedHeader, HeaderBytes, read_body, size_of_body, write_body};
-use neli_consts_rt::{RtAddrFamily, RtScope, RtTable, Rtn, Rtprot};
-use neli_consts_rta::Rta;
-use neli_consts_rtf::RtmF;
+use neli_consts_attrs::Rta;
+use neli_consts_flags::RtmF;
+use neli_consts_routing::{RtAddrFamily, RtScope, RtTable, Rtn, Rtprot};
 use neli_wire::{
     Constant, Cursor, DeError, FromBytesWithInput, Header, NoMemory, SerError, Size, ToBytes,
     UninitializedFieldError,
@@ -223,7 +223,7 @@ impl ToBytes for Rtmsg {
 
 impl FromBytesWithInput for Rtmsg {
     ghost use Rattle.neli_route.specs.declared.rtmsg.RtmsgHeader.{RtmsgHeader as Fields};
-    ghost use Rattle.neli_consts_rta.specs.declared.routes.Rta.{Rta as Kind};
+    ghost use Rattle.neli_consts_attrs.specs.declared.routes.Rta.{Rta as Kind};
 
     ghost Value = { Fields × Says Kind };
 

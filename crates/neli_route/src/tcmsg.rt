@@ -6,14 +6,14 @@ ghost use Rattle.neli_attr.specs.Builders.{IsWhyNot};
 ghost use Rattle.neli_body.specs.Attributes.{Says, attrs_of, attrs_say, attrs_size, attrs_wire};
 ghost use Rattle.neli_body.specs.Bodies.{body_of, body_takes, body_wire};
 ghost use Rattle.neli_body.specs.laws.Attributes.{with_attributes-length, with_attributes-zeros, with_attributes-no_memory, with_attributes_of-never_short, with_attributes_of-no_memory};
-ghost use Rattle.neli_consts_rta.specs.Tca.{tca_number, tca_of};
+ghost use Rattle.neli_consts_attrs.specs.Tca.{tca_number, tca_of};
 ghost use Rattle.neli_route.specs.Tcmsg.{IsPlainTcmsg, tcmsg_built, tcmsg_bytes, tcmsg_header};
 ghost use Rattle.neli_route.specs.laws.Tcmsg.{tcmsg-reads_back, tcmsg-width, tcmsg-writes_back};
 
 use neli_attr::{Buffer, BuildError, RtBuffer, TryClone, of};
 use neli_body::numbers::{i32_in, u8_in, u16_in, u32_in};
 use neli_body::{FixedHeader, HeaderBytes, read_body, size_of_body, write_body};
-use neli_consts_rta::Tca;
+use neli_consts_attrs::Tca;
 use neli_wire::{
     Cursor, DeError, FromBytesWithInput, Header, NoMemory, SerError, Size, ToBytes,
     UninitializedFieldError,
@@ -188,7 +188,7 @@ impl ToBytes for Tcmsg {
 
 impl FromBytesWithInput for Tcmsg {
     ghost use Rattle.neli_route.specs.declared.tcmsg.TcmsgHeader.{TcmsgHeader as Fields};
-    ghost use Rattle.neli_consts_rta.specs.declared.queues.Tca.{Tca as Kind};
+    ghost use Rattle.neli_consts_attrs.specs.declared.queues.Tca.{Tca as Kind};
 
     ghost Value = { Fields × Says Kind };
 

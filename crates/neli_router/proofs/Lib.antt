@@ -1,11 +1,2 @@
-mod Alike
-mod Lists
-mod Places
-mod Readings
-mod Later
-mod OtherReads
-mod Regrouping
-mod Requests
-mod Steps
-mod Walks
-mod Runs
+mod Families
+mod Sends

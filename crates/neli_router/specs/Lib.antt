@@ -1,11 +1,3 @@
-pub use Rattle.neli_router_base.specs.declared.handle.HandleState
-pub use Rattle.neli_router_base.specs.declared.reply.Reply
-pub use Rattle.neli_router_base.specs.Requests
-pub use Rattle.neli_router_base.specs.Rule
-pub use Rattle.neli_router_base.specs.Sends
-pub mod Deliveries
-pub mod History
-pub mod OtherReads
-pub mod Outcomes
-pub mod Regrouping
-pub mod laws
+pub mod Requests
+pub mod Rule
+pub mod Sends

@@ -1,20 +1,22 @@
-//! Whole runs of the router: any list of sends, datagrams, faults, reads and closes.
+//! The router, call by call: requests go out with a sequence number each, and each reply comes to
+//! the handle that asked for it.
 //!
-//! - [`run`] does what a list of [`Command`]s says, and answers one [`Outcome`] for each.
-//! - [`NlRouter`] is the router itself, call by call.
+//! - [`NlRouter`]: sends, takes datagrams and faults of the link in, gives a handle its next item.
+//! - [`NlRouterReceiverHandle`]: who asked; by its sequence number, or none for multicast.
+//! - [`Reply`]: what a read answers: an item, the end, or a wait.
 //!
-//! What a run answers is said on three pages: `specs/History.antt` (which numbers are open),
-//! `specs/Deliveries.antt` (who gets what) and `specs/Outcomes.antt` (what is sent, and what each
-//! read answers). `specs/Regrouping.antt` and `specs/OtherReads.antt` have the words of the laws.
+//! `specs/Rule.antt` says where a handle's answers end and what each of them is; `specs/Sends.antt`
+//! what a request is as bytes, and for which three causes it is refused; `specs/Requests.antt` what
+//! the two requests to the controller of generic netlink are.
 #![tactic(auto)]
 
-mod command;
-pub mod laws;
-mod session;
-mod whole_run;
+mod handle;
+mod reply;
+mod requests;
+mod router;
+mod rule;
 
-pub use command::{Command, Outcome};
-pub use neli_router_base::{
-    Deliveries, Delivery, HandleState, NlRouter, NlRouterReceiverHandle, Reply,
-};
-pub use whole_run::run;
+pub use handle::{HandleState, NlRouterReceiverHandle};
+pub use neli_deliveries::{Deliveries, Delivery};
+pub use reply::Reply;
+pub use router::NlRouter;

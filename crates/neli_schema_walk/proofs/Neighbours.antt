@@ -3,7 +3,7 @@ use Rattle.std.proofs.Common.{◌≡◌, ◌<◌, ◌≤◌, ℕ, zero, suc, ◌
 use Rattle.std.specs.Prelude.{option_map}
 use Rattle.std.proofs.lemmas.Bool.{lt-ltb, le-ltb}
 use Rattle.neli_wire.specs.Sizes.{align}
-use Rattle.neli_msg.specs.Cuts.{Cut, message_before}
+use Rattle.neli_reader.specs.Cuts.{Cut, message_before}
 use Rattle.neli_schema_walk.specs.Found.{containing}
 use Rattle.neli_schema_walk.specs.Shapes.{Lent, attributes_of, has_number}
 

@@ -8,8 +8,8 @@ use Rattle.neli_wire.specs.DeError.{DeError}
 use Rattle.neli_wire.specs.Frames.{frame_at}
 use Rattle.neli_attr.specs.laws.Attributes.{attribute-placed}
 use Rattle.neli_attr.specs.TypeField.{type_of}
-use Rattle.neli_msg.specs.Cuts.{Cut, message_before}
-use Rattle.neli_msg.specs.laws.Cuts.{cut_of-end, cut_of-message, cut_of-fault, frame_at-longer}
+use Rattle.neli_reader.specs.Cuts.{Cut, message_before}
+use Rattle.neli_reader.specs.laws.Cuts.{cut_of-end, cut_of-message, cut_of-fault, frame_at-longer}
 use Rattle.neli_schema.specs.Tables.{row_in}
 use Rattle.neli_schema.specs.declared.row.Row.{Row}
 use Rattle.neli_schema.specs.declared.row.Table.{Table}

@@ -6,7 +6,7 @@ use Rattle.neli_attr.specs.TypeField.{type_of}
 use Rattle.neli_attr.specs.AttrType.{AttrType}
 use Rattle.neli_attr.specs.Attributes.{Attr, Head}
 use Rattle.neli_wire.specs.Frames.{Layout}
-use Rattle.neli_msg.specs.Cuts.{Cut, cut_of}
+use Rattle.neli_reader.specs.Cuts.{Cut, cut_of}
 use Rattle.neli_lent.specs.Attributes.{lent_attribute}
 use Rattle.neli_schema.specs.Kinds.{number_size}
 use Rattle.neli_schema.specs.Tables.{or_else, table_in}

@@ -3,7 +3,7 @@ use Rattle.std.specs.Prelude.{ℕ, zero, suc, ◌-◌, List, [], ◌∷◌, ◌+
 use Rattle.std.specs.List.{flat_map}
 use Rattle.neli_wire.specs.DeError.{DeError}
 use Rattle.neli_wire.specs.Sizes.{align}
-use Rattle.neli_msg.specs.Cuts.{Cut}
+use Rattle.neli_reader.specs.Cuts.{Cut}
 use Rattle.neli_schema.specs.Tables.{row_in}
 use Rattle.neli_schema.specs.declared.row.Row.{Row}
 use Rattle.neli_schema.specs.declared.row.Table.{Table}

@@ -6,9 +6,9 @@ use Rattle.std.specs.declared.string.String.{String}
 use Rattle.std.specs.declared.alloc.Global.{Global}
 use Rattle.std.specs.declared.io.Error.{Error}
 use Rattle.std.specs.declared.io.ErrorKind.TheVariants.{OutOfMemory}
-use Rattle.neli_tool_base.specs.declared.status.Status.{Status}
-use Rattle.neli_tool_base.specs.declared.status.Status.TheVariants as status
-use Rattle.neli_tool_base.specs.Runs.{PrintsMemory}
+use Rattle.neli_listing.specs.declared.status.Status.{Status}
+use Rattle.neli_listing.specs.declared.status.Status.TheVariants as status
+use Rattle.neli_listing.specs.Runs.{PrintsMemory}
 use Rattle.neli_tool_run.specs.Requests.{AreWrong, AskForList, AskForReplay, AskForZero, RanOutOfMemory, Words}
 
 pub not_both : (words : Words) → AskForList words → RanOutOfMemory words → ⊥

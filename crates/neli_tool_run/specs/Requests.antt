@@ -7,8 +7,8 @@ use Rattle.std.specs.declared.string.String.{String}
 use Rattle.std.specs.declared.alloc.Global.{Global}
 use Rattle.std.specs.declared.io.Error.{Error}
 use Rattle.std.specs.declared.io.ErrorKind.TheVariants.{OutOfMemory}
-use Rattle.neli_tool_base.specs.declared.status.Status.{Status}
-use Rattle.neli_tool_base.specs.declared.status.Status.TheVariants as status
+use Rattle.neli_listing.specs.declared.status.Status.{Status}
+use Rattle.neli_listing.specs.declared.status.Status.TheVariants as status
 use Rattle.neli_tool_run.specs.declared.run.Request.{Request}
 use Rattle.neli_tool_run.specs.declared.run.Request.TheVariants as request
 

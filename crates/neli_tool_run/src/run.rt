@@ -1,18 +1,18 @@
 //! A run of the program.
 
 ghost use Rattle.std.specs.Prelude.{◌≡◌, ◌↔◌, [], ◌∷◌, map, codes, string_bytes, IsTrue};
-ghost use Rattle.neli_tool_base.specs.declared.status.Status.TheVariants as status;
-ghost use Rattle.neli_tool_base.specs.Runs.{Prints, PrintsMemory};
-ghost use Rattle.neli_tool_base.specs.Listing.{Lists};
-ghost use Rattle.neli_tool_base.specs.Rewriting.{Rewrites};
+ghost use Rattle.neli_listing.specs.declared.status.Status.TheVariants as status;
+ghost use Rattle.neli_listing.specs.Runs.{Prints, PrintsMemory};
+ghost use Rattle.neli_listing.specs.Listing.{Lists};
+ghost use Rattle.neli_listing.specs.Rewriting.{Rewrites};
 ghost use Rattle.neli_replay.specs.Runs.{PrintsReplay};
 ghost use Rattle.neli_tool_run.specs.Requests.{AreWrong, AskForList, AskForReplay, AskForZero, Asks, Complains, RanOutOfMemory};
 
+use neli_listing::listing::{list, out_of_memory};
+use neli_listing::rewriting::list_zero;
+use neli_listing::status::Status;
 use neli_replay::replay::replay;
-use neli_router::Deliveries;
-use neli_tool_base::listing::{list, out_of_memory};
-use neli_tool_base::rewriting::list_zero;
-use neli_tool_base::status::Status;
+use neli_runs::Deliveries;
 use std::alloc::Global;
 use std::io;
 use std::io::{ErrorKind, Read, Write};

@@ -3,8 +3,8 @@
 use crate::readers::{Drip, Trickle};
 use crate::support::{assert_is, assert_is_at};
 use crate::writers::{Kept, Narrow};
+use neli_listing::status::Status;
 use neli_queues::Queues;
-use neli_tool_base::status::Status;
 use neli_tool_run::run::{Request, requested, run};
 use std::alloc::Global;
 use std::io;

@@ -2,9 +2,9 @@
 
 use crate::answers::ACKNOWLEDGED;
 use crate::support::assert_is_at;
+use neli_listing::status::Status;
 use neli_queues::Queues;
 use neli_replay::replay::replay;
-use neli_tool_base::status::Status;
 use std::alloc::Global;
 use std::process::Abort;
 

@@ -2,7 +2,7 @@
 
 use crate::rules::Fault;
 use crate::support::{assert_is_at, decoded};
-use neli_msg::{NlBufferIter, Nlmsghdr, SocketError};
+use neli_reader::{NlBufferIter, Nlmsghdr, SocketError};
 use neli_wire::DeError;
 use std::alloc::Global;
 use std::io::ErrorKind;

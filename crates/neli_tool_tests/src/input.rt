@@ -2,9 +2,9 @@
 
 use crate::readers::{Drip, Trickle};
 use crate::support::{assert_is, assert_is_at};
-use neli_tool_base::input::{InputError, read_whole};
-use neli_tool_base::listing::list;
-use neli_tool_base::status::Status;
+use neli_listing::input::{InputError, read_whole};
+use neli_listing::listing::list;
+use neli_listing::status::Status;
 use std::alloc::{AllocError, Global};
 use std::io;
 use std::io::{ErrorKind, Read};

@@ -1,8 +1,8 @@
 //! A datagram above 64 KB, and a script of more than a thousand commands.
 
 use crate::support::assert_is_at;
+use neli_listing::status::Status;
 use neli_log::Log;
-use neli_tool_base::status::Status;
 use neli_tool_run::run::run;
 use std::alloc::Global;
 use std::process::Abort;

@@ -1,4 +1,4 @@
-//! Tests of the program's crates, a file a subject: of `neli_tool_base` and `neli_tool_run`, which list datagrams and
+//! Tests of the program's crates, a file a subject: of `neli_listing` and `neli_tool_run`, which list datagrams and
 //! write them again, and of `neli_replay`, which answers scripts. They call `run`, `replay` and what these are made of,
 //! over [`readers`] and [`writers`] of their own, and scripts over both stores of deliveries.
 //!

@@ -2,10 +2,10 @@
 
 use crate::support::{assert_is, assert_is_at, assert_prints, decoded};
 use neli_lent::LentMessages;
-use neli_msg::NlBufferIter;
-use neli_tool_base::line::{Ending, Line, RawMessage};
-use neli_tool_base::listing::{list, read_line, write_ending, write_lines};
-use neli_tool_base::status::Status;
+use neli_listing::line::{Ending, Line, RawMessage};
+use neli_listing::listing::{list, read_line, write_ending, write_lines};
+use neli_listing::status::Status;
+use neli_reader::NlBufferIter;
 use neli_wire::Cursor;
 use std::alloc::Global;
 use std::process::Abort;

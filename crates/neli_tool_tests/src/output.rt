@@ -2,8 +2,8 @@
 
 use crate::support::{assert_is_at, decoded};
 use crate::writers::Narrow;
-use neli_tool_base::listing::{list, out_of_memory};
-use neli_tool_base::status::Status;
+use neli_listing::listing::{list, out_of_memory};
+use neli_listing::status::Status;
 
 #[test]
 fn a_listing_that_is_not_written_is_no_output(rt: HostRuntime) {

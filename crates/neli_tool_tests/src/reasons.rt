@@ -4,7 +4,7 @@ use crate::datagrams::NO_TABLE;
 use crate::support::{assert_is_at, decoded};
 use neli_attr::{Buffer, GenlBuffer};
 use neli_consts::NlmsgerrAttr;
-use neli_msg::{NlPayload, Nlmsghdr, cut};
+use neli_reader::{NlPayload, Nlmsghdr, cut};
 use std::alloc::Global;
 use std::process::Abort;
 

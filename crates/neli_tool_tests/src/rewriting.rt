@@ -1,10 +1,10 @@
 //! Datagrams that are written again, with zeros for their padding.
 
 use crate::support::{assert_is_at, decoded};
-use neli_tool_base::line::Ending;
-use neli_tool_base::listing::list;
-use neli_tool_base::rewriting::{list_zero, rewriting_of};
-use neli_tool_base::status::Status;
+use neli_listing::line::Ending;
+use neli_listing::listing::list;
+use neli_listing::rewriting::{list_zero, rewriting_of};
+use neli_listing::status::Status;
 use std::alloc::Global;
 use std::process::Abort;
 

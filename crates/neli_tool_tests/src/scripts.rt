@@ -1,11 +1,11 @@
 //! What the tests of scripts share: a script, answered over both stores of deliveries.
 
 use crate::support::assert_is_at;
+use neli_listing::status::Status;
 use neli_log::Log;
 use neli_queues::Queues;
 use neli_replay::replay::replay;
-use neli_router::Deliveries;
-use neli_tool_base::status::Status;
+use neli_runs::Deliveries;
 use std::alloc::Global;
 use std::process::Abort;
 

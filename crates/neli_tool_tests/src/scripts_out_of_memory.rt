@@ -6,11 +6,11 @@ use crate::conversations::{ENDS, RECEIVERS};
 use crate::scripts::Row;
 use crate::support::assert_is_at;
 use crate::writers::Kept;
+use neli_listing::status::Status;
 use neli_log::Log;
 use neli_queues::Queues;
 use neli_replay::replay::replay;
-use neli_router::Deliveries;
-use neli_tool_base::status::Status;
+use neli_runs::Deliveries;
 use std::alloc::Global;
 use std::process::Abort;
 

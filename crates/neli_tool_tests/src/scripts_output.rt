@@ -3,9 +3,9 @@
 use crate::readers::Drip;
 use crate::support::assert_is_at;
 use crate::writers::Narrow;
+use neli_listing::status::Status;
 use neli_queues::Queues;
 use neli_replay::replay::replay;
-use neli_tool_base::status::Status;
 
 const REPORT: usize = "ok\nwaits\n".len();
 

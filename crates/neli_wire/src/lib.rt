@@ -6,7 +6,7 @@
 //! - [`Constant`]: values that are one number each, such as enums and flag sets. It brings the traits above.
 //! - [`Cursor`]: the place that reads go through.
 //! - [`SerError`], [`DeError`], [`NoMemory`]: why something is not written or read. These and the cursor
-//!   are re-exports of `neli_wire_base`.
+//!   are re-exports of `neli_cursor`.
 //! - [`implementing`]: what an implementer of these traits calls. [`laws`]: what holds of the definitions.
 //!
 //! What is implemented here: the integer types, lowest byte first, [`BeU16`], [`BeU32`] and [`BeU64`], `bool`,
@@ -32,7 +32,7 @@ mod writing;
 
 pub use big_endian::{BeU16, BeU32, BeU64};
 pub use constants::{Constant, WireNumber};
-pub use neli_wire_base::{
+pub use neli_cursor::{
     Cursor, DeError, MsgError, NoMemory, SerError, UninitializedFieldError, Utf8,
 };
 pub use reading::{FromBytes, FromBytesWithInput, FromBytesWithInputBorrowed, Header, TypeSize};

@@ -93,7 +93,7 @@ pub struct Item {
     pub error: i32,
 }
 
-/// `struct neli_router`.
+/// `struct neli_runs`.
 #[repr(C)]
 #[derive(Debug)]
 struct RawRouter {

@@ -1,3 +1,3 @@
 //! The connector.
 
-pub use neli_consts_sys::{CnMsgIdx, CnMsgVal, ProcCnMcastOp, ProcEventType};
+pub use neli_consts_system::{CnMsgIdx, CnMsgVal, ProcCnMcastOp, ProcEventType};

@@ -1,4 +1,4 @@
 //! Netfilter's logging.
 
 pub use neli_consts::{LogCfgCmd, LogCfgCmdWrapper};
-pub use neli_consts_sys::{LogCmd, LogCopyMode, NetfilterMsg, NfLogAttr, NfLogCfg};
+pub use neli_consts_system::{LogCmd, LogCopyMode, NetfilterMsg, NfLogAttr, NfLogCfg};

@@ -1,3 +1,3 @@
 //! Sockets: address families, netlink families, flags of a message that is sent or received.
 
-pub use neli_consts_sys::{AddrFamily, Msg, NlFamily};
+pub use neli_consts_system::{AddrFamily, Msg, NlFamily};

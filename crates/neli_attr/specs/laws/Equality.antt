@@ -6,8 +6,8 @@ use Rattle.std.specs.Cmp.Derive.{both_true}
 use mathlib.Core.Bool.{beq, true≢false}
 use mathlib.Core.Path.{sym, ap, ◌∙◌}
 use Rattle.neli_wire.specs.Constants.{IsEquality}
-use Rattle.neli_attr_base.specs.declared.attr_type.AttrType.{AttrType}
-use Rattle.neli_attr_base.specs.TypeField.{attr_type_eq}
+use Rattle.neli_attr_parts.specs.declared.attr_type.AttrType.{AttrType}
+use Rattle.neli_attr_parts.specs.TypeField.{attr_type_eq}
 use Rattle.neli_attr.specs.declared.nlattr.Nlattr.{Nlattr}
 use Rattle.neli_attr.specs.declared.rtattr.Rtattr.{Rtattr}
 use Rattle.neli_attr.specs.Nlattr.{nlattr_eq}

@@ -1,10 +1,10 @@
 -- Laws of the fields of connector messages.
 use Rattle.std.proofs.Common.{◌≡◌, ℕ, List, [], length, refl}
 use Rattle.neli_body.specs.laws.Headers.{last_place, number-back, place, value-back}
-use Rattle.neli_consts_sys.specs.CnMsgIdx.{cn_msg_idx_number, cn_msg_idx_of, cn_msg_idx_variants}
-use Rattle.neli_consts_sys.specs.declared.connector.CnMsgIdx.TheVariants as cn_msg_idx
-use Rattle.neli_consts_sys.specs.CnMsgVal.{cn_msg_val_number, cn_msg_val_of, cn_msg_val_variants}
-use Rattle.neli_consts_sys.specs.declared.connector.CnMsgVal.TheVariants as cn_msg_val
+use Rattle.neli_consts_system.specs.CnMsgIdx.{cn_msg_idx_number, cn_msg_idx_of, cn_msg_idx_variants}
+use Rattle.neli_consts_system.specs.declared.connector.CnMsgIdx.TheVariants as cn_msg_idx
+use Rattle.neli_consts_system.specs.CnMsgVal.{cn_msg_val_number, cn_msg_val_of, cn_msg_val_variants}
+use Rattle.neli_consts_system.specs.declared.connector.CnMsgVal.TheVariants as cn_msg_val
 use Rattle.neli_wire.specs.Numbers.{AreBytes}
 use Rattle.neli_wire.specs.laws.Constants.{first_with-number}
 use Rattle.neli_genl.specs.declared.cn_msg.CnMsgHeader.{CnMsgHeader}

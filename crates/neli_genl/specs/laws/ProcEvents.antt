@@ -1,8 +1,8 @@
 -- Laws of process events.
 use Rattle.std.proofs.Common.{◌≡◌, ◌≢◌, ℕ, ltb, List, length, Ok, Err, refl, arith}
-use Rattle.neli_consts_sys.specs.ProcEventType.{proc_event_type_of}
-use Rattle.neli_consts_sys.specs.declared.connector.ProcEventType.{ProcEventType}
-use Rattle.neli_consts_sys.specs.declared.connector.ProcEventType.TheVariants as kind
+use Rattle.neli_consts_system.specs.ProcEventType.{proc_event_type_of}
+use Rattle.neli_consts_system.specs.declared.connector.ProcEventType.{ProcEventType}
+use Rattle.neli_consts_system.specs.declared.connector.ProcEventType.TheVariants as kind
 use Rattle.neli_genl.specs.ProcEventHeader.{proc_event_bytes, proc_event_of, proc_event_size}
 use Rattle.neli_genl.specs.ProcEvents.{event_bytes, event_of, event_size, unknown_text}
 use Rattle.neli_genl.specs.declared.proc_event.ProcEvent.{ProcEvent}

@@ -1,7 +1,7 @@
 use Rattle.std.proofs.Common.{refl}
 use Rattle.neli_kernel.specs.Answers.{capped_error, error}
 use Rattle.neli_kernel.specs.Delivered.{answer_kept}
-use Rattle.neli_router.specs.Rule.{needs_ack}
+use Rattle.neli_runs.specs.Rule.{needs_ack}
 use Rattle.neli_kernel_laws.proofs.Complete.{capped-complete, error-complete}
 use Rattle.neli_kernel_laws.proofs.Exchanges.{datagram-in-turn, one-for}
 use Rattle.neli_kernel_laws.proofs.refused_request_is_answered.Goals as goal

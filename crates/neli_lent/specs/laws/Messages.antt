@@ -8,9 +8,9 @@ use Rattle.neli_wire.specs.Frames.{frame_at}
 use Rattle.neli_wire.specs.Reading.{◌>>=◌}
 use Rattle.neli_wire.specs.Sizes.{align}
 use Rattle.neli_wire.specs.laws.Reading.{ok_is}
-use Rattle.neli_msg.specs.Headers.{header_in}
-use Rattle.neli_msg.specs.Kinds.{payload_in}
-use Rattle.neli_msg.specs.Messages.{message_layout}
+use Rattle.neli_reader.specs.Headers.{header_in}
+use Rattle.neli_reader.specs.Kinds.{payload_in}
+use Rattle.neli_reader.specs.Messages.{message_layout}
 use Rattle.neli_lent.specs.Messages.{Lent, lent_message, owned_reading}
 
 abbrev done : {A : Type 0} → A → Result A DeError

@@ -9,14 +9,14 @@ use Rattle.neli_wire.specs.Writing.{Wire, ◌+++◌, pad_wire, zeros_for}
 use Rattle.neli_wire.specs.laws.Frames.{frame_at-frame}
 use Rattle.neli_wire.specs.laws.Lists.{both_written}
 use Rattle.neli_wire.specs.laws.Numbers.{count-unsigned}
-use Rattle.neli_msg.specs.Cuts.{Cut}
-use Rattle.neli_msg.specs.Headers.{Header, header_wire}
-use Rattle.neli_msg.specs.Nlmsghdr.{Nlmsghdr}
-use Rattle.neli_msg.specs.Wires.{message_wire, payload_size, payload_wire}
-use Rattle.neli_msg.specs.laws.Cuts.{cut_of-end, cut_of-message}
-use Rattle.neli_msg.specs.laws.Headers.{header_wire-length}
-use Rattle.neli_msg.specs.laws.Messages.{layout_with-placed}
-use Rattle.neli_msg.specs.laws.Wires.{payload_wire-length}
+use Rattle.neli_reader.specs.Cuts.{Cut}
+use Rattle.neli_reader.specs.Headers.{Header, header_wire}
+use Rattle.neli_reader.specs.Nlmsghdr.{Nlmsghdr}
+use Rattle.neli_reader.specs.Wires.{message_wire, payload_size, payload_wire}
+use Rattle.neli_reader.specs.laws.Cuts.{cut_of-end, cut_of-message}
+use Rattle.neli_reader.specs.laws.Headers.{header_wire-length}
+use Rattle.neli_reader.specs.laws.Messages.{layout_with-placed}
+use Rattle.neli_reader.specs.laws.Wires.{payload_wire-length}
 use Rattle.neli_lent.specs.Messages.{Lent, lent_message, messages_in}
 use Rattle.neli_lent.specs.Written.{HeaderFits, IsWalked, header_numbered}
 

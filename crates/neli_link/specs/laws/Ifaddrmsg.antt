@@ -1,10 +1,10 @@
 -- Laws of the fields of addresses.
 use Rattle.std.proofs.Common.{◌≡◌, ℕ, List, [], length, refl}
 use Rattle.neli_body.specs.laws.Headers.{last_place, number-back, place, value-back}
-use Rattle.neli_consts_rt.specs.RtAddrFamily.{rt_addr_family_number, rt_addr_family_of, rt_addr_family_variants}
-use Rattle.neli_consts_rt.specs.declared.addresses.RtAddrFamily.TheVariants as rt_addr_family
-use Rattle.neli_consts_rt.specs.RtScope.{rt_scope_number, rt_scope_of, rt_scope_variants}
-use Rattle.neli_consts_rt.specs.declared.routes.RtScope.TheVariants as rt_scope
+use Rattle.neli_consts_routing.specs.RtAddrFamily.{rt_addr_family_number, rt_addr_family_of, rt_addr_family_variants}
+use Rattle.neli_consts_routing.specs.declared.addresses.RtAddrFamily.TheVariants as rt_addr_family
+use Rattle.neli_consts_routing.specs.RtScope.{rt_scope_number, rt_scope_of, rt_scope_variants}
+use Rattle.neli_consts_routing.specs.declared.routes.RtScope.TheVariants as rt_scope
 use Rattle.neli_wire.specs.Numbers.{AreBytes}
 use Rattle.neli_wire.specs.laws.Constants.{first_with-number}
 use Rattle.neli_link.specs.declared.ifaddrmsg.IfaddrmsgHeader.{IfaddrmsgHeader}

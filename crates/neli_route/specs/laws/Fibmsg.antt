@@ -1,12 +1,12 @@
 -- Laws of the fields of rules.
 use Rattle.std.proofs.Common.{◌≡◌, ℕ, List, [], length, refl}
 use Rattle.neli_body.specs.laws.Headers.{last_place, number-back, place, value-back}
-use Rattle.neli_consts_rt.specs.FrAct.{fr_act_number, fr_act_of, fr_act_variants}
-use Rattle.neli_consts_rt.specs.declared.rules.FrAct.TheVariants as fr_act
-use Rattle.neli_consts_rt.specs.RtAddrFamily.{rt_addr_family_number, rt_addr_family_of, rt_addr_family_variants}
-use Rattle.neli_consts_rt.specs.declared.addresses.RtAddrFamily.TheVariants as rt_addr_family
-use Rattle.neli_consts_rt.specs.RtTable.{rt_table_number, rt_table_of, rt_table_variants}
-use Rattle.neli_consts_rt.specs.declared.routes.RtTable.TheVariants as rt_table
+use Rattle.neli_consts_routing.specs.FrAct.{fr_act_number, fr_act_of, fr_act_variants}
+use Rattle.neli_consts_routing.specs.declared.rules.FrAct.TheVariants as fr_act
+use Rattle.neli_consts_routing.specs.RtAddrFamily.{rt_addr_family_number, rt_addr_family_of, rt_addr_family_variants}
+use Rattle.neli_consts_routing.specs.declared.addresses.RtAddrFamily.TheVariants as rt_addr_family
+use Rattle.neli_consts_routing.specs.RtTable.{rt_table_number, rt_table_of, rt_table_variants}
+use Rattle.neli_consts_routing.specs.declared.routes.RtTable.TheVariants as rt_table
 use Rattle.neli_wire.specs.Numbers.{AreBytes}
 use Rattle.neli_wire.specs.laws.Constants.{first_with-number}
 use Rattle.neli_route.specs.declared.fibmsg.FibmsgHeader.{FibmsgHeader}

@@ -1,8 +1,8 @@
 -- Laws of the fields of requests by family.
 use Rattle.std.proofs.Common.{◌≡◌, ℕ, List, [], length, refl}
 use Rattle.neli_body.specs.laws.Headers.{last_place, number-back, place, value-back}
-use Rattle.neli_consts_rt.specs.RtAddrFamily.{rt_addr_family_number, rt_addr_family_of, rt_addr_family_variants}
-use Rattle.neli_consts_rt.specs.declared.addresses.RtAddrFamily.TheVariants as rt_addr_family
+use Rattle.neli_consts_routing.specs.RtAddrFamily.{rt_addr_family_number, rt_addr_family_of, rt_addr_family_variants}
+use Rattle.neli_consts_routing.specs.declared.addresses.RtAddrFamily.TheVariants as rt_addr_family
 use Rattle.neli_wire.specs.Numbers.{AreBytes}
 use Rattle.neli_wire.specs.laws.Constants.{first_with-number}
 use Rattle.neli_route.specs.declared.rtgenmsg.RtgenmsgHeader.{RtgenmsgHeader}

@@ -1,16 +1,16 @@
 -- Laws of the fields of routes.
 use Rattle.std.proofs.Common.{◌≡◌, ℕ, List, [], length, refl}
 use Rattle.neli_body.specs.laws.Headers.{last_place, number-back, place, value-back}
-use Rattle.neli_consts_rt.specs.RtAddrFamily.{rt_addr_family_number, rt_addr_family_of, rt_addr_family_variants}
-use Rattle.neli_consts_rt.specs.declared.addresses.RtAddrFamily.TheVariants as rt_addr_family
-use Rattle.neli_consts_rt.specs.RtScope.{rt_scope_number, rt_scope_of, rt_scope_variants}
-use Rattle.neli_consts_rt.specs.declared.routes.RtScope.TheVariants as rt_scope
-use Rattle.neli_consts_rt.specs.RtTable.{rt_table_number, rt_table_of, rt_table_variants}
-use Rattle.neli_consts_rt.specs.declared.routes.RtTable.TheVariants as rt_table
-use Rattle.neli_consts_rt.specs.Rtn.{rtn_number, rtn_of, rtn_variants}
-use Rattle.neli_consts_rt.specs.declared.routes.Rtn.TheVariants as rtn
-use Rattle.neli_consts_rt.specs.Rtprot.{rtprot_number, rtprot_of, rtprot_variants}
-use Rattle.neli_consts_rt.specs.declared.routes.Rtprot.TheVariants as rtprot
+use Rattle.neli_consts_routing.specs.RtAddrFamily.{rt_addr_family_number, rt_addr_family_of, rt_addr_family_variants}
+use Rattle.neli_consts_routing.specs.declared.addresses.RtAddrFamily.TheVariants as rt_addr_family
+use Rattle.neli_consts_routing.specs.RtScope.{rt_scope_number, rt_scope_of, rt_scope_variants}
+use Rattle.neli_consts_routing.specs.declared.routes.RtScope.TheVariants as rt_scope
+use Rattle.neli_consts_routing.specs.RtTable.{rt_table_number, rt_table_of, rt_table_variants}
+use Rattle.neli_consts_routing.specs.declared.routes.RtTable.TheVariants as rt_table
+use Rattle.neli_consts_routing.specs.Rtn.{rtn_number, rtn_of, rtn_variants}
+use Rattle.neli_consts_routing.specs.declared.routes.Rtn.TheVariants as rtn
+use Rattle.neli_consts_routing.specs.Rtprot.{rtprot_number, rtprot_of, rtprot_variants}
+use Rattle.neli_consts_routing.specs.declared.routes.Rtprot.TheVariants as rtprot
 use Rattle.neli_wire.specs.Numbers.{AreBytes}
 use Rattle.neli_wire.specs.laws.Constants.{first_with-number}
 use Rattle.neli_route.specs.declared.rtmsg.RtmsgHeader.{RtmsgHeader}

@@ -2,7 +2,7 @@ use Rattle.std.proofs.Common.{◌≡◌, ℕ, Bool, true, false, List, [], Optio
 use Rattle.std.specs.Prelude.{IfSome, if◌then◌else◌, nat_lt, length}
 use Rattle.neli_wire.specs.DeError.{DeError}
 use Rattle.neli_wire.specs.DeError.TheVariants.{InvalidInput}
-use Rattle.neli_msg.specs.Answers.{after}
+use Rattle.neli_reader.specs.Answers.{after}
 use Rattle.neli_lent.specs.Attributes.{attributes_at}
 use Rattle.neli_lent.specs.Messages.{Lent, message_said}
 use Rattle.neli_bench.specs.Walks.{IsSum, attributes_add, as_u64, lent_adds, type_and_length}

@@ -21,22 +21,22 @@ use Rattle.neli_consts.specs.contracts.nl_attr_type.NlAttrTypeWrapperEq.TheImpl.
 use Rattle.neli_consts.specs.contracts.commands.LogCfgCmdWrapper.{enum as log_cfg_cmd_wrapper}
 use Rattle.neli_consts.specs.contracts.commands.LogCfgCmdWrapperEq.TheImpl.Laws.{laws-law as log_cfg_cmd_wrapper-laws}
 use Rattle.neli_consts.proofs.laws.equality.Goals as goal
-use Rattle.neli_consts_rt.specs.contracts.messages.Rtm.{enum as rtm}
-use Rattle.neli_consts_rt.specs.contracts.messages.RtmEq.TheImpl.Laws.{laws-law as rtm-laws}
-use Rattle.neli_consts_sys.specs.contracts.netfilter.NetfilterMsg.{enum as netfilter_msg}
-use Rattle.neli_consts_sys.specs.contracts.netfilter.NetfilterMsgEq.TheImpl.Laws.{laws-law as netfilter_msg-laws}
-use Rattle.neli_consts_sys.specs.contracts.netfilter.NfLogAttr.{enum as nf_log_attr}
-use Rattle.neli_consts_sys.specs.contracts.netfilter.NfLogAttrEq.TheImpl.Laws.{laws-law as nf_log_attr-laws}
-use Rattle.neli_consts_sys.specs.contracts.netfilter.NfLogCfg.{enum as nf_log_cfg}
-use Rattle.neli_consts_sys.specs.contracts.netfilter.NfLogCfgEq.TheImpl.Laws.{laws-law as nf_log_cfg-laws}
-use Rattle.neli_consts_sys.specs.contracts.netfilter.LogCmd.{enum as log_cmd}
-use Rattle.neli_consts_sys.specs.contracts.netfilter.LogCmdEq.TheImpl.Laws.{laws-law as log_cmd-laws}
+use Rattle.neli_consts_routing.specs.contracts.messages.Rtm.{enum as rtm}
+use Rattle.neli_consts_routing.specs.contracts.messages.RtmEq.TheImpl.Laws.{laws-law as rtm-laws}
+use Rattle.neli_consts_system.specs.contracts.netfilter.NetfilterMsg.{enum as netfilter_msg}
+use Rattle.neli_consts_system.specs.contracts.netfilter.NetfilterMsgEq.TheImpl.Laws.{laws-law as netfilter_msg-laws}
+use Rattle.neli_consts_system.specs.contracts.netfilter.NfLogAttr.{enum as nf_log_attr}
+use Rattle.neli_consts_system.specs.contracts.netfilter.NfLogAttrEq.TheImpl.Laws.{laws-law as nf_log_attr-laws}
+use Rattle.neli_consts_system.specs.contracts.netfilter.NfLogCfg.{enum as nf_log_cfg}
+use Rattle.neli_consts_system.specs.contracts.netfilter.NfLogCfgEq.TheImpl.Laws.{laws-law as nf_log_cfg-laws}
+use Rattle.neli_consts_system.specs.contracts.netfilter.LogCmd.{enum as log_cmd}
+use Rattle.neli_consts_system.specs.contracts.netfilter.LogCmdEq.TheImpl.Laws.{laws-law as log_cmd-laws}
 use Rattle.neli_wire.specs.Constants.{IsEquality}
-use Rattle.neli_consts_rt.specs.contracts.messages.RtmPartialEq.TheImpl.{ghosts as rtm-ghosts}
-use Rattle.neli_consts_sys.specs.contracts.netfilter.NetfilterMsgPartialEq.TheImpl.{ghosts as netfilter_msg-ghosts}
-use Rattle.neli_consts_sys.specs.contracts.netfilter.NfLogAttrPartialEq.TheImpl.{ghosts as nf_log_attr-ghosts}
-use Rattle.neli_consts_sys.specs.contracts.netfilter.NfLogCfgPartialEq.TheImpl.{ghosts as nf_log_cfg-ghosts}
-use Rattle.neli_consts_sys.specs.contracts.netfilter.LogCmdPartialEq.TheImpl.{ghosts as log_cmd-ghosts}
+use Rattle.neli_consts_routing.specs.contracts.messages.RtmPartialEq.TheImpl.{ghosts as rtm-ghosts}
+use Rattle.neli_consts_system.specs.contracts.netfilter.NetfilterMsgPartialEq.TheImpl.{ghosts as netfilter_msg-ghosts}
+use Rattle.neli_consts_system.specs.contracts.netfilter.NfLogAttrPartialEq.TheImpl.{ghosts as nf_log_attr-ghosts}
+use Rattle.neli_consts_system.specs.contracts.netfilter.NfLogCfgPartialEq.TheImpl.{ghosts as nf_log_cfg-ghosts}
+use Rattle.neli_consts_system.specs.contracts.netfilter.LogCmdPartialEq.TheImpl.{ghosts as log_cmd-ghosts}
 
 -- the tables of the crates below
 rtm-equality : IsEquality rtm-ghosts.eq

@@ -1,5 +1,5 @@
 use Rattle.std.proofs.Common.{inr, refl}
-use Rattle.neli_msg.specs.NlPayload.TheVariants as payload
+use Rattle.neli_reader.specs.NlPayload.TheVariants as payload
 use Rattle.neli_lent.proofs.Spans.{length_refused}
 use Rattle.neli_lent.proofs.span.with_body.Goals as goal
 

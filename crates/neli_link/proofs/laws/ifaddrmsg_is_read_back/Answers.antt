@@ -1,7 +1,7 @@
 use Rattle.neli_body.specs.Attributes.{attrs_of, attrs_wire}
 use Rattle.neli_body.specs.laws.Bodies.{reads_back}
 use Rattle.neli_body.specs.laws.RoundTrips.{whole-reads_back}
-use Rattle.neli_consts_rta.specs.Ifa.{ifa_number, ifa_of}
+use Rattle.neli_consts_attrs.specs.Ifa.{ifa_number, ifa_of}
 use Rattle.neli_link.specs.Ifaddrmsg.{ifaddrmsg_bytes, ifaddrmsg_header}
 use Rattle.neli_link.specs.laws.Ifaddrmsg.{ifaddrmsg-reads_back, ifaddrmsg-width, ifaddrmsg-writes_back}
 use Rattle.neli_link.proofs.laws.ifaddrmsg_is_read_back.Goals as goal

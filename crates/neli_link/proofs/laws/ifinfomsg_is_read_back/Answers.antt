@@ -1,7 +1,7 @@
 use Rattle.neli_body.specs.Attributes.{attrs_of, attrs_wire}
 use Rattle.neli_body.specs.laws.Bodies.{reads_back}
 use Rattle.neli_body.specs.laws.RoundTrips.{whole-reads_back}
-use Rattle.neli_consts_rta.specs.Ifla.{ifla_number, ifla_of}
+use Rattle.neli_consts_attrs.specs.Ifla.{ifla_number, ifla_of}
 use Rattle.neli_link.specs.Ifinfomsg.{ifinfomsg_bytes, ifinfomsg_header}
 use Rattle.neli_link.specs.laws.Ifinfomsg.{ifinfomsg-reads_back, ifinfomsg-width, ifinfomsg-writes_back}
 use Rattle.neli_link.proofs.laws.ifinfomsg_is_read_back.Goals as goal

@@ -1,7 +1,7 @@
 use Rattle.neli_body.specs.Attributes.{attrs_of, attrs_wire}
 use Rattle.neli_body.specs.laws.Bodies.{reads_back}
 use Rattle.neli_body.specs.laws.RoundTrips.{whole-reads_back}
-use Rattle.neli_consts_rta.specs.Nda.{nda_number, nda_of}
+use Rattle.neli_consts_attrs.specs.Nda.{nda_number, nda_of}
 use Rattle.neli_link.specs.Ndmsg.{ndmsg_bytes, ndmsg_header}
 use Rattle.neli_link.specs.laws.Ndmsg.{ndmsg-reads_back, ndmsg-width, ndmsg-writes_back}
 use Rattle.neli_link.proofs.laws.ndmsg_is_read_back.Goals as goal

@@ -1,5 +1,5 @@
 use Rattle.std.proofs.Common.{refl}
-use Rattle.neli_msg.specs.SocketError.TheVariants as socket
+use Rattle.neli_reader.specs.SocketError.TheVariants as socket
 use Rattle.neli_places.specs.declared.entry.Route.TheVariants as route
 use Rattle.neli_places.specs.Places.{pending_of}
 use Rattle.neli_log.specs.declared.content.Content.TheVariants as content

@@ -1,7 +1,7 @@
 use Rattle.std.proofs.Common.{◌≡◌, ◌∙◌, ℕ, List, [], None, Some, ap, length, subst, sym, true}
 use Rattle.std.proofs.lemmas.Bool.{eqb-true}
-use Rattle.neli_msg.specs.Agreement.{untyped_layout}
-use Rattle.neli_msg.specs.Cuts.{cut_of}
+use Rattle.neli_reader.specs.Agreement.{untyped_layout}
+use Rattle.neli_reader.specs.Cuts.{cut_of}
 use Rattle.neli_places.specs.Places.{pending_of}
 use Rattle.neli_log.specs.Staged.{AreStaged, cut_left}
 use Rattle.neli_log.proofs.Stages.{before_within, cut_done, staged_further}

@@ -1,7 +1,7 @@
 use Rattle.std.proofs.Common.{[], Some, ap, length, refl, subst, sym}
 use Rattle.neli_wire.specs.Place.{whole}
-use Rattle.neli_msg.specs.Agreement.{untyped_layout}
-use Rattle.neli_msg.specs.Cuts.{cut_of}
+use Rattle.neli_reader.specs.Agreement.{untyped_layout}
+use Rattle.neli_reader.specs.Cuts.{cut_of}
 use Rattle.neli_places.specs.Places.{pending_of}
 use Rattle.neli_spans.specs.declared.span.Span.{Span}
 use Rattle.neli_log.specs.Staged.{AreStaged}

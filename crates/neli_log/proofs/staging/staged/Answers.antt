@@ -1,6 +1,6 @@
 use Rattle.std.proofs.Common.{length}
-use Rattle.neli_msg.specs.Agreement.{untyped_layout}
-use Rattle.neli_msg.specs.Cuts.{cut_of}
+use Rattle.neli_reader.specs.Agreement.{untyped_layout}
+use Rattle.neli_reader.specs.Cuts.{cut_of}
 use Rattle.neli_log.proofs.staging.staged.Goals as goal
 use Rattle.neli_log.proofs.staging.staged.Goals.{in-Some+in_ok-stage_fault, in_default}
 

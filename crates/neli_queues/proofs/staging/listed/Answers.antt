@@ -1,6 +1,6 @@
 use Rattle.std.proofs.Common.{◌++◌, ◌∷◌, ◌∙◌, [], ap, append_assoc, map, sym}
 use Rattle.std.specs.Vec.Iter.{into_iter_items}
-use Rattle.neli_msg.specs.Messages.{message_of}
+use Rattle.neli_reader.specs.Messages.{message_of}
 use Rattle.neli_deliveries.specs.declared.delivery.Delivery.TheVariants as delivery
 use Rattle.neli_deliveries.specs.Deliveries.{message}
 use Rattle.neli_queues.proofs.Messages.{message_from_same}

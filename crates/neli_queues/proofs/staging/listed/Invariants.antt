@@ -1,6 +1,6 @@
 use Rattle.std.proofs.Common.{◌≡◌, ◌++◌, map}
 use Rattle.std.specs.Vec.Iter.{into_iter_items}
-use Rattle.neli_msg.specs.Messages.{message_of}
+use Rattle.neli_reader.specs.Messages.{message_of}
 use Rattle.neli_deliveries.specs.Deliveries.{message}
 use Rattle.neli_queues.proofs.staging.listed.Given as goal
 

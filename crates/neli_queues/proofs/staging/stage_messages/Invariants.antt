@@ -1,6 +1,6 @@
 use Rattle.std.proofs.Common.{◌≡◌, ◌++◌, ℕ, true, map}
 use Rattle.std.specs.Vec.Iter.{into_iter_items}
-use Rattle.neli_msg.specs.Messages.{message_of}
+use Rattle.neli_reader.specs.Messages.{message_of}
 use Rattle.neli_deliveries.specs.Deliveries.{messages_to}
 use Rattle.neli_queues.specs.Pieces.{gain_of, is_open}
 use Rattle.neli_queues.proofs.staging.stage_messages.Given as goal

@@ -1,7 +1,7 @@
 use Rattle.neli_body.specs.Attributes.{attrs_of, attrs_wire}
 use Rattle.neli_body.specs.laws.Bodies.{reads_back}
 use Rattle.neli_body.specs.laws.RoundTrips.{whole-reads_back}
-use Rattle.neli_consts_rta.specs.Frattr.{frattr_number, frattr_of}
+use Rattle.neli_consts_attrs.specs.Frattr.{frattr_number, frattr_of}
 use Rattle.neli_route.specs.Fibmsg.{fibmsg_bytes, fibmsg_header}
 use Rattle.neli_route.specs.laws.Fibmsg.{fibmsg-reads_back, fibmsg-width, fibmsg-writes_back}
 use Rattle.neli_route.proofs.laws.fibmsg_is_read_back.Goals as goal

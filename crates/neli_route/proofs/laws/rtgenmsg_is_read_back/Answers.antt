@@ -1,7 +1,7 @@
 use Rattle.neli_body.specs.Attributes.{attrs_of, attrs_wire}
 use Rattle.neli_body.specs.laws.Bodies.{reads_back}
 use Rattle.neli_body.specs.laws.RoundTrips.{whole-reads_back}
-use Rattle.neli_consts_rta.specs.Ifa.{ifa_number, ifa_of}
+use Rattle.neli_consts_attrs.specs.Ifa.{ifa_number, ifa_of}
 use Rattle.neli_route.specs.Rtgenmsg.{rtgenmsg_bytes, rtgenmsg_header}
 use Rattle.neli_route.specs.laws.Rtgenmsg.{rtgenmsg-reads_back, rtgenmsg-width, rtgenmsg-writes_back}
 use Rattle.neli_route.proofs.laws.rtgenmsg_is_read_back.Goals as goal

@@ -1,7 +1,7 @@
 use Rattle.neli_body.specs.Attributes.{attrs_of, attrs_wire}
 use Rattle.neli_body.specs.laws.Bodies.{reads_back}
 use Rattle.neli_body.specs.laws.RoundTrips.{whole-reads_back}
-use Rattle.neli_consts_rta.specs.Rta.{rta_number, rta_of}
+use Rattle.neli_consts_attrs.specs.Rta.{rta_number, rta_of}
 use Rattle.neli_route.specs.Rtmsg.{rtmsg_bytes, rtmsg_header}
 use Rattle.neli_route.specs.laws.Rtmsg.{rtmsg-reads_back, rtmsg-width, rtmsg-writes_back}
 use Rattle.neli_route.proofs.laws.rtmsg_is_read_back.Goals as goal

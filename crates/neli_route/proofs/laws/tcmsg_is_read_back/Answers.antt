@@ -1,7 +1,7 @@
 use Rattle.neli_body.specs.Attributes.{attrs_of, attrs_wire}
 use Rattle.neli_body.specs.laws.Bodies.{reads_back}
 use Rattle.neli_body.specs.laws.RoundTrips.{whole-reads_back}
-use Rattle.neli_consts_rta.specs.Tca.{tca_number, tca_of}
+use Rattle.neli_consts_attrs.specs.Tca.{tca_number, tca_of}
 use Rattle.neli_route.specs.Tcmsg.{tcmsg_bytes, tcmsg_header}
 use Rattle.neli_route.specs.laws.Tcmsg.{tcmsg-reads_back, tcmsg-width, tcmsg-writes_back}
 use Rattle.neli_route.proofs.laws.tcmsg_is_read_back.Goals as goal

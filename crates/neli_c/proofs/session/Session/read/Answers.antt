@@ -1,7 +1,7 @@
 use Rattle.std.proofs.Common.{List, ap, refl, sym, subst, ◌∙◌, slice_set, w32}
 use Rattle.std.proofs.lemmas.Int.{to_z-of_z}
 use Rattle.std.proofs.lemmas.List.{set-set}
-use Rattle.neli_router_base.specs.declared.handle.HandleState.{HandleState}
+use Rattle.neli_router.specs.declared.handle.HandleState.{HandleState}
 use Rattle.neli_c.specs.declared.session.Slot.{Slot}
 use Rattle.neli_c.specs.declared.session.Slot.TheVariants as slot
 use Rattle.neli_c.specs.Slots.{AreFree}

@@ -1,11 +1,11 @@
 use Rattle.std.proofs.Common.{◌≡◌, ◌≤◌, ◌+◌, if◌then◌else◌, arith, refl, ap, sym, ◌∙◌, List, Some, length, w32}
 use Rattle.std.proofs.lemmas.Int.{to_z-of_z}
 use Rattle.std.proofs.lemmas.Bool.{le-leb}
-use Rattle.neli_router_base.specs.Sends.{asks}
+use Rattle.neli_router.specs.Sends.{asks}
 use Rattle.neli_c.specs.Codes.{ok, room}
 use Rattle.neli_wire.specs.Sizes.{align}
 use Rattle.neli_c.specs.Writes.{put_first}
-use Rattle.neli_router_base.specs.declared.handle.HandleState.{HandleState}
+use Rattle.neli_router.specs.declared.handle.HandleState.{HandleState}
 use Rattle.neli_c.specs.declared.session.Slot.{Slot}
 use Rattle.neli_c.specs.Slots.{handle_at, put_at}
 use Rattle.neli_c.proofs.FreePlaces.{again}

@@ -3,7 +3,7 @@ use Rattle.std.proofs.lemmas.Bool.{eqb-true}
 use Rattle.neli_wire.specs.DeError.{DeError}
 use Rattle.neli_wire.specs.Place.{Place, whole}
 use Rattle.neli_wire.specs.Reading.{refusal_within}
-use Rattle.neli_msg.specs.laws.Cuts.{drop_whole, empty_is}
+use Rattle.neli_reader.specs.laws.Cuts.{drop_whole, empty_is}
 use Rattle.neli_lent.proofs.Walks.{attributes-end, attributes-attribute, attributes-fault, attribute-longer}
 use Rattle.neli_lent.proofs.attributes.LentAttrs.step.Goals as goal
 

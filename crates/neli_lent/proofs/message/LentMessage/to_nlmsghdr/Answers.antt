@@ -1,5 +1,5 @@
 use Rattle.std.proofs.Common.{refl, ap, length, ◌∙◌}
-use Rattle.neli_msg.specs.Kinds.{payload_in, payload_takes}
+use Rattle.neli_reader.specs.Kinds.{payload_in, payload_takes}
 use Rattle.neli_lent.proofs.Owned.{whole-refused, whole-value}
 use Rattle.neli_lent.proofs.message.LentMessage.to_nlmsghdr.Goals as goal
 

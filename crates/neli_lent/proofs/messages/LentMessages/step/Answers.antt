@@ -1,6 +1,6 @@
 use Rattle.std.proofs.Common.{rules, ◌≡◌, ◌≢◌, [], ◌∙◌, sym, length, true, false}
 use Rattle.std.proofs.lemmas.Bool.{eqb-true}
-use Rattle.neli_msg.specs.laws.Cuts.{drop_whole, empty_is}
+use Rattle.neli_reader.specs.laws.Cuts.{drop_whole, empty_is}
 use Rattle.neli_lent.proofs.Walks.{messages-end, messages-message, messages-fault}
 use Rattle.neli_lent.proofs.messages.LentMessages.step.Goals as goal
 

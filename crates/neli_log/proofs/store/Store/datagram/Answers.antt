@@ -1,9 +1,9 @@
 use Rattle.std.proofs.Common.{◌≡◌, ◌∙◌, ℕ, Bool, [], Some, ap, is_some, length, arith, subst, sym}
 use Rattle.std.proofs.lemmas.Bool.{eqb-true}
 use Rattle.std.proofs.lemmas.List.{nil_from_length}
-use Rattle.neli_msg.specs.Agreement.{untyped_layout}
-use Rattle.neli_msg.specs.Cuts.{cut_of}
-use Rattle.neli_msg.specs.laws.Cuts.{empty_is}
+use Rattle.neli_reader.specs.Agreement.{untyped_layout}
+use Rattle.neli_reader.specs.Cuts.{cut_of}
+use Rattle.neli_reader.specs.laws.Cuts.{empty_is}
 use Rattle.neli_deliveries.specs.Deliveries.{datagram_share}
 use Rattle.neli_places.specs.Places.{pending_of as items_of}
 use Rattle.neli_spans.specs.Spans.{span_bytes}

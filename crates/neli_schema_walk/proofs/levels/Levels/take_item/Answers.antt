@@ -1,6 +1,6 @@
 use Rattle.std.proofs.Common.{◌≡◌, ◌+◌, ◌<◌, ◌≤◌, length, true, sym, ◌∙◌, arith, rules}
 use Rattle.std.proofs.lemmas.Bool.{eqb-true}
-use Rattle.neli_msg.specs.laws.Cuts.{empty_is}
+use Rattle.neli_reader.specs.laws.Cuts.{empty_is}
 use Rattle.neli_schema_walk.proofs.Walks.{left-out}
 use Rattle.neli_schema_walk.proofs.levels.Levels.take_item.Goals as goal
 

@@ -1,0 +1,76 @@
+-- What a message carries, told by its type, flags, length and code (RFC 3549 section 2.3.2.2; the kernel's `netlink_ack`).
+use Rattle.std.specs.Prelude.{ℕ, ◌==◌, ◌<◌, ◌&&◌, Bool, List, length, drop, Result, Ok, bit_and, nat_eq, nat_le, if◌then◌else◌}
+use Rattle.neli_wire.specs.DeError.{DeError}
+use Rattle.neli_wire.specs.Frames.{number_in}
+use Rattle.neli_wire.specs.Reading.{◌>>=◌}
+use Rattle.neli_consts.specs.declared.nlm_f.NlmF.{NlmF}
+use Rattle.neli_msg.specs.declared.payload.Kind.{Kind}
+use Rattle.neli_msg.specs.declared.payload.Kind.TheVariants.{Body, Nothing, DumpEnd, Acknowledgement, Capped, Failure}
+use Rattle.neli_msg.specs.declared.answer.Tail.{Tail}
+use Rattle.neli_msg.specs.declared.answer.Tail.TheVariants.{Unread, Attributes as Listed}
+use Rattle.neli_msg.specs.declared.payload.NlPayload.{NlPayload}
+use Rattle.neli_msg.specs.declared.payload.NlPayload.TheVariants as payload
+use Rattle.neli_msg.specs.Answers.{dump_end_in, failure_in, failure_takes, failure_view, headed_in, tail_takes}
+
+-- NLM_F_MULTI, the bit of value 2, is set
+abbrev pub is_multi : NlmF → Bool
+is_multi flags = bit_and flags.0 2 == 2
+
+-- NLM_F_CAPPED, the bit of value 256, is set: of the answered message the header alone is echoed
+abbrev pub is_capped : NlmF → Bool
+is_capped flags = bit_and flags.0 256 == 256
+
+-- NLM_F_ACK_TLVS, the bit of value 512, is set: attributes follow what is echoed
+abbrev pub has_attributes : NlmF → Bool
+has_attributes flags = bit_and flags.0 512 == 512
+
+-- what stands after a header that is echoed alone: attributes under both flags
+abbrev pub tail_of : NlmF → Tail
+tail_of flags = if is_capped flags && has_attributes flags then Listed else Unread
+
+-- a code and a header are there, and the code is 0
+abbrev pub is_acknowledged : List ℕ → Bool
+is_acknowledged s = nat_le 20 (length s) && nat_eq (number_in 4 0 s) 0
+
+-- the kind; 2 is NLMSG_ERROR, 3 NLMSG_DONE
+abbrev pub kind_of : ℕ → NlmF → List ℕ → Kind
+kind_of number flags s =
+    if nat_eq number 2 then (if is_acknowledged s then Acknowledgement (tail_of flags) else (if is_capped flags then Capped (tail_of flags) else Failure))
+    else (if nat_eq number 3 then (if nat_eq (length s) 0 then Nothing else (if is_multi flags then DumpEnd else Body))
+    else Body)
+
+module _ {K V : Type 0} (type_of : ℕ → K) (read : List ℕ → Result V DeError) where
+  -- what the bytes of each kind say, or why nothing; `read` is the reading of a body
+  abbrev pub payload_as : Kind → List ℕ → Result (NlPayload K V) DeError
+  payload_as Body s = read s >>= λ v. Ok (payload.Payload v)
+  payload_as Nothing s = Ok payload.Empty
+  payload_as DumpEnd s = dump_end_in s >>= λ e. Ok (payload.DumpExtAck e)
+  payload_as (Acknowledgement tail) s = headed_in type_of tail s >>= λ e. Ok (payload.Ack e)
+  payload_as (Capped tail) s = headed_in type_of tail s >>= λ e. Ok (payload.Capped e)
+  payload_as Failure s = failure_in type_of read s >>= λ e. Ok (payload.Err e)
+
+  -- what the bytes after a header of this type and these flags say
+  abbrev pub payload_in : ℕ → NlmF → List ℕ → Result (NlPayload K V) DeError
+  payload_in number flags s = payload_as (kind_of number flags s) s
+
+-- where reading each kind takes memory
+abbrev pub kind_takes : (List ℕ → Type 0) → Kind → List ℕ → Type 0
+kind_takes takes Body s = takes s
+kind_takes takes Nothing s = ⊥
+kind_takes takes DumpEnd s = 0 < length (drop 4 s)
+kind_takes takes (Acknowledgement tail) s = tail_takes tail (drop 20 s)
+kind_takes takes (Capped tail) s = tail_takes tail (drop 20 s)
+kind_takes takes Failure s = failure_takes takes s
+
+-- the same by type and flags
+abbrev pub payload_takes : (List ℕ → Type 0) → ℕ → NlmF → List ℕ → Type 0
+payload_takes takes number flags s = kind_takes takes (kind_of number flags s) s
+
+-- what contracts see of a payload, over what they see of a body
+abbrev pub payload_view : {K P V : Type 0} → (P → V) → NlPayload K P → NlPayload K V
+payload_view view (payload.Payload p) = payload.Payload (view p)
+payload_view view (payload.Err e) = payload.Err (failure_view view e)
+payload_view view (payload.Ack e) = payload.Ack e
+payload_view view (payload.Capped e) = payload.Capped e
+payload_view view (payload.DumpExtAck e) = payload.DumpExtAck e
+payload_view view payload.Empty = payload.Empty

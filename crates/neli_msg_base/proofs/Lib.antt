@@ -1,4 +1,0 @@
-pub mod Words
-pub mod Attributes
-pub mod Retyped
-pub mod Messages

@@ -1,0 +1,137 @@
+//! The reader of a datagram.
+
+ghost use Rattle.std.specs.Prelude.{◌≡◌, ◌≢◌, ◌+◌, ◌≤◌, ℕ, List, [], IfOk, IfSome, OnErr, OnOk, length, map};
+ghost use Rattle.neli_wire.specs.Frames.{frame_takes};
+ghost use Rattle.neli_msg.specs.Messages.{message_layout, message_of, message_takes};
+ghost use Rattle.neli_reader.specs.Cuts.{IsNext, cut_of, cut_with, item_of};
+
+use neli_consts::NlType;
+use neli_list::FrameList;
+use neli_msg::{Nlmsghdr, SocketError};
+use neli_wire::{Cursor, DeError, FromBytes, FromBytesWithInput, NoMemory};
+use std::alloc::Global;
+use std::marker::{Model, PhantomData};
+
+/// A list of messages, one after the other, each with its padding.
+pub type NlBuffer<T, P> = FrameList<Nlmsghdr<T, P>>;
+
+/// The messages of a datagram, one after the other, read as `Nlmsghdr<T, P>`.
+///
+/// Contracts see it as the bytes that it still has to read.
+#[derive(Drop)]
+pub struct NlBufferIter<'b, T, P> {
+    cursor: Cursor<'b>,
+    of: PhantomData<(T, P)>,
+}
+
+impl<'b, T, P> Model for NlBufferIter<'b, T, P> {
+    ghost Value = { List ℕ };
+
+    ghost view = { λ i. i.cursor.rest };
+}
+
+impl<'b, T: NlType, P: FromBytesWithInput> NlBufferIter<'b, T, P> {
+    /// The messages of these bytes.
+    pub fn new(bytes: &'b [u8]) -> NlBufferIter<'b, T, P>
+        ensures { result ≡ bytes.now }
+    {
+        NlBufferIter {
+            cursor: Cursor::new(bytes),
+            of: PhantomData,
+        }
+    }
+
+    /// The next message, or the fault that the rest has. After a fault, as after the last message, the
+    /// answer is None. Where memory runs out nothing is taken, and the same call can be made again.
+    pub fn next(&mut self, alloc: Global) -> Option<Result<Nlmsghdr<T, P>, SocketError>>
+        ensures next { IsNext (message_layout T.wire_value T.wire_number P.read)
+            (frame_takes (message_layout T.wire_value T.wire_number P.read)
+            (message_takes T.wire_number P.takes_memory) self.old) self.old self.new
+            (item_of P.view result) }
+        // A message takes at least the 16 bytes of its header.
+        ensures shorter { IfSome result
+            (λ item. OnOk item (length self.new + 16 ≤ length self.old)) }
+        ensures cut { cut_of (message_layout T.wire_value T.wire_number P.read) self.old
+            ≡ cut_with (item_of P.view result)
+            (cut_of (message_layout T.wire_value T.wire_number P.read) self.new) }
+    {
+        self.next_typed(alloc)
+    }
+
+    /// The bytes that it still has to read. What is asked of before `next` tells where a message, or the fault, begins: as
+    /// many bytes before the datagram's end as there are here.
+    pub fn rest(&self) -> &'b [u8]
+        ensures { result.now ≡ self.now }
+    {
+        self.cursor.rest()
+    }
+
+    /// What `next` answers, read as other types.
+    pub fn next_typed<T2: NlType, P2: FromBytesWithInput>(
+        &mut self,
+        alloc: Global,
+    ) -> Option<Result<Nlmsghdr<T2, P2>, SocketError>>
+        ensures next { IsNext (message_layout T2.wire_value T2.wire_number P2.read)
+            (frame_takes (message_layout T2.wire_value T2.wire_number P2.read)
+            (message_takes T2.wire_number P2.takes_memory) self.old) self.old self.new
+            (item_of P2.view result) }
+        // A message takes at least the 16 bytes of its header.
+        ensures shorter { IfSome result
+            (λ item. OnOk item (length self.new + 16 ≤ length self.old)) }
+        ensures cut { cut_of (message_layout T2.wire_value T2.wire_number P2.read) self.old
+            ≡ cut_with (item_of P2.view result)
+            (cut_of (message_layout T2.wire_value T2.wire_number P2.read) self.new) }
+    {
+        if self.cursor.rest().is_empty() {
+            return None;
+        }
+        match Nlmsghdr::from_bytes(alloc, &mut self.cursor) {
+            Ok(message) => Some(Ok(message)),
+            Err(error) => match error {
+                DeError::Memory => Some(Err(SocketError::Memory)),
+                error => {
+                    let end = self.cursor.get_ref().len();
+                    self.cursor.set_position(end);
+                    Some(Err(SocketError::De(error)))
+                }
+            },
+        }
+    }
+}
+
+/// All the messages of a datagram, and the fault after them, if there is one.
+///
+/// Refused only where memory runs out, which a datagram of no bytes does not ask for.
+pub fn cut<T: NlType, P: FromBytesWithInput>(
+    alloc: Global,
+    bytes: &[u8],
+) -> Result<(Vec<Nlmsghdr<T, P>>, Option<DeError>), NoMemory>
+    ensures cut { IfOk result (λ c. cut_of (message_layout T.wire_value T.wire_number P.read) bytes.now
+        ≡ (map (message_of P.view) c.0.items, c.1)) }
+    ensures memory { OnErr result (bytes.now ≢ []) }
+{
+    if bytes.is_empty() {
+        return Ok((Vec::new(alloc), None));
+    }
+    cut_messages(alloc, bytes)
+}
+
+/// The messages of a datagram, and the fault after them.
+fn cut_messages<T: NlType, P: FromBytesWithInput>(
+    alloc: Global,
+    bytes: &[u8],
+) -> Result<(Vec<Nlmsghdr<T, P>>, Option<DeError>), NoMemory>
+    ensures { IfOk result (λ c. cut_of (message_layout T.wire_value T.wire_number P.read) bytes.now
+        ≡ (map (message_of P.view) c.0.items, c.1)) }
+{
+    let mut messages = Vec::new(alloc);
+    let mut iter: NlBufferIter<'_, T, P> = NlBufferIter::new(bytes);
+    while let Some(item) = iter.next(alloc) {
+        match item {
+            Ok(message) => messages.push(message)?,
+            Err(SocketError::De(fault)) => return Ok((messages, Some(fault))),
+            Err(_) => return Err(NoMemory),
+        }
+    }
+    Ok((messages, None))
+}

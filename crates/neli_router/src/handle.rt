@@ -1,0 +1,67 @@
+//! Who asked.
+
+ghost use Rattle.std.specs.Prelude.{◌≡◌};
+
+use std::marker::{Model, PhantomData};
+
+/// What is known of a handle, whatever its types are.
+#[derive(Clone, Copy, Debug, PartialEq, Eq)]
+pub struct HandleState {
+    /// The sequence number of the request; none for multicast.
+    pub number: Option<u32>,
+    /// An acknowledgement was asked for.
+    pub needs_ack: bool,
+    /// A reply was given after which nothing but an acknowledgement comes.
+    pub single_given: bool,
+    /// The last item was given.
+    pub ended: bool,
+}
+
+/// The one who asked: gets the replies to a request, or the messages of multicast groups.
+///
+/// `T` and `P` are the types that its messages are meant to be read as. A handle is known by its
+/// sequence number, so it belongs to the router that made it.
+#[derive(Drop)]
+pub struct NlRouterReceiverHandle<T, P> {
+    state: HandleState,
+    of: PhantomData<(T, P)>,
+}
+
+impl<T, P> Model for NlRouterReceiverHandle<T, P> {
+    ghost use Rattle.neli_router.specs.declared.handle.HandleState.{HandleState};
+
+    ghost Value = { HandleState };
+
+    ghost view = { λ h. h.state };
+}
+
+impl<T, P> NlRouterReceiverHandle<T, P> {
+    pub(crate) fn new(state: HandleState) -> Self
+        ensures { result ≡ state }
+    {
+        NlRouterReceiverHandle {
+            state,
+            of: PhantomData,
+        }
+    }
+
+    /// Its number, and how far its answers have come.
+    pub fn state(&self) -> HandleState
+        ensures { result ≡ self.now }
+    {
+        self.state
+    }
+
+    pub(crate) fn set_state(&mut self, state: HandleState)
+        ensures { self.new ≡ state }
+    {
+        self.state = state;
+    }
+
+    /// The same handle, meant for messages of other types.
+    pub fn retyped<T2, P2>(self) -> NlRouterReceiverHandle<T2, P2>
+        ensures { result ≡ self }
+    {
+        NlRouterReceiverHandle::new(self.state)
+    }
+}

@@ -1,0 +1,165 @@
+//! Requests to the controller of generic netlink, which knows the number of each family.
+
+ghost use Rattle.std.specs.Prelude.{false, ◌≡◌, ◌≢◌, ◌≤◌, ℕ, [], ◌∷◌, Option, Some, Ok, IfOk, IfErr, OnOk, OnErr, is_some, length};
+ghost use Rattle.neli_router.specs.Requests.{FamilyTakesMemory, families_request, families_sent, family_request, family_sent, getfamily, name_attribute, sent_to_controller};
+ghost use Rattle.neli_router.specs.Sends.{RefusesSend, asks, number_after};
+
+use crate::{Deliveries, NlRouter, NlRouterReceiverHandle};
+use neli_attr::{AttrType, Buffer, BuildError, GenlBuffer, Nlattr, NlattrBuilder};
+use neli_consts::{CtrlAttr, CtrlCmd, GenlId, NlmF};
+use neli_genl::{Genlmsghdr, GenlmsghdrBuilder};
+use neli_reader::{NlPayload, RouterError};
+use neli_wire::{MsgError, NoMemory};
+use std::alloc::Global;
+
+/// How many bytes a name may have: with a zero byte and the attribute's header they are 65535.
+const MAX_NAME_LENGTH: usize = 65530;
+
+/// What the controller is asked, and answers.
+type Ctrl = Genlmsghdr<CtrlCmd, CtrlAttr>;
+
+impl<D: Deliveries> NlRouter<D> {
+    /// A request to the controller of generic netlink for the family of this name, as bytes to be
+    /// sent, and the handle for what it answers: `Getfamily` of version 2 with the name, of type
+    /// `GenlId::Ctrl` and with the flags REQUEST and ACK. `neli_resolvers` finds the family's number
+    /// among the handle's items.
+    ///
+    /// Refused, in this order, as `SeqInUse` where the number belongs to a handle that is not
+    /// closed; as `Msg` where the name has more than 65530 bytes, so that the attribute's length
+    /// passes 16 bits; else only where memory runs out. A refusal leaves the router as it was, and
+    /// the number is not used up.
+    pub fn request_genl_family(
+        &mut self,
+        alloc: Global,
+        name: &str,
+    ) -> Result<
+        (
+            Vec<u8>,
+            NlRouterReceiverHandle<GenlId, Genlmsghdr<CtrlCmd, CtrlAttr>>,
+        ),
+        RouterError<GenlId, Genlmsghdr<CtrlCmd, CtrlAttr>>,
+    >
+        ensures port { D.port_of self.new.deliveries ≡ D.port_of self.old.deliveries }
+        ensures bytes { IfOk result (λ r. family_sent
+            (D.port_of self.old.deliveries) self.old.next_seq
+            (is_some (D.pending self.old.deliveries (Some self.old.next_seq))) name.now
+            ≡ Ok r.0.items) }
+        // The same bytes, as `send` says them of a body.
+        ensures sent { IfOk result (λ r. sent_to_controller
+            (D.port_of self.old.deliveries) self.old.next_seq
+            (is_some (D.pending self.old.deliveries (Some self.old.next_seq)))
+            NlmF.ACK (family_request name.now) ≡ Ok r.0.items) }
+        ensures refused { IfErr result (RefusesSend (family_sent
+            (D.port_of self.old.deliveries) self.old.next_seq
+            (is_some (D.pending self.old.deliveries (Some self.old.next_seq))) name.now)
+            (FamilyTakesMemory
+            (is_some (D.pending self.old.deliveries (Some self.old.next_seq))) name.now)) }
+        ensures handle { IfOk result (λ r. r.1 ≡ asks self.old.next_seq NlmF.ACK) }
+        ensures next_seq { OnOk result (self.new.next_seq ≡ number_after self.old.next_seq) }
+        ensures opened { OnOk result
+            (D.pending self.new.deliveries (Some self.old.next_seq) ≡ Some []) }
+        ensures others { OnOk result ((w : Option ℕ) → w ≢ Some self.old.next_seq
+            → D.pending self.new.deliveries w ≡ D.pending self.old.deliveries w) }
+        ensures err { OnErr result ((self.new.next_seq ≡ self.old.next_seq)
+            × ((w : Option ℕ)
+            → D.pending self.new.deliveries w ≡ D.pending self.old.deliveries w)) }
+    {
+        let number = self.next_seq;
+        if self.deliveries.is_open(Some(number)) {
+            return Err(RouterError::SeqInUse(number));
+        }
+        if MAX_NAME_LENGTH < name.len() {
+            return Err(RouterError::Msg(MsgError::from_static("Length does not fit its field")));
+        }
+        let body = family_request(alloc, name)?;
+        self.send(alloc, GenlId::Ctrl, NlmF::ACK, NlPayload::Payload(body))
+    }
+
+    /// A request to the controller of generic netlink for all families, as bytes to be sent, and
+    /// the handle for what it answers: `Getfamily` of version 2 without attributes, of type
+    /// `GenlId::Ctrl` and with the flags REQUEST and DUMP.
+    ///
+    /// Refused as `SeqInUse` where the number belongs to a handle that is not closed; else only
+    /// where memory runs out. A refusal leaves the router as it was, and the number is not used up.
+    pub fn request_families(
+        &mut self,
+        alloc: Global,
+    ) -> Result<
+        (
+            Vec<u8>,
+            NlRouterReceiverHandle<GenlId, Genlmsghdr<CtrlCmd, CtrlAttr>>,
+        ),
+        RouterError<GenlId, Genlmsghdr<CtrlCmd, CtrlAttr>>,
+    >
+        ensures port { D.port_of self.new.deliveries ≡ D.port_of self.old.deliveries }
+        ensures bytes { IfOk result (λ r. families_sent
+            (D.port_of self.old.deliveries) self.old.next_seq
+            (is_some (D.pending self.old.deliveries (Some self.old.next_seq))) ≡ Ok r.0.items) }
+        // The same bytes, as `send` says them of a body.
+        ensures sent { IfOk result (λ r. sent_to_controller
+            (D.port_of self.old.deliveries) self.old.next_seq
+            (is_some (D.pending self.old.deliveries (Some self.old.next_seq)))
+            NlmF.DUMP families_request ≡ Ok r.0.items) }
+        ensures refused { IfErr result (RefusesSend (families_sent
+            (D.port_of self.old.deliveries) self.old.next_seq
+            (is_some (D.pending self.old.deliveries (Some self.old.next_seq))))
+            (is_some (D.pending self.old.deliveries (Some self.old.next_seq)) ≡ false)) }
+        ensures handle { IfOk result (λ r. r.1 ≡ asks self.old.next_seq NlmF.DUMP) }
+        ensures next_seq { OnOk result (self.new.next_seq ≡ number_after self.old.next_seq) }
+        ensures opened { OnOk result
+            (D.pending self.new.deliveries (Some self.old.next_seq) ≡ Some []) }
+        ensures others { OnOk result ((w : Option ℕ) → w ≢ Some self.old.next_seq
+            → D.pending self.new.deliveries w ≡ D.pending self.old.deliveries w) }
+        ensures err { OnErr result ((self.new.next_seq ≡ self.old.next_seq)
+            × ((w : Option ℕ)
+            → D.pending self.new.deliveries w ≡ D.pending self.old.deliveries w)) }
+    {
+        let body = getfamily(alloc, GenlBuffer::new(alloc));
+        self.send(alloc, GenlId::Ctrl, NlmF::DUMP, NlPayload::Payload(body))
+    }
+}
+
+/// What asks for the family of this name.
+///
+/// Refused only where memory runs out.
+fn family_request(alloc: Global, name: &str) -> Result<Ctrl, NoMemory>
+    requires { length name.now ≤ 65530 }
+    ensures { IfOk result (λ body. body ≡ family_request name.now) }
+{
+    let mut attrs = GenlBuffer::new(alloc);
+    attrs.push(name_attribute(alloc, name)?)?;
+    Ok(getfamily(alloc, attrs))
+}
+
+/// The attribute that names a family.
+///
+/// Refused only where memory runs out.
+fn name_attribute(alloc: Global, name: &str) -> Result<Nlattr<CtrlAttr, Buffer>, NoMemory>
+    requires { length name.now ≤ 65530 }
+    ensures { IfOk result (λ attr. attr ≡ name_attribute name.now) }
+{
+    let built = NlattrBuilder::default()
+        .nla_type(AttrType::from(u16::from(CtrlAttr::FamilyName)))
+        .nla_payload(name)
+        .build(alloc);
+    match built {
+        Ok(attr) => Ok(attr),
+        Err(BuildError::Memory) => Err(NoMemory),
+        Err(_) => unreachable!(),
+    }
+}
+
+/// The command `Getfamily` of version 2 with these attributes. It takes no memory.
+fn getfamily(alloc: Global, attrs: GenlBuffer<CtrlAttr, Buffer>) -> Ctrl
+    ensures { result ≡ getfamily attrs }
+{
+    let built = GenlmsghdrBuilder::default()
+        .cmd(CtrlCmd::Getfamily)
+        .version(2)
+        .attrs(attrs)
+        .build(alloc);
+    match built {
+        Ok(body) => body,
+        Err(_) => unreachable!(),
+    }
+}

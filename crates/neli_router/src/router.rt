@@ -1,0 +1,277 @@
+//! The router's calls.
+
+ghost use Rattle.std.specs.Prelude.{true, false, ◌≡◌, ◌≢◌, ◌||◌, ℕ, List, [], ◌∷◌, ◌++◌, Option, None, Some, Ok, Err, IsOk, IfOk, IfErr, OnOk, OnErr, is_some, option_map};
+ghost use Rattle.neli_reader.specs.Cuts.{cut_of};
+ghost use Rattle.neli_reader.specs.Agreement.{untyped_layout};
+ghost use Rattle.neli_deliveries.specs.declared.delivery.Delivery.{Delivery as Waiting};
+ghost use Rattle.neli_deliveries.specs.Deliveries.{fault_share, is_would_block, datagram_share};
+ghost use Rattle.neli_deliveries.specs.Readings.{IsReading, Item as Given};
+ghost use Rattle.neli_router.specs.declared.reply.Reply.TheVariants as reply;
+ghost use Rattle.neli_router.specs.Rule.{ends_at, has_number, is_single, item_of};
+ghost use Rattle.neli_router.specs.Sends.{RefusesSend, TakesMemory, asks, number_after, frame_or_refusal};
+
+use crate::rule::{answer, needs_acknowledgement};
+use crate::{Deliveries, HandleState, NlRouterReceiverHandle, Reply};
+use neli_consts::{NlType, NlmF};
+use neli_genl::Genlmsghdr;
+use neli_log::Log;
+use neli_reader::{NlPayload, NlmsghdrBuilder, RouterError, SocketError};
+use neli_util::Groups;
+use neli_wire::{FromBytesWithInput, MsgError, NoMemory, Size, ToBytes};
+use std::alloc::Global;
+
+/// A router: gives each request a sequence number, and each reply to the handle that asked.
+///
+/// It has no link: requests come out as bytes, and the caller hands in the datagrams that arrive
+/// and the faults of the link. What waits for a handle is kept in a `D`; where nothing else is said
+/// in a [`Log`], which keeps each delivery once.
+#[derive(Drop)]
+pub struct NlRouter<D = Log> {
+    pub(crate) deliveries: D,
+    pub(crate) next_seq: u32,
+}
+
+impl<D: Deliveries> NlRouter<D> {
+    /// A router with this port, whose next sequence number is 0, and the handle for multicast.
+    ///
+    /// `pid` is the port of the socket that requests go out by. A socket that was not bound to a port has
+    /// the one that the kernel chose, which getsockname(2) tells; 0 is the kernel's own.
+    pub fn new(alloc: Global, pid: u32) -> (Self, NlRouterReceiverHandle<u16, Genlmsghdr<u8, u16>>)
+        ensures port { D.port_of result.0.deliveries ≡ pid }
+        ensures next_seq { result.0.next_seq ≡ 0 }
+        ensures multicast { D.pending result.0.deliveries None ≡ Some [] }
+        ensures numbers { (q : ℕ) → D.pending result.0.deliveries (Some q) ≡ None }
+        ensures handle { result.1
+            ≡ record { number = None; needs_ack = false; single_given = false; ended = false } }
+    {
+        let router = NlRouter {
+            deliveries: D::new(alloc, pid),
+            next_seq: 0,
+        };
+        let handle = NlRouterReceiverHandle::new(HandleState {
+            number: None,
+            needs_ack: false,
+            single_given: false,
+            ended: false,
+        });
+        (router, handle)
+    }
+
+    /// The port: requests carry it, and a message with another one is a stray.
+    pub fn pid(&self) -> u32
+        ensures { result ≡ D.port_of self.now.deliveries }
+    {
+        self.deliveries.port()
+    }
+
+    /// The store of what waits for the handles. It takes no memory.
+    pub fn deliveries(&self) -> &D
+        ensures { result.now ≡ self.now.deliveries }
+    {
+        &self.deliveries
+    }
+
+    /// Sets the sequence number of the next request.
+    pub fn set_next_seq(&mut self, number: u32)
+        ensures next_seq { self.new.next_seq ≡ number }
+        ensures deliveries { self.new.deliveries ≡ self.old.deliveries }
+    {
+        self.next_seq = number;
+    }
+
+    /// A request of this type, with these flags and REQUEST, as bytes to be sent, and the handle
+    /// for its replies. The sequence number of the first is 0, or what `set_next_seq` has set; it grows
+    /// by one with each request that is sent, modulo 2^32.
+    ///
+    /// Refused, in this order, as `SeqInUse` where the number belongs to a handle that is not
+    /// closed; as `Msg` where the length passes 32 bits; as `Socket(Ser)` where the payload is not
+    /// written, or as `Memory` where memory runs out. A refusal leaves the router as it was, and the
+    /// number is not used up.
+    pub fn send<ST: NlType, SP: ToBytes + Drop, RT, RP>(
+        &mut self,
+        alloc: Global,
+        nl_type: ST,
+        nl_flags: NlmF,
+        nl_payload: NlPayload<ST, SP>,
+    ) -> Result<(Vec<u8>, NlRouterReceiverHandle<RT, RP>), RouterError<ST, SP>>
+        ensures port { D.port_of self.new.deliveries ≡ D.port_of self.old.deliveries }
+        ensures bytes { IfOk result (λ r. frame_or_refusal ST.wire_number SP.wire SP.Size.wire_length
+            (D.port_of self.old.deliveries) self.old.next_seq
+            (is_some (D.pending self.old.deliveries (Some self.old.next_seq)))
+            nl_type nl_flags nl_payload ≡ Ok r.0.items) }
+        ensures refused { IfErr result (RefusesSend (frame_or_refusal ST.wire_number SP.wire SP.Size.wire_length
+            (D.port_of self.old.deliveries) self.old.next_seq
+            (is_some (D.pending self.old.deliveries (Some self.old.next_seq)))
+            nl_type nl_flags nl_payload)
+            (TakesMemory ST.wire_number SP.wire SP.Size.wire_length
+            (is_some (D.pending self.old.deliveries (Some self.old.next_seq))) nl_payload)) }
+        ensures handle { IfOk result (λ r. r.1 ≡ asks self.old.next_seq nl_flags) }
+        ensures next_seq { OnOk result (self.new.next_seq ≡ number_after self.old.next_seq) }
+        ensures opened { OnOk result
+            (D.pending self.new.deliveries (Some self.old.next_seq) ≡ Some []) }
+        ensures others { OnOk result ((w : Option ℕ) → w ≢ Some self.old.next_seq
+            → D.pending self.new.deliveries w ≡ D.pending self.old.deliveries w) }
+        ensures err { OnErr result ((self.new.next_seq ≡ self.old.next_seq)
+            × ((w : Option ℕ)
+            → D.pending self.new.deliveries w ≡ D.pending self.old.deliveries w)) }
+    {
+        let number = self.next_seq;
+        if self.deliveries.is_open(Some(number)) {
+            return Err(RouterError::SeqInUse(number));
+        }
+        let bytes = frame(alloc, nl_type, nl_flags, number, self.pid(), nl_payload)?;
+        self.deliveries.open(number)?;
+        self.next_seq = number.wrapping_add(1);
+        let handle = NlRouterReceiverHandle::new(HandleState {
+            number: Some(number),
+            needs_ack: needs_acknowledgement(nl_flags),
+            single_given: false,
+            ended: false,
+        });
+        Ok((bytes, handle))
+    }
+
+    /// Takes in a datagram that came to these groups. Where these are none, each message goes to the handle
+    /// of its sequence number; a stray, which has another port than the router's or a number that is not
+    /// open, goes to the handle of every open number. Where there are groups, each message goes to multicast.
+    /// The fault at which a datagram ends goes to the handle of every open number in any case.
+    ///
+    /// Refused only where memory runs out, and then nothing is handed to anybody.
+    pub fn processing_loop(&mut self, bytes: &[u8], groups: &Groups) -> Result<(), NoMemory>
+        ensures port { D.port_of self.new.deliveries ≡ D.port_of self.old.deliveries }
+        ensures next_seq { self.new.next_seq ≡ self.old.next_seq }
+        ensures ok { OnOk result ((w : Option ℕ) → D.pending self.new.deliveries w
+            ≡ option_map (λ ds. ds ++ datagram_share (D.port_of self.old.deliveries)
+            (λ q. is_some (D.pending self.old.deliveries (Some q))) w
+            (cut_of untyped_layout bytes.now) groups.now) (D.pending self.old.deliveries w)) }
+        ensures err { OnErr result ((w : Option ℕ)
+            → D.pending self.new.deliveries w ≡ D.pending self.old.deliveries w) }
+        ensures empty { bytes.now ≡ [] → IsOk result }
+    {
+        self.deliveries.datagram(bytes, groups)
+    }
+
+    /// Takes in a fault of the link: each handle with a number is given it, unless the link would
+    /// only block.
+    ///
+    /// Refused only where memory runs out, and then nothing is handed to anybody; that the link
+    /// would block never is.
+    pub fn error_handling(&mut self, error: SocketError) -> Result<(), NoMemory>
+        ensures port { D.port_of self.new.deliveries ≡ D.port_of self.old.deliveries }
+        ensures next_seq { self.new.next_seq ≡ self.old.next_seq }
+        ensures ok { OnOk result ((w : Option ℕ) → D.pending self.new.deliveries w
+            ≡ option_map (λ ds. ds ++ fault_share w error) (D.pending self.old.deliveries w)) }
+        ensures err { OnErr result ((w : Option ℕ)
+            → D.pending self.new.deliveries w ≡ D.pending self.old.deliveries w) }
+        ensures would_block { is_would_block error ≡ true → IsOk result }
+    {
+        self.deliveries.fault(error)
+    }
+
+    /// The handle's next item, read as these types whatever the handle's own are; or the end, or
+    /// that it waits. A handle that is not open here is given `ClosedChannel`, and is ended then:
+    /// it gives the end in every router.
+    ///
+    /// Refused only where memory runs out, and then the router and the handle are as they were.
+    pub fn next_typed<T: NlType, P: FromBytesWithInput + Size + Drop, RT, RP>(
+        &mut self,
+        alloc: Global,
+        handle: &mut NlRouterReceiverHandle<RT, RP>,
+    ) -> Result<Reply<T, P>, NoMemory>
+        ensures port { D.port_of self.new.deliveries ≡ D.port_of self.old.deliveries }
+        ensures next_seq { self.new.next_seq ≡ self.old.next_seq }
+        ensures ended { handle.old.ended ≡ true
+            → (result ≡ Ok reply.End) × (handle.new ≡ handle.old) × (self.new ≡ self.old) }
+        ensures closed { handle.old.ended ≡ false
+            → D.pending self.old.deliveries handle.old.number ≡ None
+            → (result ≡ Ok (reply.Item (Err RouterError.ClosedChannel)))
+            × (handle.new ≡ record handle.old { ended = true }) × (self.new ≡ self.old) }
+        ensures waits { handle.old.ended ≡ false
+            → D.pending self.old.deliveries handle.old.number ≡ Some []
+            → (result ≡ Ok reply.Waits) × (handle.new ≡ handle.old) × (self.new ≡ self.old) }
+        ensures gives { handle.old.ended ≡ false → (d : Waiting) (ds : List Waiting)
+            → D.pending self.old.deliveries handle.old.number ≡ Some (d ∷ ds)
+            → IfOk result (λ given. (item : Given T P)
+            × IsReading T.wire_value P.view P.wire_length P.read d item
+            × (given ≡ reply.Item (item_of T.wire_number handle.old.needs_ack
+            (has_number handle.old.number) handle.old.single_given item))
+            × (D.pending self.new.deliveries handle.old.number ≡ Some ds)
+            × (handle.new ≡ record handle.old {
+              single_given = handle.old.single_given
+                  || is_single T.wire_number (has_number handle.old.number) item;
+              ended = ends_at T.wire_number handle.old.needs_ack
+                  (has_number handle.old.number) handle.old.single_given item;
+            })) }
+        ensures others { (w : Option ℕ) → w ≢ handle.old.number
+            → D.pending self.new.deliveries w ≡ D.pending self.old.deliveries w }
+        ensures err { OnErr result ((handle.new ≡ handle.old) × (self.new ≡ self.old)) }
+    {
+        let state = handle.state();
+        if state.ended {
+            return Ok(Reply::End);
+        }
+        if !self.deliveries.is_open(state.number) {
+            handle.set_state(HandleState {
+                ended: true,
+                ..state
+            });
+            return Ok(Reply::Item(Err(RouterError::ClosedChannel)));
+        }
+        match self.deliveries.first(alloc, state.number)? {
+            None => Ok(Reply::Waits),
+            Some(item) => {
+                self.deliveries.drop_first(state.number);
+                let (after, given) = answer(state, item);
+                handle.set_state(after);
+                Ok(Reply::Item(given))
+            }
+        }
+    }
+
+    /// Closes a handle: what waits for it is given up, and its number may be used again. It takes
+    /// no memory.
+    ///
+    /// A handle is known by its number. Where that is not open here nothing changes; a handle of
+    /// another router closes the one that has the same number here.
+    pub fn close<RT, RP>(&mut self, handle: NlRouterReceiverHandle<RT, RP>)
+        ensures port { D.port_of self.new.deliveries ≡ D.port_of self.old.deliveries }
+        ensures next_seq { self.new.next_seq ≡ self.old.next_seq }
+        ensures closed { D.pending self.new.deliveries handle.number ≡ None }
+        ensures others { (w : Option ℕ) → w ≢ handle.number
+            → D.pending self.new.deliveries w ≡ D.pending self.old.deliveries w }
+    {
+        self.deliveries.close(handle.state().number);
+    }
+}
+
+/// The bytes of a request.
+fn frame<ST: NlType, SP: ToBytes + Drop>(
+    alloc: Global,
+    nl_type: ST,
+    nl_flags: NlmF,
+    number: u32,
+    port: u32,
+    nl_payload: NlPayload<ST, SP>,
+) -> Result<Vec<u8>, RouterError<ST, SP>>
+    ensures bytes { IfOk result (λ bytes. frame_or_refusal ST.wire_number SP.wire SP.Size.wire_length
+        port number false nl_type nl_flags nl_payload ≡ Ok bytes.items) }
+    ensures refused { IfErr result (RefusesSend (frame_or_refusal ST.wire_number SP.wire SP.Size.wire_length
+        port number false nl_type nl_flags nl_payload)
+        (TakesMemory ST.wire_number SP.wire SP.Size.wire_length false nl_payload)) }
+{
+    let request = NlmsghdrBuilder::default()
+        .nl_type(nl_type)
+        .nl_flags(nl_flags | NlmF::REQUEST)
+        .nl_seq(number)
+        .nl_pid(port)
+        .nl_payload(nl_payload)
+        .build();
+    let Ok(message) = request else {
+        return Err(RouterError::Msg(MsgError::from_static("Length does not fit its field")));
+    };
+    let mut bytes = Vec::new(alloc);
+    match message.to_bytes(&mut bytes) {
+        Ok(()) => Ok(bytes),
+        Err(error) => Err(SocketError::from(error).into()),
+    }
+}

@@ -1,0 +1,108 @@
+//! The reply rule, one read at a time.
+
+ghost use Rattle.std.specs.Prelude.{◌≡◌, ◌||◌};
+ghost use Rattle.neli_router.specs.Rule.{ends_alone, ends_at, has_number, is_single, item_of, last_item, needs_ack};
+
+use crate::HandleState;
+use bitflags::Flags;
+use neli_consts::{NlType, NlmF};
+use neli_reader::{NlPayload, Nlmsghdr, RouterError};
+
+/// The type of the message that ends a dump (`NLMSG_DONE` of `linux/netlink.h`).
+const DONE: u16 = 3;
+
+/// Whether flags that are sent ask for an acknowledgement.
+pub(crate) fn needs_acknowledgement(flags: NlmF) -> bool
+    ensures { result ≡ needs_ack flags }
+{
+    flags.contains(NlmF::ACK) && !flags.contains(NlmF::DUMP)
+}
+
+/// Whether nothing follows an item, whatever was asked for.
+fn is_final<T, P>(item: &Result<Nlmsghdr<T, P>, RouterError<T, P>>) -> bool
+    ensures { result ≡ ends_alone item.now }
+{
+    match item {
+        Ok(message) => match message.nl_payload() {
+            NlPayload::Ack(_) | NlPayload::Err(_) | NlPayload::Capped(_) => true,
+            _ => false,
+        },
+        Err(_) => true,
+    }
+}
+
+/// Whether an item is a whole reply to a request, or the last message of one.
+fn is_whole<T: NlType, P>(numbered: bool, item: &Result<Nlmsghdr<T, P>, RouterError<T, P>>) -> bool
+    ensures { result ≡ is_single T.wire_number numbered item.now }
+{
+    match item {
+        Ok(message) => {
+            numbered
+                && !is_final(item)
+                && (!message.nl_flags().contains(NlmF::MULTI)
+                    || message.nl_type().to_number() == DONE)
+        }
+        Err(_) => false,
+    }
+}
+
+/// What is given where the answers end: an acknowledgement that was asked for, an error as such, a
+/// single reply, or what came in place of the acknowledgement.
+fn last<T: NlType, P: Drop>(
+    handle: &HandleState,
+    item: Result<Nlmsghdr<T, P>, RouterError<T, P>>,
+) -> Result<Nlmsghdr<T, P>, RouterError<T, P>>
+    ensures { result ≡ last_item handle.now.needs_ack handle.now.single_given item }
+{
+    let mut message = item?;
+    if let NlPayload::Ack(_) = message.nl_payload() {
+        return if handle.needs_ack {
+            Ok(message)
+        } else {
+            Err(RouterError::UnexpectedAck)
+        };
+    }
+    if handle.single_given {
+        return Err(RouterError::NoAck);
+    }
+    if let NlPayload::Capped(_) = message.nl_payload() {
+        return match message.get_capped() {
+            Some(answer) => Err(RouterError::Capped(answer)),
+            None => Ok(message),
+        };
+    }
+    match message.get_err() {
+        Some(answer) => Err(RouterError::Nlmsgerr(answer)),
+        None => Ok(message),
+    }
+}
+
+/// What a handle is given of an item, and what is known of the handle then.
+pub(crate) fn answer<T: NlType, P: Drop>(
+    handle: HandleState,
+    item: Result<Nlmsghdr<T, P>, RouterError<T, P>>,
+) -> (HandleState, Result<Nlmsghdr<T, P>, RouterError<T, P>>)
+    ensures item { result.1 ≡ item_of T.wire_number
+        handle.needs_ack (has_number handle.number) handle.single_given item }
+    ensures handle { result.0 ≡ record handle {
+      single_given = handle.single_given || is_single T.wire_number (has_number handle.number) item;
+      ended = ends_at T.wire_number
+          handle.needs_ack (has_number handle.number) handle.single_given item;
+    } }
+{
+    let single = is_whole(handle.number.is_some(), &item);
+    let ended = is_final(&item)
+        || if handle.needs_ack {
+            handle.single_given
+        } else {
+            single
+        };
+    let given = if ended { last(&handle, item) } else { item };
+    let after = HandleState {
+        number: handle.number,
+        needs_ack: handle.needs_ack,
+        single_given: handle.single_given || single,
+        ended,
+    };
+    (after, given)
+}

@@ -1,0 +1,11 @@
+mod Alike
+mod Lists
+mod Places
+mod Readings
+mod Later
+mod OtherReads
+mod Regrouping
+mod Requests
+mod Steps
+mod Walks
+mod Runs

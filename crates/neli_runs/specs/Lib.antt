@@ -1,0 +1,11 @@
+pub use Rattle.neli_router.specs.declared.handle.HandleState
+pub use Rattle.neli_router.specs.declared.reply.Reply
+pub use Rattle.neli_router.specs.Requests
+pub use Rattle.neli_router.specs.Rule
+pub use Rattle.neli_router.specs.Sends
+pub mod Deliveries
+pub mod History
+pub mod OtherReads
+pub mod Outcomes
+pub mod Regrouping
+pub mod laws

@@ -1,0 +1,161 @@
+//! Laws of runs, over the definitions alone. The calls do nothing: their contracts are the laws.
+
+ghost use Rattle.std.specs.Prelude.{◌≡◌, ◌≢◌, ◌<◌, ◌↔◌, ◌++◌, ◌∷◌, ℕ, Bool, false, List, Ok};
+ghost use Rattle.neli_consts.specs.declared.nlm_f.NlmF.{NlmF as Flags};
+ghost use Rattle.neli_reader.specs.Agreement.{untyped_layout};
+ghost use Rattle.neli_reader.specs.Cuts.{cut_of, messages_before};
+ghost use Rattle.neli_reader.specs.Messages.{message_layout};
+ghost use Rattle.neli_reader.specs.NlPayload.{NlPayload as Payload};
+ghost use Rattle.neli_lent.specs.Written.{IsWalked};
+ghost use Rattle.neli_deliveries.specs.declared.delivery.Delivery.{Delivery as Waiting};
+ghost use Rattle.neli_deliveries.specs.Readings.{Item};
+ghost use Rattle.neli_router.specs.declared.reply.Reply.{Reply as Answer};
+ghost use Rattle.neli_router.specs.declared.reply.Reply.TheVariants as reply;
+ghost use Rattle.neli_router.specs.Rule.{answer};
+ghost use Rattle.neli_router.specs.Sends.{frame_or_refusal, request};
+ghost use Rattle.neli_runs.specs.Deliveries.{deliveries};
+ghost use Rattle.neli_runs.specs.History.{History, is_handle_open, is_open, is_sent, items_of, needs_of, list_of_handle};
+ghost use Rattle.neli_runs.specs.OtherReads.{NoneReads};
+ghost use Rattle.neli_runs.specs.Outcomes.{EachAfter, IsAnswered, IsNextAnswer, IsSent, outcome_of};
+ghost use Rattle.neli_runs.specs.Regrouping.{Bytes, IsRegrouped, IsWhole, history_with};
+
+use crate::{Command, Outcome};
+use neli_consts::NlType;
+use neli_wire::{FromBytesWithInput, Size, ToBytes};
+
+/// The bytes that are sent are one frame: read as a datagram they are one message, with the type, the flags and REQUEST,
+/// the sequence number and the port, and with the payload's bytes and zeros up to a multiple of four; and no fault.
+pub fn request_is_one_frame<ST: NlType, SP: ToBytes>()
+    ensures { (port number : ℕ) (in_use : Bool) (t : ST) (flags : Flags) (payload : Payload ST SP)
+        (bytes : List ℕ) → port < 4294967296 → number < 4294967296 → ST.wire_number t < 65536
+        → flags.0 < 65536 → frame_or_refusal ST.wire_number SP.wire SP.Size.wire_length port number
+        in_use t flags payload ≡ Ok bytes
+        → IsWalked ST.wire_number SP.wire (request ST.wire_number SP.wire SP.Size.wire_length port
+        number t flags payload) bytes }
+{}
+
+/// Answers only grow: what was answered with some deliveries is answered with more, an item as the same item
+/// and the end as the end. A wait alone may become something else.
+pub fn answers_only_grow<RT: NlType, RP>()
+    ensures item { (needs numbered : Bool) (items more : List (Item RT RP)) (i : ℕ) (x : Item RT RP)
+        → answer RT.wire_number needs numbered items i ≡ reply.Item x
+        → answer RT.wire_number needs numbered (items ++ more) i ≡ reply.Item x }
+    ensures end { (needs numbered : Bool) (items more : List (Item RT RP)) (i : ℕ)
+        → answer RT.wire_number needs numbered items i ≡ reply.End
+        → answer RT.wire_number needs numbered (items ++ more) i ≡ reply.End }
+{}
+
+/// Deliveries only grow: a command more leaves what was delivered to a handle, and may add to it.
+pub fn deliveries_only_grow<ST, SP, RT, RP>()
+    ensures { (port k : ℕ) (c : Command ST SP) (o : Outcome ST SP RT RP)
+        (h : History ST SP RT RP) → (more : List Waiting)
+        × (deliveries port k ((c, o) ∷ h) ≡ deliveries port k h ++ more) }
+{}
+
+/// So what comes later takes no answer back: an item or the end that is right for a read after some history is right
+/// after every history that begins with that one.
+pub fn later_commands_leave_answers<ST, SP, RT, RP>()
+where
+    RT: NlType,
+    RP: FromBytesWithInput + Size,
+    ensures deliveries { (port k : ℕ) (before later : History ST SP RT RP) → (more : List Waiting)
+        × (deliveries port k (later ++ before) ≡ deliveries port k before ++ more) }
+    ensures answer { (port k : ℕ) (needs numbered : Bool) (given : List (Item RT RP))
+        (r : Answer RT RP) (before later : History ST SP RT RP) → r ≢ reply.Waits
+        → IsNextAnswer RT.wire_value RT.wire_number RP.view RP.wire_length RP.read needs numbered
+        (deliveries port k before) given r
+        → IsNextAnswer RT.wire_value RT.wire_number RP.view RP.wire_length RP.read needs numbered
+        (deliveries port k (later ++ before)) given r }
+{}
+
+/// A read of one handle changes nothing of another: neither what is delivered to it nor what it was given.
+pub fn reads_of_others_change_nothing<ST, SP, RT, RP>()
+    ensures deliveries { (port j k : ℕ) (r : Answer RT RP) (h : History ST SP RT RP)
+        → deliveries port k ((Command.Read j, outcome_of r) ∷ h) ≡ deliveries port k h }
+    ensures items { (j k : ℕ) (r : Answer RT RP) (h : History ST SP RT RP) → k ≢ j
+        → items_of k ((Command.Read j, outcome_of r) ∷ h) ≡ items_of k h }
+    ensures needs { (j k : ℕ) (r : Answer RT RP) (h : History ST SP RT RP)
+        → needs_of k ((Command.Read j, outcome_of r) ∷ h) ≡ needs_of k h }
+    ensures whose { (j k : ℕ) (r : Answer RT RP) (h : History ST SP RT RP)
+        → list_of_handle k ((Command.Read j, outcome_of r) ∷ h) ≡ list_of_handle k h }
+    ensures live { (j k : ℕ) (r : Answer RT RP) (h : History ST SP RT RP)
+        → is_handle_open k ((Command.Read j, outcome_of r) ∷ h) ≡ is_handle_open k h }
+{}
+
+/// So it changes no outcome: where handle `j` was read at some point of a history, or was not, the same is right for a
+/// run to answer to the commands that come later, of which none reads `j`. The read may have had any outcome but bytes
+/// to be sent, which no read has.
+pub fn reads_of_others_leave_outcomes<ST, SP, RT, RP>()
+where
+    ST: NlType,
+    SP: ToBytes,
+    RT: NlType,
+    RP: FromBytesWithInput + Size,
+    // What is sent is the same even where they read `j`.
+    ensures sent { (port j : ℕ) (o : Outcome ST SP RT RP) (before later : History ST SP RT RP)
+        (commands : List (Command ST SP)) (outcomes : List (Outcome ST SP RT RP))
+        → is_sent o ≡ false
+        → (EachAfter (IsSent ST.wire_number SP.wire SP.Size.wire_length port)
+        (later ++ before) commands outcomes
+        ↔ EachAfter (IsSent ST.wire_number SP.wire SP.Size.wire_length port)
+        (later ++ (Command.Read j, o) ∷ before) commands outcomes) }
+    ensures read { (port j : ℕ) (o : Outcome ST SP RT RP) (before later : History ST SP RT RP)
+        (commands : List (Command ST SP)) (outcomes : List (Outcome ST SP RT RP))
+        → is_sent o ≡ false → NoneReads j commands
+        → (EachAfter (IsAnswered RT.wire_value RT.wire_number RP.view RP.wire_length RP.read port)
+        (later ++ before) commands outcomes
+        ↔ EachAfter (IsAnswered RT.wire_value RT.wire_number RP.view RP.wire_length RP.read port)
+        (later ++ (Command.Read j, o) ∷ before) commands outcomes) }
+{}
+
+/// Bytes without a fault and bytes after them have the messages of both, and then the fault of the later ones, if
+/// there is one.
+pub fn cuts_join<T: NlType, P: FromBytesWithInput>()
+    ensures typed { (a b : List ℕ) → IsWhole (message_layout T.wire_value T.wire_number P.read) a
+        → cut_of (message_layout T.wire_value T.wire_number P.read) (a ++ b)
+        ≡ messages_before (cut_of (message_layout T.wire_value T.wire_number P.read) a).0
+        (cut_of (message_layout T.wire_value T.wire_number P.read) b) }
+    ensures untyped { (a b : List ℕ) → IsWhole untyped_layout a → cut_of untyped_layout (a ++ b)
+        ≡ messages_before (cut_of untyped_layout a).0 (cut_of untyped_layout b) }
+{}
+
+/// Datagrams may be regrouped: where some that came one after the other, to the same groups, are replaced by others
+/// with the same bytes, every handle is delivered the same, whatever came before them and after them. Of the old
+/// datagrams and of the new ones only the last may have a fault. The same handles and numbers are open.
+pub fn regrouping_leaves_deliveries<ST, SP, RT, RP>()
+    ensures deliveries { (port k : ℕ) (groups : List ℕ) (bs cs : List Bytes)
+        (before later : History ST SP RT RP) → IsRegrouped bs cs
+        → deliveries port k (later ++ history_with groups bs before)
+        ≡ deliveries port k (later ++ history_with groups cs before) }
+    ensures live { (k : ℕ) (groups : List ℕ) (bs cs : List Bytes)
+        (before later : History ST SP RT RP)
+        → is_handle_open k (later ++ history_with groups bs before)
+        ≡ is_handle_open k (later ++ history_with groups cs before) }
+    ensures open { (q : ℕ) (groups : List ℕ) (bs cs : List Bytes)
+        (before later : History ST SP RT RP)
+        → is_open q (later ++ history_with groups bs before)
+        ≡ is_open q (later ++ history_with groups cs before) }
+{}
+
+/// So what is right for a run to answer after the old datagrams, to any commands, is right after the new ones.
+pub fn regrouping_leaves_outcomes<ST, SP, RT, RP>()
+where
+    ST: NlType,
+    SP: ToBytes,
+    RT: NlType,
+    RP: FromBytesWithInput + Size,
+    ensures sent { (port : ℕ) (groups : List ℕ) (bs cs : List Bytes) (before : History ST SP RT RP)
+        (commands : List (Command ST SP)) (outcomes : List (Outcome ST SP RT RP))
+        → IsRegrouped bs cs
+        → EachAfter (IsSent ST.wire_number SP.wire SP.Size.wire_length port)
+        (history_with groups bs before) commands outcomes
+        → EachAfter (IsSent ST.wire_number SP.wire SP.Size.wire_length port)
+        (history_with groups cs before) commands outcomes }
+    ensures read { (port : ℕ) (groups : List ℕ) (bs cs : List Bytes) (before : History ST SP RT RP)
+        (commands : List (Command ST SP)) (outcomes : List (Outcome ST SP RT RP))
+        → IsRegrouped bs cs
+        → EachAfter (IsAnswered RT.wire_value RT.wire_number RP.view RP.wire_length RP.read port)
+        (history_with groups bs before) commands outcomes
+        → EachAfter (IsAnswered RT.wire_value RT.wire_number RP.view RP.wire_length RP.read port)
+        (history_with groups cs before) commands outcomes }
+{}

@@ -1,0 +1,18 @@
+//! Whole runs of the router: any list of sends, datagrams, faults, reads and closes.
+//!
+//! - [`run`] does what a list of [`Command`]s says, and answers one [`Outcome`] for each.
+//! - [`NlRouter`] is the router itself, call by call.
+//!
+//! What a run answers is said on three pages: `specs/History.antt` (which numbers are open),
+//! `specs/Deliveries.antt` (who gets what) and `specs/Outcomes.antt` (what is sent, and what each
+//! read answers). `specs/Regrouping.antt` and `specs/OtherReads.antt` have the words of the laws.
+#![tactic(auto)]
+
+mod command;
+pub mod laws;
+mod session;
+mod whole_run;
+
+pub use command::{Command, Outcome};
+pub use neli_router::{Deliveries, Delivery, HandleState, NlRouter, NlRouterReceiverHandle, Reply};
+pub use whole_run::run;
