@@ -45,10 +45,3 @@ pub items_fault : {A : Type 0} (size : A → ℕ) (cut : Cut A) (left later : Li
 items_fault size (values, fault) left later e so_far is first =
     let found : fault ≡ Some e = sym (items-fault values fault) ∙ is.fault ∙ ap fault_among first in
     rw found (search rules)
-
-pub items_more : {A : Type 0} (size : A → ℕ) (all left later : List (Result A DeError)) (a : A) (so_far next : ℕ) → IsItemSum size all left so_far → left ≡ Ok a ∷ later → next ≡ as_u64 (so_far + size a) → IsItemSum size all later next
-items_more size all left later a so_far next is first e = record {
-  fault = is.fault ∙ ap fault_among first;
-  total = is.total ∙ ap (λ items. as_u64 (so_far + sum_by (added size) items)) first ∙ grind (arith, sum_by-cons (added size) (Ok a) later, e);
-  fits = grind (arith, e);
-}

@@ -25,10 +25,6 @@ in-open (Some (slot.Open g)) h e = (let same : g ≡ h = cc in ap (λ (x : Handl
 in-open (Some (slot.Free n)) h e = absurd cc
 in-open None h e = absurd cc
 
--- a handle that is put is there
-pub handle-put : (slots : List Slot) (k : ℕ) (h : HandleState) → k < length slots → handle_at k (slice_set slots k (slot.Open h)) ≡ Some h
-handle-put slots k h within = ap handle_in (get-set slots k (slot.Open h) within)
-
 -- a store at another place leaves free places free
 pub free-set : (slots : List Slot) (first : ℕ) (ks : List ℕ) (k : ℕ) (x : Slot) → AreFree slots first ks → IsApart k ks → AreFree (slice_set slots k x) first ks
 free-set slots first [] k x free apart = free

@@ -2,7 +2,6 @@ pub mod AsBox
 pub mod Frames
 pub mod FreePlaces
 pub mod Opened
-pub mod Padding
 pub mod Replies
 pub mod Requests
 pub mod Steps

@@ -1,5 +1,5 @@
 -- Walks, one item after the other.
-use Rattle.std.proofs.Common.{◌≡◌, ◌≢◌, ◌+◌, ◌≤◌, ℕ, Bool, true, false, List, [], ◌∷◌, length, Option, Some, None, Ok, Err, refl, sym, ap, ◌∙◌, arith}
+use Rattle.std.proofs.Common.{◌≡◌, ◌≢◌, ◌+◌, ◌≤◌, ℕ, List, [], ◌∷◌, length, Option, Some, None, Ok, Err, refl, sym, ap, ◌∙◌, arith}
 use Rattle.std.specs.Prelude.{◌<◌, Result, IfSome, IsNone, MatchOption, OnErr, OnSome, option_map}
 use Rattle.neli_wire.specs.DeError.{DeError}
 use Rattle.neli_wire.specs.Frames.{frame_at}
@@ -11,7 +11,7 @@ use Rattle.neli_reader.specs.Cuts.{Cut, cut_of, message_before}
 use Rattle.neli_reader.specs.laws.Cuts.{cut_of-end, cut_of-message, cut_of-fault, frame_at-longer}
 use Rattle.neli_reader.specs.laws.Messages.{layout_with-placed}
 use Rattle.neli_lent.specs.Attributes.{attributes_at, lent_attribute}
-use Rattle.neli_lent.specs.Walks.{count_of, cut_with, find_in, items_of, map_item, map_ok}
+use Rattle.neli_lent.specs.Walks.{cut_with, items_of, map_item, map_ok}
 use Rattle.neli_lent.specs.Messages.{Lent, lent_message, messages_in}
 
 -- ---- items
@@ -28,26 +28,10 @@ module _ {A B : Type 0} (f : A → B) where
   makes-progress None old new is = tt
   makes-progress (Some x) old new is = omega (arith, ap length is)
 
--- a value that is not meant is passed over
-pub find-later : {A : Type 0} (is_meant : A → Bool) (a : A) (c : Cut A) → is_meant a ≡ false → find_in is_meant (message_before a c) ≡ find_in is_meant c
-find-later is_meant a c not = rw not refl
-
--- one that is meant is found
-pub find-here : {A : Type 0} (is_meant : A → Bool) (a : A) (c : Cut A) → is_meant a ≡ true → find_in is_meant (message_before a c) ≡ Ok (Some a)
-find-here is_meant a c is = rw is refl
-
 -- so many values before others
 abbrev pub counted_after : ℕ → Result ℕ DeError → Result ℕ DeError
 counted_after n (Ok m) = Ok (n + m)
 counted_after n (Err e) = Err e
-
-pub counted-none : (r : Result ℕ DeError) → r ≡ counted_after 0 r
-counted-none (Ok m) = ap (λ (k : ℕ). Ok k) (omega arith)
-counted-none (Err e) = refl
-
-pub counted-more : {A : Type 0} (n : ℕ) (a : A) (c : Cut A) → counted_after n (count_of (message_before a c)) ≡ counted_after (n + 1) (count_of c)
-counted-more n a (xs, None) = ap (λ (k : ℕ). Ok k) (omega arith)
-counted-more n a (xs, Some e) = refl
 
 -- ---- messages
 

@@ -12,7 +12,7 @@ use Rattle.neli_reader.specs.Headers.{Header}
 use Rattle.neli_reader.specs.NlPayload.TheVariants as payload
 use Rattle.neli_lent.specs.Messages.{Lent, as_owned, lent_message}
 use Rattle.neli_lent.specs.laws.Messages.{owned-read}
-use Rattle.neli_listing.proofs.Streams.{appends_more, appends_none}
+use Rattle.neli_listing.proofs.Streams.{appends_more}
 use Rattle.neli_listing.specs.declared.line.Line.{Line}
 use Rattle.neli_wire.specs.DeError.{DeError}
 use Rattle.neli_wire.specs.DeError.TheVariants as de
@@ -44,9 +44,6 @@ pub record IsListed (bytes lines left : List ℕ) : Type 0 where
   pub messages : List Raw
   pub so_far : raw_cut bytes ≡ messages_before messages (raw_cut left)
   pub made : lines ≡ lines_of messages
-
-pub listed_init : (bytes : List ℕ) → IsListed bytes [] bytes
-listed_init bytes = record { messages = []; so_far = refl; made = refl }
 
 one_line : (m : Raw) → lines_of (m ∷ []) ≡ line_of m ++ codes "\n"
 one_line m = append-nil (line_of m ++ codes "\n")
@@ -155,9 +152,6 @@ pub record IsPrinted (bytes : List ℕ) (old now : Option (List ℕ)) (left : Li
   pub lines : List ℕ
   pub gained : Appends old now lines
   pub listed : IsListed bytes lines left
-
-pub printed_init : (bytes : List ℕ) (known : Option (List ℕ)) → IsPrinted bytes known known bytes
-printed_init bytes known = record { lines = []; gained = appends_none known; listed = listed_init bytes }
 
 pub printed_more : (bytes : List ℕ) (old now next : Option (List ℕ)) (left later : List ℕ) (line : Line) → IsPrinted bytes old now left → BeginsWith left line later → Appends now next (line_text line ++ codes "\n") → IsPrinted bytes old next later
 printed_more bytes old now next left later line is begins gains = record {

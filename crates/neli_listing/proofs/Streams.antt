@@ -1,25 +1,8 @@
 -- Bytes that are read or written one part after the other.
-use Rattle.std.proofs.Common.{◌≡◌, ◌+◌, ◌≤◌, ◌<◌, ℕ, List, [], ◌++◌, length, Option, Some, None, refl, sym, ap, ◌∙◌, append_assoc, length-append, arith}
-use Rattle.std.specs.Prelude.{IfSome}
-use Rattle.std.specs.Io.KnownBytes.{Appends, Keeps, Consumes, IsAtEnd}
+use Rattle.std.proofs.Common.{◌≡◌, ◌+◌, ◌≤◌, ◌<◌, ℕ, List, [], ◌++◌, length, Option, Some, None, sym, ap, ◌∙◌, append_assoc, length-append, arith}
+use Rattle.std.specs.Io.KnownBytes.{Appends, Consumes}
 use Rattle.std.proofs.lemmas.List.{append-nil}
 use Rattle.neli_listing.specs.Inputs.{HasAtLeast}
-
-pub consumes_init : (known : Option (List ℕ)) → Consumes known known []
-consumes_init None = tt
-consumes_init (Some xs) = refl
-
-pub consumes_more : (a b c : Option (List ℕ)) (xs ys : List ℕ) → Consumes a b xs → Consumes b c ys → Consumes a c (xs ++ ys)
-consumes_more None b c xs ys p q = tt
-consumes_more (Some x) None c xs ys p q = absurd p
-consumes_more (Some x) (Some y) None xs ys p q = absurd q
-consumes_more (Some x) (Some y) (Some z) xs ys p q = p ∙ rw (q, append_assoc) refl
-
-pub consumes_all : (a b c : Option (List ℕ)) (xs : List ℕ) → Consumes a b xs → Consumes b c [] → IsAtEnd c → IfSome a (λ all. xs ≡ all)
-consumes_all None b c xs p q end = tt
-consumes_all (Some x) None c xs p q end = absurd p
-consumes_all (Some x) (Some y) None xs p q end = absurd q
-consumes_all (Some x) (Some y) (Some z) xs p q end = sym (p ∙ rw (q, end) (append-nil xs))
 
 pub appends_none : (a : Option (List ℕ)) → Appends a a []
 appends_none None = tt
@@ -30,16 +13,6 @@ appends_more None b c xs ys p q = tt
 appends_more (Some x) None c xs ys p q = absurd p
 appends_more (Some x) (Some y) None xs ys p q = absurd q
 appends_more (Some x) (Some y) (Some z) xs ys p q = q ∙ rw p (append_assoc x xs ys)
-
-pub appends_kept : (a b c : Option (List ℕ)) (xs : List ℕ) → Appends a b xs → Keeps b c → Appends a c xs
-appends_kept None b c xs p q = tt
-appends_kept (Some x) None c xs p q = absurd p
-appends_kept (Some x) (Some y) None xs p q = absurd q
-appends_kept (Some x) (Some y) (Some z) xs p q = q ∙ p
-
-pub keeps_refl : (a : Option (List ℕ)) → Keeps a a
-keeps_refl None = tt
-keeps_refl (Some x) = refl
 
 -- a reader that gave so many bytes had them
 pub consumes_long : (a c : Option (List ℕ)) (bs : List ℕ) (n : ℕ) → Consumes a c bs → n ≤ length bs → HasAtLeast n a

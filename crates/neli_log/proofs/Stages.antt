@@ -159,16 +159,6 @@ module _ (P : Option ℕ → Option (List Content)) (port serial : ℕ) (bytes g
   pub staged_gains : (es : List (Entry Content)) (at : ℕ) → AreStaged P port serial bytes groups cut es at ([], None) → (w : Option ℕ) → is_some (P w) ≡ true → deliveries_added bytes w es ≡ deliveries_due port P groups w cut
   staged_gains es at h w opened = sym (append-nil (deliveries_added bytes w es)) ∙ ap (λ ds. deliveries_added bytes w es ++ ds) (sym (received_end port (is_open P) w groups)) ∙ h.lists w opened
 
--- nothing is staged before the first byte
-pub staged_none : (P : Option ℕ → Option (List Content)) (port serial : ℕ) (bytes groups : List ℕ) (cut : Cut Untyped) → AreStaged P port serial bytes groups cut [] 0 cut
-staged_none P port serial bytes groups cut = record {
-  lists = λ w opened. refl;
-  spans = record { one = λ i s there. cc; apart = tt };
-  messages = λ i s there. cc;
-  readers = λ i e there. cc;
-  few = omega arith;
-}
-
 -- what a fault brings is the entry of it
 pub fault_gains : (port : ℕ) (P : Option ℕ → Option (List Content)) (bytes groups : List ℕ) (fault : DeError) (e : Entry Content) (w : Option ℕ) → e ≡ record { item = content.Fault (socket.De fault); route = route.Numbers }
     → deliveries_added bytes w (e ∷ []) ≡ deliveries_due port P groups w ([], Some fault)

@@ -10,7 +10,7 @@ use Rattle.neli_reader.specs.laws.Cuts.{cut_of-end}
 use Rattle.neli_reader.specs.laws.Messages.{layout_with-placed}
 use Rattle.neli_lent.specs.Spans.{IsSpan}
 use Rattle.neli_deliveries.specs.declared.delivery.Delivery.{Delivery}
-use Rattle.neli_deliveries.specs.Deliveries.{Untyped, fault_share, head_of, is_would_block, messages_to, reader_fault, datagram_share}
+use Rattle.neli_deliveries.specs.Deliveries.{Untyped, fault_share, is_would_block, messages_to, reader_fault, datagram_share}
 use Rattle.neli_places.specs.declared.entry.Entry.{Entry}
 use Rattle.neli_places.specs.declared.entry.Route.{Route}
 use Rattle.neli_places.specs.declared.entry.Route.TheVariants as route
@@ -67,12 +67,6 @@ mapped_empty {A = A} {B = B} f P = (
     none [] h = refl
     none (x ∷ xs) h = cc
 
--- what is first
-pub mapped_first : (f : Content → Delivery) (o : Option (List Content)) → head_of (option_map (map f) o) ≡ option_map f (first_of o)
-mapped_first f None = refl
-mapped_first f (Some []) = refl
-mapped_first f (Some (x ∷ xs)) = refl
-
 pub mapped_more : (f : Content → Delivery) (o : Option (List Content)) (a b : List Delivery) → (is_some o ≡ true → a ≡ b) → option_map (λ ds. ds ++ a) (option_map (map f) o) ≡ option_map (λ ds. ds ++ b) (option_map (map f) o)
 mapped_more f None a b h = refl
 mapped_more f (Some xs) a b h = ap (λ zs. Some (map f xs ++ zs)) (h refl)
@@ -118,9 +112,6 @@ pub first_readable : (s : Places Content) (d : Datagrams) (w : Option ℕ) (c : 
 first_readable s d w (content.Message x) h is = (let j = first_span s.base (entries_of s) w (place_of s w) (content.Message x) x is refl in ((spans_of (entries_of s), j.0, h.names, j.1), h.messages j.0 x j.1))
 first_readable s d w (content.Stray x) h is = (let j = first_span s.base (entries_of s) w (place_of s w) (content.Stray x) x is refl in ((spans_of (entries_of s), j.0, h.names, j.1), h.messages j.0 x j.1))
 first_readable s d w (content.Fault e) h is = tt
-
-pub backed_same : (d : Datagrams) (es es' : List (Entry Content)) → es' ≡ es → AreBacked d es → AreBacked d es'
-backed_same d es es' is h = rw is h
 
 -- ---- an entry goes, and its span with it
 

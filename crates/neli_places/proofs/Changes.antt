@@ -24,12 +24,6 @@ pub standing_end : (ss : List Shared) (c : ℕ) → standing_at ss c (length ss)
 standing_end [] c = refl
 standing_end (s ∷ ss) c = standing_end ss c
 
-pub standing_past : (ss : List Shared) (c n : ℕ) → length ss < n → standing_at ss c n ≡ 0
-standing_past [] c zero h = absurd (omega arith)
-standing_past [] c (suc n) h = refl
-standing_past (s ∷ ss) c zero h = absurd (omega arith)
-standing_past (s ∷ ss) c (suc n) h = standing_past ss c n (omega arith)
-
 pub standing_read : (ss : List Shared) (c i : ℕ) (x : Shared) → i < length ss → x ≡ get_or ss i x → standing_at ss c i ≡ x.standing
 standing_read [] c i x l h = absurd (omega arith)
 standing_read (s ∷ ss) c zero x l h = ap (λ y. y.standing) (sym h)
@@ -181,10 +175,6 @@ one_at k p = cond (p.seen == k) 1 0
 pub waiting_put : {S : Type 0} (m n : HashMap ℕ Place S) (q k : ℕ) (x : Place) (old : Option Place) → old ≡ get nat_eq m q → PutsEntry nat_eq m n q x old → old ≡ None
     → waiting_count k (values n) ≡ waiting_count k (values m) + (if x.seen == k then 1 else 0)
 waiting_put m n q k x old is puts none = let f = sum_by_puts_entry (one_at k) nat_eq m n q x old is puts in let g = rw none at f in omega (arith, g)
-
-pub waiting_moved : {S : Type 0} (m n : HashMap ℕ Place S) (q k : ℕ) (x y : Place) (old : Option Place) → old ≡ get nat_eq m q → PutsEntry nat_eq m n q x old → old ≡ Some y
-    → waiting_count k (values n) + (if y.seen == k then 1 else 0) ≡ waiting_count k (values m) + (if x.seen == k then 1 else 0)
-waiting_moved m n q k x y old is puts some = let f = sum_by_puts_entry (one_at k) nat_eq m n q x old is puts in let g = rw some at f in g
 
 pub waiting_removed : {S : Type 0} (m n : HashMap ℕ Place S) (q k : ℕ) (y : Place) → IsPermutation (remove_entry (nat_eq q) m.entries) n.entries → get nat_eq m q ≡ Some y
     → waiting_count k (values n) + (if y.seen == k then 1 else 0) ≡ waiting_count k (values m)

@@ -1,5 +1,5 @@
 -- How many entries are kept.
-use Rattle.std.proofs.Common.{ℕ, zero, suc, ◌≡◌, ◌-◌, List, [], ◌∷◌, length, drop, get_or, ◌<◌, Option, Some, None, refl, arith, ap, sym, ◌∙◌}
+use Rattle.std.proofs.Common.{ℕ, zero, suc, ◌≡◌, ◌-◌, List, [], ◌∷◌, length, drop, get_or, ◌<◌, Option, Some, None, refl, arith, ap, sym}
 use Rattle.std.specs.Option.{option_map}
 use Rattle.neli_places.specs.declared.entry.Entry.{Entry}
 use Rattle.neli_places.specs.declared.place.Place.{Place}
@@ -32,7 +32,3 @@ kept_some place base (e ∷ es) t h =
 pub front_split : {T : Type 0} (xs : List (Entry T)) (x : Entry T) → 0 < length xs → x ≡ get_or xs 0 x → (e : Entry T) × (es : List (Entry T)) × (xs ≡ e ∷ es) × (e.route ≡ x.route)
 front_split [] x l h = absurd (omega arith)
 front_split (e ∷ es) x l h = (e, es, refl, ap (λ y. y.route) (sym h))
-
-pub front_taken : {T : Type 0} (xs ys : List (Entry T)) (x : Entry T) (y : T) → 0 < length xs → x ≡ get_or xs 0 x → ys ≡ drop 1 xs → Some x.item ≡ Some y → (e : Entry T) × (es : List (Entry T)) × (xs ≡ e ∷ es) × (e.item ≡ y) × (ys ≡ es)
-front_taken [] ys x y l h d i = absurd (omega arith)
-front_taken (e ∷ es) ys x y l h d i = (e, es, refl, (let a : x.item ≡ y = cc in ap (λ z. z.item) (sym h) ∙ a), d)

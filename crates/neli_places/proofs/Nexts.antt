@@ -52,10 +52,6 @@ not_shared q Multicast h = refl
 not_shared q (Number n) h = refl
 not_shared q Numbers h = cc
 
-pub found_multicast : {T : Type 0} (n : ℕ) (es : List (Entry T)) → first_position (leads None) n es ≡ first_position (leads_only None) n es
-found_multicast n [] = refl
-found_multicast n (e ∷ es) = rw (own_none e.route, found_multicast (suc n) es) refl
-
 earlier_first : (n : ℕ) (x : Option ℕ) → ((m : ℕ) → x ≡ Some m → n ≤ m) → lesser_of (Some n) x ≡ Some n
 earlier_first n None h = refl
 earlier_first n (Some m) h = let le = h m refl in let t : nat_le n m ≡ true = grind (arith, nat_tests) in rw t refl

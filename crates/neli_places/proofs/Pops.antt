@@ -91,10 +91,6 @@ pop_seen_shared q shared_base base e es p o lt h =
     let s = rw (a, o) at h in
     omega arith
 
-pub nil_or : {A : Type 0} (xs : List A) → length xs ≡ 0 → xs ≡ []
-nil_or [] h = refl
-nil_or (x ∷ xs) h = cc
-
 positions_next : {T : Type 0} (base : ℕ) (e : Entry T) (es : List (Entry T)) → is_shared e.route ≡ false → shared_positions base (e ∷ es) ≡ shared_positions (base + 1) es
 positions_next base e es o = rw (o, add-one) refl
 

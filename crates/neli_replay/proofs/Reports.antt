@@ -1,18 +1,14 @@
 -- The lines of a report, one after the other.
-use Rattle.std.proofs.Common.{◌≡◌, ◌∙◌, ℕ, ◌+◌, List, [], ◌∷◌, ◌++◌, codes, Option, refl, sym, ap, subst, append_assoc, ◌≤◌, arith}
-use Rattle.std.proofs.lemmas.List.{append-nil}
+use Rattle.std.proofs.Common.{◌≡◌, ◌∙◌, ℕ, ◌+◌, List, ◌∷◌, ◌++◌, codes, Option, sym, ap, append_assoc, ◌≤◌, arith}
 use Rattle.std.specs.Io.KnownBytes.{Appends}
 use Rattle.neli_runs.specs.declared.command.Outcome.TheVariants as outcome
 use Rattle.neli_replay.specs.Report.{RawOutcome, outcome_text, report, sends}
-use Rattle.neli_replay.proofs.Streams.{appends_more, appends_none}
+use Rattle.neli_replay.proofs.Streams.{appends_more}
 
 -- the text before that of the outcomes left is written
 abbrev pub IsPrinted : List RawOutcome → Option (List ℕ) → Option (List ℕ) → ℕ → List RawOutcome → Type 0
 IsPrinted all old new sent left =
     (front : List ℕ) × (report 0 all ≡ front ++ report sent left) × Appends old new front
-
-pub printed_none : (all : List RawOutcome) (old : Option (List ℕ)) → IsPrinted all old old 0 all
-printed_none all old = ([], refl, appends_none old)
 
 pub printed_more : (all : List RawOutcome) (old mid text new : Option (List ℕ)) (sent : ℕ) (o : RawOutcome) (os : List RawOutcome) → IsPrinted all old mid sent (o ∷ os) → Appends mid text (outcome_text (sent + sends o) o) → Appends text new (codes "\n") → IsPrinted all old new (sent + sends o) os
 printed_more all old mid text new sent o os before line end =
@@ -22,10 +18,6 @@ printed_more all old mid text new sent o os before line end =
       before.1 ∙ sym (append_assoc before.0 (one ++ codes "\n") later ∙ ap (λ x. before.0 ++ x) (append_assoc one (codes "\n") later)),
       appends_more old mid new _ _ before.2 (appends_more mid text new _ _ line end),
     )
-
-pub printed_all : (all : List RawOutcome) (old new : Option (List ℕ)) (sent : ℕ) → IsPrinted all old new sent [] → Appends old new (report 0 all)
-printed_all all old new sent printed =
-    subst (Appends old new) (sym (printed.1 ∙ append-nil printed.0)) printed.2
 
 pub sends_one : (o : RawOutcome) → sends o ≤ 1
 sends_one (outcome.Sent bytes) = omega arith

@@ -36,9 +36,6 @@ told_none entries cs e before one =
 pub told_some : (entries : List Entry) (cs : List Told) (e : Entry) (c : Told) → AreCommands entries cs → IsTold e (Some c) → AreCommands (entries ++ e ∷ []) (cs ++ c ∷ [])
 told_some entries cs e c before one = told_push entries cs e (Some c) before one
 
-pub told_start : AreCommands [] []
-told_start = ([], tt, refl)
-
 -- ---- lines
 
 -- what these lines say stands after what was said before
@@ -69,9 +66,6 @@ read_more said first k line lines e some is =
 read_bad : (said : List Entry) (first : Bool) (k : ℕ) (line : List ℕ) (lines : List (List ℕ)) → eqb (length line) 0 ≡ false → entry_if first (entry_in (words_in line)) ≡ None → after said (entries_from first k (line ∷ lines)) ≡ Err k
 read_bad said first k line lines some is =
     ap (after said) (line_is first k line lines some ∙ ap (λ o. with_line k o (entries_from false (k + 1) lines)) is)
-
-pub read_end : (said : List Entry) (first : Bool) (k : ℕ) (lines : List (List ℕ)) → lines ≡ [] → after said (entries_from first k lines) ≡ Ok said
-read_end said first k lines none = rw none (ap Ok (append-nil said))
 
 -- ---- one line more
 

@@ -27,8 +27,6 @@ module _ {T P : Type 0} (number_of : T → ℕ) (wire : P → Wire) (size : P �
   refused-write w room takes ser.Memory t r = t
 
   module _ (port number : ℕ) (t : T) (f : NlmF) (p : NlPayload T P) (m : Nlmsghdr T P) (room : Type 0) (e : SerError) where
-    too-long : RouterError T P
-    too-long = router.Msg (codes "Length does not fit its field")
 
     -- the same where the length is known to fit or not
     abbrev built : Bool → Outcome (Nlmsghdr T P)

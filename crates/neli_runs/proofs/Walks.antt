@@ -1,5 +1,5 @@
 -- The steps of a session, with their outcomes.
-use Rattle.std.proofs.Common.{ℕ, zero, suc, ◌≡◌, ◌≢◌, ◌+◌, ◌%◌, ◌^◌, ◌<◌, Bool, true, false, ◌||◌, List, [], ◌∷◌, ◌++◌, length, drop, Option, Some, None, Result, Ok, Err, refl, sym, ap, subst, ◌∙◌, inl, inr, arith}
+use Rattle.std.proofs.Common.{ℕ, zero, suc, ◌≡◌, ◌≢◌, ◌+◌, ◌%◌, ◌^◌, Bool, true, false, ◌||◌, List, [], ◌∷◌, ◌++◌, length, drop, Option, Some, None, Result, Ok, Err, refl, sym, ap, subst, ◌∙◌, inl, inr, arith}
 use Rattle.std.specs.Prelude.{nat_lt, if◌then◌else◌}
 use Rattle.std.specs.List.{slice_get}
 use Rattle.std.specs.Option.{is_some, option_map}
@@ -28,7 +28,7 @@ use Rattle.neli_runs.specs.laws.Deliveries.{delivered, deliveries-delivered}
 use Rattle.neli_runs.specs.laws.Kept.{Agrees, StepKeeps, Handles, Holds, IsKept, IsSlot, Pending, StepIsRight}
 use Rattle.neli_runs.proofs.Lists.{list_or, none_of, set_again, set_at, set_other, set_set}
 use Rattle.neli_runs.proofs.Readings.{drop_none, length_push, next_end, next_item, next_waits, push_at, push_other}
-use Rattle.neli_runs.proofs.Steps.{agrees_close, agrees_close_none, agrees_handed, agrees_pending, agrees_read, agrees_read_end, agrees_read_none, agrees_read_waits, agrees_sent, agrees_set, agrees_unsent, handed_by, hands_over, open_test}
+use Rattle.neli_runs.proofs.Steps.{agrees_close, agrees_close_none, agrees_handed, agrees_pending, agrees_read, agrees_read_end, agrees_read_none, agrees_read_waits, agrees_sent, agrees_unsent, handed_by, hands_over, open_test}
 use Rattle.neli_runs.proofs.Places.{true_or_false}
 
 -- a refusal of a request that is not for memory is its outcome
@@ -56,9 +56,6 @@ item_same number needs needs' numbered numbered' after after' item a b c = rw (a
 
 module _ {ST SP K P V : Type 0} (type_of : ℕ → K) (number : K → ℕ) (view : P → V) (size : P → ℕ) (read : List ℕ → Result V DeError) (number_of : ST → ℕ) (wire : SP → Wire) (wire_size : SP → ℕ) where
   -- ---- commands that read nothing
-
-  pub goes_set : (port next n : ℕ) (pending : Pending) (handles : Handles) → n < 2 ^ 32 → StepKeeps type_of number view size read (StepIsRight type_of number view size read number_of wire wire_size port) port next pending handles n pending handles (command.SetNextSeq n) outcome.Done
-  goes_set port next n pending handles small h a = ((tt, refl), agrees_set type_of number view size read port next (length handles) n pending (λ k. slice_get handles k) h small a)
 
   pub goes_handed : (port next : ℕ) (pending pending' : Pending) (handles : Handles) (c : Command ST SP) → hands_over c ≡ true
       → ((w : Option ℕ) → pending' w ≡ option_map (λ ds. ds ++ handed_by port (λ q. is_some (pending (Some q))) c w) (pending w)) → StepKeeps type_of number view size read (StepIsRight type_of number view size read number_of wire wire_size port) port next pending handles next pending' handles c outcome.Done

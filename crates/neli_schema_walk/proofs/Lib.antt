@@ -1,4 +1,3 @@
-pub mod Checks
 pub mod Neighbours
 pub mod Steps
 pub mod Walks

@@ -5,7 +5,7 @@ use Rattle.std.specs.List.{filter, range_with_len}
 use Rattle.std.proofs.lemmas.Bool.{true≢false, lt-ltb, ltb-true, le-leb, cases_eq, cases_lt, eq-eqb, ne_eqb, le-ltb, and_from, and_parts, and_left, or_right, or_from}
 use Rattle.std.proofs.lemmas.List.{take-append-drop, drop_more}
 use Rattle.std.proofs.lemmas.List.Elements.{filter-append}
-use Rattle.std.proofs.lemmas.Nat.Bits.{bit_at-zero, bit_at_above, bit_at_set_same, bit_at_set_other}
+use Rattle.std.proofs.lemmas.Nat.Bits.{bit_at_above, bit_at_set_same, bit_at_set_other}
 use Rattle.neli_util.proofs.Lists.{has-filter, has-range, has-append}
 use Rattle.neli_util.specs.Groups.{has}
 use Rattle.neli_util.specs.Masks.{mask_width, is_masked, groups_of, IsMaskOf, past_mask}
@@ -72,10 +72,6 @@ is_masked-set mask g n some within =
 pub IsMaskOf-push : (groups : List ℕ) (mask g : ℕ) → IsMaskOf groups mask → 0 < g → g ≤ 32 → IsMaskOf (groups ++ g ∷ []) (bit_or mask (1 * 2 ^ (g - 1) % 2 ^ 32))
 IsMaskOf-push groups mask g is some within n =
     is_masked-set mask g n some within ∙ ap (λ b. b || eqb g n) (is n) ∙ sym (has-append groups (g ∷ []) n ∙ ap (λ b. has groups n || b) (or_false (eqb g n)))
-
--- an empty mask has no group
-pub IsMaskOf-nil : IsMaskOf [] 0
-IsMaskOf-nil n = ap (λ b. ltb 0 n && eqb b 1) (bit_at-zero (n - 1)) ∙ and_false (ltb 0 n)
 
 -- the first group past the mask, and those after it
 pub past_mask-at : (groups : List ℕ) (i : ℕ) → i < length groups → past_mask (take i groups) ≡ [] → 32 < get_or groups i 0 → past_mask groups ≡ get_or groups i 0 ∷ past_mask (drop (i + 1) groups)

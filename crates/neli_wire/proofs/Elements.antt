@@ -21,22 +21,11 @@ regroup : {V : Type 0} (front : List V) (v : V) (read : Result (List V) DeError)
 regroup front v (Ok more) = ap done (simp append_assoc)
 regroup front v (Err e) = refl
 
-front_nil : {V : Type 0} (read : Result (List V) DeError) → with_front [] read ≡ read
-front_nil (Ok more) = refl
-front_nil (Err e) = refl
-
 -- the values read so far, and the place after them
 pub record Spells {V : Type 0} (read : List ℕ → Reading V) (bytes : List ℕ) (vs : List V) (at : Place) : Type 0 where
   pub place : whole at ≡ bytes
   pub room : length vs + length at.rest ≤ length bytes
   pub others : with_front vs (elements_by read (InvalidInput (length bytes)) (length bytes - length vs) at.rest) ≡ elements_by read (InvalidInput (length bytes)) (length bytes) bytes
-
-pub Spells-init : {V : Type 0} (read : List ℕ → Reading V) (bytes : List ℕ) (at : Place) → at.before ≡ [] → at.rest ≡ bytes → Spells read bytes [] at
-Spells-init read bytes at b r = record {
-  place = rw (b, r) refl;
-  room = omega (arith, ap length r);
-  others = let none : length bytes - 0 ≡ length bytes = omega arith in rw (r, none) (front_nil (elements_by read (InvalidInput (length bytes)) (length bytes) bytes));
-}
 
 module _ {V : Type 0} (read : List ℕ → Reading V) (bytes : List ℕ) (vs : List V) (at : Place) (so_far : Spells read bytes vs at) where
   pub Spells-end : length bytes ≤ length at.before → elements read bytes ≡ Ok vs

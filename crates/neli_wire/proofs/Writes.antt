@@ -3,7 +3,7 @@ use Rattle.std.proofs.Common.{◌≡◌, ℕ, ◌+◌, ◌<◌, ◌≤◌, List,
 use Rattle.std.proofs.lemmas.List.{drop_more, length-take}
 use Rattle.neli_wire.specs.SerError.{SerError}
 use Rattle.neli_wire.specs.SerError.TheVariants.{Msg, Io, Utf8, Memory}
-use Rattle.neli_wire.specs.laws.Writing.{append_wire_then, append_wire-err, append_wire_front, front_trans, refused_part_first}
+use Rattle.neli_wire.specs.laws.Writing.{append_wire-err, refused_part_first}
 use Rattle.neli_wire.specs.Writing.{Wire, ◌+++◌, append_wire, RefusesWrite, TakesRoom, wire_all}
 
 -- what is left takes no more than all
@@ -28,11 +28,6 @@ pub record Writes {A : Type 0} (wire : A → Wire) (old : List ℕ) (xs : List A
   pub front : take (length old) now ≡ old
 
 module _ {A : Type 0} (wire : A → Wire) (old : List ℕ) (xs : List A) (i : ℕ) (now : List ℕ) (so_far : Writes wire old xs i now) where
-  pub Writes-more : (x : A) (next : List ℕ) → i < length xs → x ≡ get_or xs i x → append_wire now (wire x) ≡ Ok next → Writes wire old xs (i + 1) next
-  Writes-more x next lt is step = record {
-    others = sym (append_wire_then now next (wire x) (wire_all wire (drop (i + 1) xs)) step) ∙ ap (λ (ys : List A). append_wire now (wire_all wire ys)) (sym (rw (← is) at (drop_more xs i x lt))) ∙ so_far.others;
-    front = front_trans old now next so_far.front (append_wire_front now next (wire x) step);
-  }
 
   pub Writes-refused : (x : A) (e : SerError) → i < length xs → x ≡ get_or xs i x → RefusesWrite (wire x) e → RefusesWrite (wire_all wire xs) e
   Writes-refused x e lt is h =

@@ -2,13 +2,14 @@
 
 ghost use Rattle.std.specs.Prelude.{◌≡◌, ◌≤◌, ◌<◌, ◌++◌, ℕ, List, Ok, Err, length, take};
 ghost use Rattle.byteorder.specs.Endian.{big_bytes, big_number, little_bytes, little_number};
+ghost use Rattle.neli_wire.specs.Constants.{IsEquality};
 ghost use Rattle.neli_wire.specs.Numbers.{AreBytes};
 ghost use Rattle.neli_wire.specs.Reading.{AreElements, value_at, refusal_within};
 ghost use Rattle.neli_wire.specs.laws.Elements.{elements};
 ghost use Rattle.neli_wire.specs.DeError.{DeError as Refusal};
 ghost use Rattle.neli_wire.specs.DeError.TheVariants as de;
 
-use crate::{Constant, FromBytes};
+use crate::{BeU16, BeU32, BeU64, Constant, FromBytes};
 
 /// Bytes that are read as a number are the bytes of that number, in either order.
 pub fn bytes_of_number()
@@ -42,4 +43,11 @@ pub fn list_is_its_elements<T: FromBytes>()
         → AreElements T.read front vs
         → 0 < length rest → T.read rest ≡ Ok (v, r) → length rest ≤ length r
         → elements T.read (front ++ rest) ≡ Err (de.InvalidInput (length (front ++ rest))) }
+{}
+
+/// `==` of numbers that are written with their highest byte first is true exactly where the two are equal.
+pub fn equality()
+    ensures two_bytes { IsEquality ⟦<BeU16 as PartialEq>⟧.eq }
+    ensures four_bytes { IsEquality ⟦<BeU32 as PartialEq>⟧.eq }
+    ensures eight_bytes { IsEquality ⟦<BeU64 as PartialEq>⟧.eq }
 {}

@@ -1,5 +1,5 @@
 -- Laws of bodies, from those of their headers and of what follows.
-use Rattle.std.proofs.Common.{◌≡◌, ◌≢◌, ℕ, ◌+◌, ◌<◌, ◌≤◌, false, ltb, List, ◌++◌, length, take, drop, Result, Ok, Err, refl, ap, arith, length-append}
+use Rattle.std.proofs.Common.{◌≡◌, ◌≢◌, ℕ, ◌+◌, ◌≤◌, false, ltb, List, ◌++◌, length, take, drop, Result, Ok, Err, refl, ap, arith, length-append}
 use Rattle.std.proofs.lemmas.Bool.{le-ltb}
 use Rattle.std.proofs.lemmas.List.{take_at, drop_at}
 use Rattle.neli_wire.specs.Bytes.{short}
@@ -12,7 +12,7 @@ use Rattle.neli_wire.specs.laws.Reading.{bind-not, guard-not, refused_first}
 use Rattle.neli_wire.specs.Reading.{exact_reading, exact_takes}
 use Rattle.neli_wire.specs.Sizes.{EndsInZeros}
 use Rattle.neli_wire.specs.laws.Sizes.{unpadded-zeros}
-use Rattle.neli_wire.specs.Writing.{Wire, TakesRoom}
+use Rattle.neli_wire.specs.Writing.{Wire}
 use Rattle.neli_wire.specs.laws.Writing.{written-no_memory}
 use Rattle.neli_body.specs.Bodies.{body_of, body_wire}
 use Rattle.neli_body.specs.RoundTrips.{ReadsBack}
@@ -27,11 +27,6 @@ body_wire-length n header size rest m rests bytes e =
 -- it ends in no padding of its own
 pub body_wire-zeros : (n : ℕ) (header : List ℕ) → length header ≡ n → (rest : Wire) (m : ℕ) → ((bytes : List ℕ) → rest ≡ Ok bytes → length bytes ≡ m) → (bytes : List ℕ) → body_wire header rest ≡ Ok bytes → EndsInZeros (n + m) bytes
 body_wire-zeros n header size rest m rests bytes e = unpadded-zeros (n + m) bytes (body_wire-length n header size rest m rests bytes e)
-
--- a header of some bytes takes room, whatever follows it
-pub header-room : (header : List ℕ) (rest : Wire) → 0 < length header → TakesRoom (body_wire header rest)
-header-room header (Ok bytes) some = omega (arith, length-append header bytes)
-header-room header (Err e) some = tt
 
 pub body_wire-no_memory : (header : List ℕ) (rest : Wire) → rest ≢ Err ser.Memory → body_wire header rest ≢ Err ser.Memory
 body_wire-no_memory header rest none = both-no_memory (Ok header) rest (written-no_memory header) none

@@ -1,5 +1,5 @@
 -- Laws of headers.
-use Rattle.std.proofs.Common.{◌≡◌, ◌≢◌, ◌<◌, ℕ, List, ◌++◌, length, Ok, Err, arith, length-append}
+use Rattle.std.proofs.Common.{◌≡◌, ◌≢◌, ℕ, List, ◌++◌, length, Ok, Err, arith, length-append}
 use Rattle.byteorder.specs.Endian.{little_bytes}
 use Rattle.neli_wire.specs.SerError.TheVariants as ser
 use Rattle.neli_wire.specs.Sizes.{EndsInZeros}
@@ -42,7 +42,3 @@ module _ {K : Type 0} (type_number : K → ℕ) where
 
   pub header_wire-zeros : (h : Header K) (bytes : List ℕ) → header_wire type_number h ≡ Ok bytes → EndsInZeros 16 bytes
   header_wire-zeros h bytes e = unpadded-zeros 16 bytes (header_wire-length h bytes e)
-
-  -- to write it takes memory
-  pub fields-some : (h : Header K) → 0 < length (fields h)
-  fields-some h = omega (arith, fields-length h)

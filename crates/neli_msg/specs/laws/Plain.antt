@@ -23,12 +23,6 @@ module _ (Q : DeError → Type 0) (missing : Q short) (lengths : (n : ℕ) → Q
   abbrev Only : {A : Type 0} → Result A DeError → Type 0
   Only r = (e : DeError) → r ≡ Err e → Q e
 
-  only-ok : {A : Type 0} (x : A) → Only {A = A} (Ok x)
-  only-ok x e is = absurd cc
-
-  only-err : {A : Type 0} (d : DeError) → Q d → Only {A = A} (Err d)
-  only-err d q e is = let same : d ≡ e = cc in subst Q same q
-
   only-guard : {A : Type 0} (b : Bool) (d : DeError) (r : Result A DeError) → Q d → Only r → Only (cond b (Err d) r)
   only-guard true d r q more e is = let same : d ≡ e = cc in subst Q same q
   only-guard false d r q more e is = more e is

@@ -134,18 +134,6 @@ module _ {H V : Type 0} (layout : Layout H V) (placed : IsPlaced layout) (some :
   cut_of-join a b whole =
       cut_of-is (a ++ b) _ _ (each-join a b _ _ _ (subst (λ (g : Option DeError). CutsEach a (cut_of layout a).0 g) whole (cut_of-each a)) (cut_of-each b))
 
-  -- what begins with messages, and then has the end, a message or a fault
-  pub messages_before-end : (b : List ℕ) (ms : List (H × V)) → cut_of layout b ≡ messages_before ms (cut_of layout []) → cut_of layout b ≡ (ms, None)
-  messages_before-end b ms so_far = so_far ∙ rw cut_of-end (ap (λ (xs : List (H × V)). (xs, None)) (append-nil ms))
-
-  pub messages_before-message : (b : List ℕ) (ms : List (H × V)) (m : H × V) (s later : List ℕ) → cut_of layout b ≡ messages_before ms (cut_of layout s) → cut_of layout s ≡ message_before m (cut_of layout later) → cut_of layout b ≡ messages_before (ms ++ m ∷ []) (cut_of layout later)
-  messages_before-message b ms m s later so_far next =
-      so_far ∙ ap (messages_before ms) next ∙ ap (λ (xs : List (H × V)). (xs, (cut_of layout later).1)) (sym (append_assoc ms (m ∷ []) (cut_of layout later).0))
-
-  pub messages_before-fault : (b : List ℕ) (ms : List (H × V)) (e : DeError) (s : List ℕ) → cut_of layout b ≡ messages_before ms (cut_of layout s) → cut_of layout s ≡ ([], Some e) → cut_of layout b ≡ (ms, Some e)
-  messages_before-fault b ms e s so_far next =
-      so_far ∙ ap (messages_before ms) next ∙ ap (λ (xs : List (H × V)). (xs, Some e)) (append-nil ms)
-
   -- ---- how many messages there can be
 
   each-long : (b : List ℕ) (ms : List (H × V)) (f : Option DeError) → CutsEach b ms f → length ms * layout.size ≤ length b

@@ -7,7 +7,7 @@ use Rattle.neli_wire.specs.DeError.TheVariants.{Msg, Io, Utf8, InvalidInput, Mem
 use Rattle.byteorder.specs.Endian.{little_number}
 use Rattle.neli_wire.specs.Bytes.{Reading, bytes_at, short}
 use Rattle.neli_wire.specs.Refusals.{Refuses}
-use Rattle.neli_wire.specs.Reading.{◌>>=◌, IsLocal, and_then, exact_reading, value_at, number_at}
+use Rattle.neli_wire.specs.Reading.{◌>>=◌, IsLocal, and_then, value_at, number_at}
 
 -- the parts of a reading that gives a value
 pub bind_ok : {A B : Type 0} (r : Result A DeError) (f : A → Result B DeError) (y : B) → (r >>= f) ≡ Ok y → (x : A) × (r ≡ Ok x) × (f x ≡ Ok y)
@@ -52,9 +52,6 @@ bytes_at-local n s r v e =
 pub value_at-local : {V : Type 0} (n : ℕ) (value : List ℕ → V) → IsLocal (value_at n value)
 value_at-local n value = and_then-local (bytes_at n) (λ bytes rest. Ok (value bytes, rest)) (bytes_at-local n) (λ bytes. done-local value bytes)
 
-pub number_at-local : (n : ℕ) → IsLocal (number_at n)
-number_at-local n = value_at-local n (little_number n)
-
 -- no test is refused because memory ran out
 guard-no_memory : {A : Type 0} (b : Bool) (x : A) → cond b (Err short) (done x) ≢ Err Memory
 guard-no_memory true x e = cc
@@ -96,28 +93,6 @@ value_at-wide {V} n value s r v e =
     let same : b.0.1 ≡ r = ap (λ (p : V × List ℕ). p.1) (ok_is (value b.0.0, b.0.1) (v, r) b.2) in
     rw (← same) (bytes_at-wide n s b.0.1 b.0.0 b.1)
 
-pub number_at-wide : (n : ℕ) (s r : List ℕ) (v : ℕ) → number_at n s ≡ Ok (v, r) → length s ≡ n + length r
-number_at-wide n s r v e = value_at-wide n (little_number n) s r v e
-
-pub guard-local : {A : Type 0} (b : Bool) (e : DeError) (read : List ℕ → Reading A) → IsLocal read → IsLocal (λ s. cond b (Err e) (read s))
-guard-local true e read h s r v f = absurd cc
-guard-local false e read h s r v f = h s r v f
-
--- n bytes in front that are read
-pub sized_at : {V : Type 0} (read : List ℕ → Result V DeError) (n : ℕ) (front t : List ℕ) (v : V) → length front ≡ n → read front ≡ Ok v → exact_reading read n (front ++ t) ≡ Ok (v, t)
-sized_at read n front t v len h =
-    let enough : ltb (length (front ++ t)) n ≡ false = le-ltb _ _ (omega (arith, len, length-append front t)) in
-    rw (enough, take_at front t n len, drop_at front t n len, h) refl
-
-pub sized-local : {V : Type 0} (read : List ℕ → Result V DeError) (n : ℕ) → IsLocal (exact_reading read n)
-sized-local {V} read n s r v e =
-    let g = guard_ok (ltb (length s) n) (InvalidInput n) (read (take n s) >>= λ x. Ok (x, drop n s)) (v, r) e in
-    let long : n ≤ length s = ltb-false _ _ g.0 in
-    let len : length (take n s) ≡ n = length-take-le n s long in
-    let b = bind_ok (read (take n s)) (λ x. Ok (x, drop n s)) (v, r) g.1 in
-    let P : V × List ℕ → Type 0 = λ q. (front : List ℕ) × (s ≡ front ++ q.1) × ((t : List ℕ) → exact_reading read n (front ++ t) ≡ Ok (q.0, t)) in
-    subst P (ok_is (b.0, drop n s) (v, r) b.2) (take n s, sym (take-append-drop n s), λ t. sized_at read n (take n s) t b.0 len b.1)
-
 pub guard-not : {A : Type 0} (b : Bool) (e d : DeError) (r : Result A DeError) → e ≢ d → r ≢ Err d → cond b (Err e) r ≢ Err d
 guard-not true e d r f g h = f cc
 guard-not false e d r f g h = g h
@@ -125,9 +100,6 @@ guard-not false e d r f g h = g h
 pub bind-not : {A B : Type 0} (r : Result A DeError) (f : A → Result B DeError) (d : DeError) → r ≢ Err d → ((x : A) → f x ≢ Err d) → (r >>= f) ≢ Err d
 bind-not (Ok x) f d p q e = q x e
 bind-not (Err y) f d p q e = p (ap (λ (z : DeError). Err z) cc)
-
-pub sized-no_memory : {V : Type 0} (read : List ℕ → Result V DeError) → ((s : List ℕ) → read s ≢ Err Memory) → (n : ℕ) (s : List ℕ) → exact_reading read n s ≢ Err Memory
-sized-no_memory read h n s = guard-not (ltb (length s) n) (InvalidInput n) Memory (read (take n s) >>= λ x. Ok (x, drop n s)) (λ f. cc) (bind-not (read (take n s)) (λ x. Ok (x, drop n s)) Memory (h (take n s)) (λ x f. cc))
 
 pub read-never_short : (s : List ℕ) → done s ≢ Err short
 read-never_short s e = cc

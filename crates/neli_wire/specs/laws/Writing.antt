@@ -58,46 +58,12 @@ room_first (Ok x) (Ok y) h = omega (arith, length-append x y)
 room_first (Ok x) (Err d) h = tt
 room_first (Err d) b h = tt
 
--- what the second part takes, the whole takes
-room_second : (a b : Wire) → TakesRoom b → TakesRoom (a +++ b)
-room_second (Ok x) (Ok y) h = omega (arith, length-append x y)
-room_second (Ok x) (Err d) h = tt
-room_second (Err d) b h = tt
-
 -- a refusal of the first part is that of the whole
 pub refused_part_first : (a b : Wire) (e : SerError) → RefusesWrite a e → RefusesWrite (a +++ b) e
 refused_part_first a b (Msg m) h = rw h refl
 refused_part_first a b (Io k) h = rw h refl
 refused_part_first a b (Utf8 u) h = rw h refl
 refused_part_first a b Memory h = room_first a b h
-
--- a refusal of the second part is that of the whole
-pub refused_part_second : (old mid : List ℕ) (a b : Wire) (e : SerError) → append_wire old a ≡ Ok mid → RefusesWrite b e → RefusesWrite (a +++ b) e
-refused_part_second old mid (Ok x) b (Msg m) s h = rw h refl
-refused_part_second old mid (Ok x) b (Io k) s h = rw h refl
-refused_part_second old mid (Ok x) b (Utf8 u) s h = rw h refl
-refused_part_second old mid (Ok x) b Memory s h = room_second (Ok x) b h
-refused_part_second old mid (Err d) b e s h = absurd cc
-
--- what bytes take, they take with their padding
-room_padded : (a : Wire) → TakesRoom a → TakesRoom (pad_wire a)
-room_padded (Ok x) h = omega (arith, length-append x (zeros_for (length x)))
-room_padded (Err d) h = tt
-
--- a refusal of bytes is that of the padded bytes
-pub refused_padded : (a : Wire) (e : SerError) → RefusesWrite a e → RefusesWrite (pad_wire a) e
-refused_padded a (Msg m) h = rw h refl
-refused_padded a (Io k) h = rw h refl
-refused_padded a (Utf8 u) h = rw h refl
-refused_padded a Memory h = room_padded a h
-
--- the padding goes after
-pub append_wire_padded : (old mid : List ℕ) (a : Wire) → append_wire old a ≡ Ok mid → append_wire old (pad_wire a) ≡ Ok (mid ++ zeros_for (length mid - length old))
-append_wire_padded old mid (Ok x) e =
-    let same : old ++ x ≡ mid = ok_is (old ++ x) mid e in
-    let len : length mid - length old ≡ length x = omega (arith, ap length same, length-append old x) in
-    rw (len, ← same) (ap written (sym (append_assoc old x (zeros_for (length x)))))
-append_wire_padded old mid (Err d) e = absurd cc
 
 -- the second part goes after the first
 pub append_wire_both : (old : List ℕ) (a b : Wire) → append_wire old (a +++ b) ≡ wire_after (append_wire old a) b
