@@ -35,8 +35,8 @@ watch_fields s =
     (elements (number_at 4) port.1 >>= λ levels. Ok (record { port = port.0; levels = levels }))
 
 -- where there are levels, which take memory
-unfoldable pub watch_takes : List ℕ → Type 0
-watch_takes s = IfRead (number_at 2 s) (λ port rest. 0 < length rest)
+unfoldable pub watch_takes_memory : List ℕ → Type 0
+watch_takes_memory s = IfRead (number_at 2 s) (λ port rest. 0 < length rest)
 
 -- what a whole byte list spells
 abbrev pub watch_of : List ℕ → Result Seen DeError

@@ -4,7 +4,7 @@ ghost use Rattle.std.specs.Prelude.{◌≡◌, ◌+◌, ◌<◌, ℕ, List, Ok, 
 ghost use Rattle.neli.specs.wire.Place.{whole};
 ghost use Rattle.neli.specs.wire.Refusals.{Refuses};
 ghost use Rattle.neli.specs.wire.Writing.{RefusesWrite, append_wire};
-ghost use Rattle.example_body.specs.Watch.{Seen, seen, watch_wire, watch_size, watch_fields, watch_takes, watch_of};
+ghost use Rattle.example_body.specs.Watch.{Seen, seen, watch_wire, watch_size, watch_fields, watch_takes_memory, watch_of};
 ghost use Rattle.example_body.specs.laws.Watch.{watch_wire-length, watch_wire-no_memory, watch_of-no_memory, watch_of-never_short};
 
 use neli::err::{DeError, SerError};
@@ -73,10 +73,10 @@ impl ToBytes for Watch {
 }
 
 /// The port and the levels that all of the bytes spell.
-#[tactic(auto, using(neli::specs::laws::Reading::refused_first), unfolding(crate::specs::Watch::watch_fields, crate::specs::Watch::watch_takes))]
+#[tactic(auto, using(neli::specs::laws::Reading::refused_first), unfolding(crate::specs::Watch::watch_fields, crate::specs::Watch::watch_takes_memory))]
 fn read_fields(alloc: Global, bytes: &[u8]) -> Result<Watch, DeError>
     ensures value { IfOk result (λ w. watch_fields bytes.now ≡ Ok (seen w)) }
-    ensures refused { IfErr result (Refuses (watch_fields bytes.now) (watch_takes bytes.now)) }
+    ensures refused { IfErr result (Refuses (watch_fields bytes.now) (watch_takes_memory bytes.now)) }
 {
     let mut cursor = Cursor::new(bytes);
     let port = u16::from_bytes(alloc, &mut cursor)?;
@@ -91,7 +91,7 @@ impl FromBytesWithInput for Watch {
 
     ghost read = { watch_of };
 
-    ghost takes_memory = { watch_takes };
+    ghost takes_memory = { watch_takes_memory };
 
     ghost no_memory = { watch_of-no_memory };
 

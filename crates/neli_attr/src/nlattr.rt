@@ -1,7 +1,7 @@
 //! Generic attributes, lists of them, and handles in which they are looked up.
 
 ghost use Rattle.std.specs.Prelude.{◌≡◌, ◌+◌, ◌<◌, ℕ, List, Some, None, Ok, IfOk, IfErr, length, map};
-ghost use Rattle.neli_wire.specs.Frames.{frame_at, frame_takes};
+ghost use Rattle.neli_wire.specs.Frames.{frame_at, frame_takes_memory};
 ghost use Rattle.neli_wire.specs.Refusals.{Refuses};
 ghost use Rattle.neli_wire.specs.Sizes.{align};
 ghost use Rattle.neli_wire.specs.Writing.{RefusesWrite};
@@ -18,7 +18,7 @@ ghost use Rattle.neli_attr.specs.laws.Nlattr.{nlattr_wire-length, nlattr_wire-no
 
 use crate::{AttrType, Attribute, Buffer, BuildError, of};
 use neli_attr_parts::frame::{
-    HEADER_SIZE, length_with, nested_bytes, payload_bytes, read_attribute, size_with,
+    HEADER_SIZE, frame_length, nested_bytes, payload_bytes, read_attribute, size_with,
     write_attribute, written,
 };
 use neli_consts::NlAttrType;
@@ -247,7 +247,7 @@ impl<T: NlAttrType, P: FromBytesWithInput> FromBytes for Nlattr<T, P> {
 
     ghost read = { frame_at (attribute (type_of T.wire_value) P.read) };
 
-    ghost takes_memory = { frame_takes (attribute (type_of T.wire_value) P.read)
+    ghost takes_memory = { frame_takes_memory (attribute (type_of T.wire_value) P.read)
         (λ _. P.takes_memory) };
 
     ghost local = { attribute-local (type_of T.wire_value) P.read };
@@ -325,7 +325,7 @@ impl<T: NlAttrType, P: ToBytes + Drop> NlattrBuilder<T, P> {
             .nla_payload
             .ok_or(UninitializedFieldError::new("nla_payload"))?;
         let nla_payload = written(alloc, &payload)?;
-        let nla_len = length_with(&nla_payload).ok_or(BuildError::ValidationError(
+        let nla_len = frame_length(&nla_payload).ok_or(BuildError::ValidationError(
             "Length does not fit its field",
         ))?;
         Ok(Nlattr {

@@ -1,7 +1,7 @@
 //! Routing attributes, lists of them, and handles in which they are looked up.
 
 ghost use Rattle.std.specs.Prelude.{◌≡◌, ◌+◌, ◌<◌, ℕ, List, Some, None, Ok, IfOk, IfErr, length, map};
-ghost use Rattle.neli_wire.specs.Frames.{frame_at, frame_takes};
+ghost use Rattle.neli_wire.specs.Frames.{frame_at, frame_takes_memory};
 ghost use Rattle.neli_wire.specs.Refusals.{Refuses};
 ghost use Rattle.neli_wire.specs.Sizes.{align};
 ghost use Rattle.neli_wire.specs.Writing.{RefusesWrite};
@@ -16,7 +16,7 @@ ghost use Rattle.neli_attr.specs.laws.Rtattr.{rtattr_wire-length, rtattr_wire-no
 
 use crate::{Attribute, Buffer, BuildError, of};
 use neli_attr_parts::frame::{
-    HEADER_SIZE, length_with, nested_bytes, payload_bytes, read_attribute, size_with,
+    HEADER_SIZE, frame_length, nested_bytes, payload_bytes, read_attribute, size_with,
     write_attribute, written,
 };
 use neli_consts_attrs::RtaType;
@@ -211,7 +211,7 @@ impl<T: RtaType, P: FromBytesWithInput> FromBytes for Rtattr<T, P> {
 
     ghost read = { frame_at (attribute T.wire_value P.read) };
 
-    ghost takes_memory = { frame_takes (attribute T.wire_value P.read) (λ _. P.takes_memory) };
+    ghost takes_memory = { frame_takes_memory (attribute T.wire_value P.read) (λ _. P.takes_memory) };
 
     ghost local = { attribute-local T.wire_value P.read };
 
@@ -288,7 +288,7 @@ impl<T: RtaType, P: ToBytes + Drop> RtattrBuilder<T, P> {
             .rta_payload
             .ok_or(UninitializedFieldError::new("rta_payload"))?;
         let rta_payload = written(alloc, &payload)?;
-        let rta_len = length_with(&rta_payload).ok_or(BuildError::ValidationError(
+        let rta_len = frame_length(&rta_payload).ok_or(BuildError::ValidationError(
             "Length does not fit its field",
         ))?;
         Ok(Rtattr {

@@ -1,12 +1,12 @@
 //! What both kinds of attributes share: how they are read and written, by the type of their type field.
 
 ghost use Rattle.std.specs.Prelude.{◌≡◌, ◌+◌, ◌<◌, Ok, IfOk, IfErr, OnOk, OnErr, MatchOption, codes, length, min, take};
-ghost use Rattle.neli_wire.specs.Frames.{frame_at, frame_takes};
+ghost use Rattle.neli_wire.specs.Frames.{frame_at, frame_takes_memory};
 ghost use Rattle.neli_wire.specs.Place.{whole};
 ghost use Rattle.neli_wire.specs.Refusals.{Refuses};
 ghost use Rattle.neli_wire.specs.Writing.{RefusesWrite, append_wire};
 ghost use Rattle.neli_attr_parts.specs.Attributes.{attr, attribute, attribute_payload, attribute_wire, nested_payload};
-ghost use Rattle.neli_attr_parts.specs.laws.Steps.{attribute_at, attribute_takes};
+ghost use Rattle.neli_attr_parts.specs.laws.Steps.{attribute_at, attribute_takes_memory};
 
 use crate::Buffer;
 use neli_wire::implementing::{pad_from, read_padded_payload, undo_on_refusal};
@@ -22,7 +22,7 @@ pub const HEADER_SIZE: usize = 4;
 pub type Parts<K, P> = (u16, K, P);
 
 /// Reads an attribute, its header first.
-#[tactic(auto, using(neli_wire::specs::laws::Reading::refused_first), unfolding(crate::specs::laws::Steps::head_at, crate::specs::laws::Steps::attribute_at, crate::specs::laws::Steps::attribute_takes))]
+#[tactic(auto, using(neli_wire::specs::laws::Reading::refused_first), unfolding(crate::specs::laws::Steps::head_at, crate::specs::laws::Steps::attribute_at, crate::specs::laws::Steps::attribute_takes_memory))]
 fn read_fields<K: Constant<Number = u16>, P: FromBytesWithInput>(
     alloc: Global,
     cursor: &mut Cursor<'_>,
@@ -31,7 +31,7 @@ fn read_fields<K: Constant<Number = u16>, P: FromBytesWithInput>(
         ≡ Ok (attr a.0 a.1 (P.view a.2), cursor.new.rest)) }
     ensures moved { OnOk result (whole cursor.new ≡ whole cursor.old) }
     ensures refused { IfErr result (Refuses (attribute_at K.wire_value P.read cursor.old.rest)
-        (attribute_takes K.wire_value P.takes_memory cursor.old.rest)) }
+        (attribute_takes_memory K.wire_value P.takes_memory cursor.old.rest)) }
     ensures unchanged { OnErr result (cursor.new ≡ cursor.old) }
 {
     let mut ahead = cursor.ahead();
@@ -54,7 +54,7 @@ pub fn read_attribute<K: Constant<Number = u16>, P: FromBytesWithInput>(
     ensures moved { OnOk result (whole cursor.new ≡ whole cursor.old) }
     ensures refused { let layout = attribute K.wire_value P.read in
         IfErr result (Refuses (frame_at layout cursor.old.rest)
-        (frame_takes layout (λ _. P.takes_memory) cursor.old.rest)) }
+        (frame_takes_memory layout (λ _. P.takes_memory) cursor.old.rest)) }
     ensures unchanged { OnErr result (cursor.new ≡ cursor.old) }
 {
     read_fields(alloc, cursor)
@@ -117,7 +117,7 @@ pub fn written<P: ToBytes>(alloc: Global, payload: &P) -> Result<Buffer, SerErro
 }
 
 /// The length of an attribute with this payload, where it fits its field.
-pub fn length_with(payload: &Buffer) -> Option<u16>
+pub fn frame_length(payload: &Buffer) -> Option<u16>
     ensures { let whole = 4 + length payload.now in
         MatchOption result (65535 < whole) (λ len. len ≡ whole) }
 {
@@ -141,7 +141,7 @@ pub fn payload_bytes<P: ToBytes>(alloc: Global, payload: &P) -> Result<(u16, Buf
     ensures refused { IfErr result (RefusesWrite (attribute_payload (P.wire payload.now))) }
 {
     let bytes = written(alloc, payload)?;
-    let len = length_with(&bytes).ok_or(too_long())?;
+    let len = frame_length(&bytes).ok_or(too_long())?;
     Ok((len, bytes))
 }
 
@@ -158,7 +158,7 @@ pub fn nested_bytes<A: ToBytes>(payload: Buffer, attr: &A) -> Result<(u16, Buffe
     let mut bytes = Vec::from(payload);
     attr.to_bytes(&mut bytes)?;
     let nested = Buffer::from(bytes);
-    let len = length_with(&nested).ok_or(too_long())?;
+    let len = frame_length(&nested).ok_or(too_long())?;
     Ok((len, nested))
 }
 

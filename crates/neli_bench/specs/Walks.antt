@@ -1,6 +1,6 @@
 -- What the walks over a dump add up.
 use Rattle.std.specs.Prelude.{◌≡◌, ℕ, ◌+◌, ◌-◌, ◌^◌, List, [], bit_and, drop, length, min, sum_by, Option, Some, None}
-use Rattle.neli_body.specs.Attributes.{Says, attrs_of}
+use Rattle.neli_body.specs.Attributes.{AttributesRead, attrs_of}
 use Rattle.neli_body.specs.Bodies.{body_of as header_then}
 use Rattle.neli_consts_attrs.specs.Ifla.{ifla_number, ifla_of}
 use Rattle.neli_consts_attrs.specs.Rta.{rta_number, rta_of}
@@ -30,7 +30,7 @@ abbrev pub type_and_length : ℕ → List ℕ → ℕ
 type_and_length number payload = bit_and number 16383 + length payload
 
 -- what attributes add together
-abbrev pub attributes_add : {K : Type 0} → (K → ℕ) → Says K → ℕ
+abbrev pub attributes_add : {K : Type 0} → (K → ℕ) → AttributesRead K → ℕ
 attributes_add number_of attributes = sum_by (λ a. type_and_length (number_of a.0.kind) a.1) attributes
 
 -- ---- messages that are read into memory
@@ -40,11 +40,11 @@ abbrev pub raw_cut : List ℕ → Cut (Message ℕ (List ℕ))
 raw_cut = cut_of untyped_layout
 
 -- a datagram of links
-abbrev pub link_cut : List ℕ → Cut (Message ℕ (IfinfomsgHeader × Says Ifla))
+abbrev pub link_cut : List ℕ → Cut (Message ℕ (IfinfomsgHeader × AttributesRead Ifla))
 link_cut = cut_of (message_layout (λ n. n) (λ n. n) (header_then 16 ifinfomsg_header (attrs_of ifla_of)))
 
 -- a datagram of routes
-abbrev pub route_cut : List ℕ → Cut (Message ℕ (RtmsgHeader × Says Rta))
+abbrev pub route_cut : List ℕ → Cut (Message ℕ (RtmsgHeader × AttributesRead Rta))
 route_cut = cut_of (message_layout (λ n. n) (λ n. n) (header_then 12 rtmsg_header (attrs_of rta_of)))
 
 -- the length that a message states
@@ -52,16 +52,16 @@ abbrev pub stated_length : {V : Type 0} → Message ℕ V → ℕ
 stated_length m = m.0.len
 
 -- what the attributes of a body add, if there is one
-abbrev pub body_adds : {H K : Type 0} → (K → ℕ) → Option (H × Says K) → ℕ
+abbrev pub body_adds : {H K : Type 0} → (K → ℕ) → Option (H × AttributesRead K) → ℕ
 body_adds number_of None = 0
 body_adds number_of (Some body) = attributes_add number_of body.1
 
 -- what the attributes of a link add
-abbrev pub link_adds : Message ℕ (IfinfomsgHeader × Says Ifla) → ℕ
+abbrev pub link_adds : Message ℕ (IfinfomsgHeader × AttributesRead Ifla) → ℕ
 link_adds m = body_adds ifla_number (body_of m.1)
 
 -- what the attributes of a route add
-abbrev pub route_adds : Message ℕ (RtmsgHeader × Says Rta) → ℕ
+abbrev pub route_adds : Message ℕ (RtmsgHeader × AttributesRead Rta) → ℕ
 route_adds m = body_adds rta_number (body_of m.1)
 
 -- ---- messages that are lent

@@ -3,7 +3,7 @@
 //! Each answers false, and leaves `total` as it was, where the bytes have a fault or memory runs out.
 
 ghost use Rattle.std.specs.Prelude.{◌≡◌, IsTrue, false, sum_by};
-ghost use Rattle.neli_body.specs.Attributes.{attrs_say};
+ghost use Rattle.neli_body.specs.Attributes.{attrs_view};
 ghost use Rattle.neli_reader.specs.Messages.{message_of};
 ghost use Rattle.neli_bench.specs.Walks.{IsSum, as_u64, link_adds, link_cut, raw_cut, route_adds, route_cut, stated_length, type_and_length};
 
@@ -31,7 +31,7 @@ fn attributes_add<T: RtaType>(attributes: &RtBuffer<T, Buffer>) -> u64
 /// What the attributes of a link add.
 fn link_adds(message: &Nlmsghdr<u16, Ifinfomsg>) -> u64
     ensures { result ≡ as_u64 (link_adds
-        (message_of (λ link. (link.header, attrs_say link.rtattrs)) message.now)) }
+        (message_of (λ link. (link.header, attrs_view link.rtattrs)) message.now)) }
 {
     match message.get_payload() {
         Some(link) => attributes_add(link.rtattrs()),
@@ -42,7 +42,7 @@ fn link_adds(message: &Nlmsghdr<u16, Ifinfomsg>) -> u64
 /// What the attributes of a route add.
 fn route_adds(message: &Nlmsghdr<u16, Rtmsg>) -> u64
     ensures { result ≡ as_u64 (route_adds
-        (message_of (λ route. (route.header, attrs_say route.rtattrs)) message.now)) }
+        (message_of (λ route. (route.header, attrs_view route.rtattrs)) message.now)) }
 {
     match message.get_payload() {
         Some(route) => attributes_add(route.rtattrs()),

@@ -20,13 +20,13 @@ abbrev pub attrs_size : {T : Type 0} → Attrs T → ℕ
 attrs_size = sum_by (λ a. align (4 + length a.rta_payload))
 
 -- what each of them says
-abbrev pub Says : Type 0 → Type 0
-Says T = List (Attr T (List ℕ))
+abbrev pub AttributesRead : Type 0 → Type 0
+AttributesRead T = List (Attr T (List ℕ))
 
 -- what a list of attributes says
-abbrev pub attrs_say : {T : Type 0} → Attrs T → Says T
-attrs_say = map rtattr_says
+abbrev pub attrs_view : {T : Type 0} → Attrs T → AttributesRead T
+attrs_view = map rtattr_says
 
 -- what a whole byte list lists
-abbrev pub attrs_of : {T : Type 0} → (ℕ → T) → List ℕ → Result (Says T) DeError
+abbrev pub attrs_of : {T : Type 0} → (ℕ → T) → List ℕ → Result (AttributesRead T) DeError
 attrs_of = attributes_in

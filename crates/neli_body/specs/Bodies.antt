@@ -12,8 +12,8 @@ body_of n header_of rest_of s =
     else (rest_of (drop n s) >>= λ rest. Ok (header_of (take n s), rest))
 
 -- where the header is there, and reading what follows takes memory
-abbrev pub body_takes : ℕ → (List ℕ → Type 0) → List ℕ → Type 0
-body_takes n takes s = (n ≤ length s) × takes (drop n s)
+abbrev pub body_takes_memory : ℕ → (List ℕ → Type 0) → List ℕ → Type 0
+body_takes_memory n takes s = (n ≤ length s) × takes (drop n s)
 
 -- the bytes of a header, and then those of what follows it
 abbrev pub body_wire : List ℕ → Wire → Wire

@@ -5,7 +5,7 @@ use Rattle.neli_attr.specs.declared.rtattr.Rtattr.{Rtattr}
 use Rattle.neli_wire.specs.DeError.{DeError}
 use Rattle.neli_wire.specs.Numbers.{FitsBytes}
 use Rattle.neli_wire.specs.Writing.{Wire}
-use Rattle.neli_body.specs.Attributes.{Attrs, attrs_of, attrs_say, attrs_wire}
+use Rattle.neli_body.specs.Attributes.{Attrs, attrs_of, attrs_view, attrs_wire}
 use Rattle.neli_body.specs.Bodies.{body_of, body_wire}
 use Rattle.neli_body.specs.Headers.{IsNamed}
 
@@ -31,10 +31,10 @@ ArePlainAttrs number_of value_of = All (IsPlainAttr number_of value_of)
 -- the attributes have bytes, which are read as the same attributes
 abbrev pub AreReadBack : {T : Type 0} → (T → ℕ) → (ℕ → T) → Attrs T → Type 0
 AreReadBack number_of value_of attrs =
-    (bytes : List ℕ) × (attrs_wire number_of attrs ≡ Ok bytes) × (attrs_of value_of bytes ≡ Ok (attrs_say attrs))
+    (bytes : List ℕ) × (attrs_wire number_of attrs ≡ Ok bytes) × (attrs_of value_of bytes ≡ Ok (attrs_view attrs))
 
 -- a header and attributes have bytes, which are read as that header and the same attributes
 abbrev pub ReadsBackWhole : {H T : Type 0} → ℕ → (H → List ℕ) → (List ℕ → H) → (T → ℕ) → (ℕ → T) → H → Attrs T → Type 0
 ReadsBackWhole n bytes_of header_of number_of value_of header attrs =
     (bytes : List ℕ) × (body_wire (bytes_of header) (attrs_wire number_of attrs) ≡ Ok bytes)
-    × (body_of n header_of (attrs_of value_of) bytes ≡ Ok (header, attrs_say attrs))
+    × (body_of n header_of (attrs_of value_of) bytes ≡ Ok (header, attrs_view attrs))

@@ -3,9 +3,9 @@
 ghost use Rattle.std.specs.Prelude.{◌≡◌, ◌+◌, Ok, IfOk, IfErr, OnOk, OnErr, length, min, take};
 ghost use Rattle.neli_wire.specs.Place.{whole};
 ghost use Rattle.neli_wire.specs.Refusals.{Refuses};
-ghost use Rattle.neli_wire.specs.Reading.{exact_reading, exact_takes};
+ghost use Rattle.neli_wire.specs.Reading.{exact_reading, exact_takes_memory};
 ghost use Rattle.neli_wire.specs.Writing.{RefusesWrite, append_wire};
-ghost use Rattle.neli_body.specs.Bodies.{body_of, body_takes, body_wire};
+ghost use Rattle.neli_body.specs.Bodies.{body_of, body_takes_memory, body_wire};
 
 use crate::FixedHeader;
 use neli_wire::implementing::undo_on_refusal;
@@ -27,7 +27,7 @@ pub fn read_body<H: FixedHeader, R: FromBytesWithInput>(
     ensures moved { OnOk result (whole cursor.new ≡ whole cursor.old) }
     ensures refused { IfErr result
         (Refuses (exact_reading (body_of H.width H.header_of R.read) n cursor.old.rest)
-        (exact_takes (body_takes H.width R.takes_memory) n cursor.old.rest)) }
+        (exact_takes_memory (body_takes_memory H.width R.takes_memory) n cursor.old.rest)) }
     ensures unchanged { OnErr result (cursor.new ≡ cursor.old) }
 {
     let bytes = cursor.input(n)?;

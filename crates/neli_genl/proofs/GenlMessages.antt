@@ -10,7 +10,7 @@ use Rattle.neli_attr.specs.TypeField.{number_of, type_of}
 use Rattle.neli_attr.specs.declared.nlattr.Nlattr.{Nlattr}
 use Rattle.neli_attr.specs.laws.RoundTrips.{IsWrittenAs, attribute-written, list-reads_back, number_of-small, type_of-named}
 use Rattle.neli_body.specs.laws.Headers.{number-back, value-back}
-use Rattle.neli_genl.specs.Genlmsghdr.{Attrs, Says, attrs_wire, genlmsghdr_bytes, parts_of}
+use Rattle.neli_genl.specs.Genlmsghdr.{Attrs, AttributesRead, attrs_wire, genlmsghdr_bytes, parts_of}
 use Rattle.neli_genl.specs.RoundTrips.{ArePlainNlattrs, GenlReadsBack, GenlReadsBackWhole, IsPlainGenlmsghdr, IsPlainNlattr}
 use Rattle.neli_genl.specs.declared.genlmsghdr.Genlmsghdr.{Genlmsghdr}
 use Rattle.neli_wire.specs.Bytes.{Reading}
@@ -26,7 +26,7 @@ module _ {C T H V : Type 0} (width : ℕ) (cmd_number : C → ℕ) (cmd_of : ℕ
       let own = local header [] value reads in
       ap (λ (x : List ℕ). header_at (x ++ rest)) (own.1 ∙ append-nil own.0) ∙ own.2 rest
 
-  parts-back : (n : ℕ) (header attrs : List ℕ) (value : V) (list : Says T) → header_at header ≡ Ok (value, []) → attributes_in (type_of value_of) attrs ≡ Ok list → parts_of header_at (attributes_in (type_of value_of)) n (header ++ attrs) ≡ Ok (value, list)
+  parts-back : (n : ℕ) (header attrs : List ℕ) (value : V) (list : AttributesRead T) → header_at header ≡ Ok (value, []) → attributes_in (type_of value_of) attrs ≡ Ok list → parts_of header_at (attributes_in (type_of value_of)) n (header ++ attrs) ≡ Ok (value, list)
   unfolding parts_of
   parts-back n header attrs value list reads lists = rw (header-before header attrs value reads, lists) refl
 

@@ -25,8 +25,8 @@ abbrev pub Attrs : Type 0 → Type 0
 Attrs T = List (Nlattr T (List ℕ))
 
 -- what each of them says
-abbrev pub Says : Type 0 → Type 0
-Says T = List (Attr (AttrType T) (List ℕ))
+abbrev pub AttributesRead : Type 0 → Type 0
+AttributesRead T = List (Attr (AttrType T) (List ℕ))
 
 -- their bytes, one after the other
 abbrev pub attrs_wire : {T : Type 0} → (T → ℕ) → Attrs T → Wire
@@ -52,8 +52,8 @@ parts_of header_at attrs_of n s =
     map_refusal (refusal_within n) (header_at s) >>= λ header. (attrs_of header.1 >>= λ attrs. Ok (header.0, attrs))
 
 -- where reading the family's header takes memory, or what follows does
-unfoldable pub parts_take : {V : Type 0} → (List ℕ → Reading V) → (List ℕ → Type 0) → (List ℕ → Type 0) → List ℕ → Type 0
-parts_take header_at header_takes attrs_take s = header_takes s ⊎ IfRead (header_at s) (λ header rest. attrs_take rest)
+unfoldable pub parts_take_memory : {V : Type 0} → (List ℕ → Reading V) → (List ℕ → Type 0) → (List ℕ → Type 0) → List ℕ → Type 0
+parts_take_memory header_at header_takes_memory attrs_take_memory s = header_takes_memory s ⊎ IfRead (header_at s) (λ header rest. attrs_take_memory rest)
 
 -- what bytes say that begin with the first four: the command at place 0, the version at 1, two reserved bytes at 2, and
 -- from 4 on the family's header and the attributes
@@ -63,16 +63,16 @@ fields_of cmd_of header_at attrs_of s =
     Ok (record { cmd = cmd_of (number_in 1 0 s); version = number_in 1 1 s; reserved = number_in 2 2 s; header = parts.0; attrs = parts.1 })
 
 -- what bytes say, where the family's header has `width` bytes, a multiple of four
-abbrev pub genlmsghdr_of : {C V T : Type 0} → ℕ → (ℕ → C) → (ℕ → T) → (List ℕ → Reading V) → List ℕ → Result (GenlFields C V (Says T)) DeError
+abbrev pub genlmsghdr_of : {C V T : Type 0} → ℕ → (ℕ → C) → (ℕ → T) → (List ℕ → Reading V) → List ℕ → Result (GenlFields C V (AttributesRead T)) DeError
 genlmsghdr_of width cmd_of value_of header_at s =
     if not (nat_eq (width % 4) 0) then Err (InvalidInput (length s))
     else if nat_lt (length s) 4 then Err (InvalidInput (length s))
     else fields_of cmd_of header_at (attributes_in (type_of value_of)) s
 
 -- where reading the family's header takes memory, or attributes follow it
-abbrev pub genlmsghdr_takes : {V : Type 0} → ℕ → (List ℕ → Reading V) → (List ℕ → Type 0) → List ℕ → Type 0
-genlmsghdr_takes width header_at header_takes s =
-    (width % 4 ≡ 0) × (4 ≤ length s) × parts_take header_at header_takes (λ rest. 0 < length rest) (drop 4 s)
+abbrev pub genlmsghdr_takes_memory : {V : Type 0} → ℕ → (List ℕ → Reading V) → (List ℕ → Type 0) → List ℕ → Type 0
+genlmsghdr_takes_memory width header_at header_takes_memory s =
+    (width % 4 ≡ 0) × (4 ≤ length s) × parts_take_memory header_at header_takes_memory (λ rest. 0 < length rest) (drop 4 s)
 
 -- the bytes before the family's header
 abbrev pub genlmsghdr_bytes : ℕ → ℕ → ℕ → List ℕ

@@ -17,8 +17,8 @@ proc_event_of s =
     Ok (record { cpu = number_in 4 4 s; timestamp_ns = number_in 8 8 s; event = event }))
 
 -- where a message is made of a type without a name
-abbrev pub proc_event_takes : List ℕ → Type 0
-proc_event_takes s = (16 ≤ length s) × IsUnknown (proc_event_type_of (number_in 4 0 s))
+abbrev pub proc_event_takes_memory : List ℕ → Type 0
+proc_event_takes_memory s = (16 ≤ length s) × IsUnknown (proc_event_type_of (number_in 4 0 s))
 
 -- the bytes of a process event
 abbrev pub proc_event_bytes : ProcEventHeader → List ℕ

@@ -137,18 +137,18 @@ event_size (Exit a b c d e f) = 24
 -- ---- fields
 
 -- two signed numbers fit four bytes each
-abbrev pub TwoFit : ℤ → ℤ → Type 0
-TwoFit a b = FitsSigned w32 a × FitsSigned w32 b
+abbrev pub BothFitI32 : ℤ → ℤ → Type 0
+BothFitI32 a b = FitsSigned w32 a × FitsSigned w32 b
 
 -- each number of the event fits its field, and a name has 16 bytes
 abbrev pub IsPlainEvent : ProcEvent → Type 0
 IsPlainEvent (Ack a) = FitsBytes 4 a
-IsPlainEvent (Fork a b c d) = TwoFit a b × TwoFit c d
-IsPlainEvent (Exec a b) = TwoFit a b
-IsPlainEvent (Uid a b c d) = TwoFit a b × FitsBytes 4 c × FitsBytes 4 d
-IsPlainEvent (Gid a b c d) = TwoFit a b × FitsBytes 4 c × FitsBytes 4 d
-IsPlainEvent (Sid a b) = TwoFit a b
-IsPlainEvent (Ptrace a b c d) = TwoFit a b × TwoFit c d
-IsPlainEvent (Comm a b c) = TwoFit a b × (length c ≡ 16)
-IsPlainEvent (Coredump a b c d) = TwoFit a b × TwoFit c d
-IsPlainEvent (Exit a b c d e f) = TwoFit a b × FitsBytes 4 c × FitsBytes 4 d × TwoFit e f
+IsPlainEvent (Fork a b c d) = BothFitI32 a b × BothFitI32 c d
+IsPlainEvent (Exec a b) = BothFitI32 a b
+IsPlainEvent (Uid a b c d) = BothFitI32 a b × FitsBytes 4 c × FitsBytes 4 d
+IsPlainEvent (Gid a b c d) = BothFitI32 a b × FitsBytes 4 c × FitsBytes 4 d
+IsPlainEvent (Sid a b) = BothFitI32 a b
+IsPlainEvent (Ptrace a b c d) = BothFitI32 a b × BothFitI32 c d
+IsPlainEvent (Comm a b c) = BothFitI32 a b × (length c ≡ 16)
+IsPlainEvent (Coredump a b c d) = BothFitI32 a b × BothFitI32 c d
+IsPlainEvent (Exit a b c d e f) = BothFitI32 a b × FitsBytes 4 c × FitsBytes 4 d × BothFitI32 e f

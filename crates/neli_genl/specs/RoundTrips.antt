@@ -5,7 +5,7 @@ use Rattle.neli_attr.specs.Attributes.{attributes_in}
 use Rattle.neli_attr.specs.TypeField.{type_of}
 use Rattle.neli_attr.specs.declared.nlattr.Nlattr.{Nlattr}
 use Rattle.neli_body.specs.Headers.{IsNamed}
-use Rattle.neli_genl.specs.Genlmsghdr.{Attrs, GenlFields, Says, attrs_wire, genlmsghdr_bytes, genlmsghdr_of, genlmsghdr_wire}
+use Rattle.neli_genl.specs.Genlmsghdr.{Attrs, GenlFields, AttributesRead, attrs_wire, genlmsghdr_bytes, genlmsghdr_of, genlmsghdr_wire}
 use Rattle.neli_genl.specs.View.{says}
 use Rattle.neli_genl.specs.declared.genlmsghdr.Genlmsghdr.{Genlmsghdr}
 use Rattle.neli_wire.specs.Bytes.{Reading}
@@ -20,7 +20,7 @@ pub record IsPlainGenlmsghdr {C T H : Type 0} (width : ℕ) (cmd_number : C → 
   pub reserved : FitsBytes 2 m.reserved
 
 -- the fields of a message, with what its family's header and its attributes are read as
-abbrev pub fields_with : {C T H V : Type 0} → Genlmsghdr C T H → V → Says T → GenlFields C V (Says T)
+abbrev pub fields_with : {C T H V : Type 0} → Genlmsghdr C T H → V → AttributesRead T → GenlFields C V (AttributesRead T)
 fields_with m header attrs =
     record { cmd = m.cmd; version = m.version; reserved = m.reserved; header = header; attrs = attrs }
 
@@ -28,7 +28,7 @@ fields_with m header attrs =
 -- bytes are read as
 abbrev pub GenlReadsBack : {C T H V : Type 0} → ℕ → (C → ℕ) → (ℕ → C) → (T → ℕ) → (ℕ → T) → (H → Wire) → (List ℕ → Reading V) → Genlmsghdr C T H → Type 0
 GenlReadsBack {T = T} {V = V} width cmd_number cmd_of type_number value_of header_wire header_at m =
-    (header attrs : List ℕ) (value : V) (list : Says T)
+    (header attrs : List ℕ) (value : V) (list : AttributesRead T)
     → header_wire m.header ≡ Ok header → header_at header ≡ Ok (value, [])
     → attrs_wire type_number m.attrs ≡ Ok attrs → attributes_in (type_of value_of) attrs ≡ Ok list
     → let bytes = genlmsghdr_bytes (cmd_number m.cmd) m.version m.reserved ++ header ++ attrs in

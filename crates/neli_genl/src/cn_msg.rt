@@ -3,7 +3,7 @@
 ghost use Rattle.std.specs.Prelude.{◌≡◌, ◌+◌, Some, None, Ok, IfOk, IfErr};
 ghost use Rattle.neli_wire.specs.laws.Sizes.{unpadded-rounded};
 ghost use Rattle.neli_attr.specs.Builders.{IsWhyNot};
-ghost use Rattle.neli_body.specs.Bodies.{body_of, body_takes, body_wire};
+ghost use Rattle.neli_body.specs.Bodies.{body_of, body_takes_memory, body_wire};
 ghost use Rattle.neli_body.specs.laws.Bodies.{body_of-never_short, body_of-no_memory, body_wire-length, body_wire-no_memory, body_wire-zeros};
 ghost use Rattle.neli_genl.specs.CnMsg.{IsPlainCnMsg, cn_msg_built, cn_msg_bytes, cn_msg_header};
 ghost use Rattle.neli_genl.specs.laws.CnMsg.{cn_msg-reads_back, cn_msg-width, cn_msg-writes_back};
@@ -198,7 +198,7 @@ impl<P: FromBytesWithInput> FromBytesWithInput for CnMsg<P> {
 
     ghost read = { body_of 20 cn_msg_header P.read };
 
-    ghost takes_memory = { body_takes 20 P.takes_memory };
+    ghost takes_memory = { body_takes_memory 20 P.takes_memory };
 
     ghost no_memory = { body_of-no_memory 20 cn_msg_header P.read P.no_memory };
 

@@ -8,7 +8,7 @@ ghost use Rattle.neli_wire.specs.laws.Sizes.{unpadded-rounded};
 ghost use Rattle.neli_wire.specs.Writing.{RefusesWrite, append_wire};
 ghost use Rattle.neli_attr.specs.Nlattr.{nlattr_says};
 ghost use Rattle.neli_attr.specs.Builders.{IsWhyNot};
-ghost use Rattle.neli_genl.specs.Genlmsghdr.{GenlFields, Says, fields_of, genlmsghdr_built, genlmsghdr_bytes, genlmsghdr_of, genlmsghdr_plain, genlmsghdr_size, genlmsghdr_takes, genlmsghdr_wire, parts_of, parts_take};
+ghost use Rattle.neli_genl.specs.Genlmsghdr.{GenlFields, AttributesRead, fields_of, genlmsghdr_built, genlmsghdr_bytes, genlmsghdr_of, genlmsghdr_plain, genlmsghdr_size, genlmsghdr_takes_memory, genlmsghdr_wire, parts_of, parts_take_memory};
 ghost use Rattle.neli_genl.specs.View.{says};
 ghost use Rattle.neli_genl.specs.laws.Genlmsghdr.{genlmsghdr_of-never_short, genlmsghdr_of-no_memory, genlmsghdr_wire-length, genlmsghdr_wire-zeros, genlmsghdr_wire-no_memory};
 
@@ -192,7 +192,7 @@ fn read_header<H: FromBytes>(alloc: Global, cursor: &mut Cursor<'_>, n: usize) -
 }
 
 /// The family's own header and what follows it, in an input of `n` bytes.
-#[tactic(auto, using(neli_wire::specs::laws::Reading::refused_first), unfolding(crate::specs::Genlmsghdr::parts_of, crate::specs::Genlmsghdr::parts_take))]
+#[tactic(auto, using(neli_wire::specs::laws::Reading::refused_first), unfolding(crate::specs::Genlmsghdr::parts_of, crate::specs::Genlmsghdr::parts_take_memory))]
 fn read_parts<H: FromBytes, A: FromBytesWithInput>(
     alloc: Global,
     bytes: &[u8],
@@ -202,7 +202,7 @@ fn read_parts<H: FromBytes, A: FromBytesWithInput>(
         ≡ Ok (H.view p.0, A.view p.1)) }
     ensures refused { IfErr result
         (Refuses (parts_of H.read A.read n bytes.now)
-        (parts_take H.read H.takes_memory A.takes_memory bytes.now)) }
+        (parts_take_memory H.read H.takes_memory A.takes_memory bytes.now)) }
 {
     let mut cursor = Cursor::new(bytes);
     let header = read_header(alloc, &mut cursor, n)?;
@@ -238,7 +238,7 @@ fn read_fields<C: Constant<Number = u8>, H: FromBytes, A: FromBytesWithInput>(
         })) }
     ensures refused { IfErr result
         (Refuses (fields_of C.wire_value H.read A.read bytes.now)
-        (parts_take H.read H.takes_memory A.takes_memory (drop 4 bytes.now))) }
+        (parts_take_memory H.read H.takes_memory A.takes_memory (drop 4 bytes.now))) }
 {
     let (header, attrs) = read_parts(alloc, &bytes[4..], bytes.len())?;
     Ok((
@@ -260,7 +260,7 @@ fn read_message<C: Constant<Number = u8>, T: NlAttrType, H: TypeSize>(
         ≡ Ok (says H.FromBytes.view m)) }
     ensures refused { IfErr result
         (Refuses (genlmsghdr_of H.width C.wire_value T.wire_value H.FromBytes.read bytes.now)
-        (genlmsghdr_takes H.width H.FromBytes.read H.FromBytes.takes_memory bytes.now)) }
+        (genlmsghdr_takes_memory H.width H.FromBytes.read H.FromBytes.takes_memory bytes.now)) }
 {
     if H::type_size() % 4 != 0 || bytes.len() < 4 {
         return Err(DeError::InvalidInput(bytes.len()));
@@ -280,13 +280,13 @@ fn read_message<C: Constant<Number = u8>, T: NlAttrType, H: TypeSize>(
 impl<C: Cmd, T: NlAttrType, H: TypeSize> FromBytesWithInput for Genlmsghdr<C, T, H> {
     ghost use Rattle.neli_genl.specs.View.{says};
 
-    ghost Value = { GenlFields C H.FromBytes.Value (Says T) };
+    ghost Value = { GenlFields C H.FromBytes.Value (AttributesRead T) };
 
     ghost view = { says H.FromBytes.view };
 
     ghost read = { genlmsghdr_of H.width C.wire_value T.wire_value H.FromBytes.read };
 
-    ghost takes_memory = { genlmsghdr_takes H.width H.FromBytes.read H.FromBytes.takes_memory };
+    ghost takes_memory = { genlmsghdr_takes_memory H.width H.FromBytes.read H.FromBytes.takes_memory };
 
     ghost no_memory = { genlmsghdr_of-no_memory H.width C.wire_value T.wire_value
         H.FromBytes.read H.FromBytes.no_memory };

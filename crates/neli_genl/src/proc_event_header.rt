@@ -4,7 +4,7 @@ ghost use Rattle.std.specs.Prelude.{◌≡◌, ◌+◌, Ok, IfOk, IfErr, min};
 ghost use Rattle.neli_wire.specs.Refusals.{Refuses};
 ghost use Rattle.neli_wire.specs.laws.Sizes.{unpadded-rounded, unpadded-zeros};
 ghost use Rattle.neli_wire.specs.laws.Writing.{written-no_memory};
-ghost use Rattle.neli_genl.specs.ProcEventHeader.{proc_event_bytes, proc_event_of, proc_event_size, proc_event_takes};
+ghost use Rattle.neli_genl.specs.ProcEventHeader.{proc_event_bytes, proc_event_of, proc_event_size, proc_event_takes_memory};
 ghost use Rattle.neli_genl.specs.laws.ProcEvents.{proc_event_bytes-length, proc_event_of-never_short, proc_event_of-no_memory};
 
 use crate::ProcEvent;
@@ -95,7 +95,7 @@ impl ToBytes for ProcEventHeader {
 fn read_proc_event(alloc: Global, bytes: &[u8]) -> Result<ProcEventHeader, DeError>
     ensures value { IfOk result (λ h. proc_event_of bytes.now ≡ Ok h) }
     ensures refused { IfErr result
-        (Refuses (proc_event_of bytes.now) (proc_event_takes bytes.now)) }
+        (Refuses (proc_event_of bytes.now) (proc_event_takes_memory bytes.now)) }
 {
     if bytes.len() < 16 {
         return Err(DeError::InvalidInput(bytes.len()));
@@ -117,7 +117,7 @@ impl FromBytesWithInput for ProcEventHeader {
 
     ghost read = { proc_event_of };
 
-    ghost takes_memory = { proc_event_takes };
+    ghost takes_memory = { proc_event_takes_memory };
 
     ghost no_memory = { proc_event_of-no_memory };
 

@@ -5,7 +5,7 @@ use Rattle.std.proofs.lemmas.Bool.{le-ltb}
 use Rattle.std.proofs.lemmas.List.{take_all}
 use Rattle.neli_wire.specs.DeError.{DeError}
 use Rattle.neli_wire.specs.DeError.TheVariants as de
-use Rattle.neli_wire.specs.Reading.{◌>>=◌, exact_reading, exact_takes}
+use Rattle.neli_wire.specs.Reading.{◌>>=◌, exact_reading, exact_takes_memory}
 use Rattle.neli_wire.specs.Refusals.{Refuses}
 use Rattle.neli_wire.specs.laws.Reading.{bind_ok, ok_is}
 
@@ -37,7 +37,7 @@ module _ {H V : Type 0} (read : List ℕ → Result V DeError) (takes : List ℕ
   refused-by : (e : DeError) → exact_reading read n s ≡ Err e → ◌≡◌ {A = Result (H × V) DeError} (read s >>= λ p. Ok (h, p)) (Err e)
   refused-by e is = err-to (read s) (λ p. (h, p)) e (err-of (read s) (λ x. (x, drop n s)) e (sym whole ∙ is))
 
-  refuses-whole : (e : DeError) → Refuses (exact_reading read n s) (exact_takes takes n s) e → Refuses {A = H × V} (read s >>= λ p. Ok (h, p)) (takes s) e
+  refuses-whole : (e : DeError) → Refuses (exact_reading read n s) (exact_takes_memory takes n s) e → Refuses {A = H × V} (read s >>= λ p. Ok (h, p)) (takes s) e
   refuses-whole de.Memory is = subst takes (take_all n s (omega (arith, len))) is.1
   refuses-whole (de.Msg m) is = refused-by (de.Msg m) is
   refuses-whole (de.Io k) is = refused-by (de.Io k) is
@@ -45,8 +45,8 @@ module _ {H V : Type 0} (read : List ℕ → Result V DeError) (takes : List ℕ
   refuses-whole (de.InvalidInput k) is = refused-by (de.InvalidInput k) is
 
 -- a payload that is read whole is refused as its bytes are, and so is the message with it
-pub whole-refused : {H V B : Type 0} (read : List ℕ → Result V DeError) (takes : List ℕ → Type 0) (n : ℕ) (at s : List ℕ) (h : H) (r : Result B DeError) (e : DeError) → at ≡ s → n ≡ length s → IsErrAnd r (λ d. d ≡ e) → Refuses (exact_reading read n at) (exact_takes takes n at) e → IfErr r (Refuses {A = H × V} (read s >>= λ p. Ok (h, p)) (takes s))
+pub whole-refused : {H V B : Type 0} (read : List ℕ → Result V DeError) (takes : List ℕ → Type 0) (n : ℕ) (at s : List ℕ) (h : H) (r : Result B DeError) (e : DeError) → at ≡ s → n ≡ length s → IsErrAnd r (λ d. d ≡ e) → Refuses (exact_reading read n at) (exact_takes_memory takes n at) e → IfErr r (Refuses {A = H × V} (read s >>= λ p. Ok (h, p)) (takes s))
 whole-refused read takes n at s h (Ok x) e is len same refused = tt
 whole-refused {H = H} {V = V} read takes n at s h (Err d) e is len same refused =
-    let here : Refuses (exact_reading read n s) (exact_takes takes n s) e = subst (λ (x : List ℕ). Refuses (exact_reading read n x) (exact_takes takes n x) e) is refused in
+    let here : Refuses (exact_reading read n s) (exact_takes_memory takes n s) e = subst (λ (x : List ℕ). Refuses (exact_reading read n x) (exact_takes_memory takes n x) e) is refused in
     subst (λ (x : DeError). Refuses {A = H × V} (read s >>= λ p. Ok (h, p)) (takes s) x) (sym same) (refuses-whole read takes n s len h e here)

@@ -6,7 +6,7 @@ use Rattle.neli_wire.specs.Frames.{Layout}
 use Rattle.neli_wire.specs.Reading.{◌>>=◌}
 use Rattle.neli_reader.specs.Cuts.{Cut, cut_of}
 use Rattle.neli_reader.specs.Headers.{Header}
-use Rattle.neli_reader.specs.Kinds.{payload_in, payload_takes}
+use Rattle.neli_reader.specs.Kinds.{payload_in, payload_takes_memory}
 use Rattle.neli_reader.specs.Messages.{Message, layout_with}
 use Rattle.neli_lent.specs.declared.message.LentMessage.{LentMessage}
 
@@ -38,5 +38,5 @@ abbrev pub owned_reading : {K V : Type 0} → (ℕ → K) → (K → ℕ) → (L
 owned_reading type_of number_of read m r = as_owned type_of number_of read m >>= λ owned. Ok (owned, r)
 
 -- where reading that payload takes memory
-abbrev pub as_owned_takes : {K : Type 0} → (K → ℕ) → (List ℕ → Type 0) → Lent K → Type 0
-as_owned_takes number_of takes m = payload_takes takes (number_of m.0.message_type) m.0.flags m.1
+abbrev pub as_owned_takes_memory : {K : Type 0} → (K → ℕ) → (List ℕ → Type 0) → Lent K → Type 0
+as_owned_takes_memory number_of takes m = payload_takes_memory takes (number_of m.0.message_type) m.0.flags m.1

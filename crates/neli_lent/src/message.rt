@@ -8,7 +8,7 @@ ghost use Rattle.neli_reader.specs.Answers.{after};
 ghost use Rattle.neli_reader.specs.Messages.{message_of};
 ghost use Rattle.neli_reader.specs.NlPayload.TheVariants as payload;
 ghost use Rattle.neli_reader.specs.Retyping.{typed_header};
-ghost use Rattle.neli_lent.specs.Messages.{as_owned, as_owned_takes, lent_message, message_said};
+ghost use Rattle.neli_lent.specs.Messages.{as_owned, as_owned_takes_memory, lent_message, message_said};
 
 use crate::LentAttrs;
 use neli_consts::{NlType, NlmF};
@@ -147,7 +147,7 @@ impl<'b, T: NlType> LentMessage<'b, T> {
             ≡ Ok (message_of P.view m)) }
         ensures refused { IfErr result
             (Refuses (as_owned T.wire_value T.wire_number P.read (message_said self.now))
-            (as_owned_takes T.wire_number P.takes_memory (message_said self.now))) }
+            (as_owned_takes_memory T.wire_number P.takes_memory (message_said self.now))) }
     {
         let number = self.header.nl_type().to_number();
         let flags = *self.header.nl_flags();

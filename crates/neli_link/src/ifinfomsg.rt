@@ -3,8 +3,8 @@
 ghost use Rattle.std.specs.Prelude.{◌≡◌, ◌+◌, ◌<◌, Some, None, Ok, IfOk, IfErr, length};
 ghost use Rattle.neli_wire.specs.laws.Sizes.{unpadded-rounded};
 ghost use Rattle.neli_attr.specs.Builders.{IsWhyNot};
-ghost use Rattle.neli_body.specs.Attributes.{Says, attrs_of, attrs_say, attrs_size, attrs_wire};
-ghost use Rattle.neli_body.specs.Bodies.{body_of, body_takes, body_wire};
+ghost use Rattle.neli_body.specs.Attributes.{AttributesRead, attrs_of, attrs_view, attrs_size, attrs_wire};
+ghost use Rattle.neli_body.specs.Bodies.{body_of, body_takes_memory, body_wire};
 ghost use Rattle.neli_body.specs.laws.Attributes.{with_attributes-length, with_attributes-zeros, with_attributes-no_memory, with_attributes_of-never_short, with_attributes_of-no_memory};
 ghost use Rattle.neli_consts_attrs.specs.Ifla.{ifla_number, ifla_of};
 ghost use Rattle.neli_link.specs.Ifinfomsg.{IsPlainIfinfomsg, ifinfomsg_built, ifinfomsg_bytes, ifinfomsg_down, ifinfomsg_header, ifinfomsg_up};
@@ -188,13 +188,13 @@ impl FromBytesWithInput for Ifinfomsg {
     ghost use Rattle.neli_link.specs.declared.ifinfomsg.IfinfomsgHeader.{IfinfomsgHeader as Fields};
     ghost use Rattle.neli_consts_attrs.specs.declared.links.Ifla.{Ifla as Kind};
 
-    ghost Value = { Fields × Says Kind };
+    ghost Value = { Fields × AttributesRead Kind };
 
-    ghost view = { λ m. (m.header, attrs_say m.rtattrs) };
+    ghost view = { λ m. (m.header, attrs_view m.rtattrs) };
 
     ghost read = { body_of 16 ifinfomsg_header (attrs_of ifla_of) };
 
-    ghost takes_memory = { body_takes 16 (λ s. 0 < length s) };
+    ghost takes_memory = { body_takes_memory 16 (λ s. 0 < length s) };
 
     ghost no_memory = { with_attributes_of-no_memory 16 ifinfomsg_header ifla_of };
 

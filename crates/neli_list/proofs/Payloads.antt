@@ -6,7 +6,7 @@ use Rattle.neli_wire.specs.DeError.{DeError}
 use Rattle.neli_wire.specs.DeError.TheVariants.{Msg, Io, Utf8, InvalidInput, Memory}
 use Rattle.neli_wire.specs.Bytes.{Reading}
 use Rattle.neli_wire.specs.Refusals.{Refuses}
-use Rattle.neli_wire.specs.Reading.{◌>>=◌, exact_reading, exact_takes}
+use Rattle.neli_wire.specs.Reading.{◌>>=◌, exact_reading, exact_takes_memory}
 
 abbrev with_rest : {V : Type 0} → List ℕ → Result V DeError → Reading V
 with_rest rest r = r >>= λ v. Ok (v, rest)
@@ -20,7 +20,7 @@ module _ {R V : Type 0} (r : Result R DeError) (read : List ℕ → Result V DeE
       all : take n at ≡ s
       all = ap (take n) is ∙ take_all n s (omega arith)
 
-      by : (r : Result R DeError) → IfErr r (Refuses (exact_reading read n at) (exact_takes takes n at)) → IfErr r (Refuses (read s) (takes s))
+      by : (r : Result R DeError) → IfErr r (Refuses (exact_reading read n at) (exact_takes_memory takes n at)) → IfErr r (Refuses (read s) (takes s))
       by (Ok x) h = h
       by (Err (Msg m)) h = with_rest-err (drop n s) (read s) (Msg m) (same ∙ h)
       by (Err (Io k)) h = with_rest-err (drop n s) (read s) (Io k) (same ∙ h)

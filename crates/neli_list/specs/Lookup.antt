@@ -35,9 +35,9 @@ abbrev pub list_found : {V : Type 0} → Option (List ℕ) → (List ℕ → Rea
 list_found payload read = read_or (codes "Couldn't find specified attribute") payload (elements read)
 
 -- a payload was found, and reading it takes memory
-abbrev pub read_found_takes : Option (List ℕ) → (List ℕ → Type 0) → Type 0
-read_found_takes = IsSomeAnd
+abbrev pub read_found_takes_memory : Option (List ℕ) → (List ℕ → Type 0) → Type 0
+read_found_takes_memory = IsSomeAnd
 
 -- a payload was found, and it is not empty
-abbrev pub list_found_takes : Option (List ℕ) → Type 0
-list_found_takes payload = IsSomeAnd payload (λ bytes. 0 < length bytes)
+abbrev pub list_found_takes_memory : Option (List ℕ) → Type 0
+list_found_takes_memory payload = IsSomeAnd payload (λ bytes. 0 < length bytes)

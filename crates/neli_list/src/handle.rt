@@ -7,7 +7,7 @@ ghost use Rattle.neli_wire.specs.Refusals.{Refuses};
 ghost use Rattle.neli_wire.specs.DeError.TheVariants.{Memory};
 ghost use Rattle.neli_wire.specs.laws.Elements.{elements};
 ghost use Rattle.neli_list.specs.Payloads.{ReadsFirst, RefusesAs};
-ghost use Rattle.neli_list.specs.Lookup.{first_masked, first_of_type, list_found, list_found_takes, payload_of_type, read_found, read_found_takes};
+ghost use Rattle.neli_list.specs.Lookup.{first_masked, first_of_type, list_found, list_found_takes_memory, payload_of_type, read_found, read_found_takes_memory};
 
 use crate::{FrameList, handle_of_payload, read_borrowed, read_first, read_whole};
 use neli_wire::{
@@ -168,7 +168,7 @@ impl<'a, O: AttrSlice<I>, I: TypedPayload> AttrHandle<'a, O, I> {
             IfOk result (λ h. list_found payload I.Attr.read ≡ Ok (map I.Attr.view (attrs_in h))) }
         ensures refused { let attrs = attrs_by O.attrs_of self.now in
             let payload = payload_of_type I.type_of I.Kind.eq I.bytes_of subattr attrs in
-            IfErr result (Refuses (list_found payload I.Attr.read) (list_found_takes payload)) }
+            IfErr result (Refuses (list_found payload I.Attr.read) (list_found_takes_memory payload)) }
     {
         match self.get_attribute(subattr) {
             Some(attr) => handle_of_payload(alloc, attr.own_payload()),
@@ -190,7 +190,7 @@ impl<'a, O: AttrSlice<I>, I: TypedPayload> AttrHandle<'a, O, I> {
         ensures refused { let attrs = attrs_by O.attrs_of self.now in
             let payload = payload_of_type I.type_of I.Kind.eq I.bytes_of attr attrs in
             IfErr result (Refuses (read_found payload R.read)
-            (read_found_takes payload R.takes_memory)) }
+            (read_found_takes_memory payload R.takes_memory)) }
     {
         match self.get_attribute(attr) {
             Some(attr) => read_first(alloc, attr.own_payload()),
@@ -212,7 +212,7 @@ impl<'a, O: AttrSlice<I>, I: TypedPayload> AttrHandle<'a, O, I> {
         ensures refused { let attrs = attrs_by O.attrs_of self.now in
             let payload = payload_of_type I.type_of I.Kind.eq I.bytes_of attr attrs in
             IfErr result (Refuses (read_found payload R.read)
-            (read_found_takes payload R.takes_memory)) }
+            (read_found_takes_memory payload R.takes_memory)) }
     {
         match self.get_attribute(attr) {
             Some(attr) => read_whole(alloc, attr.own_payload()),

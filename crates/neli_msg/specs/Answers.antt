@@ -90,9 +90,9 @@ tail_in Unread s = Ok []
 tail_in Listed s = ext_ack_in s
 
 -- where reading a tail takes memory
-abbrev pub tail_takes : Tail → List ℕ → Type 0
-tail_takes Unread s = ⊥
-tail_takes Listed s = 0 < length s
+abbrev pub tail_takes_memory : Tail → List ℕ → Type 0
+tail_takes_memory Unread s = ⊥
+tail_takes_memory Listed s = 0 < length s
 
 -- where the attributes begin of an answer that echoes a header alone
 abbrev pub tail_at : Tail → List ℕ → ℕ
@@ -120,8 +120,8 @@ failure_in type_of read s = do
   Ok (answer (code_in s) (echo_with type_of s v) attrs)
 
 -- where reading an error takes memory: for the echoed payload, or for attributes
-abbrev pub failure_takes : (List ℕ → Type 0) → List ℕ → Type 0
-failure_takes takes s = IsOkAnd (echoed_in s) (λ body. takes body ⊎ (0 < length (after_echo s)))
+abbrev pub failure_takes_memory : (List ℕ → Type 0) → List ℕ → Type 0
+failure_takes_memory takes s = IsOkAnd (echoed_in s) (λ body. takes body ⊎ (0 < length (after_echo s)))
 
 -- ---- what contracts see of an error
 

@@ -10,7 +10,7 @@ use Rattle.neli_msg.specs.declared.answer.Tail.{Tail}
 use Rattle.neli_msg.specs.declared.answer.Tail.TheVariants.{Unread, Attributes as Listed}
 use Rattle.neli_msg.specs.declared.payload.NlPayload.{NlPayload}
 use Rattle.neli_msg.specs.declared.payload.NlPayload.TheVariants as payload
-use Rattle.neli_msg.specs.Answers.{dump_end_in, failure_in, failure_takes, failure_view, headed_in, tail_takes}
+use Rattle.neli_msg.specs.Answers.{dump_end_in, failure_in, failure_takes_memory, failure_view, headed_in, tail_takes_memory}
 
 -- NLM_F_MULTI, the bit of value 2, is set
 abbrev pub is_multi : NlmF → Bool
@@ -54,17 +54,17 @@ module _ {K V : Type 0} (type_of : ℕ → K) (read : List ℕ → Result V DeEr
   payload_in number flags s = payload_as (kind_of number flags s) s
 
 -- where reading each kind takes memory
-abbrev pub kind_takes : (List ℕ → Type 0) → Kind → List ℕ → Type 0
-kind_takes takes Body s = takes s
-kind_takes takes Nothing s = ⊥
-kind_takes takes DumpEnd s = 0 < length (drop 4 s)
-kind_takes takes (Acknowledgement tail) s = tail_takes tail (drop 20 s)
-kind_takes takes (Capped tail) s = tail_takes tail (drop 20 s)
-kind_takes takes Failure s = failure_takes takes s
+abbrev pub kind_takes_memory : (List ℕ → Type 0) → Kind → List ℕ → Type 0
+kind_takes_memory takes Body s = takes s
+kind_takes_memory takes Nothing s = ⊥
+kind_takes_memory takes DumpEnd s = 0 < length (drop 4 s)
+kind_takes_memory takes (Acknowledgement tail) s = tail_takes_memory tail (drop 20 s)
+kind_takes_memory takes (Capped tail) s = tail_takes_memory tail (drop 20 s)
+kind_takes_memory takes Failure s = failure_takes_memory takes s
 
 -- the same by type and flags
-abbrev pub payload_takes : (List ℕ → Type 0) → ℕ → NlmF → List ℕ → Type 0
-payload_takes takes number flags s = kind_takes takes (kind_of number flags s) s
+abbrev pub payload_takes_memory : (List ℕ → Type 0) → ℕ → NlmF → List ℕ → Type 0
+payload_takes_memory takes number flags s = kind_takes_memory takes (kind_of number flags s) s
 
 -- what contracts see of a payload, over what they see of a body
 abbrev pub payload_view : {K P V : Type 0} → (P → V) → NlPayload K P → NlPayload K V

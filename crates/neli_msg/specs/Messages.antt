@@ -5,7 +5,7 @@ use Rattle.neli_wire.specs.Frames.{Layout}
 use Rattle.neli_msg.specs.declared.message.Nlmsghdr.{Nlmsghdr}
 use Rattle.neli_msg.specs.declared.payload.NlPayload.{NlPayload}
 use Rattle.neli_msg.specs.Headers.{Header, header_in}
-use Rattle.neli_msg.specs.Kinds.{payload_in, payload_takes, payload_view}
+use Rattle.neli_msg.specs.Kinds.{payload_in, payload_takes_memory, payload_view}
 
 -- what a message says: its header and its payload
 abbrev pub Message : Type 0 → Type 0 → Type 0
@@ -24,8 +24,8 @@ abbrev pub message_layout : {K V : Type 0} → (ℕ → K) → (K → ℕ) → (
 message_layout type_of number_of read = layout_with type_of (λ h. payload_in type_of read (number_of h.message_type) h.flags)
 
 -- where reading the payload of a message takes memory
-abbrev pub message_takes : {K : Type 0} → (K → ℕ) → (List ℕ → Type 0) → Header K → List ℕ → Type 0
-message_takes number_of takes h = payload_takes takes (number_of h.message_type) h.flags
+abbrev pub message_takes_memory : {K : Type 0} → (K → ℕ) → (List ℕ → Type 0) → Header K → List ℕ → Type 0
+message_takes_memory number_of takes h = payload_takes_memory takes (number_of h.message_type) h.flags
 
 -- a message that says this
 abbrev pub message_from : {K V : Type 0} → Message K V → Nlmsghdr K V

@@ -5,15 +5,15 @@ ghost use Rattle.neli_attr.specs.Builders.{IsWhyNot};
 ghost use Rattle.neli_wire.specs.laws.Sizes.{unpadded-rounded};
 ghost use Rattle.neli_wire.specs.Refusals.{Refuses};
 ghost use Rattle.neli_msg.specs.Headers.{Header};
-ghost use Rattle.neli_msg.specs.Answers.{acknowledgement_in, after, after_echo, answer, answer_text, code_in, dump_end_in, echoed_count, echoed_in, failure_in, failure_takes, failure_view, headed_in, tail_in, tail_takes};
+ghost use Rattle.neli_msg.specs.Answers.{acknowledgement_in, after, after_echo, answer, answer_text, code_in, dump_end_in, echoed_count, echoed_in, failure_in, failure_takes_memory, failure_view, headed_in, tail_in, tail_takes_memory};
 ghost use Rattle.neli_msg.specs.Builders.{built_answer};
 ghost use Rattle.neli_msg.specs.Retyping.{HasOwnLength, IsTooLong, RefusesTyping, failure_stating, typed_acknowledgement, typed_failure};
 ghost use Rattle.neli_msg.specs.Wires.{answer_size, answer_wire};
 ghost use Rattle.neli_msg.specs.laws.Wires.{answer_wire-length, answer_wire-no_memory, answer_wire-zeros};
 ghost use Rattle.neli_msg.specs.laws.Answers.{acknowledgement_in-never_short, acknowledgement_in-no_memory, dump_end_in-never_short, dump_end_in-no_memory, failure_in-never_short, failure_in-no_memory};
 
+use crate::frame::{from_place, read_attributes, write_three};
 use crate::header::{HEADER_SIZE, header_of};
-use crate::parts::{from_place, read_attributes, write_three};
 use crate::{NlmsghdrAck, NlmsghdrErr, RouterError};
 use byteorder::{ByteOrder, LittleEndian};
 use neli_attr::{Buffer, BuildError, GenlBuffer, of};
@@ -116,7 +116,7 @@ fn read_tail(
     bytes: &[u8],
 ) -> Result<GenlBuffer<NlmsgerrAttr, Buffer>, DeError>
     ensures value { IfOk result (λ list. tail_in tail bytes.now ≡ Ok list) }
-    ensures refused { IfErr result (Refuses (tail_in tail bytes.now) (tail_takes tail bytes.now)) }
+    ensures refused { IfErr result (Refuses (tail_in tail bytes.now) (tail_takes_memory tail bytes.now)) }
 {
     match tail {
         Tail::Unread => Ok(GenlBuffer::new(alloc)),
@@ -133,7 +133,7 @@ pub(crate) fn read_headed<T: Constant<Number = u16>>(
 ) -> Result<Nlmsgerr<NlmsghdrAck<T>>, DeError>
     ensures value { IfOk result (λ e. headed_in T.wire_value tail bytes.now ≡ Ok e) }
     ensures refused { IfErr result
-        (Refuses (headed_in T.wire_value tail bytes.now) (tail_takes tail (drop 20 bytes.now))) }
+        (Refuses (headed_in T.wire_value tail bytes.now) (tail_takes_memory tail (drop 20 bytes.now))) }
 {
     let rest = after(bytes, ANSWER_SIZE)?;
     let ext_ack = read_tail(alloc, tail, rest)?;
@@ -186,7 +186,7 @@ pub(crate) fn read_failure<T: Constant<Number = u16>, P: FromBytesWithInput>(
         (λ e. failure_in T.wire_value P.read bytes.now ≡ Ok (failure_view P.view e)) }
     ensures refused { IfErr result
         (Refuses (failure_in T.wire_value P.read bytes.now)
-        (failure_takes P.takes_memory bytes.now)) }
+        (failure_takes_memory P.takes_memory bytes.now)) }
 {
     after(bytes, ANSWER_SIZE)?;
     let body = echoed(bytes)?;
@@ -261,7 +261,7 @@ impl<T: NlType, P: FromBytesWithInput> FromBytesWithInput for Nlmsgerr<NlmsghdrE
 
     ghost read = { failure_in T.wire_value P.read };
 
-    ghost takes_memory = { failure_takes P.takes_memory };
+    ghost takes_memory = { failure_takes_memory P.takes_memory };
 
     ghost no_memory = { failure_in-no_memory T.wire_value P.read P.no_memory };
 

@@ -4,7 +4,7 @@ ghost use Rattle.neli_attr.specs.Builders.{IsWhyNot};
 ghost use Rattle.neli_msg.specs.Builders.{built_echo};
 ghost use Rattle.neli_msg.specs.Retyping.{HasOwnLength, IsTooLong, RefusesTyping, echo_stating, typed_echo};
 ghost use Rattle.std.specs.Prelude.{Some, None, ◌≡◌, ◌+◌, ◌≤◌, Ok, IfOk, IfErr, OnOk, OnErr, length, min};
-ghost use Rattle.neli_wire.specs.Frames.{frame_at, frame_takes};
+ghost use Rattle.neli_wire.specs.Frames.{frame_at, frame_takes_memory};
 ghost use Rattle.neli_wire.specs.laws.Sizes.{padded-rounded};
 ghost use Rattle.neli_wire.specs.Sizes.{align};
 ghost use Rattle.neli_msg.specs.Answers.{echo_view};
@@ -14,8 +14,8 @@ ghost use Rattle.neli_msg.specs.Wires.{echo_size, echo_wire};
 ghost use Rattle.neli_msg.specs.laws.Messages.{layout_with-local, layout_with-no_memory};
 ghost use Rattle.neli_msg.specs.laws.Wires.{echo_wire-length, echo_wire-no_memory, echo_wire-zeros};
 
+use crate::frame::{frame_length, write_framed};
 use crate::header::{HEADER_SIZE, header_of};
-use crate::parts::{length_with, write_framed};
 use crate::{NlmsghdrAck, RouterError};
 use neli_attr::{Buffer, BuildError, of};
 use neli_consts::{NlType, NlmF};
@@ -125,7 +125,7 @@ impl<T: NlType, P: FromBytesWithInput> FromBytes for NlmsghdrErr<T, P> {
 
     ghost read = { frame_at (echo_layout T.wire_value P.read) };
 
-    ghost takes_memory = { frame_takes (echo_layout T.wire_value P.read) (λ _. P.takes_memory) };
+    ghost takes_memory = { frame_takes_memory (echo_layout T.wire_value P.read) (λ _. P.takes_memory) };
 
     ghost local = { layout_with-local T.wire_value (λ _. P.read) };
 
@@ -248,7 +248,7 @@ impl<T: NlType + Drop, P: Size + Drop> NlmsghdrErrBuilder<T, P> {
         let payload = self
             .nl_payload
             .ok_or(UninitializedFieldError::new("nl_payload"))?;
-        let len = length_with(&payload).ok_or(BuildError::ValidationError(
+        let len = frame_length(&payload).ok_or(BuildError::ValidationError(
             "Length does not fit its field",
         ))?;
         let header = NlmsghdrAck {
@@ -301,7 +301,7 @@ impl NlmsghdrErr<u16, Buffer> {
             (IsTooLong P.view P.wire_length P.read self.now.payload)) }
     {
         let payload: P = read_whole(alloc, self.payload.as_ref())?;
-        let Some(len) = length_with(&payload) else {
+        let Some(len) = frame_length(&payload) else {
             return Err(RouterError::Msg(MsgError::from_static("Length does not fit its field")));
         };
         let header = self.header.to_typed().with_len(len);

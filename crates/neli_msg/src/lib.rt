@@ -12,9 +12,9 @@
 mod answer;
 mod echo;
 mod explained;
+mod frame;
 mod header;
 mod message;
-mod parts;
 mod payload;
 mod router_error;
 mod socket_error;

@@ -6,17 +6,17 @@ ghost use Rattle.neli_attr.specs.Builders.Fault.{Invalid};
 ghost use Rattle.neli_msg.specs.Retyping.{HasOwnEcho, IsMessageTooLong, RefusesTyping, body_of, capped_of, failure_of, payload_stating, stated_echo, typed_header, typed_payload, with_len, with_payload, without_capped, without_failure};
 ghost use Rattle.neli_msg.specs.Wires.{payload_size};
 ghost use Rattle.std.specs.Prelude.{Err, ℕ, List, IsOk, codes, option_map, Some, None, ◌≡◌, ◌+◌, ◌≤◌, Ok, IfOk, IfErr, OnOk, OnErr, length, min};
-ghost use Rattle.neli_wire.specs.Frames.{frame_at, frame_takes};
+ghost use Rattle.neli_wire.specs.Frames.{frame_at, frame_takes_memory};
 ghost use Rattle.neli_wire.specs.laws.Sizes.{padded-rounded};
 ghost use Rattle.neli_wire.specs.Sizes.{align};
 ghost use Rattle.neli_msg.specs.Kinds.{payload_in};
-ghost use Rattle.neli_msg.specs.Messages.{Message, message_layout, message_of, message_takes};
+ghost use Rattle.neli_msg.specs.Messages.{Message, message_layout, message_of, message_takes_memory};
 ghost use Rattle.neli_msg.specs.Wires.{message_size, message_wire};
 ghost use Rattle.neli_msg.specs.laws.Messages.{layout_with-local, message-no_memory};
 ghost use Rattle.neli_msg.specs.laws.Wires.{message_wire-length, message_wire-no_memory, message_wire-zeros};
 
+use crate::frame::{frame_length, write_framed};
 use crate::header::{HEADER_SIZE, header_of};
-use crate::parts::{length_with, write_framed};
 use crate::payload::read_payload;
 use crate::{NlPayload, Nlmsgerr, NlmsghdrAck, NlmsghdrErr, RouterError};
 use neli_attr::{Buffer, BuildError, of};
@@ -128,8 +128,8 @@ impl<T: NlType, P: FromBytesWithInput> FromBytes for Nlmsghdr<T, P> {
 
     ghost read = { frame_at (message_layout T.wire_value T.wire_number P.read) };
 
-    ghost takes_memory = { frame_takes (message_layout T.wire_value T.wire_number P.read)
-        (message_takes T.wire_number P.takes_memory) };
+    ghost takes_memory = { frame_takes_memory (message_layout T.wire_value T.wire_number P.read)
+        (message_takes_memory T.wire_number P.takes_memory) };
 
     ghost local = { layout_with-local T.wire_value
         (λ h. payload_in T.wire_value P.read (T.wire_number h.message_type) h.flags) };
@@ -261,7 +261,7 @@ impl<T: NlType + Drop, P: Size + Drop> NlmsghdrBuilder<T, P> {
         let payload = self
             .nl_payload
             .ok_or(UninitializedFieldError::new("nl_payload"))?;
-        let len = length_with(&payload).ok_or(BuildError::ValidationError(
+        let len = frame_length(&payload).ok_or(BuildError::ValidationError(
             "Length does not fit its field",
         ))?;
         let header = NlmsghdrAck {
@@ -345,7 +345,7 @@ impl<T: NlType, P: Size + Drop> Nlmsghdr<T, P> {
             ≡ Err (Invalid (codes "Length does not fit its field")))) }
         ensures unchanged { OnErr result (self.new ≡ self.old) }
     {
-        let Some(len) = length_with(&payload) else {
+        let Some(len) = frame_length(&payload) else {
             return Err(SerError::Msg(MsgError::from_static("Length does not fit its field")));
         };
         self.header = self.header.with_len(len);
@@ -394,7 +394,7 @@ impl Nlmsghdr<u16, Buffer> {
         ensures empty { self.now.payload ≡ NlPayload.Empty → IsOk result }
     {
         let payload: NlPayload<T, P> = self.payload.to_typed(alloc, self.payload.body_len())?;
-        let Some(len) = length_with(&payload) else {
+        let Some(len) = frame_length(&payload) else {
             return Err(RouterError::Msg(MsgError::from_static("Length does not fit its field")));
         };
         let header = self.header.to_typed().with_len(len);

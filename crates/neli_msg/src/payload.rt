@@ -3,8 +3,8 @@
 ghost use Rattle.std.specs.Prelude.{◌≡◌, ℕ, List, Ok, Err, IsOk, IfOk, IfErr, OnOk, OnErr, IsTrue, ◌↔◌, length};
 ghost use Rattle.neli_wire.specs.Place.{whole};
 ghost use Rattle.neli_wire.specs.Refusals.{Refuses};
-ghost use Rattle.neli_wire.specs.Reading.{exact_reading, exact_takes};
-ghost use Rattle.neli_msg.specs.Kinds.{is_acknowledged, kind_of, kind_takes, payload_as, payload_in, payload_takes, payload_view, tail_of};
+ghost use Rattle.neli_wire.specs.Reading.{exact_reading, exact_takes_memory};
+ghost use Rattle.neli_msg.specs.Kinds.{is_acknowledged, kind_of, kind_takes_memory, payload_as, payload_in, payload_takes_memory, payload_view, tail_of};
 ghost use Rattle.neli_wire.specs.laws.Sizes.{unpadded-rounded};
 ghost use Rattle.neli_msg.specs.Retyping.{HasOwnEcho, IsEchoTooLong, RefusesTyping, body_count, first_as, payload_stating, stated_echo, typed_first};
 ghost use Rattle.neli_msg.specs.Wires.{payload_size, payload_wire};
@@ -106,7 +106,7 @@ fn read_as<T: Constant<Number = u16>, P: FromBytesWithInput>(
         (λ p. payload_as T.wire_value P.read kind bytes.now ≡ Ok (payload_view P.view p)) }
     ensures refused { IfErr result
         (Refuses (payload_as T.wire_value P.read kind bytes.now)
-        (kind_takes P.takes_memory kind bytes.now)) }
+        (kind_takes_memory P.takes_memory kind bytes.now)) }
 {
     match kind {
         Kind::Body => Ok(NlPayload::Payload(read_whole(alloc, bytes)?)),
@@ -129,7 +129,7 @@ pub(crate) fn read_payload<T: Constant<Number = u16>, P: FromBytesWithInput>(
         (λ p. payload_in T.wire_value P.read number flags bytes.now ≡ Ok (payload_view P.view p)) }
     ensures refused { IfErr result
         (Refuses (payload_in T.wire_value P.read number flags bytes.now)
-        (payload_takes P.takes_memory number flags bytes.now)) }
+        (payload_takes_memory P.takes_memory number flags bytes.now)) }
 {
     read_as(alloc, kind_of(number, flags, bytes), bytes)
 }
@@ -153,7 +153,7 @@ impl<T: Constant<Number = u16>, P: FromBytesWithInput> NlPayload<T, P> {
         ensures refused { IfErr result
             (Refuses (exact_reading
             (payload_in T.wire_value P.read nl_type nl_flags) n cursor.old.rest)
-            (exact_takes (payload_takes P.takes_memory nl_type nl_flags) n cursor.old.rest)) }
+            (exact_takes_memory (payload_takes_memory P.takes_memory nl_type nl_flags) n cursor.old.rest)) }
         ensures unchanged { OnErr result (cursor.new ≡ cursor.old) }
     {
         let bytes = cursor.input(n)?;
@@ -260,7 +260,7 @@ impl NlPayload<u16, Buffer> {
         ensures refused { IfErr result (RefusesTyping (typed_first T.wire_value P.read n self.now)
             (IsEchoTooLong P.view P.wire_length P.read self.now)) }
         ensures memory { (bytes : List ℕ) → self.now ≡ NlPayload.Payload bytes
-            → result ≡ Err RouterError.Memory → exact_takes P.takes_memory n bytes }
+            → result ≡ Err RouterError.Memory → exact_takes_memory P.takes_memory n bytes }
         ensures empty { self.now ≡ NlPayload.Empty → IsOk result }
     {
         match self {
@@ -278,7 +278,7 @@ impl NlPayload<u16, Buffer> {
 fn read_first<P: FromBytesWithInput>(alloc: Global, body: &Buffer, n: usize) -> Result<P, DeError>
     ensures value { IfOk result (λ v. first_as P.read n body.now ≡ Ok (P.view v)) }
     ensures refused { IfErr result (Refuses (first_as P.read n body.now)
-        (exact_takes P.takes_memory n body.now)) }
+        (exact_takes_memory P.takes_memory n body.now)) }
 {
     let cursor = Cursor::new(body.as_ref());
     let bytes = cursor.input(n)?;

@@ -1,8 +1,8 @@
 //! The reader of a datagram.
 
 ghost use Rattle.std.specs.Prelude.{◌≡◌, ◌≢◌, ◌+◌, ◌≤◌, ℕ, List, [], IfOk, IfSome, OnErr, OnOk, length, map};
-ghost use Rattle.neli_wire.specs.Frames.{frame_takes};
-ghost use Rattle.neli_msg.specs.Messages.{message_layout, message_of, message_takes};
+ghost use Rattle.neli_wire.specs.Frames.{frame_takes_memory};
+ghost use Rattle.neli_msg.specs.Messages.{message_layout, message_of, message_takes_memory};
 ghost use Rattle.neli_reader.specs.Cuts.{IsNext, cut_of, cut_with, item_of};
 
 use neli_consts::NlType;
@@ -45,8 +45,8 @@ impl<'b, T: NlType, P: FromBytesWithInput> NlBufferIter<'b, T, P> {
     /// answer is None. Where memory runs out nothing is taken, and the same call can be made again.
     pub fn next(&mut self, alloc: Global) -> Option<Result<Nlmsghdr<T, P>, SocketError>>
         ensures next { IsNext (message_layout T.wire_value T.wire_number P.read)
-            (frame_takes (message_layout T.wire_value T.wire_number P.read)
-            (message_takes T.wire_number P.takes_memory) self.old) self.old self.new
+            (frame_takes_memory (message_layout T.wire_value T.wire_number P.read)
+            (message_takes_memory T.wire_number P.takes_memory) self.old) self.old self.new
             (item_of P.view result) }
         // A message takes at least the 16 bytes of its header.
         ensures shorter { IfSome result
@@ -72,8 +72,8 @@ impl<'b, T: NlType, P: FromBytesWithInput> NlBufferIter<'b, T, P> {
         alloc: Global,
     ) -> Option<Result<Nlmsghdr<T2, P2>, SocketError>>
         ensures next { IsNext (message_layout T2.wire_value T2.wire_number P2.read)
-            (frame_takes (message_layout T2.wire_value T2.wire_number P2.read)
-            (message_takes T2.wire_number P2.takes_memory) self.old) self.old self.new
+            (frame_takes_memory (message_layout T2.wire_value T2.wire_number P2.read)
+            (message_takes_memory T2.wire_number P2.takes_memory) self.old) self.old self.new
             (item_of P2.view result) }
         // A message takes at least the 16 bytes of its header.
         ensures shorter { IfSome result

@@ -15,7 +15,7 @@ use Rattle.neli_attr.specs.AttrType.{AttrType}
 use Rattle.neli_attr.specs.Attributes.{Attr, attribute, attributes_in}
 use Rattle.neli_attr.specs.Lookup.{list_found, read_found}
 use Rattle.neli_attr.specs.TypeField.{type_of}
-use Rattle.neli_genl.specs.Genlmsghdr.{Says}
+use Rattle.neli_genl.specs.Genlmsghdr.{AttributesRead}
 
 -- ---- whether an attribute's type is this
 
@@ -47,7 +47,7 @@ is_id kind = false
 -- ---- payloads
 
 -- the payload of the first attribute of a type
-abbrev pub payload_where : {K : Type 0} → (K → Bool) → Says K → Option (List ℕ)
+abbrev pub payload_where : {K : Type 0} → (K → Bool) → AttributesRead K → Option (List ℕ)
 payload_where is attrs = option_map (λ a. a.1) (find (λ a. is a.0.kind.nla_type) attrs)
 
 -- the number in the first n bytes of a payload, whatever follows
@@ -57,11 +57,11 @@ first_number n payload = number_at n payload >>= λ p. Ok p.0
 -- ---- what a message of the controller says
 
 -- the number of its family, in two bytes
-abbrev pub family_id : Says CtrlAttr → Result ℕ DeError
+abbrev pub family_id : AttributesRead CtrlAttr → Result ℕ DeError
 family_id attrs = read_found (payload_where is_family_id attrs) (first_number 2)
 
 -- the name of its family
-abbrev pub family_name : Says CtrlAttr → Result (List ℕ) DeError
+abbrev pub family_name : AttributesRead CtrlAttr → Result (List ℕ) DeError
 family_name attrs = read_found (payload_where is_family_name attrs) owned_text
 
 -- a group as it is listed: its place, and the bytes that say what it is
@@ -69,7 +69,7 @@ abbrev pub Group : Type 0
 Group = Attr (AttrType Index) (List ℕ)
 
 -- the groups of its family
-abbrev pub groups : Says CtrlAttr → Result (List Group) DeError
+abbrev pub groups : AttributesRead CtrlAttr → Result (List Group) DeError
 groups attrs =
     list_found (payload_where is_mcast_groups attrs)
     (frame_at (attribute (type_of index_of) (λ bytes. Ok bytes)))
@@ -77,13 +77,13 @@ groups attrs =
 -- ---- what a group says
 
 -- its attributes
-abbrev pub group_attrs : Group → Result (Says CtrlAttrMcastGrp) DeError
+abbrev pub group_attrs : Group → Result (AttributesRead CtrlAttrMcastGrp) DeError
 group_attrs group = attributes_in (type_of ctrl_attr_mcast_grp_of) group.1
 
 -- its name
-abbrev pub group_name : Says CtrlAttrMcastGrp → Result (List ℕ) DeError
+abbrev pub group_name : AttributesRead CtrlAttrMcastGrp → Result (List ℕ) DeError
 group_name attrs = read_found (payload_where is_name attrs) owned_text
 
 -- its number, in four bytes
-abbrev pub group_id : Says CtrlAttrMcastGrp → Result ℕ DeError
+abbrev pub group_id : AttributesRead CtrlAttrMcastGrp → Result ℕ DeError
 group_id attrs = read_found (payload_where is_id attrs) (first_number 4)

@@ -9,7 +9,7 @@ use Rattle.neli_consts.specs.declared.genl.CtrlAttr.{CtrlAttr}
 use Rattle.neli_consts.specs.declared.genl.CtrlCmd.{CtrlCmd}
 use Rattle.neli_consts.specs.declared.genl.GenlId.{GenlId}
 use Rattle.neli_attr.specs.Nlattr.{nlattr_says}
-use Rattle.neli_genl.specs.Genlmsghdr.{Says}
+use Rattle.neli_genl.specs.Genlmsghdr.{AttributesRead}
 use Rattle.neli_genl.specs.declared.genlmsghdr.Genlmsghdr.{Genlmsghdr}
 use Rattle.neli_genl.specs.declared.no_user_header.NoUserHeader.{NoUserHeader}
 use Rattle.neli_reader.specs.Nlmsghdr.{Nlmsghdr}
@@ -36,7 +36,7 @@ abbrev pub Item : Type 0
 Item = Result Message Error
 
 -- what the attributes of a message say, where it has a payload
-abbrev pub attributes_said : Message → Option (Says CtrlAttr)
+abbrev pub attributes_said : Message → Option (AttributesRead CtrlAttr)
 attributes_said m = option_map (λ body. map nlattr_says body.attrs) (body_of m.payload)
 
 -- the messages among the items

@@ -7,7 +7,7 @@ use Rattle.std.specs.Result.{result_map_both, result_ok}
 use Rattle.neli_wire.specs.DeError.{DeError}
 use Rattle.neli_consts.specs.declared.genl.CtrlAttr.{CtrlAttr}
 use Rattle.neli_consts.specs.declared.genl.CtrlAttrMcastGrp.{CtrlAttrMcastGrp}
-use Rattle.neli_genl.specs.Genlmsghdr.{Says}
+use Rattle.neli_genl.specs.Genlmsghdr.{AttributesRead}
 use Rattle.neli_reader.specs.RouterError.TheVariants.{Msg}
 use Rattle.neli_reader.specs.RouterErrors.{de_of}
 use Rattle.neli_resolvers.specs.Attributes.{Group, family_id, family_name, group_attrs, group_id, group_name, groups}
@@ -56,17 +56,17 @@ family_answer family items =
     (or_text (no_family family) (last_or None (filter_map number_told (messages items))))
 
 -- memory is asked for the text alone
-abbrev pub family_takes : List ℕ → List Item → Type 0
-family_takes family items = family_answer family items ≡ Err (Msg (no_family family))
+abbrev pub family_takes_memory : List ℕ → List Item → Type 0
+family_takes_memory family items = family_answer family items ≡ Err (Msg (no_family family))
 
 -- the same where the items are lent: an error among them is copied
-abbrev pub lent_family_takes : List ℕ → List Item → Type 0
-lent_family_takes family items = IsSome (first_error items) ⊎ family_takes family items
+abbrev pub lent_family_takes_memory : List ℕ → List Item → Type 0
+lent_family_takes_memory family items = IsSome (first_error items) ⊎ family_takes_memory family items
 
 -- ---- the number of a group
 
 -- the group has this name
-abbrev pub is_named : List ℕ → Says CtrlAttrMcastGrp → Bool
+abbrev pub is_named : List ℕ → AttributesRead CtrlAttrMcastGrp → Bool
 is_named name attrs =
     option_map_or (λ own. pointwise nat_eq own name) (result_ok (group_name attrs)) false
 
@@ -90,8 +90,8 @@ group_answer family name items =
     (as_error (last_found (match_in name) (messages items))))
 
 -- memory is asked for where no item is an error
-abbrev pub group_takes : List Item → Type 0
-group_takes items = first_error items ≡ None
+abbrev pub group_takes_memory : List Item → Type 0
+group_takes_memory items = first_error items ≡ None
 
 -- the numbers of both: the family's refusal comes before the group's
 abbrev pub both_answer : List ℕ → List ℕ → List Item → Result (ℕ × ℕ) Error
@@ -101,7 +101,7 @@ both_answer family name items =
 -- ---- the names of a group
 
 -- the group has this number
-abbrev pub has_number : ℕ → Says CtrlAttrMcastGrp → Bool
+abbrev pub has_number : ℕ → AttributesRead CtrlAttrMcastGrp → Bool
 has_number id attrs = option_map_or (λ own. own == id) (result_ok (group_id attrs)) false
 
 -- the name of the group, if it has this number
@@ -112,7 +112,7 @@ name_if id group =
     else Ok None) (group_attrs group)
 
 -- the names of a family and of its last group with this number; no groups where they can't be read
-abbrev pub names_said : ℕ → Says CtrlAttr → Result (Option (List ℕ × List ℕ)) DeError
+abbrev pub names_said : ℕ → AttributesRead CtrlAttr → Result (Option (List ℕ × List ℕ)) DeError
 names_said id attrs =
     after (λ family. after (λ found. Ok (option_map (λ name. (family, name)) found))
     (last_found (name_if id) (unwrap_or (result_ok (groups attrs)) []))) (family_name attrs)
@@ -130,5 +130,5 @@ abbrev pub names_answer : ℕ → List Item → Result (List ℕ × List ℕ) Er
 names_answer id items = after (or_text no_number) (last_found (names_told id) items)
 
 -- memory is asked for where a message has a payload
-abbrev pub names_take : List Item → Type 0
-names_take items = IsSome (first_found attributes_said (messages items))
+abbrev pub names_take_memory : List Item → Type 0
+names_take_memory items = IsSome (first_found attributes_said (messages items))

@@ -4,7 +4,7 @@ ghost use Rattle.std.specs.Prelude.{⊤, ◌≡◌, Err, IfErr, IfOk, IsSome, Ok
 ghost use Rattle.neli_attr.specs.Handles.{attrs_in};
 ghost use Rattle.neli_attr.specs.Nlattr.{nlattr_says};
 ghost use Rattle.neli_resolvers.specs.Items.{IsReadRefusal, IsRefusal, attributes_said};
-ghost use Rattle.neli_resolvers.specs.Resolvers.{both_answer, family_answer, family_takes, group_answer, group_takes, lent_family_takes, match_in, names_answer, names_in, names_said, names_take, number_told};
+ghost use Rattle.neli_resolvers.specs.Resolvers.{both_answer, family_answer, family_takes_memory, group_answer, group_takes_memory, lent_family_takes_memory, match_in, names_answer, names_in, names_said, names_take_memory, number_told};
 
 use crate::attributes::{family_id, family_name, groups};
 use crate::groups::{first_match, last_name};
@@ -33,7 +33,7 @@ fn number_told(alloc: Global, message: &CtrlMessage) -> Option<u16>
 pub fn find_genl_family(alloc: Global, family: &str, items: &[CtrlItem]) -> Result<u16, CtrlError>
     ensures value { IfOk result (λ n. family_answer family.now items.now ≡ Ok n) }
     ensures refused { IfErr result (IsRefusal (family_answer family.now items.now)
-        (lent_family_takes family.now items.now)) }
+        (lent_family_takes_memory family.now items.now)) }
 {
     refuse_errors(items)?;
     let mut found = None;
@@ -59,7 +59,7 @@ pub fn resolve_genl_family(
 ) -> Result<u16, CtrlError>
     ensures value { IfOk result (λ n. family_answer family.now items.items ≡ Ok n) }
     ensures refused { IfErr result (IsRefusal (family_answer family.now items.items)
-        (family_takes family.now items.items)) }
+        (family_takes_memory family.now items.items)) }
 {
     find_genl_family(alloc, family, &without_errors(items)?)
 }
@@ -118,7 +118,7 @@ pub fn resolve_nl_mcast_group(
 ) -> Result<u32, CtrlError>
     ensures value { IfOk result (λ n. group_answer family.now group.now items.items ≡ Ok n) }
     ensures refused { IfErr result (IsRefusal (group_answer family.now group.now items.items)
-        (group_takes items.items)) }
+        (group_takes_memory items.items)) }
 {
     find_nl_mcast_group(alloc, family, group, &without_errors(items)?)
 }
@@ -196,7 +196,7 @@ pub fn lookup_id(
     ensures value { IfOk result
         (λ names. names_answer id items.items ≡ Ok (string_bytes names.0, string_bytes names.1)) }
     ensures refused { IfErr result
-        (IsRefusal (names_answer id items.items) (names_take items.items)) }
+        (IsRefusal (names_answer id items.items) (names_take_memory items.items)) }
 {
     let mut found = None;
     for item in items {

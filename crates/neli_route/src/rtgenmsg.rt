@@ -3,8 +3,8 @@
 ghost use Rattle.std.specs.Prelude.{◌≡◌, ◌+◌, ◌<◌, Some, None, Ok, IfOk, IfErr, length};
 ghost use Rattle.neli_wire.specs.laws.Sizes.{unpadded-rounded};
 ghost use Rattle.neli_attr.specs.Builders.{IsWhyNot};
-ghost use Rattle.neli_body.specs.Attributes.{Says, attrs_of, attrs_say, attrs_size, attrs_wire};
-ghost use Rattle.neli_body.specs.Bodies.{body_of, body_takes, body_wire};
+ghost use Rattle.neli_body.specs.Attributes.{AttributesRead, attrs_of, attrs_view, attrs_size, attrs_wire};
+ghost use Rattle.neli_body.specs.Bodies.{body_of, body_takes_memory, body_wire};
 ghost use Rattle.neli_body.specs.laws.Attributes.{with_attributes-length, with_attributes-zeros, with_attributes-no_memory, with_attributes_of-never_short, with_attributes_of-no_memory};
 ghost use Rattle.neli_consts_attrs.specs.Ifa.{ifa_number, ifa_of};
 ghost use Rattle.neli_route.specs.Rtgenmsg.{IsPlainRtgenmsg, rtgenmsg_built, rtgenmsg_bytes, rtgenmsg_header};
@@ -151,13 +151,13 @@ impl FromBytesWithInput for Rtgenmsg {
     ghost use Rattle.neli_route.specs.declared.rtgenmsg.RtgenmsgHeader.{RtgenmsgHeader as Fields};
     ghost use Rattle.neli_consts_attrs.specs.declared.addresses.Ifa.{Ifa as Kind};
 
-    ghost Value = { Fields × Says Kind };
+    ghost Value = { Fields × AttributesRead Kind };
 
-    ghost view = { λ m. (m.header, attrs_say m.rtattrs) };
+    ghost view = { λ m. (m.header, attrs_view m.rtattrs) };
 
     ghost read = { body_of 4 rtgenmsg_header (attrs_of ifa_of) };
 
-    ghost takes_memory = { body_takes 4 (λ s. 0 < length s) };
+    ghost takes_memory = { body_takes_memory 4 (λ s. 0 < length s) };
 
     ghost no_memory = { with_attributes_of-no_memory 4 rtgenmsg_header ifa_of };
 

@@ -40,8 +40,8 @@ frame_at layout s =
     if nat_lt (length s) layout.size then Err short else frame_after layout (layout.header_of s) s
 
 -- where the payload's bytes are there, and reading them takes memory
-abbrev pub frame_takes : {H V : Type 0} → Layout H V → (H → List ℕ → Type 0) → List ℕ → Type 0
-frame_takes layout takes s =
+abbrev pub frame_takes_memory : {H V : Type 0} → Layout H V → (H → List ℕ → Type 0) → List ℕ → Type 0
+frame_takes_memory layout takes s =
     let header = layout.header_of s in let n = layout.length_of header in
     (layout.size ≤ length s) × (layout.size ≤ n) × (n ≤ length s) × takes header (take (n - layout.size) (drop layout.size s))
 

@@ -40,8 +40,8 @@ exact_reading read n s =
 -- ---- refusals
 
 -- the first n bytes are there, and reading them takes memory
-abbrev pub exact_takes : (List ℕ → Type 0) → ℕ → List ℕ → Type 0
-exact_takes takes_memory n s = (n ≤ length s) × takes_memory (take n s)
+abbrev pub exact_takes_memory : (List ℕ → Type 0) → ℕ → List ℕ → Type 0
+exact_takes_memory takes_memory n s = (n ≤ length s) × takes_memory (take n s)
 
 -- a part was read, and what is said of it holds
 abbrev pub IfRead : {A : Type 0} → Reading A → (A → List ℕ → Type 0) → Type 0

@@ -1,7 +1,7 @@
 //! Frames: a header that states the length of the whole, the payload, and padding to four bytes.
 
 ghost use Rattle.std.specs.Prelude.{◌≡◌, ◌≤◌, Ok, IfOk, IfErr, OnOk, OnErr};
-ghost use Rattle.neli_wire.specs.laws.Steps.{padded_payload_at, padded_payload_takes};
+ghost use Rattle.neli_wire.specs.laws.Steps.{padded_payload_at, padded_payload_takes_memory};
 ghost use Rattle.neli_wire.specs.Place.{whole};
 ghost use Rattle.neli_wire.specs.Refusals.{Refuses};
 ghost use Rattle.neli_wire.specs.Sizes.{align};
@@ -27,7 +27,7 @@ pub fn read_padded_payload<P: FromBytesWithInput>(
     ensures moved { OnOk result (whole cursor.new ≡ whole cursor.old) }
     ensures refused { IfErr result
         (Refuses (padded_payload_at P.read size len cursor.old.rest)
-        (padded_payload_takes P.takes_memory size len cursor.old.rest)) }
+        (padded_payload_takes_memory P.takes_memory size len cursor.old.rest)) }
     ensures unchanged { OnErr result (cursor.new ≡ cursor.old) }
 {
     if len < size {

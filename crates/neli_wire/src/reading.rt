@@ -4,7 +4,7 @@ ghost use Rattle.std.specs.Prelude.{◌≡◌, ℕ, ◌+◌, ◌-◌, ◌≤◌,
 ghost use Rattle.neli_wire.specs.Place.{whole, place_after};
 ghost use Rattle.neli_wire.specs.Bytes.{Reading, short};
 ghost use Rattle.neli_wire.specs.Refusals.{Refuses};
-ghost use Rattle.neli_wire.specs.Reading.{IsLocal, LacksPadding, StripsTo, exact_reading, exact_takes, refusal_within};
+ghost use Rattle.neli_wire.specs.Reading.{IsLocal, LacksPadding, StripsTo, exact_reading, exact_takes_memory, refusal_within};
 ghost use Rattle.neli_wire.specs.Sizes.{gap};
 ghost use Rattle.neli_wire.specs.DeError.{DeError as Refusal};
 ghost use Rattle.neli_wire.specs.DeError.TheVariants as de;
@@ -78,7 +78,7 @@ pub trait FromBytesWithInput: Sized + Debug + Drop {
         ensures moved { OnOk result (whole cursor.new ≡ whole cursor.old) }
         ensures refused { IfErr result
             (Refuses (exact_reading read n cursor.old.rest)
-            (exact_takes takes_memory n cursor.old.rest)) }
+            (exact_takes_memory takes_memory n cursor.old.rest)) }
         ensures unchanged { OnErr result (cursor.new ≡ cursor.old) };
 
     /// Moves to the next position that is a multiple of four, as `FromBytes::strip` does.

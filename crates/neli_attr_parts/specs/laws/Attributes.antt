@@ -10,13 +10,13 @@ use Rattle.neli_wire.specs.SerError.TheVariants as ser
 use Rattle.neli_wire.specs.Sizes.{align, EndsInZeros}
 use Rattle.neli_wire.specs.laws.Sizes.{padded-zeros}
 use Rattle.neli_wire.specs.Reading.{IsLocal, number_at, number_as}
-use Rattle.neli_wire.specs.Frames.{frame_at, frame_takes, number_in}
-use Rattle.neli_wire.specs.laws.Frames.{IsWide, IsPlaced, number_at-wide_by, value_at-wide_by, then-wide, done-wide, header_then-is, header_then_takes-is, frame_at-local, frame_at-no_memory, number_in-take}
+use Rattle.neli_wire.specs.Frames.{frame_at, frame_takes_memory, number_in}
+use Rattle.neli_wire.specs.laws.Frames.{IsWide, IsPlaced, number_at-wide_by, value_at-wide_by, then-wide, done-wide, header_then-is, header_then_takes_memory-is, frame_at-local, frame_at-no_memory, number_in-take}
 use Rattle.neli_wire.specs.laws.Numbers.{count-unsigned}
 use Rattle.neli_wire.specs.laws.Lists.{both_written, both-no_memory}
 use Rattle.neli_wire.specs.Writing.{RefusesWrite, TakesRoom, Wire, ◌+++◌, append_wire, pad_wire, zeros_for}
 use Rattle.neli_attr_parts.specs.Attributes.{Head, attribute, attribute_payload, attribute_wire, nested_payload}
-use Rattle.neli_attr_parts.specs.laws.Steps.{attribute_at, attribute_takes, head_at}
+use Rattle.neli_attr_parts.specs.laws.Steps.{attribute_at, attribute_takes_memory, head_at}
 
 -- ---- reading
 
@@ -35,9 +35,9 @@ module _ {K V : Type 0} (kind_of : ℕ → K) (payload_of : List ℕ → Result 
   unfolding attribute_at
   attribute_at-is = header_then-is (attribute kind_of payload_of) (head_at kind_of) (head_at-wide kind_of)
 
-  pub attribute_takes-is : (takes : List ℕ → Type 0) (s : List ℕ) → attribute_takes kind_of takes s → frame_takes (attribute kind_of payload_of) (λ _. takes) s
-  unfolding attribute_takes
-  attribute_takes-is takes = header_then_takes-is (attribute kind_of payload_of) (head_at kind_of) (λ _. takes) (head_at-wide kind_of)
+  pub attribute_takes_memory-is : (takes : List ℕ → Type 0) (s : List ℕ) → attribute_takes_memory kind_of takes s → frame_takes_memory (attribute kind_of payload_of) (λ _. takes) s
+  unfolding attribute_takes_memory
+  attribute_takes_memory-is takes = header_then_takes_memory-is (attribute kind_of payload_of) (head_at kind_of) (λ _. takes) (head_at-wide kind_of)
 
   pub attribute-placed : IsPlaced (attribute kind_of payload_of)
   attribute-placed = record {

@@ -3,7 +3,7 @@ use Rattle.std.specs.Prelude.{ℕ, List, Result, Ok}
 use Rattle.neli_wire.specs.Bytes.{Reading}
 use Rattle.neli_wire.specs.DeError.{DeError}
 use Rattle.neli_wire.specs.Reading.{◌>>=◌, number_at, number_as}
-use Rattle.neli_wire.specs.laws.Steps.{header_then, header_then_takes}
+use Rattle.neli_wire.specs.laws.Steps.{header_then, header_then_takes_memory}
 use Rattle.neli_attr_parts.specs.Attributes.{Attr, Head}
 
 -- a header
@@ -18,5 +18,5 @@ unfoldable pub attribute_at : {K V : Type 0} → (ℕ → K) → (List ℕ → R
 attribute_at kind_of payload_of = header_then (head_at kind_of) (λ head. head.len) 4 (λ _. payload_of)
 
 -- where the payload is there, and reading it takes memory
-unfoldable pub attribute_takes : {K : Type 0} → (ℕ → K) → (List ℕ → Type 0) → List ℕ → Type 0
-attribute_takes kind_of takes = header_then_takes (head_at kind_of) (λ head. head.len) 4 (λ _. takes)
+unfoldable pub attribute_takes_memory : {K : Type 0} → (ℕ → K) → (List ℕ → Type 0) → List ℕ → Type 0
+attribute_takes_memory kind_of takes = header_then_takes_memory (head_at kind_of) (λ head. head.len) 4 (λ _. takes)

@@ -9,7 +9,7 @@ use Rattle.neli_wire.specs.DeError.TheVariants.{InvalidInput, Memory}
 use Rattle.neli_wire.specs.SerError.TheVariants as ser
 use Rattle.neli_wire.specs.laws.Lists.{both_written, both-no_memory}
 use Rattle.neli_wire.specs.laws.Reading.{bind-not, guard-not, refused_first}
-use Rattle.neli_wire.specs.Reading.{exact_reading, exact_takes}
+use Rattle.neli_wire.specs.Reading.{exact_reading, exact_takes_memory}
 use Rattle.neli_wire.specs.Sizes.{EndsInZeros}
 use Rattle.neli_wire.specs.laws.Sizes.{unpadded-zeros}
 use Rattle.neli_wire.specs.Writing.{Wire}
@@ -32,9 +32,9 @@ pub body_wire-no_memory : (header : List ℕ) (rest : Wire) → rest ≢ Err ser
 body_wire-no_memory header rest none = both-no_memory (Ok header) rest (written-no_memory header) none
 
 -- a refusal of the first n bytes is that of a reading of exactly n
-pub exact_refused : {V : Type 0} (read : List ℕ → Result V DeError) (takes : List ℕ → Type 0) (n : ℕ) (s : List ℕ) (e : DeError) → n ≤ length s → Refuses (read (take n s)) (takes (take n s)) e → Refuses (exact_reading read n s) (exact_takes takes n s) e
+pub exact_refused : {V : Type 0} (read : List ℕ → Result V DeError) (takes : List ℕ → Type 0) (n : ℕ) (s : List ℕ) (e : DeError) → n ≤ length s → Refuses (read (take n s)) (takes (take n s)) e → Refuses (exact_reading read n s) (exact_takes_memory takes n s) e
 exact_refused read takes n s e le h =
-    rw (le-ltb (length s) n le) (refused_first (read (take n s)) (λ v. Ok (v, drop n s)) (takes (take n s)) (exact_takes takes n s) e h (λ some. (le, some)))
+    rw (le-ltb (length s) n le) (refused_first (read (take n s)) (λ v. Ok (v, drop n s)) (takes (take n s)) (exact_takes_memory takes n s) e h (λ some. (le, some)))
 
 module _ {H V : Type 0} (n : ℕ) (header_of : List ℕ → H) (rest_of : List ℕ → Result V DeError) where
   body_of-not : (d : DeError) → ((k : ℕ) → InvalidInput k ≢ d) → ((s : List ℕ) → rest_of s ≢ Err d) → (s : List ℕ) → body_of n header_of rest_of s ≢ Err d

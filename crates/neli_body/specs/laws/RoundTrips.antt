@@ -5,7 +5,7 @@ use Rattle.neli_attr.specs.declared.rtattr.Rtattr.{Rtattr}
 use Rattle.neli_attr.specs.Attributes.{attribute}
 use Rattle.neli_attr.specs.Rtattr.{rtattr_says, rtattr_wire}
 use Rattle.neli_attr.specs.laws.RoundTrips.{IsWrittenAs, attribute-written, list-reads_back}
-use Rattle.neli_body.specs.Attributes.{Attrs, attrs_of, attrs_say, attrs_wire}
+use Rattle.neli_body.specs.Attributes.{Attrs, attrs_of, attrs_view, attrs_wire}
 use Rattle.neli_body.specs.RoundTrips.{ArePlainAttrs, AreReadBack, IsPlainAttr, ReadsBackWhole}
 use Rattle.neli_body.specs.laws.Bodies.{reads_back}
 
@@ -24,5 +24,5 @@ module _ {T : Type 0} (number_of : T → ℕ) (value_of : ℕ → T) where
   pub whole-reads_back : {H : Type 0} (n : ℕ) (bytes_of : H → List ℕ) (header_of : List ℕ → H) (h : H) (attrs : Attrs T) → length (bytes_of h) ≡ n → header_of (bytes_of h) ≡ h → ArePlainAttrs number_of value_of attrs → ReadsBackWhole n bytes_of header_of number_of value_of h attrs
   whole-reads_back n bytes_of header_of h attrs size back are =
       let list = plain-reads_back attrs are in
-      let both = reads_back n header_of (attrs_of value_of) bytes_of h (attrs_wire number_of attrs) size back list.0 (attrs_say attrs) list.1 list.2 in
+      let both = reads_back n header_of (attrs_of value_of) bytes_of h (attrs_wire number_of attrs) size back list.0 (attrs_view attrs) list.1 list.2 in
       (bytes_of h ++ list.0, both.0, both.1)

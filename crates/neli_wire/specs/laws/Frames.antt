@@ -10,8 +10,8 @@ use Rattle.neli_wire.specs.Sizes.{align}
 use Rattle.neli_wire.specs.Bytes.{Reading, bytes_at, short}
 use Rattle.neli_wire.specs.Reading.{◌>>=◌, IsLocal, and_then, value_at, number_at}
 use Rattle.neli_wire.specs.laws.Reading.{bind_ok, guard_ok, ok_is, guard-not, bind-not}
-use Rattle.neli_wire.specs.Frames.{Layout, IsFrame, frame_at, frame_after, frame_takes, number_in}
-use Rattle.neli_wire.specs.laws.Steps.{padded_payload_at, padded_payload_takes, header_then, header_then_takes}
+use Rattle.neli_wire.specs.Frames.{Layout, IsFrame, frame_at, frame_after, frame_takes_memory, number_in}
+use Rattle.neli_wire.specs.laws.Steps.{padded_payload_at, padded_payload_takes_memory, header_then, header_then_takes_memory}
 
 abbrev done : {A : Type 0} → A → Result A DeError
 done x = Ok x
@@ -108,12 +108,12 @@ header_then-is layout header_at wide s =
     ]
 
 -- the same for where memory is taken
-pub header_then_takes-is : {H V : Type 0} (layout : Layout H V) (header_at : List ℕ → Reading H) (takes : H → List ℕ → Type 0) → IsWide header_at layout.size layout.header_of → (s : List ℕ) → header_then_takes header_at layout.length_of layout.size takes s → frame_takes layout takes s
-header_then_takes-is layout header_at takes wide s h =
+pub header_then_takes_memory-is : {H V : Type 0} (layout : Layout H V) (header_at : List ℕ → Reading H) (takes : H → List ℕ → Type 0) → IsWide header_at layout.size layout.header_of → (s : List ℕ) → header_then_takes_memory header_at layout.length_of layout.size takes s → frame_takes_memory layout takes s
+header_then_takes_memory-is layout header_at takes wide s h =
     elim (cases_lt (length s) layout.size) [
       | inl few ↦ absurd (rw (wide.brief s few) at h)
       | inr enough ↦
-          let body : padded_payload_takes (takes (layout.header_of s)) layout.size (layout.length_of (layout.header_of s)) (drop layout.size s) = rw (wide.long s enough) at h in
+          let body : padded_payload_takes_memory (takes (layout.header_of s)) layout.size (layout.length_of (layout.header_of s)) (drop layout.size s) = rw (wide.long s enough) at h in
           (enough, body.0, omega (arith, body.1.0, length-drop layout.size s), body.1.1)
     ]
 

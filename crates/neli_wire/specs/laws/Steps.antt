@@ -4,7 +4,7 @@ use Rattle.std.specs.Prelude.{ℕ, ◌-◌, ◌≤◌, List, Result, Ok, Err, na
 use Rattle.neli_wire.specs.Bytes.{Reading, bytes_at}
 use Rattle.neli_wire.specs.DeError.{DeError}
 use Rattle.neli_wire.specs.DeError.TheVariants.{InvalidInput}
-use Rattle.neli_wire.specs.Reading.{◌>>=◌, IfRead, exact_reading, exact_takes}
+use Rattle.neli_wire.specs.Reading.{◌>>=◌, IfRead, exact_reading, exact_takes_memory}
 use Rattle.neli_wire.specs.Sizes.{align}
 
 -- the payload and the padding after a header of which the length is known
@@ -19,9 +19,9 @@ header_then header_at length_of size payload_of s =
     header_at s >>= λ h. (padded_payload_at (payload_of h.0) size (length_of h.0) h.1 >>= λ v. Ok ((h.0, v.0), v.1))
 
 -- where the payload after the header is there, and reading it takes memory
-abbrev pub padded_payload_takes : (List ℕ → Type 0) → ℕ → ℕ → List ℕ → Type 0
-padded_payload_takes takes size len s = (size ≤ len) × exact_takes takes (len - size) s
+abbrev pub padded_payload_takes_memory : (List ℕ → Type 0) → ℕ → ℕ → List ℕ → Type 0
+padded_payload_takes_memory takes size len s = (size ≤ len) × exact_takes_memory takes (len - size) s
 
 -- the same from the header on
-abbrev pub header_then_takes : {H : Type 0} → (List ℕ → Reading H) → (H → ℕ) → ℕ → (H → List ℕ → Type 0) → List ℕ → Type 0
-header_then_takes header_at length_of size takes s = IfRead (header_at s) (λ h rest. padded_payload_takes (takes h) size (length_of h) rest)
+abbrev pub header_then_takes_memory : {H : Type 0} → (List ℕ → Reading H) → (H → ℕ) → ℕ → (H → List ℕ → Type 0) → List ℕ → Type 0
+header_then_takes_memory header_at length_of size takes s = IfRead (header_at s) (λ h rest. padded_payload_takes_memory (takes h) size (length_of h) rest)

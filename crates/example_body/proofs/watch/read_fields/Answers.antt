@@ -4,11 +4,11 @@ use Rattle.std.proofs.lemmas.Result.{err_from_is_err_and}
 use Rattle.neli.specs.wire.Reading.{number_at}
 use Rattle.neli.specs.wire.laws.Elements.{elements}
 use Rattle.neli.specs.wire.laws.Reading.{refused_first}
-use Rattle.example_body.specs.Watch.{watch_fields, watch_takes}
+use Rattle.example_body.specs.Watch.{watch_fields, watch_takes_memory}
 use Rattle.example_body.proofs.watch.read_fields.Goals as goal
 
 pub returns-in_err-levels-clause-refused : goal.returns-in_err-levels-clause-refused
-unfolding watch_fields watch_takes
+unfolding watch_fields watch_takes_memory
 returns-in_err-levels-clause-refused c =
     let p = err_from_is_err_and c.from_residual-in_err-levels.result c.from_residual-in_err-levels.ensures.1 in
     let rest = c.from_bytes.new.cursor.rest in

@@ -1,7 +1,7 @@
 use Rattle.std.proofs.Common.{◌≡◌, option_map, string_bytes}
 use Rattle.std.specs.Vec.Iter.{into_iter_items}
 use Rattle.neli_resolvers.specs.Items.{last_found}
-use Rattle.neli_resolvers.specs.Resolvers.{names_take, names_told}
+use Rattle.neli_resolvers.specs.Resolvers.{names_take_memory, names_told}
 use Rattle.neli_resolvers.proofs.Lists.{last_from}
 use Rattle.neli_resolvers.proofs.resolvers.lookup_id.Given as goal
 
@@ -12,5 +12,5 @@ invariant-loop-item l = record {
   is_finite : (goal.iterator-loop-item).is_finite l.item-iterator;
   last : last_from (names_told l.id) (option_map (λ p. (string_bytes p.0, string_bytes p.1)) l.found) (into_iter_items l.item-iterator)
       ≡ last_found (names_told l.id) l.fn.items.items;
-  takes : names_take (into_iter_items l.item-iterator) → names_take l.fn.items.items;
+  takes : names_take_memory (into_iter_items l.item-iterator) → names_take_memory l.fn.items.items;
 }

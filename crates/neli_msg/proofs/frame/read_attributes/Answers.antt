@@ -1,5 +1,5 @@
 use Rattle.neli_msg.proofs.Attributes.{attributes_value, attributes_refused}
-use Rattle.neli_msg.proofs.parts.read_attributes.Goals as goal
+use Rattle.neli_msg.proofs.frame.read_attributes.Goals as goal
 
 pub returns-clause-value : goal.returns-clause-value
 returns-clause-value c = attributes_value c.read_whole.result c.args.bytes.now c.read_whole.ensures.value

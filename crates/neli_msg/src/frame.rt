@@ -1,4 +1,4 @@
-//! Parts that messages and answers are read and written of.
+//! How messages and answers are framed: the parts that they are read and written of, and their length.
 
 ghost use Rattle.std.specs.Prelude.{◌≡◌, ◌<◌, IfOk, IfErr, OnOk, OnErr, MatchOption, ◌+◌, drop, length, min, take};
 ghost use Rattle.neli_wire.specs.Sizes.{align};
@@ -131,7 +131,7 @@ pub(crate) fn write_three<A: ToBytes, B: ToBytes, C: ToBytes>(
 
 /// The length of a message with this payload, where it fits its field: the header's 16 bytes and the
 /// payload, rounded up to four.
-pub(crate) fn length_with<P: Size>(payload: &P) -> Option<u32>
+pub(crate) fn frame_length<P: Size>(payload: &P) -> Option<u32>
     ensures { MatchOption result (4294967295 < align (16 + P.wire_length payload.now))
         (λ len. len ≡ align (16 + P.wire_length payload.now)) }
 {
