@@ -29,11 +29,13 @@ made x = Ok x
 made_is : {A : Type 0} (x y : A) → made x ≡ made y → x ≡ y
 made_is x y e = cc
 
-given_ok : {A B : Type 0} (name : List ℕ) (o : Option A) (next : A → Outcome B) (y : B) → require_field name o next ≡ Ok y → (x : A) × (next x ≡ Ok y)
+given_ok : {A B : Type 0} (name : List ℕ) (o : Option A) (next : A → Outcome B) (y : B)
+    → require_field name o next ≡ Ok y → (x : A) × (next x ≡ Ok y)
 given_ok name (Some x) next y e = (x, e)
 given_ok name None next y e = absurd cc
 
-bind_made : {A B : Type 0} (o : Outcome A) (next : A → Outcome B) (y : B) → (o >>> next) ≡ Ok y → (x : A) × (o ≡ Ok x) × (next x ≡ Ok y)
+bind_made : {A B : Type 0} (o : Outcome A) (next : A → Outcome B) (y : B) → (o >>> next) ≡ Ok y
+    → (x : A) × (o ≡ Ok x) × (next x ≡ Ok y)
 bind_made (Ok x) next y e = (x, refl, e)
 bind_made (Err fault) next y e = absurd cc
 
@@ -42,36 +44,43 @@ payload_in-fits : (w : Wire) (bytes : List ℕ) → payload_in 4 w ≡ Ok bytes 
 payload_in-fits (Err e) bytes h = absurd cc
 payload_in-fits (Ok text) bytes h = by (ltb 65535 (4 + length text)) refl h
   where
-    by : (b : Bool) → ltb 65535 (4 + length text) ≡ b → cond b (Err (Invalid (codes "Length does not fit its field"))) (made text) ≡ Ok bytes → 4 + length bytes < 65536
+    by : (b : Bool) → ltb 65535 (4 + length text) ≡ b → cond b (Err (Invalid (codes "Length does not fit its field")))
+        (made text) ≡ Ok bytes → 4 + length bytes < 65536
     by true is e = absurd cc
     by false is e = omega (arith, ltb-false _ _ is, ap length (made_is text bytes e))
 
-pub built_nlattr-length : {T P : Type 0} (wire : P → Wire) (b : NlattrBuilder T P) (a : Nlattr T (List ℕ)) → built_nlattr wire b ≡ Ok a → (a.nla_len ≡ 4 + length a.nla_payload) × (4 + length a.nla_payload < 65536)
+pub built_nlattr-length : {T P : Type 0} (wire : P → Wire) (b : NlattrBuilder T P) (a : Nlattr T (List ℕ))
+    → built_nlattr wire b ≡ Ok a → (a.nla_len ≡ 4 + length a.nla_payload) × (4 + length a.nla_payload < 65536)
 built_nlattr-length {T} wire b a e =
     let one = given_ok _ b.nla_type _ a e in
     let two = given_ok _ b.nla_payload _ a one.1 in
     let three = bind_made (payload_in 4 (wire two.0)) _ a two.1 in
-    let P : Nlattr T (List ℕ) → Type 0 = λ a. (a.nla_len ≡ 4 + length a.nla_payload) × (4 + length a.nla_payload < 65536) in
+    let P : Nlattr T (List ℕ) → Type 0 = λ a. (a.nla_len ≡ 4 + length a.nla_payload)
+        × (4 + length a.nla_payload < 65536) in
     subst P (made_is (nlattr_with_length one.0 three.0) a three.2) (refl, payload_in-fits (wire two.0) three.0 three.1)
 
-pub built_rtattr-length : {T P : Type 0} (wire : P → Wire) (b : RtattrBuilder T P) (a : Rtattr T (List ℕ)) → built_rtattr wire b ≡ Ok a → (a.rta_len ≡ 4 + length a.rta_payload) × (4 + length a.rta_payload < 65536)
+pub built_rtattr-length : {T P : Type 0} (wire : P → Wire) (b : RtattrBuilder T P) (a : Rtattr T (List ℕ))
+    → built_rtattr wire b ≡ Ok a → (a.rta_len ≡ 4 + length a.rta_payload) × (4 + length a.rta_payload < 65536)
 built_rtattr-length {T} wire b a e =
     let one = given_ok _ b.rta_type _ a e in
     let two = given_ok _ b.rta_payload _ a one.1 in
     let three = bind_made (payload_in 4 (wire two.0)) _ a two.1 in
-    let P : Rtattr T (List ℕ) → Type 0 = λ a. (a.rta_len ≡ 4 + length a.rta_payload) × (4 + length a.rta_payload < 65536) in
+    let P : Rtattr T (List ℕ) → Type 0 = λ a. (a.rta_len ≡ 4 + length a.rta_payload)
+        × (4 + length a.rta_payload < 65536) in
     subst P (made_is (rtattr_with_length one.0 three.0) a three.2) (refl, payload_in-fits (wire two.0) three.0 three.1)
 
 -- ---- nesting
 
 -- a payload that an attribute can have is what it was, and leaves room for the header
-attribute_payload-fits : (text payload : List ℕ) → attribute_payload (Ok text) ≡ Ok payload → (text ≡ payload) × (4 + length text < 65536)
+attribute_payload-fits : (text payload : List ℕ) → attribute_payload (Ok text) ≡ Ok payload
+    → (text ≡ payload) × (4 + length text < 65536)
 attribute_payload-fits text payload h = by (ltb 65535 (4 + length text)) refl h
   where
     written : List ℕ → Wire
     written bytes = Ok bytes
 
-    by : (b : Bool) → ltb 65535 (4 + length text) ≡ b → cond b (Err (Msg (codes "Length does not fit its field"))) (written text) ≡ Ok payload → (text ≡ payload) × (4 + length text < 65536)
+    by : (b : Bool) → ltb 65535 (4 + length text) ≡ b → cond b (Err (Msg (codes "Length does not fit its field")))
+        (written text) ≡ Ok payload → (text ≡ payload) × (4 + length text < 65536)
     by true is e = absurd cc
     by false is e = (cc, omega (arith, ltb-false _ _ is))
 
@@ -79,17 +88,26 @@ attribute_payload-fits text payload h = by (ltb 65535 (4 + length text)) refl h
 attribute_bytes-longer : (len kind : ℕ) (bytes : List ℕ) → length bytes ≤ length (attribute_bytes len kind bytes)
 attribute_bytes-longer len kind bytes =
     let head : List ℕ = little_bytes 2 len ++ little_bytes 2 kind in
-    omega (arith, length-append (head ++ bytes) (zeros_for (length (head ++ bytes))), length-append head bytes, length-append (little_bytes 2 len) (little_bytes 2 kind), count-unsigned 2 len, count-unsigned 2 kind)
+    omega (arith, length-append (head ++ bytes) (zeros_for (length (head ++ bytes))), length-append head bytes,
+        length-append (little_bytes 2 len) (little_bytes 2 kind), count-unsigned 2 len, count-unsigned 2 kind)
 
 -- what is appended to a list of attributes comes last in it
-pub nested-last : {K : Type 0} (kind_of : ℕ → K) (kind : ℕ) (old bytes payload : List ℕ) (len : ℕ) (attrs : List (Attr K (List ℕ))) → len ≡ 4 + length bytes → kind < 65536 → nested_payload old (attribute_wire len kind (Ok bytes)) ≡ Ok payload → elements (frame_at (attribute kind_of (λ bytes. Ok bytes))) old ≡ Ok attrs → elements (frame_at (attribute kind_of (λ bytes. Ok bytes))) payload ≡ Ok (attrs ++ attr len (kind_of kind) bytes ∷ [])
+pub nested-last : {K : Type 0} (kind_of : ℕ → K) (kind : ℕ) (old bytes payload : List ℕ) (len : ℕ)
+    (attrs : List (Attr K (List ℕ))) → len ≡ 4 + length bytes → kind < 65536
+    → nested_payload old (attribute_wire len kind (Ok bytes)) ≡ Ok payload
+    → elements (frame_at (attribute kind_of (λ bytes. Ok bytes))) old ≡ Ok attrs
+    → elements (frame_at (attribute kind_of (λ bytes. Ok bytes))) payload
+    ≡ Ok (attrs ++ attr len (kind_of kind) bytes ∷ [])
 nested-last {K} kind_of kind old bytes payload len attrs is small nests lists =
     let layout = attribute kind_of (λ (bytes : List ℕ). Ok bytes) in
     let placed = attribute-placed kind_of (λ (bytes : List ℕ). Ok bytes) in
     let text : List ℕ = attribute_bytes len kind bytes in
     let fits = attribute_payload-fits (old ++ text) payload nests in
-    let room : 4 + length bytes < 65536 = omega (arith, fits.1, length-append old text, attribute_bytes-longer len kind bytes) in
-    let frame : IsFrame layout text (record { len = len; kind = kind_of kind }) bytes = rw is (attribute_bytes-frame kind_of (λ bytes. Ok bytes) kind bytes bytes small room refl) in
+    let room : 4 + length bytes < 65536 = omega (arith, fits.1, length-append old text,
+        attribute_bytes-longer len kind bytes) in
+    let frame : IsFrame layout text (record { len = len; kind = kind_of kind }) bytes =
+        rw is (attribute_bytes-frame kind_of (λ bytes. Ok bytes) kind bytes bytes small room refl) in
     let before = list-frames layout placed (omega arith) old attrs lists in
-    let after = frames-list layout placed (omega arith) (old ++ text) (attrs ++ attr len (kind_of kind) bytes ∷ []) (frames-more layout placed (omega arith) old text attrs (attr len (kind_of kind) bytes) before frame) in
+    let after = frames-list layout placed (omega arith) (old ++ text) (attrs ++ attr len (kind_of kind) bytes ∷ [])
+        (frames-more layout placed (omega arith) old text attrs (attr len (kind_of kind) bytes) before frame) in
     subst (λ (s : List ℕ). elements (frame_at layout) s ≡ Ok (attrs ++ attr len (kind_of kind) bytes ∷ [])) fits.0 after

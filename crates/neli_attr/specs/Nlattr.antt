@@ -23,7 +23,8 @@ nested_with a bytes = with_length (record a.nla_type { nla_nested = true }) byte
 
 -- whether lengths, types and payloads are equal
 abbrev pub nlattr_eq : {T P : Type 0} → (T → T → Bool) → (P → P → Bool) → Nlattr T P → Nlattr T P → Bool
-nlattr_eq same same_payload = eq_of_both (eq_of_both (on (λ a. a.nla_len) nat_eq) (on (λ a. a.nla_type) (attr_type_eq same))) (on (λ a. a.nla_payload) same_payload)
+nlattr_eq same same_payload = eq_of_both (eq_of_both (on (λ a. a.nla_len) nat_eq)
+    (on (λ a. a.nla_type) (attr_type_eq same))) (on (λ a. a.nla_payload) same_payload)
 
 -- what a builder makes of its fields
 abbrev pub built_nlattr : {T P : Type 0} → (P → Wire) → NlattrBuilder T P → Outcome (Nlattr T (List ℕ))

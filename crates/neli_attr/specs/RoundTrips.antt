@@ -9,7 +9,8 @@ use Rattle.neli_attr.specs.Attributes.{attr, attribute, attribute_wire}
 abbrev pub IsReadBack : {K : Type 0} → (ℕ → K) → ℕ → ℕ → List ℕ → Type 0
 IsReadBack kind_of len kind payload =
     (bytes : List ℕ) × (attribute_wire len kind (Ok payload) ≡ Ok bytes)
-    × ((rest : List ℕ) → frame_at (attribute kind_of (λ bytes. Ok bytes)) (bytes ++ rest) ≡ Ok (attr len (kind_of kind) payload, rest))
+    × ((rest : List ℕ) → frame_at (attribute kind_of (λ bytes. Ok bytes)) (bytes ++ rest)
+        ≡ Ok (attr len (kind_of kind) payload, rest))
 
 -- a type field has the flags and the number of another one
 pub record KeepsField {T : Type 0} (type_number : T → ℕ) (field read : AttrType T) : Type 0 where

@@ -37,7 +37,8 @@ attribute_wire len kind payload = pad_wire ((Ok (little_bytes 2 len) +++ Ok (lit
 
 -- the wire bytes of a payload, which leave room for the header in a length of 16 bits
 abbrev pub attribute_payload : Wire → Wire
-attribute_payload (Ok bytes) = if nat_lt 65535 (4 + length bytes) then Err (Msg (codes "Length does not fit its field")) else Ok bytes
+attribute_payload (Ok bytes) = if nat_lt 65535 (4 + length bytes) then Err (Msg (codes "Length does not fit its field"))
+    else Ok bytes
 attribute_payload (Err e) = Err e
 
 -- the payload with an attribute's bytes after it, which leaves room for the header in the same way

@@ -41,7 +41,8 @@ abbrev pub ◌>>>◌ : {A B : Type 0} → Outcome A → (A → Outcome B) → Ou
 
 -- the bytes of a payload, which leave room for a header in a length of 16 bits
 abbrev pub payload_in : ℕ → Wire → Outcome (List ℕ)
-payload_in header (Ok bytes) = if nat_lt 65535 (header + length bytes) then Err (Invalid (codes "Length does not fit its field")) else Ok bytes
+payload_in header (Ok bytes) = if nat_lt 65535 (header + length bytes)
+    then Err (Invalid (codes "Length does not fit its field")) else Ok bytes
 payload_in header (Err e) = Err (Invalid (codes "Could not convert payload to binary representation"))
 
 -- all fields were given

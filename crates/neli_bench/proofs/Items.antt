@@ -24,24 +24,29 @@ pub record IsItemSum {A : Type 0} (size : A → ℕ) (all left : List (Result A 
   pub total : as_u64 (sum_by (added size) all) ≡ as_u64 (so_far + sum_by (added size) left)
   pub fits : so_far ≤ 2 ^ 64 - 1
 
-items-sum : {A : Type 0} (size : A → ℕ) (values : List A) (fault : Option DeError) → sum_by (added size) (items_of (values, fault)) ≡ sum_by size values
+items-sum : {A : Type 0} (size : A → ℕ) (values : List A) (fault : Option DeError)
+    → sum_by (added size) (items_of (values, fault)) ≡ sum_by size values
 items-sum size [] None = refl
 items-sum size [] (Some e) = refl
 items-sum size (a ∷ later) fault =
-    sum_by-cons (added size) (Ok a) (items_of (later, fault)) ∙ ap (λ n. size a + n) (items-sum size later fault) ∙ sym (sum_by-cons size a later)
+    sum_by-cons (added size) (Ok a) (items_of (later, fault)) ∙ ap (λ n. size a + n) (items-sum size later fault)
+        ∙ sym (sum_by-cons size a later)
 
 items-fault : {A : Type 0} (values : List A) (fault : Option DeError) → fault_among (items_of (values, fault)) ≡ fault
 items-fault [] None = refl
 items-fault [] (Some e) = refl
 items-fault (a ∷ later) fault = items-fault later fault
 
-pub items_end : {A : Type 0} (size : A → ℕ) (cut : Cut A) (left : List (Result A DeError)) (so_far : ℕ) → IsItemSum size (items_of cut) left so_far → left ≡ [] → IsSum size cut so_far
+pub items_end : {A : Type 0} (size : A → ℕ) (cut : Cut A) (left : List (Result A DeError)) (so_far : ℕ)
+    → IsItemSum size (items_of cut) left so_far → left ≡ [] → IsSum size cut so_far
 items_end size (values, fault) left so_far is last = (
   sym (items-fault values fault) ∙ is.fault ∙ ap fault_among last,
-  sym (ap as_u64 (sym (items-sum size values fault)) ∙ is.total ∙ ap (λ items. as_u64 (so_far + sum_by (added size) items)) last ∙ omega (arith, is.fits)),
+  sym (ap as_u64 (sym (items-sum size values fault)) ∙ is.total
+      ∙ ap (λ items. as_u64 (so_far + sum_by (added size) items)) last ∙ omega (arith, is.fits)),
 )
 
-pub items_fault : {A : Type 0} (size : A → ℕ) (cut : Cut A) (left later : List (Result A DeError)) (e : DeError) (so_far : ℕ) → IsItemSum size (items_of cut) left so_far → left ≡ Err e ∷ later → IsSome cut.1
+pub items_fault : {A : Type 0} (size : A → ℕ) (cut : Cut A) (left later : List (Result A DeError)) (e : DeError)
+    (so_far : ℕ) → IsItemSum size (items_of cut) left so_far → left ≡ Err e ∷ later → IsSome cut.1
 items_fault size (values, fault) left later e so_far is first =
     let found : fault ≡ Some e = sym (items-fault values fault) ∙ is.fault ∙ ap fault_among first in
     rw found (search rules)

@@ -31,12 +31,14 @@ walk_over a = record { place = a.payload; end = a.payload + a.payload_length }
 -- a walk goes on to a place over attributes with other numbers
 pub data Passes (bytes : List ℕ) (number : ℕ) (w : NeliWalk) : NeliWalk → Type 0 where
   none : Passes bytes number w w
-  one : {u v : NeliWalk} (a : NeliAttribute) → Passes bytes number w u → GivesAttribute bytes u v a → a.number ≢ number → Passes bytes number w v
+  one : {u v : NeliWalk} (a : NeliAttribute) → Passes bytes number w u → GivesAttribute bytes u v a → a.number ≢ number
+      → Passes bytes number w v
 
 -- the attribute is the first with this number among those that are left of a walk
 abbrev pub IsFound : List ℕ → NeliWalk → ℕ → NeliAttribute → Type 0
 IsFound bytes w number a =
-    (at : NeliWalk) × (after : NeliWalk) × Passes bytes number w at × GivesAttribute bytes at after a × (a.number ≡ number)
+    (at : NeliWalk) × (after : NeliWalk) × Passes bytes number w at × GivesAttribute bytes at after a
+        × (a.number ≡ number)
 
 -- there is none with this number before the walk's end, or before what is refused with this code
 abbrev pub FindsNone : List ℕ → NeliWalk → ℕ → ℤ → Type 0

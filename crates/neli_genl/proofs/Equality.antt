@@ -14,9 +14,11 @@ use Rattle.neli_genl.specs.declared.genlmsghdr.Genlmsghdr.{Genlmsghdr}
 
 -- ---- the connector
 
-module _ {idx : CnMsgIdx → CnMsgIdx → Bool} {val : CnMsgVal → CnMsgVal → Bool} (i : IsEquality idx) (v : IsEquality val) where
+module _ {idx : CnMsgIdx → CnMsgIdx → Bool} {val : CnMsgVal → CnMsgVal
+    → Bool} (i : IsEquality idx) (v : IsEquality val) where
   abbrev pub header_eq : CnMsgHeader → CnMsgHeader → Bool
-  header_eq a b = idx a.idx b.idx && (val a.val b.val && (nat_eq a.seq b.seq && (nat_eq a.ack b.ack && (nat_eq a.len b.len && nat_eq a.flags b.flags))))
+  header_eq a b = idx a.idx b.idx && (val a.val b.val &&
+      (nat_eq a.seq b.seq && (nat_eq a.ack b.ack && (nat_eq a.len b.len && nat_eq a.flags b.flags))))
 
   header-apart : (a b : CnMsgHeader) → header_eq a b ≡ true → a ≡ b
   header-apart a b e =
@@ -34,10 +36,15 @@ module _ {idx : CnMsgIdx → CnMsgIdx → Bool} {val : CnMsgVal → CnMsgVal →
       }
 
   pub header-equality : IsEquality header_eq
-  header-equality = from-parts header-apart (λ a. both_true ((i a.idx a.idx).1 refl) (both_true ((v a.val a.val).1 refl) (both_true ((bytes-equality a.seq a.seq).1 refl) (both_true ((bytes-equality a.ack a.ack).1 refl) (both_true ((bytes-equality a.len a.len).1 refl) ((bytes-equality a.flags a.flags).1 refl))))))
+  header-equality = from-parts header-apart (λ a. both_true ((i a.idx a.idx).1 refl)
+      (both_true ((v a.val a.val).1 refl) (both_true ((bytes-equality a.seq a.seq).1 refl)
+      (both_true ((bytes-equality a.ack a.ack).1 refl)
+      (both_true ((bytes-equality a.len a.len).1 refl) ((bytes-equality a.flags a.flags).1 refl))))))
 
-pub connector-equality : {P : Type 0} {p : CnMsgHeader → CnMsgHeader → Bool} {q : P → P → Bool} → IsEquality p → IsEquality q → IsEquality {T = CnMsg P} (λ a b. p a.header b.header && q a.payload b.payload)
-connector-equality {P} {p} {q} h k = from-parts apart (λ a. both_true ((h a.header a.header).1 refl) ((k a.payload a.payload).1 refl))
+pub connector-equality : {P : Type 0} {p : CnMsgHeader → CnMsgHeader → Bool} {q : P → P → Bool} → IsEquality p
+    → IsEquality q → IsEquality {T = CnMsg P} (λ a b. p a.header b.header && q a.payload b.payload)
+connector-equality {P} {p} {q} h k = from-parts apart (λ a. both_true ((h a.header a.header).1 refl)
+    ((k a.payload a.payload).1 refl))
   where
     apart : (a b : CnMsg P) → (p a.header b.header && q a.payload b.payload) ≡ true → a ≡ b
     apart a b e =
@@ -49,9 +56,11 @@ connector-equality {P} {p} {q} h k = from-parts apart (λ a. both_true ((h a.hea
 abbrev Attrs : Type 0 → Type 0
 Attrs T = List (Nlattr T (List ℕ))
 
-module _ {C T H : Type 0} {cmd : C → C → Bool} {attrs : Attrs T → Attrs T → Bool} {user : H → H → Bool} (c : IsEquality cmd) (l : IsEquality attrs) (u : IsEquality user) where
+module _ {C T H : Type 0} {cmd : C → C → Bool} {attrs : Attrs T → Attrs T → Bool} {user : H → H
+    → Bool} (c : IsEquality cmd) (l : IsEquality attrs) (u : IsEquality user) where
   abbrev pub generic_eq : Genlmsghdr C T H → Genlmsghdr C T H → Bool
-  generic_eq a b = cmd a.cmd b.cmd && (nat_eq a.version b.version && (nat_eq a.reserved b.reserved && (user a.header b.header && attrs a.attrs b.attrs)))
+  generic_eq a b = cmd a.cmd b.cmd && (nat_eq a.version b.version &&
+      (nat_eq a.reserved b.reserved && (user a.header b.header && attrs a.attrs b.attrs)))
 
   generic-apart : (a b : Genlmsghdr C T H) → generic_eq a b ≡ true → a ≡ b
   generic-apart a b e =
@@ -67,7 +76,10 @@ module _ {C T H : Type 0} {cmd : C → C → Bool} {attrs : Attrs T → Attrs T 
       }
 
   pub generic-equality : IsEquality generic_eq
-  generic-equality = from-parts generic-apart (λ a. both_true ((c a.cmd a.cmd).1 refl) (both_true ((bytes-equality a.version a.version).1 refl) (both_true ((bytes-equality a.reserved a.reserved).1 refl) (both_true ((u a.header a.header).1 refl) ((l a.attrs a.attrs).1 refl)))))
+  generic-equality = from-parts generic-apart (λ a. both_true ((c a.cmd a.cmd).1 refl)
+      (both_true ((bytes-equality a.version a.version).1 refl)
+      (both_true ((bytes-equality a.reserved a.reserved).1 refl)
+      (both_true ((u a.header a.header).1 refl) ((l a.attrs a.attrs).1 refl)))))
 
 -- ---- events of processes
 
@@ -79,7 +91,8 @@ pub last-field : {A : Type 0} {eq : A → A → Bool} → IsEquality eq → IsEq
 last-field {A} {eq} h = from-parts (λ x y e i. ((h x.0 y.0).0 e i, tt)) (λ x. (h x.0 x.0).1 refl)
 
 -- two process numbers, and what follows them
-pub processes : {A : Type 0} {eq : A → A → Bool} → IsEquality eq → IsEquality {T = ℤ × (ℤ × A)} (λ x y. int_eq x.0 y.0 && (int_eq x.1.0 y.1.0 && eq x.1.1 y.1.1))
+pub processes : {A : Type 0} {eq : A → A → Bool} → IsEquality eq
+    → IsEquality {T = ℤ × (ℤ × A)} (λ x y. int_eq x.0 y.0 && (int_eq x.1.0 y.1.0 && eq x.1.1 y.1.1))
 processes h = pair-equality signed (pair-equality signed h)
 
 pub pair-of-processes : IsEquality {T = ℤ × (ℤ × Unit {0})} (λ x y. int_eq x.0 y.0 && int_eq x.1.0 y.1.0)

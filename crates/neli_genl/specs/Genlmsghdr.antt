@@ -47,23 +47,29 @@ pub record GenlFields (C V A : Type 0) : Type 0 where
   pub attrs : A
 
 -- what a place in an input of n bytes says: the family's header, and then the attributes to the end
-unfoldable pub parts_of : {V A : Type 0} → (List ℕ → Reading V) → (List ℕ → Result A DeError) → ℕ → List ℕ → Result (V × A) DeError
+unfoldable pub parts_of : {V A : Type 0} → (List ℕ → Reading V) → (List ℕ → Result A DeError) → ℕ → List ℕ
+    → Result (V × A) DeError
 parts_of header_at attrs_of n s =
     map_refusal (refusal_within n) (header_at s) >>= λ header. (attrs_of header.1 >>= λ attrs. Ok (header.0, attrs))
 
 -- where reading the family's header takes memory, or what follows does
-unfoldable pub parts_take_memory : {V : Type 0} → (List ℕ → Reading V) → (List ℕ → Type 0) → (List ℕ → Type 0) → List ℕ → Type 0
-parts_take_memory header_at header_takes_memory attrs_take_memory s = header_takes_memory s ⊎ IfRead (header_at s) (λ header rest. attrs_take_memory rest)
+unfoldable pub parts_take_memory : {V : Type 0} → (List ℕ → Reading V) → (List ℕ → Type 0) → (List ℕ → Type 0) → List ℕ
+    → Type 0
+parts_take_memory header_at header_takes_memory attrs_take_memory s = header_takes_memory s
+    ⊎ IfRead (header_at s) (λ header rest. attrs_take_memory rest)
 
 -- what bytes say that begin with the first four: the command at place 0, the version at 1, two reserved bytes at 2, and
 -- from 4 on the family's header and the attributes
-abbrev pub fields_of : {C V A : Type 0} → (ℕ → C) → (List ℕ → Reading V) → (List ℕ → Result A DeError) → List ℕ → Result (GenlFields C V A) DeError
+abbrev pub fields_of : {C V A : Type 0} → (ℕ → C) → (List ℕ → Reading V) → (List ℕ → Result A DeError) → List ℕ
+    → Result (GenlFields C V A) DeError
 fields_of cmd_of header_at attrs_of s =
     parts_of header_at attrs_of (length s) (drop 4 s) >>= λ parts.
-    Ok (record { cmd = cmd_of (number_in 1 0 s); version = number_in 1 1 s; reserved = number_in 2 2 s; header = parts.0; attrs = parts.1 })
+    Ok (record { cmd = cmd_of (number_in 1 0 s); version = number_in 1 1 s; reserved = number_in 2 2 s;
+        header = parts.0; attrs = parts.1 })
 
 -- what bytes say, where the family's header has `width` bytes, a multiple of four
-abbrev pub genlmsghdr_of : {C V T : Type 0} → ℕ → (ℕ → C) → (ℕ → T) → (List ℕ → Reading V) → List ℕ → Result (GenlFields C V (AttributesRead T)) DeError
+abbrev pub genlmsghdr_of : {C V T : Type 0} → ℕ → (ℕ → C) → (ℕ → T) → (List ℕ → Reading V) → List ℕ
+    → Result (GenlFields C V (AttributesRead T)) DeError
 genlmsghdr_of width cmd_of value_of header_at s =
     if not (nat_eq (width % 4) 0) then Err (InvalidInput (length s))
     else if nat_lt (length s) 4 then Err (InvalidInput (length s))
@@ -72,7 +78,8 @@ genlmsghdr_of width cmd_of value_of header_at s =
 -- where reading the family's header takes memory, or attributes follow it
 abbrev pub genlmsghdr_takes_memory : {V : Type 0} → ℕ → (List ℕ → Reading V) → (List ℕ → Type 0) → List ℕ → Type 0
 genlmsghdr_takes_memory width header_at header_takes_memory s =
-    (width % 4 ≡ 0) × (4 ≤ length s) × parts_take_memory header_at header_takes_memory (λ rest. 0 < length rest) (drop 4 s)
+    (width % 4 ≡ 0) × (4 ≤ length s) × parts_take_memory header_at header_takes_memory (λ rest. 0 < length rest)
+        (drop 4 s)
 
 -- the bytes before the family's header
 abbrev pub genlmsghdr_bytes : ℕ → ℕ → ℕ → List ℕ
@@ -81,7 +88,8 @@ genlmsghdr_bytes cmd version reserved = little_bytes 1 cmd ++ little_bytes 1 ver
 -- the bytes of a message
 abbrev pub genlmsghdr_wire : {C T H : Type 0} → (C → ℕ) → (T → ℕ) → (H → Wire) → Genlmsghdr C T H → Wire
 genlmsghdr_wire cmd_number type_number header_wire m =
-    (Ok (genlmsghdr_bytes (cmd_number m.cmd) m.version m.reserved) +++ header_wire m.header) +++ attrs_wire type_number m.attrs
+    (Ok (genlmsghdr_bytes (cmd_number m.cmd) m.version m.reserved) +++ header_wire m.header)
+        +++ attrs_wire type_number m.attrs
 
 -- how many bytes it is written as
 abbrev pub genlmsghdr_size : {C T H : Type 0} → (H → ℕ) → Genlmsghdr C T H → ℕ
@@ -102,4 +110,5 @@ abbrev pub genlmsghdr_plain : {C T H : Type 0} → H → GenlmsghdrBuilder C T H
 genlmsghdr_plain none b =
     require_field (codes "cmd") b.cmd (λ cmd.
     require_field (codes "version") b.version (λ version.
-    Ok (record { cmd = cmd; version = version; reserved = 0; header = unwrap_or b.header none; attrs = unwrap_or b.attrs [] })))
+    Ok (record { cmd = cmd; version = version; reserved = 0; header = unwrap_or b.header none;
+        attrs = unwrap_or b.attrs [] })))

@@ -59,7 +59,8 @@ coredump_of = event_of_size 16 (λ s. Coredump (signed_in 16 s) (signed_in 20 s)
 
 -- process_pid, process_tgid, exit_code, exit_signal, parent_pid, parent_tgid
 abbrev pub exit_of : List ℕ → Result ProcEvent DeError
-exit_of = event_of_size 24 (λ s. Exit (signed_in 16 s) (signed_in 20 s) (number_in 4 24 s) (number_in 4 28 s) (signed_in 32 s) (signed_in 36 s))
+exit_of = event_of_size 24 (λ s. Exit (signed_in 16 s) (signed_in 20 s) (number_in 4 24 s) (number_in 4 28 s)
+    (signed_in 32 s) (signed_in 36 s))
 
 -- what a type without a name is reported as
 abbrev pub unknown_text : ℕ → List ℕ
@@ -119,7 +120,8 @@ event_bytes (Sid a b) = signed_bytes w32 4 a ++ signed_bytes w32 4 b
 event_bytes (Ptrace a b c d) = four_numbers a b c d
 event_bytes (Comm a b c) = signed_bytes w32 4 a ++ signed_bytes w32 4 b ++ c
 event_bytes (Coredump a b c d) = four_numbers a b c d
-event_bytes (Exit a b c d e f) = signed_bytes w32 4 a ++ signed_bytes w32 4 b ++ little_bytes 4 c ++ little_bytes 4 d ++ signed_bytes w32 4 e ++ signed_bytes w32 4 f
+event_bytes (Exit a b c d e f) = signed_bytes w32 4 a ++ signed_bytes w32 4 b ++ little_bytes 4 c ++ little_bytes 4 d
+    ++ signed_bytes w32 4 e ++ signed_bytes w32 4 f
 
 -- how many bytes an event takes
 abbrev pub event_size : ProcEvent → ℕ

@@ -13,20 +13,23 @@ use Rattle.neli_wire.specs.Numbers.{FitsBytes}
 use Rattle.neli_wire.specs.Writing.{Wire}
 
 -- the family's header has a multiple of four bytes, the command is what its number is read as, and the others fit their fields
-pub record IsPlainGenlmsghdr {C T H : Type 0} (width : ℕ) (cmd_number : C → ℕ) (cmd_of : ℕ → C) (m : Genlmsghdr C T H) : Type 0 where
+pub record IsPlainGenlmsghdr {C T H : Type 0} (width : ℕ) (cmd_number : C → ℕ) (cmd_of : ℕ
+    → C) (m : Genlmsghdr C T H) : Type 0 where
   pub aligned : width % 4 ≡ 0
   pub cmd : IsNamed 1 cmd_number cmd_of m.cmd
   pub version : FitsBytes 1 m.version
   pub reserved : FitsBytes 2 m.reserved
 
 -- the fields of a message, with what its family's header and its attributes are read as
-abbrev pub fields_with : {C T H V : Type 0} → Genlmsghdr C T H → V → AttributesRead T → GenlFields C V (AttributesRead T)
+abbrev pub fields_with : {C T H V : Type 0} → Genlmsghdr C T H → V → AttributesRead T
+    → GenlFields C V (AttributesRead T)
 fields_with m header attrs =
     record { cmd = m.cmd; version = m.version; reserved = m.reserved; header = header; attrs = attrs }
 
 -- a message has bytes, which are read as its fields, and as what its family's header's own bytes and its attributes' own
 -- bytes are read as
-abbrev pub GenlReadsBack : {C T H V : Type 0} → ℕ → (C → ℕ) → (ℕ → C) → (T → ℕ) → (ℕ → T) → (H → Wire) → (List ℕ → Reading V) → Genlmsghdr C T H → Type 0
+abbrev pub GenlReadsBack : {C T H V : Type 0} → ℕ → (C → ℕ) → (ℕ → C) → (T → ℕ) → (ℕ → T) → (H → Wire)
+    → (List ℕ → Reading V) → Genlmsghdr C T H → Type 0
 GenlReadsBack {T = T} {V = V} width cmd_number cmd_of type_number value_of header_wire header_at m =
     (header attrs : List ℕ) (value : V) (list : AttributesRead T)
     → header_wire m.header ≡ Ok header → header_at header ≡ Ok (value, [])
@@ -49,7 +52,8 @@ abbrev pub ArePlainNlattrs : {T : Type 0} → (T → ℕ) → (ℕ → T) → At
 ArePlainNlattrs type_number value_of = All (IsPlainNlattr type_number value_of)
 
 -- where the family's header is read back from its own bytes, the message has bytes, which are read as the same message
-abbrev pub GenlReadsBackWhole : {C T H V : Type 0} → ℕ → (C → ℕ) → (ℕ → C) → (T → ℕ) → (ℕ → T) → (H → Wire) → (List ℕ → Reading V) → (H → V) → Genlmsghdr C T H → Type 0
+abbrev pub GenlReadsBackWhole : {C T H V : Type 0} → ℕ → (C → ℕ) → (ℕ → C) → (T → ℕ) → (ℕ → T) → (H → Wire)
+    → (List ℕ → Reading V) → (H → V) → Genlmsghdr C T H → Type 0
 GenlReadsBackWhole width cmd_number cmd_of type_number value_of header_wire header_at view m =
     (header : List ℕ) → header_wire m.header ≡ Ok header → header_at header ≡ Ok (view m.header, [])
     → (bytes : List ℕ) × (genlmsghdr_wire cmd_number type_number header_wire m ≡ Ok bytes)

@@ -40,7 +40,8 @@ same n = n
 
 -- ---- a message of a plain type is kept with its bytes as body
 
-payload-plain : (number : ℕ) (flags : NlmF) (s v : List ℕ) → IsPlain number → s ≡ v → payload_in same (λ bytes. Ok bytes) number flags s ≡ Ok (payload.Payload v)
+payload-plain : (number : ℕ) (flags : NlmF) (s v : List ℕ) → IsPlain number → s ≡ v
+    → payload_in same (λ bytes. Ok bytes) number flags s ≡ Ok (payload.Payload v)
 payload-plain number flags s v plain is =
     let two : nat_eq number 2 ≡ false = ne_eqb _ _ plain.0 in
     let three : nat_eq number 3 ≡ false = ne_eqb _ _ plain.1 in
@@ -54,7 +55,9 @@ untyped-plain m plain = rw (payload-plain m.0.message_type m.0.flags m.1 m.1 pla
 abbrev end_with : List ℕ → Attributes → Result (Nlmsgerr (Unit {0})) DeError
 end_with s attrs = Ok (answer (signed_number w32 4 s) tt attrs)
 
-end-read : (flags : NlmF) (s text : List ℕ) (code : ℤ) (attrs : Attributes) → length s ≡ 4 + length text → drop 4 s ≡ text → signed_number w32 4 s ≡ code → ext_ack_in text ≡ Ok attrs → is_multi flags ≡ true → payload_in same (λ bytes. Ok bytes) 3 flags s ≡ Ok (payload.DumpExtAck (answer code tt attrs))
+end-read : (flags : NlmF) (s text : List ℕ) (code : ℤ) (attrs : Attributes) → length s ≡ 4 + length text
+    → drop 4 s ≡ text → signed_number w32 4 s ≡ code → ext_ack_in text ≡ Ok attrs → is_multi flags ≡ true
+    → payload_in same (λ bytes. Ok bytes) 3 flags s ≡ Ok (payload.DumpExtAck (answer code tt attrs))
 end-read flags s text code attrs long text_is says lists multi =
     let some : nat_eq (length s) 0 ≡ false = ne_eqb _ _ (λ e. omega (arith, e, long)) in
     let enough : ltb (length s) 4 ≡ false = le-ltb _ _ (omega (arith, long)) in
@@ -65,13 +68,16 @@ end-read flags s text code attrs long text_is says lists multi =
     ∙ ap (λ (c : ℤ). Ok (answer c tt attrs)) says in
     rw (some, multi) (ap (λ (r : Result (Nlmsgerr (Unit {0})) DeError). r >>= λ e. Ok (payload.DumpExtAck e)) read)
 
-pub untyped-end : (h : Header ℕ) (code : ℤ) (attrs : Attributes) (text : List ℕ) → h.message_type ≡ 3 → is_multi h.flags ≡ true → FitsSigned w32 code → AreReadBack attrs text → untyped (h, signed_bytes w32 4 code ++ text) ≡ Ok (h, payload.DumpExtAck (answer code tt attrs))
+pub untyped-end : (h : Header ℕ) (code : ℤ) (attrs : Attributes) (text : List ℕ) → h.message_type ≡ 3
+    → is_multi h.flags ≡ true → FitsSigned w32 code → AreReadBack attrs text
+    → untyped (h, signed_bytes w32 4 code ++ text) ≡ Ok (h, payload.DumpExtAck (answer code tt attrs))
 untyped-end h code attrs text three multi fits back =
     let s : List ℕ = signed_bytes w32 4 code ++ text in
     let four : length (signed_bytes w32 4 code) ≡ 4 = count-signed w32 4 refl code in
     let long : length s ≡ 4 + length text = omega (arith, length-append (signed_bytes w32 4 code) text, four) in
     let text_is : drop 4 s ≡ text = drop_at (signed_bytes w32 4 code) text 4 four in
-    let number : number_in 4 0 s ≡ cast_unsigned w32 code = let low = Fits-of_z fits in little_number-reads_back 4 (cast_unsigned w32 code) text low.fits in
+    let number : number_in 4 0 s ≡ cast_unsigned w32 code = let low = Fits-of_z fits in
+        little_number-reads_back 4 (cast_unsigned w32 code) text low.fits in
     let says : signed_number w32 4 s ≡ code = ap (cast_signed w32) number ∙ to_z-of_z w32 code fits in
     let read = end-read h.flags s text code attrs long text_is says back.read multi in
     let typed = ap (λ (n : ℕ). payload_in same (λ bytes. Ok bytes) n h.flags s) three ∙ read in
@@ -79,11 +85,14 @@ untyped-end h code attrs text three multi fits back =
 
 -- ---- what is walked is cut into the same messages untyped
 
-owned-parts : (h : Header ℕ) (r : Result (NlPayload ℕ (List ℕ)) DeError) (u : Untyped) → (r >>= λ p. Ok (h, p)) ≡ Ok u → (r ≡ Ok u.1) × (h ≡ u.0)
-owned-parts h (Ok p) u is = let same : (h, p) ≡ u = ok_is (h, p) u is in (ap (λ (x : Untyped). Ok x.1) same, ap (λ (x : Untyped). x.0) same)
+owned-parts : (h : Header ℕ) (r : Result (NlPayload ℕ (List ℕ)) DeError) (u : Untyped) → (r >>= λ p. Ok (h, p)) ≡ Ok u
+    → (r ≡ Ok u.1) × (h ≡ u.0)
+owned-parts h (Ok p) u is = let same : (h, p) ≡ u = ok_is (h, p) u is in
+    (ap (λ (x : Untyped). Ok x.1) same, ap (λ (x : Untyped). x.0) same)
 owned-parts h (Err e) u is = absurd cc
 
-frame-untyped : (s : List ℕ) (m : Lent ℕ) (u : Untyped) → untyped m ≡ Ok u → IsFrame (lent_message same) s m.0 m.1 → IsFrame untyped_layout s u.0 u.1
+frame-untyped : (s : List ℕ) (m : Lent ℕ) (u : Untyped) → untyped m ≡ Ok u → IsFrame (lent_message same) s m.0 m.1
+    → IsFrame untyped_layout s u.0 u.1
 frame-untyped s m u of is =
     let parts = owned-parts m.0 (payload_in same (λ bytes. Ok bytes) m.0.message_type m.0.flags m.1) u of in
     let bytes : take (m.0.len - 16) (drop 16 s) ≡ m.1 = ok_is _ _ is.payload_is in
@@ -99,7 +108,8 @@ frame-untyped s m u of is =
 abbrev AreKept : List (Lent ℕ) → List Untyped → Type 0
 AreKept ms us = map untyped ms ≡ map (λ u. Ok u) us
 
-kept-cons : (m : Lent ℕ) (u : Untyped) (ms : List (Lent ℕ)) (us : List Untyped) → AreKept (m ∷ ms) (u ∷ us) → (untyped m ≡ Ok u) × AreKept ms us
+kept-cons : (m : Lent ℕ) (u : Untyped) (ms : List (Lent ℕ)) (us : List Untyped) → AreKept (m ∷ ms) (u ∷ us)
+    → (untyped m ≡ Ok u) × AreKept ms us
 kept-cons m u ms us is = (cc, cc)
 
 abbrev Each : List ℕ → List (Lent ℕ) → Option DeError → Type 0
@@ -108,7 +118,8 @@ Each = CutsEach (lent_message same) (layout_with-placed same _) (omega arith)
 abbrev EachUntyped : List ℕ → List Untyped → Option DeError → Type 0
 EachUntyped = CutsEach untyped_layout (layout_with-placed same _) (omega arith)
 
-each-untyped : (b : List ℕ) (ms : List (Lent ℕ)) (us : List Untyped) → AreKept ms us → Each b ms None → EachUntyped b us None
+each-untyped : (b : List ℕ) (ms : List (Lent ℕ)) (us : List Untyped) → AreKept ms us → Each b ms None
+    → EachUntyped b us None
 each-untyped b [] [] are c = c
 each-untyped b [] (u ∷ us) are c = absurd cc
 each-untyped b (m ∷ ms) [] are c = absurd cc
@@ -116,11 +127,13 @@ each-untyped b (m ∷ ms) (u ∷ us) are c =
     let first = kept-cons m u ms us are in
     (c.0, c.1, c.2, frame-untyped c.0 m u first.0 c.3, each-untyped c.1 ms us first.1 c.4)
 
-pub cut-untyped : (b : List ℕ) (ms : List (Lent ℕ)) (us : List Untyped) → AreKept ms us → messages_in same b ≡ (ms, None) → cut_of untyped_layout b ≡ (us, None)
+pub cut-untyped : (b : List ℕ) (ms : List (Lent ℕ)) (us : List Untyped) → AreKept ms us
+    → messages_in same b ≡ (ms, None) → cut_of untyped_layout b ≡ (us, None)
 unfolding messages_in
 cut-untyped b ms us are is =
     cut_of-is untyped_layout (layout_with-placed same _) (omega arith) b us None
-    (each-untyped b ms us are (subst (λ (c : Cut (Lent ℕ)). Each b c.0 c.1) is (cut_of-each (lent_message same) (layout_with-placed same _) (omega arith) b)))
+    (each-untyped b ms us are (subst (λ (c : Cut (Lent ℕ)). Each b c.0 c.1) is
+        (cut_of-each (lent_message same) (layout_with-placed same _) (omega arith) b)))
 
 -- ---- whose they are
 
@@ -145,19 +158,24 @@ module _ (number port : ℕ) (is_open : ℕ → Bool) (opened : is_open number �
       let first = to-asker u (All-head (IsFor number port) u us all) in
       rw first (ap (λ (ds : List Delivery). message u ∷ ds) (all-to-asker us (All-tail (IsFor number port) u us all)))
 
-  all-to-other : (q : ℕ) (us : List Untyped) → q ≢ number → All (IsFor number port) us → messages_to port is_open q us ≡ []
+  all-to-other : (q : ℕ) (us : List Untyped) → q ≢ number → All (IsFor number port) us
+      → messages_to port is_open q us ≡ []
   all-to-other q [] other all = refl
   all-to-other q (u ∷ us) other all =
       let first = to-other q u other (All-head (IsFor number port) u us all) in
       rw first (all-to-other q us other (All-tail (IsFor number port) u us all))
 
   -- of a datagram that is cut into such messages
-  pub share-asker : (b : List ℕ) (us : List Untyped) → All (IsFor number port) us → cut_of untyped_layout b ≡ (us, None) → datagram_share port is_open (Some number) (cut_of untyped_layout b) [] ≡ map message us
+  pub share-asker : (b : List ℕ) (us : List Untyped) → All (IsFor number port) us → cut_of untyped_layout b ≡ (us, None)
+      → datagram_share port is_open (Some number) (cut_of untyped_layout b) [] ≡ map message us
   share-asker b us all cut = rw cut (append-nil _ ∙ all-to-asker us all)
 
-  pub share-other : (other : Option ℕ) (b : List ℕ) (us : List Untyped) → other ≢ Some number → All (IsFor number port) us → cut_of untyped_layout b ≡ (us, None) → datagram_share port is_open other (cut_of untyped_layout b) [] ≡ []
+  pub share-other : (other : Option ℕ) (b : List ℕ) (us : List Untyped) → other ≢ Some number
+      → All (IsFor number port) us → cut_of untyped_layout b ≡ (us, None)
+      → datagram_share port is_open other (cut_of untyped_layout b) [] ≡ []
   share-other None b us differs all cut = refl
-  share-other (Some q) b us differs all cut = rw cut (append-nil _ ∙ all-to-other q us (λ e. differs (ap (λ (n : ℕ). Some n) e)) all)
+  share-other (Some q) b us differs all cut = rw cut (append-nil _
+      ∙ all-to-other q us (λ e. differs (ap (λ (n : ℕ). Some n) e)) all)
 
 -- ---- datagrams
 
@@ -175,8 +193,10 @@ halves (m ∷ ms) ns [] are = absurd cc
 halves (m ∷ ms) ns (u ∷ us) are =
     let parts = kept-cons m u (ms ++ ns) us are in
     let h = halves ms ns us parts.1 in
-    let first : AreKept (m ∷ ms) (u ∷ h.before) = rw parts.0 (ap (λ (rs : List (Result Untyped DeError)). Ok u ∷ rs) h.first) in
-    record { before = u ∷ h.before; after = h.after; joined = ap (λ (xs : List Untyped). u ∷ xs) h.joined; first = first; later = h.later }
+    let first : AreKept (m ∷ ms) (u ∷ h.before) = rw parts.0
+        (ap (λ (rs : List (Result Untyped DeError)). Ok u ∷ rs) h.first) in
+    record { before = u ∷ h.before; after = h.after; joined = ap (λ (xs : List Untyped). u ∷ xs) h.joined;
+        first = first; later = h.later }
 
 All-first : {A : Type 0} (P : A → Type 0) (xs ys : List A) → All P (xs ++ ys) → All P xs
 All-first P [] ys h = All-nil P
@@ -194,7 +214,8 @@ module _ (number port : ℕ) (is_open : ℕ → Bool) (opened : is_open number �
   abbrev For : Untyped → Type 0
   For = IsFor number port
 
-  all-asker : (ds : List (List ℕ)) (us : List Untyped) → All HasNoFault ds → AreKept (messages_of ds) us → All For us → shares port is_open (Some number) ds ≡ map message us
+  all-asker : (ds : List (List ℕ)) (us : List Untyped) → All HasNoFault ds → AreKept (messages_of ds) us → All For us
+      → shares port is_open (Some number) ds ≡ map message us
   all-asker [] [] none are all = refl
   all-asker [] (u ∷ us) none are all = absurd cc
   all-asker (d ∷ ds) us none are all =
@@ -203,17 +224,21 @@ module _ (number port : ℕ) (is_open : ℕ → Bool) (opened : is_open number �
       let cut = cut-untyped d (messages_in same d).0 h.before h.first (read-whole d (All-head HasNoFault d ds none)) in
       let here = share-asker number port is_open opened d h.before (All-first For h.before h.after both) cut in
       let more = all-asker ds h.after (All-tail HasNoFault d ds none) h.later (All-later For h.before h.after both) in
-      let told : shares port is_open (Some number) (d ∷ ds) ≡ map message h.before ++ map message h.after = rw (here, more) refl in
+      let told : shares port is_open (Some number) (d ∷ ds) ≡ map message h.before ++ map message h.after =
+          rw (here, more) refl in
       told ∙ sym (map-append message h.before h.after) ∙ ap (map message) (sym h.joined)
 
-  all-others : (other : Option ℕ) (ds : List (List ℕ)) (us : List Untyped) → other ≢ Some number → All HasNoFault ds → AreKept (messages_of ds) us → All For us → shares port is_open other ds ≡ []
+  all-others : (other : Option ℕ) (ds : List (List ℕ)) (us : List Untyped) → other ≢ Some number → All HasNoFault ds
+      → AreKept (messages_of ds) us → All For us → shares port is_open other ds ≡ []
   all-others other [] us differs none are all = refl
   all-others other (d ∷ ds) us differs none are all =
       let h = halves (messages_in same d).0 (messages_of ds) us are in
       let both : All For (h.before ++ h.after) = subst (All For) h.joined all in
       let cut = cut-untyped d (messages_in same d).0 h.before h.first (read-whole d (All-head HasNoFault d ds none)) in
-      let here = share-other number port is_open opened other d h.before differs (All-first For h.before h.after both) cut in
-      let more = all-others other ds h.after differs (All-tail HasNoFault d ds none) h.later (All-later For h.before h.after both) in
+      let here = share-other number port is_open opened other d h.before differs
+          (All-first For h.before h.after both) cut in
+      let more = all-others other ds h.after differs (All-tail HasNoFault d ds none) h.later
+          (All-later For h.before h.after both) in
       rw (here, more) refl
 
 -- ---- how they are cut
@@ -224,55 +249,75 @@ IsWhole d = (cut_of untyped_layout d).1 ≡ None
 abbrev messages_cut : List ℕ → List Untyped
 messages_cut d = (cut_of untyped_layout d).0
 
-all-cut : (ds : List (List ℕ)) (us : List Untyped) → All HasNoFault ds → AreKept (messages_of ds) us → (flat_map messages_cut ds ≡ us) × All IsWhole ds
+all-cut : (ds : List (List ℕ)) (us : List Untyped) → All HasNoFault ds → AreKept (messages_of ds) us
+    → (flat_map messages_cut ds ≡ us) × All IsWhole ds
 all-cut [] [] none are = (refl, All-nil IsWhole)
 all-cut [] (u ∷ us) none are = absurd cc
 all-cut (d ∷ ds) us none are =
     let h = halves (messages_in same d).0 (messages_of ds) us are in
     let cut = cut-untyped d (messages_in same d).0 h.before h.first (read-whole d (All-head HasNoFault d ds none)) in
     let r = all-cut ds h.after (All-tail HasNoFault d ds none) h.later in (
-      ap (λ (c : Cut Untyped). c.0 ++ flat_map messages_cut ds) cut ∙ ap (λ (xs : List Untyped). h.before ++ xs) r.0 ∙ sym h.joined,
+      ap (λ (c : Cut Untyped). c.0 ++ flat_map messages_cut ds) cut ∙ ap (λ (xs : List Untyped). h.before ++ xs) r.0
+          ∙ sym h.joined,
       All-cons IsWhole d ds (ap (λ (c : Cut Untyped). c.1) cut) r.1,
     )
 
-pub dump-cut : (ds : List (List ℕ)) (said : List (Lent ℕ)) (us : List Untyped) → AreRead ds said → AreKept said us → (flat_map (λ d. (cut_of untyped_layout d).0) ds ≡ us) × All (λ d. (cut_of untyped_layout d).1 ≡ None) ds
+pub dump-cut : (ds : List (List ℕ)) (said : List (Lent ℕ)) (us : List Untyped) → AreRead ds said → AreKept said us
+    → (flat_map (λ d. (cut_of untyped_layout d).0) ds ≡ us) × All (λ d. (cut_of untyped_layout d).1 ≡ None) ds
 dump-cut ds said us read are = all-cut ds us read.1 (subst (λ (ms : List (Lent ℕ)). AreKept ms us) (sym read.0) are)
 
-pub dump-asker : (ds : List (List ℕ)) (said : List (Lent ℕ)) (us : List Untyped) (number port : ℕ) (is_open : ℕ → Bool) → AreRead ds said → AreKept said us → All (IsFor number port) us → is_open number ≡ true → shares port is_open (Some number) ds ≡ map message us
+pub dump-asker : (ds : List (List ℕ)) (said : List (Lent ℕ)) (us : List Untyped) (number port : ℕ) (is_open : ℕ → Bool)
+    → AreRead ds said → AreKept said us → All (IsFor number port) us → is_open number ≡ true
+    → shares port is_open (Some number) ds ≡ map message us
 dump-asker ds said us number port is_open read are all opened =
-    all-asker number port is_open opened ds us read.1 (subst (λ (ms : List (Lent ℕ)). AreKept ms us) (sym read.0) are) all
+    all-asker number port is_open opened ds us read.1 (subst (λ (ms : List (Lent ℕ)). AreKept ms us)
+        (sym read.0) are) all
 
-pub dump-others : (ds : List (List ℕ)) (said : List (Lent ℕ)) (us : List Untyped) (number port : ℕ) (is_open : ℕ → Bool) → AreRead ds said → AreKept said us → All (IsFor number port) us → is_open number ≡ true → (other : Option ℕ) → other ≢ Some number → shares port is_open other ds ≡ []
+pub dump-others : (ds : List (List ℕ)) (said : List (Lent ℕ)) (us : List Untyped) (number port : ℕ) (is_open : ℕ → Bool)
+    → AreRead ds said → AreKept said us → All (IsFor number port) us → is_open number ≡ true → (other : Option ℕ)
+    → other ≢ Some number → shares port is_open other ds ≡ []
 dump-others ds said us number port is_open read are all opened other differs =
-    all-others number port is_open opened other ds us differs read.1 (subst (λ (ms : List (Lent ℕ)). AreKept ms us) (sym read.0) are) all
+    all-others number port is_open opened other ds us differs read.1
+        (subst (λ (ms : List (Lent ℕ)). AreKept ms us) (sym read.0) are) all
 
 -- ---- a reply
 
 pub written-same : (w : Wire) (a b : List ℕ) → w ≡ Ok a → w ≡ Ok b → a ≡ b
 written-same w a b is other = let both = sym is ∙ other in cc
 
-module _ {T P : Type 0} (number_of : T → ℕ) (wire : P → Wire) (size : P → ℕ) (sized : (p : P) (bytes : List ℕ) → wire p ≡ Ok bytes → length bytes ≡ size p) (t : T) (flags : NlmF) (number port : ℕ) (body : P) (text bytes : List ℕ) (is : IsReply number_of wire size t flags number port body text bytes) where
+module _ {T P : Type 0} (number_of : T → ℕ) (wire : P → Wire) (size : P → ℕ) (sized : (p : P) (bytes : List ℕ)
+    → wire p ≡ Ok bytes → length bytes ≡ size p) (t : T) (flags : NlmF) (number port : ℕ) (body : P)
+    (text bytes : List ℕ) (is : IsReply number_of wire size t flags number port body text bytes) where
   abbrev lent_reply : Lent ℕ
-  lent_reply = (header_with (align (16 + length text)) (number_of t) flags number port, text ++ zeros_for (16 + length text))
+  lent_reply = (header_with (align (16 + length text)) (number_of t) flags number port,
+      text ++ zeros_for (16 + length text))
 
   walked : messages_in same bytes ≡ (lent_reply ∷ [], None)
   walked =
-      let one = one-message number_of wire size sized t flags number port (payload.Payload body) bytes is.type_fits is.flags_fit is.number_fits is.port_fits is.bytes_are in
+      let one = one-message number_of wire size sized t flags number port
+          (payload.Payload body) bytes is.type_fits is.flags_fit is.number_fits is.port_fits is.bytes_are in
       let both : wire body ≡ Ok one.0 = one.1 in
       let texts : one.0 ≡ text = written-same (wire body) one.0 text both is.text_is in
       let long : length text ≡ size body = sized body text is.text_is in
-      one.2 ∙ ap (λ (n : ℕ). ((header_with (align (16 + n)) (number_of t) flags number port, one.0 ++ zeros_for (16 + length one.0)) ∷ [], None)) (sym long)
-      ∙ ap (λ (s : List ℕ). ((header_with (align (16 + length text)) (number_of t) flags number port, s ++ zeros_for (16 + length s)) ∷ [], None)) texts
+      one.2 ∙ ap (λ (n : ℕ). ((header_with (align (16 + n)) (number_of t) flags number port,
+          one.0 ++ zeros_for (16 + length one.0)) ∷ [], None)) (sym long)
+      ∙ ap (λ (s : List ℕ). ((header_with (align (16 + length text)) (number_of t) flags number port,
+          s ++ zeros_for (16 + length s)) ∷ [], None)) texts
 
   pub reply-cut : cut_of untyped_layout bytes ≡ (reply_kept (number_of t) flags number port text ∷ [], None)
   reply-cut =
-      cut-untyped bytes (lent_reply ∷ []) (kept lent_reply ∷ []) (ap (λ (r : Result Untyped DeError). r ∷ []) (untyped-plain lent_reply is.is_plain)) walked
+      cut-untyped bytes (lent_reply ∷ []) (kept lent_reply ∷ [])
+          (ap (λ (r : Result Untyped DeError). r ∷ []) (untyped-plain lent_reply is.is_plain)) walked
 
   reply-for : All (IsFor number port) (kept lent_reply ∷ [])
   reply-for = All-push (IsFor number port) [] (kept lent_reply) (All-nil (IsFor number port)) (refl, refl)
 
-  pub reply-asker : (is_open : ℕ → Bool) → is_open number ≡ true → datagram_share port is_open (Some number) (cut_of untyped_layout bytes) [] ≡ message (reply_kept (number_of t) flags number port text) ∷ []
+  pub reply-asker : (is_open : ℕ → Bool) → is_open number ≡ true
+      → datagram_share port is_open (Some number) (cut_of untyped_layout bytes) []
+      ≡ message (reply_kept (number_of t) flags number port text) ∷ []
   reply-asker is_open opened = share-asker number port is_open opened bytes (kept lent_reply ∷ []) reply-for reply-cut
 
-  pub reply-other : (is_open : ℕ → Bool) (other : Option ℕ) → is_open number ≡ true → other ≢ Some number → datagram_share port is_open other (cut_of untyped_layout bytes) [] ≡ []
-  reply-other is_open other opened differs = share-other number port is_open opened other bytes (kept lent_reply ∷ []) differs reply-for reply-cut
+  pub reply-other : (is_open : ℕ → Bool) (other : Option ℕ) → is_open number ≡ true → other ≢ Some number
+      → datagram_share port is_open other (cut_of untyped_layout bytes) [] ≡ []
+  reply-other is_open other opened differs = share-other number port is_open opened other bytes
+      (kept lent_reply ∷ []) differs reply-for reply-cut

@@ -27,7 +27,8 @@ message_with size message_type flags number port payload = record {
 module _ {T P : Type 0} (number_of : T → ℕ) (wire : P → Wire) where
   -- the bytes of a message; or the first cause that holds: its length passes 32 bits, its payload has no bytes
   abbrev pub message_or_refusal : Nlmsghdr T P → Wire
-  message_or_refusal m = if nat_lt 4294967295 m.header.len then Err (ser.Msg (codes "Length does not fit its field")) else message_wire number_of wire m
+  message_or_refusal m = if nat_lt 4294967295 m.header.len then Err (ser.Msg (codes "Length does not fit its field"))
+      else message_wire number_of wire m
 
   -- e is why there are no bytes: the cause that holds, or that memory ran out, which is asked for where the length fits
   abbrev pub RefusesMessage : Nlmsghdr T P → SerError → Type 0

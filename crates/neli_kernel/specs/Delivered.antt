@@ -54,14 +54,16 @@ reply_kept message_type flags number port text =
     kept (header_with (align (16 + length text)) message_type flags number port, text ++ zeros_for (16 + length text))
 
 -- `text` are the bytes of the body, and `bytes` those of a message with it, whose type is plain and whose fields fit
-pub record IsReply {T P : Type 0} (number_of : T → ℕ) (wire : P → Wire) (size : P → ℕ) (t : T) (flags : NlmF) (number port : ℕ) (body : P) (text bytes : List ℕ) : Type 0 where
+pub record IsReply {T P : Type 0} (number_of : T → ℕ) (wire : P → Wire) (size : P
+    → ℕ) (t : T) (flags : NlmF) (number port : ℕ) (body : P) (text bytes : List ℕ) : Type 0 where
   pub is_plain : IsPlain (number_of t)
   pub type_fits : number_of t < 65536
   pub flags_fit : flags.0 < 65536
   pub number_fits : number < 4294967296
   pub port_fits : port < 4294967296
   pub text_is : wire body ≡ Ok text
-  pub bytes_are : message_or_refusal number_of wire (message_with size t flags number port (payload.Payload body)) ≡ Ok bytes
+  pub bytes_are : message_or_refusal number_of wire (message_with size t flags number port (payload.Payload body))
+      ≡ Ok bytes
 
 -- ---- attributes of an extended acknowledgement
 
@@ -104,5 +106,9 @@ end_said asked flags code attrs text = ((dump_end asked flags code attrs).header
 -- number is open there, the handle of that number gets it, once, and no other handle gets anything
 pub record IsDelivered (asked : Request) (m : Nlmsghdr ℕ (List ℕ)) (bytes : List ℕ) : Type 0 where
   pub one_message : cut_of untyped_layout bytes ≡ (answer_kept m ∷ [], None)
-  pub asker : (is_open : ℕ → Bool) → is_open asked.header.sequence_number ≡ true → datagram_share asked.port is_open (Some asked.header.sequence_number) (cut_of untyped_layout bytes) [] ≡ message (answer_kept m) ∷ []
-  pub others : (is_open : ℕ → Bool) → is_open asked.header.sequence_number ≡ true → (other : Option ℕ) → other ≢ Some asked.header.sequence_number → datagram_share asked.port is_open other (cut_of untyped_layout bytes) [] ≡ []
+  pub asker : (is_open : ℕ → Bool) → is_open asked.header.sequence_number ≡ true
+      → datagram_share asked.port is_open (Some asked.header.sequence_number) (cut_of untyped_layout bytes) []
+      ≡ message (answer_kept m) ∷ []
+  pub others : (is_open : ℕ → Bool) → is_open asked.header.sequence_number ≡ true → (other : Option ℕ)
+      → other ≢ Some asked.header.sequence_number → datagram_share asked.port is_open other
+      (cut_of untyped_layout bytes) [] ≡ []

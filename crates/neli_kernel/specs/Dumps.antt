@@ -54,12 +54,14 @@ begun (full, b ∷ last) = (datagrams_of (full, b ∷ last), [])
 
 -- the same of a message's bytes, or why they are not put there: it has none, or alone they pass the limit
 abbrev pub put_wire : ℕ → Wire → Packed → Result Packed SerError
-put_wire limit (Ok frame) p = if nat_lt limit (length frame) then Err (ser.Msg (codes "Message does not fit a datagram")) else Ok (put limit frame p)
+put_wire limit (Ok frame) p = if nat_lt limit (length frame)
+    then Err (ser.Msg (codes "Message does not fit a datagram")) else Ok (put limit frame p)
 put_wire limit (Err e) p = Err e
 
 -- e is why a message is not put there; memory is asked for where its length fits 32 bits
 abbrev pub RefusesPut : {T P : Type 0} → ℕ → (T → ℕ) → (P → Wire) → Nlmsghdr T P → Packed → SerError → Type 0
-RefusesPut limit number_of wire m p = IsRefusal ser_ran_out (put_wire limit (message_or_refusal number_of wire m) p) (m.header.len < 4294967296)
+RefusesPut limit number_of wire m p = IsRefusal ser_ran_out (put_wire limit (message_or_refusal number_of wire m) p)
+    (m.header.len < 4294967296)
 
 -- the datagrams that these, or this refusal, are
 abbrev pub all_of : Result Packed SerError → Result (List (List ℕ)) SerError

@@ -31,21 +31,28 @@ use Rattle.neli_kernel_laws.proofs.Given.{given-in-turn}
 
 -- ---- a datagram that answers requests
 
-one-own : (answers own : Bool) (u : Untyped) (us : List Untyped) (more : List Delivery) → answers ≡ true → more ≡ map message us → (if answers then (if own then message u ∷ [] else []) else stray u ∷ []) ++ more ≡ map message (if own then u ∷ us else us)
+one-own : (answers own : Bool) (u : Untyped) (us : List Untyped) (more : List Delivery) → answers ≡ true
+    → more ≡ map message us → (if answers then (if own then message u ∷ [] else []) else stray u ∷ []) ++ more
+    ≡ map message (if own then u ∷ us else us)
 one-own true true u us more is same = ap (λ (ds : List Delivery). message u ∷ ds) same
 one-own true false u us more is same = same
 one-own false own u us more is same = cc
 
-own-messages : (port number : ℕ) (is_open : ℕ → Bool) (us : List Untyped) → All (λ u. is_reply port is_open u ≡ true) us → messages_to port is_open number us ≡ map message (filter (λ u. u.0.sequence_number == number) us)
+own-messages : (port number : ℕ) (is_open : ℕ → Bool) (us : List Untyped) → All (λ u. is_reply port is_open u ≡ true) us
+    → messages_to port is_open number us ≡ map message (filter (λ u. u.0.sequence_number == number) us)
 own-messages port number is_open [] all = refl
 own-messages port number is_open (u ∷ us) all =
-    one-own (is_reply port is_open u) (u.0.sequence_number == number) u (filter (λ u. u.0.sequence_number == number) us) (messages_to port is_open number us)
+    one-own (is_reply port is_open u) (u.0.sequence_number == number) u (filter (λ u. u.0.sequence_number == number) us)
+        (messages_to port is_open number us)
     (All-head (λ u. is_reply port is_open u ≡ true) u us all)
     (own-messages port number is_open us (All-tail (λ u. is_reply port is_open u ≡ true) u us all))
 
-own-share : (port number : ℕ) (is_open : ℕ → Bool) (cut : Cut Untyped) (groups : List ℕ) → groups ≡ [] → cut.1 ≡ None → All (λ u. is_reply port is_open u ≡ true) cut.0 → datagram_share port is_open (Some number) cut groups ≡ map message (filter (λ u. u.0.sequence_number == number) cut.0)
+own-share : (port number : ℕ) (is_open : ℕ → Bool) (cut : Cut Untyped) (groups : List ℕ) → groups ≡ [] → cut.1 ≡ None
+    → All (λ u. is_reply port is_open u ≡ true) cut.0 → datagram_share port is_open (Some number) cut groups
+    ≡ map message (filter (λ u. u.0.sequence_number == number) cut.0)
 own-share port number is_open cut [] none whole all =
-    ap (λ f. messages_to port is_open number cut.0 ++ reader_fault f) whole ∙ append-nil (messages_to port is_open number cut.0) ∙ own-messages port number is_open cut.0 all
+    ap (λ f. messages_to port is_open number cut.0 ++ reader_fault f) whole
+        ∙ append-nil (messages_to port is_open number cut.0) ∙ own-messages port number is_open cut.0 all
 own-share port number is_open cut (g ∷ groups) none whole all = cc
 
 -- ---- numbers
@@ -104,7 +111,8 @@ module _ {ST SP RT RP : Type 0} (port : ℕ) where
     pub number_is : number_of (suc j) h ≡ number
     pub needs_is : needs_of (suc j) h ≡ needs
 
-  pub keeps-more : (j number : ℕ) (needs : Bool) (e : Event ST SP RT RP) (h : History ST SP RT RP) → Keeps j number needs h → Keeps j number needs (e ∷ h)
+  pub keeps-more : (j number : ℕ) (needs : Bool) (e : Event ST SP RT RP) (h : History ST SP RT RP)
+      → Keeps j number needs h → Keeps j number needs (e ∷ h)
   keeps-more j number needs e h k =
       let other = later-place j (requests_sent h) k.given in
       record {
@@ -114,7 +122,8 @@ module _ {ST SP RT RP : Type 0} (port : ℕ) where
       }
 
   -- what a command hands over to it
-  handed : (j number : ℕ) (h : History ST SP RT RP) (c : Command ST SP) → number_of (suc j) h ≡ number → Answers port h c → handed_over port (suc j) c h ≡ map message (brought number c)
+  handed : (j number : ℕ) (h : History ST SP RT RP) (c : Command ST SP) → number_of (suc j) h ≡ number
+      → Answers port h c → handed_over port (suc j) c h ≡ map message (brought number c)
   handed j number h (command.Datagram b groups) is a =
       ap (λ (n : ℕ). datagram_share port (λ q. is_open q h) (Some n) (cut_of untyped_layout b.items) groups) is
       ∙ own-share port number (λ q. is_open q h) (cut_of untyped_layout b.items) groups a.0 a.1 a.2
@@ -124,7 +133,9 @@ module _ {ST SP RT RP : Type 0} (port : ℕ) where
   handed j number h (command.Read k) is a = refl
   handed j number h (command.Close k) is a = refl
 
-  handed-open : (k : ℕ) (e : Event ST SP RT RP) (h : History ST SP RT RP) (live : Bool) (ds : List Delivery) → is_handle_open k h ≡ live → handed_over port k e.0 h ≡ ds → deliveries port k (e ∷ h) ≡ deliveries port k h ++ (if live then ds else [])
+  handed-open : (k : ℕ) (e : Event ST SP RT RP) (h : History ST SP RT RP) (live : Bool) (ds : List Delivery)
+      → is_handle_open k h ≡ live → handed_over port k e.0 h ≡ ds
+      → deliveries port k (e ∷ h) ≡ deliveries port k h ++ (if live then ds else [])
   handed-open k e h live ds opened hands =
       deliveries-more port k e h
       ∙ ap (λ (b : Bool). deliveries port k h ++ (if b then handed_over port k e.0 h else [])) opened
@@ -133,28 +144,37 @@ module _ {ST SP RT RP : Type 0} (port : ℕ) where
   -- all that came after a history in which it was given
   record Came (j number : ℕ) (needs : Bool) (before later : History ST SP RT RP) : Type 0 where
     keeps : Keeps j number needs (later ++ before)
-    delivered : deliveries port (suc j) (later ++ before) ≡ deliveries port (suc j) before ++ map message (came number later)
+    delivered : deliveries port (suc j) (later ++ before)
+        ≡ deliveries port (suc j) before ++ map message (came number later)
 
-  all-came : (j number : ℕ) (needs : Bool) (before later : History ST SP RT RP) → Keeps j number needs before → is_closed (suc j) (later ++ before) ≡ false → AllAnswer port later before → Came j number needs before later
-  all-came j number needs before [] k closed a = record { keeps = k; delivered = sym (append-nil (deliveries port (suc j) before)) }
+  all-came : (j number : ℕ) (needs : Bool) (before later : History ST SP RT RP) → Keeps j number needs before
+      → is_closed (suc j) (later ++ before) ≡ false → AllAnswer port later before → Came j number needs before later
+  all-came j number needs before [] k closed a = record { keeps = k;
+      delivered = sym (append-nil (deliveries port (suc j) before)) }
   all-came j number needs before (e ∷ later) k closed a =
-      let still : is_closed (suc j) (later ++ before) ≡ false = or-later _ (is_closed (suc j) (later ++ before)) closed in
+      let still : is_closed (suc j) (later ++ before) ≡ false =
+          or-later _ (is_closed (suc j) (later ++ before)) closed in
       let r = all-came j number needs before later k still a.1 in
-      let live : is_handle_open (suc j) (later ++ before) ≡ true = open-by _ _ (is-given j (requests_sent (later ++ before)) r.keeps.given) still in
+      let live : is_handle_open (suc j) (later ++ before) ≡ true =
+          open-by _ _ (is-given j (requests_sent (later ++ before)) r.keeps.given) still in
       let start : List Delivery = deliveries port (suc j) before in
       record {
         keeps = keeps-more j number needs e (later ++ before) r.keeps;
-        delivered = handed-open (suc j) e (later ++ before) true (map message (brought number e.0)) live (handed j number (later ++ before) e.0 r.keeps.number_is a.0)
+        delivered = handed-open (suc j) e (later ++ before) true (map message (brought number e.0)) live
+            (handed j number (later ++ before) e.0 r.keeps.number_is a.0)
             ∙ ap (λ (ds : List Delivery). ds ++ map message (brought number e.0)) r.delivered
             ∙ append_assoc start (map message (came number later)) (map message (brought number e.0))
-            ∙ ap (λ (ds : List Delivery). start ++ ds) (sym (map-append message (came number later) (brought number e.0)));
+            ∙ ap (λ (ds : List Delivery). start ++ ds)
+                (sym (map-append message (came number later) (brought number e.0)));
       }
 
   -- ---- nothing came before the request was sent
 
-  fresh-more : (k : ℕ) (e : Event ST SP RT RP) (h : History ST SP RT RP) → nat_le k (requests_sent h) ≡ false → deliveries port k (e ∷ h) ≡ deliveries port k h
+  fresh-more : (k : ℕ) (e : Event ST SP RT RP) (h : History ST SP RT RP) → nat_le k (requests_sent h) ≡ false
+      → deliveries port k (e ∷ h) ≡ deliveries port k h
   fresh-more k e h not =
-      handed-open k e h false (handed_over port k e.0 h) (not-open _ (is_closed k h) not) refl ∙ append-nil (deliveries port k h)
+      handed-open k e h false (handed_over port k e.0 h) (not-open _ (is_closed k h) not) refl
+          ∙ append-nil (deliveries port k h)
 
   fresh : (k : ℕ) (h : History ST SP RT RP) → nat_le k (requests_sent h) ≡ false → deliveries port k h ≡ []
   fresh k [] not = refl
@@ -171,43 +191,64 @@ module _ {ST SP RT RP : Type 0} (port : ℕ) where
     pub start-keeps : Keeps (requests_sent before) (next_number before) (needs_ack flags) start
     start-keeps = record {
       given = le-self (suc (requests_sent before));
-      number_is = taken-by (suc (requests_sent before) == suc (requests_sent before)) _ _ (same-place (suc (requests_sent before)));
-      needs_is = taken-by (suc (requests_sent before) == suc (requests_sent before)) _ _ (same-place (suc (requests_sent before)));
+      number_is = taken-by (suc (requests_sent before) == suc (requests_sent before)) _ _ (same-place
+          (suc (requests_sent before)));
+      needs_is = taken-by (suc (requests_sent before) == suc (requests_sent before)) _ _ (same-place
+          (suc (requests_sent before)));
     }
 
     start-nothing : deliveries port (handle_after before) start ≡ []
     start-nothing =
         let not = not-given (requests_sent before) in
-        fresh-more (handle_after before) (command.Send t flags p, outcome.Sent sent) before not ∙ fresh (handle_after before) before not
+        fresh-more (handle_after before) (command.Send t flags p, outcome.Sent sent) before not
+            ∙ fresh (handle_after before) before not
 
-    since : (later : History ST SP RT RP) → is_closed (handle_after before) (later ++ start) ≡ false → AllAnswer port later start → Came (requests_sent before) (next_number before) (needs_ack flags) start later
-    since later closed a = all-came (requests_sent before) (next_number before) (needs_ack flags) start later start-keeps closed a
+    since : (later : History ST SP RT RP) → is_closed (handle_after before) (later ++ start) ≡ false
+        → AllAnswer port later start → Came (requests_sent before) (next_number before) (needs_ack flags) start later
+    since later closed a = all-came (requests_sent before) (next_number before)
+        (needs_ack flags) start later start-keeps closed a
 
-    pub came-delivered : (later : History ST SP RT RP) → is_closed (handle_after before) (later ++ start) ≡ false → AllAnswer port later start → deliveries port (handle_after before) (later ++ start) ≡ map message (came (next_number before) later)
+    pub came-delivered : (later : History ST SP RT RP) → is_closed (handle_after before) (later ++ start) ≡ false
+        → AllAnswer port later start → deliveries port (handle_after before) (later ++ start)
+        ≡ map message (came (next_number before) later)
     came-delivered later closed a =
-        (since later closed a).delivered ∙ ap (λ (ds : List Delivery). ds ++ map message (came (next_number before) later)) start-nothing
+        (since later closed a).delivered ∙ ap (λ (ds : List Delivery). ds ++ map message
+            (came (next_number before) later)) start-nothing
 
-    pub came-open : (later : History ST SP RT RP) → is_closed (handle_after before) (later ++ start) ≡ false → AllAnswer port later start → is_handle_open (handle_after before) (later ++ start) ≡ true
-    came-open later closed a = open-by _ _ (is-given (requests_sent before) (requests_sent (later ++ start)) (since later closed a).keeps.given) closed
+    pub came-open : (later : History ST SP RT RP) → is_closed (handle_after before) (later ++ start) ≡ false
+        → AllAnswer port later start → is_handle_open (handle_after before) (later ++ start) ≡ true
+    came-open later closed a = open-by _ _ (is-given (requests_sent before) (requests_sent (later ++ start))
+        (since later closed a).keeps.given) closed
 
-    pub came-needs : (later : History ST SP RT RP) → is_closed (handle_after before) (later ++ start) ≡ false → AllAnswer port later start → needs_of (handle_after before) (later ++ start) ≡ needs_ack flags
+    pub came-needs : (later : History ST SP RT RP) → is_closed (handle_after before) (later ++ start) ≡ false
+        → AllAnswer port later start → needs_of (handle_after before) (later ++ start) ≡ needs_ack flags
     came-needs later closed a = (since later closed a).keeps.needs_is
 
 -- ---- and its reads
 
-module _ {ST SP K P V : Type 0} (type_of : ℕ → K) (number_in : K → ℕ) (view : P → V) (size : P → ℕ) (read : List ℕ → Result V DeError) (back : (n : ℕ) → n < 65536 → number_in (type_of n) ≡ n) where
-  pub read-in-turn : (port : ℕ) (t : ST) (flags : NlmF) (p : NlPayload ST SP) (sent : Bytes) (before later : History ST SP K P) (o : Outcome ST SP K P)
+module _ {ST SP K P V : Type 0} (type_of : ℕ → K) (number_in : K → ℕ) (view : P → V) (size : P → ℕ) (read : List ℕ
+    → Result V DeError) (back : (n : ℕ) → n < 65536 → number_in (type_of n) ≡ n) where
+  pub read-in-turn : (port : ℕ) (t : ST) (flags : NlmF) (p : NlPayload ST SP) (sent : Bytes)
+      (before later : History ST SP K P) (o : Outcome ST SP K P)
       → is_closed (handle_after before) (later ++ history_sent before t flags p sent) ≡ false
       → AllAnswer port later (history_sent before t flags p sent)
       → IsComplete (needs_ack flags) (came (next_number before) later)
-      → IsAnswered type_of number_in view size read port (later ++ history_sent before t flags p sent) (command.Read (handle_after before)) o
-      → (r : Reply K P) × IsInTurn (IsReadAs type_of view size read) (came (next_number before) later) (items_of (handle_after before) (later ++ history_sent before t flags p sent)) r × (o ≡ outcome_of r)
+      → IsAnswered type_of number_in view size read port (later ++ history_sent before t flags p sent)
+          (command.Read (handle_after before)) o
+      → (r : Reply K P) × IsInTurn (IsReadAs type_of view size read) (came (next_number before) later)
+          (items_of (handle_after before) (later ++ history_sent before t flags p sent)) r × (o ≡ outcome_of r)
   read-in-turn port t flags p sent before later o closed a complete is =
       let all : History ST SP K P = later ++ history_sent before t flags p sent in
       let us : List Untyped = came (next_number before) later in
       let given : List (Item K P) = items_of (handle_after before) all in
       let answered : IsReadOf type_of number_in view size read port all (handle_after before) true o =
-      subst (λ (b : Bool). IsReadOf type_of number_in view size read port all (handle_after before) b o) (came-open port t flags p sent before later closed a) is in
-      let needed = subst (λ (b : Bool). IsNextAnswer type_of number_in view size read b true (deliveries port (handle_after before) all) given answered.0) (came-needs port t flags p sent before later closed a) answered.1 in
-      let next = subst (λ (ds : List Delivery). IsNextAnswer type_of number_in view size read (needs_ack flags) true ds given answered.0) (came-delivered port t flags p sent before later closed a) needed in
-      (answered.0, given-in-turn type_of number_in view size read back (needs_ack flags) us given answered.0 complete next, answered.2)
+      subst (λ (b : Bool). IsReadOf type_of number_in view size read port all (handle_after before) b o)
+          (came-open port t flags p sent before later closed a) is in
+      let needed = subst (λ (b : Bool). IsNextAnswer type_of number_in view size read b true
+          (deliveries port (handle_after before) all) given answered.0)
+          (came-needs port t flags p sent before later closed a) answered.1 in
+      let next = subst (λ (ds : List Delivery). IsNextAnswer type_of number_in view size read
+          (needs_ack flags) true ds given answered.0) (came-delivered port t flags p sent before later closed
+          a) needed in
+      (answered.0, given-in-turn type_of number_in view size read back
+          (needs_ack flags) us given answered.0 complete next, answered.2)

@@ -20,43 +20,57 @@ use Rattle.neli_kernel_laws.specs.Served.{numbered}
 
 -- ---- whole answers
 
-pub acknowledgement-complete : (asked : Request) (attrs : Attributes) → IsComplete true (answer_kept (acknowledgement asked attrs) ∷ [])
+pub acknowledgement-complete : (asked : Request) (attrs : Attributes)
+    → IsComplete true (answer_kept (acknowledgement asked attrs) ∷ [])
 acknowledgement-complete asked attrs = ([], answer_kept (acknowledgement asked attrs) ∷ [], All-nil IsPart, refl, refl)
 
-capped-ends : (needs : Bool) (asked : Request) (code : ℤ) (attrs : Attributes) → IsEnding needs (answer_kept (capped_error asked code attrs) ∷ [])
+capped-ends : (needs : Bool) (asked : Request) (code : ℤ) (attrs : Attributes)
+    → IsEnding needs (answer_kept (capped_error asked code attrs) ∷ [])
 capped-ends true asked code attrs = refl
 capped-ends false asked code attrs = inl (refl, refl)
 
-pub capped-complete : (needs : Bool) (asked : Request) (code : ℤ) (attrs : Attributes) → IsComplete needs (answer_kept (capped_error asked code attrs) ∷ [])
-capped-complete needs asked code attrs = ([], answer_kept (capped_error asked code attrs) ∷ [], All-nil IsPart, capped-ends needs asked code attrs, refl)
+pub capped-complete : (needs : Bool) (asked : Request) (code : ℤ) (attrs : Attributes)
+    → IsComplete needs (answer_kept (capped_error asked code attrs) ∷ [])
+capped-complete needs asked code attrs = ([], answer_kept (capped_error asked code attrs) ∷ [], All-nil IsPart,
+    capped-ends needs asked code attrs, refl)
 
-error-ends : (needs : Bool) (asked : Request) (code : ℤ) (attrs : Attributes) → IsEnding needs (answer_kept (error asked code attrs) ∷ [])
+error-ends : (needs : Bool) (asked : Request) (code : ℤ) (attrs : Attributes)
+    → IsEnding needs (answer_kept (error asked code attrs) ∷ [])
 error-ends true asked code attrs = refl
 error-ends false asked code attrs = inl (refl, refl)
 
-pub error-complete : (needs : Bool) (asked : Request) (code : ℤ) (attrs : Attributes) → IsComplete needs (answer_kept (error asked code attrs) ∷ [])
-error-complete needs asked code attrs = ([], answer_kept (error asked code attrs) ∷ [], All-nil IsPart, error-ends needs asked code attrs, refl)
+pub error-complete : (needs : Bool) (asked : Request) (code : ℤ) (attrs : Attributes)
+    → IsComplete needs (answer_kept (error asked code attrs) ∷ [])
+error-complete needs asked code attrs = ([], answer_kept (error asked code attrs) ∷ [], All-nil IsPart,
+    error-ends needs asked code attrs, refl)
 
-reply-whole : (message_type number port : ℕ) (flags : NlmF) (text : List ℕ) → message_type < 65536 → is_multi flags ≡ false → IsWhole (reply_kept message_type flags number port text)
+reply-whole : (message_type number port : ℕ) (flags : NlmF) (text : List ℕ) → message_type < 65536
+    → is_multi flags ≡ false → IsWhole (reply_kept message_type flags number port text)
 reply-whole message_type number port flags text fits single = record {
   no_answer = refl;
   whole = ap (λ (b : Bool). not b || (message_type == 3)) single;
   type_fits = fits;
 }
 
-pub reply-complete : (message_type number port : ℕ) (flags : NlmF) (text : List ℕ) → message_type < 65536 → is_multi flags ≡ false → IsComplete false (reply_kept message_type flags number port text ∷ [])
+pub reply-complete : (message_type number port : ℕ) (flags : NlmF) (text : List ℕ) → message_type < 65536
+    → is_multi flags ≡ false → IsComplete false (reply_kept message_type flags number port text ∷ [])
 reply-complete message_type number port flags text fits single =
-    ([], reply_kept message_type flags number port text ∷ [], All-nil IsPart, inr (reply-whole message_type number port flags text fits single), refl)
+    ([], reply_kept message_type flags number port text ∷ [], All-nil IsPart,
+        inr (reply-whole message_type number port flags text fits single), refl)
 
-pub acknowledged-complete : (message_type number port : ℕ) (flags : NlmF) (text : List ℕ) (asked : Request) (attrs : Attributes) → message_type < 65536 → is_multi flags ≡ false → IsComplete true (reply_kept message_type flags number port text ∷ answer_kept (acknowledgement asked attrs) ∷ [])
+pub acknowledged-complete : (message_type number port : ℕ) (flags : NlmF) (text : List ℕ) (asked : Request)
+    (attrs : Attributes) → message_type < 65536 → is_multi flags ≡ false
+    → IsComplete true (reply_kept message_type flags number port text ∷ answer_kept (acknowledgement asked attrs) ∷ [])
 acknowledged-complete message_type number port flags text asked attrs fits single =
-    ([], reply_kept message_type flags number port text ∷ answer_kept (acknowledgement asked attrs) ∷ [], All-nil IsPart, (reply-whole message_type number port flags text fits single, refl), refl)
+    ([], reply_kept message_type flags number port text ∷ answer_kept (acknowledgement asked attrs) ∷ [],
+        All-nil IsPart, (reply-whole message_type number port flags text fits single, refl), refl)
 
 or_true : (b : Bool) → (b || true) ≡ true
 or_true true = refl
 or_true false = refl
 
-pub dump-complete : (parts : List Untyped) (h : Header ℕ) (code : ℤ) (attrs : Attributes) → All IsPart parts → h.message_type ≡ 3 → IsComplete false (parts ++ (h, payload.DumpExtAck (answer code tt attrs)) ∷ [])
+pub dump-complete : (parts : List Untyped) (h : Header ℕ) (code : ℤ) (attrs : Attributes) → All IsPart parts
+    → h.message_type ≡ 3 → IsComplete false (parts ++ (h, payload.DumpExtAck (answer code tt attrs)) ∷ [])
 dump-complete parts h code attrs all three =
     let last : Untyped = (h, payload.DumpExtAck (answer code tt attrs)) in
     let whole : IsWhole last = record {
@@ -68,26 +82,32 @@ dump-complete parts h code attrs all three =
 
 -- ---- the messages of a number
 
-filter-all : (number port : ℕ) (us : List Untyped) → All (IsFor number port) us → filter (λ u. u.0.sequence_number == number) us ≡ us
+filter-all : (number port : ℕ) (us : List Untyped) → All (IsFor number port) us
+    → filter (λ u. u.0.sequence_number == number) us ≡ us
 filter-all number port [] all = refl
 filter-all number port (u ∷ us) all =
     let own : nat_eq u.0.sequence_number number ≡ true = eq-eqb _ _ (All-head (IsFor number port) u us all).0 in
     rw own (ap (λ (xs : List Untyped). u ∷ xs) (filter-all number port us (All-tail (IsFor number port) u us all)))
 
-filter-none : (number port other : ℕ) (us : List Untyped) → other ≢ number → All (IsFor number port) us → filter (λ u. u.0.sequence_number == other) us ≡ []
+filter-none : (number port other : ℕ) (us : List Untyped) → other ≢ number → All (IsFor number port) us
+    → filter (λ u. u.0.sequence_number == other) us ≡ []
 filter-none number port other [] differs all = refl
 filter-none number port other (u ∷ us) differs all =
     let first = All-head (IsFor number port) u us all in
     let own : nat_eq u.0.sequence_number other ≡ false = ne_eqb _ _ (λ e. differs (sym e ∙ first.0)) in
     rw own (filter-none number port other us differs (All-tail (IsFor number port) u us all))
 
-pub own-numbered : (number port : ℕ) (datagram : List ℕ) (us : List Untyped) → cut_of untyped_layout datagram ≡ (us, None) → All (IsFor number port) us → numbered number datagram ≡ us
+pub own-numbered : (number port : ℕ) (datagram : List ℕ) (us : List Untyped)
+    → cut_of untyped_layout datagram ≡ (us, None) → All (IsFor number port) us → numbered number datagram ≡ us
 own-numbered number port datagram us cut all =
     ap (λ (c : Cut Untyped). filter (λ u. u.0.sequence_number == number) c.0) cut ∙ filter-all number port us all
 
-pub others-numbered : (number port : ℕ) (datagram : List ℕ) (us : List Untyped) → cut_of untyped_layout datagram ≡ (us, None) → All (IsFor number port) us → (other : ℕ) → other ≢ number → numbered other datagram ≡ []
+pub others-numbered : (number port : ℕ) (datagram : List ℕ) (us : List Untyped)
+    → cut_of untyped_layout datagram ≡ (us, None) → All (IsFor number port) us → (other : ℕ) → other ≢ number
+    → numbered other datagram ≡ []
 others-numbered number port datagram us cut all other differs =
-    ap (λ (c : Cut Untyped). filter (λ u. u.0.sequence_number == other) c.0) cut ∙ filter-none number port other us differs all
+    ap (λ (c : Cut Untyped). filter (λ u. u.0.sequence_number == other) c.0) cut
+        ∙ filter-none number port other us differs all
 
 -- ---- several datagrams
 
@@ -106,16 +126,19 @@ module _ (number port : ℕ) where
   abbrev AreFor : List ℕ → Type 0
   AreFor d = All (IsFor number port) (messages_cut d)
 
-  each-numbered : (ds : List (List ℕ)) → All (IsFor number port) (flat_map messages_cut ds) → (flat_map (numbered number) ds ≡ flat_map messages_cut ds) × All AreFor ds
+  each-numbered : (ds : List (List ℕ)) → All (IsFor number port) (flat_map messages_cut ds)
+      → (flat_map (numbered number) ds ≡ flat_map messages_cut ds) × All AreFor ds
   each-numbered [] all = (refl, All-nil AreFor)
   each-numbered (d ∷ ds) all =
       let first = All-first (IsFor number port) (messages_cut d) (flat_map messages_cut ds) all in
       let rest = each-numbered ds (All-later (IsFor number port) (messages_cut d) (flat_map messages_cut ds) all) in (
-        ap (λ (us : List Untyped). us ++ flat_map (numbered number) ds) (filter-all number port (messages_cut d) first) ∙ ap (λ (us : List Untyped). messages_cut d ++ us) rest.0,
+        ap (λ (us : List Untyped). us ++ flat_map (numbered number) ds) (filter-all number port (messages_cut d) first)
+            ∙ ap (λ (us : List Untyped). messages_cut d ++ us) rest.0,
         All-cons AreFor d ds first rest.1,
       )
 
-  pub several-numbered : (ds : List (List ℕ)) (us : List Untyped) → flat_map messages_cut ds ≡ us → All (IsFor number port) us → (flat_map (numbered number) ds ≡ us) × All AreFor ds
+  pub several-numbered : (ds : List (List ℕ)) (us : List Untyped) → flat_map messages_cut ds ≡ us
+      → All (IsFor number port) us → (flat_map (numbered number) ds ≡ us) × All AreFor ds
   several-numbered ds us cut all =
       let each = each-numbered ds (subst (All (IsFor number port)) (sym cut) all) in
       (each.0 ∙ cut, each.1)
@@ -133,7 +156,9 @@ module _ (number port : ℕ) (is_open : ℕ → Bool) (opened : is_open number �
   pub all-answered : (us : List Untyped) → All (IsFor number port) us → All Answered us
   all-answered [] all = All-nil Answered
   all-answered (u ∷ us) all =
-      All-cons Answered u us (one-answered u (All-head (IsFor number port) u us all)) (all-answered us (All-tail (IsFor number port) u us all))
+      All-cons Answered u us (one-answered u (All-head (IsFor number port) u us all))
+          (all-answered us (All-tail (IsFor number port) u us all))
 
-  pub cut-answered : (datagram : List ℕ) (us : List Untyped) → cut_of untyped_layout datagram ≡ (us, None) → All (IsFor number port) us → All (λ u. is_reply port is_open u ≡ true) (cut_of untyped_layout datagram).0
+  pub cut-answered : (datagram : List ℕ) (us : List Untyped) → cut_of untyped_layout datagram ≡ (us, None)
+      → All (IsFor number port) us → All (λ u. is_reply port is_open u ≡ true) (cut_of untyped_layout datagram).0
   cut-answered datagram us cut all = subst (λ (c : Cut Untyped). All Answered c.0) (sym cut) (all-answered us all)

@@ -19,7 +19,8 @@ use Rattle.neli_kernel_laws.proofs.Typed.{part-quiet, read-ack, read-answer, who
 -- ---- what is given at the last place
 
 -- an acknowledgement that is needed is given as it is, after a single reply or not
-ack-by : {K P : Type 0} (after : Bool) (m : Nlmsghdr K P) (p : NlPayload K P) → is_acknowledgement p ≡ true → last_by true after m p ≡ Ok m
+ack-by : {K P : Type 0} (after : Bool) (m : Nlmsghdr K P) (p : NlPayload K P) → is_acknowledgement p ≡ true
+    → last_by true after m p ≡ Ok m
 ack-by after m (payload.Ack e) is = refl
 ack-by after m (payload.Err e) is = cc
 ack-by after m (payload.Capped e) is = cc
@@ -28,7 +29,8 @@ ack-by after m (payload.Payload p) is = cc
 ack-by after m payload.Empty is = cc
 
 -- what else is given is the same, whether an acknowledgement is needed or not
-other-by : {K P : Type 0} (needs : Bool) (m : Nlmsghdr K P) (p : NlPayload K P) → is_acknowledgement p ≡ false → last_by needs false m p ≡ last_by true false m p
+other-by : {K P : Type 0} (needs : Bool) (m : Nlmsghdr K P) (p : NlPayload K P) → is_acknowledgement p ≡ false
+    → last_by needs false m p ≡ last_by true false m p
 other-by needs m (payload.Ack e) is = cc
 other-by needs m (payload.Err e) is = refl
 other-by needs m (payload.Capped e) is = refl
@@ -47,7 +49,8 @@ no-ack payload.Empty none = refl
 
 -- ---- reads of these types
 
-module _ {K P V : Type 0} (type_of : ℕ → K) (number_of : K → ℕ) (view : P → V) (size : P → ℕ) (read : List ℕ → Result V DeError) (back : (n : ℕ) → n < 65536 → number_of (type_of n) ≡ n) where
+module _ {K P V : Type 0} (type_of : ℕ → K) (number_of : K → ℕ) (view : P → V) (size : P → ℕ) (read : List ℕ
+    → Result V DeError) (back : (n : ℕ) → n < 65536 → number_of (type_of n) ≡ n) where
   abbrev IsRead : Untyped → Item K P → Type 0
   IsRead = IsReadAs type_of view size read
 
@@ -55,28 +58,38 @@ module _ {K P V : Type 0} (type_of : ℕ → K) (number_of : K → ℕ) (view : 
   Turn needs us = InTurn number_of needs IsRead us
 
   -- the acknowledgement, or an error, where an acknowledgement is needed
-  answer-over : (u : Untyped) → is_answer u.1 ≡ true → (x : Item K P) → IsRead u x → (last_place number_of true true (x ∷ []) ≡ 0) × (last_item true false x ≡ last_item true false x)
-  answer-over u is (Ok m) read_is = (alone-last number_of true (Ok m) [] (read-answer type_of number_of view size read back u m read_is ∙ is), refl)
+  answer-over : (u : Untyped) → is_answer u.1 ≡ true → (x : Item K P) → IsRead u x
+      → (last_place number_of true true (x ∷ []) ≡ 0) × (last_item true false x ≡ last_item true false x)
+  answer-over u is (Ok m) read_is = (alone-last number_of true (Ok m) []
+      (read-answer type_of number_of view size read back u m read_is ∙ is), refl)
   answer-over u is (Err e) read_is = (alone-last number_of true (Err e) [] refl, refl)
 
   -- an error, where none is
-  error-over : (u : Untyped) → is_answer u.1 ≡ true → is_acknowledgement u.1 ≡ false → (x : Item K P) → IsRead u x → (last_place number_of false true (x ∷ []) ≡ 0) × (last_item false false x ≡ last_item true false x)
+  error-over : (u : Untyped) → is_answer u.1 ≡ true → is_acknowledgement u.1 ≡ false → (x : Item K P) → IsRead u x
+      → (last_place number_of false true (x ∷ []) ≡ 0) × (last_item false false x ≡ last_item true false x)
   error-over u is none (Ok m) read_is =
-      (alone-last number_of false (Ok m) [] (read-answer type_of number_of view size read back u m read_is ∙ is), other-by false m m.payload (read-ack type_of number_of view size read back u m read_is ∙ none))
+      (alone-last number_of false (Ok m) [] (read-answer type_of number_of view size read back u m read_is ∙ is),
+          other-by false m m.payload (read-ack type_of number_of view size read back u m read_is ∙ none))
   error-over u is none (Err e) read_is = (alone-last number_of false (Err e) [] refl, refl)
 
   -- a whole reply, where no acknowledgement is needed
-  whole-over : (u : Untyped) → ((m : Nlmsghdr K P) → IsRead u (Ok m) → (ends_alone {K = K} {P = P} (Ok m) ≡ false) × (is_single {K = K} {P = P} number_of true (Ok m) ≡ true)) → (x : Item K P) → IsRead u x → (last_place number_of false true (x ∷ []) ≡ 0) × (last_item false false x ≡ last_item true false x)
+  whole-over : (u : Untyped) → ((m : Nlmsghdr K P) → IsRead u (Ok m)
+      → (ends_alone {K = K} {P = P} (Ok m) ≡ false) × (is_single {K = K} {P = P} number_of true (Ok m) ≡ true))
+      → (x : Item K P) → IsRead u x → (last_place number_of false true (x ∷ []) ≡ 0)
+      × (last_item false false x ≡ last_item true false x)
   whole-over u single (Ok m) read_is =
       let s = single m read_is in
       (single-last number_of false (Ok m) [] s.1, other-by false m m.payload (no-ack m.payload s.0))
   whole-over u single (Err e) read_is = (alone-last number_of false (Err e) [] refl, refl)
 
   -- the acknowledgement after a whole reply
-  ack-last : (a : Untyped) → is_answer a.1 ≡ true → is_acknowledgement a.1 ≡ true → (y : Item K P) → IsRead a y → (ends_alone y ≡ true) × (last_item true true y ≡ last_item true false y)
+  ack-last : (a : Untyped) → is_answer a.1 ≡ true → is_acknowledgement a.1 ≡ true → (y : Item K P) → IsRead a y
+      → (ends_alone y ≡ true) × (last_item true true y ≡ last_item true false y)
   ack-last a is ack (Ok m) read_is =
-      let same : is_acknowledgement m.payload ≡ true = read-ack type_of number_of view size read back a m read_is ∙ ack in
-      (read-answer type_of number_of view size read back a m read_is ∙ is, ack-by true m m.payload same ∙ sym (ack-by false m m.payload same))
+      let same : is_acknowledgement m.payload ≡ true = read-ack type_of number_of view size read back a m read_is
+          ∙ ack in
+      (read-answer type_of number_of view size read back a m read_is ∙ is, ack-by true m m.payload same
+          ∙ sym (ack-by false m m.payload same))
   ack-last a is ack (Err e) read_is = (refl, refl)
 
   ack-answer : (p : NlPayload ℕ (List ℕ)) → is_acknowledgement p ≡ true → is_answer p ≡ true
@@ -91,18 +104,22 @@ module _ {K P V : Type 0} (type_of : ℕ → K) (number_of : K → ℕ) (view : 
   ending-turn true [] is = absurd is
   ending-turn true (u ∷ []) is = over-turn number_of true IsRead u (answer-over u is)
   ending-turn true (u ∷ a ∷ []) is =
-      pair-turn number_of IsRead u a (λ m read_is. whole-single type_of number_of view size read back u m read_is is.0) (ack-last a (ack-answer a.1 is.1) is.1)
+      pair-turn number_of IsRead u a (λ m read_is. whole-single type_of number_of view size read back u m read_is is.0)
+          (ack-last a (ack-answer a.1 is.1) is.1)
   ending-turn true (u ∷ a ∷ b ∷ more) is = absurd is
   ending-turn false [] is = absurd is
   ending-turn false (u ∷ []) (inl error) = over-turn number_of false IsRead u (error-over u error.0 error.1)
   ending-turn false (u ∷ []) (inr whole) =
-      over-turn number_of false IsRead u (whole-over u (λ m read_is. whole-single type_of number_of view size read back u m read_is whole))
+      over-turn number_of false IsRead u (whole-over u
+          (λ m read_is. whole-single type_of number_of view size read back u m read_is whole))
   ending-turn false (u ∷ a ∷ more) is = absurd is
 
-  parts-turn : (needs : Bool) (parts ending : List Untyped) → All IsPart parts → Turn needs ending → Turn needs (parts ++ ending)
+  parts-turn : (needs : Bool) (parts ending : List Untyped) → All IsPart parts → Turn needs ending
+      → Turn needs (parts ++ ending)
   parts-turn needs [] ending all last = last
   parts-turn needs (u ∷ parts) ending all last =
-      quiet-turn number_of needs IsRead u (parts ++ ending) (λ m read_is. part-quiet type_of number_of view size read back u m read_is (All-head IsPart u parts all))
+      quiet-turn number_of needs IsRead u (parts ++ ending)
+          (λ m read_is. part-quiet type_of number_of view size read back u m read_is (All-head IsPart u parts all))
       (parts-turn needs parts ending (All-tail IsPart u parts all) last)
 
   complete-turn : (needs : Bool) (us : List Untyped) → IsComplete needs us → Turn needs us
@@ -110,11 +127,14 @@ module _ {K P V : Type 0} (type_of : ℕ → K) (number_of : K → ℕ) (view : 
       subst (λ (xs : List Untyped). Turn needs xs) (sym c.4) (parts-turn needs c.0 c.1 c.2 (ending-turn needs c.1 c.3))
 
   -- the deliveries are these messages
-  are-read : (us : List Untyped) (items : List (Item K P)) → AreReadings type_of view size read (map message us) items → AreRead IsRead us items
+  are-read : (us : List Untyped) (items : List (Item K P)) → AreReadings type_of view size read (map message us) items
+      → AreRead IsRead us items
   are-read us [] are = tt
   are-read [] (item ∷ items) are = absurd are
   are-read (u ∷ us) (item ∷ items) are = (are.0, are-read us items are.1)
 
-  pub given-in-turn : (needs : Bool) (us : List Untyped) (given : List (Item K P)) (r : Reply K P) → IsComplete needs us → IsNextAnswer type_of number_of view size read needs true (map message us) given r → IsInTurn IsRead us given r
+  pub given-in-turn : (needs : Bool) (us : List Untyped) (given : List (Item K P)) (r : Reply K P) → IsComplete needs us
+      → IsNextAnswer type_of number_of view size read needs true (map message us) given r → IsInTurn IsRead us given r
   given-in-turn needs us given r c next =
-      complete-turn needs us c given r (next.0, are-read us next.0 next.1, next.2, next.3, λ waits. next.4 waits ∙ length-map us message)
+      complete-turn needs us c given r (next.0, are-read us next.0 next.1, next.2, next.3, λ waits. next.4 waits
+          ∙ length-map us message)

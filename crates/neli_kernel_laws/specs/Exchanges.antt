@@ -86,11 +86,13 @@ module _ {ST SP RT RP : Type 0} where
     pub others : AllOthersAnswer (own_number x) asked.port x.later (history_with x)
 
   -- what came of a read of the request's handle: the next of these messages, or the end
-  abbrev pub IsReadInTurn : (Untyped → Item RT RP → Type 0) → List Untyped → Exchange ST SP RT RP → Outcome ST SP RT RP → Type 0
+  abbrev pub IsReadInTurn : (Untyped → Item RT RP → Type 0) → List Untyped → Exchange ST SP RT RP → Outcome ST SP RT RP
+      → Type 0
   IsReadInTurn IsRead us x o =
       (r : Reply RT RP) × IsInTurn IsRead us (items_of (own_handle x) (history_of x)) r × (o ≡ outcome_of r)
 
-module _ {ST SP K P V : Type 0} (type_of : ℕ → K) (number_of : K → ℕ) (view : P → V) (size : P → ℕ) (read : List ℕ → Result V DeError) where
+module _ {ST SP K P V : Type 0} (type_of : ℕ → K) (number_of : K → ℕ) (view : P → V) (size : P → ℕ) (read : List ℕ
+    → Result V DeError) where
   -- in a router with this port each read of the request's handle is answered by the next of these messages, as the
   -- caller's types, and past the last of them, or once an error was given, by the end
   abbrev pub ReadsGive : ℕ → List Untyped → Exchange ST SP K P → Type 0

@@ -9,7 +9,8 @@ use Rattle.neli_runs.specs.Reply.TheVariants as reply
 use Rattle.neli_runs.specs.Rule.{last_item}
 
 -- the item is what this message is read as: the message, typed, or why it can't be
-abbrev pub IsReadAs : {K P V : Type 0} → (ℕ → K) → (P → V) → (P → ℕ) → (List ℕ → Result V DeError) → Untyped → Item K P → Type 0
+abbrev pub IsReadAs : {K P V : Type 0} → (ℕ → K) → (P → V) → (P → ℕ) → (List ℕ → Result V DeError) → Untyped → Item K P
+    → Type 0
 IsReadAs type_of view size read u item = IsReading type_of view size read (message u) item
 
 -- the item is an error

@@ -25,7 +25,8 @@ abbrev pub all : List ℕ → Result (List ℕ) DeError
 all bytes = Ok bytes
 
 -- a span is never refused
-pub span_lent : (s : List ℕ) (u : Message ℕ (List ℕ)) (e : DeError) → Spells s u → frame_at (lent_message same) s ≡ Err e → ⊥
+pub span_lent : (s : List ℕ) (u : Message ℕ (List ℕ)) (e : DeError) → Spells s u
+    → frame_at (lent_message same) s ≡ Err e → ⊥
 span_lent s u e is refused = by (frame_at untyped_layout s) (owned-refused same same all s e refused) is
   where
     by : (r : Result (Message ℕ (List ℕ) × List ℕ) DeError) → IsErr r → r ≡ Ok (u, []) → ⊥
@@ -33,7 +34,8 @@ span_lent s u e is refused = by (frame_at untyped_layout s) (owned-refused same 
     by (Err d) h is = cc
 
 -- what is lent becomes what the span says
-pub span_owned : (s r : List ℕ) (m : Lent ℕ) (u : Message ℕ (List ℕ)) → frame_at (lent_message same) s ≡ Ok (m, r) → Spells s u → as_owned same same all m ≡ Ok u
+pub span_owned : (s r : List ℕ) (m : Lent ℕ) (u : Message ℕ (List ℕ)) → frame_at (lent_message same) s ≡ Ok (m, r)
+    → Spells s u → as_owned same same all m ≡ Ok u
 span_owned s r m u lent is =
     let b = bind_ok (as_owned same same all m) _ (u, []) (sym (owned-read same same all s r m lent) ∙ is) in
     let first : Message ℕ (List ℕ) × List ℕ → Message ℕ (List ℕ) = λ p. p.0 in
@@ -48,13 +50,16 @@ payload_same (payload.DumpExtAck e) = refl
 payload_same payload.Empty = refl
 
 -- the owned message is what the span says
-pub span_message : (s r : List ℕ) (m : Lent ℕ) (w : Nlmsghdr ℕ (List ℕ)) → frame_at (lent_message same) s ≡ Ok (m, r) → as_owned same same all m ≡ Ok (message_of (λ b. b) w)
+pub span_message : (s r : List ℕ) (m : Lent ℕ) (w : Nlmsghdr ℕ (List ℕ)) → frame_at (lent_message same) s ≡ Ok (m, r)
+    → as_owned same same all m ≡ Ok (message_of (λ b. b) w)
     → (u : Message ℕ (List ℕ)) → Spells s u → u ≡ (w.header, w.payload)
 span_message s r m w lent owned u is =
-    ok_is u (message_of (λ b. b) w) (sym (span_owned s r m u lent is) ∙ owned) ∙ ap (λ (p : NlPayload ℕ (List ℕ)). (w.header, p)) (payload_same w.payload)
+    ok_is u (message_of (λ b. b) w) (sym (span_owned s r m u lent is) ∙ owned)
+        ∙ ap (λ (p : NlPayload ℕ (List ℕ)). (w.header, p)) (payload_same w.payload)
 
 -- a body is its bytes
-pub span_body : (s r : List ℕ) (m : Lent ℕ) → frame_at (lent_message same) s ≡ Ok (m, r) → as_owned same same all m ≡ Ok (m.0, payload.Payload m.1)
+pub span_body : (s r : List ℕ) (m : Lent ℕ) → frame_at (lent_message same) s ≡ Ok (m, r)
+    → as_owned same same all m ≡ Ok (m.0, payload.Payload m.1)
     → (u : Message ℕ (List ℕ)) → Spells s u → u ≡ (m.0, payload.Payload m.1)
 span_body s r m lent body u is = ok_is u (m.0, payload.Payload m.1) (sym (span_owned s r m u lent is) ∙ body)
 

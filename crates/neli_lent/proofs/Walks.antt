@@ -18,13 +18,17 @@ use Rattle.neli_lent.specs.Messages.{Lent, lent_message, messages_in}
 
 module _ {A B : Type 0} (f : A → B) where
   -- the first item of what was left, and the items of what is left
-  pub yields-first : (r : Option (Result A DeError)) (old new : Cut B) → old ≡ cut_with (map_item f r) new → (IsNone r → new ≡ ([], None)) → IfSome r (λ item. OnErr item (new ≡ ([], None))) → MatchOption r ((items_of old ≡ []) × (items_of new ≡ [])) (λ x. items_of old ≡ map_ok f x ∷ items_of new)
+  pub yields-first : (r : Option (Result A DeError)) (old new : Cut B) → old ≡ cut_with (map_item f r) new
+      → (IsNone r → new ≡ ([], None)) → IfSome r (λ item. OnErr item (new ≡ ([], None)))
+      → MatchOption r ((items_of old ≡ []) × (items_of new ≡ [])) (λ x. items_of old ≡ map_ok f x ∷ items_of new)
   yields-first None old new is end fault = (ap items_of is, ap items_of (end refl))
   yields-first (Some (Ok a)) old new is end fault = ap items_of is
   yields-first (Some (Err e)) old new is end fault = ap items_of is ∙ sym (ap (λ (c : Cut B). Err e ∷ items_of c) fault)
 
   -- and so an item makes them fewer
-  pub makes-progress : (r : Option (Result A DeError)) (old new : Cut B) → MatchOption r ((items_of old ≡ []) × (items_of new ≡ [])) (λ x. items_of old ≡ map_ok f x ∷ items_of new) → OnSome r (length (items_of new) < length (items_of old))
+  pub makes-progress : (r : Option (Result A DeError)) (old new : Cut B)
+      → MatchOption r ((items_of old ≡ []) × (items_of new ≡ [])) (λ x. items_of old ≡ map_ok f x ∷ items_of new)
+      → OnSome r (length (items_of new) < length (items_of old))
   makes-progress None old new is = tt
   makes-progress (Some x) old new is = omega (arith, ap length is)
 
@@ -40,11 +44,13 @@ module _ {K : Type 0} (type_of : ℕ → K) where
   unfolding messages_in
   messages-end s e = rw e (cut_of-end (lent_message type_of) (layout_with-placed type_of _) (omega arith))
 
-  pub messages-message : (s r : List ℕ) (m : Lent K) → frame_at (lent_message type_of) s ≡ Ok (m, r) → messages_in type_of s ≡ message_before m (messages_in type_of r)
+  pub messages-message : (s r : List ℕ) (m : Lent K) → frame_at (lent_message type_of) s ≡ Ok (m, r)
+      → messages_in type_of s ≡ message_before m (messages_in type_of r)
   unfolding messages_in
   messages-message = cut_of-message (lent_message type_of) (layout_with-placed type_of _) (omega arith)
 
-  pub messages-fault : (s : List ℕ) (e : DeError) → s ≢ [] → frame_at (lent_message type_of) s ≡ Err e → messages_in type_of s ≡ ([], Some e)
+  pub messages-fault : (s : List ℕ) (e : DeError) → s ≢ [] → frame_at (lent_message type_of) s ≡ Err e
+      → messages_in type_of s ≡ ([], Some e)
   unfolding messages_in
   messages-fault = cut_of-fault (lent_message type_of) (layout_with-placed type_of _) (omega arith)
 
@@ -57,18 +63,26 @@ module _ {K : Type 0} (kind_of : ℕ → K) where
   pub attributes-end : (place : Place) → place.rest ≡ [] → attributes_at kind_of place ≡ ([], None)
   unfolding attributes_at
   attributes-end place e =
-      let none : cut_of (lent_attribute kind_of) place.rest ≡ ([], None) = rw e (cut_of-end (lent_attribute kind_of) (attribute-placed kind_of _) (omega arith)) in
+      let none : cut_of (lent_attribute kind_of) place.rest ≡ ([], None) =
+          rw e (cut_of-end (lent_attribute kind_of) (attribute-placed kind_of _) (omega arith)) in
       ap (within (length (whole place))) none
 
-  pub attributes-attribute : (place next : Place) (a : Attr K (List ℕ)) → frame_at (lent_attribute kind_of) place.rest ≡ Ok (a, next.rest) → whole next ≡ whole place → attributes_at kind_of place ≡ message_before a (attributes_at kind_of next)
+  pub attributes-attribute : (place next : Place) (a : Attr K (List ℕ))
+      → frame_at (lent_attribute kind_of) place.rest ≡ Ok (a, next.rest) → whole next ≡ whole place
+      → attributes_at kind_of place ≡ message_before a (attributes_at kind_of next)
   unfolding attributes_at
   attributes-attribute place next a e same =
-      rw same (ap (within (length (whole place))) (cut_of-message (lent_attribute kind_of) (attribute-placed kind_of _) (omega arith) place.rest next.rest a e))
+      rw same (ap (within (length (whole place))) (cut_of-message (lent_attribute kind_of) (attribute-placed kind_of _)
+          (omega arith) place.rest next.rest a e))
 
-  pub attributes-fault : (place : Place) (e : DeError) → place.rest ≢ [] → frame_at (lent_attribute kind_of) place.rest ≡ Err e → attributes_at kind_of place ≡ ([], Some (refusal_within (length (whole place)) e))
+  pub attributes-fault : (place : Place) (e : DeError) → place.rest ≢ []
+      → frame_at (lent_attribute kind_of) place.rest ≡ Err e
+      → attributes_at kind_of place ≡ ([], Some (refusal_within (length (whole place)) e))
   unfolding attributes_at
   attributes-fault place e any is =
-      ap (within (length (whole place))) (cut_of-fault (lent_attribute kind_of) (attribute-placed kind_of _) (omega arith) place.rest e any is)
+      ap (within (length (whole place))) (cut_of-fault (lent_attribute kind_of) (attribute-placed kind_of _)
+          (omega arith) place.rest e any is)
 
-  pub attribute-longer : (s r : List ℕ) (a : Attr K (List ℕ)) → frame_at (lent_attribute kind_of) s ≡ Ok (a, r) → length r + 4 ≤ length s
+  pub attribute-longer : (s r : List ℕ) (a : Attr K (List ℕ)) → frame_at (lent_attribute kind_of) s ≡ Ok (a, r)
+      → length r + 4 ≤ length s
   attribute-longer = frame_at-longer (lent_attribute kind_of) (attribute-placed kind_of _) (omega arith)

@@ -29,12 +29,14 @@ messages_in type_of s = cut_of (lent_message type_of) s
 -- ---- as an owned message
 
 -- what one says as an owned message, its payload read by its kind and a body as `read` does; or that refusal
-abbrev pub as_owned : {K V : Type 0} → (ℕ → K) → (K → ℕ) → (List ℕ → Result V DeError) → Lent K → Result (Message K V) DeError
+abbrev pub as_owned : {K V : Type 0} → (ℕ → K) → (K → ℕ) → (List ℕ → Result V DeError) → Lent K
+    → Result (Message K V) DeError
 as_owned type_of number_of read m =
     payload_in type_of read (number_of m.0.message_type) m.0.flags m.1 >>= λ p. Ok (m.0, p)
 
 -- the same as a reading, where r follows the message
-abbrev pub owned_reading : {K V : Type 0} → (ℕ → K) → (K → ℕ) → (List ℕ → Result V DeError) → Lent K → List ℕ → Reading (Message K V)
+abbrev pub owned_reading : {K V : Type 0} → (ℕ → K) → (K → ℕ) → (List ℕ → Result V DeError) → Lent K → List ℕ
+    → Reading (Message K V)
 owned_reading type_of number_of read m r = as_owned type_of number_of read m >>= λ owned. Ok (owned, r)
 
 -- where reading that payload takes memory

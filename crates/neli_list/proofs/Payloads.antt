@@ -15,12 +15,14 @@ with_rest-err : {V : Type 0} (rest : List ℕ) (r : Result V DeError) (e : DeErr
 with_rest-err rest (Ok v) e h = absurd cc
 with_rest-err rest (Err d) e h = ap (λ (x : DeError). Err x) cc
 
-module _ {R V : Type 0} (r : Result R DeError) (read : List ℕ → Result V DeError) (n : ℕ) (at s : List ℕ) (is : at ≡ s) (len : n ≡ length s) where
+module _ {R V : Type 0} (r : Result R DeError) (read : List ℕ
+    → Result V DeError) (n : ℕ) (at s : List ℕ) (is : at ≡ s) (len : n ≡ length s) where
 
       all : take n at ≡ s
       all = ap (take n) is ∙ take_all n s (omega arith)
 
-      by : (r : Result R DeError) → IfErr r (Refuses (exact_reading read n at) (exact_takes_memory takes n at)) → IfErr r (Refuses (read s) (takes s))
+      by : (r : Result R DeError) → IfErr r (Refuses (exact_reading read n at) (exact_takes_memory takes n at))
+          → IfErr r (Refuses (read s) (takes s))
       by (Ok x) h = h
       by (Err (Msg m)) h = with_rest-err (drop n s) (read s) (Msg m) (same ∙ h)
       by (Err (Io k)) h = with_rest-err (drop n s) (read s) (Io k) (same ∙ h)

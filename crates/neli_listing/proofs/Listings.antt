@@ -31,7 +31,8 @@ use Rattle.neli_listing.specs.Listing.{BeginsWith, GoesOnAfter, IsLineOf, Lists,
 end_at : (s : List ℕ) → s ≡ [] → raw_cut s ≡ ([], None)
 end_at s none = rw none (cut_of-end untyped_layout (layout_with-placed (λ n. n) _) (omega arith))
 
-message_at : (s later : List ℕ) (m : Raw) → frame_at untyped_layout s ≡ Ok (m, later) → raw_cut s ≡ message_before m (raw_cut later)
+message_at : (s later : List ℕ) (m : Raw) → frame_at untyped_layout s ≡ Ok (m, later)
+    → raw_cut s ≡ message_before m (raw_cut later)
 message_at = cut_of-message untyped_layout (layout_with-placed (λ n. n) _) (omega arith)
 
 fault_at : (s : List ℕ) (e : DeError) → s ≢ [] → frame_at untyped_layout s ≡ Err e → raw_cut s ≡ ([], Some e)
@@ -48,26 +49,34 @@ pub record IsListed (bytes lines left : List ℕ) : Type 0 where
 one_line : (m : Raw) → lines_of (m ∷ []) ≡ line_of m ++ codes "\n"
 one_line m = append-nil (line_of m ++ codes "\n")
 
-pub listed_more : (bytes lines left later line : List ℕ) (m : Raw) → IsListed bytes lines left → raw_cut left ≡ message_before m (raw_cut later) → line ≡ line_of m ++ codes "\n" → IsListed bytes (lines ++ line) later
+pub listed_more : (bytes lines left later line : List ℕ) (m : Raw) → IsListed bytes lines left
+    → raw_cut left ≡ message_before m (raw_cut later) → line ≡ line_of m ++ codes "\n"
+    → IsListed bytes (lines ++ line) later
 listed_more bytes lines left later line m is next ended = record {
   messages = is.messages ++ m ∷ [];
-  so_far = is.so_far ∙ ap (messages_before is.messages) next ∙ ap (λ (xs : List Raw). (xs, (raw_cut later).1)) (sym (append_assoc is.messages (m ∷ []) (raw_cut later).0));
-  made = ap (λ (xs : List ℕ). xs ++ line) is.made ∙ ap (λ (xs : List ℕ). lines_of is.messages ++ xs) (ended ∙ sym (one_line m)) ∙ sym (flat_map-append (λ (x : Raw). line_of x ++ codes "\n") is.messages (m ∷ []));
+  so_far = is.so_far ∙ ap (messages_before is.messages) next
+      ∙ ap (λ (xs : List Raw). (xs, (raw_cut later).1)) (sym (append_assoc is.messages (m ∷ []) (raw_cut later).0));
+  made = ap (λ (xs : List ℕ). xs ++ line) is.made ∙ ap (λ (xs : List ℕ). lines_of is.messages ++ xs) (ended
+      ∙ sym (one_line m)) ∙ sym (flat_map-append (λ (x : Raw). line_of x ++ codes "\n") is.messages (m ∷ []));
 }
 
-whole_cut : (bytes lines left : List ℕ) (f : Option DeError) (is : IsListed bytes lines left) → raw_cut left ≡ ([], f) → raw_cut bytes ≡ (is.messages, f)
+whole_cut : (bytes lines left : List ℕ) (f : Option DeError) (is : IsListed bytes lines left) → raw_cut left ≡ ([], f)
+    → raw_cut bytes ≡ (is.messages, f)
 whole_cut bytes lines left f is end =
     is.so_far ∙ ap (messages_before is.messages) end ∙ ap (λ (xs : List Raw). (xs, f)) (append-nil is.messages)
 
-lines_are : (bytes lines left : List ℕ) (f : Option DeError) → IsListed bytes lines left → raw_cut left ≡ ([], f) → lines ≡ lines_of (raw_cut bytes).0
+lines_are : (bytes lines left : List ℕ) (f : Option DeError) → IsListed bytes lines left → raw_cut left ≡ ([], f)
+    → lines ≡ lines_of (raw_cut bytes).0
 lines_are bytes lines left f is end =
     is.made ∙ sym (ap (λ (c : Cut Raw). lines_of c.0) (whole_cut bytes lines left f is end))
 
-fault_is : (bytes lines left : List ℕ) (f : Option DeError) → IsListed bytes lines left → raw_cut left ≡ ([], f) → ending_of f ≡ ending_of (raw_cut bytes).1
+fault_is : (bytes lines left : List ℕ) (f : Option DeError) → IsListed bytes lines left → raw_cut left ≡ ([], f)
+    → ending_of f ≡ ending_of (raw_cut bytes).1
 fault_is bytes lines left f is end =
     sym (ap (λ (c : Cut Raw). ending_of c.1) (whole_cut bytes lines left f is end))
 
-lists : (bytes lines : List ℕ) (e : Ending) → e ≢ Memory → (lines ≡ lines_of (raw_cut bytes).0) × (e ≡ ending_of (raw_cut bytes).1) → Lists bytes lines e
+lists : (bytes lines : List ℕ) (e : Ending) → e ≢ Memory
+    → (lines ≡ lines_of (raw_cut bytes).0) × (e ≡ ending_of (raw_cut bytes).1) → Lists bytes lines e
 lists bytes lines Whole other h = h
 lists bytes lines (Input n) other h = h
 lists bytes lines Short other h = h
@@ -75,15 +84,19 @@ lists bytes lines Other other h = h
 lists bytes lines Tail other h = h
 lists bytes lines Memory other h = absurd (other refl)
 
-pub listed_end : (bytes lines left : List ℕ) → IsListed bytes lines left → raw_cut left ≡ ([], None) → Lists bytes lines Whole
+pub listed_end : (bytes lines left : List ℕ) → IsListed bytes lines left → raw_cut left ≡ ([], None)
+    → Lists bytes lines Whole
 listed_end bytes lines left is end = (lines_are bytes lines left None is end, fault_is bytes lines left None is end)
 
-pub listed_fault : (bytes lines left : List ℕ) (e : DeError) → IsListed bytes lines left → raw_cut left ≡ ([], Some e) → ending_of (Some e) ≢ Memory → Lists bytes lines (ending_of (Some e))
+pub listed_fault : (bytes lines left : List ℕ) (e : DeError) → IsListed bytes lines left → raw_cut left ≡ ([], Some e)
+    → ending_of (Some e) ≢ Memory → Lists bytes lines (ending_of (Some e))
 listed_fault bytes lines left e is end other =
-    lists bytes lines (ending_of (Some e)) other (lines_are bytes lines left (Some e) is end, fault_is bytes lines left (Some e) is end)
+    lists bytes lines (ending_of (Some e)) other (lines_are bytes lines left (Some e) is end,
+        fault_is bytes lines left (Some e) is end)
 
 -- what is not empty has a message or a fault
-not_done : (b : List ℕ) (ms : List Raw) (f : Option DeError) → Cuts untyped_layout b ms f → b ≢ [] → GoesOnAfter 0 (ms, f)
+not_done : (b : List ℕ) (ms : List Raw) (f : Option DeError) → Cuts untyped_layout b ms f → b ≢ []
+    → GoesOnAfter 0 (ms, f)
 not_done b (m ∷ ms) f cuts some = inl (omega (arith))
 not_done b [] (Some e) cuts some = inr (λ h. cc)
 not_done b [] None cuts some = absurd (some (cuts.2 ∙ rw (cuts.3, cuts.4) refl))
@@ -94,9 +107,13 @@ goes_on ms c (inr fault) = inr fault
 
 pub listed_memory : (bytes lines left : List ℕ) → IsListed bytes lines left → left ≢ [] → Lists bytes lines Memory
 listed_memory bytes lines left is some =
-    let front : take (length is.messages) (raw_cut bytes).0 ≡ is.messages = ap (λ (c : Cut Raw). take (length is.messages) c.0) is.so_far ∙ take_at is.messages (raw_cut left).0 (length is.messages) refl in
-    let later = not_done left (raw_cut left).0 (raw_cut left).1 (cut_of-Cuts untyped_layout (layout_with-placed (λ n. n) _) (omega arith) left) some in
-    (length is.messages, subst (GoesOnAfter (length is.messages)) (sym is.so_far) (goes_on is.messages (raw_cut left) later), is.made ∙ sym (ap lines_of front))
+    let front : take (length is.messages) (raw_cut bytes).0 ≡ is.messages =
+        ap (λ (c : Cut Raw). take (length is.messages) c.0) is.so_far
+        ∙ take_at is.messages (raw_cut left).0 (length is.messages) refl in
+    let later = not_done left (raw_cut left).0 (raw_cut left).1
+        (cut_of-Cuts untyped_layout (layout_with-placed (λ n. n) _) (omega arith) left) some in
+    (length is.messages, subst (GoesOnAfter (length is.messages)) (sym is.so_far)
+        (goes_on is.messages (raw_cut left) later), is.made ∙ sym (ap lines_of front))
 
 named : (e : DeError) → ending_of (Some e) ≢ Memory
 named (de.InvalidInput n) h = cc
@@ -110,26 +127,35 @@ named (de.Io k) h = io k h
     io kind h = cc
 
 -- a line is refused with this
-pub listed_error : (bytes lines left : List ℕ) (e : DeError) → IsListed bytes lines left → left ≢ [] → Refuses (frame_at untyped_layout left) ⊤ e → Lists bytes lines (ending_by e)
+pub listed_error : (bytes lines left : List ℕ) (e : DeError) → IsListed bytes lines left → left ≢ []
+    → Refuses (frame_at untyped_layout left) ⊤ e → Lists bytes lines (ending_by e)
 listed_error bytes lines left de.Memory is some refused = listed_memory bytes lines left is some
-listed_error bytes lines left (de.InvalidInput n) is some refused = listed_fault bytes lines left (de.InvalidInput n) is (fault_at left (de.InvalidInput n) some refused) (named (de.InvalidInput n))
-listed_error bytes lines left (de.Msg m) is some refused = listed_fault bytes lines left (de.Msg m) is (fault_at left (de.Msg m) some refused) (named (de.Msg m))
-listed_error bytes lines left (de.Utf8 u) is some refused = listed_fault bytes lines left (de.Utf8 u) is (fault_at left (de.Utf8 u) some refused) (named (de.Utf8 u))
-listed_error bytes lines left (de.Io k) is some refused = listed_fault bytes lines left (de.Io k) is (fault_at left (de.Io k) some refused) (named (de.Io k))
+listed_error bytes lines left (de.InvalidInput n) is some refused =
+    listed_fault bytes lines left (de.InvalidInput n) is (fault_at left (de.InvalidInput n) some refused)
+    (named (de.InvalidInput n))
+listed_error bytes lines left (de.Msg m) is some refused =
+    listed_fault bytes lines left (de.Msg m) is (fault_at left (de.Msg m) some refused) (named (de.Msg m))
+listed_error bytes lines left (de.Utf8 u) is some refused =
+    listed_fault bytes lines left (de.Utf8 u) is (fault_at left (de.Utf8 u) some refused) (named (de.Utf8 u))
+listed_error bytes lines left (de.Io k) is some refused =
+    listed_fault bytes lines left (de.Io k) is (fault_at left (de.Io k) some refused) (named (de.Io k))
 
 -- ---- a line that is read
 
 -- a message that is neither an error nor the end of a dump carries a body
-pub body_line : (h : Header ℕ) (bytes : List ℕ) → nat_eq h.message_type 2 ≡ false → nat_eq h.message_type 3 ≡ false → as_owned (λ n. n) (λ n. n) (λ b. Ok b) (h, bytes) ≡ Ok (h, payload.Payload bytes)
+pub body_line : (h : Header ℕ) (bytes : List ℕ) → nat_eq h.message_type 2 ≡ false → nat_eq h.message_type 3 ≡ false
+    → as_owned (λ n. n) (λ n. n) (λ b. Ok b) (h, bytes) ≡ Ok (h, payload.Payload bytes)
 body_line h bytes error done = rw (error, done) refl
 
 abbrev then_left : Result Raw DeError → List ℕ → Reading Raw
 then_left r left = r >>= λ m. Ok (m, left)
 
 -- where it is lent, its line is that of the message that is read
-pub lent_begins : (s left : List ℕ) (m : Lent ℕ) (line : Line) → frame_at (lent_message (λ n. n)) s ≡ Ok (m, left) → IsLineOf (as_owned (λ n. n) (λ n. n) (λ b. Ok b) m) line → BeginsWith s line left
+pub lent_begins : (s left : List ℕ) (m : Lent ℕ) (line : Line) → frame_at (lent_message (λ n. n)) s ≡ Ok (m, left)
+    → IsLineOf (as_owned (λ n. n) (λ n. n) (λ b. Ok b) m) line → BeginsWith s line left
 lent_begins s left m line lent is =
-    (is.0, owned-read (λ n. n) (λ n. n) (λ b. Ok b) s left m lent ∙ ap (λ (r : Result Raw DeError). then_left r left) is.1, is.2)
+    (is.0, owned-read (λ n. n) (λ n. n) (λ b. Ok b) s left m lent
+        ∙ ap (λ (r : Result Raw DeError). then_left r left) is.1, is.2)
 
 refused_then : (r : Result Raw DeError) (left : List ℕ) (e : DeError) → Refuses r ⊤ e → Refuses (then_left r left) ⊤ e
 refused_then r left de.Memory h = h
@@ -139,10 +165,13 @@ refused_then r left (de.Utf8 u) h = ap (λ (x : Result Raw DeError). then_left x
 refused_then r left (de.Io k) h = ap (λ (x : Result Raw DeError). then_left x left) h
 
 -- and so is its refusal
-pub lent_refused : {A : Type 0} (r : Result A DeError) (s left : List ℕ) (m : Lent ℕ) (e : DeError) → IsErrAnd r (λ d. d ≡ e) → frame_at (lent_message (λ n. n)) s ≡ Ok (m, left) → Refuses (as_owned (λ n. n) (λ n. n) (λ b. Ok b) m) ⊤ e → IfErr r (Refuses (frame_at untyped_layout s) ⊤)
+pub lent_refused : {A : Type 0} (r : Result A DeError) (s left : List ℕ) (m : Lent ℕ) (e : DeError)
+    → IsErrAnd r (λ d. d ≡ e) → frame_at (lent_message (λ n. n)) s ≡ Ok (m, left)
+    → Refuses (as_owned (λ n. n) (λ n. n) (λ b. Ok b) m) ⊤ e → IfErr r (Refuses (frame_at untyped_layout s) ⊤)
 lent_refused (Ok x) s left m e is lent h = tt
 lent_refused (Err d) s left m e is lent h =
-    let here = subst (λ (x : Reading Raw). Refuses x ⊤ e) (sym (owned-read (λ n. n) (λ n. n) (λ b. Ok b) s left m lent)) (refused_then (as_owned (λ n. n) (λ n. n) (λ b. Ok b) m) left e h) in
+    let here = subst (λ (x : Reading Raw). Refuses x ⊤ e) (sym (owned-read (λ n. n) (λ n. n) (λ b. Ok b) s left m lent))
+        (refused_then (as_owned (λ n. n) (λ n. n) (λ b. Ok b) m) left e h) in
     subst (λ (x : DeError). Refuses (frame_at untyped_layout s) ⊤ x) (sym is) here
 
 -- ---- lines that are written as they are made
@@ -153,23 +182,32 @@ pub record IsPrinted (bytes : List ℕ) (old now : Option (List ℕ)) (left : Li
   pub gained : Appends old now lines
   pub listed : IsListed bytes lines left
 
-pub printed_more : (bytes : List ℕ) (old now next : Option (List ℕ)) (left later : List ℕ) (line : Line) → IsPrinted bytes old now left → BeginsWith left line later → Appends now next (line_text line ++ codes "\n") → IsPrinted bytes old next later
+pub printed_more : (bytes : List ℕ) (old now next : Option (List ℕ)) (left later : List ℕ) (line : Line)
+    → IsPrinted bytes old now left → BeginsWith left line later → Appends now next (line_text line ++ codes "\n")
+    → IsPrinted bytes old next later
 printed_more bytes old now next left later line is begins gains = record {
   lines = is.lines ++ (line_text line ++ codes "\n");
   gained = appends_more old now next is.lines (line_text line ++ codes "\n") is.gained gains;
-  listed = listed_more bytes is.lines left later (line_text line ++ codes "\n") begins.0 is.listed (message_at left later begins.0 begins.1) (ap (λ (l : Line). line_text l ++ codes "\n") begins.2);
+  listed = listed_more bytes is.lines left later (line_text line ++ codes "\n") begins.0 is.listed
+      (message_at left later begins.0 begins.1) (ap (λ (l : Line). line_text l ++ codes "\n") begins.2);
 }
 
 -- how they end
 abbrev pub Listed : List ℕ → Option (List ℕ) → Option (List ℕ) → Ending → Type 0
 Listed bytes old now e = (lines : List ℕ) × Lists bytes lines e × Appends old now lines
 
-pub printed_end : (bytes : List ℕ) (old now : Option (List ℕ)) (left : List ℕ) → IsPrinted bytes old now left → left ≡ [] → Listed bytes old now Whole
-printed_end bytes old now left is none = (is.lines, listed_end bytes is.lines left is.listed (end_at left none), is.gained)
+pub printed_end : (bytes : List ℕ) (old now : Option (List ℕ)) (left : List ℕ) → IsPrinted bytes old now left
+    → left ≡ [] → Listed bytes old now Whole
+printed_end bytes old now left is none = (is.lines, listed_end bytes is.lines left is.listed (end_at left none),
+    is.gained)
 
-pub printed_error : (bytes : List ℕ) (old now : Option (List ℕ)) (left : List ℕ) (e : DeError) → IsPrinted bytes old now left → left ≢ [] → Refuses (frame_at untyped_layout left) ⊤ e → Listed bytes old now (ending_by e)
-printed_error bytes old now left e is some refused = (is.lines, listed_error bytes is.lines left e is.listed some refused, is.gained)
+pub printed_error : (bytes : List ℕ) (old now : Option (List ℕ)) (left : List ℕ) (e : DeError)
+    → IsPrinted bytes old now left → left ≢ [] → Refuses (frame_at untyped_layout left) ⊤ e
+    → Listed bytes old now (ending_by e)
+printed_error bytes old now left e is some refused = (is.lines,
+    listed_error bytes is.lines left e is.listed some refused, is.gained)
 
 -- a message that begins what is left makes it shorter
 pub line_shorter : (left later : List ℕ) (line : Line) → BeginsWith left line later → length later < length left
-line_shorter left later line begins = omega (arith, frame_at-longer untyped_layout (layout_with-placed (λ n. n) _) (omega arith) left later begins.0 begins.1)
+line_shorter left later line begins = omega (arith, frame_at-longer untyped_layout (layout_with-placed (λ n. n) _)
+    (omega arith) left later begins.0 begins.1)

@@ -24,7 +24,8 @@ ending-named b ms (Some e) c h = message-named c.1 e c.4.1 h
 
 -- a listing ends in one of the ways that have a line
 pub listed-named : (bytes lines : List ℕ) (e : Ending) → Lists bytes lines e → e ≢ Other
-listed-named bytes lines Other l h = ending-named bytes (raw_cut bytes).0 (raw_cut bytes).1 (cut_of-Cuts untyped_layout (layout_with-placed (λ n. n) _) (omega arith) bytes) (sym l.1)
+listed-named bytes lines Other l h = ending-named bytes (raw_cut bytes).0 (raw_cut bytes).1
+    (cut_of-Cuts untyped_layout (layout_with-placed (λ n. n) _) (omega arith) bytes) (sym l.1)
 listed-named bytes lines Whole l h = cc
 listed-named bytes lines (Input n) l h = cc
 listed-named bytes lines Short l h = cc

@@ -37,7 +37,8 @@ seen = message_of (λ (b : List ℕ). b)
 abbrev held_wire : Held → Wire
 held_wire = message_wire (λ (n : ℕ). n) (λ (b : List ℕ). Ok b)
 
-same_wire : (h : Header ℕ) (p : NlPayload ℕ (List ℕ)) → untyped_wire (seen (record { header = h; payload = p })) ≡ held_wire (record { header = h; payload = p })
+same_wire : (h : Header ℕ) (p : NlPayload ℕ (List ℕ)) → untyped_wire (seen (record { header = h; payload = p }))
+    ≡ held_wire (record { header = h; payload = p })
 same_wire h (payload.Payload b) = refl
 same_wire h (payload.Err e) = refl
 same_wire h (payload.Ack e) = refl
@@ -60,30 +61,41 @@ written_is a b e = cc
 
 all_unmap : {A B : Type 0} (P : B → Type 0) (f : A → B) (xs : List A) → All P (map f xs) → All (λ x. P (f x)) xs
 all_unmap P f [] each = All-nil (λ x. P (f x))
-all_unmap P f (x ∷ xs) each = All-cons (λ y. P (f y)) x xs (All-head P (f x) (map f xs) each) (all_unmap P f xs (All-tail P (f x) (map f xs) each))
+all_unmap P f (x ∷ xs) each = All-cons (λ y. P (f y)) x xs (All-head P (f x) (map f xs) each)
+    (all_unmap P f xs (All-tail P (f x) (map f xs) each))
 
 -- the datagram has no fault
-pub no_fault : (bytes : List ℕ) (items : List Held) (f : Option DeError) → raw_cut bytes ≡ (map seen items, f) → ((e : DeError) → f ≡ Some e → ⊥) → raw_cut bytes ≡ (map seen items, None)
+pub no_fault : (bytes : List ℕ) (items : List Held) (f : Option DeError) → raw_cut bytes ≡ (map seen items, f)
+    → ((e : DeError) → f ≡ Some e → ⊥) → raw_cut bytes ≡ (map seen items, None)
 no_fault bytes items None cut none = cut
 no_fault bytes items (Some e) cut none = absurd (none e refl)
 
 -- all was read, and is written
-pub rewritten : (bytes old written : List ℕ) (items : List Held) → ((i : ℕ) → Fits w8 (slice_index bytes i)) → raw_cut bytes ≡ (map seen items, None) → All (λ m. HasNoTail (seen m)) items → old ≡ [] → append_wire old (wire_all held_wire items) ≡ Ok written → Rewrites bytes written Whole
+pub rewritten : (bytes old written : List ℕ) (items : List Held) → ((i : ℕ) → Fits w8 (slice_index bytes i))
+    → raw_cut bytes ≡ (map seen items, None) → All (λ m. HasNoTail (seen m)) items → old ≡ []
+    → append_wire old (wire_all held_wire items) ≡ Ok written → Rewrites bytes written Whole
 rewritten bytes old written items fits cut whole none writes =
     let small : AreBytes bytes = λ i. (fits i).fits in
     let tails : All HasNoTail (map seen items) = All-map HasNoTail seen items whole in
-    let found : Cuts untyped_layout bytes (raw_cut bytes).0 (raw_cut bytes).1 = cut_of-Cuts untyped_layout (layout_with-placed (λ n. n) _) (omega arith) bytes in
-    let cuts : Cuts untyped_layout bytes (map seen items) None = subst (λ (c : Cut Raw). Cuts untyped_layout bytes c.0 c.1) cut found in
-    let law : untyped_wires (map seen items) ≡ Ok (datagram_zeroed bytes) = datagram-back bytes (map seen items) small (whole_frames untyped_layout bytes (map seen items) cuts) tails in
-    let wires : wire_all held_wire items ≡ Ok written = after_nothing (wire_all held_wire items) written (ap (λ (x : List ℕ). append_wire x (wire_all held_wire items)) (sym none) ∙ writes) in
-    let is : written ≡ datagram_zeroed bytes = written_is written (datagram_zeroed bytes) (sym wires ∙ sym (same_wires items) ∙ law) in (
+    let found : Cuts untyped_layout bytes (raw_cut bytes).0 (raw_cut bytes).1 =
+        cut_of-Cuts untyped_layout (layout_with-placed (λ n. n) _) (omega arith) bytes in
+    let cuts : Cuts untyped_layout bytes (map seen items) None =
+        subst (λ (c : Cut Raw). Cuts untyped_layout bytes c.0 c.1) cut found in
+    let law : untyped_wires (map seen items) ≡ Ok (datagram_zeroed bytes) =
+        datagram-back bytes (map seen items) small (whole_frames untyped_layout bytes (map seen items) cuts) tails in
+    let wires : wire_all held_wire items ≡ Ok written =
+        after_nothing (wire_all held_wire items) written
+        (ap (λ (x : List ℕ). append_wire x (wire_all held_wire items)) (sym none) ∙ writes) in
+    let is : written ≡ datagram_zeroed bytes = written_is written (datagram_zeroed bytes) (sym wires
+        ∙ sym (same_wires items) ∙ law) in (
       ap (λ (c : Cut Raw). c.1) cut,
       subst (λ (c : Cut Raw). All HasNoTail c.0) (sym cut) tails,
       is,
     )
 
 -- a message has a tail
-pub has_tail : (bytes old : List ℕ) (items : List Held) → old ≡ [] → raw_cut bytes ≡ (map seen items, None) → ¬ All (λ m. HasNoTail (seen m)) items → Rewrites bytes old Tail
+pub has_tail : (bytes old : List ℕ) (items : List Held) → old ≡ [] → raw_cut bytes ≡ (map seen items, None)
+    → ¬ All (λ m. HasNoTail (seen m)) items → Rewrites bytes old Tail
 has_tail bytes old items none cut tail = (
   ap (λ (c : Cut Raw). c.1) cut,
   subst (λ (c : Cut Raw). ¬ All HasNoTail c.0) (sym cut) (λ whole. tail (all_unmap HasNoTail seen items whole)),
@@ -91,7 +103,8 @@ has_tail bytes old items none cut tail = (
 )
 
 -- a fault ends a text with a line of its own
-only_faults : (P : Ending → Type 0) → ((n : ℕ) → P (Input n)) → P Short → P Other → (f : DeError) → P (ending_of (Some f))
+only_faults : (P : Ending → Type 0) → ((n : ℕ) → P (Input n)) → P Short → P Other → (f : DeError)
+    → P (ending_of (Some f))
 only_faults P input short other (de.InvalidInput n) = input n
 only_faults P input short other (de.Msg m) = other
 only_faults P input short other (de.Utf8 u) = other
@@ -103,7 +116,8 @@ only_faults P input short other (de.Io k) = io k
     io kind = other
 
 -- the datagram has a fault
-pub has_fault : (bytes : List ℕ) (ms : List Raw) (f : DeError) → raw_cut bytes ≡ (ms, Some f) → Rewrites bytes [] (ending_of (Some f))
+pub has_fault : (bytes : List ℕ) (ms : List Raw) (f : DeError) → raw_cut bytes ≡ (ms, Some f)
+    → Rewrites bytes [] (ending_of (Some f))
 has_fault bytes ms f cut =
     only_faults (λ e. e ≡ ending_of (raw_cut bytes).1 → Rewrites bytes [] e)
     (λ n is. (some, is, refl)) (λ is. (some, is, refl)) (λ is. (some, is, refl))

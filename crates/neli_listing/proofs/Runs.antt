@@ -9,7 +9,8 @@ use Rattle.neli_listing.specs.Inputs.{IsInput}
 use Rattle.neli_listing.specs.Lines.{ending}
 use Rattle.neli_listing.specs.Runs.{Makes, Prints, PrintsMemory, status_by}
 
-pub memory_prints : (makes : Makes) (known old new : Option (List ℕ)) (s : Status) → PrintsMemory old new s → Prints makes known old new s
+pub memory_prints : (makes : Makes) (known old new : Option (List ℕ)) (s : Status) → PrintsMemory old new s
+    → Prints makes known old new s
 memory_prints makes known old new status.Memory p = inl p
 memory_prints makes known old new status.NoOutput p = tt
 memory_prints makes known old new status.Whole p = absurd p
@@ -19,10 +20,13 @@ memory_prints makes known old new status.BadLine p = absurd p
 memory_prints makes known old new status.Usage p = absurd p
 memory_prints makes known old new status.NoUsage p = absurd p
 
-pub text_prints : (makes : Makes) (known old new : Option (List ℕ)) (bytes text : List ℕ) (e : Ending) → IsInput known bytes → makes bytes text e → Appends old new (text ++ ending e) → Prints makes known old new (status_by e)
+pub text_prints : (makes : Makes) (known old new : Option (List ℕ)) (bytes text : List ℕ) (e : Ending)
+    → IsInput known bytes → makes bytes text e → Appends old new (text ++ ending e)
+    → Prints makes known old new (status_by e)
 text_prints makes known old new bytes text Whole input made gains = (bytes, text, input, made, gains)
 text_prints makes known old new bytes text Memory input made gains = inr (bytes, text, input, made, gains)
-text_prints makes known old new bytes text (Input n) input made gains = (Input n, refl, (bytes, text, input, made, gains))
+text_prints makes known old new bytes text (Input n) input made gains =
+    (Input n, refl, (bytes, text, input, made, gains))
 text_prints makes known old new bytes text Short input made gains = (Short, refl, (bytes, text, input, made, gains))
 text_prints makes known old new bytes text Other input made gains = (Other, refl, (bytes, text, input, made, gains))
 text_prints makes known old new bytes text Tail input made gains = (Tail, refl, (bytes, text, input, made, gains))

@@ -30,13 +30,16 @@ get_left [] ys i h = absurd (omega arith)
 get_left (x ∷ xs) ys zero h = refl
 get_left (x ∷ xs) ys (suc i) h = get_left xs ys i (omega arith)
 
-pub get_right : {A : Type 0} (xs ys : List A) (i : ℕ) → length xs ≤ i → slice_get (xs ++ ys) i ≡ slice_get ys (i - length xs)
+pub get_right : {A : Type 0} (xs ys : List A) (i : ℕ) → length xs ≤ i
+    → slice_get (xs ++ ys) i ≡ slice_get ys (i - length xs)
 get_right [] ys i h = let s : i - 0 ≡ i = omega arith in rw s refl
 get_right (x ∷ xs) ys zero h = absurd (omega arith)
-get_right (x ∷ xs) ys (suc i) h = let s : suc i - suc (length xs) ≡ i - length xs = omega arith in rw s (get_right xs ys i (omega arith))
+get_right (x ∷ xs) ys (suc i) h = let s : suc i - suc (length xs) ≡ i - length xs = omega arith in
+    rw s (get_right xs ys i (omega arith))
 
 -- each of two lists that are joined
-pub each_joined : {A : Type 0} (P : A → Type 0) (xs ys : List A) → ((i : ℕ) (x : A) → slice_get xs i ≡ Some x → P x) → ((i : ℕ) (x : A) → slice_get ys i ≡ Some x → P x) → (i : ℕ) (x : A) → slice_get (xs ++ ys) i ≡ Some x → P x
+pub each_joined : {A : Type 0} (P : A → Type 0) (xs ys : List A) → ((i : ℕ) (x : A) → slice_get xs i ≡ Some x → P x)
+    → ((i : ℕ) (x : A) → slice_get ys i ≡ Some x → P x) → (i : ℕ) (x : A) → slice_get (xs ++ ys) i ≡ Some x → P x
 each_joined P xs ys left right i x at = elim (cases_lt i (length xs)) [
   | inl lt ↦ left i x (sym (get_left xs ys i lt) ∙ at)
   | inr ge ↦ right (i - length xs) x (sym (get_right xs ys i ge) ∙ at)
@@ -50,21 +53,25 @@ each_one P y h (suc i) x at = cc
 
 pub spans_append : (xs ys : List (Entry Content)) → spans_of (xs ++ ys) ≡ spans_of xs ++ spans_of ys
 spans_append [] ys = refl
-spans_append (x ∷ xs) ys = ap (λ ss. span_of x.item ++ ss) (spans_append xs ys) ∙ sym (append_assoc (span_of x.item) (spans_of xs) (spans_of ys))
+spans_append (x ∷ xs) ys = ap (λ ss. span_of x.item ++ ss) (spans_append xs ys)
+    ∙ sym (append_assoc (span_of x.item) (spans_of xs) (spans_of ys))
 
-pub items_append : {T : Type 0} (w : Option ℕ) (xs ys : List (Entry T)) → items_for w (xs ++ ys) ≡ items_for w xs ++ items_for w ys
+pub items_append : {T : Type 0} (w : Option ℕ) (xs ys : List (Entry T))
+    → items_for w (xs ++ ys) ≡ items_for w xs ++ items_for w ys
 items_append w [] ys = refl
 items_append w (x ∷ xs) ys = elim (either (leads w x.route)) [
   | inl it ↦ rw it (ap (λ zs. x.item ∷ zs) (items_append w xs ys))
   | inr it ↦ rw it (items_append w xs ys)
 ]
 
-pub items_first : {T : Type 0} (w : Option ℕ) (x : Entry T) (xs : List (Entry T)) → items_for w (x ∷ xs) ≡ items_for w (x ∷ []) ++ items_for w xs
+pub items_first : {T : Type 0} (w : Option ℕ) (x : Entry T) (xs : List (Entry T))
+    → items_for w (x ∷ xs) ≡ items_for w (x ∷ []) ++ items_for w xs
 items_first w x xs = items_append w (x ∷ []) xs
 
 pub spans_few : (es : List (Entry Content)) → length (spans_of es) ≤ length es
 spans_few [] = omega arith
-spans_few (e ∷ es) = (let a = one e.item in let b = spans_few es in omega (arith, a, b, length-append (span_of e.item) (spans_of es)))
+spans_few (e ∷ es) = (let a = one e.item in let b = spans_few es in
+    omega (arith, a, b, length-append (span_of e.item) (spans_of es)))
   where
     one : (c : Content) → length (span_of c) ≤ 1
     one (content.Message s) = omega arith
@@ -72,28 +79,37 @@ spans_few (e ∷ es) = (let a = one e.item in let b = spans_few es in omega (ari
     one (content.Fault e) = omega arith
 
 -- the spans of an entry are among those of the entries from it on
-pub spans_at : (es : List (Entry Content)) (i : ℕ) (x : Entry Content) → i < length es → x ≡ get_or es i x → length (span_of x.item) ≤ length (spans_of (drop i es))
+pub spans_at : (es : List (Entry Content)) (i : ℕ) (x : Entry Content) → i < length es → x ≡ get_or es i x
+    → length (span_of x.item) ≤ length (spans_of (drop i es))
 spans_at [] i x lt is = absurd (omega arith)
-spans_at (e ∷ es) zero x lt is = (let same : x ≡ e = is in let l = length-append (span_of e.item) (spans_of es) in let k = ap (λ y. length (span_of y.item)) same in omega (arith, l, k))
+spans_at (e ∷ es) zero x lt is = (let same : x ≡ e = is in let l = length-append (span_of e.item) (spans_of es) in
+    let k = ap (λ y. length (span_of y.item)) same in omega (arith, l, k))
 spans_at (e ∷ es) (suc i) x lt is = spans_at es i x (omega arith) is
 
 -- ---- deliveries
 
 -- where two readings of spans agree on the entries' spans, the entries are the same deliveries
-pub items_same : (f g : Span → List ℕ) (w : Option ℕ) (es : List (Entry Content)) → ((i : ℕ) (s : Span) → slice_get (spans_of es) i ≡ Some s → g s ≡ f s) → map (delivery_of g) (items_for w es) ≡ map (delivery_of f) (items_for w es)
+pub items_same : (f g : Span → List ℕ) (w : Option ℕ) (es : List (Entry Content))
+    → ((i : ℕ) (s : Span) → slice_get (spans_of es) i ≡ Some s → g s ≡ f s)
+    → map (delivery_of g) (items_for w es) ≡ map (delivery_of f) (items_for w es)
 items_same f g w [] same = refl
 items_same f g w (e ∷ es) same = elim (either (leads w e.route)) [
   | inl it ↦ rw it (ap2 (one e.item (λ i s at. same i s (left i s at))) (items_same f g w es (later same)))
   | inr it ↦ rw it (items_same f g w es (later same))
 ]
   where
-    later : ((i : ℕ) (s : Span) → slice_get (span_of e.item ++ spans_of es) i ≡ Some s → g s ≡ f s) → (i : ℕ) (s : Span) → slice_get (spans_of es) i ≡ Some s → g s ≡ f s
-    later same i s at = same (length (span_of e.item) + i) s (let j : length (span_of e.item) + i - length (span_of e.item) ≡ i = omega arith in get_right (span_of e.item) (spans_of es) (length (span_of e.item) + i) (omega arith) ∙ rw j at)
+    later : ((i : ℕ) (s : Span) → slice_get (span_of e.item ++ spans_of es) i ≡ Some s → g s ≡ f s) → (i : ℕ) (s : Span)
+        → slice_get (spans_of es) i ≡ Some s → g s ≡ f s
+    later same i s at = same (length (span_of e.item) + i) s
+        (let j : length (span_of e.item) + i - length (span_of e.item) ≡ i = omega arith in
+        get_right (span_of e.item) (spans_of es) (length (span_of e.item) + i) (omega arith) ∙ rw j at)
 
-    left : (i : ℕ) (s : Span) → slice_get (span_of e.item) i ≡ Some s → slice_get (span_of e.item ++ spans_of es) i ≡ Some s
+    left : (i : ℕ) (s : Span) → slice_get (span_of e.item) i ≡ Some s
+        → slice_get (span_of e.item ++ spans_of es) i ≡ Some s
     left i s at = get_left (span_of e.item) (spans_of es) i (get_end (span_of e.item) i s at) ∙ at
 
-    one : (c : Content) → ((i : ℕ) (s : Span) → slice_get (span_of c) i ≡ Some s → g s ≡ f s) → delivery_of g c ≡ delivery_of f c
+    one : (c : Content) → ((i : ℕ) (s : Span) → slice_get (span_of c) i ≡ Some s → g s ≡ f s)
+        → delivery_of g c ≡ delivery_of f c
     one (content.Message s) h = rw (h 0 s refl) refl
     one (content.Stray s) h = rw (h 0 s refl) refl
     one (content.Fault e) h = refl
@@ -103,10 +119,12 @@ items_same f g w (e ∷ es) same = elim (either (leads w e.route)) [
 
 -- ---- entries that are pushed one by one
 
-pub readers_first : (P : Option ℕ → Option (List Content)) (e : Entry Content) (es : List (Entry Content)) → HaveReaders P (e ∷ es) → HasReader P e.route
+pub readers_first : (P : Option ℕ → Option (List Content)) (e : Entry Content) (es : List (Entry Content))
+    → HaveReaders P (e ∷ es) → HasReader P e.route
 readers_first P e es h = h 0 e refl
 
-pub readers_left : (P P' : Option ℕ → Option (List Content)) (e : Entry Content) (es : List (Entry Content)) → Gains P e P' → HaveReaders P (e ∷ es) → HaveReaders P' es
+pub readers_left : (P P' : Option ℕ → Option (List Content)) (e : Entry Content) (es : List (Entry Content))
+    → Gains P e P' → HaveReaders P (e ∷ es) → HaveReaders P' es
 readers_left P P' e es gains h i x at =
     let r = h (suc i) x at in
     (r.0, ap is_some (gains r.0) ∙ (some_mapped (λ xs. xs ++ items_for r.0 (e ∷ [])) (P r.0) ∙ r.1), r.2)
@@ -115,13 +133,16 @@ readers_left P P' e es gains h i x at =
     some_mapped f None = refl
     some_mapped f (Some xs) = refl
 
-pub gains_more : (P P' : Option ℕ → Option (List Content)) (e : Entry Content) (es : List (Entry Content)) → Gains P e P' → (w : Option ℕ)
+pub gains_more : (P P' : Option ℕ → Option (List Content)) (e : Entry Content) (es : List (Entry Content))
+    → Gains P e P' → (w : Option ℕ)
     → option_map (λ xs. xs ++ items_for w es) (P' w) ≡ option_map (λ xs. xs ++ items_for w (e ∷ es)) (P w)
 gains_more P P' e es gains w = rw (gains w) (by (P w))
   where
-    by : (o : Option (List Content)) → option_map (λ xs. xs ++ items_for w es) (option_map (λ xs. xs ++ items_for w (e ∷ [])) o) ≡ option_map (λ xs. xs ++ items_for w (e ∷ es)) o
+    by : (o : Option (List Content)) → option_map (λ xs. xs ++ items_for w es)
+        (option_map (λ xs. xs ++ items_for w (e ∷ [])) o) ≡ option_map (λ xs. xs ++ items_for w (e ∷ es)) o
     by None = refl
-    by (Some xs) = ap Some (append_assoc xs (items_for w (e ∷ [])) (items_for w es) ∙ ap (λ zs. xs ++ zs) (sym (items_first w e es)))
+    by (Some xs) = ap Some (append_assoc xs (items_for w (e ∷ [])) (items_for w es)
+        ∙ ap (λ zs. xs ++ zs) (sym (items_first w e es)))
 
 pub gains_none : (o : Option (List Content)) → option_map (λ xs. xs ++ []) o ≡ o
 gains_none None = refl

@@ -9,7 +9,8 @@ use Rattle.neli_lent.specs.Messages.{Lent, as_owned, lent_message}
 use Rattle.neli_lent.specs.laws.Messages.{owned-read}
 
 -- what is lent is read untyped as what it becomes
-pub read_lent : (s r : List ℕ) (m : Lent ℕ) (u : Untyped) → frame_at (lent_message (λ n. n)) s ≡ Ok (m, r) → as_owned (λ n. n) (λ n. n) (λ bytes. Ok bytes) m ≡ Ok u → frame_at untyped_layout s ≡ Ok (u, r)
+pub read_lent : (s r : List ℕ) (m : Lent ℕ) (u : Untyped) → frame_at (lent_message (λ n. n)) s ≡ Ok (m, r)
+    → as_owned (λ n. n) (λ n. n) (λ bytes. Ok bytes) m ≡ Ok u → frame_at untyped_layout s ≡ Ok (u, r)
 read_lent s r m u lent owned = owned-read (λ n. n) (λ n. n) (λ bytes. Ok bytes) s r m lent ∙ rw owned refl
 
 -- a message has the bytes of a header at least

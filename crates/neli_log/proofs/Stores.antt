@@ -40,16 +40,20 @@ pub mapped_is_some : {A B : Type 0} (f : A → B) (o : Option A) → is_some (op
 mapped_is_some f None = refl
 mapped_is_some f (Some x) = refl
 
-pub mapped_some : {A B : Type 0} (f : A → B) (o : Option A) (y : B) → option_map f o ≡ Some y → (x : A) × (o ≡ Some x) × (f x ≡ y)
+pub mapped_some : {A B : Type 0} (f : A → B) (o : Option A) (y : B) → option_map f o ≡ Some y
+    → (x : A) × (o ≡ Some x) × (f x ≡ y)
 mapped_some f None y h = cc
 mapped_some f (Some x) y h = (x, refl, (let s : f x ≡ y = cc in s))
 
-pub mapped_cons : {A B : Type 0} (f : A → B) (xs : List A) (d : B) (ds : List B) → map f xs ≡ d ∷ ds → (x : A) × (ys : List A) × (xs ≡ x ∷ ys) × (map f ys ≡ ds)
+pub mapped_cons : {A B : Type 0} (f : A → B) (xs : List A) (d : B) (ds : List B) → map f xs ≡ d ∷ ds
+    → (x : A) × (ys : List A) × (xs ≡ x ∷ ys) × (map f ys ≡ ds)
 mapped_cons f [] d ds h = cc
 mapped_cons f (x ∷ xs) d ds h = (x, xs, refl, (let s : map f xs ≡ ds = cc in s))
 
 -- without its first item
-pub mapped_taken : {A B : Type 0} (f : A → B) (o o' : Option (List A)) (d : B) (ds : List B) → option_map (map f) o ≡ Some (d ∷ ds) → ((x : A) (xs : List A) → o ≡ Some (x ∷ xs) → o' ≡ Some xs) → option_map (map f) o' ≡ Some ds
+pub mapped_taken : {A B : Type 0} (f : A → B) (o o' : Option (List A)) (d : B) (ds : List B)
+    → option_map (map f) o ≡ Some (d ∷ ds) → ((x : A) (xs : List A) → o ≡ Some (x ∷ xs) → o' ≡ Some xs)
+    → option_map (map f) o' ≡ Some ds
 mapped_taken f o o' d ds h next =
     let a = mapped_some (map f) o (d ∷ ds) h in
     let b = mapped_cons f a.0 d ds a.2 in
@@ -57,7 +61,9 @@ mapped_taken f o o' d ds h next =
     rw n (ap (λ xs. Some xs) b.3)
 
 -- no item is left exactly where no delivery is
-pub mapped_empty : {A B : Type 0} (f : A → B) (P : Option ℕ → Option (List A)) → ((w : Option ℕ) (xs : List A) → P w ≡ Some xs → xs ≡ []) ↔ ((w : Option ℕ) (ds : List B) → option_map (map f) (P w) ≡ Some ds → ds ≡ [])
+pub mapped_empty : {A B : Type 0} (f : A → B) (P : Option ℕ → Option (List A))
+    → ((w : Option ℕ) (xs : List A) → P w ≡ Some xs → xs ≡ []) ↔ ((w : Option ℕ) (ds : List B)
+    → option_map (map f) (P w) ≡ Some ds → ds ≡ [])
 mapped_empty {A = A} {B = B} f P = (
   (λ all w ds is. (let m = mapped_some (map f) (P w) ds is in sym m.2 ∙ ap (map f) (all w m.0 m.1))),
   (λ all w xs is. none xs (all w (map f xs) (ap (option_map (map f)) is))),
@@ -67,36 +73,45 @@ mapped_empty {A = A} {B = B} f P = (
     none [] h = refl
     none (x ∷ xs) h = cc
 
-pub mapped_more : (f : Content → Delivery) (o : Option (List Content)) (a b : List Delivery) → (is_some o ≡ true → a ≡ b) → option_map (λ ds. ds ++ a) (option_map (map f) o) ≡ option_map (λ ds. ds ++ b) (option_map (map f) o)
+pub mapped_more : (f : Content → Delivery) (o : Option (List Content)) (a b : List Delivery)
+    → (is_some o ≡ true → a ≡ b) → option_map (λ ds. ds ++ a) (option_map (map f) o)
+    ≡ option_map (λ ds. ds ++ b) (option_map (map f) o)
 mapped_more f None a b h = refl
 mapped_more f (Some xs) a b h = ap (λ zs. Some (map f xs ++ zs)) (h refl)
 
-pub mapped_nothing : (f : Content → Delivery) (o : Option (List Content)) (a : List Delivery) → (is_some o ≡ true → [] ≡ a) → option_map (map f) o ≡ option_map (λ ds. ds ++ a) (option_map (map f) o)
+pub mapped_nothing : (f : Content → Delivery) (o : Option (List Content)) (a : List Delivery)
+    → (is_some o ≡ true → [] ≡ a) → option_map (map f) o ≡ option_map (λ ds. ds ++ a) (option_map (map f) o)
 mapped_nothing f None a h = refl
 mapped_nothing f (Some xs) a h = ap (λ zs. Some zs) (sym (append-nil (map f xs)) ∙ ap (λ zs. map f xs ++ zs) (h refl))
 
 -- ---- spans among entries
 
 -- a span of later entries is one of all
-pub span_dropped : (k : ℕ) (es : List (Entry Content)) (i : ℕ) (x : Span) → slice_get (spans_of (drop k es)) i ≡ Some x → (j : ℕ) × (slice_get (spans_of es) j ≡ Some x)
+pub span_dropped : (k : ℕ) (es : List (Entry Content)) (i : ℕ) (x : Span) → slice_get (spans_of (drop k es)) i ≡ Some x
+    → (j : ℕ) × (slice_get (spans_of es) j ≡ Some x)
 span_dropped zero es i x at = (i, at)
 span_dropped (suc k) [] i x at = cc
 span_dropped (suc k) (e ∷ es) i x at =
     let r = span_dropped k es i x at in
     let j : length (span_of e.item) + r.0 - length (span_of e.item) ≡ r.0 = omega arith in
-    (length (span_of e.item) + r.0, get_right (span_of e.item) (spans_of es) (length (span_of e.item) + r.0) (omega arith) ∙ (rw j r.1))
+    (length (span_of e.item) + r.0, get_right (span_of e.item) (spans_of es) (length (span_of e.item) + r.0)
+        (omega arith) ∙ (rw j r.1))
 
 -- the span of the first item of a list is one of the entries'
-item_span : (w : Option ℕ) (es : List (Entry Content)) (c : Content) (cs : List Content) (x : Span) → items_for w es ≡ c ∷ cs → span_of c ≡ x ∷ [] → (j : ℕ) × (slice_get (spans_of es) j ≡ Some x)
+item_span : (w : Option ℕ) (es : List (Entry Content)) (c : Content) (cs : List Content) (x : Span)
+    → items_for w es ≡ c ∷ cs → span_of c ≡ x ∷ [] → (j : ℕ) × (slice_get (spans_of es) j ≡ Some x)
 item_span w [] c cs x is has = cc
 item_span w (e ∷ es) c cs x is has = elim (either (leads w e.route)) [
   | inl it ↦ (let a = rw it at is in let same : e.item ≡ c = cc in (0, rw (same, has) refl))
   | inr it ↦ (let r = item_span w es c cs x (rw it at is) has in
       let j : length (span_of e.item) + r.0 - length (span_of e.item) ≡ r.0 = omega arith in
-      (length (span_of e.item) + r.0, get_right (span_of e.item) (spans_of es) (length (span_of e.item) + r.0) (omega arith) ∙ (rw j r.1)))
+      (length (span_of e.item) + r.0, get_right (span_of e.item) (spans_of es) (length (span_of e.item) + r.0)
+          (omega arith) ∙ (rw j r.1)))
 ]
 
-first_span : (base : ℕ) (es : List (Entry Content)) (w : Option ℕ) (o : Option Place) (c : Content) (x : Span) → Some c ≡ first_of (option_map (λ p. items_for w (rest base es p)) o) → span_of c ≡ x ∷ [] → (j : ℕ) × (slice_get (spans_of es) j ≡ Some x)
+first_span : (base : ℕ) (es : List (Entry Content)) (w : Option ℕ) (o : Option Place) (c : Content) (x : Span)
+    → Some c ≡ first_of (option_map (λ p. items_for w (rest base es p)) o) → span_of c ≡ x ∷ []
+    → (j : ℕ) × (slice_get (spans_of es) j ≡ Some x)
 first_span base es w None c x is has = cc
 first_span base es w (Some p) c x is has =
     let l = list (items_for w (rest base es p)) is in
@@ -108,14 +123,19 @@ first_span base es w (Some p) c x is has =
     list (y ∷ ys) h = (ys, (let s : y ≡ c = cc in ap (λ z. z ∷ ys) s))
 
 -- what waits first can be read
-pub first_readable : (s : Places Content) (d : Datagrams) (w : Option ℕ) (c : Content) → AreBacked d (entries_of s) → Some c ≡ first_of (items_of s w) → IsReadable d c
-first_readable s d w (content.Message x) h is = (let j = first_span s.base (entries_of s) w (place_of s w) (content.Message x) x is refl in ((spans_of (entries_of s), j.0, h.names, j.1), h.messages j.0 x j.1))
-first_readable s d w (content.Stray x) h is = (let j = first_span s.base (entries_of s) w (place_of s w) (content.Stray x) x is refl in ((spans_of (entries_of s), j.0, h.names, j.1), h.messages j.0 x j.1))
+pub first_readable : (s : Places Content) (d : Datagrams) (w : Option ℕ) (c : Content) → AreBacked d (entries_of s)
+    → Some c ≡ first_of (items_of s w) → IsReadable d c
+first_readable s d w (content.Message x) h is = (let j = first_span s.base (entries_of s) w (place_of s w)
+    (content.Message x) x is refl in ((spans_of (entries_of s), j.0, h.names, j.1), h.messages j.0 x j.1))
+first_readable s d w (content.Stray x) h is = (let j = first_span s.base (entries_of s) w (place_of s w)
+    (content.Stray x) x is refl in ((spans_of (entries_of s), j.0, h.names, j.1), h.messages j.0 x j.1))
 first_readable s d w (content.Fault e) h is = tt
 
 -- ---- an entry goes, and its span with it
 
-module _ (s s' : Places Content) (d d' : Datagrams) (c : Content) (r : Route) (taken : entries_of s ≡ entry c r ∷ entries_of s') (same : (w : Option ℕ) → items_of s' w ≡ items_of s w) (backed : AreBacked d (entries_of s)) where
+module _ (s s' : Places Content) (d d' : Datagrams) (c : Content) (r : Route)
+    (taken : entries_of s ≡ entry c r ∷ entries_of s') (same : (w : Option ℕ)
+    → items_of s' w ≡ items_of s w) (backed : AreBacked d (entries_of s)) where
   pub released_names : Names d (span_of c ++ spans_of (entries_of s'))
   released_names = subst (λ es. Names d (spans_of es)) taken backed.names
 
@@ -123,30 +143,45 @@ module _ (s s' : Places Content) (d d' : Datagrams) (c : Content) (r : Route) (t
   released_messages i x at =
       let all = subst (λ es. AreMessages (span_bytes d) (spans_of es)) taken backed.messages in
       let j : length (span_of c) + i - length (span_of c) ≡ i = omega arith in
-      all (length (span_of c) + i) x (get_right (span_of c) (spans_of (entries_of s')) (length (span_of c) + i) (omega arith) ∙ (rw j at))
+      all (length (span_of c) + i) x (get_right (span_of c) (spans_of (entries_of s')) (length (span_of c) + i)
+          (omega arith) ∙ (rw j at))
 
-  module _ (names : (ss : List Span) → Names d (span_of c ++ ss) → Names d' ss) (texts : (ss : List Span) (i : ℕ) (x : Span) → Names d (span_of c ++ ss) → slice_get ss i ≡ Some x → span_bytes d' x ≡ span_bytes d x) where
+  module _ (names : (ss : List Span) → Names d (span_of c ++ ss)
+      → Names d' ss) (texts : (ss : List Span) (i : ℕ) (x : Span) → Names d (span_of c ++ ss) → slice_get ss i ≡ Some x
+      → span_bytes d' x ≡ span_bytes d x) where
     pub released_backed : AreBacked d' (entries_of s')
     released_backed = record {
       names = names (spans_of (entries_of s')) released_names;
-      messages = λ i x at. subst IsSpan (sym (texts (spans_of (entries_of s')) i x released_names at)) (released_messages i x at);
+      messages = λ i x at. subst IsSpan (sym (texts (spans_of (entries_of s')) i x released_names at))
+          (released_messages i x at);
     }
 
-    pub released_pending : (w : Option ℕ) → option_map (map (delivery_of (span_bytes d'))) (items_of s' w) ≡ option_map (map (delivery_of (span_bytes d))) (items_of s w)
+    pub released_pending : (w : Option ℕ) → option_map (map (delivery_of (span_bytes d'))) (items_of s' w)
+        ≡ option_map (map (delivery_of (span_bytes d))) (items_of s w)
     released_pending w = by (place_of s' w) ∙ ap (option_map (map (delivery_of (span_bytes d)))) (same w)
       where
-        by : (o : Option Place) → option_map (map (delivery_of (span_bytes d'))) (option_map (λ p. items_for w (rest s'.base (entries_of s') p)) o) ≡ option_map (map (delivery_of (span_bytes d))) (option_map (λ p. items_for w (rest s'.base (entries_of s') p)) o)
+        by : (o : Option Place) → option_map (map (delivery_of (span_bytes d')))
+            (option_map (λ p. items_for w (rest s'.base (entries_of s') p)) o)
+            ≡ option_map (map (delivery_of (span_bytes d)))
+            (option_map (λ p. items_for w (rest s'.base (entries_of s') p)) o)
         by None = refl
         by (Some p) = ap (λ ds. Some ds) (items_same (span_bytes d) (span_bytes d') w (rest s'.base (entries_of s') p)
-            (λ i x at. (let j = span_dropped (p.from - s'.base) (entries_of s') i x at in texts (spans_of (entries_of s')) j.0 x released_names j.1)))
+            (λ i x at. (let j = span_dropped (p.from - s'.base) (entries_of s') i x at in
+                texts (spans_of (entries_of s')) j.0 x released_names j.1)))
 
 -- ---- entries are added, and their datagram
 
-module _ (s s' : Places Content) (d d' : Datagrams) (bytes : List ℕ) (es : List (Entry Content)) (entries : entries_of s' ≡ entries_of s ++ es) (more : (w : Option ℕ) → items_of s' w ≡ option_map (λ xs. xs ++ items_for w es) (items_of s w))
-    (spans : AreOf (next_serial d) (length bytes) (spans_of es)) (messages : AreMessages (part_of bytes) (spans_of es)) (backed : AreBacked d (entries_of s))
-    (names : (old new : List Span) → Names d old → AreOf (next_serial d) (length bytes) new → length new ≡ length (spans_of es) → Names d' (old ++ new))
-    (texts : (old : List Span) (i : ℕ) (x : Span) → Names d old → slice_get old i ≡ Some x → span_bytes d' x ≡ span_bytes d x)
-    (new_span : (x : Span) → 0 < length (spans_of es) → x.datagram ≡ next_serial d → span_bytes d' x ≡ slice_range bytes x.start x.end) where
+module _ (s s' : Places Content) (d d' : Datagrams) (bytes : List ℕ) (es : List (Entry Content))
+    (entries : entries_of s' ≡ entries_of s ++ es) (more : (w : Option ℕ)
+    → items_of s' w ≡ option_map (λ xs. xs ++ items_for w es) (items_of s w))
+    (spans : AreOf (next_serial d) (length bytes) (spans_of es)) (messages : AreMessages (part_of bytes) (spans_of es))
+        (backed : AreBacked d (entries_of s))
+    (names : (old new : List Span) → Names d old → AreOf (next_serial d) (length bytes) new
+        → length new ≡ length (spans_of es) → Names d' (old ++ new))
+    (texts : (old : List Span) (i : ℕ) (x : Span) → Names d old → slice_get old i ≡ Some x
+        → span_bytes d' x ≡ span_bytes d x)
+    (new_span : (x : Span) → 0 < length (spans_of es) → x.datagram ≡ next_serial d
+        → span_bytes d' x ≡ slice_range bytes x.start x.end) where
   kept_text : (i : ℕ) (x : Span) → slice_get (spans_of (entries_of s)) i ≡ Some x → span_bytes d' x ≡ span_bytes d x
   kept_text i x at = texts (spans_of (entries_of s)) i x backed.names at
 
@@ -156,28 +191,41 @@ module _ (s s' : Places Content) (d d' : Datagrams) (bytes : List ℕ) (es : Lis
   pub handed_backed : AreBacked d' (entries_of s')
   handed_backed = rw entries (record {
     names = rw (spans_append (entries_of s) es) (names (spans_of (entries_of s)) (spans_of es) backed.names spans refl);
-    messages = rw (spans_append (entries_of s) es) (each_joined (λ x. IsSpan (span_bytes d' x)) (spans_of (entries_of s)) (spans_of es)
+    messages = rw (spans_append (entries_of s) es) (each_joined (λ x. IsSpan (span_bytes d' x))
+        (spans_of (entries_of s)) (spans_of es)
         (λ i x at. subst IsSpan (sym (kept_text i x at)) (backed.messages i x at))
         (λ i x at. subst IsSpan (sym (added_text i x at)) (messages i x at)));
   })
 
-  pub handed_pending : (w : Option ℕ) → option_map (map (delivery_of (span_bytes d'))) (items_of s' w) ≡ option_map (λ ds. ds ++ deliveries_added bytes w es) (option_map (map (delivery_of (span_bytes d))) (items_of s w))
+  pub handed_pending : (w : Option ℕ) → option_map (map (delivery_of (span_bytes d'))) (items_of s' w)
+      ≡ option_map (λ ds. ds ++ deliveries_added bytes w es)
+      (option_map (map (delivery_of (span_bytes d))) (items_of s w))
   handed_pending w = ap (option_map (map (delivery_of (span_bytes d')))) (more w) ∙ by (place_of s w)
     where
       new : map (delivery_of (span_bytes d')) (items_for w es) ≡ deliveries_added bytes w es
       new = items_same (part_of bytes) (span_bytes d') w es added_text
 
-      by : (o : Option Place) → option_map (map (delivery_of (span_bytes d'))) (option_map (λ xs. xs ++ items_for w es) (option_map (λ p. items_for w (rest s.base (entries_of s) p)) o)) ≡ option_map (λ ds. ds ++ deliveries_added bytes w es) (option_map (map (delivery_of (span_bytes d))) (option_map (λ p. items_for w (rest s.base (entries_of s) p)) o))
+      by : (o : Option Place) → option_map (map (delivery_of (span_bytes d')))
+          (option_map (λ xs. xs ++ items_for w es) (option_map (λ p. items_for w (rest s.base (entries_of s) p)) o))
+          ≡ option_map (λ ds. ds ++ deliveries_added bytes w es)
+          (option_map (map (delivery_of (span_bytes d)))
+          (option_map (λ p. items_for w (rest s.base (entries_of s) p)) o))
       by None = refl
       by (Some p) =
           let old : List Content = items_for w (rest s.base (entries_of s) p) in
-          let first : map (delivery_of (span_bytes d')) old ≡ map (delivery_of (span_bytes d)) old = items_same (span_bytes d) (span_bytes d') w (rest s.base (entries_of s) p) (λ i x at. (let j = span_dropped (p.from - s.base) (entries_of s) i x at in kept_text j.0 x j.1)) in
-          ap (λ ds. Some ds) (map-append (delivery_of (span_bytes d')) old (items_for w es) ∙ ap (λ ds. ds ++ map (delivery_of (span_bytes d')) (items_for w es)) first ∙ ap (λ ds. map (delivery_of (span_bytes d)) old ++ ds) new)
+          let first : map (delivery_of (span_bytes d')) old ≡ map (delivery_of (span_bytes d)) old =
+              items_same (span_bytes d) (span_bytes d') w (rest s.base (entries_of s) p)
+              (λ i x at. (let j = span_dropped (p.from - s.base) (entries_of s) i x at in kept_text j.0 x j.1)) in
+          ap (λ ds. Some ds) (map-append (delivery_of (span_bytes d')) old (items_for w es)
+              ∙ ap (λ ds. ds ++ map (delivery_of (span_bytes d')) (items_for w es)) first
+              ∙ ap (λ ds. map (delivery_of (span_bytes d)) old ++ ds) new)
 
 -- ---- what is due
 
 -- it depends on which numbers are open, however that is told
-pub received_same : (port : ℕ) (o o' : ℕ → Bool) → ((q : ℕ) → o q ≡ o' q) → (w : Option ℕ) (cut : Cut Untyped) (groups : List ℕ) → datagram_share port o w cut groups ≡ datagram_share port o' w cut groups
+pub received_same : (port : ℕ) (o o' : ℕ → Bool) → ((q : ℕ) → o q ≡ o' q)
+    → (w : Option ℕ) (cut : Cut Untyped) (groups : List ℕ)
+    → datagram_share port o w cut groups ≡ datagram_share port o' w cut groups
 received_same port o o' same None cut [] = refl
 received_same port o o' same None cut (g ∷ gs) = refl
 received_same port o o' same (Some q) cut [] = ap (λ ds. ds ++ reader_fault cut.1) (each cut.0)
@@ -188,8 +236,10 @@ received_same port o o' same (Some q) cut [] = ap (λ ds. ds ++ reader_fault cut
 received_same port o o' same (Some q) cut (g ∷ gs) = refl
 
 -- an empty datagram brings nothing
-pub received_nothing : (port : ℕ) (o : ℕ → Bool) (w : Option ℕ) (groups : List ℕ) → [] ≡ datagram_share port o w (cut_of untyped_layout []) groups
-received_nothing port o w groups = rw (cut_of-end untyped_layout (layout_with-placed (λ n. n) _) (omega arith)) (by w groups)
+pub received_nothing : (port : ℕ) (o : ℕ → Bool) (w : Option ℕ) (groups : List ℕ)
+    → [] ≡ datagram_share port o w (cut_of untyped_layout []) groups
+received_nothing port o w groups = rw (cut_of-end untyped_layout (layout_with-placed (λ n. n) _) (omega arith))
+    (by w groups)
   where
     by : (w : Option ℕ) (groups : List ℕ) → [] ≡ datagram_share port o w ([], None) groups
     by None [] = refl
@@ -203,27 +253,41 @@ pub blocked_brings : (w : Option ℕ) (e : SocketError) → is_would_block e ≡
 blocked_brings None e h = refl
 blocked_brings (Some q) e h = rw h refl
 
-pub unread_brings : (P : Option ℕ → Option (List Content)) (w : Option ℕ) (e : SocketError) → (HasReader P route.Numbers → ⊥) → is_some (P w) ≡ true → [] ≡ fault_share w e
+pub unread_brings : (P : Option ℕ → Option (List Content)) (w : Option ℕ) (e : SocketError)
+    → (HasReader P route.Numbers → ⊥) → is_some (P w) ≡ true → [] ≡ fault_share w e
 unread_brings P None e none opened = refl
 unread_brings P (Some q) e none opened = absurd (none (Some q, opened, refl))
 
-pub fault_brings : (text : Span → List ℕ) (w : Option ℕ) (e : SocketError) → is_would_block e ≡ false → map (delivery_of text) (items_for w (record { item = content.Fault e; route = route.Numbers } ∷ [])) ≡ fault_share w e
+pub fault_brings : (text : Span → List ℕ) (w : Option ℕ) (e : SocketError) → is_would_block e ≡ false
+    → map (delivery_of text) (items_for w (record { item = content.Fault e; route = route.Numbers } ∷ []))
+    ≡ fault_share w e
 fault_brings text None e h = refl
 fault_brings text (Some q) e h = rw h refl
 
-pub fault_pending : (text : Span → List ℕ) (w : Option ℕ) (e : SocketError) (o o' : Option (List Content)) → is_would_block e ≡ false → o' ≡ option_map (λ xs. xs ++ items_for w (record { item = content.Fault e; route = route.Numbers } ∷ [])) o
-    → option_map (map (delivery_of text)) o' ≡ option_map (λ ds. ds ++ fault_share w e) (option_map (map (delivery_of text)) o)
+pub fault_pending : (text : Span → List ℕ) (w : Option ℕ) (e : SocketError) (o o' : Option (List Content))
+    → is_would_block e ≡ false → o' ≡ option_map (λ xs. xs ++ items_for w
+    (record { item = content.Fault e; route = route.Numbers } ∷ [])) o
+    → option_map (map (delivery_of text)) o' ≡ option_map (λ ds. ds ++ fault_share w e)
+        (option_map (map (delivery_of text)) o)
 fault_pending text w e o o' h is = rw is (by o)
   where
-    by : (o : Option (List Content)) → option_map (map (delivery_of text)) (option_map (λ xs. xs ++ items_for w (record { item = content.Fault e; route = route.Numbers } ∷ [])) o) ≡ option_map (λ ds. ds ++ fault_share w e) (option_map (map (delivery_of text)) o)
+    by : (o : Option (List Content)) → option_map (map (delivery_of text))
+        (option_map (λ xs. xs ++ items_for w (record { item = content.Fault e; route = route.Numbers } ∷ [])) o)
+        ≡ option_map (λ ds. ds ++ fault_share w e) (option_map (map (delivery_of text)) o)
     by None = refl
-    by (Some xs) = ap (λ ds. Some ds) (map-append (delivery_of text) xs (items_for w (record { item = content.Fault e; route = route.Numbers } ∷ [])) ∙ ap (λ ds. map (delivery_of text) xs ++ ds) (fault_brings text w e h))
+    by (Some xs) = ap (λ ds. Some ds) (map-append (delivery_of text) xs
+        (items_for w (record { item = content.Fault e; route = route.Numbers } ∷ []))
+        ∙ ap (λ ds. map (delivery_of text) xs ++ ds) (fault_brings text w e h))
 
-pub fault_spans : (es : List (Entry Content)) (e : SocketError) → spans_of (es ++ record { item = content.Fault e; route = route.Numbers } ∷ []) ≡ spans_of es
-fault_spans es e = spans_append es (record { item = content.Fault e; route = route.Numbers } ∷ []) ∙ append-nil (spans_of es)
+pub fault_spans : (es : List (Entry Content)) (e : SocketError)
+    → spans_of (es ++ record { item = content.Fault e; route = route.Numbers } ∷ []) ≡ spans_of es
+fault_spans es e = spans_append es (record { item = content.Fault e; route = route.Numbers } ∷ [])
+    ∙ append-nil (spans_of es)
 
-pub fault_backed : (d : Datagrams) (es es' : List (Entry Content)) (e : SocketError) → es' ≡ es ++ record { item = content.Fault e; route = route.Numbers } ∷ [] → AreBacked d es → AreBacked d es'
-fault_backed d es es' e is h = rw is (record { names = rw (fault_spans es e) h.names; messages = rw (fault_spans es e) h.messages })
+pub fault_backed : (d : Datagrams) (es es' : List (Entry Content)) (e : SocketError)
+    → es' ≡ es ++ record { item = content.Fault e; route = route.Numbers } ∷ [] → AreBacked d es → AreBacked d es'
+fault_backed d es es' e is h = rw is (record { names = rw (fault_spans es e) h.names;
+    messages = rw (fault_spans es e) h.messages })
 
 -- ---- a result
 
@@ -241,6 +305,9 @@ keeps_none s bytes = record {
 }
 
 -- no more entries come than are kept
-pub added_few : {A E : Type 0} (r : Result A E) (before after : Store) (bytes : List ℕ) (es : List (Entry Content)) (n : ℕ) → OnOk r (Keeps before after bytes es) → OnErr r (IsAsBefore before after) → length es ≤ n → entry_count after ≤ entry_count before + n
-added_few (Ok a) before after bytes es n kept left few = omega (arith, few, ap length kept.entries, length-append (entries_of before.places) es)
+pub added_few : {A E : Type 0} (r : Result A E) (before after : Store) (bytes : List ℕ) (es : List (Entry Content))
+    (n : ℕ) → OnOk r (Keeps before after bytes es) → OnErr r (IsAsBefore before after) → length es ≤ n
+    → entry_count after ≤ entry_count before + n
+added_few (Ok a) before after bytes es n kept left few =
+    omega (arith, few, ap length kept.entries, length-append (entries_of before.places) es)
 added_few (Err e) before after bytes es n kept left few = (let same = ap length left.0 in omega (arith, same))

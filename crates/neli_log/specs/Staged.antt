@@ -43,9 +43,11 @@ HaveReaders pending es = (i : ℕ) (e : Entry Content) → slice_get es i ≡ So
 
 -- the entries, with what `rest` still brings, are what `cut` brings to each open list; their spans are messages of
 -- the first `at` bytes, in their order; each goes to somebody; and none comes of no message and no fault
-pub record AreStaged (pending : Option ℕ → Option (List Content)) (port serial : ℕ) (bytes groups : List ℕ) (cut : Cut Untyped) (es : List (Entry Content)) (at : ℕ) (rest : Cut Untyped) : Type 0 where
+pub record AreStaged (pending : Option ℕ → Option (List Content)) (port serial : ℕ) (bytes groups : List ℕ)
+    (cut : Cut Untyped) (es : List (Entry Content)) (at : ℕ) (rest : Cut Untyped) : Type 0 where
   pub lists : (w : Option ℕ) → is_some (pending w) ≡ true
-      → deliveries_added bytes w es ++ deliveries_due port pending groups w rest ≡ deliveries_due port pending groups w cut
+      → deliveries_added bytes w es ++ deliveries_due port pending groups w rest
+          ≡ deliveries_due port pending groups w cut
   pub spans : AreOf serial at (spans_of es)
   pub messages : AreMessages (part_of bytes) (spans_of es)
   pub readers : HaveReaders pending es

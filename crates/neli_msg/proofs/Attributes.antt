@@ -15,9 +15,13 @@ texts_of : (list : Attributes) → map attribute_of (map nlattr_says list) ≡ l
 texts_of [] = refl
 texts_of (a ∷ list) = ap (λ (xs : Attributes). a ∷ xs) (texts_of list)
 
-pub attributes_value : (r : Result Attributes DeError) (s : List ℕ) → IfOk r (λ list. attributes_in (type_of nlmsgerr_attr_of) s ≡ Ok (map nlattr_says list)) → IfOk r (λ list. ext_ack_in s ≡ Ok list)
+pub attributes_value : (r : Result Attributes DeError) (s : List ℕ)
+    → IfOk r (λ list. attributes_in (type_of nlmsgerr_attr_of) s ≡ Ok (map nlattr_says list))
+    → IfOk r (λ list. ext_ack_in s ≡ Ok list)
 attributes_value r s h = IfOk-weaker r _ _ (λ list e. rw e (ap (λ (xs : Attributes). Ok xs) (texts_of list))) h
 
-pub attributes_refused : (r : Result Attributes DeError) (s : List ℕ) (takes : Type 0) → IfErr r (Refuses (attributes_in (type_of nlmsgerr_attr_of) s) takes) → IfErr r (Refuses (ext_ack_in s) takes)
+pub attributes_refused : (r : Result Attributes DeError) (s : List ℕ) (takes : Type 0)
+    → IfErr r (Refuses (attributes_in (type_of nlmsgerr_attr_of) s) takes) → IfErr r (Refuses (ext_ack_in s) takes)
 attributes_refused (Ok list) s takes h = h
-attributes_refused (Err e) s takes h = refused_first (attributes_in (type_of nlmsgerr_attr_of) s) _ takes takes e h (λ t. t)
+attributes_refused (Err e) s takes h = refused_first (attributes_in (type_of nlmsgerr_attr_of) s) _ takes takes e h
+    (λ t. t)

@@ -111,7 +111,8 @@ abbrev pub acknowledgement_in : {K : Type 0} → (ℕ → K) → List ℕ → Re
 acknowledgement_in type_of = headed_in type_of Unread
 
 -- an error: a code, the message that it answers, and attributes; `read` is the reading of a body
-abbrev pub failure_in : {K V : Type 0} → (ℕ → K) → (List ℕ → Result V DeError) → List ℕ → Result (Nlmsgerr (NlmsghdrErr K V)) DeError
+abbrev pub failure_in : {K V : Type 0} → (ℕ → K) → (List ℕ → Result V DeError) → List ℕ
+    → Result (Nlmsgerr (NlmsghdrErr K V)) DeError
 failure_in type_of read s = do
   rest ← after 20 s
   body ← echoed_in s

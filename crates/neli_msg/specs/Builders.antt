@@ -32,7 +32,8 @@ built_header b =
 
 -- the length of a header and a payload of n bytes, rounded up to four, which has to fit 32 bits
 abbrev pub own_length : ℕ → Outcome ℕ
-own_length n = if nat_lt 4294967295 (align (16 + n)) then Err (Invalid (codes "Length does not fit its field")) else Ok (align (16 + n))
+own_length n = if nat_lt 4294967295 (align (16 + n)) then Err (Invalid (codes "Length does not fit its field"))
+    else Ok (align (16 + n))
 
 -- an echoed message; without more its flags, sequence number and port are 0
 abbrev pub built_echo : {T P : Type 0} → (P → ℕ) → NlmsghdrErrBuilder T P → Outcome (NlmsghdrErr T P)
@@ -41,14 +42,16 @@ built_echo size b =
     require_field (codes "nl_payload") b.nl_payload (λ payload.
     own_length (size payload) >>> λ len.
     Ok (record {
-      header = header_with len message_type (unwrap_or b.nl_flags (flags_of 0)) (unwrap_or b.nl_seq 0) (unwrap_or b.nl_pid 0);
+      header = header_with len message_type (unwrap_or b.nl_flags (flags_of 0)) (unwrap_or b.nl_seq 0)
+          (unwrap_or b.nl_pid 0);
       payload = payload;
     })))
 
 -- an answer; without more its code is 0, and it has no attributes
 abbrev pub built_answer : {M : Type 0} → NlmsgerrBuilder M → Outcome (Nlmsgerr M)
 built_answer b =
-    require_field (codes "nlmsg") b.nlmsg (λ answered. Ok (answer (unwrap_or b.error (pos 0)) answered (unwrap_or b.ext_ack [])))
+    require_field (codes "nlmsg") b.nlmsg (λ answered. Ok
+        (answer (unwrap_or b.error (pos 0)) answered (unwrap_or b.ext_ack [])))
 
 -- a message; without more its sequence number and port are 0
 abbrev pub built_message : {T P : Type 0} → (P → ℕ) → NlmsghdrBuilder T P → Outcome (Nlmsghdr T P)

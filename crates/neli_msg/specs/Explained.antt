@@ -20,7 +20,8 @@ errno_in code = if int_lt code (pos 0) then errno_of (unsigned_abs code) else No
 
 -- the payload of the first attribute of a kind
 abbrev pub payload_in : NlmsgerrAttr → Attributes → Option (List ℕ)
-payload_in kind attrs = option_map (λ a. a.nla_payload) (find (λ a. nat_eq (nlmsgerr_attr_number a.nla_type.nla_type) (nlmsgerr_attr_number kind)) attrs)
+payload_in kind attrs = option_map (λ a. a.nla_payload)
+    (find (λ a. nat_eq (nlmsgerr_attr_number a.nla_type.nla_type) (nlmsgerr_attr_number kind)) attrs)
 
 -- the text: all bytes but the last, which is a zero, where they are UTF-8
 abbrev pub words_in : List ℕ → Option (List ℕ)
@@ -54,4 +55,5 @@ explained_text e = parts_text e.code (option_map errno_seen e.errno) (option_map
 
 -- what an answer of this code and these attributes is explained as
 abbrev pub explanation : ℤ → Attributes → List ℕ
-explanation code attrs = parts_text code (errno_in code) (option_and_then words_in (payload_in Msg attrs)) (option_and_then place_in (payload_in Offset attrs))
+explanation code attrs = parts_text code (errno_in code) (option_and_then words_in (payload_in Msg attrs))
+    (option_and_then place_in (payload_in Offset attrs))

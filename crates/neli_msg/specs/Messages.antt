@@ -13,15 +13,18 @@ Message K V = Header K × NlPayload K V
 
 -- 16 bytes of header, which state the length of the whole, and then a payload
 abbrev pub layout_with : {K V : Type 0} → (ℕ → K) → (Header K → List ℕ → Result V DeError) → Layout (Header K) V
-layout_with type_of payload_of = record { size = 16; header_of = header_in type_of; length_of = λ h. h.len; payload_of = payload_of }
+layout_with type_of payload_of = record { size = 16; header_of = header_in type_of; length_of = λ h. h.len;
+    payload_of = payload_of }
 
 -- an echoed message by itself: its payload is a body
 abbrev pub echo_layout : {K V : Type 0} → (ℕ → K) → (List ℕ → Result V DeError) → Layout (Header K) V
 echo_layout type_of read = layout_with type_of (λ _. read)
 
 -- a message: its type and flags say what its payload is
-abbrev pub message_layout : {K V : Type 0} → (ℕ → K) → (K → ℕ) → (List ℕ → Result V DeError) → Layout (Header K) (NlPayload K V)
-message_layout type_of number_of read = layout_with type_of (λ h. payload_in type_of read (number_of h.message_type) h.flags)
+abbrev pub message_layout : {K V : Type 0} → (ℕ → K) → (K → ℕ) → (List ℕ → Result V DeError)
+    → Layout (Header K) (NlPayload K V)
+message_layout type_of number_of read = layout_with type_of
+    (λ h. payload_in type_of read (number_of h.message_type) h.flags)
 
 -- where reading the payload of a message takes memory
 abbrev pub message_takes_memory : {K : Type 0} → (K → ℕ) → (List ℕ → Type 0) → Header K → List ℕ → Type 0

@@ -6,7 +6,10 @@ abbrev zeros : ℕ → List ℕ
 zeros n = replicate n 0
 
 -- at most 32 bytes and what is left of 32 zeros
-pub held_in_zeros : (xs : List ℕ) → length xs ≤ 32 → (length xs ≤ 32) × (length (xs ++ drop (length xs) (zeros 32)) ≡ 32) × (xs ++ drop (length xs) (zeros 32) ≡ take (length xs) (xs ++ drop (length xs) (zeros 32)) ++ zeros (32 - length xs))
+pub held_in_zeros : (xs : List ℕ) → length xs ≤ 32 → (length xs ≤ 32)
+    × (length (xs ++ drop (length xs) (zeros 32)) ≡ 32)
+    × (xs ++ drop (length xs) (zeros 32) ≡ take (length xs) (xs ++ drop (length xs) (zeros 32)) ++ zeros
+    (32 - length xs))
 held_in_zeros xs le =
     let rest = zeros (32 - length xs) in
     let left : drop (length xs) (zeros 32) ≡ rest = drop-replicate (length xs) 32 0 in

@@ -13,13 +13,17 @@ use Rattle.neli_payloads.specs.NextHops.{HopHead, next_hop, next_hops_at}
 
 module _ {A B : Type 0} (f : A → B) where
   -- the first item of what was left, and the items of what is left
-  pub yields-first : (r : Option (Result A DeError)) (old new : Cut B) → old ≡ cut_with (map_item f r) new → (IsNone r → new ≡ ([], None)) → IfSome r (λ item. OnErr item (new ≡ ([], None))) → MatchOption r ((items_of old ≡ []) × (items_of new ≡ [])) (λ x. items_of old ≡ map_ok f x ∷ items_of new)
+  pub yields-first : (r : Option (Result A DeError)) (old new : Cut B) → old ≡ cut_with (map_item f r) new
+      → (IsNone r → new ≡ ([], None)) → IfSome r (λ item. OnErr item (new ≡ ([], None)))
+      → MatchOption r ((items_of old ≡ []) × (items_of new ≡ [])) (λ x. items_of old ≡ map_ok f x ∷ items_of new)
   yields-first None old new is end fault = (ap items_of is, ap items_of (end refl))
   yields-first (Some (Ok a)) old new is end fault = ap items_of is
   yields-first (Some (Err e)) old new is end fault = ap items_of is ∙ sym (ap (λ (c : Cut B). Err e ∷ items_of c) fault)
 
   -- and so an item makes them fewer
-  pub makes-progress : (r : Option (Result A DeError)) (old new : Cut B) → MatchOption r ((items_of old ≡ []) × (items_of new ≡ [])) (λ x. items_of old ≡ map_ok f x ∷ items_of new) → OnSome r (length (items_of new) < length (items_of old))
+  pub makes-progress : (r : Option (Result A DeError)) (old new : Cut B)
+      → MatchOption r ((items_of old ≡ []) × (items_of new ≡ [])) (λ x. items_of old ≡ map_ok f x ∷ items_of new)
+      → OnSome r (length (items_of new) < length (items_of old))
   makes-progress None old new is = tt
   makes-progress (Some x) old new is = omega (arith, ap length is)
 
@@ -44,12 +48,15 @@ hops-end place e =
     let none : cut_of next_hop place.rest ≡ ([], None) = rw e (cut_of-end next_hop next_hop-placed (omega arith)) in
     ap (within (length (whole place))) none
 
-pub hops-hop : (place next : Place) (h : HopHead × List ℕ) → frame_at next_hop place.rest ≡ Ok (h, next.rest) → whole next ≡ whole place → next_hops_at place ≡ message_before h (next_hops_at next)
+pub hops-hop : (place next : Place) (h : HopHead × List ℕ) → frame_at next_hop place.rest ≡ Ok (h, next.rest)
+    → whole next ≡ whole place → next_hops_at place ≡ message_before h (next_hops_at next)
 unfolding next_hops_at
 hops-hop place next h e same =
-    rw same (ap (within (length (whole place))) (cut_of-message next_hop next_hop-placed (omega arith) place.rest next.rest h e))
+    rw same (ap (within (length (whole place))) (cut_of-message next_hop next_hop-placed
+        (omega arith) place.rest next.rest h e))
 
-pub hops-fault : (place : Place) (e : DeError) → place.rest ≢ [] → frame_at next_hop place.rest ≡ Err e → next_hops_at place ≡ ([], Some (refusal_within (length (whole place)) e))
+pub hops-fault : (place : Place) (e : DeError) → place.rest ≢ [] → frame_at next_hop place.rest ≡ Err e
+    → next_hops_at place ≡ ([], Some (refusal_within (length (whole place)) e))
 unfolding next_hops_at
 hops-fault place e any is =
     ap (within (length (whole place))) (cut_of-fault next_hop next_hop-placed (omega arith) place.rest e any is)

@@ -23,25 +23,34 @@ use Rattle.neli_places.proofs.Nexts.{found_none, slice_get_drop, slice_get_end, 
 use Rattle.std.proofs.lemmas.List.{drop-append-le, take-append-le}
 use Rattle.neli_places.specs.Places.{with_last, links_with}
 
-pub found_push_other : {T : Type 0} (p : Route → Bool) (n : ℕ) (l : List (Entry T)) (e : Entry T) → p e.route ≡ false → first_position p n (l ++ e ∷ []) ≡ first_position p n l
+pub found_push_other : {T : Type 0} (p : Route → Bool) (n : ℕ) (l : List (Entry T)) (e : Entry T) → p e.route ≡ false
+    → first_position p n (l ++ e ∷ []) ≡ first_position p n l
 found_push_other p n [] e h = rw h refl
-found_push_other p n (x ∷ l) e h = elim (b_or (p x.route)) [ inl it ↦ rw it refl | inr it ↦ rw it (found_push_other p (suc n) l e h) ]
+found_push_other p n (x ∷ l) e h = elim (b_or (p x.route)) [ inl it ↦ rw it refl | inr it ↦ rw it
+    (found_push_other p (suc n) l e h) ]
 
-pub found_push_here : {T : Type 0} (p : Route → Bool) (n : ℕ) (l : List (Entry T)) (e : Entry T) → p e.route ≡ true → first_position p n l ≡ None → first_position p n (l ++ e ∷ []) ≡ Some (n + length l)
+pub found_push_here : {T : Type 0} (p : Route → Bool) (n : ℕ) (l : List (Entry T)) (e : Entry T) → p e.route ≡ true
+    → first_position p n l ≡ None → first_position p n (l ++ e ∷ []) ≡ Some (n + length l)
 found_push_here p n [] e h none = let s : n + 0 ≡ n = omega arith in rw (h, s) refl
 found_push_here p n (x ∷ l) e h none = elim (b_or (p x.route)) [
   | inl it ↦ (let f = rw it at none in cc)
-  | inr it ↦ (let s : n + suc (length l) ≡ suc n + length l = omega arith in rw (it, s) (found_push_here p (suc n) l e h (rw it at none)))
+  | inr it ↦ (let s : n + suc (length l) ≡ suc n + length l = omega arith in
+      rw (it, s) (found_push_here p (suc n) l e h (rw it at none)))
 ]
 
-pub found_push_some : {T : Type 0} (p : Route → Bool) (n : ℕ) (l r : List (Entry T)) (m : ℕ) → first_position p n l ≡ Some m → first_position p n (l ++ r) ≡ Some m
+pub found_push_some : {T : Type 0} (p : Route → Bool) (n : ℕ) (l r : List (Entry T)) (m : ℕ)
+    → first_position p n l ≡ Some m → first_position p n (l ++ r) ≡ Some m
 found_push_some p n [] r m h = cc
-found_push_some p n (x ∷ l) r m h = elim (b_or (p x.route)) [ inl it ↦ (let f = rw it at h in rw it f) | inr it ↦ rw it (found_push_some p (suc n) l r m (rw it at h)) ]
+found_push_some p n (x ∷ l) r m h = elim (b_or (p x.route)) [ inl it ↦ (let f = rw it at h in
+    rw it f) | inr it ↦ rw it (found_push_some p (suc n) l r m (rw it at h)) ]
 
-pub found_push_there : {T : Type 0} (p : Route → Bool) (n : ℕ) (l r : List (Entry T)) (t : ℕ) (y : Entry T) → slice_get l t ≡ Some y → p y.route ≡ true → first_position p n (l ++ r) ≡ first_position p n l
+pub found_push_there : {T : Type 0} (p : Route → Bool) (n : ℕ) (l r : List (Entry T)) (t : ℕ) (y : Entry T)
+    → slice_get l t ≡ Some y → p y.route ≡ true → first_position p n (l ++ r) ≡ first_position p n l
 found_push_there p n [] r t y at h = cc
-found_push_there p n (x ∷ l) r zero y at h = let same : x ≡ y = cc in let it : p x.route ≡ true = ap (λ z. p z.route) same ∙ h in rw it refl
-found_push_there p n (x ∷ l) r (suc t) y at h = elim (b_or (p x.route)) [ inl it ↦ rw it refl | inr it ↦ rw it (found_push_there p (suc n) l r t y at h) ]
+found_push_there p n (x ∷ l) r zero y at h = let same : x ≡ y = cc in
+    let it : p x.route ≡ true = ap (λ z. p z.route) same ∙ h in rw it refl
+found_push_there p n (x ∷ l) r (suc t) y at h = elim (b_or (p x.route)) [ inl it ↦ rw it refl | inr it ↦ rw it
+    (found_push_there p (suc n) l r t y at h) ]
 
 pub get_push : {A : Type 0} (l : List A) (x : A) (i : ℕ) → i < length l → slice_get (l ++ x ∷ []) i ≡ slice_get l i
 get_push [] x i h = absurd (omega arith)
@@ -81,12 +90,17 @@ own_one (Some p) (Some q) Multicast a b = cc
 own_one (Some p) (Some q) (Number n) a b = ap Some (let f = eqb_same n p a in let g = eqb_same n q b in cc)
 own_one (Some p) (Some q) Numbers a b = cc
 
-module _ {T : Type 0} (base : ℕ) (es : List (Entry T)) (links : List (Option ℕ)) (e : Entry T) (as_long : length links ≡ length es) where
+module _ {T : Type 0} (base : ℕ) (es : List (Entry T)) (links : List (Option ℕ)) (e : Entry T)
+    (as_long : length links ≡ length es) where
   -- a place that the entry does not concern
-  module _ (w : Option ℕ) (off : leads_only w e.route ≡ false) (links' : List (Option ℕ)) (same_long : length links' ≡ length links)
-      (relinks : (i : ℕ) (x : Entry T) → slice_get es i ≡ Some x → leads_only w x.route ≡ true → slice_get links' i ≡ slice_get links i) where
-    chain_other : (k : ℕ) (o : Option Chain) → k ≤ length es → base ≤ base → ((c : Chain) → o ≡ Some c → base ≤ c.last) → IsOwn w base es k o → IsOwn w base (es ++ e ∷ []) k o
-    chain_other k None le _ ge h = rw (drop-append-le k es (e ∷ []) le) (found_push_other (leads_only w) (base + k) (drop k es) e off ∙ h)
+  module _ (w : Option ℕ) (off : leads_only w e.route ≡ false) (links' : List (Option ℕ))
+      (same_long : length links' ≡ length links)
+      (relinks : (i : ℕ) (x : Entry T) → slice_get es i ≡ Some x → leads_only w x.route ≡ true
+          → slice_get links' i ≡ slice_get links i) where
+    chain_other : (k : ℕ) (o : Option Chain) → k ≤ length es → base ≤ base → ((c : Chain) → o ≡ Some c → base ≤ c.last)
+        → IsOwn w base es k o → IsOwn w base (es ++ e ∷ []) k o
+    chain_other k None le _ ge h = rw (drop-append-le k es (e ∷ []) le)
+        (found_push_other (leads_only w) (base + k) (drop k es) e off ∙ h)
     chain_other k (Some c) le _ ge h =
         let lt = h.2 in
         let low = ge c refl in
@@ -96,7 +110,8 @@ module _ {T : Type 0} (base : ℕ) (es : List (Entry T)) (links : List (Option �
           h.1,
           omega (arith, long),
           (λ x at. h.3 x (rw (get_push es e (c.last - base) (omega arith)) at at)),
-          rw (drop-append-le (suc (c.last - base)) es (e ∷ []) le') (found_push_other (leads_only w) (suc c.last) (drop (suc (c.last - base)) es) e off ∙ h.4),
+          rw (drop-append-le (suc (c.last - base)) es (e ∷ []) le')
+              (found_push_other (leads_only w) (suc c.last) (drop (suc (c.last - base)) es) e off ∙ h.4),
         )
 
     linked_other : (k : ℕ) → IsLinked w base es links k → IsLinked w base (es ++ e ∷ []) (links' ++ None ∷ []) k
@@ -105,7 +120,8 @@ module _ {T : Type 0} (base : ℕ) (es : List (Entry T)) (links : List (Option �
           let old = rw (get_push es e i lt) at at in
           let a = h i x le old is in
           let le' : suc i ≤ length es = omega arith in
-          rw (get_push links' None i (omega arith), relinks i x old is, a, drop-append-le (suc i) es (e ∷ []) le', found_push_other (leads_only w) (suc (base + i)) (drop (suc i) es) e off) refl
+          rw (get_push links' None i (omega arith), relinks i x old is, a, drop-append-le (suc i) es (e ∷ []) le',
+              found_push_other (leads_only w) (suc (base + i)) (drop (suc i) es) e off) refl
       | inr ge ↦
           let lt' = slice_get_end (es ++ e ∷ []) i x at in
           let long = long_push es e in
@@ -127,7 +143,8 @@ module _ {T : Type 0} (base : ℕ) (es : List (Entry T)) (links : List (Option �
         }
       where
         low_of : (k : ℕ) (c : Chain) → IsOwn w base es k (Some c) → base ≤ c.last
-        low_of k c h = let a = found_from (leads_only w) (base + k) (drop k es) c.first h.0 in let b = h.1 in omega arith
+        low_of k c h = let a = found_from (leads_only w) (base + k) (drop k es) c.first h.0 in let b = h.1 in
+            omega arith
 
         low : (p : Place) (c : Chain) → p.own ≡ Some c → IsOwn w base es (p.from - base) p.own → base ≤ c.last
         low p c is h = low_of (p.from - base) c (rw is at h)
@@ -137,42 +154,50 @@ module _ {T : Type 0} (base : ℕ) (es : List (Entry T)) (links : List (Option �
     long : length (es ++ e ∷ []) ≡ length es + 1
     long = long_push es e
 
-    pub chain_mine : (o : Option Chain) → IsOwn w base es k o → IsOwn w base (es ++ e ∷ []) k (Some (with_last o (base + length es)))
+    pub chain_mine : (o : Option Chain) → IsOwn w base es k o
+        → IsOwn w base (es ++ e ∷ []) k (Some (with_last o (base + length es)))
     chain_mine None h =
         let n : base + k + length (drop k es) ≡ base + length es = (let a = length-drop k es in omega (arith, a)) in
         let i : base + length es - base ≡ length es = omega arith in (
           rw (drop-append-le k es (e ∷ []) le, ← n) (found_push_here (leads_only w) (base + k) (drop k es) e mine h),
           omega arith,
           omega (arith, long),
-          (λ x at. let a = rw (i, get_last es e) at at in let same : e ≡ x = cc in ap (λ y. leads_only w y.route) (sym same) ∙ mine),
+          (λ x at. let a = rw (i, get_last es e) at at in let same : e ≡ x = cc in
+              ap (λ y. leads_only w y.route) (sym same) ∙ mine),
           rw (drop_end (es ++ e ∷ []) (suc (base + length es - base)) (omega (arith, long))) refl,
         )
     chain_mine (Some c) h =
         let i : base + length es - base ≡ length es = omega arith in
         let low = found_from (leads_only w) (base + k) (drop k es) c.first h.0 in
         let a1 = h.1 in let a2 = h.2 in (
-          rw (drop-append-le k es (e ∷ []) le) (found_push_some (leads_only w) (base + k) (drop k es) (e ∷ []) c.first h.0),
+          rw (drop-append-le k es (e ∷ []) le) (found_push_some (leads_only w) (base + k) (drop k es)
+              (e ∷ []) c.first h.0),
           omega arith,
           omega (arith, long),
-          (λ x at. let a = rw (i, get_last es e) at at in let same : e ≡ x = cc in ap (λ y. leads_only w y.route) (sym same) ∙ mine),
+          (λ x at. let a = rw (i, get_last es e) at at in let same : e ≡ x = cc in
+              ap (λ y. leads_only w y.route) (sym same) ∙ mine),
           rw (drop_end (es ++ e ∷ []) (suc (base + length es - base)) (omega (arith, long))) refl,
         )
 
-    last_link : (links' : List (Option ℕ)) (i : ℕ) → length links' ≡ length es → i ≡ length es → slice_get (links' ++ None ∷ []) i ≡ Some (first_position (leads_only w) (suc (base + i)) (drop (suc i) (es ++ e ∷ [])))
+    last_link : (links' : List (Option ℕ)) (i : ℕ) → length links' ≡ length es → i ≡ length es
+        → slice_get (links' ++ None ∷ []) i ≡ Some (first_position (leads_only w) (suc (base + i))
+        (drop (suc i) (es ++ e ∷ [])))
     last_link links' i l is =
         let g : i ≡ length links' = omega arith in
         let f = get_last links' None in
         rw (drop_end (es ++ e ∷ []) (suc i) (omega (arith, long)), g) f
 
     -- what is own from k on, while none is
-    none_mine : (i : ℕ) (x : Entry T) → first_position (leads_only w) (base + k) (drop k es) ≡ None → k ≤ i → slice_get es i ≡ Some x → leads_only w x.route ≡ true → ⊥
+    none_mine : (i : ℕ) (x : Entry T) → first_position (leads_only w) (base + k) (drop k es) ≡ None → k ≤ i
+        → slice_get es i ≡ Some x → leads_only w x.route ≡ true → ⊥
     none_mine i x none ge at is =
         let s : k + (i - k) ≡ i = omega arith in
         let f : slice_get (drop k es) (i - k) ≡ Some x = rw (slice_get_drop k (i - k) es, s) at in
         let off = found_none (leads_only w) (base + k) (drop k es) none (i - k) x f in
         cc
 
-    pub linked_mine : (o : Option Chain) → IsOwn w base es k o → IsLinked w base es links k → IsLinked w base (es ++ e ∷ []) (links_with base o (base + length es) links ++ None ∷ []) k
+    pub linked_mine : (o : Option Chain) → IsOwn w base es k o → IsLinked w base es links k
+        → IsLinked w base (es ++ e ∷ []) (links_with base o (base + length es) links ++ None ∷ []) k
     linked_mine None h linked i x ge at is = elim (cases_lt i (length es)) [
       | inl lt ↦ absurd (none_mine i x h ge (rw (get_push es e i lt) at at) is)
       | inr past ↦ (let end = slice_get_end (es ++ e ∷ []) i x at in last_link links i as_long (omega (arith, long)))
@@ -180,34 +205,44 @@ module _ {T : Type 0} (base : ℕ) (es : List (Entry T)) (links : List (Option �
     linked_mine (Some c) h linked i x ge at is =
         let low = found_from (leads_only w) (base + k) (drop k es) c.first h.0 in
         let a1 = h.1 in let a2 = h.2 in
-        let l' : length (set links (c.last - base) (Some (base + length es))) ≡ length es = length-set links (c.last - base) (Some (base + length es)) ∙ as_long in
+        let l' : length (set links (c.last - base) (Some (base + length es))) ≡ length es =
+            length-set links (c.last - base) (Some (base + length es)) ∙ as_long in
         elim (cases_lt i (length es)) [
           | inl lt ↦
               let old = rw (get_push es e i lt) at at in
               let here : i < length (set links (c.last - base) (Some (base + length es))) = omega (arith, l') in
               let le' : suc i ≤ length es = omega arith in
-              rw (get_push (set links (c.last - base) (Some (base + length es))) None i here, drop-append-le (suc i) es (e ∷ []) le')
+              rw (get_push (set links (c.last - base) (Some (base + length es))) None i here,
+                  drop-append-le (suc i) es (e ∷ []) le')
               (elim (cases_order i (c.last - base)) [
                 | inl same ↦
                     let d : suc c.last ≡ suc (base + i) = omega arith in
                     let none = rw (← same, d) at h.4 in
-                    let n : suc (base + i) + length (drop (suc i) es) ≡ base + length es = (let a = length-drop (suc i) es in omega (arith, a)) in
-                    rw (← same, get_set_here links i (Some (base + length es)) (omega arith), found_push_here (leads_only w) (suc (base + i)) (drop (suc i) es) e mine none, n) refl
+                    let n : suc (base + i) + length (drop (suc i) es) ≡ base + length es =
+                        (let a = length-drop (suc i) es in omega (arith, a)) in
+                    rw (← same, get_set_here links i (Some (base + length es)) (omega arith),
+                        found_push_here (leads_only w) (suc (base + i)) (drop (suc i) es) e mine none, n) refl
                 | inr other ↦ elim other [
                   | inl before ↦
                       let ne : i ≢ c.last - base = omega arith in
                       let s : suc i + (c.last - base - suc i) ≡ c.last - base = omega arith in
                       let y = last_entry c h in
-                      let t : slice_get (drop (suc i) es) (c.last - base - suc i) ≡ Some y.0 = rw (slice_get_drop (suc i) (c.last - base - suc i) es, s) y.1 in
-                      rw (get_set_other links (c.last - base) i (Some (base + length es)) ne, found_push_there (leads_only w) (suc (base + i)) (drop (suc i) es) (e ∷ []) (c.last - base - suc i) y.0 t (h.3 y.0 y.1)) (linked i x ge old is)
+                      let t : slice_get (drop (suc i) es) (c.last - base - suc i) ≡ Some y.0 =
+                          rw (slice_get_drop (suc i) (c.last - base - suc i) es, s) y.1 in
+                      rw (get_set_other links (c.last - base) i (Some (base + length es)) ne,
+                          found_push_there (leads_only w) (suc (base + i)) (drop (suc i) es) (e ∷ [])
+                          (c.last - base - suc i) y.0 t (h.3 y.0 y.1)) (linked i x ge old is)
                   | inr after ↦
                       let s : suc (c.last - base) + (i - suc (c.last - base)) ≡ i = omega arith in
-                      let t : slice_get (drop (suc (c.last - base)) es) (i - suc (c.last - base)) ≡ Some x = rw (slice_get_drop (suc (c.last - base)) (i - suc (c.last - base)) es, s) old in
-                      let off = found_none (leads_only w) (suc c.last) (drop (suc (c.last - base)) es) h.4 (i - suc (c.last - base)) x t in
+                      let t : slice_get (drop (suc (c.last - base)) es) (i - suc (c.last - base)) ≡ Some x =
+                          rw (slice_get_drop (suc (c.last - base)) (i - suc (c.last - base)) es, s) old in
+                      let off = found_none (leads_only w) (suc c.last) (drop (suc (c.last - base)) es) h.4
+                          (i - suc (c.last - base)) x t in
                       cc
                 ]
               ])
-          | inr past ↦ (let end = slice_get_end (es ++ e ∷ []) i x at in last_link (set links (c.last - base) (Some (base + length es))) i l' (omega (arith, long)))
+          | inr past ↦ (let end = slice_get_end (es ++ e ∷ []) i x at in
+              last_link (set links (c.last - base) (Some (base + length es))) i l' (omega (arith, long)))
         ]
       where
         at_index : (l : List (Entry T)) (j : ℕ) → j < length l → (y : Entry T) × (slice_get l j ≡ Some y)
@@ -216,9 +251,11 @@ module _ {T : Type 0} (base : ℕ) (es : List (Entry T)) (links : List (Option �
         at_index (y ∷ l) (suc j) h = at_index l j (omega arith)
 
         last_entry : (c : Chain) → IsOwn w base es k (Some c) → (y : Entry T) × (slice_get es (c.last - base) ≡ Some y)
-        last_entry c h = (let low = found_from (leads_only w) (base + k) (drop k es) c.first h.0 in let a1 = h.1 in let a2 = h.2 in at_index es (c.last - base) (omega arith))
+        last_entry c h = (let low = found_from (leads_only w) (base + k) (drop k es) c.first h.0 in let a1 = h.1 in
+            let a2 = h.2 in at_index es (c.last - base) (omega arith))
 
-  pub place_mine : (w : Option ℕ) (p x : Place) → leads_only w e.route ≡ true → x.from ≡ p.from → x.own ≡ Some (with_last p.own (base + length es)) → IsPlace w base es links p
+  pub place_mine : (w : Option ℕ) (p x : Place) → leads_only w e.route ≡ true → x.from ≡ p.from
+      → x.own ≡ Some (with_last p.own (base + length es)) → IsPlace w base es links p
       → IsPlace w base (es ++ e ∷ []) (links_with base p.own (base + length es) links ++ None ∷ []) x
   place_mine w p x mine from owned h =
       let long = long_push es e in
@@ -232,7 +269,8 @@ module _ {T : Type 0} (base : ℕ) (es : List (Entry T)) (links : List (Option �
 -- ---- the whole log
 
 abbrev pub Altered : (Option ℕ → Option Place) → (Option ℕ → Option Place) → Option ℕ → Place → Type 0
-Altered place place' w x = (v : Option ℕ) (p : Place) → place' v ≡ Some p → ((v ≢ w) × (place v ≡ Some p)) ⊎ ((v ≡ w) × (p ≡ x))
+Altered place place' w x = (v : Option ℕ) (p : Place) → place' v ≡ Some p
+    → ((v ≢ w) × (place v ≡ Some p)) ⊎ ((v ≡ w) × (p ≡ x))
 
 abbrev pub SameFrom : (Option ℕ → Option Place) → (Option ℕ → Option Place) → Type 0
 SameFrom place place' = (v : Option ℕ) → option_map (λ p. p.from) (place' v) ≡ option_map (λ p. p.from) (place v)
@@ -240,40 +278,50 @@ SameFrom place place' = (v : Option ℕ) → option_map (λ p. p.from) (place' v
 no_some : (q : ℕ) → ◌≡◌ {A = Option ℕ} None (Some q) → ⊥
 no_some q h = cc
 
-pub altered_multicast : (place place' : Option ℕ → Option Place) (x : Place) → place' None ≡ Some x → ((q : ℕ) → place' (Some q) ≡ place (Some q)) → Altered place place' None x
+pub altered_multicast : (place place' : Option ℕ → Option Place) (x : Place) → place' None ≡ Some x
+    → ((q : ℕ) → place' (Some q) ≡ place (Some q)) → Altered place place' None x
 altered_multicast place place' x none some None p is = (let f : x ≡ p = cc in inr (refl, sym f))
 altered_multicast place place' x none some (Some q) p is = inl ((λ e. no_some q (sym e)), sym (some q) ∙ is)
 
-pub altered_number : (place place' : Option ℕ → Option Place) (n : ℕ) (x : Place) → place' None ≡ place None → ((q : ℕ) → place' (Some q) ≡ cond (nat_eq n q) (Some x) (place (Some q))) → Altered place place' (Some n) x
+pub altered_number : (place place' : Option ℕ → Option Place) (n : ℕ) (x : Place) → place' None ≡ place None
+    → ((q : ℕ) → place' (Some q) ≡ cond (nat_eq n q) (Some x) (place (Some q))) → Altered place place' (Some n) x
 altered_number place place' n x none some None p is = inl (no_some n, sym none ∙ is)
 altered_number place place' n x none some (Some q) p is = elim (b_or (nat_eq n q)) [
-  | inl it ↦ (let f = rw it at (sym (some q) ∙ is) in let same : x ≡ p = cc in inr (ap Some (sym (eqb_same n q it)), sym same))
+  | inl it ↦ (let f = rw it at (sym (some q) ∙ is) in let same : x ≡ p = cc in
+      inr (ap Some (sym (eqb_same n q it)), sym same))
   | inr it ↦ (let f = rw it at (sym (some q) ∙ is) in inl ((λ e. differs n q it e), f))
 ]
   where
     differs : (n q : ℕ) → nat_eq n q ≡ false → ◌≡◌ {A = Option ℕ} (Some q) (Some n) → ⊥
     differs n q off e = let same : n ≡ q = cc in let f = rw same at off in let g = eqb_refl q in cc
 
-pub from_multicast : (place place' : Option ℕ → Option Place) (p x : Place) → place None ≡ Some p → place' None ≡ Some x → x.from ≡ p.from → ((q : ℕ) → place' (Some q) ≡ place (Some q)) → SameFrom place place'
+pub from_multicast : (place place' : Option ℕ → Option Place) (p x : Place) → place None ≡ Some p → place' None ≡ Some x
+    → x.from ≡ p.from → ((q : ℕ) → place' (Some q) ≡ place (Some q)) → SameFrom place place'
 from_multicast place place' p x is none from some None = rw (none, is, from) refl
 from_multicast place place' p x is none from some (Some q) = rw (some q) refl
 
-pub from_number : (place place' : Option ℕ → Option Place) (n : ℕ) (p x : Place) → place (Some n) ≡ Some p → x.from ≡ p.from → place' None ≡ place None → ((q : ℕ) → place' (Some q) ≡ cond (nat_eq n q) (Some x) (place (Some q))) → SameFrom place place'
+pub from_number : (place place' : Option ℕ → Option Place) (n : ℕ) (p x : Place) → place (Some n) ≡ Some p
+    → x.from ≡ p.from → place' None ≡ place None → ((q : ℕ)
+    → place' (Some q) ≡ cond (nat_eq n q) (Some x) (place (Some q))) → SameFrom place place'
 from_number place place' n p x is from none some None = rw none refl
 from_number place place' n p x is from none some (Some q) = elim (b_or (nat_eq n q)) [
-  | inl it ↦ (let same : n ≡ q = eqb_same n q it in let is' : place (Some q) ≡ Some p = rw same at is in rw (some q, it, is', from) refl)
+  | inl it ↦ (let same : n ≡ q = eqb_same n q it in let is' : place (Some q) ≡ Some p = rw same at is in
+      rw (some q, it, is', from) refl)
   | inr it ↦ rw (some q, it) refl
 ]
 
-pub items_append : {T : Type 0} (w : Option ℕ) (l r : List (Entry T)) → items_for w (l ++ r) ≡ items_for w l ++ items_for w r
+pub items_append : {T : Type 0} (w : Option ℕ) (l r : List (Entry T))
+    → items_for w (l ++ r) ≡ items_for w l ++ items_for w r
 items_append w [] r = refl
 items_append w (e ∷ l) r = elim (b_or (leads w e.route)) [
   | inl it ↦ rw it (ap (λ ds. e.item ∷ ds) (items_append w l r))
   | inr it ↦ rw it (items_append w l r)
 ]
 
-pub pending_add : {T : Type 0} (w : Option ℕ) (base : ℕ) (es : List (Entry T)) (e : Entry T) (o o' : Option Place) → option_map (λ p. p.from) o' ≡ option_map (λ p. p.from) o → ((p : Place) → o ≡ Some p → p.from ≤ base + length es)
-    → option_map (λ p. items_for w (rest base (es ++ e ∷ []) p)) o' ≡ option_map (λ ds. ds ++ items_for w (e ∷ [])) (option_map (λ p. items_for w (rest base es p)) o)
+pub pending_add : {T : Type 0} (w : Option ℕ) (base : ℕ) (es : List (Entry T)) (e : Entry T) (o o' : Option Place)
+    → option_map (λ p. p.from) o' ≡ option_map (λ p. p.from) o → ((p : Place) → o ≡ Some p → p.from ≤ base + length es)
+    → option_map (λ p. items_for w (rest base (es ++ e ∷ []) p)) o'
+        ≡ option_map (λ ds. ds ++ items_for w (e ∷ [])) (option_map (λ p. items_for w (rest base es p)) o)
 pending_add w base es e None None from within = refl
 pending_add w base es e None (Some x) from within = cc
 pending_add w base es e (Some p) None from within = cc
@@ -281,121 +329,166 @@ pending_add w base es e (Some p) (Some x) from within =
     let same : x.from ≡ p.from = cc in
     let a = within p refl in
     let le : p.from - base ≤ length es = omega arith in
-    rw (same, drop-append-le (p.from - base) es (e ∷ []) le) (ap Some (items_append w (drop (p.from - base) es) (e ∷ [])))
+    rw (same, drop-append-le (p.from - base) es (e ∷ []) le)
+        (ap Some (items_append w (drop (p.from - base) es) (e ∷ [])))
 
-some_from : (o o' : Option Place) (p : Place) → option_map (λ p. p.from) o' ≡ option_map (λ p. p.from) o → o ≡ Some p → (x : Place) × (o' ≡ Some x) × (x.from ≡ p.from)
+some_from : (o o' : Option Place) (p : Place) → option_map (λ p. p.from) o' ≡ option_map (λ p. p.from) o → o ≡ Some p
+    → (x : Place) × (o' ≡ Some x) × (x.from ≡ p.from)
 some_from None o' p from is = cc
 some_from (Some y) None p from is = cc
-some_from (Some y) (Some x) p from is = (x, refl, (let same : y ≡ p = cc in let f : x.from ≡ y.from = cc in f ∙ ap (λ z. z.from) same))
+some_from (Some y) (Some x) p from is = (x, refl, (let same : y ≡ p = cc in let f : x.from ≡ y.from = cc in
+    f ∙ ap (λ z. z.from) same))
 
-pub trimmed_add : {T : Type 0} (place place' : Option ℕ → Option Place) (base : ℕ) (es : List (Entry T)) (e : Entry T) (w : Option ℕ) (p : Place) → SameFrom place place' → place w ≡ Some p → p.from ≤ base + length es → leads w e.route ≡ true
+pub trimmed_add : {T : Type 0} (place place' : Option ℕ
+    → Option Place) (base : ℕ) (es : List (Entry T)) (e : Entry T) (w : Option ℕ) (p : Place) → SameFrom place place'
+    → place w ≡ Some p → p.from ≤ base + length es → leads w e.route ≡ true
     → BeginsAwaited place base es → BeginsAwaited place' base (es ++ e ∷ [])
-trimmed_add place place' base [] e w p same is le t h = let x = some_from (place w) (place' w) p (same w) is in (w, x.0, x.1, (let a = x.2 in omega arith), t)
-trimmed_add place place' base (y ∷ es) e w p same is le t h = let x = some_from (place h.0) (place' h.0) h.1 (same h.0) h.2 in (h.0, x.0, x.1, (let a = x.2 in let b = h.3 in omega arith), h.4)
+trimmed_add place place' base [] e w p same is le t h = let x = some_from (place w) (place' w) p (same w) is in
+    (w, x.0, x.1, (let a = x.2 in omega arith), t)
+trimmed_add place place' base (y ∷ es) e w p same is le t h = let x =
+    some_from (place h.0) (place' h.0) h.1 (same h.0) h.2 in
+    (h.0, x.0, x.1, (let a = x.2 in let b = h.3 in omega arith), h.4)
 
-positions_push : {T : Type 0} (n : ℕ) (es : List (Entry T)) (e : Entry T) → is_shared e.route ≡ false → shared_positions n (es ++ e ∷ []) ≡ shared_positions n es
+positions_push : {T : Type 0} (n : ℕ) (es : List (Entry T)) (e : Entry T) → is_shared e.route ≡ false
+    → shared_positions n (es ++ e ∷ []) ≡ shared_positions n es
 positions_push n [] e h = rw h refl
-positions_push n (x ∷ es) e h = elim (b_or (is_shared x.route)) [ inl it ↦ rw it (ap (λ l. n ∷ l) (positions_push (suc n) es e h)) | inr it ↦ rw it (positions_push (suc n) es e h) ]
+positions_push n (x ∷ es) e h = elim (b_or (is_shared x.route)) [ inl it ↦ rw it
+    (ap (λ l. n ∷ l) (positions_push (suc n) es e h)) | inr it ↦ rw it (positions_push (suc n) es e h) ]
 
-positions_push_shared : {T : Type 0} (n : ℕ) (es : List (Entry T)) (e : Entry T) → is_shared e.route ≡ true → shared_positions n (es ++ e ∷ []) ≡ shared_positions n es ++ (n + length es) ∷ []
+positions_push_shared : {T : Type 0} (n : ℕ) (es : List (Entry T)) (e : Entry T) → is_shared e.route ≡ true
+    → shared_positions n (es ++ e ∷ []) ≡ shared_positions n es ++ (n + length es) ∷ []
 positions_push_shared n [] e h = let s : n + 0 ≡ n = omega arith in rw (h, s) refl
 positions_push_shared n (x ∷ es) e h =
     let s : n + suc (length es) ≡ suc n + length es = omega arith in
-    elim (b_or (is_shared x.route)) [ inl it ↦ rw (it, s) (ap (λ l. n ∷ l) (positions_push_shared (suc n) es e h)) | inr it ↦ rw (it, s) (positions_push_shared (suc n) es e h) ]
+    elim (b_or (is_shared x.route)) [ inl it ↦ rw (it, s)
+        (ap (λ l. n ∷ l) (positions_push_shared (suc n) es e h)) | inr it ↦ rw (it, s)
+        (positions_push_shared (suc n) es e h) ]
 
 positions_map_push : (ss : List Shared) (x : Shared) → map (λ s. s.at) (ss ++ x ∷ []) ≡ map (λ s. s.at) ss ++ x.at ∷ []
 positions_map_push [] x = refl
 positions_map_push (s ∷ ss) x = ap (λ l. s.at ∷ l) (positions_map_push ss x)
 
-standing_push : (ss : List Shared) (x : Shared) (c n : ℕ) → x.standing ≡ c → standing_at (ss ++ x ∷ []) 0 n ≡ standing_at ss c n
+standing_push : (ss : List Shared) (x : Shared) (c n : ℕ) → x.standing ≡ c
+    → standing_at (ss ++ x ∷ []) 0 n ≡ standing_at ss c n
 standing_push [] x c zero h = h
 standing_push [] x c (suc zero) h = refl
 standing_push [] x c (suc (suc n)) h = refl
 standing_push (s ∷ ss) x c zero h = refl
 standing_push (s ∷ ss) x c (suc n) h = standing_push ss x c n h
 
-seen_add : {T : Type 0} (shared_base base : ℕ) (es : List (Entry T)) (e : Entry T) (p : Place) → p.from ≤ base + length es → IsSeen shared_base base es p → IsSeen shared_base base (es ++ e ∷ []) p
+seen_add : {T : Type 0} (shared_base base : ℕ) (es : List (Entry T)) (e : Entry T) (p : Place)
+    → p.from ≤ base + length es → IsSeen shared_base base es p → IsSeen shared_base base (es ++ e ∷ []) p
 seen_add shared_base base es e p le h =
     let k : p.from - base ≤ length es = omega arith in
     rw (take-append-le (p.from - base) es (e ∷ []) k) h
 
-seen_from : {T : Type 0} (shared_base base : ℕ) (es : List (Entry T)) (p x : Place) → x.from ≡ p.from → x.seen ≡ p.seen → IsSeen shared_base base es p → IsSeen shared_base base es x
+seen_from : {T : Type 0} (shared_base base : ℕ) (es : List (Entry T)) (p x : Place) → x.from ≡ p.from → x.seen ≡ p.seen
+    → IsSeen shared_base base es p → IsSeen shared_base base es x
 seen_from shared_base base es p x from seen h = rw (from, seen) h
 
-module _ {T : Type 0} (place place' : Option ℕ → Option Place) (numbers numbers' : List Place) (base shared_base c : ℕ) (es : List (Entry T)) (links : List (Option ℕ)) (shared : List Shared) (e : Entry T)
+module _ {T : Type 0} (place place' : Option ℕ → Option Place) (numbers numbers' : List Place) (base shared_base c : ℕ)
+    (es : List (Entry T)) (links : List (Option ℕ)) (shared : List Shared) (e : Entry T)
     (h : AreSound place numbers base shared_base c es links shared) (room : base + length es + 1 < 2 ^ 64) where
   -- the length of the links
   relinked_long : (o : Option Chain) (m : ℕ) → length (links_with base o m links) ≡ length links
   relinked_long None m = refl
   relinked_long (Some o) m = length-set links (o.last - base) (Some m)
 
-  relinked_same : (w v : Option ℕ) (p : Place) (m : ℕ) → v ≢ w → IsOwn w base es (p.from - base) p.own → (i : ℕ) (x : Entry T) → slice_get es i ≡ Some x → leads_only v x.route ≡ true → slice_get (links_with base p.own m links) i ≡ slice_get links i
+  relinked_same : (w v : Option ℕ) (p : Place) (m : ℕ) → v ≢ w → IsOwn w base es (p.from - base) p.own
+      → (i : ℕ) (x : Entry T) → slice_get es i ≡ Some x → leads_only v x.route ≡ true
+      → slice_get (links_with base p.own m links) i ≡ slice_get links i
   relinked_same w v p m other owned i x at is = by p.own owned
     where
-      by : (o : Option Chain) → IsOwn w base es (p.from - base) o → slice_get (links_with base o m links) i ≡ slice_get links i
+      by : (o : Option Chain) → IsOwn w base es (p.from - base) o
+          → slice_get (links_with base o m links) i ≡ slice_get links i
       by None g = refl
       by (Some o) g = elim (cases_eq i (o.last - base)) [
         | inl same ↦ absurd (other (own_one w v x.route (g.3 x (rw same at at)) is))
         | inr ne ↦ get_set_other links (o.last - base) i (Some m) ne
       ]
 
-  pub sound_add_own : (w : Option ℕ) (p x : Place) → Altered place place' w x → place w ≡ Some p → leads_only w e.route ≡ true → is_shared e.route ≡ false → x.from ≡ p.from → x.own ≡ Some (with_last p.own (base + length es)) → x.seen ≡ p.seen
+  pub sound_add_own : (w : Option ℕ) (p x : Place) → Altered place place' w x → place w ≡ Some p
+      → leads_only w e.route ≡ true → is_shared e.route ≡ false → x.from ≡ p.from
+      → x.own ≡ Some (with_last p.own (base + length es)) → x.seen ≡ p.seen
       → ((k : ℕ) → waiting_count k numbers' ≡ waiting_count k numbers)
-      → AreSound place' numbers' base shared_base c (es ++ e ∷ []) (links_with base p.own (base + length es) links ++ None ∷ []) shared
+      → AreSound place' numbers' base shared_base c (es ++ e ∷ [])
+          (links_with base p.own (base + length es) links ++ None ∷ []) shared
   sound_add_own w p x altered is mine off from owned seen same =
       let long = long_push es e in
       record {
         fits = (omega (arith, long, room));
         shared_fits = (let f = h.shared_fits in omega (arith, long));
-        as_long = (let f = length-append (links_with base p.own (base + length es) links) (None ∷ []) in let g = relinked_long p.own (base + length es) in let k = h.as_long in omega (arith, f, g, k, long));
+        as_long = (let f = length-append (links_with base p.own (base + length es) links) (None ∷ []) in
+            let g = relinked_long p.own (base + length es) in let k = h.as_long in omega (arith, f, g, k, long));
         places = λ v y at. elim (altered v y at) [
-          | inl old ↦ place_other base es links e h.as_long v (elim (b_or (leads_only v e.route)) [ inl it ↦ absurd (old.0 (own_one w v e.route mine it)) | inr it ↦ it ]) (links_with base p.own (base + length es) links) (relinked_long p.own (base + length es))
+          | inl old ↦ place_other base es links e h.as_long v
+              (elim (b_or (leads_only v e.route)) [ inl it ↦ absurd
+              (old.0 (own_one w v e.route mine it)) | inr it ↦ it ]) (links_with base p.own (base + length es) links)
+              (relinked_long p.own (base + length es))
               (relinked_same w v p (base + length es) old.0 (h.places w p is).chain) y (h.places v y old.1)
           | inr new ↦ rw (new.0, new.1) (place_mine base es links e h.as_long w p x mine from owned (h.places w p is))
         ];
         seen = λ q y at. elim (altered (Some q) y at) [
           | inl old ↦ seen_add shared_base base es e y (h.places (Some q) y old.1).within (h.seen q y old.1)
-          | inr new ↦ (let is' : place (Some q) ≡ Some p = rw new.0 is in rw new.1 (seen_from shared_base base (es ++ e ∷ []) p x from seen (seen_add shared_base base es e p (h.places (Some q) p is').within (h.seen q p is'))))
+          | inr new ↦ (let is' : place (Some q) ≡ Some p = rw new.0 is in
+              rw new.1 (seen_from shared_base base (es ++ e ∷ []) p x from seen
+              (seen_add shared_base base es e p (h.places (Some q) p is').within (h.seen q p is'))))
         ];
         positions_are = h.positions_are ∙ sym (positions_push base es e off);
         standing_are = λ k. h.standing_are k ∙ sym (same (shared_base + k));
       }
 
-  pub sound_add_shared : (s : Shared) → is_shared e.route ≡ true → s.at ≡ base + length es → s.standing ≡ c → AreSound place numbers base shared_base 0 (es ++ e ∷ []) (links ++ None ∷ []) (shared ++ s ∷ [])
+  pub sound_add_shared : (s : Shared) → is_shared e.route ≡ true → s.at ≡ base + length es → s.standing ≡ c
+      → AreSound place numbers base shared_base 0 (es ++ e ∷ []) (links ++ None ∷ []) (shared ++ s ∷ [])
   sound_add_shared s it at standing_is =
       let long = long_push es e in
       record {
         fits = (omega (arith, long, room));
         shared_fits = (let f = h.shared_fits in let g = length-append shared (s ∷ []) in omega (arith, long, f, g));
         as_long = (let f = length-append links (None ∷ []) in let k = h.as_long in omega (arith, f, k, long));
-        places = λ v y is. place_other base es links e h.as_long v (own_unshared v e.route it) links refl (λ i x a b. refl) y (h.places v y is);
+        places = λ v y is. place_other base es links e h.as_long v (own_unshared v e.route it) links refl
+            (λ i x a b. refl) y (h.places v y is);
         seen = λ q y is. seen_add shared_base base es e y (h.places (Some q) y is).within (h.seen q y is);
-        positions_are = positions_map_push shared s ∙ (rw (h.positions_are, at) (sym (positions_push_shared base es e it)));
+        positions_are = positions_map_push shared s ∙ (rw (h.positions_are, at)
+            (sym (positions_push_shared base es e it)));
         standing_are = λ k. standing_push shared s c k standing_is ∙ h.standing_are k;
       }
 
-pub last_bounds : {T : Type 0} (w : Option ℕ) (base : ℕ) (es : List (Entry T)) (k : ℕ) (o : Option Chain) (c : Chain) → o ≡ Some c → IsOwn w base es k o → (base ≤ c.last) × (c.last < base + length es)
+pub last_bounds : {T : Type 0} (w : Option ℕ) (base : ℕ) (es : List (Entry T)) (k : ℕ) (o : Option Chain) (c : Chain)
+    → o ≡ Some c → IsOwn w base es k o → (base ≤ c.last) × (c.last < base + length es)
 last_bounds w base es k o c is h = go (rw is at h)
   where
     go : IsOwn w base es k (Some c) → (base ≤ c.last) × (c.last < base + length es)
-    go g = let low = found_from (leads_only w) (base + k) (drop k es) c.first g.0 in let b = g.1 in let d = g.2 in (omega arith, d)
+    go g = let low = found_from (leads_only w) (base + k) (drop k es) c.first g.0 in let b = g.1 in let d = g.2 in
+        (omega arith, d)
 
-pub first_open : (entries : List (ℕ × Place)) → 0 < length entries → (q : ℕ) × (p : Place) × (lookup (nat_eq q) entries ≡ Some p)
+pub first_open : (entries : List (ℕ × Place)) → 0 < length entries
+    → (q : ℕ) × (p : Place) × (lookup (nat_eq q) entries ≡ Some p)
 first_open [] h = absurd (omega arith)
 first_open (e ∷ es) h = (e.0, e.1, rw (eqb_refl e.0) refl)
 
 -- the same, of the lists that a call leaves
-pub pending_added : {T : Type 0} (w : Option ℕ) (base : ℕ) (es es' : List (Entry T)) (e : Entry T) (o o' : Option Place) → es' ≡ es ++ e ∷ [] → option_map (λ p. p.from) o' ≡ option_map (λ p. p.from) o → ((p : Place) → o ≡ Some p → p.from ≤ base + length es)
-    → option_map (λ p. items_for w (rest base es' p)) o' ≡ option_map (λ ds. ds ++ items_for w (e ∷ [])) (option_map (λ p. items_for w (rest base es p)) o)
+pub pending_added : {T : Type 0} (w : Option ℕ) (base : ℕ) (es es' : List (Entry T)) (e : Entry T) (o o' : Option Place)
+    → es' ≡ es ++ e ∷ [] → option_map (λ p. p.from) o' ≡ option_map (λ p. p.from) o
+    → ((p : Place) → o ≡ Some p → p.from ≤ base + length es)
+    → option_map (λ p. items_for w (rest base es' p)) o'
+        ≡ option_map (λ ds. ds ++ items_for w (e ∷ [])) (option_map (λ p. items_for w (rest base es p)) o)
 pending_added w base es es' e o o' is from within = rw is (pending_add w base es e o o' from within)
 
-pub trimmed_added : {T : Type 0} (place place' : Option ℕ → Option Place) (base : ℕ) (es es' : List (Entry T)) (e : Entry T) (w : Option ℕ) (p : Place) → es' ≡ es ++ e ∷ [] → SameFrom place place' → place w ≡ Some p → p.from ≤ base + length es → leads w e.route ≡ true
+pub trimmed_added : {T : Type 0} (place place' : Option ℕ
+    → Option Place) (base : ℕ) (es es' : List (Entry T)) (e : Entry T) (w : Option ℕ) (p : Place) → es' ≡ es ++ e ∷ []
+    → SameFrom place place' → place w ≡ Some p → p.from ≤ base + length es → leads w e.route ≡ true
     → BeginsAwaited place base es → BeginsAwaited place' base es'
-trimmed_added place place' base es es' e w p eq same is le t h = rw eq (trimmed_add place place' base es e w p same is le t h)
+trimmed_added place place' base es es' e w p eq same is le t h =
+    rw eq (trimmed_add place place' base es e w p same is le t h)
 
-pub sound_added : {T : Type 0} (place : Option ℕ → Option Place) (numbers : List Place) (base shared_base c : ℕ) (es es' : List (Entry T)) (links links' : List (Option ℕ)) (shared shared' : List Shared) → es' ≡ es → links' ≡ links → shared' ≡ shared
-    → AreSound place numbers base shared_base c es links shared → AreSound place numbers base shared_base c es' links' shared'
+pub sound_added : {T : Type 0} (place : Option ℕ → Option Place) (numbers : List Place) (base shared_base c : ℕ)
+    (es es' : List (Entry T)) (links links' : List (Option ℕ)) (shared shared' : List Shared) → es' ≡ es
+    → links' ≡ links → shared' ≡ shared
+    → AreSound place numbers base shared_base c es links shared
+        → AreSound place numbers base shared_base c es' links' shared'
 sound_added place numbers base shared_base c es es' links links' shared shared' a b d h = rw (a, b, d) h
 
-pub trimmed_same : {T : Type 0} (place : Option ℕ → Option Place) (base : ℕ) (es es' : List (Entry T)) → es' ≡ es → BeginsAwaited place base es → BeginsAwaited place base es'
+pub trimmed_same : {T : Type 0} (place : Option ℕ → Option Place) (base : ℕ) (es es' : List (Entry T)) → es' ≡ es
+    → BeginsAwaited place base es → BeginsAwaited place base es'
 trimmed_same place base es es' a h = rw a h

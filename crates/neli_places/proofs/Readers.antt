@@ -9,7 +9,8 @@ use Rattle.neli_places.specs.Routes.{leads}
 use Rattle.neli_places.proofs.Waits.{eqb_refl, eqb_same}
 use Rattle.neli_places.proofs.Adds.{first_open}
 
-module _ {S T : Type 0} (m : HashMap ℕ Place S) (f : ℕ → Place → List T) (pending : Option ℕ → Option (List T)) (pending_is : (q : ℕ) → pending (Some q) ≡ option_map (f q) (get nat_eq m q)) where
+module _ {S T : Type 0} (m : HashMap ℕ Place S) (f : ℕ → Place → List T) (pending : Option ℕ
+    → Option (List T)) (pending_is : (q : ℕ) → pending (Some q) ≡ option_map (f q) (get nat_eq m q)) where
   some_mapped : (g : Place → List T) (o : Option Place) → is_some (option_map g o) ≡ is_some o
   some_mapped g None = refl
   some_mapped g (Some p) = refl

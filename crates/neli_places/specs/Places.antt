@@ -111,13 +111,16 @@ IsSeen shared_base base es p = p.seen ≡ shared_base + shared_count (take (p.fr
 -- ---- the whole
 
 -- a place, as it is kept
-pub record IsPlace {T : Type 0} (w : Option ℕ) (base : ℕ) (es : List (Entry T)) (links : List (Option ℕ)) (p : Place) : Type 0 where
+pub record IsPlace {T : Type 0} (w : Option ℕ) (base : ℕ) (es : List (Entry T)) (links : List (Option ℕ))
+    (p : Place) : Type 0 where
   pub within : p.from ≤ base + length es
   pub chain : IsOwn w base es (p.from - base) p.own
   pub linked : IsLinked w base es links (p.from - base)
 
 -- the fields say the same as the entries: `place` are the places, `numbers` those of numbers in any order
-pub record AreSound {T : Type 0} (place : Option ℕ → Option Place) (numbers : List Place) (base shared_base caught_up : ℕ) (es : List (Entry T)) (links : List (Option ℕ)) (shared : List Shared) : Type 0 where
+pub record AreSound {T : Type 0} (place : Option ℕ → Option Place) (numbers : List Place)
+    (base shared_base caught_up : ℕ) (es : List (Entry T)) (links : List (Option ℕ))
+    (shared : List Shared) : Type 0 where
   pub fits : base + length es < 2 ^ 64
   pub shared_fits : shared_base + length shared ≤ base + length es
   pub as_long : length links ≡ length es
@@ -128,7 +131,8 @@ pub record AreSound {T : Type 0} (place : Option ℕ → Option Place) (numbers 
 
 -- the same of these fields
 abbrev pub IsSound : {T : Type 0} → Places T → Type 0
-IsSound s = AreSound (place_of s) (values s.numbers) s.base s.shared_base s.caught_up s.entries.items s.links.items s.shared.items
+IsSound s = AreSound (place_of s) (values s.numbers) s.base s.shared_base s.caught_up s.entries.items s.links.items
+    s.shared.items
 
 -- a place stands at the first entry, which has this route and so goes there
 abbrev pub Stands : (Option ℕ → Option Place) → ℕ → Route → Type 0

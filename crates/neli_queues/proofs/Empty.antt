@@ -18,6 +18,8 @@ module _ (port : ℕ) (is_open : ℕ → Bool) where
   cut_of-empty [] e = refl
   cut_of-empty (b ∷ bytes) e = cc
 
-  pub received_empty : (bytes : List ℕ) → bytes ≡ [] → (groups : List ℕ) (w : Option ℕ) (waiting : Option (List Delivery))
+  pub received_empty : (bytes : List ℕ) → bytes ≡ [] → (groups : List ℕ) (w : Option ℕ)
+      (waiting : Option (List Delivery))
       → waiting ≡ option_map (λ ds. ds ++ datagram_share port is_open w (cut_of untyped_layout bytes) groups) waiting
-  received_empty bytes e groups w waiting = rw (cut_of-empty bytes e, datagram_share-none w groups) (sym (append-none waiting))
+  received_empty bytes e groups w waiting = rw (cut_of-empty bytes e, datagram_share-none w groups)
+      (sym (append-none waiting))

@@ -21,6 +21,7 @@ pub message_from_same : (m : Nlmsghdr ℕ (List ℕ)) → message_from (message_
 message_from_same m = ap (λ (p : NlPayload ℕ (List ℕ)). message_from (m.header, p)) (payload_view-same m.payload)
 
 -- a message that is no reply goes to each number
-pub message_to_stray : (port : ℕ) (is_open : ℕ → Bool) (q : ℕ) (m : Nlmsghdr ℕ (List ℕ)) → is_reply port is_open (message_of (λ b. b) m) ≡ false
+pub message_to_stray : (port : ℕ) (is_open : ℕ → Bool) (q : ℕ) (m : Nlmsghdr ℕ (List ℕ))
+    → is_reply port is_open (message_of (λ b. b) m) ≡ false
     → message_to port is_open q (message_of (λ b. b) m) ≡ delivery.Stray m ∷ []
 message_to_stray port is_open q m other = rw (other, message_from_same m) refl

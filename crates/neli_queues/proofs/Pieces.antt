@@ -23,11 +23,13 @@ copies-none d q [] n = refl
 copies-none d q (y ∷ ys) n = rw (ne_eqb y q (λ e. eqb-false q y n.0 (sym e))) (copies-none d q ys n.1)
 
 -- one, where q is among them and no two are equal
-pub copies-one : (d : Delivery) (q : ℕ) (ks : List ℕ) → IsDistinct nat_eq ks → is_member nat_eq ks q ≡ true → copies d q ks ≡ d ∷ []
+pub copies-one : (d : Delivery) (q : ℕ) (ks : List ℕ) → IsDistinct nat_eq ks → is_member nat_eq ks q ≡ true
+    → copies d q ks ≡ d ∷ []
 copies-one d q [] u has = cc
 copies-one d q (k ∷ ks) u has = elim (cases_eq k q) [
   | inl e ↦ rw (eq-eqb k q e, copies-none d q ks (rw e at (IsDistinct-head nat_eq k ks u))) refl
-  | inr n ↦ rw (ne_eqb k q n) (copies-one d q ks (IsDistinct-tail nat_eq k ks u) (rw (ne_eqb q k (λ e. n (sym e))) at has))
+  | inr n ↦ rw (ne_eqb k q n) (copies-one d q ks (IsDistinct-tail nat_eq k ks u)
+      (rw (ne_eqb q k (λ e. n (sym e))) at has))
 ]
 
 -- ---- room
@@ -37,7 +39,8 @@ abbrev pub HasSpace : (ℕ → Option (List Delivery)) → ℕ → Piece → Typ
 HasSpace at n p = (ds : List Delivery) → at p.number ≡ Some ds → length ds + n < 2 ^ 63
 
 share-le : (q : ℕ) (p : Piece) → length (share q p) ≤ 1
-share-le q p = elim (p.number == q) as (λ b. length (if b then p.list else []) ≤ 1) [ true ↦ p.single | false ↦ omega arith ]
+share-le q p = elim (p.number == q) as (λ b. length (if b then p.list
+    else []) ≤ 1) [ true ↦ p.single | false ↦ omega arith ]
 
 gain_of-le : (q : ℕ) (ps : List Piece) → length (gain_of q ps) ≤ length ps
 gain_of-le q [] = omega arith
@@ -52,13 +55,15 @@ space_for at n (p ∷ ps) q ds all is some = elim (cases_eq p.number q) [
 ]
 
 -- each piece is one delivery at most, so there is room where each list has some for as many as there are pieces
-pub HaveRoom-spaces : (at : ℕ → Option (List Delivery)) (ps : List Piece) → All (HasSpace at (length ps)) ps → HaveRoom at ps
+pub HaveRoom-spaces : (at : ℕ → Option (List Delivery)) (ps : List Piece) → All (HasSpace at (length ps)) ps
+    → HaveRoom at ps
 HaveRoom-spaces at ps all q ds is some = omega (arith, space_for at (length ps) ps q ds all is some, gain_of-le q ps)
 
 -- ---- a piece is hung, and the others are left
 
 -- a piece is appended, where it has room
-pub appended : (ok : Bool) (ds more new : List Delivery) → new ≡ (if ok then ds ++ more else ds) → (length ds + length more < 2 ^ 63 → ok ≡ true)
+pub appended : (ok : Bool) (ds more new : List Delivery) → new ≡ (if ok then ds ++ more else ds)
+    → (length ds + length more < 2 ^ 63 → ok ≡ true)
     → (0 < length more → length ds + length more < 2 ^ 63) → new ≡ ds ++ more
 appended true ds more new is fits room = is
 appended false ds [] new is fits room = is ∙ sym (append-nil ds)
@@ -73,9 +78,11 @@ HaveRoom-first at p ps room ds is some =
     = length-append (share p.number p) (gain_of p.number ps) ∙ rw own refl in
     omega (arith, room p.number ds is (omega arith))
 
-module _ (at new : ℕ → Option (List Delivery)) (p : Piece) (ps : List Piece) (hung : (q : ℕ) → new q ≡ option_map (λ ds. ds ++ share q p) (at q)) where
+module _ (at new : ℕ → Option (List Delivery)) (p : Piece) (ps : List Piece) (hung : (q : ℕ)
+    → new q ≡ option_map (λ ds. ds ++ share q p) (at q)) where
   room_left : HaveRoom at (p ∷ ps) → (q : ℕ) (o : Option (List Delivery)) → at q ≡ o → (ds : List Delivery)
-      → option_map (λ ds. ds ++ share q p) o ≡ Some ds → 0 < length (gain_of q ps) → length ds + length (gain_of q ps) < 2 ^ 63
+      → option_map (λ ds. ds ++ share q p) o ≡ Some ds → 0 < length (gain_of q ps)
+          → length ds + length (gain_of q ps) < 2 ^ 63
   room_left room q None e ds is some = cc
   room_left room q (Some old) e ds is some =
       let grown : old ++ share q p ≡ ds = cc in
@@ -89,12 +96,14 @@ module _ (at new : ℕ → Option (List Delivery)) (p : Piece) (ps : List Piece)
   HaveRoom-left room q ds is some = room_left room q (at q) refl ds (sym (hung q) ∙ is) some
 
   hung_more : (q : ℕ) (o : Option (List Delivery))
-      → option_map (λ ds. ds ++ gain_of q ps) (option_map (λ ds. ds ++ share q p) o) ≡ option_map (λ ds. ds ++ (share q p ++ gain_of q ps)) o
+      → option_map (λ ds. ds ++ gain_of q ps) (option_map (λ ds. ds ++ share q p) o)
+          ≡ option_map (λ ds. ds ++ (share q p ++ gain_of q ps)) o
   hung_more q None = refl
   hung_more q (Some ds) = ap Some (append_assoc ds (share q p) (gain_of q ps))
 
   -- with the others, the lists are as with all
-  pub hung-more : (q : ℕ) → option_map (λ ds. ds ++ gain_of q ps) (new q) ≡ option_map (λ ds. ds ++ gain_of q (p ∷ ps)) (at q)
+  pub hung-more : (q : ℕ) → option_map (λ ds. ds ++ gain_of q ps) (new q)
+      ≡ option_map (λ ds. ds ++ gain_of q (p ∷ ps)) (at q)
   hung-more q = rw (hung q) (hung_more q (at q))
 
 -- nothing is appended

@@ -20,4 +20,5 @@ gain_of q ps = flat_map (share q) ps
 -- each list has room for what its number gains; at says what waits for a number
 abbrev pub HaveRoom : (ℕ → Option (List Delivery)) → List Piece → Type 0
 HaveRoom at ps =
-    (q : ℕ) (ds : List Delivery) → at q ≡ Some ds → 0 < length (gain_of q ps) → length ds + length (gain_of q ps) < 2 ^ 63
+    (q : ℕ) (ds : List Delivery) → at q ≡ Some ds → 0 < length (gain_of q ps)
+        → length ds + length (gain_of q ps) < 2 ^ 63

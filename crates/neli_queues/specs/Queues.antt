@@ -22,4 +22,5 @@ share_of_both multicast_deliveries ps (Some q) = gain_of q ps
 
 -- each open list gets of them what it is due
 abbrev pub AreDue : Queues → (Option ℕ → List Delivery) → List Delivery → List Piece → Type 0
-AreDue s due multicast_deliveries ps = (w : Option ℕ) → is_some (pending_of s w) ≡ true → share_of_both multicast_deliveries ps w ≡ due w
+AreDue s due multicast_deliveries ps = (w : Option ℕ) → is_some (pending_of s w) ≡ true
+    → share_of_both multicast_deliveries ps w ≡ due w

@@ -21,10 +21,15 @@ use Rattle.neli_msg.specs.declared.payload.NlPayload.{NlPayload}
 
 -- ---- answers
 
-pub answer-equality : {M : Type 0} {eq : M → M → Bool} {attrs : Attributes → Attributes → Bool} → IsEquality eq → IsEquality attrs → IsEquality {T = Nlmsgerr M} (λ a b. int_eq a.error b.error && (eq a.nlmsg b.nlmsg && attrs a.ext_ack b.ext_ack))
-answer-equality {M} {eq} {attrs} h k = from-parts apart (λ a. both_true ((signed_Decides a.error a.error).1 refl) (both_true ((h a.nlmsg a.nlmsg).1 refl) ((k a.ext_ack a.ext_ack).1 refl)))
+pub answer-equality : {M : Type 0} {eq : M → M → Bool} {attrs : Attributes → Attributes → Bool} → IsEquality eq
+    → IsEquality attrs → IsEquality {T = Nlmsgerr M} (λ a b. int_eq a.error b.error &&
+    (eq a.nlmsg b.nlmsg && attrs a.ext_ack b.ext_ack))
+answer-equality {M} {eq} {attrs} h k = from-parts apart
+    (λ a. both_true ((signed_Decides a.error a.error).1 refl)
+    (both_true ((h a.nlmsg a.nlmsg).1 refl) ((k a.ext_ack a.ext_ack).1 refl)))
   where
-    apart : (a b : Nlmsgerr M) → (int_eq a.error b.error && (eq a.nlmsg b.nlmsg && attrs a.ext_ack b.ext_ack)) ≡ true → a ≡ b
+    apart : (a b : Nlmsgerr M) → (int_eq a.error b.error && (eq a.nlmsg b.nlmsg && attrs a.ext_ack b.ext_ack)) ≡ true
+        → a ≡ b
     apart a b e =
         let code = first_so (int_eq a.error b.error) (eq a.nlmsg b.nlmsg && attrs a.ext_ack b.ext_ack) e in
         let later = second_so (int_eq a.error b.error) (eq a.nlmsg b.nlmsg && attrs a.ext_ack b.ext_ack) e in
@@ -35,7 +40,8 @@ answer-equality {M} {eq} {attrs} h k = from-parts apart (λ a. both_true ((signe
 
 module _ {K : Type 0} {same : K → K → Bool} (h : IsEquality same) where
   abbrev pub header_eq : Header K → Header K → Bool
-  header_eq a b = nat_eq a.len b.len && (same a.message_type b.message_type && (nat_eq a.flags.0 b.flags.0 && (nat_eq a.sequence_number b.sequence_number && nat_eq a.port b.port)))
+  header_eq a b = nat_eq a.len b.len && (same a.message_type b.message_type &&
+      (nat_eq a.flags.0 b.flags.0 && (nat_eq a.sequence_number b.sequence_number && nat_eq a.port b.port)))
 
   header-apart : (a b : Header K) → header_eq a b ≡ true → a ≡ b
   header-apart a b e =
@@ -46,27 +52,35 @@ module _ {K : Type 0} {same : K → K → Bool} (h : IsEquality same) where
         len = (bytes-equality a.len b.len).0 (first_so (nat_eq a.len b.len) _ e) i;
         message_type = (h a.message_type b.message_type).0 (first_so (same a.message_type b.message_type) _ e2) i;
         flags = record { 0 = (bytes-equality a.flags.0 b.flags.0).0 (first_so (nat_eq a.flags.0 b.flags.0) _ e3) i };
-        sequence_number = (bytes-equality a.sequence_number b.sequence_number).0 (first_so (nat_eq a.sequence_number b.sequence_number) _ e4) i;
+        sequence_number = (bytes-equality a.sequence_number b.sequence_number).0
+            (first_so (nat_eq a.sequence_number b.sequence_number) _ e4) i;
         port = (bytes-equality a.port b.port).0 (second_so (nat_eq a.sequence_number b.sequence_number) _ e4) i;
       }
 
   header-same : (a : Header K) → header_eq a a ≡ true
   header-same a =
-      both_true ((bytes-equality a.len a.len).1 refl) (both_true ((h a.message_type a.message_type).1 refl) (both_true ((bytes-equality a.flags.0 a.flags.0).1 refl) (both_true ((bytes-equality a.sequence_number a.sequence_number).1 refl) ((bytes-equality a.port a.port).1 refl))))
+      both_true ((bytes-equality a.len a.len).1 refl) (both_true ((h a.message_type a.message_type).1 refl)
+          (both_true ((bytes-equality a.flags.0 a.flags.0).1 refl)
+          (both_true ((bytes-equality a.sequence_number a.sequence_number).1 refl)
+          ((bytes-equality a.port a.port).1 refl))))
 
   pub header-equality : IsEquality header_eq
   header-equality = from-parts header-apart header-same
 
-pub echo-equality : {K P : Type 0} {p : Header K → Header K → Bool} {q : P → P → Bool} → IsEquality p → IsEquality q → IsEquality {T = NlmsghdrErr K P} (λ a b. p a.header b.header && q a.payload b.payload)
-echo-equality {K} {P} {p} {q} h k = from-parts apart (λ a. both_true ((h a.header a.header).1 refl) ((k a.payload a.payload).1 refl))
+pub echo-equality : {K P : Type 0} {p : Header K → Header K → Bool} {q : P → P → Bool} → IsEquality p → IsEquality q
+    → IsEquality {T = NlmsghdrErr K P} (λ a b. p a.header b.header && q a.payload b.payload)
+echo-equality {K} {P} {p} {q} h k = from-parts apart (λ a. both_true ((h a.header a.header).1 refl)
+    ((k a.payload a.payload).1 refl))
   where
     apart : (a b : NlmsghdrErr K P) → (p a.header b.header && q a.payload b.payload) ≡ true → a ≡ b
     apart a b e =
         let both = both-apart h k (λ (m : NlmsghdrErr K P). m.header) (λ m. m.payload) a b e in
         λ i. record { header = both.0 i; payload = both.1 i }
 
-pub message-equality : {K P : Type 0} {p : Header K → Header K → Bool} {q : NlPayload K P → NlPayload K P → Bool} → IsEquality p → IsEquality q → IsEquality {T = Nlmsghdr K P} (λ a b. p a.header b.header && q a.payload b.payload)
-message-equality {K} {P} {p} {q} h k = from-parts apart (λ a. both_true ((h a.header a.header).1 refl) ((k a.payload a.payload).1 refl))
+pub message-equality : {K P : Type 0} {p : Header K → Header K → Bool} {q : NlPayload K P → NlPayload K P → Bool}
+    → IsEquality p → IsEquality q → IsEquality {T = Nlmsghdr K P} (λ a b. p a.header b.header && q a.payload b.payload)
+message-equality {K} {P} {p} {q} h k = from-parts apart
+    (λ a. both_true ((h a.header a.header).1 refl) ((k a.payload a.payload).1 refl))
   where
     apart : (a b : Nlmsghdr K P) → (p a.header b.header && q a.payload b.payload) ≡ true → a ≡ b
     apart a b e =
@@ -80,20 +94,25 @@ abbrev pub AreEqualities : (Fss : List (List Field)) → Each Bool Fss → Type 
 AreEqualities [] each = Unit {0}
 AreEqualities (Fs ∷ Fss) each = IsEquality {T = Values Fs} each.0 × AreEqualities Fss each.1
 
-choice-apart : (Fss : List (List Field)) (each : Each Bool Fss) → AreEqualities Fss each → (c d : Choice Fss) → by false false Fss each c d ≡ true → c ≡ d
+choice-apart : (Fss : List (List Field)) (each : Each Bool Fss) → AreEqualities Fss each → (c d : Choice Fss)
+    → by false false Fss each c d ≡ true → c ≡ d
 choice-apart [] each all c d e = absurd c
 choice-apart (Fs ∷ Fss) each all (inl x) (inl y) e = ap inl ((all.0 x y).0 e)
 choice-apart (Fs ∷ Fss) each all (inl x) (inr y) e = absurd (true≢false (sym e))
 choice-apart (Fs ∷ Fss) each all (inr x) (inl y) e = absurd (true≢false (sym e))
 choice-apart (Fs ∷ Fss) each all (inr x) (inr y) e = ap inr (choice-apart Fss each.1 all.1 x y e)
 
-choice-same : (Fss : List (List Field)) (each : Each Bool Fss) → AreEqualities Fss each → (c : Choice Fss) → by false false Fss each c c ≡ true
+choice-same : (Fss : List (List Field)) (each : Each Bool Fss) → AreEqualities Fss each → (c : Choice Fss)
+    → by false false Fss each c c ≡ true
 choice-same [] each all c = absurd c
 choice-same (Fs ∷ Fss) each all (inl x) = (all.0 x x).1 refl
 choice-same (Fs ∷ Fss) each all (inr x) = choice-same Fss each.1 all.1 x
 
-pub enum-equality : (N : Record) (each : Each Bool N.parts) → AreEqualities N.parts each → IsEquality (of_values N false false each)
-enum-equality N each all = from-parts (λ a b e. values_one N a b (choice-apart N.parts each all (N.as_values a) (N.as_values b) e)) (λ a. choice-same N.parts each all (N.as_values a))
+pub enum-equality : (N : Record) (each : Each Bool N.parts) → AreEqualities N.parts each
+    → IsEquality (of_values N false false each)
+enum-equality N each all = from-parts (λ a b e. values_one N a b
+    (choice-apart N.parts each all (N.as_values a) (N.as_values b) e))
+    (λ a. choice-same N.parts each all (N.as_values a))
 
 -- a variant with one field
 pub one-field : {A : Type 0} {eq : A → A → Bool} → IsEquality eq → IsEquality {T = A × Unit {0}} (λ x y. eq x.0 y.0)

@@ -14,7 +14,8 @@ abbrev pub untyped_layout : Layout (Header ℕ) (NlPayload ℕ (List ℕ))
 untyped_layout = message_layout (λ n. n) (λ n. n) (λ bytes. Ok bytes)
 
 -- what reading as other types gives of a message that is read untyped, where r follows it
-abbrev pub typed_reading : {K V : Type 0} → (ℕ → K) → (List ℕ → Result V DeError) → Message ℕ (List ℕ) → List ℕ → Reading (Message K V)
+abbrev pub typed_reading : {K V : Type 0} → (ℕ → K) → (List ℕ → Result V DeError) → Message ℕ (List ℕ) → List ℕ
+    → Reading (Message K V)
 typed_reading type_of read m r = typed_message type_of read m >>= λ t. Ok (t, r)
 
 -- the bytes that a message has for a body are read as one

@@ -15,7 +15,8 @@ EndsIn layout rest (Some e) = (rest ≢ []) × (frame_at layout rest ≡ Err e)
 
 -- the bytes are the frames of these messages, and then nothing, or a rest that has this fault
 abbrev pub Cuts : {H V : Type 0} → Layout H V → List ℕ → List (H × V) → Option DeError → Type 0
-Cuts layout b ms f = (front : List ℕ) × (rest : List ℕ) × (b ≡ front ++ rest) × AreFrames layout front ms × EndsIn layout rest f
+Cuts layout b ms f = (front : List ℕ) × (rest : List ℕ) × (b ≡ front ++ rest) × AreFrames layout front ms
+    × EndsIn layout rest f
 
 -- ---- the cut of a byte list
 

@@ -4,17 +4,20 @@ use Rattle.std.specs.Prelude.{IsSome}
 use Rattle.neli_replay.specs.declared.line.Entry.{Entry}
 use Rattle.neli_replay.specs.Script.{AreGood, IsFirstBad, entry_if, entries_from, entries_of, entry_in, lines_in, with_line, words_in}
 
-with_ok : (k : ℕ) (o : Option Entry) (later : Result (List Entry) ℕ) (es : List Entry) → with_line k o later ≡ Ok es → IsSome o × ((rest : List Entry) × (later ≡ Ok rest))
+with_ok : (k : ℕ) (o : Option Entry) (later : Result (List Entry) ℕ) (es : List Entry) → with_line k o later ≡ Ok es
+    → IsSome o × ((rest : List Entry) × (later ≡ Ok rest))
 with_ok k None later es is = absurd cc
 with_ok k (Some e) (Ok rest) es is = (refl, (rest, refl))
 with_ok k (Some e) (Err j) es is = absurd cc
 
-with_err : (k : ℕ) (o : Option Entry) (later : Result (List Entry) ℕ) (j : ℕ) → with_line k o later ≡ Err j → ((o ≡ None) × (j ≡ k)) ⊎ (IsSome o × (later ≡ Err j))
+with_err : (k : ℕ) (o : Option Entry) (later : Result (List Entry) ℕ) (j : ℕ) → with_line k o later ≡ Err j
+    → ((o ≡ None) × (j ≡ k)) ⊎ (IsSome o × (later ≡ Err j))
 with_err k None later j is = let e : j ≡ k = cc in inl (refl, e)
 with_err k (Some e) (Ok rest) j is = absurd cc
 with_err k (Some e) (Err i) j is = inr (refl, is)
 
-good_from : (first : Bool) (n : ℕ) (lines : List (List ℕ)) (es : List Entry) → entries_from first n lines ≡ Ok es → AreGood first lines
+good_from : (first : Bool) (n : ℕ) (lines : List (List ℕ)) (es : List Entry) → entries_from first n lines ≡ Ok es
+    → AreGood first lines
 good_from first n [] es is = tt
 good_from first n ([] ∷ lines) es is = good_from first (n + 1) lines es is
 good_from first n ((b ∷ line) ∷ lines) es is =
@@ -24,13 +27,15 @@ good_from first n ((b ∷ line) ∷ lines) es is =
 -- the lines before are good, and not with the next
 abbrev IsFirst : Bool → ℕ → List (List ℕ) → ℕ → Type 0
 IsFirst first n lines k =
-    (before : ℕ) × (k ≡ n + before) × (before < length lines) × AreGood first (take before lines) × (¬ AreGood first (take (suc before) lines))
+    (before : ℕ) × (k ≡ n + before) × (before < length lines) × AreGood first (take before lines)
+        × (¬ AreGood first (take (suc before) lines))
 
 no_none : {A : Type 0} (o : Option A) → o ≡ None → IsSome o → ⊥
 no_none None is some = absurd cc
 no_none (Some x) is some = absurd cc
 
-first_from : (first : Bool) (n : ℕ) (lines : List (List ℕ)) (k : ℕ) → entries_from first n lines ≡ Err k → IsFirst first n lines k
+first_from : (first : Bool) (n : ℕ) (lines : List (List ℕ)) (k : ℕ) → entries_from first n lines ≡ Err k
+    → IsFirst first n lines k
 first_from first n [] k is = absurd cc
 first_from first n ([] ∷ lines) k is =
     let later = first_from first (n + 1) lines k is in

@@ -51,13 +51,17 @@ encode-one b small =
     let low = glyph_is (b % 16) (omega arith) in
     rw (hex_byte false b small, high, low) refl
 
-encode-more : (xs : List ℕ) (i : ℕ) → i < length xs → get_or xs i 0 < 256 → encode_lower (take (i + 1) xs) ≡ encode_lower (take i xs) ++ two_digits (get_or xs i 0)
+encode-more : (xs : List ℕ) (i : ℕ) → i < length xs → get_or xs i 0 < 256
+    → encode_lower (take (i + 1) xs) ≡ encode_lower (take i xs) ++ two_digits (get_or xs i 0)
 encode-more xs i within small =
     ap encode_lower (take_more xs i 0 within)
     ∙ (encode_with-append lower_digits (take i xs) (get_or xs i 0 ∷ [])
     ∙ ap (λ zs. encode_lower (take i xs) ++ zs) (encode-one (get_or xs i 0) small))
 
 -- one byte more is written
-pub hex_more : (old mid new : Option (List ℕ)) (bytes : List ℕ) (i : ℕ) → i < length bytes → get_or bytes i 0 < 256 → Appends old mid (encode_lower (take i bytes)) → Appends mid new (padded_integral (format_spec 32 0 4 2 (2 ^ 64 - 1)) false [] (digits 16 false (get_or bytes i 0))) → Appends old new (encode_lower (take (i + 1) bytes))
+pub hex_more : (old mid new : Option (List ℕ)) (bytes : List ℕ) (i : ℕ) → i < length bytes → get_or bytes i 0 < 256
+    → Appends old mid (encode_lower (take i bytes)) → Appends mid new
+    (padded_integral (format_spec 32 0 4 2 (2 ^ 64 - 1)) false [] (digits 16 false (get_or bytes i 0)))
+    → Appends old new (encode_lower (take (i + 1) bytes))
 hex_more old mid new bytes i within small before one =
     subst (Appends old new) (sym (encode-more bytes i within small)) (appends_more old mid new _ _ before one)

@@ -22,7 +22,8 @@ pub numeral_parts : (word : List ℕ) → is_numeral word ≡ true → (0 < leng
 numeral_parts word is = search (rules, nat_tests)
 
 -- what is parsed of a numeral is its number
-pub number_is : {E : Type 0} (bits : ℕ) (word : List ℕ) (r : Result ℕ E) → is_numeral word ≡ true → ParsesUnsigned bits 10 word r → result_ok r ≡ number bits word
+pub number_is : {E : Type 0} (bits : ℕ) (word : List ℕ) (r : Result ℕ E) → is_numeral word ≡ true
+    → ParsesUnsigned bits 10 word r → result_ok r ≡ number bits word
 number_is {E = E} bits word (Ok n) is parses =
     let parts = numeral_parts word is in
     let read = parse_digits numerals {E = E} bits word (Ok n) parses parts.1 in
@@ -35,9 +36,12 @@ number_is {E = E} bits word (Err e) is parses =
     rw (is, large) refl
 
 -- a numeral is text
-pub text_of_numeral : {E : Type 0} (X : E → Type 0) (word : List ℕ) (r : Result (Bor (List ℕ)) E) → is_numeral word ≡ true → MatchResult r (λ s. (s.now ≡ word) × IsUtf8 word) (λ e. (¬ IsUtf8 word) × X e) → MatchOption (result_ok r) (is_numeral word ≡ false) (λ text. (text.now ≡ word) × (is_numeral word ≡ true))
+pub text_of_numeral : {E : Type 0} (X : E → Type 0) (word : List ℕ) (r : Result (Bor (List ℕ)) E)
+    → is_numeral word ≡ true → MatchResult r (λ s. (s.now ≡ word) × IsUtf8 word) (λ e. (¬ IsUtf8 word) × X e)
+    → MatchOption (result_ok r) (is_numeral word ≡ false) (λ text. (text.now ≡ word) × (is_numeral word ≡ true))
 text_of_numeral X word (Ok s) is read = (read.0, is)
 text_of_numeral X word (Err e) is read = absurd (read.0 (digits_utf8 word (numeral_parts word is).1))
 
-pub numeral_from : (word : List ℕ) → eqb (length word) 0 ≡ false → list_all is_ascii_digit word ≡ true → is_numeral word ≡ true
+pub numeral_from : (word : List ℕ) → eqb (length word) 0 ≡ false → list_all is_ascii_digit word ≡ true
+    → is_numeral word ≡ true
 numeral_from word some digits = rw digits (search (rules, nat_tests))

@@ -10,12 +10,15 @@ abbrev pub IsPrinted : List RawOutcome → Option (List ℕ) → Option (List �
 IsPrinted all old new sent left =
     (front : List ℕ) × (report 0 all ≡ front ++ report sent left) × Appends old new front
 
-pub printed_more : (all : List RawOutcome) (old mid text new : Option (List ℕ)) (sent : ℕ) (o : RawOutcome) (os : List RawOutcome) → IsPrinted all old mid sent (o ∷ os) → Appends mid text (outcome_text (sent + sends o) o) → Appends text new (codes "\n") → IsPrinted all old new (sent + sends o) os
+pub printed_more : (all : List RawOutcome) (old mid text new : Option (List ℕ)) (sent : ℕ) (o : RawOutcome)
+    (os : List RawOutcome) → IsPrinted all old mid sent (o ∷ os) → Appends mid text (outcome_text (sent + sends o) o)
+    → Appends text new (codes "\n") → IsPrinted all old new (sent + sends o) os
 printed_more all old mid text new sent o os before line end =
     let one = outcome_text (sent + sends o) o in
     let later = report (sent + sends o) os in (
       before.0 ++ (one ++ codes "\n"),
-      before.1 ∙ sym (append_assoc before.0 (one ++ codes "\n") later ∙ ap (λ x. before.0 ++ x) (append_assoc one (codes "\n") later)),
+      before.1 ∙ sym (append_assoc before.0 (one ++ codes "\n") later
+          ∙ ap (λ x. before.0 ++ x) (append_assoc one (codes "\n") later)),
       appends_more old mid new _ _ before.2 (appends_more mid text new _ _ line end),
     )
 

@@ -25,16 +25,20 @@ abbrev pub looked_up : {K : Type 0} → (K → K → Bool) → K → List (Nlatt
 looked_up same kind attrs = payload_of_type (λ a. a.nla_type.nla_type) same (λ a. a.nla_payload) kind attrs
 
 module _ {K : Type 0} (same : K → K → Bool) (kind : K) (is : K → Bool) (test : (k : K) → same k kind ≡ is k) where
-  here_or_later : (a : Nlattr K (List ℕ)) (later : List (Nlattr K (List ℕ))) (b : Bool) → looked_up same kind later ≡ payload_where is (map nlattr_says later)
-      → option_map (λ (x : Nlattr K (List ℕ)). x.nla_payload) (cond b (Some a) (find (λ x. same x.nla_type.nla_type kind) later))
+  here_or_later : (a : Nlattr K (List ℕ)) (later : List (Nlattr K (List ℕ))) (b : Bool)
+      → looked_up same kind later ≡ payload_where is (map nlattr_says later)
+      → option_map (λ (x : Nlattr K (List ℕ)). x.nla_payload)
+          (cond b (Some a) (find (λ x. same x.nla_type.nla_type kind) later))
       ≡ option_map (λ x. x.1) (cond b (Some (nlattr_says a)) (find (λ x. is x.0.kind.nla_type) (map nlattr_says later)))
   here_or_later a later true more = refl
   here_or_later a later false more = more
 
   -- it is the first attribute of which the type passes the test
-  pub looked_up-where : (attrs : List (Nlattr K (List ℕ))) → looked_up same kind attrs ≡ payload_where is (map nlattr_says attrs)
+  pub looked_up-where : (attrs : List (Nlattr K (List ℕ)))
+      → looked_up same kind attrs ≡ payload_where is (map nlattr_says attrs)
   looked_up-where [] = refl
-  looked_up-where (a ∷ later) = rw (test a.nla_type.nla_type) (here_or_later a later (is a.nla_type.nla_type) (looked_up-where later))
+  looked_up-where (a ∷ later) = rw (test a.nla_type.nla_type)
+      (here_or_later a later (is a.nla_type.nla_type) (looked_up-where later))
 
 tests_family_id : (k : CtrlAttr) → ctrl_attr.eq k FamilyId ≡ is_family_id k
 tests_family_id FamilyId = refl
@@ -56,24 +60,30 @@ tests_id : (k : CtrlAttrMcastGrp) → mcast_grp.eq k Id ≡ is_id k
 tests_id Id = refl
 tests_id k = refl
 
-pub finds_family_id : (attrs : List (Nlattr CtrlAttr (List ℕ))) → looked_up ctrl_attr.eq FamilyId attrs ≡ payload_where is_family_id (map nlattr_says attrs)
+pub finds_family_id : (attrs : List (Nlattr CtrlAttr (List ℕ)))
+    → looked_up ctrl_attr.eq FamilyId attrs ≡ payload_where is_family_id (map nlattr_says attrs)
 finds_family_id = looked_up-where ctrl_attr.eq FamilyId is_family_id tests_family_id
 
-pub finds_family_name : (attrs : List (Nlattr CtrlAttr (List ℕ))) → looked_up ctrl_attr.eq FamilyName attrs ≡ payload_where is_family_name (map nlattr_says attrs)
+pub finds_family_name : (attrs : List (Nlattr CtrlAttr (List ℕ)))
+    → looked_up ctrl_attr.eq FamilyName attrs ≡ payload_where is_family_name (map nlattr_says attrs)
 finds_family_name = looked_up-where ctrl_attr.eq FamilyName is_family_name tests_family_name
 
-pub finds_mcast_groups : (attrs : List (Nlattr CtrlAttr (List ℕ))) → looked_up ctrl_attr.eq McastGroups attrs ≡ payload_where is_mcast_groups (map nlattr_says attrs)
+pub finds_mcast_groups : (attrs : List (Nlattr CtrlAttr (List ℕ)))
+    → looked_up ctrl_attr.eq McastGroups attrs ≡ payload_where is_mcast_groups (map nlattr_says attrs)
 finds_mcast_groups = looked_up-where ctrl_attr.eq McastGroups is_mcast_groups tests_mcast_groups
 
-pub finds_name : (attrs : List (Nlattr CtrlAttrMcastGrp (List ℕ))) → looked_up mcast_grp.eq Name attrs ≡ payload_where is_name (map nlattr_says attrs)
+pub finds_name : (attrs : List (Nlattr CtrlAttrMcastGrp (List ℕ)))
+    → looked_up mcast_grp.eq Name attrs ≡ payload_where is_name (map nlattr_says attrs)
 finds_name = looked_up-where mcast_grp.eq Name is_name tests_name
 
-pub finds_id : (attrs : List (Nlattr CtrlAttrMcastGrp (List ℕ))) → looked_up mcast_grp.eq Id attrs ≡ payload_where is_id (map nlattr_says attrs)
+pub finds_id : (attrs : List (Nlattr CtrlAttrMcastGrp (List ℕ)))
+    → looked_up mcast_grp.eq Id attrs ≡ payload_where is_id (map nlattr_says attrs)
 finds_id = looked_up-where mcast_grp.eq Id is_id tests_id
 
 -- ---- refusals
 
-read_refusal : {A : Type 0} (outcome : Result A DeError) (takes : Type 0) (e : DeError) → Refuses outcome takes e → IsReadRefusal outcome e
+read_refusal : {A : Type 0} (outcome : Result A DeError) (takes : Type 0) (e : DeError) → Refuses outcome takes e
+    → IsReadRefusal outcome e
 read_refusal outcome takes (Msg m) h = inr h
 read_refusal outcome takes (Io k) h = inr h
 read_refusal outcome takes (Utf8 u) h = inr h
@@ -81,7 +91,8 @@ read_refusal outcome takes (InvalidInput n) h = inr h
 read_refusal outcome takes Memory h = inl refl
 
 -- a read is refused, wherever it takes memory
-pub refused_read : {V A : Type 0} (result : Result V DeError) (outcome : Result A DeError) (takes : Type 0) → IfErr result (Refuses outcome takes) → IfErr result (IsReadRefusal outcome)
+pub refused_read : {V A : Type 0} (result : Result V DeError) (outcome : Result A DeError) (takes : Type 0)
+    → IfErr result (Refuses outcome takes) → IfErr result (IsReadRefusal outcome)
 refused_read (Ok v) outcome takes h = h
 refused_read (Err e) outcome takes h = read_refusal outcome takes e h
 
@@ -93,18 +104,21 @@ was_read (Err e) outcome view v h is = cc
 
 -- where nothing was read and memory did not run out, nothing can be read
 pub was_not_read : {V A : Type 0} (result : Result V DeError) (outcome : Result A DeError)
-    → IfErr result (IsReadRefusal outcome) → (result ≡ Err Memory → ⊥) → None ≡ result_ok result → result_ok outcome ≡ None
+    → IfErr result (IsReadRefusal outcome) → (result ≡ Err Memory → ⊥) → None ≡ result_ok result
+        → result_ok outcome ≡ None
 was_not_read (Ok w) outcome h enough is = cc
 was_not_read (Err e) outcome (inl m) enough is = absurd (enough (ap Err m))
 was_not_read (Err e) outcome (inr o) enough is = rw o refl
 
 -- ---- numbers
 
-number_read : (n : ℕ) (payload : Option (List ℕ)) (v : ℕ) (rest : List ℕ) → read_found payload (number_at n) ≡ Ok (v, rest) → read_found payload (first_number n) ≡ Ok v
+number_read : (n : ℕ) (payload : Option (List ℕ)) (v : ℕ) (rest : List ℕ)
+    → read_found payload (number_at n) ≡ Ok (v, rest) → read_found payload (first_number n) ≡ Ok v
 number_read n None v rest h = cc
 number_read n (Some s) v rest h = rw h refl
 
-number_unread : (n : ℕ) (payload : Option (List ℕ)) (e : DeError) → read_found payload (number_at n) ≡ Err e → result_ok (read_found payload (first_number n)) ≡ None
+number_unread : (n : ℕ) (payload : Option (List ℕ)) (e : DeError) → read_found payload (number_at n) ≡ Err e
+    → result_ok (read_found payload (first_number n)) ≡ None
 number_unread n None e h = refl
 number_unread n (Some s) e h = rw h refl
 
@@ -112,7 +126,8 @@ never : (payload : Option (List ℕ)) → IsSomeAnd payload (λ _. ⊥) → ⊥
 never None h = h
 never (Some s) h = h
 
-number_refused : (n : ℕ) (payload : Option (List ℕ)) (e : DeError) → Refuses (read_found payload (number_at n)) (IsSomeAnd payload (λ _. ⊥)) e
+number_refused : (n : ℕ) (payload : Option (List ℕ)) (e : DeError)
+    → Refuses (read_found payload (number_at n)) (IsSomeAnd payload (λ _. ⊥)) e
     → result_ok (read_found payload (first_number n)) ≡ None
 number_refused n payload (Msg m) h = number_unread n payload _ h
 number_refused n payload (Io k) h = number_unread n payload _ h
@@ -121,7 +136,9 @@ number_refused n payload (InvalidInput m) h = number_unread n payload _ h
 number_refused n payload Memory h = absurd (never payload h)
 
 -- the number that a payload begins with, or none; reading it takes no memory
-pub number_found : (n : ℕ) (payload : Option (List ℕ)) (result : Result ℕ DeError) → IfOk result (ReadsFirst (read_found payload (number_at n)))
-    → IfErr result (Refuses (read_found payload (number_at n)) (IsSomeAnd payload (λ _. ⊥))) → result_ok result ≡ result_ok (read_found payload (first_number n))
+pub number_found : (n : ℕ) (payload : Option (List ℕ)) (result : Result ℕ DeError)
+    → IfOk result (ReadsFirst (read_found payload (number_at n)))
+    → IfErr result (Refuses (read_found payload (number_at n)) (IsSomeAnd payload (λ _. ⊥)))
+        → result_ok result ≡ result_ok (read_found payload (first_number n))
 number_found n payload (Ok v) (rest, is) refused = rw (number_read n payload v rest is) refl
 number_found n payload (Err e) value refused = rw (number_refused n payload e refused) refl

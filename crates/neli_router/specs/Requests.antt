@@ -52,7 +52,8 @@ families_request = getfamily []
 -- such a request as a router sends any other: its type is Ctrl
 abbrev pub sent_to_controller : ℕ → ℕ → Bool → NlmF → Body → Result (List ℕ) Error
 sent_to_controller port number in_use flags body =
-    frame_or_refusal genl_id_number (genlmsghdr_wire ctrl_cmd_number ctrl_attr_number (λ _. Ok [])) (genlmsghdr_size (λ _. 0))
+    frame_or_refusal genl_id_number (genlmsghdr_wire ctrl_cmd_number ctrl_attr_number (λ _. Ok []))
+        (genlmsghdr_size (λ _. 0))
     port number in_use Ctrl flags (payload.Payload body)
 
 -- ---- as bytes

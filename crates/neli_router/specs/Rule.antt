@@ -60,7 +60,8 @@ module _ {K P : Type 0} (number_of : K → ℕ) (needs numbered : Bool) where
   -- or that of the first single reply, or the one after it where an acknowledgement is needed
   abbrev pub last_place : List (Item K P) → ℕ
   last_place items =
-      min (first_place ends_alone items) (if needs then suc (single_place number_of numbered items) else single_place number_of numbered items)
+      min (first_place ends_alone items) (if needs then suc (single_place number_of numbered items)
+          else single_place number_of numbered items)
 
 -- ---- what is given
 
@@ -79,10 +80,12 @@ last_item needs after (Err e) = Err e
 module _ {K P : Type 0} (number_of : K → ℕ) (needs numbered : Bool) where
   -- answer i, from 0, where the deliveries so far are read as these items, and this one stands at i
   abbrev pub answer_at : List (Item K P) → ℕ → Option (Item K P) → Reply K P
-  answer_at items i None = if nat_lt (last_place number_of needs numbered items) (length items) then reply.End else reply.Waits
+  answer_at items i None = if nat_lt (last_place number_of needs numbered items) (length items) then reply.End
+      else reply.Waits
   answer_at items i (Some item) =
       if nat_lt i (last_place number_of needs numbered items) then reply.Item item
-      else (if i == last_place number_of needs numbered items then reply.Item (last_item needs (nat_lt (single_place number_of numbered items) i) item)
+      else (if i == last_place number_of needs numbered items
+          then reply.Item (last_item needs (nat_lt (single_place number_of numbered items) i) item)
       else reply.End)
 
   -- answer i: an item, the end, or a wait

@@ -57,7 +57,8 @@ module _ {A : Type 0} where
   length_push xs y = grind (arith, common_steps)
 
   -- what is at a place of a list with one more: of the list, or the one more
-  pub pushed_get : (xs : List A) (y x : A) (i : ℕ) → slice_get (xs ++ y ∷ []) i ≡ Some x → (slice_get xs i ≡ Some x) ⊎ ((i ≡ length xs) × (x ≡ y))
+  pub pushed_get : (xs : List A) (y x : A) (i : ℕ) → slice_get (xs ++ y ∷ []) i ≡ Some x
+      → (slice_get xs i ≡ Some x) ⊎ ((i ≡ length xs) × (x ≡ y))
   pushed_get [] y x zero e = inr (refl, cc)
   pushed_get [] y x (suc i) e = cc
   pushed_get (z ∷ xs) y x zero e = inl e
@@ -67,13 +68,16 @@ module _ {A : Type 0} where
 
 module _ {K P V : Type 0} (type_of : ℕ → K) (view : P → V) (size : P → ℕ) (read : List ℕ → Result V DeError) where
   -- more deliveries come
-  pub readings_append : (ds more : List Delivery) (items : List (Item K P)) → AreReadings type_of view size read ds items → AreReadings type_of view size read (ds ++ more) items
+  pub readings_append : (ds more : List Delivery) (items : List (Item K P))
+      → AreReadings type_of view size read ds items → AreReadings type_of view size read (ds ++ more) items
   readings_append ds more [] a = tt
   readings_append [] more (item ∷ items) a = absurd a
   readings_append (d ∷ ds) more (item ∷ items) a = (a.0, readings_append ds more items a.1)
 
   -- one more is read
-  pub readings_push : (ds : List Delivery) (items : List (Item K P)) (d : Delivery) (rest : List Delivery) (item : Item K P) → AreReadings type_of view size read ds items → drop (length items) ds ≡ d ∷ rest → IsReading type_of view size read d item → AreReadings type_of view size read ds (items ++ item ∷ [])
+  pub readings_push : (ds : List Delivery) (items : List (Item K P)) (d : Delivery) (rest : List Delivery)
+      (item : Item K P) → AreReadings type_of view size read ds items → drop (length items) ds ≡ d ∷ rest
+      → IsReading type_of view size read d item → AreReadings type_of view size read ds (items ++ item ∷ [])
   readings_push [] [] d rest item a e is = cc
   readings_push (x ∷ ds) [] d rest item a e is = let same : d ≡ x = cc in (rw (← same) is, tt)
   readings_push [] (y ∷ items) d rest item a e is = absurd a
@@ -81,31 +85,48 @@ module _ {K P V : Type 0} (type_of : ℕ → K) (view : P → V) (size : P → �
 
 module _ {K P : Type 0} (number_of : K → ℕ) (needs numbered : Bool) where
   -- the answer of the place of one more
-  pub answer_push : (readings : List (Item K P)) (item : Item K P) → nat_lt (last_place number_of needs numbered readings) (length readings) ≡ false
-      → answer number_of needs numbered (readings ++ item ∷ []) (length readings) ≡ reply.Item (item_of number_of needs numbered (nat_lt (single_place number_of numbered readings) (length readings)) item)
+  pub answer_push : (readings : List (Item K P)) (item : Item K P)
+      → nat_lt (last_place number_of needs numbered readings) (length readings) ≡ false
+      → answer number_of needs numbered (readings ++ item ∷ []) (length readings)
+          ≡ reply.Item (item_of number_of needs numbered
+          (nat_lt (single_place number_of numbered readings) (length readings)) item)
   answer_push readings item still =
-      answer_gives number_of numbered needs (readings ++ item ∷ []) (length readings) item (push_at readings item) (last_append number_of numbered needs readings (item ∷ []) (length readings) (omega arith) ∙ still)
-      ∙ ap (λ after. reply.Item (item_of number_of needs numbered after item)) (single_append number_of numbered readings (item ∷ []) (length readings) (omega arith))
+      answer_gives number_of numbered needs (readings ++ item ∷ []) (length readings) item (push_at readings item)
+          (last_append number_of numbered needs readings (item ∷ []) (length readings) (omega arith) ∙ still)
+      ∙ ap (λ after. reply.Item (item_of number_of needs numbered after item))
+          (single_append number_of numbered readings (item ∷ []) (length readings) (omega arith))
 
   -- whether a single reply is among them then
-  pub single_push : (readings : List (Item K P)) (item : Item K P) → nat_lt (single_place number_of numbered (readings ++ item ∷ [])) (suc (length readings)) ≡ (nat_lt (single_place number_of numbered readings) (length readings) || is_single number_of numbered item)
+  pub single_push : (readings : List (Item K P)) (item : Item K P)
+      → nat_lt (single_place number_of numbered (readings ++ item ∷ [])) (suc (length readings))
+      ≡ (nat_lt (single_place number_of numbered readings) (length readings) || is_single number_of numbered item)
   single_push readings item =
       single_step number_of numbered (readings ++ item ∷ []) (length readings) item (push_at readings item)
-      ∙ ap (λ b. b || is_single number_of numbered item) (single_append number_of numbered readings (item ∷ []) (length readings) (omega arith))
+      ∙ ap (λ b. b || is_single number_of numbered item)
+          (single_append number_of numbered readings (item ∷ []) (length readings) (omega arith))
 
   -- whether they are ended then
-  pub last_push : (readings : List (Item K P)) (item : Item K P) → nat_lt (last_place number_of needs numbered readings) (length readings) ≡ false
-      → nat_lt (last_place number_of needs numbered (readings ++ item ∷ [])) (suc (length readings)) ≡ ends_at number_of needs numbered (nat_lt (single_place number_of numbered readings) (length readings)) item
+  pub last_push : (readings : List (Item K P)) (item : Item K P)
+      → nat_lt (last_place number_of needs numbered readings) (length readings) ≡ false
+      → nat_lt (last_place number_of needs numbered (readings ++ item ∷ [])) (suc (length readings))
+          ≡ ends_at number_of needs numbered (nat_lt (single_place number_of numbered readings) (length readings)) item
   last_push readings item still =
-      last_step number_of numbered needs (readings ++ item ∷ []) (length readings) item (push_at readings item) (last_append number_of numbered needs readings (item ∷ []) (length readings) (omega arith) ∙ still)
-      ∙ ap (λ after. ends_at number_of needs numbered after item) (single_append number_of numbered readings (item ∷ []) (length readings) (omega arith))
+      last_step number_of numbered needs (readings ++ item ∷ []) (length readings) item (push_at readings item)
+          (last_append number_of numbered needs readings (item ∷ []) (length readings) (omega arith) ∙ still)
+      ∙ ap (λ after. ends_at number_of needs numbered after item)
+          (single_append number_of numbered readings (item ∷ []) (length readings) (omega arith))
 
   -- the items given so far stay answers
-  pub were_grow : (readings more given : List (Item K P)) → WereAnswers number_of needs numbered readings given → WereAnswers number_of needs numbered (readings ++ more) given
-  were_grow readings more given were = λ i item at. answer_grows number_of numbered needs readings more i item (were i item at)
+  pub were_grow : (readings more given : List (Item K P)) → WereAnswers number_of needs numbered readings given
+      → WereAnswers number_of needs numbered (readings ++ more) given
+  were_grow readings more given were = λ i item at. answer_grows number_of numbered needs readings more i item
+      (were i item at)
 
   -- and one more is given
-  pub were_push : (readings given : List (Item K P)) (item : Item K P) → WereAnswers number_of needs numbered readings given → answer number_of needs numbered readings (length given) ≡ reply.Item item → WereAnswers number_of needs numbered readings (given ++ item ∷ [])
+  pub were_push : (readings given : List (Item K P)) (item : Item K P)
+      → WereAnswers number_of needs numbered readings given
+      → answer number_of needs numbered readings (length given) ≡ reply.Item item
+      → WereAnswers number_of needs numbered readings (given ++ item ∷ [])
   were_push readings given item were is = λ i x at. elim (pushed_get given item x i at) [
     | inl before ↦ were i x before
     | inr now ↦ rw (now.0, now.1) is
@@ -113,18 +134,30 @@ module _ {K P : Type 0} (number_of : K → ℕ) (needs numbered : Bool) where
 
 -- ---- what a read answers
 
-module _ {K P V : Type 0} (type_of : ℕ → K) (number_of : K → ℕ) (view : P → V) (size : P → ℕ) (read : List ℕ → Result V DeError) (needs numbered : Bool) (ds : List Delivery) (given readings : List (Item K P)) (are : AreReadings type_of view size read ds readings) (were : WereAnswers number_of needs numbered readings given) (count : length given ≡ length readings) where
+module _ {K P V : Type 0} (type_of : ℕ → K) (number_of : K → ℕ) (view : P → V) (size : P → ℕ) (read : List ℕ
+    → Result V DeError) (needs numbered : Bool) (ds : List Delivery) (given readings : List (Item K P))
+    (are : AreReadings type_of view size read ds readings) (were : WereAnswers number_of needs numbered readings given)
+    (count : length given ≡ length readings) where
   -- past all that was read: the end or a wait
-  answer_past : answer number_of needs numbered readings (length given) ≡ (if nat_lt (last_place number_of needs numbered readings) (length readings) then reply.End else reply.Waits)
+  answer_past : answer number_of needs numbered readings (length given)
+      ≡ (if nat_lt (last_place number_of needs numbered readings) (length readings) then reply.End else reply.Waits)
   answer_past = rw (slice_get_past readings (length given) (omega (arith, count))) refl
 
-  pub next_end : nat_lt (last_place number_of needs numbered readings) (length readings) ≡ true → IsNextAnswer type_of number_of view size read needs numbered ds given reply.End
+  pub next_end : nat_lt (last_place number_of needs numbered readings) (length readings) ≡ true
+      → IsNextAnswer type_of number_of view size read needs numbered ds given reply.End
   next_end over = (readings, are, were, answer_past ∙ rw over refl, λ e. cc)
 
-  pub next_waits : nat_lt (last_place number_of needs numbered readings) (length readings) ≡ false → length readings ≡ length ds → IsNextAnswer type_of number_of view size read needs numbered ds given reply.Waits
+  pub next_waits : nat_lt (last_place number_of needs numbered readings) (length readings) ≡ false
+      → length readings ≡ length ds → IsNextAnswer type_of number_of view size read needs numbered ds given reply.Waits
   next_waits still all = (readings, are, were, answer_past ∙ rw still refl, λ e. all)
 
-  pub next_item : (d : Delivery) (rest : List Delivery) (item : Item K P) → nat_lt (last_place number_of needs numbered readings) (length readings) ≡ false → drop (length readings) ds ≡ d ∷ rest → IsReading type_of view size read d item
-      → IsNextAnswer type_of number_of view size read needs numbered ds given (reply.Item (item_of number_of needs numbered (nat_lt (single_place number_of numbered readings) (length readings)) item))
+  pub next_item : (d : Delivery) (rest : List Delivery) (item : Item K P)
+      → nat_lt (last_place number_of needs numbered readings) (length readings) ≡ false
+      → drop (length readings) ds ≡ d ∷ rest → IsReading type_of view size read d item
+      → IsNextAnswer type_of number_of view size read needs numbered ds given
+          (reply.Item (item_of number_of needs numbered
+          (nat_lt (single_place number_of numbered readings) (length readings)) item))
   next_item d rest item still at is =
-      (readings ++ item ∷ [], readings_push type_of view size read ds readings d rest item are at is, were_grow number_of needs numbered readings (item ∷ []) given were, rw count (answer_push number_of needs numbered readings item still), λ e. cc)
+      (readings ++ item ∷ [], readings_push type_of view size read ds readings d rest item are at is,
+          were_grow number_of needs numbered readings (item ∷ []) given were,
+          rw count (answer_push number_of needs numbered readings item still), λ e. cc)

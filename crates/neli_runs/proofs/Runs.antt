@@ -18,19 +18,26 @@ module _ {ST SP RT RP : Type 0} where
   past h (c ∷ cs) (o ∷ os) = past ((c, o) ∷ h) cs os
 
   module _ (Said : History ST SP RT RP → Command ST SP → Outcome ST SP RT RP → Type 0) where
-    pub past_push : (h : History ST SP RT RP) (cs : List (Command ST SP)) (os : List (Outcome ST SP RT RP)) (c : Command ST SP) (o : Outcome ST SP RT RP) → EachAfter Said h cs os → past h (cs ++ c ∷ []) (os ++ o ∷ []) ≡ (c, o) ∷ past h cs os
+    pub past_push : (h : History ST SP RT RP) (cs : List (Command ST SP)) (os : List (Outcome ST SP RT RP))
+        (c : Command ST SP) (o : Outcome ST SP RT RP) → EachAfter Said h cs os
+        → past h (cs ++ c ∷ []) (os ++ o ∷ []) ≡ (c, o) ∷ past h cs os
     past_push h [] [] c o each = refl
     past_push h [] (x ∷ os) c o each = absurd each
     past_push h (d ∷ cs) [] c o each = absurd each
     past_push h (d ∷ cs) (x ∷ os) c o each = past_push ((d, x) ∷ h) cs os c o each.1
 
-    pub each_push : (h : History ST SP RT RP) (cs : List (Command ST SP)) (os : List (Outcome ST SP RT RP)) (c : Command ST SP) (o : Outcome ST SP RT RP) → EachAfter Said h cs os → Said (past h cs os) c o → EachAfter Said h (cs ++ c ∷ []) (os ++ o ∷ [])
+    pub each_push : (h : History ST SP RT RP) (cs : List (Command ST SP)) (os : List (Outcome ST SP RT RP))
+        (c : Command ST SP) (o : Outcome ST SP RT RP) → EachAfter Said h cs os → Said (past h cs os) c o
+        → EachAfter Said h (cs ++ c ∷ []) (os ++ o ∷ [])
     each_push h [] [] c o each is = (is, tt)
     each_push h [] (x ∷ os) c o each is = absurd each
     each_push h (d ∷ cs) [] c o each is = absurd each
     each_push h (d ∷ cs) (x ∷ os) c o each is = (each.0, each_push ((d, x) ∷ h) cs os c o each.1 is)
 
-  pub each_map : (P Q : History ST SP RT RP → Command ST SP → Outcome ST SP RT RP → Type 0) → ((h : History ST SP RT RP) (c : Command ST SP) (o : Outcome ST SP RT RP) → P h c o → Q h c o) → (h : History ST SP RT RP) (cs : List (Command ST SP)) (os : List (Outcome ST SP RT RP)) → EachAfter P h cs os → EachAfter Q h cs os
+  pub each_map : (P Q : History ST SP RT RP → Command ST SP → Outcome ST SP RT RP → Type 0)
+      → ((h : History ST SP RT RP) (c : Command ST SP) (o : Outcome ST SP RT RP) → P h c o → Q h c o)
+      → (h : History ST SP RT RP) (cs : List (Command ST SP)) (os : List (Outcome ST SP RT RP)) → EachAfter P h cs os
+      → EachAfter Q h cs os
   each_map P Q f h [] [] each = tt
   each_map P Q f h [] (o ∷ os) each = each
   each_map P Q f h (c ∷ cs) [] each = each
@@ -43,13 +50,25 @@ nothing-left front (x ∷ rest) all none e = absurd (omega (arith, none))
 
 -- ---- what is kept
 
-module _ (ST SP : Type 0) {K P V : Type 0} (type_of : ℕ → K) (number : K → ℕ) (view : P → V) (size : P → ℕ) (read : List ℕ → Result V DeError) where
+module _ (ST SP : Type 0) {K P V : Type 0} (type_of : ℕ → K) (number : K → ℕ) (view : P → V) (size : P
+    → ℕ) (read : List ℕ → Result V DeError) where
   -- at the beginning
-  pub holds_start : (pid next : ℕ) (pending : Pending) (handles : Handles) → next ≡ 0 → pending None ≡ Some [] → ((q : ℕ) → pending (Some q) ≡ None) → handles ≡ Some multicast ∷ [] → Holds {ST = ST} {SP = SP} type_of number view size read pid next pending handles []
-  holds_start pid next pending handles zeroth empty numbers one = rw (zeroth, one) (agrees_start ST SP type_of number view size read pid pending (λ k. slice_get (Some multicast ∷ []) k) empty numbers refl (λ k. refl))
+  pub holds_start : (pid next : ℕ) (pending : Pending) (handles : Handles) → next ≡ 0 → pending None ≡ Some []
+      → ((q : ℕ) → pending (Some q) ≡ None) → handles ≡ Some multicast ∷ []
+      → Holds {ST = ST} {SP = SP} type_of number view size read pid next pending handles []
+  holds_start pid next pending handles zeroth empty numbers one =
+      rw (zeroth, one) (agrees_start ST SP type_of number view size read pid pending
+      (λ k. slice_get (Some multicast ∷ []) k) empty numbers refl (λ k. refl))
 
-module _ {ST SP K P V : Type 0} (type_of : ℕ → K) (number : K → ℕ) (view : P → V) (size : P → ℕ) (read : List ℕ → Result V DeError) where
+module _ {ST SP K P V : Type 0} (type_of : ℕ → K) (number : K → ℕ) (view : P → V) (size : P → ℕ) (read : List ℕ
+    → Result V DeError) where
   -- after one command more
-  pub went : (Said : ℕ → History ST SP K P → Command ST SP → Outcome ST SP K P → Type 0) (pid port next next' : ℕ) (pending pending' : Pending) (handles handles' : Handles) (c : Command ST SP) (o : Outcome ST SP K P) (h : History ST SP K P) → port ≡ pid
-      → StepKeeps type_of number view size read (Said port) port next pending handles next' pending' handles' c o → Holds type_of number view size read pid next pending handles h → Said pid h c o × Holds type_of number view size read pid next' pending' handles' ((c, o) ∷ h)
-  went Said pid port next next' pending pending' handles handles' c o h e goes = subst (λ p. StepKeeps type_of number view size read (Said p) p next pending handles next' pending' handles' c o) e goes h
+  pub went : (Said : ℕ → History ST SP K P → Command ST SP → Outcome ST SP K P
+      → Type 0) (pid port next next' : ℕ) (pending pending' : Pending) (handles handles' : Handles) (c : Command ST SP)
+      (o : Outcome ST SP K P) (h : History ST SP K P) → port ≡ pid
+      → StepKeeps type_of number view size read (Said port) port next pending handles next' pending' handles' c o
+          → Holds type_of number view size read pid next pending handles h
+          → Said pid h c o × Holds type_of number view size read pid next' pending' handles' ((c, o) ∷ h)
+  went Said pid port next next' pending pending' handles handles' c o h e goes =
+      subst (λ p. StepKeeps type_of number view size read
+      (Said p) p next pending handles next' pending' handles' c o) e goes h

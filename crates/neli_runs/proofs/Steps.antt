@@ -50,7 +50,9 @@ true_le m n h = grind (arith, nat_tests)
 
 -- equal or not
 same_or : (m n : ℕ) → (m ≡ n) ⊎ (m ≢ n)
-same_or m n = elim (m == n) as (λ b. ((m == n) ≡ b) → (m ≡ n) ⊎ (m ≢ n)) [ true ↦ (λ h. inl (eqb_same m n h)) | false ↦ (λ h. inr (λ e. false_not_true (m == n) h (rw e (eqb_refl n)))) ] refl
+same_or m n = elim (m == n) as (λ b. ((m == n) ≡ b) → (m ≡ n)
+    ⊎ (m ≢ n)) [ true ↦ (λ h. inl (eqb_same m n h)) | false ↦
+    (λ h. inr (λ e. false_not_true (m == n) h (rw e (eqb_refl n)))) ] refl
 
 and_true_left : (a b : Bool) → (a && b) ≡ true → a ≡ true
 and_true_left true b e = refl
@@ -91,14 +93,16 @@ module _ {ST SP K P : Type 0} where
     pub needs : needs_of k h' ≡ needs_of k h
     pub list_of_handle : list_of_handle k h' ≡ list_of_handle k h
 
-  pub same_live : (port k : ℕ) (h h' : History ST SP K P) → IsSame port k h h' → is_handle_open k h' ≡ is_handle_open k h
+  pub same_live : (port k : ℕ) (h h' : History ST SP K P) → IsSame port k h h'
+      → is_handle_open k h' ≡ is_handle_open k h
   same_live port k h h' s = rw (s.later, s.closed) refl
 
   live_given : (k : ℕ) (h : History ST SP K P) → is_handle_open k h ≡ true → k ≤ requests_sent h
   live_given k h p = le_true k (requests_sent h) (and_true_left _ _ p)
 
   -- a command that is not sent changes no handle's owner
-  pub whose_unsent : (k : ℕ) (c : Command ST SP) (o : Outcome ST SP K P) (h : History ST SP K P) → is_sent o ≡ false → list_of_handle k ((c, o) ∷ h) ≡ list_of_handle k h
+  pub whose_unsent : (k : ℕ) (c : Command ST SP) (o : Outcome ST SP K P) (h : History ST SP K P) → is_sent o ≡ false
+      → list_of_handle k ((c, o) ∷ h) ≡ list_of_handle k h
   whose_unsent zero c o h e = refl
   whose_unsent (suc k) c o h e = rw e refl
 
@@ -136,12 +140,15 @@ hands_over (command.Send t f p) = false
 hands_over (command.Read k) = false
 hands_over (command.Close k) = false
 
-module _ {ST SP K P V : Type 0} (type_of : ℕ → K) (number : K → ℕ) (view : P → V) (size : P → ℕ) (read : List ℕ → Result V DeError) where
+module _ {ST SP K P V : Type 0} (type_of : ℕ → K) (number : K → ℕ) (view : P → V) (size : P → ℕ) (read : List ℕ
+    → Result V DeError) where
   -- ---- handles that stand alike
 
   pub slot_same : (port k : ℕ) (pending pending' : Pending) (h h' : History ST SP K P) → IsSame port k h h'
-      → (is_handle_open k h ≡ true → pending' (list_of_handle k h) ≡ pending (list_of_handle k h)) → (s : Option (Option HandleState))
-      → IsSlot type_of number view size read port pending k h s → IsSlot type_of number view size read port pending' k h' s
+      → (is_handle_open k h ≡ true → pending' (list_of_handle k h) ≡ pending (list_of_handle k h))
+          → (s : Option (Option HandleState))
+      → IsSlot type_of number view size read port pending k h s
+          → IsSlot type_of number view size read port pending' k h' s
   slot_same port k pending pending' h h' s same None x = record {
     later = s.later ∙ x.later;
     closed = s.closed ∙ x.closed;
@@ -166,66 +173,101 @@ module _ {ST SP K P V : Type 0} (type_of : ℕ → K) (number : K → ℕ) (view
   )
 
   -- a command that changes nothing but the next number
-  pub agrees_same : (port next next' count : ℕ) (pending : Pending) (slots : ℕ → Option (Option HandleState)) (h h' : History ST SP K P)
+  pub agrees_same : (port next next' count : ℕ) (pending : Pending) (slots : ℕ
+      → Option (Option HandleState)) (h h' : History ST SP K P)
       → requests_sent h' ≡ requests_sent h → next' ≡ next_number h' → ((k : ℕ) → IsSame port k h h')
-      → Agrees type_of number view size read port next count pending slots h → Agrees type_of number view size read port next' count pending slots h'
+      → Agrees type_of number view size read port next count pending slots h
+          → Agrees type_of number view size read port next' count pending slots h'
   agrees_same port next next' count pending slots h h' many next_is same a = record {
     next_is = next_is;
     count_is = a.count_is ∙ ap suc (sym many);
     each = λ k. slot_same port k pending pending h h' (same k) (λ _. refl) (slots k) (a.each k);
-    owned = λ q ds p. let o = a.owned q ds p in (o.0, same_live port o.0 h h' (same o.0) ∙ o.1, (same o.0).list_of_handle ∙ o.2);
-    one = λ j k p q r. a.one j k (sym (same_live port j h h' (same j)) ∙ p) (sym (same_live port k h h' (same k)) ∙ q) (sym (same j).list_of_handle ∙ (r ∙ (same k).list_of_handle));
+    owned = λ q ds p. let o = a.owned q ds p in (o.0, same_live port o.0 h h' (same o.0) ∙ o.1,
+        (same o.0).list_of_handle ∙ o.2);
+    one = λ j k p q r. a.one j k (sym (same_live port j h h' (same j)) ∙ p) (sym (same_live port k h h' (same k)) ∙ q)
+        (sym (same j).list_of_handle ∙ (r ∙ (same k).list_of_handle));
   }
 
-  pub agrees_set : (port next count n : ℕ) (pending : Pending) (slots : ℕ → Option (Option HandleState)) (h : History ST SP K P)
-      → n < 2 ^ 32 → Agrees type_of number view size read port next count pending slots h → Agrees type_of number view size read port n count pending slots ((command.SetNextSeq n, outcome.Done) ∷ h)
+  pub agrees_set : (port next count n : ℕ) (pending : Pending) (slots : ℕ
+      → Option (Option HandleState)) (h : History ST SP K P)
+      → n < 2 ^ 32 → Agrees type_of number view size read port next count pending slots h
+          → Agrees type_of number view size read port n count pending slots ((command.SetNextSeq n, outcome.Done) ∷ h)
   agrees_set port next count n pending slots h small a =
-      agrees_same port next n count pending slots h _ refl (omega arith) (λ k. record { later = refl; closed = refl; items = refl; deliveries = refl; needs = refl; list_of_handle = whose_unsent k (command.SetNextSeq n) outcome.Done h refl }) a
+      agrees_same port next n count pending slots h _ refl (omega arith)
+          (λ k. record { later = refl; closed = refl; items = refl; deliveries = refl; needs = refl;
+          list_of_handle = whose_unsent k (command.SetNextSeq n) outcome.Done h refl }) a
 
-  pub agrees_unsent : (port next count : ℕ) (t : ST) (f : NlmF) (p : NlPayload ST SP) (o : Outcome ST SP K P) (pending : Pending) (slots : ℕ → Option (Option HandleState)) (h : History ST SP K P)
+  pub agrees_unsent : (port next count : ℕ) (t : ST) (f : NlmF) (p : NlPayload ST SP) (o : Outcome ST SP K P)
+      (pending : Pending) (slots : ℕ → Option (Option HandleState)) (h : History ST SP K P)
       → is_sent o ≡ false → ((k : ℕ) → items_of k ((command.Send t f p, o) ∷ h) ≡ items_of k h)
-      → Agrees type_of number view size read port next count pending slots h → Agrees type_of number view size read port next count pending slots ((command.Send t f p, o) ∷ h)
+      → Agrees type_of number view size read port next count pending slots h
+          → Agrees type_of number view size read port next count pending slots ((command.Send t f p, o) ∷ h)
   agrees_unsent port next count t f p o pending slots h unsent items a =
       let many : requests_sent ((command.Send t f p, o) ∷ h) ≡ requests_sent h = rw unsent refl in
-      agrees_same port next next count pending slots h _ many (a.next_is ∙ rw unsent refl) (λ k. record { later = ap (nat_le k) many; closed = refl; items = items k; deliveries = refl; needs = rw unsent refl; list_of_handle = whose_unsent k (command.Send t f p) o h unsent }) a
+      agrees_same port next next count pending slots h _ many (a.next_is ∙ rw unsent refl)
+          (λ k. record { later = ap (nat_le k) many; closed = refl; items = items k; deliveries = refl;
+          needs = rw unsent refl; list_of_handle = whose_unsent k (command.Send t f p) o h unsent }) a
 
   -- a read that gives no item, or a close of no handle
-  pub agrees_idle : (port next count : ℕ) (c : Command ST SP) (o : Outcome ST SP K P) (pending : Pending) (slots : ℕ → Option (Option HandleState)) (h : History ST SP K P)
-      → requests_sent ((c, o) ∷ h) ≡ requests_sent h → next_number ((c, o) ∷ h) ≡ next_number h → ((k : ℕ) → IsSame port k h ((c, o) ∷ h))
-      → Agrees type_of number view size read port next count pending slots h → Agrees type_of number view size read port next count pending slots ((c, o) ∷ h)
+  pub agrees_idle : (port next count : ℕ) (c : Command ST SP) (o : Outcome ST SP K P) (pending : Pending) (slots : ℕ
+      → Option (Option HandleState)) (h : History ST SP K P)
+      → requests_sent ((c, o) ∷ h) ≡ requests_sent h → next_number ((c, o) ∷ h) ≡ next_number h
+          → ((k : ℕ) → IsSame port k h ((c, o) ∷ h))
+      → Agrees type_of number view size read port next count pending slots h
+          → Agrees type_of number view size read port next count pending slots ((c, o) ∷ h)
   agrees_idle port next count c o pending slots h many number_is same a =
       agrees_same port next next count pending slots h ((c, o) ∷ h) many (a.next_is ∙ sym number_is) same a
 
-  pub agrees_read_end : (port next count i : ℕ) (pending : Pending) (slots : ℕ → Option (Option HandleState)) (h : History ST SP K P)
-      → Agrees type_of number view size read port next count pending slots h → Agrees type_of number view size read port next count pending slots ((command.Read i, outcome.End) ∷ h)
+  pub agrees_read_end : (port next count i : ℕ) (pending : Pending) (slots : ℕ
+      → Option (Option HandleState)) (h : History ST SP K P)
+      → Agrees type_of number view size read port next count pending slots h
+          → Agrees type_of number view size read port next count pending slots ((command.Read i, outcome.End) ∷ h)
   agrees_read_end port next count i pending slots h a =
-      agrees_idle port next count (command.Read i) outcome.End pending slots h refl refl (λ k. record { later = refl; closed = refl; items = refl; deliveries = refl; needs = refl; list_of_handle = whose_unsent k (command.Read i) outcome.End h refl }) a
+      agrees_idle port next count (command.Read i) outcome.End pending slots h refl refl
+          (λ k. record { later = refl; closed = refl; items = refl; deliveries = refl; needs = refl;
+          list_of_handle = whose_unsent k (command.Read i) outcome.End h refl }) a
 
-  pub agrees_read_waits : (port next count i : ℕ) (pending : Pending) (slots : ℕ → Option (Option HandleState)) (h : History ST SP K P)
-      → Agrees type_of number view size read port next count pending slots h → Agrees type_of number view size read port next count pending slots ((command.Read i, outcome.Waits) ∷ h)
+  pub agrees_read_waits : (port next count i : ℕ) (pending : Pending) (slots : ℕ
+      → Option (Option HandleState)) (h : History ST SP K P)
+      → Agrees type_of number view size read port next count pending slots h
+          → Agrees type_of number view size read port next count pending slots ((command.Read i, outcome.Waits) ∷ h)
   agrees_read_waits port next count i pending slots h a =
-      agrees_idle port next count (command.Read i) outcome.Waits pending slots h refl refl (λ k. record { later = refl; closed = refl; items = refl; deliveries = refl; needs = refl; list_of_handle = whose_unsent k (command.Read i) outcome.Waits h refl }) a
+      agrees_idle port next count (command.Read i) outcome.Waits pending slots h refl refl
+          (λ k. record { later = refl; closed = refl; items = refl; deliveries = refl; needs = refl;
+          list_of_handle = whose_unsent k (command.Read i) outcome.Waits h refl }) a
 
-  pub agrees_read_none : (port next count i : ℕ) (pending : Pending) (slots : ℕ → Option (Option HandleState)) (h : History ST SP K P)
-      → Agrees type_of number view size read port next count pending slots h → Agrees type_of number view size read port next count pending slots ((command.Read i, outcome.NoHandle) ∷ h)
+  pub agrees_read_none : (port next count i : ℕ) (pending : Pending) (slots : ℕ
+      → Option (Option HandleState)) (h : History ST SP K P)
+      → Agrees type_of number view size read port next count pending slots h
+          → Agrees type_of number view size read port next count pending slots ((command.Read i, outcome.NoHandle) ∷ h)
   agrees_read_none port next count i pending slots h a =
-      agrees_idle port next count (command.Read i) outcome.NoHandle pending slots h refl refl (λ k. record { later = refl; closed = refl; items = refl; deliveries = refl; needs = refl; list_of_handle = whose_unsent k (command.Read i) outcome.NoHandle h refl }) a
+      agrees_idle port next count (command.Read i) outcome.NoHandle pending slots h refl refl
+          (λ k. record { later = refl; closed = refl; items = refl; deliveries = refl; needs = refl;
+          list_of_handle = whose_unsent k (command.Read i) outcome.NoHandle h refl }) a
 
-  pub agrees_close_none : (port next count i : ℕ) (pending : Pending) (slots : ℕ → Option (Option HandleState)) (h : History ST SP K P)
-      → Agrees type_of number view size read port next count pending slots h → Agrees type_of number view size read port next count pending slots ((command.Close i, outcome.NoHandle) ∷ h)
+  pub agrees_close_none : (port next count i : ℕ) (pending : Pending) (slots : ℕ
+      → Option (Option HandleState)) (h : History ST SP K P)
+      → Agrees type_of number view size read port next count pending slots h
+          → Agrees type_of number view size read port next count pending slots ((command.Close i, outcome.NoHandle) ∷ h)
   agrees_close_none port next count i pending slots h a =
-      agrees_idle port next count (command.Close i) outcome.NoHandle pending slots h refl refl (λ k. record { later = refl; closed = rw (and_false (i == k)) refl; items = refl; deliveries = refl; needs = refl; list_of_handle = whose_unsent k (command.Close i) outcome.NoHandle h refl }) a
+      agrees_idle port next count (command.Close i) outcome.NoHandle pending slots h refl refl
+          (λ k. record { later = refl; closed = rw (and_false (i == k)) refl; items = refl; deliveries = refl;
+          needs = refl; list_of_handle = whose_unsent k (command.Close i) outcome.NoHandle h refl }) a
 
   -- what a handle that is open has pending
-  kept_of : (port k : ℕ) (pending : Pending) (h : History ST SP K P) (s : Option (Option HandleState)) → IsSlot type_of number view size read port pending k h s → is_handle_open k h ≡ true
-      → (x : HandleState) × (readings : List (Item K P)) × (s ≡ Some (Some x)) × IsKept type_of number view size read port pending k x h readings
+  kept_of : (port k : ℕ) (pending : Pending) (h : History ST SP K P) (s : Option (Option HandleState))
+      → IsSlot type_of number view size read port pending k h s → is_handle_open k h ≡ true
+      → (x : HandleState) × (readings : List (Item K P)) × (s ≡ Some (Some x))
+          × IsKept type_of number view size read port pending k x h readings
   kept_of port k pending h None x p = absurd (false_not_true (is_handle_open k h) (rw x.later refl) p)
   kept_of port k pending h (Some None) x p = absurd (false_not_true (is_handle_open k h) x p)
   kept_of port k pending h (Some (Some handle)) x p = (handle, x.0, refl, x.1)
 
   -- ---- a request is sent
 
-  module _ (port next next' count count' : ℕ) (t : ST) (f : NlmF) (p : NlPayload ST SP) (o : Outcome ST SP K P) (pending pending' : Pending) (slots slots' : ℕ → Option (Option HandleState)) (h : History ST SP K P) (x : HandleState)
+  module _ (port next next' count count' : ℕ) (t : ST) (f : NlmF) (p : NlPayload ST SP) (o : Outcome ST SP K P)
+      (pending pending' : Pending) (slots slots' : ℕ → Option (Option HandleState)) (h : History ST SP K P)
+      (x : HandleState)
       (sent : is_sent o ≡ true) (no_item : (k : ℕ) → items_of k ((command.Send t f p, o) ∷ h) ≡ items_of k h)
       (a : Agrees type_of number view size read port next count pending slots h)
       (free : pending (Some next) ≡ None) (next_is : next' ≡ (next + 1) % 2 ^ 32) (count_is : count' ≡ suc count)
@@ -248,17 +290,21 @@ module _ {ST SP K P V : Type 0} (type_of : ℕ → K) (number : K → ℕ) (view
       items = no_item k;
       deliveries = refl;
       needs = rw (sent, eqb_other k (suc (requests_sent h)) other) refl;
-      list_of_handle = elim k as (λ k. k ≢ suc (requests_sent h) → list_of_handle k after ≡ list_of_handle k h) [ zero ↦ (λ _. refl) | suc k ↦ (λ o. rw (sent, eqb_other (suc k) (suc (requests_sent h)) o) refl) ] other;
+      list_of_handle = elim k as (λ k. k ≢ suc (requests_sent h)
+          → list_of_handle k after ≡ list_of_handle k h) [ zero ↦ (λ _. refl) | suc k ↦
+          (λ o. rw (sent, eqb_other (suc k) (suc (requests_sent h)) o) refl) ] other;
     }
 
     sent_fresh : IsFresh port (suc (requests_sent h)) h
-    sent_fresh = let e : slots (suc (requests_sent h)) ≡ None = ap slots (sym a.count_is) ∙ past in rw e at (a.each (suc (requests_sent h)))
+    sent_fresh = let e : slots (suc (requests_sent h)) ≡ None = ap slots (sym a.count_is) ∙ past in
+        rw e at (a.each (suc (requests_sent h)))
 
     sent_whose : list_of_handle (suc (requests_sent h)) after ≡ Some next
     sent_whose = rw (sent, eqb_refl (suc (requests_sent h))) (ap Some (sym a.next_is))
 
     sent_live : is_handle_open (suc (requests_sent h)) after ≡ true
-    sent_live = rw (sent_sends, true_le (suc (requests_sent h)) (suc (requests_sent h)) (omega arith), sent_fresh.closed) refl
+    sent_live = rw (sent_sends, true_le (suc (requests_sent h)) (suc (requests_sent h)) (omega arith),
+        sent_fresh.closed) refl
 
     sent_needs : needs_of (suc (requests_sent h)) after ≡ needs_ack f
     sent_needs = rw (sent, eqb_refl (suc (requests_sent h))) refl
@@ -275,7 +321,8 @@ module _ {ST SP K P V : Type 0} (type_of : ℕ → K) (number : K → ℕ) (view
     sent_not_new : (k : ℕ) → is_handle_open k h ≡ true → k ≢ suc (requests_sent h)
     sent_not_new k live e = let le : k ≤ requests_sent h = live_given k h live in absurd (omega arith)
 
-    sent_new : IsSlot type_of number view size read port pending' (suc (requests_sent h)) after (Some (Some (asks next f)))
+    sent_new : IsSlot type_of number view size read port pending' (suc (requests_sent h)) after
+        (Some (Some (asks next f)))
     sent_new = (
       [],
       record {
@@ -288,14 +335,17 @@ module _ {ST SP K P V : Type 0} (type_of : ℕ → K) (number : K → ℕ) (view
         count = rw sent_items refl;
         items = λ i item at. let none = rw sent_items at at in cc;
         given = sym (lt_zero 0);
-        ended = sym (lt_zero (last_place number (needs_of (suc (requests_sent h)) after) (is_numbered (suc (requests_sent h))) (no_items {P = P})));
+        ended = sym (lt_zero (last_place number (needs_of (suc (requests_sent h)) after)
+            (is_numbered (suc (requests_sent h))) (no_items {P = P})));
       },
     )
 
     sent_each : (k : ℕ) → IsSlot type_of number view size read port pending' k after (slots' k)
     sent_each k = elim (same_or k (suc (requests_sent h))) [
-      | inl e ↦ rw e (let s : slots' (suc (requests_sent h)) ≡ Some (Some x) = ap slots' (sym a.count_is) ∙ new in rw (s, x_is) sent_new)
-      | inr o ↦ rw (old k (λ e. o (e ∙ a.count_is))) (slot_same port k pending pending' h after (sent_same k o) (λ live. others _ (sent_apart k live)) (slots k) (a.each k))
+      | inl e ↦ rw e (let s : slots' (suc (requests_sent h)) ≡ Some (Some x) = ap slots' (sym a.count_is) ∙ new in
+          rw (s, x_is) sent_new)
+      | inr o ↦ rw (old k (λ e. o (e ∙ a.count_is))) (slot_same port k pending pending' h after (sent_same k o)
+          (λ live. others _ (sent_apart k live)) (slots k) (a.each k))
     ]
 
     sent_live_old : (k : ℕ) → k ≢ suc (requests_sent h) → is_handle_open k after ≡ true → is_handle_open k h ≡ true
@@ -305,18 +355,23 @@ module _ {ST SP K P V : Type 0} (type_of : ℕ → K) (number : K → ℕ) (view
     sent_owned q ds p = elim (same_or q next) [
       | inl e ↦ (suc (requests_sent h), sent_live, rw e sent_whose)
       | inr o ↦ let w = a.owned q ds (sym (others (Some q) (λ e. o (some_inj q next e))) ∙ p) in
-          (w.0, same_live port w.0 h after (sent_same w.0 (sent_not_new w.0 w.1)) ∙ w.1, (sent_same w.0 (sent_not_new w.0 w.1)).list_of_handle ∙ w.2)
+          (w.0, same_live port w.0 h after (sent_same w.0 (sent_not_new w.0 w.1)) ∙ w.1,
+              (sent_same w.0 (sent_not_new w.0 w.1)).list_of_handle ∙ w.2)
     ]
 
-    sent_one : (j k : ℕ) → is_handle_open j after ≡ true → is_handle_open k after ≡ true → list_of_handle j after ≡ list_of_handle k after → j ≡ k
+    sent_one : (j k : ℕ) → is_handle_open j after ≡ true → is_handle_open k after ≡ true
+        → list_of_handle j after ≡ list_of_handle k after → j ≡ k
     sent_one j k p q r = elim (same_or j (suc (requests_sent h))) [
       | inl ej ↦ elim (same_or k (suc (requests_sent h))) [
         | inl ek ↦ ej ∙ sym ek
-        | inr ok ↦ absurd (sent_apart k (sent_live_old k ok q) (sym (sent_same k ok).list_of_handle ∙ (sym r ∙ (ap (λ i. list_of_handle i after) ej ∙ sent_whose))))
+        | inr ok ↦ absurd (sent_apart k (sent_live_old k ok q) (sym (sent_same k ok).list_of_handle
+            ∙ (sym r ∙ (ap (λ i. list_of_handle i after) ej ∙ sent_whose))))
       ]
       | inr oj ↦ elim (same_or k (suc (requests_sent h))) [
-        | inl ek ↦ absurd (sent_apart j (sent_live_old j oj p) (sym (sent_same j oj).list_of_handle ∙ (r ∙ (ap (λ i. list_of_handle i after) ek ∙ sent_whose))))
-        | inr ok ↦ a.one j k (sent_live_old j oj p) (sent_live_old k ok q) (sym (sent_same j oj).list_of_handle ∙ (r ∙ (sent_same k ok).list_of_handle))
+        | inl ek ↦ absurd (sent_apart j (sent_live_old j oj p) (sym (sent_same j oj).list_of_handle
+            ∙ (r ∙ (ap (λ i. list_of_handle i after) ek ∙ sent_whose))))
+        | inr ok ↦ a.one j k (sent_live_old j oj p) (sent_live_old k ok q) (sym (sent_same j oj).list_of_handle
+            ∙ (r ∙ (sent_same k ok).list_of_handle))
       ]
     ]
 
@@ -334,11 +389,15 @@ module _ {ST SP K P V : Type 0} (type_of : ℕ → K) (number : K → ℕ) (view
 
   -- ---- an item is read
 
-  module _ (port next count k : ℕ) (pending pending' : Pending) (slots slots' : ℕ → Option (Option HandleState)) (h : History ST SP K P) (x x' : HandleState) (readings : List (Item K P)) (d : Delivery) (ds : List Delivery) (item : Item K P)
+  module _ (port next count k : ℕ) (pending pending' : Pending) (slots slots' : ℕ
+      → Option (Option HandleState)) (h : History ST SP K P) (x x' : HandleState) (readings : List (Item K P))
+      (d : Delivery) (ds : List Delivery) (item : Item K P)
       (a : Agrees type_of number view size read port next count pending slots h)
-      (before : slots k ≡ Some (Some x)) (kept : IsKept type_of number view size read port pending k x h readings) (still : x.ended ≡ false)
+      (before : slots k ≡ Some (Some x)) (kept : IsKept type_of number view size read port pending k x h readings)
+          (still : x.ended ≡ false)
       (first : pending (list_of_handle k h) ≡ Some (d ∷ ds)) (is : IsReading type_of view size read d item)
-      (taken : pending' (list_of_handle k h) ≡ Some ds) (others : (w : Option ℕ) → w ≢ list_of_handle k h → pending' w ≡ pending w)
+      (taken : pending' (list_of_handle k h) ≡ Some ds) (others : (w : Option ℕ) → w ≢ list_of_handle k h
+          → pending' w ≡ pending w)
       (new : slots' k ≡ Some (Some x')) (old : (j : ℕ) → j ≢ k → slots' j ≡ slots j)
       (x_is : x' ≡ record {
         number = x.number;
@@ -348,7 +407,8 @@ module _ {ST SP K P V : Type 0} (type_of : ℕ → K) (number : K → ℕ) (view
       }) where
     -- what is given
     abbrev given_item : Item K P
-    given_item = item_of number (needs_of k h) (is_numbered k) (nat_lt (single_place number (is_numbered k) readings) (length readings)) item
+    given_item = item_of number (needs_of k h) (is_numbered k)
+        (nat_lt (single_place number (is_numbered k) readings) (length readings)) item
 
     abbrev read_after : History ST SP K P
     read_after = (command.Read k, outcome.Item given_item) ∷ h
@@ -375,7 +435,8 @@ module _ {ST SP K P V : Type 0} (type_of : ℕ → K) (number : K → ℕ) (view
     read_items : items_of k read_after ≡ items_of k h ++ given_item ∷ []
     read_items = rw (eqb_refl k) refl
 
-    read_answer : answer number (needs_of k h) (is_numbered k) (readings ++ item ∷ []) (length (items_of k h)) ≡ reply.Item given_item
+    read_answer : answer number (needs_of k h) (is_numbered k) (readings ++ item ∷ []) (length (items_of k h))
+        ≡ reply.Item given_item
     read_answer = rw kept.count (answer_push number (needs_of k h) (is_numbered k) readings item read_still)
 
     read_kept : IsKept type_of number view size read port pending' k x' read_after (readings ++ item ∷ [])
@@ -383,13 +444,19 @@ module _ {ST SP K P V : Type 0} (type_of : ℕ → K) (number : K → ℕ) (view
       live = kept.live;
       number = kept.number ∙ sym (read_whose k);
       needs = kept.needs;
-      left = rw (read_whose k, length_push readings item) (taken ∙ ap Some (sym (drop_rest (delivered port k h) (length readings) d ds read_left)));
+      left = rw (read_whose k, length_push readings item) (taken
+          ∙ ap Some (sym (drop_rest (delivered port k h) (length readings) d ds read_left)));
       within = rw (length_push readings item) (drop_within (delivered port k h) (length readings) d ds read_left);
-      are_read = readings_push type_of view size read (delivered port k h) readings d ds item kept.are_read read_left is;
+      are_read = readings_push type_of view size read (delivered port k h) readings d ds item kept.are_read read_left
+          is;
       count = rw (read_items, length_push readings item) (length_push (items_of k h) given_item ∙ ap suc kept.count);
-      items = rw read_items (were_push number (needs_of k h) (is_numbered k) (readings ++ item ∷ []) (items_of k h) given_item (were_grow number (needs_of k h) (is_numbered k) readings (item ∷ []) (items_of k h) kept.items) read_answer);
-      given = rw (length_push readings item, kept.given) (sym (single_push number (needs_of k h) (is_numbered k) readings item));
-      ended = rw (length_push readings item, kept.given, kept.needs) (sym (last_push number (needs_of k h) (is_numbered k) readings item read_still));
+      items = rw read_items (were_push number (needs_of k h) (is_numbered k) (readings ++ item ∷ [])
+          (items_of k h) given_item (were_grow number (needs_of k h) (is_numbered k) readings (item ∷ [])
+          (items_of k h) kept.items) read_answer);
+      given = rw (length_push readings item, kept.given)
+          (sym (single_push number (needs_of k h) (is_numbered k) readings item));
+      ended = rw (length_push readings item, kept.given, kept.needs)
+          (sym (last_push number (needs_of k h) (is_numbered k) readings item read_still));
     })
 
     read_apart : (j : ℕ) → j ≢ k → is_handle_open j h ≡ true → list_of_handle j h ≢ list_of_handle k h
@@ -398,13 +465,16 @@ module _ {ST SP K P V : Type 0} (type_of : ℕ → K) (number : K → ℕ) (view
     read_each : (j : ℕ) → IsSlot type_of number view size read port pending' j read_after (slots' j)
     read_each j = elim (same_or j k) [
       | inl e ↦ rw (e, new) (readings ++ item ∷ [], read_kept)
-      | inr o ↦ rw (old j o) (slot_same port j pending pending' h read_after (read_same j o) (λ live. others _ (read_apart j o live)) (slots j) (a.each j))
+      | inr o ↦ rw (old j o) (slot_same port j pending pending' h read_after (read_same j o)
+          (λ live. others _ (read_apart j o live)) (slots j) (a.each j))
     ]
 
-    read_owned : (q : ℕ) (es : List Delivery) → (s : Option (List Delivery)) → pending (Some q) ≡ s → pending' (Some q) ≡ Some es → IsOwned q read_after
+    read_owned : (q : ℕ) (es : List Delivery) → (s : Option (List Delivery)) → pending (Some q) ≡ s
+        → pending' (Some q) ≡ Some es → IsOwned q read_after
     read_owned q es (Some fs) p r = let o = a.owned q fs p in (o.0, o.1, read_whose o.0 ∙ o.2)
     read_owned q es None p r =
-        let apart : Some q ≢ list_of_handle k h = λ e. some_not_none (pending (list_of_handle k h)) _ (ap pending (sym e) ∙ p) first in
+        let apart : Some q ≢ list_of_handle k h = λ e. some_not_none
+            (pending (list_of_handle k h)) _ (ap pending (sym e) ∙ p) first in
         absurd (some_not_none (pending' (Some q)) _ (others (Some q) apart ∙ p) r)
 
     pub agrees_read : Agrees type_of number view size read port next count pending' slots' read_after
@@ -418,9 +488,11 @@ module _ {ST SP K P V : Type 0} (type_of : ℕ → K) (number : K → ℕ) (view
 
   -- ---- a handle is closed
 
-  module _ (port next count k : ℕ) (pending pending' : Pending) (slots slots' : ℕ → Option (Option HandleState)) (h : History ST SP K P)
+  module _ (port next count k : ℕ) (pending pending' : Pending) (slots slots' : ℕ
+      → Option (Option HandleState)) (h : History ST SP K P)
       (a : Agrees type_of number view size read port next count pending slots h) (live : is_handle_open k h ≡ true)
-      (gone : pending' (list_of_handle k h) ≡ None) (others : (w : Option ℕ) → w ≢ list_of_handle k h → pending' w ≡ pending w)
+      (gone : pending' (list_of_handle k h) ≡ None) (others : (w : Option ℕ) → w ≢ list_of_handle k h
+          → pending' w ≡ pending w)
       (new : slots' k ≡ Some None) (old : (j : ℕ) → j ≢ k → slots' j ≡ slots j) where
     abbrev close_after : History ST SP K P
     close_after = (command.Close k, outcome.Done) ∷ h
@@ -450,12 +522,14 @@ module _ {ST SP K P V : Type 0} (type_of : ℕ → K) (number : K → ℕ) (view
     close_each : (j : ℕ) → IsSlot type_of number view size read port pending' j close_after (slots' j)
     close_each j = elim (same_or j k) [
       | inl e ↦ rw (e, new) close_dead
-      | inr o ↦ rw (old j o) (slot_same port j pending pending' h close_after (close_same j o) (λ alive. others _ (λ e. o (a.one j k alive live e))) (slots j) (a.each j))
+      | inr o ↦ rw (old j o) (slot_same port j pending pending' h close_after (close_same j o)
+          (λ alive. others _ (λ e. o (a.one j k alive live e))) (slots j) (a.each j))
     ]
 
     close_owned : (q : ℕ) (es : List Delivery) → pending' (Some q) ≡ Some es → IsOwned q close_after
     close_owned q es p =
-        let apart : Some q ≢ list_of_handle k h = λ e. some_not_none (pending' (list_of_handle k h)) _ gone (ap pending' (sym e) ∙ p) in
+        let apart : Some q ≢ list_of_handle k h = λ e. some_not_none (pending' (list_of_handle k h)) _ gone
+            (ap pending' (sym e) ∙ p) in
         let o = a.owned q es (sym (others (Some q) apart) ∙ p) in
         let other : o.0 ≢ k = λ e. apart (sym o.2 ∙ ap (λ i. list_of_handle i h) e) in
         (o.0, same_live port o.0 h close_after (close_same o.0 other) ∙ o.1, close_whose o.0 ∙ o.2)
@@ -471,53 +545,70 @@ module _ {ST SP K P V : Type 0} (type_of : ℕ → K) (number : K → ℕ) (view
 
   -- ---- which numbers are open
 
-  open_owner : (k q : ℕ) (h : History ST SP K P) → is_handle_open k h ≡ true → list_of_handle k h ≡ Some q → is_open q h ≡ true
+  open_owner : (k q : ℕ) (h : History ST SP K P) → is_handle_open k h ≡ true → list_of_handle k h ≡ Some q
+      → is_open q h ≡ true
   open_owner zero q h live e = absurd (some_not_none (list_of_handle zero h) q refl e)
-  open_owner (suc k) q h live e = any_true (requests_sent h) (λ k. is_handle_open k h && (number_of k h == q)) k (live_given (suc k) h live) (rw (live, some_inj _ _ e, eqb_refl q) refl)
+  open_owner (suc k) q h live e = any_true (requests_sent h) (λ k. is_handle_open k h && (number_of k h == q)) k
+      (live_given (suc k) h live) (rw (live, some_inj _ _ e, eqb_refl q) refl)
 
-  open_by : (port next count : ℕ) (pending : Pending) (slots : ℕ → Option (Option HandleState)) (h : History ST SP K P) → Agrees type_of number view size read port next count pending slots h
+  open_by : (port next count : ℕ) (pending : Pending) (slots : ℕ → Option (Option HandleState)) (h : History ST SP K P)
+      → Agrees type_of number view size read port next count pending slots h
       → (q : ℕ) (s : Option (List Delivery)) → pending (Some q) ≡ s → is_some s ≡ is_open q h
   open_by port next count pending slots h a q (Some ds) p =
       let o = a.owned q ds p in sym (open_owner o.0 q h o.1 o.2)
   open_by port next count pending slots h a q None p =
-      sym (any_false (requests_sent h) (λ k. is_handle_open k h && (number_of k h == q)) (λ k. not_both (is_handle_open (suc k) h) (number_of (suc k) h == q) (λ live same.
+      sym (any_false (requests_sent h) (λ k. is_handle_open k h && (number_of k h == q))
+          (λ k. not_both (is_handle_open (suc k) h) (number_of (suc k) h == q) (λ live same.
       let kept = kept_of port (suc k) pending h (slots (suc k)) (a.each (suc k)) live in
-      some_not_none (pending (Some q)) _ p (ap (λ i. pending (Some i)) (sym (eqb_same (number_of (suc k) h) q same)) ∙ kept.3.left))))
+      some_not_none (pending (Some q)) _ p (ap (λ i. pending (Some i)) (sym (eqb_same (number_of (suc k) h) q same))
+          ∙ kept.3.left))))
 
-  pub open_test : (port next count : ℕ) (pending : Pending) (slots : ℕ → Option (Option HandleState)) (h : History ST SP K P) → Agrees type_of number view size read port next count pending slots h
+  pub open_test : (port next count : ℕ) (pending : Pending) (slots : ℕ
+      → Option (Option HandleState)) (h : History ST SP K P)
+      → Agrees type_of number view size read port next count pending slots h
       → (q : ℕ) → is_some (pending (Some q)) ≡ is_open q h
   open_test port next count pending slots h a q = open_by port next count pending slots h a q (pending (Some q)) refl
 
   -- ---- a datagram or a fault of the link: each list grows by what is handed to it
 
-  module _ (port next count : ℕ) (pending pending' : Pending) (slots : ℕ → Option (Option HandleState)) (h h' : History ST SP K P)
+  module _ (port next count : ℕ) (pending pending' : Pending) (slots : ℕ
+      → Option (Option HandleState)) (h h' : History ST SP K P)
       (more : Option ℕ → List Delivery)
       (a : Agrees type_of number view size read port next count pending slots h)
       (grown : (w : Option ℕ) → pending' w ≡ option_map (λ ds. ds ++ more w) (pending w))
       (many : requests_sent h' ≡ requests_sent h) (next_same : next_number h' ≡ next_number h)
-      (closed : (k : ℕ) → is_closed k h' ≡ is_closed k h) (items_same : (k : ℕ) → items_of k h' ≡ items_of k h) (needs_same : (k : ℕ) → needs_of k h' ≡ needs_of k h) (whose_same : (k : ℕ) → list_of_handle k h' ≡ list_of_handle k h)
-      (handed : (k : ℕ) → delivered port k h' ≡ (if is_handle_open k h then delivered port k h ++ more (list_of_handle k h) else delivered port k h)) where
+      (closed : (k : ℕ) → is_closed k h' ≡ is_closed k h) (items_same : (k : ℕ)
+          → items_of k h' ≡ items_of k h) (needs_same : (k : ℕ) → needs_of k h' ≡ needs_of k h) (whose_same : (k : ℕ)
+          → list_of_handle k h' ≡ list_of_handle k h)
+      (handed : (k : ℕ) → delivered port k h' ≡ (if is_handle_open k h
+          then delivered port k h ++ more (list_of_handle k h) else delivered port k h)) where
     more_live : (k : ℕ) → is_handle_open k h' ≡ is_handle_open k h
     more_live k = rw (many, closed k) refl
 
-    more_slot : (k : ℕ) (s : Option (Option HandleState)) → IsSlot type_of number view size read port pending k h s → IsSlot type_of number view size read port pending' k h' s
+    more_slot : (k : ℕ) (s : Option (Option HandleState)) → IsSlot type_of number view size read port pending k h s
+        → IsSlot type_of number view size read port pending' k h' s
     more_slot k None x = record {
       later = ap (nat_le k) many ∙ x.later;
       closed = closed k ∙ x.closed;
       items_none = items_same k ∙ x.items_none;
-      deliveries_none = handed k ∙ (let dead : is_handle_open k h ≡ false = rw x.later refl in rw dead x.deliveries_none);
+      deliveries_none = handed k ∙ (let dead : is_handle_open k h ≡ false = rw x.later refl in
+          rw dead x.deliveries_none);
     }
     more_slot k (Some None) x = more_live k ∙ x
     more_slot k (Some (Some handle)) x =
-        let all : delivered port k h' ≡ delivered port k h ++ more (list_of_handle k h) = handed k ∙ rw x.1.live refl in (
+        let all : delivered port k h' ≡ delivered port k h ++ more (list_of_handle k h) = handed k ∙ rw x.1.live refl in
+            (
           x.0,
           record {
             live = more_live k ∙ x.1.live;
             number = x.1.number ∙ sym (whose_same k);
             needs = x.1.needs ∙ sym (needs_same k);
-            left = rw (whose_same k, all, drop_append (length x.0) (delivered port k h) (more (list_of_handle k h)) x.1.within) (grown (list_of_handle k h) ∙ ap (option_map (λ ds. ds ++ more (list_of_handle k h))) x.1.left);
+            left = rw (whose_same k, all, drop_append (length x.0) (delivered port k h)
+                (more (list_of_handle k h)) x.1.within) (grown (list_of_handle k h)
+                ∙ ap (option_map (λ ds. ds ++ more (list_of_handle k h))) x.1.left);
             within = rw all (longer (length x.0) (delivered port k h) (more (list_of_handle k h)) x.1.within);
-            are_read = rw all (readings_append type_of view size read (delivered port k h) (more (list_of_handle k h)) x.0 x.1.are_read);
+            are_read = rw all (readings_append type_of view size read (delivered port k h)
+                (more (list_of_handle k h)) x.0 x.1.are_read);
             count = rw (items_same k) x.1.count;
             items = rw (items_same k, needs_same k) x.1.items;
             given = x.1.given;
@@ -525,9 +616,11 @@ module _ {ST SP K P V : Type 0} (type_of : ℕ → K) (number : K → ℕ) (view
           },
         )
 
-    more_owned : (q : ℕ) (es : List Delivery) (s : Option (List Delivery)) → pending (Some q) ≡ s → pending' (Some q) ≡ Some es → IsOwned q h'
+    more_owned : (q : ℕ) (es : List Delivery) (s : Option (List Delivery)) → pending (Some q) ≡ s
+        → pending' (Some q) ≡ Some es → IsOwned q h'
     more_owned q es (Some fs) p r = let o = a.owned q fs p in (o.0, more_live o.0 ∙ o.1, whose_same o.0 ∙ o.2)
-    more_owned q es None p r = absurd (some_not_none (pending' (Some q)) _ (grown (Some q) ∙ ap (option_map (λ ds. ds ++ more (Some q))) p) r)
+    more_owned q es None p r = absurd (some_not_none (pending' (Some q)) _ (grown (Some q)
+        ∙ ap (option_map (λ ds. ds ++ more (Some q))) p) r)
 
     agrees_more : Agrees type_of number view size read port next count pending' slots h'
     agrees_more = record {
@@ -535,19 +628,28 @@ module _ {ST SP K P V : Type 0} (type_of : ℕ → K) (number : K → ℕ) (view
       count_is = a.count_is ∙ ap suc (sym many);
       each = λ k. more_slot k (slots k) (a.each k);
       owned = λ q es p. more_owned q es (pending (Some q)) refl p;
-      one = λ j k p q r. a.one j k (sym (more_live j) ∙ p) (sym (more_live k) ∙ q) (sym (whose_same j) ∙ (r ∙ whose_same k));
+      one = λ j k p q r. a.one j k (sym (more_live j) ∙ p) (sym (more_live k) ∙ q) (sym (whose_same j)
+          ∙ (r ∙ whose_same k));
     }
 
-  pub agrees_handed : (port next count : ℕ) (pending pending' : Pending) (slots : ℕ → Option (Option HandleState)) (h : History ST SP K P) (c : Command ST SP) → hands_over c ≡ true → Agrees type_of number view size read port next count pending slots h
-      → ((w : Option ℕ) → pending' w ≡ option_map (λ ds. ds ++ handed_by port (λ q. is_some (pending (Some q))) c w) (pending w))
+  pub agrees_handed : (port next count : ℕ) (pending pending' : Pending) (slots : ℕ
+      → Option (Option HandleState)) (h : History ST SP K P) (c : Command ST SP) → hands_over c ≡ true
+      → Agrees type_of number view size read port next count pending slots h
+      → ((w : Option ℕ) → pending' w ≡ option_map (λ ds. ds ++ handed_by port (λ q. is_some (pending (Some q))) c w)
+          (pending w))
       → Agrees type_of number view size read port next count pending' slots ((c, outcome.Done) ∷ h)
   agrees_handed port next count pending pending' slots h (command.Datagram b groups) is a grown =
-      agrees_more port next count pending pending' slots h ((command.Datagram b groups, outcome.Done) ∷ h) (λ w. datagram_share port (λ q. is_open q h) w (cut_of untyped_layout b.items) groups) a
-      (λ w. grown w ∙ ap (λ more. option_map (λ ds. ds ++ more) (pending w)) (received_same port (λ q. is_some (pending (Some q))) (λ q. is_open q h) (open_test port next count pending slots h a) w (cut_of untyped_layout b.items) groups))
-      refl refl (λ k. refl) (λ k. refl) (λ k. refl) (λ k. whose_unsent k (command.Datagram b groups) outcome.Done h refl)
+      agrees_more port next count pending pending' slots h ((command.Datagram b groups, outcome.Done) ∷ h)
+          (λ w. datagram_share port (λ q. is_open q h) w (cut_of untyped_layout b.items) groups) a
+      (λ w. grown w ∙ ap (λ more. option_map (λ ds. ds ++ more) (pending w))
+          (received_same port (λ q. is_some (pending (Some q))) (λ q. is_open q h)
+          (open_test port next count pending slots h a) w (cut_of untyped_layout b.items) groups))
+      refl refl (λ k. refl) (λ k. refl) (λ k. refl) (λ k. whose_unsent k
+          (command.Datagram b groups) outcome.Done h refl)
       (λ k. refl)
   agrees_handed port next count pending pending' slots h (command.Fault e) is a grown =
-      agrees_more port next count pending pending' slots h ((command.Fault e, outcome.Done) ∷ h) (λ w. fault_share w e) a grown
+      agrees_more port next count pending pending' slots h ((command.Fault e, outcome.Done) ∷ h)
+          (λ w. fault_share w e) a grown
       refl refl (λ k. refl) (λ k. refl) (λ k. refl) (λ k. whose_unsent k (command.Fault e) outcome.Done h refl)
       (λ k. refl)
   agrees_handed port next count pending pending' slots h (command.SetNextSeq n) is a grown = absurd cc
@@ -556,20 +658,25 @@ module _ {ST SP K P V : Type 0} (type_of : ℕ → K) (number : K → ℕ) (view
   agrees_handed port next count pending pending' slots h (command.Close k) is a grown = absurd cc
 
   -- lists that are the same, one by one
-  pub agrees_pending : (port next count : ℕ) (pending pending' : Pending) (slots : ℕ → Option (Option HandleState)) (h : History ST SP K P)
-      → ((w : Option ℕ) → pending' w ≡ pending w) → Agrees type_of number view size read port next count pending slots h → Agrees type_of number view size read port next count pending' slots h
+  pub agrees_pending : (port next count : ℕ) (pending pending' : Pending) (slots : ℕ
+      → Option (Option HandleState)) (h : History ST SP K P)
+      → ((w : Option ℕ) → pending' w ≡ pending w) → Agrees type_of number view size read port next count pending slots h
+          → Agrees type_of number view size read port next count pending' slots h
   agrees_pending port next count pending pending' slots h same a = record {
     next_is = a.next_is;
     count_is = a.count_is;
-    each = λ k. slot_same port k pending pending' h h (record { later = refl; closed = refl; items = refl; deliveries = refl; needs = refl; list_of_handle = refl }) (λ _. same (list_of_handle k h)) (slots k) (a.each k);
+    each = λ k. slot_same port k pending pending' h h (record { later = refl; closed = refl; items = refl;
+        deliveries = refl; needs = refl; list_of_handle = refl }) (λ _. same (list_of_handle k h)) (slots k) (a.each k);
     owned = λ q ds p. a.owned q ds (sym (same (Some q)) ∙ p);
     one = a.one;
   }
 
 -- ---- the beginning
 
-module _ (ST SP : Type 0) {K P V : Type 0} (type_of : ℕ → K) (number : K → ℕ) (view : P → V) (size : P → ℕ) (read : List ℕ → Result V DeError) where
-  start_kept : (port : ℕ) (pending : Pending) → pending None ≡ Some [] → IsSlot {ST = ST} {SP = SP} type_of number view size read port pending 0 [] (Some (Some multicast))
+module _ (ST SP : Type 0) {K P V : Type 0} (type_of : ℕ → K) (number : K → ℕ) (view : P → V) (size : P
+    → ℕ) (read : List ℕ → Result V DeError) where
+  start_kept : (port : ℕ) (pending : Pending) → pending None ≡ Some []
+      → IsSlot {ST = ST} {SP = SP} type_of number view size read port pending 0 [] (Some (Some multicast))
   start_kept port pending empty = (
     [],
     record {
@@ -590,15 +697,19 @@ module _ (ST SP : Type 0) {K P V : Type 0} (type_of : ℕ → K) (number : K →
       → pending None ≡ Some [] → slots 0 ≡ Some (Some multicast) → ((k : ℕ) → slots (suc k) ≡ None)
       → (k : ℕ) → IsSlot {ST = ST} {SP = SP} type_of number view size read port pending k [] (slots k)
   start_each port pending slots empty first rest zero = rw first (start_kept port pending empty)
-  start_each port pending slots empty first rest (suc k) = rw (rest k) (record { later = grind (arith, nat_tests); closed = refl; items_none = refl; deliveries_none = refl })
+  start_each port pending slots empty first rest (suc k) =
+      rw (rest k) (record { later = grind (arith, nat_tests); closed = refl; items_none = refl;
+      deliveries_none = refl })
 
   pub agrees_start : (port : ℕ) (pending : Pending) (slots : ℕ → Option (Option HandleState))
-      → pending None ≡ Some [] → ((q : ℕ) → pending (Some q) ≡ None) → slots 0 ≡ Some (Some multicast) → ((k : ℕ) → slots (suc k) ≡ None)
+      → pending None ≡ Some [] → ((q : ℕ) → pending (Some q) ≡ None) → slots 0 ≡ Some (Some multicast)
+          → ((k : ℕ) → slots (suc k) ≡ None)
       → Agrees {ST = ST} {SP = SP} type_of number view size read port 0 1 pending slots []
   agrees_start port pending slots empty numbers first rest = record {
     next_is = refl;
     count_is = refl;
     each = λ k. start_each port pending slots empty first rest k;
     owned = λ q ds p. absurd (some_not_none (pending (Some q)) ds (numbers q) p);
-    one = λ j k p q r. let j_none : j ≤ 0 = le_true j 0 (and_true_left _ _ p) in let k_none : k ≤ 0 = le_true k 0 (and_true_left _ _ q) in omega arith;
+    one = λ j k p q r. let j_none : j ≤ 0 = le_true j 0 (and_true_left _ _ p) in
+        let k_none : k ≤ 0 = le_true k 0 (and_true_left _ _ q) in omega arith;
   }

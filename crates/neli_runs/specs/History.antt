@@ -99,7 +99,8 @@ module _ {ST SP RT RP : Type 0} where
   -- how many requests were sent since then
   abbrev pub requests_since_set : History ST SP RT RP → ℕ
   requests_since_set [] = 0
-  requests_since_set (e ∷ h) = count_after e.0 (if is_sent e.1 then suc (requests_since_set h) else requests_since_set h)
+  requests_since_set (e ∷ h) = count_after e.0 (if is_sent e.1 then suc (requests_since_set h)
+      else requests_since_set h)
 
   -- the sequence number of a request that is sent now
   abbrev pub next_number : History ST SP RT RP → ℕ

@@ -13,7 +13,8 @@ or_else None other = other
 -- the table with this number, a caller's own first
 abbrev pub table_in : Schema → TableId → Option Table
 table_in schema id =
-    or_else (find (λ (table : Table). nat_eq table.id.0 id.0) schema.own.now) (find (λ (table : Table). nat_eq table.id.0 id.0) schema.tables.now)
+    or_else (find (λ (table : Table). nat_eq table.id.0 id.0) schema.own.now)
+        (find (λ (table : Table). nat_eq table.id.0 id.0) schema.tables.now)
 
 -- the row of this number, or else that of every number
 abbrev pub row_in : Table → ℕ → Option Row

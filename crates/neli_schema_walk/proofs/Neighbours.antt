@@ -30,7 +30,8 @@ module _ (number : ℕ) (rest r : List ℕ) (a : Lent) (is : attributes_of rest 
   sought-here zero some fits = absurd (omega arith)
   sought-here (suc n) some fits = ap (in_cut (suc n)) is ∙ (rw fits refl)
 
-  pub sought-later : (n later : ℕ) → later + 1 ≡ n → has_number number a ≡ false → sought n number rest ≡ sought later number r
+  pub sought-later : (n later : ℕ) → later + 1 ≡ n → has_number number a ≡ false
+      → sought n number rest ≡ sought later number r
   sought-later n later one other = rw (sym one ∙ one_more later) (ap (in_cut (suc later)) is ∙ (rw other refl))
     where
       one_more : (k : ℕ) → k + 1 ≡ suc k
@@ -39,17 +40,20 @@ module _ (number : ℕ) (rest r : List ℕ) (a : Lent) (is : attributes_of rest 
 -- ---- the attribute at an offset
 
 module _ (rest r : List ℕ) (a : Lent) (is : attributes_of rest ≡ message_before a (attributes_of r)) where
-  pub containing-here : (offset : ℕ) → offset < align a.0.len → containing offset (attributes_of rest).0 ≡ Some (a, offset)
+  pub containing-here : (offset : ℕ) → offset < align a.0.len
+      → containing offset (attributes_of rest).0 ≡ Some (a, offset)
   containing-here offset lt =
       let yes : ltb offset (align a.0.len) ≡ true = lt-ltb offset (align a.0.len) lt in
       ap (λ (cut : Cut Lent). containing offset cut.0) is ∙ (rw yes refl)
 
-  pub containing-later : (offset : ℕ) → align a.0.len ≤ offset → containing offset (attributes_of rest).0 ≡ containing (offset - align a.0.len) (attributes_of r).0
+  pub containing-later : (offset : ℕ) → align a.0.len ≤ offset
+      → containing offset (attributes_of rest).0 ≡ containing (offset - align a.0.len) (attributes_of r).0
   containing-later offset le =
       let no : ltb offset (align a.0.len) ≡ false = le-ltb offset (align a.0.len) le in
       ap (λ (cut : Cut Lent). containing offset cut.0) is ∙ (rw no refl)
 
-pub containing-none : (offset : ℕ) (rest : List ℕ) → (attributes_of rest).0 ≡ [] → containing offset (attributes_of rest).0 ≡ None
+pub containing-none : (offset : ℕ) (rest : List ℕ) → (attributes_of rest).0 ≡ []
+    → containing offset (attributes_of rest).0 ≡ None
 containing-none offset rest e = ap (containing offset) e
 
 -- ---- tests

@@ -62,7 +62,8 @@ zero_text_shape payload = if ends_in_zero payload then text_shape payload else E
 -- an address of a family: AF_INET is 2, AF_INET6 is 10
 abbrev pub address_shape : ℕ → List ℕ → Shaped
 address_shape family payload =
-    if family == 2 then of_size 4 payload shape.Ipv4 else (if family == 10 then of_size 16 payload shape.Ipv6 else Ok shape.Bytes)
+    if family == 2 then of_size 4 payload shape.Ipv4 else (if family == 10 then of_size 16 payload shape.Ipv6
+        else Ok shape.Bytes)
 
 -- ---- tables
 
@@ -114,7 +115,8 @@ case_table cases (Some bytes) = option_map (λ (c : Case). c.table) (find (λ (c
 
 -- the table that a choice means
 abbrev pub chosen_table : Context → List ℕ → Choice → Option TableId
-chosen_table context list choice = or_else (case_table choice.cases.now (picker context list choice.by)) choice.otherwise
+chosen_table context list choice = or_else (case_table choice.cases.now
+    (picker context list choice.by)) choice.otherwise
 
 -- the attributes of the table that a choice means; bytes where it means none
 abbrev pub chosen_shape : Context → Option TableId → List ℕ → Shaped

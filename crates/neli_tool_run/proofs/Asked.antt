@@ -35,19 +35,25 @@ pub zero_or_replay : (words : Words) → AskForZero words → AskForReplay words
 zero_or_replay (Ok w) zero replay = absurd cc
 zero_or_replay (Err e) zero replay = zero
 
-pub list_words : (words : Words) (w : Vec (String Global) Global) → words ≡ Ok w → map string_bytes w.items ≡ codes "list" ∷ [] → AskForList words
+pub list_words : (words : Words) (w : Vec (String Global) Global) → words ≡ Ok w
+    → map string_bytes w.items ≡ codes "list" ∷ [] → AskForList words
 list_words words w is list = subst AskForList (sym is) list
 
-pub zero_words : (words : Words) (w : Vec (String Global) Global) → words ≡ Ok w → map string_bytes w.items ≡ codes "list" ∷ codes "zero" ∷ [] → AskForZero words
+pub zero_words : (words : Words) (w : Vec (String Global) Global) → words ≡ Ok w
+    → map string_bytes w.items ≡ codes "list" ∷ codes "zero" ∷ [] → AskForZero words
 zero_words words w is zero = subst AskForZero (sym is) zero
 
-pub replay_words : (words : Words) (w : Vec (String Global) Global) → words ≡ Ok w → map string_bytes w.items ≡ codes "replay" ∷ [] → AskForReplay words
+pub replay_words : (words : Words) (w : Vec (String Global) Global) → words ≡ Ok w
+    → map string_bytes w.items ≡ codes "replay" ∷ [] → AskForReplay words
 replay_words words w is replay = subst AskForReplay (sym is) replay
 
 pub memory_error : (words : Words) (e : Error) → words ≡ Err e → error_kind e ≡ OutOfMemory → RanOutOfMemory words
 memory_error words e is memory = subst RanOutOfMemory (sym is) memory
 
-pub other_words : (words : Words) (w : Vec (String Global) Global) → words ≡ Ok w → (map string_bytes w.items ≡ codes "list" ∷ [] → ⊥) → (map string_bytes w.items ≡ codes "list" ∷ codes "zero" ∷ [] → ⊥) → (map string_bytes w.items ≡ codes "replay" ∷ [] → ⊥) → AreWrong words
+pub other_words : (words : Words) (w : Vec (String Global) Global) → words ≡ Ok w
+    → (map string_bytes w.items ≡ codes "list" ∷ [] → ⊥)
+    → (map string_bytes w.items ≡ codes "list" ∷ codes "zero" ∷ [] → ⊥)
+    → (map string_bytes w.items ≡ codes "replay" ∷ [] → ⊥) → AreWrong words
 other_words words w is list zero replay = subst AreWrong (sym is) (list, zero, replay, λ memory. memory)
 
 pub other_error : (words : Words) (e : Error) → words ≡ Err e → error_kind e ≢ OutOfMemory → AreWrong words

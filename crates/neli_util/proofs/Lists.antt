@@ -23,7 +23,11 @@ has-append xs ys n = list_any-append (λ x. eqb x n) xs ys
 pub filter-filter : (p q : ℕ → Bool) (xs : List ℕ) → filter q (filter p xs) ≡ filter (λ x. p x && q x) xs
 filter-filter p q [] = refl
 filter-filter p q (x ∷ xs) =
-    let step : (b : Bool) → filter q (cond b (x ∷ filter p xs) (filter p xs)) ≡ cond (b && q x) (x ∷ filter (λ y. p y && q y) xs) (filter (λ y. p y && q y) xs) = λ b. elim b as (λ v. filter q (cond v (x ∷ filter p xs) (filter p xs)) ≡ cond (v && q x) (x ∷ filter (λ y. p y && q y) xs) (filter (λ y. p y && q y) xs)) [ true ↦ ap (λ ys. cond (q x) (x ∷ ys) ys) (filter-filter p q xs) | false ↦ filter-filter p q xs ] in
+    let step : (b : Bool) → filter q (cond b (x ∷ filter p xs) (filter p xs))
+        ≡ cond (b && q x) (x ∷ filter (λ y. p y && q y) xs) (filter (λ y. p y && q y) xs) =
+        λ b. elim b as (λ v. filter q (cond v (x ∷ filter p xs) (filter p xs))
+        ≡ cond (v && q x) (x ∷ filter (λ y. p y && q y) xs) (filter (λ y. p y && q y) xs)) [ true ↦ ap
+        (λ ys. cond (q x) (x ∷ ys) ys) (filter-filter p q xs) | false ↦ filter-filter p q xs ] in
     step (p x)
 
 -- two tests that agree on a list's elements keep the same ones
@@ -31,13 +35,15 @@ pub filter_agree_on : (p q : ℕ → Bool) (xs : List ℕ) → All (λ x. p x �
 filter_agree_on p q [] h = refl
 filter_agree_on p q (x ∷ xs) h =
     let rest = filter_agree_on p q xs (All-tail (λ x. p x ≡ q x) x xs h) in
-    ap (λ b. cond b (x ∷ filter p xs) (filter p xs)) (All-head (λ x. p x ≡ q x) x xs h) ∙ ap (λ ys. cond (q x) (x ∷ ys) ys) rest
+    ap (λ b. cond b (x ∷ filter p xs) (filter p xs)) (All-head (λ x. p x ≡ q x) x xs h)
+        ∙ ap (λ ys. cond (q x) (x ∷ ys) ys) rest
 
 -- a test that no element passes keeps none
 pub filter_none : (p : ℕ → Bool) (xs : List ℕ) → All (λ x. p x ≡ false) xs → filter p xs ≡ []
 filter_none p [] h = refl
 filter_none p (x ∷ xs) h =
-    ap (λ b. cond b (x ∷ filter p xs) (filter p xs)) (All-head (λ x. p x ≡ false) x xs h) ∙ filter_none p xs (All-tail (λ x. p x ≡ false) x xs h)
+    ap (λ b. cond b (x ∷ filter p xs) (filter p xs)) (All-head (λ x. p x ≡ false) x xs h)
+        ∙ filter_none p xs (All-tail (λ x. p x ≡ false) x xs h)
 
 -- ---- ranges
 
@@ -47,13 +53,16 @@ range-append zero a n = ap (range_with_len a) (omega arith) ∙ ap (λ k. range_
 range-append (suc m) a n =
     let longer : suc m + n ≡ suc (m + n) = omega arith in
     let next : a + 1 + m ≡ a + suc m = omega arith in
-    ap (range_with_len a) longer ∙ ap (λ xs. a ∷ xs) (range-append m (a + 1) n ∙ ap (λ k. range_with_len (a + 1) m ++ range_with_len k n) next)
+    ap (range_with_len a) longer ∙ ap (λ xs. a ∷ xs) (range-append m (a + 1) n
+        ∙ ap (λ k. range_with_len (a + 1) m ++ range_with_len k n) next)
 
 -- the numbers of a range are from its start and below its end
 pub range_within : (n a : ℕ) → All (λ k. (a ≤ k) × (k < a + n)) (range_with_len a n)
 range_within zero a = All-nil (λ k. (a ≤ k) × (k < a + zero))
 range_within (suc n) a =
-    All-cons (λ k. (a ≤ k) × (k < a + suc n)) a (range_with_len (a + 1) n) (omega arith, omega arith) (All-weaker (λ k. (a + 1 ≤ k) × (k < a + 1 + n)) (λ k. (a ≤ k) × (k < a + suc n)) (λ k h. (omega (arith, h.0), omega (arith, h.1))) (range_with_len (a + 1) n) (range_within n (a + 1)))
+    All-cons (λ k. (a ≤ k) × (k < a + suc n)) a (range_with_len (a + 1) n) (omega arith, omega arith)
+        (All-weaker (λ k. (a + 1 ≤ k) × (k < a + 1 + n)) (λ k. (a ≤ k) × (k < a + suc n))
+        (λ k h. (omega (arith, h.0), omega (arith, h.1))) (range_with_len (a + 1) n) (range_within n (a + 1)))
 
 eqb_step : (a k n : ℕ) → (eqb a k || (leb (a + 1) k && ltb k (a + 1 + n))) ≡ (leb a k && ltb k (a + suc n))
 eqb_step a k n = grind (arith, nat_tests)
@@ -69,23 +78,32 @@ has-range (suc n) a k =
     ap (λ b. eqb a k || b) (has-range n (a + 1) k) ∙ step
 
 -- one more number of a range is kept or not
-pub filter_range_more : (p : ℕ → Bool) (n : ℕ) → filter p (range_with_len 1 (n + 1)) ≡ filter p (range_with_len 1 n) ++ cond (p (n + 1)) ((n + 1) ∷ []) []
+pub filter_range_more : (p : ℕ → Bool) (n : ℕ) → filter p (range_with_len 1 (n + 1))
+    ≡ filter p (range_with_len 1 n) ++ cond (p (n + 1)) ((n + 1) ∷ []) []
 filter_range_more p n =
     let next : 1 + n ≡ n + 1 = omega arith in
-    ap (filter p) (range-append n 1 1) ∙ filter-append p (range_with_len 1 n) (range_with_len (1 + n) 1) ∙ ap (λ k. filter p (range_with_len 1 n) ++ cond (p k) (k ∷ []) []) next
+    ap (filter p) (range-append n 1 1) ∙ filter-append p (range_with_len 1 n) (range_with_len (1 + n) 1)
+        ∙ ap (λ k. filter p (range_with_len 1 n) ++ cond (p k) (k ∷ []) []) next
 
 -- a longer range has no more numbers that pass, where none passes past the shorter one
-filter_range_longer : (p : ℕ → Bool) (m d : ℕ) → ((n : ℕ) → m < n → p n ≡ false) → filter p (range_with_len 1 (m + d)) ≡ filter p (range_with_len 1 m)
+filter_range_longer : (p : ℕ → Bool) (m d : ℕ) → ((n : ℕ) → m < n → p n ≡ false)
+    → filter p (range_with_len 1 (m + d)) ≡ filter p (range_with_len 1 m)
 filter_range_longer p m d above =
-    let none = filter_none p (range_with_len (1 + m) d) (All-weaker (λ k. (1 + m ≤ k) × (k < 1 + m + d)) (λ k. p k ≡ false) (λ k h. above k (omega (arith, h.0))) (range_with_len (1 + m) d) (range_within d (1 + m))) in
-    ap (filter p) (range-append m 1 d) ∙ filter-append p (range_with_len 1 m) (range_with_len (1 + m) d) ∙ ap (λ xs. filter p (range_with_len 1 m) ++ xs) none ∙ append-nil (filter p (range_with_len 1 m))
+    let none = filter_none p (range_with_len (1 + m) d)
+        (All-weaker (λ k. (1 + m ≤ k) × (k < 1 + m + d)) (λ k. p k ≡ false) (λ k h. above k (omega (arith, h.0)))
+        (range_with_len (1 + m) d) (range_within d (1 + m))) in
+    ap (filter p) (range-append m 1 d) ∙ filter-append p (range_with_len 1 m) (range_with_len (1 + m) d)
+        ∙ ap (λ xs. filter p (range_with_len 1 m) ++ xs) none ∙ append-nil (filter p (range_with_len 1 m))
 
 -- two ranges have the same numbers that pass, where none passes past either
-pub filter_ranges : (p : ℕ → Bool) (m n : ℕ) → ((k : ℕ) → m < k → p k ≡ false) → ((k : ℕ) → n < k → p k ≡ false) → filter p (range_with_len 1 m) ≡ filter p (range_with_len 1 n)
+pub filter_ranges : (p : ℕ → Bool) (m n : ℕ) → ((k : ℕ) → m < k → p k ≡ false) → ((k : ℕ) → n < k → p k ≡ false)
+    → filter p (range_with_len 1 m) ≡ filter p (range_with_len 1 n)
 filter_ranges p m n past_m past_n =
     elim (cases_lt m n) [
-      | inl h ↦ let e : m + (n - m) ≡ n = omega arith in sym (filter_range_longer p m (n - m) past_m) ∙ ap (λ k. filter p (range_with_len 1 k)) e
-      | inr h ↦ let e : n + (m - n) ≡ m = omega arith in sym (ap (λ k. filter p (range_with_len 1 k)) e) ∙ filter_range_longer p n (m - n) past_n
+      | inl h ↦ let e : m + (n - m) ≡ n = omega arith in
+          sym (filter_range_longer p m (n - m) past_m) ∙ ap (λ k. filter p (range_with_len 1 k)) e
+      | inr h ↦ let e : n + (m - n) ≡ m = omega arith in
+          sym (ap (λ k. filter p (range_with_len 1 k)) e) ∙ filter_range_longer p n (m - n) past_n
     ]
 
 -- a range rises
@@ -104,7 +122,8 @@ eqb_firsts m n b = grind (arith, nat_tests)
 pub has-firsts : (ns : List ℕ) (n : ℕ) → has (firsts ns) n ≡ has ns n
 has-firsts [] n = refl
 has-firsts (m ∷ ns) n =
-    ap (λ b. eqb m n || b) (has-filter (λ k. not (eqb k m)) (firsts ns) n ∙ ap (λ b. not (eqb n m) && b) (has-firsts ns n)) ∙ eqb_firsts m n (has ns n)
+    ap (λ b. eqb m n || b) (has-filter (λ k. not (eqb k m)) (firsts ns) n
+        ∙ ap (λ b. not (eqb n m) && b) (has-firsts ns n)) ∙ eqb_firsts m n (has ns n)
 
 -- a last number that is kept or not
 pub filter_last : (p : ℕ → Bool) (n : ℕ) (b : Bool) → filter p (cond b [] (n ∷ [])) ≡ cond (not b && p n) (n ∷ []) []
@@ -123,20 +142,26 @@ pub firsts-push : (ns : List ℕ) (n : ℕ) → firsts (ns ++ n ∷ []) ≡ firs
 firsts-push [] n = refl
 firsts-push (m ∷ ns) n =
     let other : ℕ → Bool = λ k. not (eqb k m) in
-    ap (λ xs. m ∷ filter other xs) (firsts-push ns n) ∙ ap (λ xs. m ∷ xs) (filter-append other (firsts ns) (cond (has ns n) [] (n ∷ [])) ∙ ap (λ xs. filter other (firsts ns) ++ xs) (filter_last other n (has ns n) ∙ last_once m n (has ns n)))
+    ap (λ xs. m ∷ filter other xs) (firsts-push ns n) ∙ ap (λ xs. m ∷ xs)
+        (filter-append other (firsts ns) (cond (has ns n) [] (n ∷ []))
+        ∙ ap (λ xs. filter other (firsts ns) ++ xs) (filter_last other n (has ns n) ∙ last_once m n (has ns n)))
 
 -- ---- lists with numbers added
 
 -- what a list lacks
-pub has-lacking : (added groups : List ℕ) (n : ℕ) → has (lacking added groups) n ≡ (not (has groups n) && (ltb 0 n && has added n))
+pub has-lacking : (added groups : List ℕ) (n : ℕ) → has (lacking added groups) n
+    ≡ (not (has groups n) && (ltb 0 n && has added n))
 has-lacking added groups n =
-    has-filter (λ k. not (has groups k)) _ n ∙ ap (λ b. not (has groups n) && b) (has-filter (λ k. ltb 0 k) _ n ∙ ap (λ b. ltb 0 n && b) (has-firsts added n))
+    has-filter (λ k. not (has groups k)) _ n ∙ ap (λ b. not (has groups n) && b) (has-filter (λ k. ltb 0 k) _ n
+        ∙ ap (λ b. ltb 0 n && b) (has-firsts added n))
 
 -- what a list has after numbers were added
-pub has-with_added : (added groups : List ℕ) (n : ℕ) → has (with_added added groups) n ≡ (has groups n || (not (has groups n) && (ltb 0 n && has added n)))
+pub has-with_added : (added groups : List ℕ) (n : ℕ) → has (with_added added groups) n
+    ≡ (has groups n || (not (has groups n) && (ltb 0 n && has added n)))
 has-with_added added groups n = has-append groups _ n ∙ ap (λ b. has groups n || b) (has-lacking added groups n)
 
-last_added : (h z a : Bool) (n : ℕ) → cond ((not a && z) && not h) (n ∷ []) [] ≡ cond (z && not (h || (not h && (z && a)))) (n ∷ []) []
+last_added : (h z a : Bool) (n : ℕ) → cond ((not a && z) && not h) (n ∷ []) []
+    ≡ cond (z && not (h || (not h && (z && a)))) (n ∷ []) []
 last_added true true true n = refl
 last_added true true false n = refl
 last_added true false true n = refl
@@ -147,22 +172,32 @@ last_added false false true n = refl
 last_added false false false n = refl
 
 -- one more number is added unless it is 0 or there
-pub with_added-push : (added groups : List ℕ) (n : ℕ) → with_added (added ++ n ∷ []) groups ≡ with_added added groups ++ cond (ltb 0 n && not (has (with_added added groups) n)) (n ∷ []) []
+pub with_added-push : (added groups : List ℕ) (n : ℕ) → with_added (added ++ n ∷ []) groups
+    ≡ with_added added groups ++ cond (ltb 0 n && not (has (with_added added groups) n)) (n ∷ []) []
 with_added-push added groups n =
     let lacks : ℕ → Bool = λ k. not (has groups k) in
     let above : ℕ → Bool = λ k. ltb 0 k in
     let last = cond (has added n) [] (n ∷ []) in
-    let kept : filter lacks (filter above (firsts (added ++ n ∷ []))) ≡ filter lacks (filter above (firsts added)) ++ cond ((not (has added n) && above n) && lacks n) (n ∷ []) [] =
-    ap (λ xs. filter lacks (filter above xs)) (firsts-push added n) ∙ ap (filter lacks) (filter-append above (firsts added) last ∙ ap (λ xs. filter above (firsts added) ++ xs) (filter_last above n (has added n))) ∙ filter-append lacks (filter above (firsts added)) _ ∙ ap (λ xs. filter lacks (filter above (firsts added)) ++ xs) (filter_last_if lacks n (not (has added n) && above n)) in
-    let same = last_added (has groups n) (above n) (has added n) n ∙ ap (λ b. cond (above n && not b) (n ∷ []) []) (sym (has-with_added added groups n)) in
+    let kept : filter lacks (filter above (firsts (added ++ n ∷ [])))
+        ≡ filter lacks (filter above (firsts added)) ++ cond ((not (has added n) && above n) && lacks n) (n ∷ []) [] =
+    ap (λ xs. filter lacks (filter above xs)) (firsts-push added n)
+        ∙ ap (filter lacks) (filter-append above (firsts added) last
+        ∙ ap (λ xs. filter above (firsts added) ++ xs) (filter_last above n (has added n)))
+        ∙ filter-append lacks (filter above (firsts added)) _
+        ∙ ap (λ xs. filter lacks (filter above (firsts added)) ++ xs)
+        (filter_last_if lacks n (not (has added n) && above n)) in
+    let same = last_added (has groups n) (above n) (has added n) n
+        ∙ ap (λ b. cond (above n && not b) (n ∷ []) []) (sym (has-with_added added groups n)) in
     ap (λ xs. groups ++ xs) kept ∙ sym (append_assoc groups _ _) ∙ ap (λ xs. with_added added groups ++ xs) same
 
 -- a number is added unless it is 0 or there
-pub with_added-one : (n : ℕ) (groups : List ℕ) → with_added (n ∷ []) groups ≡ groups ++ cond (ltb 0 n && not (has groups n)) (n ∷ []) []
+pub with_added-one : (n : ℕ) (groups : List ℕ) → with_added (n ∷ []) groups
+    ≡ groups ++ cond (ltb 0 n && not (has groups n)) (n ∷ []) []
 with_added-one n groups = ap (λ xs. groups ++ xs) (filter_last_if (λ k. not (has groups k)) n (ltb 0 n))
 
 -- one number after others
-pub with_added-then : (added groups : List ℕ) (n : ℕ) → with_added (added ++ n ∷ []) groups ≡ with_added (n ∷ []) (with_added added groups)
+pub with_added-then : (added groups : List ℕ) (n : ℕ) → with_added (added ++ n ∷ []) groups
+    ≡ with_added (n ∷ []) (with_added added groups)
 with_added-then added groups n = with_added-push added groups n ∙ sym (with_added-one n (with_added added groups))
 
 -- a list that has a number had it or gained it
@@ -171,12 +206,15 @@ had_not true m e = e
 had_not false m e = refl
 
 -- an added number above 0 that a list has not even after others were added, it lacks
-pub lacking-some : (added some groups : List ℕ) (n : ℕ) → has added n ≡ true → 0 < n → has (with_added some groups) n ≡ false → lacking added groups ≢ []
+pub lacking-some : (added some groups : List ℕ) (n : ℕ) → has added n ≡ true → 0 < n
+    → has (with_added some groups) n ≡ false → lacking added groups ≢ []
 lacking-some added some groups n named above lacks none =
     let out = had_not (has groups n) _ (sym (has-with_added some groups n) ∙ lacks) in
-    let left = and_from (not (has groups n)) (ltb 0 n && has added n) (not_from_false (has groups n) out) (and_from (ltb 0 n) (has added n) (lt-ltb 0 n above) named) in
+    let left = and_from (not (has groups n)) (ltb 0 n && has added n) (not_from_false (has groups n) out)
+        (and_from (ltb 0 n) (has added n) (lt-ltb 0 n above) named) in
     true≢false (sym left ∙ sym (has-lacking added groups n) ∙ ap (λ xs. has xs n) none)
 
 -- a list has the number at each of its indices
 pub has-at : (xs : List ℕ) (i : ℕ) → i < length xs → has xs (get_or xs i 0) ≡ true
-has-at xs i within = list_any_at (λ x. eqb x (get_or xs i 0)) xs i 0 within (eq-eqb (get_or xs i 0) (get_or xs i 0) refl)
+has-at xs i within = list_any_at (λ x. eqb x (get_or xs i 0)) xs i 0 within
+    (eq-eqb (get_or xs i 0) (get_or xs i 0) refl)

@@ -23,7 +23,8 @@ pub record IsFrame {H V : Type 0} (layout : Layout H V) (frame : List ℕ) (head
   pub header_is : layout.header_of frame ≡ header
   pub least : layout.size ≤ layout.length_of header
   pub whole : length frame ≡ align (layout.length_of header)
-  pub payload_is : layout.payload_of header (take (layout.length_of header - layout.size) (drop layout.size frame)) ≡ Ok payload
+  pub payload_is : layout.payload_of header (take (layout.length_of header - layout.size) (drop layout.size frame))
+      ≡ Ok payload
 
 -- the payload and the padding after a header, in bytes that begin with the header
 abbrev pub frame_after : {H V : Type 0} → Layout H V → H → List ℕ → Reading (H × V)
@@ -43,10 +44,12 @@ frame_at layout s =
 abbrev pub frame_takes_memory : {H V : Type 0} → Layout H V → (H → List ℕ → Type 0) → List ℕ → Type 0
 frame_takes_memory layout takes s =
     let header = layout.header_of s in let n = layout.length_of header in
-    (layout.size ≤ length s) × (layout.size ≤ n) × (n ≤ length s) × takes header (take (n - layout.size) (drop layout.size s))
+    (layout.size ≤ length s) × (layout.size ≤ n) × (n ≤ length s)
+        × takes header (take (n - layout.size) (drop layout.size s))
 
 -- the bytes are the frames of these headers and payloads, one after the other
 abbrev pub AreFrames : {H V : Type 0} → Layout H V → List ℕ → List (H × V) → Type 0
 AreFrames layout s [] = s ≡ []
 AreFrames layout s (a ∷ later) =
-    (frame : List ℕ) × (rest : List ℕ) × (s ≡ frame ++ rest) × IsFrame layout frame a.0 a.1 × AreFrames layout rest later
+    (frame : List ℕ) × (rest : List ℕ) × (s ≡ frame ++ rest) × IsFrame layout frame a.0 a.1
+        × AreFrames layout rest later

@@ -76,7 +76,8 @@ map_refusal f (Err e) = Err (f e)
 abbrev pub AreElements : {V : Type 0} → (List ℕ → Reading V) → List ℕ → List V → Type 0
 AreElements read s [] = s ≡ []
 AreElements read s (v ∷ vs) =
-    (own : List ℕ) × (rest : List ℕ) × (s ≡ own ++ rest) × (0 < length own) × ((t : List ℕ) → read (own ++ t) ≡ Ok (v, t))
+    (own : List ℕ) × (rest : List ℕ) × (s ≡ own ++ rest) × (0 < length own)
+        × ((t : List ℕ) → read (own ++ t) ≡ Ok (v, t))
     × AreElements read rest vs
 
 -- ---- laws that a reading meets

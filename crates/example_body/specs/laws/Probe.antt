@@ -15,15 +15,20 @@ header_bytes p = little_bytes 1 p.hops ++ little_bytes 1 p.kind ++ little_bytes 
 
 header_bytes-length : {P : Type 0} (p : Probe P) → length (header_bytes p) ≡ 4
 header_bytes-length p =
-    omega (arith, length-append (little_bytes 1 p.hops ++ little_bytes 1 p.kind) (little_bytes 2 p.port), length-append (little_bytes 1 p.hops) (little_bytes 1 p.kind), count-unsigned 1 p.hops, count-unsigned 1 p.kind, count-unsigned 2 p.port)
+    omega (arith, length-append (little_bytes 1 p.hops ++ little_bytes 1 p.kind) (little_bytes 2 p.port),
+        length-append (little_bytes 1 p.hops) (little_bytes 1 p.kind), count-unsigned 1 p.hops, count-unsigned 1 p.kind,
+        count-unsigned 2 p.port)
 
-pub probe_wire-length : {P : Type 0} (wire : P → Wire) (size : P → ℕ) → ((v : P) (bytes : List ℕ) → wire v ≡ Ok bytes → length bytes ≡ size v) → (p : Probe P) (bytes : List ℕ) → probe_wire wire p ≡ Ok bytes → length bytes ≡ 4 + size p.payload
+pub probe_wire-length : {P : Type 0} (wire : P → Wire) (size : P → ℕ)
+    → ((v : P) (bytes : List ℕ) → wire v ≡ Ok bytes → length bytes ≡ size v) → (p : Probe P) (bytes : List ℕ)
+    → probe_wire wire p ≡ Ok bytes → length bytes ≡ 4 + size p.payload
 probe_wire-length wire size length_is p bytes e =
     let parts = both_written (Ok (header_bytes p)) (wire p.payload) bytes e in
     let header : length parts.0 ≡ 4 = written-length (header_bytes p) parts.0 4 (header_bytes-length p) parts.2 in
     let payload = length_is p.payload parts.1 parts.3 in
     omega (arith, ap length parts.4, length-append parts.0 parts.1, header, payload)
 
-pub probe_wire-no_memory : {P : Type 0} (wire : P → Wire) → ((v : P) → wire v ≢ Err Memory) → (p : Probe P) → probe_wire wire p ≢ Err Memory
+pub probe_wire-no_memory : {P : Type 0} (wire : P → Wire) → ((v : P) → wire v ≢ Err Memory) → (p : Probe P)
+    → probe_wire wire p ≢ Err Memory
 probe_wire-no_memory wire no_memory p =
     both-no_memory (Ok (header_bytes p)) (wire p.payload) (written-no_memory (header_bytes p)) (no_memory p.payload)

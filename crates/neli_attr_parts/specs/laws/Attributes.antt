@@ -23,10 +23,13 @@ use Rattle.neli_attr_parts.specs.laws.Steps.{attribute_at, attribute_takes_memor
 abbrev head : {K : Type 0} → ℕ → K → Head K
 head len kind = record { len = len; kind = kind }
 
-head_at-wide : {K : Type 0} (kind_of : ℕ → K) → IsWide (head_at kind_of) 4 (λ s. head (number_in 2 0 s) (kind_of (number_in 2 2 s)))
+head_at-wide : {K : Type 0} (kind_of : ℕ → K) → IsWide (head_at kind_of) 4
+    (λ s. head (number_in 2 0 s) (kind_of (number_in 2 2 s)))
 unfolding head_at
 head_at-wide {K} kind_of =
-    let kinds = λ (len : ℕ). then-wide (number_as kind_of) (λ kind s. Ok (head len kind, s)) 2 0 (λ s. kind_of (little_number 2 s)) (λ kind _. head len kind) (value_at-wide_by 2 kind_of) (λ kind. done-wide (head len kind)) in
+    let kinds = λ (len : ℕ). then-wide (number_as kind_of) (λ kind s. Ok (head len kind, s)) 2 0
+        (λ s. kind_of (little_number 2 s)) (λ kind _. head len kind) (value_at-wide_by 2 kind_of)
+        (λ kind. done-wide (head len kind)) in
     then-wide (number_at 2) _ 2 2 (little_number 2) _ (number_at-wide_by 2) kinds
 
 module _ {K V : Type 0} (kind_of : ℕ → K) (payload_of : List ℕ → Result V DeError) where
@@ -35,9 +38,11 @@ module _ {K V : Type 0} (kind_of : ℕ → K) (payload_of : List ℕ → Result 
   unfolding attribute_at
   attribute_at-is = header_then-is (attribute kind_of payload_of) (head_at kind_of) (head_at-wide kind_of)
 
-  pub attribute_takes_memory-is : (takes : List ℕ → Type 0) (s : List ℕ) → attribute_takes_memory kind_of takes s → frame_takes_memory (attribute kind_of payload_of) (λ _. takes) s
+  pub attribute_takes_memory-is : (takes : List ℕ → Type 0) (s : List ℕ) → attribute_takes_memory kind_of takes s
+      → frame_takes_memory (attribute kind_of payload_of) (λ _. takes) s
   unfolding attribute_takes_memory
-  attribute_takes_memory-is takes = header_then_takes_memory-is (attribute kind_of payload_of) (head_at kind_of) (λ _. takes) (head_at-wide kind_of)
+  attribute_takes_memory-is takes = header_then_takes_memory-is (attribute kind_of payload_of) (head_at kind_of)
+      (λ _. takes) (head_at-wide kind_of)
 
   pub attribute-placed : IsPlaced (attribute kind_of payload_of)
   attribute-placed = record {
@@ -47,7 +52,8 @@ module _ {K V : Type 0} (kind_of : ℕ → K) (payload_of : List ℕ → Result 
   pub attribute-local : IsLocal (frame_at (attribute kind_of payload_of))
   attribute-local = frame_at-local (attribute kind_of payload_of) attribute-placed
 
-  pub attribute-no_memory : ((s : List ℕ) → payload_of s ≢ Err Memory) → (s : List ℕ) → frame_at (attribute kind_of payload_of) s ≢ Err Memory
+  pub attribute-no_memory : ((s : List ℕ) → payload_of s ≢ Err Memory) → (s : List ℕ)
+      → frame_at (attribute kind_of payload_of) s ≢ Err Memory
   attribute-no_memory none = frame_at-no_memory (attribute kind_of payload_of) (λ _. none)
 
 -- ---- writing
@@ -55,39 +61,50 @@ module _ {K V : Type 0} (kind_of : ℕ → K) (payload_of : List ℕ → Result 
 align-le : (n : ℕ) → n ≤ align n
 align-le n = omega arith
 
-padded_written : (w : Wire) (bytes : List ℕ) → pad_wire w ≡ Ok bytes → (x : List ℕ) × (w ≡ Ok x) × (length bytes ≡ align (length x))
+padded_written : (w : Wire) (bytes : List ℕ) → pad_wire w ≡ Ok bytes
+    → (x : List ℕ) × (w ≡ Ok x) × (length bytes ≡ align (length x))
 padded_written (Ok x) bytes e =
     let same : x ++ zeros_for (length x) ≡ bytes = cc in
-    (x, refl, omega (arith, ap length same, length-append x (zeros_for (length x)), length-replicate {A = ℕ} (align (length x) - length x) 0, align-le (length x)))
+    (x, refl, omega (arith, ap length same, length-append x (zeros_for (length x)),
+        length-replicate {A = ℕ} (align (length x) - length x) 0, align-le (length x)))
 padded_written (Err d) bytes e = absurd cc
 
 -- the header and the payload take four bytes and those of the payload
-unpadded-length : (len kind n : ℕ) (payload : Wire) → ((bytes : List ℕ) → payload ≡ Ok bytes → length bytes ≡ n) → (bytes : List ℕ) → Ok (little_bytes 2 len ++ little_bytes 2 kind) +++ payload ≡ Ok bytes → length bytes ≡ 4 + n
+unpadded-length : (len kind n : ℕ) (payload : Wire) → ((bytes : List ℕ) → payload ≡ Ok bytes → length bytes ≡ n)
+    → (bytes : List ℕ) → Ok (little_bytes 2 len ++ little_bytes 2 kind) +++ payload ≡ Ok bytes → length bytes ≡ 4 + n
 unpadded-length len kind n payload payloads bytes e =
     let both : List ℕ = little_bytes 2 len ++ little_bytes 2 kind in
     let q = both_written (Ok both) payload bytes e in
     let same : both ≡ q.0 = cc (q.2) in
-    let four : length both ≡ 4 = omega (arith, length-append (little_bytes 2 len) (little_bytes 2 kind), count-unsigned 2 len, count-unsigned 2 kind) in
+    let four : length both ≡ 4 = omega (arith, length-append (little_bytes 2 len) (little_bytes 2 kind),
+        count-unsigned 2 len, count-unsigned 2 kind) in
     omega (arith, ap length q.4, length-append q.0 q.1, ap length same, four, payloads q.1 q.3)
 
 -- an attribute takes four bytes and those of its payload, rounded up to four
-pub attribute_wire-length : (len kind n : ℕ) (payload : Wire) → ((bytes : List ℕ) → payload ≡ Ok bytes → length bytes ≡ n) → (bytes : List ℕ) → attribute_wire len kind payload ≡ Ok bytes → length bytes ≡ align (4 + n)
+pub attribute_wire-length : (len kind n : ℕ) (payload : Wire)
+    → ((bytes : List ℕ) → payload ≡ Ok bytes → length bytes ≡ n) → (bytes : List ℕ)
+    → attribute_wire len kind payload ≡ Ok bytes → length bytes ≡ align (4 + n)
 attribute_wire-length len kind n payload payloads bytes e =
     let p = padded_written (Ok (little_bytes 2 len ++ little_bytes 2 kind) +++ payload) bytes e in
     p.2 ∙ ap align (unpadded-length len kind n payload payloads p.0 p.1)
 
 -- after these the padding is zeros
-pub attribute_wire-zeros : (len kind n : ℕ) (payload : Wire) → ((bytes : List ℕ) → payload ≡ Ok bytes → length bytes ≡ n) → (bytes : List ℕ) → attribute_wire len kind payload ≡ Ok bytes → EndsInZeros (4 + n) bytes
+pub attribute_wire-zeros : (len kind n : ℕ) (payload : Wire)
+    → ((bytes : List ℕ) → payload ≡ Ok bytes → length bytes ≡ n) → (bytes : List ℕ)
+    → attribute_wire len kind payload ≡ Ok bytes → EndsInZeros (4 + n) bytes
 attribute_wire-zeros len kind n payload payloads =
-    padded-zeros (Ok (little_bytes 2 len ++ little_bytes 2 kind) +++ payload) (4 + n) (unpadded-length len kind n payload payloads)
+    padded-zeros (Ok (little_bytes 2 len ++ little_bytes 2 kind) +++ payload) (4 + n)
+        (unpadded-length len kind n payload payloads)
 
 padded-no_memory : (w : Wire) → w ≢ Err ser.Memory → pad_wire w ≢ Err ser.Memory
 padded-no_memory (Ok x) h e = cc
 padded-no_memory (Err d) h e = h e
 
-pub attribute_wire-no_memory : (len kind : ℕ) (payload : Wire) → payload ≢ Err ser.Memory → attribute_wire len kind payload ≢ Err ser.Memory
+pub attribute_wire-no_memory : (len kind : ℕ) (payload : Wire) → payload ≢ Err ser.Memory
+    → attribute_wire len kind payload ≢ Err ser.Memory
 attribute_wire-no_memory len kind payload payloads =
-    padded-no_memory (Ok (little_bytes 2 len ++ little_bytes 2 kind) +++ payload) (both-no_memory (Ok (little_bytes 2 len ++ little_bytes 2 kind)) payload (λ e. cc) payloads)
+    padded-no_memory (Ok (little_bytes 2 len ++ little_bytes 2 kind) +++ payload)
+        (both-no_memory (Ok (little_bytes 2 len ++ little_bytes 2 kind)) payload (λ e. cc) payloads)
 
 -- what stands after nothing is all
 pub after_nothing : (w : Wire) (bytes : List ℕ) → append_wire [] w ≡ Ok bytes → w ≡ Ok bytes

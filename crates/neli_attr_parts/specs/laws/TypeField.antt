@@ -34,28 +34,41 @@ field_of-parts n lt =
     let nested : bit_and n 32768 ≡ (n / 32768 % 2) * 32768 = and_pow n 15 in
     let order : bit_and n 16384 ≡ (n / 16384 % 2) * 16384 = and_pow n 14 in
     let number : bit_and n 16383 ≡ n % 16384 = and_mask n 14 in
-    let one : bit_or (n % 16384) (bit_and n 32768) ≡ n % 16384 + bit_and n 32768 = or_bit (n % 16384) (bit_and n 32768) 15 high (omega arith) in
-    let two : bit_or (n % 16384 + bit_and n 32768) (bit_and n 16384) ≡ n % 16384 + bit_and n 32768 + bit_and n 16384 = or_bit (n % 16384 + bit_and n 32768) (bit_and n 16384) 14 low (omega (arith, nested)) in
-    rw (whole_bit (bit_and n 32768) 32768 refl high, whole_bit (bit_and n 16384) 16384 refl low, number, one, two) (omega (arith, nested, order))
+    let one : bit_or (n % 16384) (bit_and n 32768) ≡ n % 16384 + bit_and n 32768 =
+        or_bit (n % 16384) (bit_and n 32768) 15 high (omega arith) in
+    let two : bit_or (n % 16384 + bit_and n 32768) (bit_and n 16384) ≡ n % 16384 + bit_and n 32768 + bit_and n 16384 =
+        or_bit (n % 16384 + bit_and n 32768) (bit_and n 16384) 14 low (omega (arith, nested)) in
+    rw (whole_bit (bit_and n 32768) 32768 refl high, whole_bit (bit_and n 16384) 16384 refl low, number, one, two)
+        (omega (arith, nested, order))
 
 -- what a number is read as has that number
-pub number_of-type_of : {T : Type 0} (type_number : T → ℕ) (value_of : ℕ → T) → ((n : ℕ) → n < 256 ^ 2 → type_number (value_of n) ≡ n) → (n : ℕ) → n < 256 ^ 2 → number_of type_number (type_of value_of n) ≡ n
+pub number_of-type_of : {T : Type 0} (type_number : T → ℕ) (value_of : ℕ → T)
+    → ((n : ℕ) → n < 256 ^ 2 → type_number (value_of n) ≡ n) → (n : ℕ) → n < 256 ^ 2
+    → number_of type_number (type_of value_of n) ≡ n
 number_of-type_of type_number value_of back n lt =
     rw (back (bit_and n 16383) (omega (arith, and_le_r n 16383))) (field_of-parts n lt)
 
 -- ---- equality
 
-pub attr_type_per : {T : Type 0} {same : T → T → Bool} → IsPartialEquivalence same → IsPartialEquivalence (attr_type_eq same)
-attr_type_per laws = and_per (and_per (on_per (λ t. t.nla_nested) (partial_equiv_from_equiv bool_eq_equiv)) (on_per (λ t. t.nla_network_order) (partial_equiv_from_equiv bool_eq_equiv))) (on_per (λ t. t.nla_type) laws)
+pub attr_type_per : {T : Type 0} {same : T → T → Bool} → IsPartialEquivalence same
+    → IsPartialEquivalence (attr_type_eq same)
+attr_type_per laws = and_per (and_per (on_per (λ t. t.nla_nested) (partial_equiv_from_equiv bool_eq_equiv))
+    (on_per (λ t. t.nla_network_order) (partial_equiv_from_equiv bool_eq_equiv))) (on_per (λ t. t.nla_type) laws)
 
 pub attr_type_equiv : {T : Type 0} {same : T → T → Bool} → IsEquivalence same → IsEquivalence (attr_type_eq same)
-attr_type_equiv laws = and_equiv (and_equiv (on_equiv (λ t. t.nla_nested) bool_eq_equiv) (on_equiv (λ t. t.nla_network_order) bool_eq_equiv)) (on_equiv (λ t. t.nla_type) laws)
+attr_type_equiv laws = and_equiv (and_equiv (on_equiv (λ t. t.nla_nested) bool_eq_equiv)
+    (on_equiv (λ t. t.nla_network_order) bool_eq_equiv)) (on_equiv (λ t. t.nla_type) laws)
 
 -- a small number with two bits is their sum
-pub field_of-sum : (n : ℕ) (nested network_order : Bool) → n < 16384 → field_of n nested network_order ≡ n + bit_where nested 32768 + bit_where network_order 16384
+pub field_of-sum : (n : ℕ) (nested network_order : Bool) → n < 16384
+    → field_of n nested network_order ≡ n + bit_where nested 32768 + bit_where network_order 16384
 field_of-sum n nested network_order lt =
-    let one : bit_or n (bit_where nested 32768) ≡ n + bit_where nested 32768 = or_bit n (bit_where nested 32768) 15 (bit_or_none nested 32768) (omega arith) in
-    let two : bit_or (n + bit_where nested 32768) (bit_where network_order 16384) ≡ n + bit_where nested 32768 + bit_where network_order 16384 = or_bit (n + bit_where nested 32768) (bit_where network_order 16384) 14 (bit_or_none network_order 16384) (free nested) in
+    let one : bit_or n (bit_where nested 32768) ≡ n + bit_where nested 32768 =
+        or_bit n (bit_where nested 32768) 15 (bit_or_none nested 32768) (omega arith) in
+    let two : bit_or (n + bit_where nested 32768) (bit_where network_order 16384)
+        ≡ n + bit_where nested 32768 + bit_where network_order 16384 =
+        or_bit (n + bit_where nested 32768) (bit_where network_order 16384) 14 (bit_or_none network_order 16384)
+        (free nested) in
     rw (one, two) refl
   where
     bit_or_none : (flag : Bool) (p : ℕ) → (bit_where flag p ≡ 0) ⊎ (bit_where flag p ≡ p)

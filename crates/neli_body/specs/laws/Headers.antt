@@ -25,7 +25,8 @@ signed-back x rest fits =
     ap (cast_signed w32) (number-back 4 (cast_unsigned w32 x) rest low.fits) ∙ to_z-of_z w32 x fits
 
 -- a value by its number
-pub value-back : {A : Type 0} (n : ℕ) (number_of : A → ℕ) (value_of : ℕ → A) (v : A) (rest : List ℕ) → IsNamed n number_of value_of v → value_of (little_number n (little_bytes n (number_of v) ++ rest)) ≡ v
+pub value-back : {A : Type 0} (n : ℕ) (number_of : A → ℕ) (value_of : ℕ → A) (v : A) (rest : List ℕ)
+    → IsNamed n number_of value_of v → value_of (little_number n (little_bytes n (number_of v) ++ rest)) ≡ v
 value-back n number_of value_of v rest is = ap value_of (number-back n (number_of v) rest is.fits) ∙ is.named
 
 -- ---- what is read is written as the same bytes
@@ -34,11 +35,14 @@ bytes-drop : (i : ℕ) (s : List ℕ) → AreBytes s → AreBytes (drop i s)
 bytes-drop i s small = λ k. rw (get_or-drop i s k 0) (small (i + k))
 
 -- the bytes of the number at a place
-place-bytes : (n i m : ℕ) (s : List ℕ) → length s ≡ i + n + m → AreBytes s → little_bytes n (number_in n i s) ≡ take n (drop i s)
-place-bytes n i m s size small = little_bytes-number n (drop i s) (omega (arith, length-drop i s)) (bytes-drop i s small)
+place-bytes : (n i m : ℕ) (s : List ℕ) → length s ≡ i + n + m → AreBytes s
+    → little_bytes n (number_in n i s) ≡ take n (drop i s)
+place-bytes n i m s size small = little_bytes-number n (drop i s) (omega (arith, length-drop i s))
+    (bytes-drop i s small)
 
 -- the number at place i, and then what follows its n bytes; m more bytes follow it
-pub place : (n i m : ℕ) (s rest : List ℕ) (x : ℕ) → length s ≡ i + n + m → AreBytes s → x ≡ number_in n i s → rest ≡ drop (i + n) s → little_bytes n x ++ rest ≡ drop i s
+pub place : (n i m : ℕ) (s rest : List ℕ) (x : ℕ) → length s ≡ i + n + m → AreBytes s → x ≡ number_in n i s
+    → rest ≡ drop (i + n) s → little_bytes n x ++ rest ≡ drop i s
 place n i m s rest x size small number after =
     ap (λ (y : ℕ). little_bytes n y ++ rest) number
     ∙ ap (λ (front : List ℕ). front ++ rest) (place-bytes n i m s size small)
@@ -46,10 +50,13 @@ place n i m s rest x size small number after =
     ∙ take-append-drop n (drop i s)
 
 -- the last number
-pub last_place : (n i : ℕ) (s : List ℕ) (x : ℕ) → length s ≡ i + n → AreBytes s → x ≡ number_in n i s → little_bytes n x ≡ drop i s
+pub last_place : (n i : ℕ) (s : List ℕ) (x : ℕ) → length s ≡ i + n → AreBytes s → x ≡ number_in n i s
+    → little_bytes n x ≡ drop i s
 last_place n i s x size small number =
-    ap (little_bytes n) number ∙ place-bytes n i 0 s (omega arith) small ∙ take_all n (drop i s) (omega (arith, length-drop i s))
+    ap (little_bytes n) number ∙ place-bytes n i 0 s (omega arith) small
+        ∙ take_all n (drop i s) (omega (arith, length-drop i s))
 
 -- the number of the signed number at a place
-pub signed-place : (i : ℕ) (s : List ℕ) → AreBytes s → cast_unsigned w32 (signed_number w32 4 (drop i s)) ≡ number_in 4 i s
+pub signed-place : (i : ℕ) (s : List ℕ) → AreBytes s → cast_unsigned w32 (signed_number w32 4 (drop i s))
+    ≡ number_in 4 i s
 signed-place i s small = of_z-to_z w32 (number_in 4 i s) (little_from-lt 0 4 (drop i s) (bytes-drop i s small))

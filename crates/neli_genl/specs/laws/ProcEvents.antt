@@ -20,24 +20,38 @@ abbrev written : List ℕ → Wire
 written bytes = Ok bytes
 
 -- no event is refused but by its input or its type
-event_of-not : (d : DeError) → ((n : ℕ) → InvalidInput n ≢ d) → ((text : List ℕ) → Msg text ≢ d) → (type : ProcEventType) (s : List ℕ) → event_of type s ≢ Err d
-event_of-not d input words kind.None s = guard-not (ltb (length s) 20) (InvalidInput (length s)) d _ (input (length s)) (λ e. cc)
-event_of-not d input words kind.Fork s = guard-not (ltb (length s) 32) (InvalidInput (length s)) d _ (input (length s)) (λ e. cc)
-event_of-not d input words kind.Exec s = guard-not (ltb (length s) 24) (InvalidInput (length s)) d _ (input (length s)) (λ e. cc)
-event_of-not d input words kind.Uid s = guard-not (ltb (length s) 32) (InvalidInput (length s)) d _ (input (length s)) (λ e. cc)
-event_of-not d input words kind.Gid s = guard-not (ltb (length s) 32) (InvalidInput (length s)) d _ (input (length s)) (λ e. cc)
-event_of-not d input words kind.Sid s = guard-not (ltb (length s) 24) (InvalidInput (length s)) d _ (input (length s)) (λ e. cc)
-event_of-not d input words kind.Ptrace s = guard-not (ltb (length s) 32) (InvalidInput (length s)) d _ (input (length s)) (λ e. cc)
-event_of-not d input words kind.Comm s = guard-not (ltb (length s) 40) (InvalidInput (length s)) d _ (input (length s)) (λ e. cc)
-event_of-not d input words kind.Coredump s = guard-not (ltb (length s) 32) (InvalidInput (length s)) d _ (input (length s)) (λ e. cc)
-event_of-not d input words kind.Exit s = guard-not (ltb (length s) 40) (InvalidInput (length s)) d _ (input (length s)) (λ e. cc)
-event_of-not d input words kind.NonzeroExit s = guard-not (ltb (length s) 40) (InvalidInput (length s)) d _ (input (length s)) (λ e. cc)
+event_of-not : (d : DeError) → ((n : ℕ) → InvalidInput n ≢ d) → ((text : List ℕ) → Msg text ≢ d)
+    → (type : ProcEventType) (s : List ℕ) → event_of type s ≢ Err d
+event_of-not d input words kind.None s = guard-not (ltb (length s) 20) (InvalidInput (length s)) d _ (input (length s))
+    (λ e. cc)
+event_of-not d input words kind.Fork s = guard-not (ltb (length s) 32) (InvalidInput (length s)) d _ (input (length s))
+    (λ e. cc)
+event_of-not d input words kind.Exec s = guard-not (ltb (length s) 24) (InvalidInput (length s)) d _ (input (length s))
+    (λ e. cc)
+event_of-not d input words kind.Uid s = guard-not (ltb (length s) 32) (InvalidInput (length s)) d _ (input (length s))
+    (λ e. cc)
+event_of-not d input words kind.Gid s = guard-not (ltb (length s) 32) (InvalidInput (length s)) d _ (input (length s))
+    (λ e. cc)
+event_of-not d input words kind.Sid s = guard-not (ltb (length s) 24) (InvalidInput (length s)) d _ (input (length s))
+    (λ e. cc)
+event_of-not d input words kind.Ptrace s = guard-not (ltb (length s) 32)
+    (InvalidInput (length s)) d _ (input (length s)) (λ e. cc)
+event_of-not d input words kind.Comm s = guard-not (ltb (length s) 40) (InvalidInput (length s)) d _ (input (length s))
+    (λ e. cc)
+event_of-not d input words kind.Coredump s = guard-not (ltb (length s) 32)
+    (InvalidInput (length s)) d _ (input (length s)) (λ e. cc)
+event_of-not d input words kind.Exit s = guard-not (ltb (length s) 40) (InvalidInput (length s)) d _ (input (length s))
+    (λ e. cc)
+event_of-not d input words kind.NonzeroExit s = guard-not (ltb (length s) 40)
+    (InvalidInput (length s)) d _ (input (length s)) (λ e. cc)
 event_of-not d input words (kind.UnrecognizedConst n) s = λ e. words (unknown_text n) cc
 
-proc_event_of-not : (d : DeError) → ((n : ℕ) → InvalidInput n ≢ d) → ((text : List ℕ) → Msg text ≢ d) → (s : List ℕ) → proc_event_of s ≢ Err d
+proc_event_of-not : (d : DeError) → ((n : ℕ) → InvalidInput n ≢ d) → ((text : List ℕ) → Msg text ≢ d) → (s : List ℕ)
+    → proc_event_of s ≢ Err d
 proc_event_of-not d input words s =
     guard-not (ltb (length s) 16) (InvalidInput (length s)) d _ (input (length s))
-    (bind-not (event_of (proc_event_type_of (number_in 4 0 s)) s) _ d (event_of-not d input words (proc_event_type_of (number_in 4 0 s)) s) (λ event e. cc))
+    (bind-not (event_of (proc_event_type_of (number_in 4 0 s)) s) _ d
+        (event_of-not d input words (proc_event_type_of (number_in 4 0 s)) s) (λ event e. cc))
 
 pub proc_event_of-no_memory : (s : List ℕ) → proc_event_of s ≢ Err Memory
 proc_event_of-no_memory = proc_event_of-not Memory (λ n e. cc) (λ text e. cc)
@@ -57,7 +71,8 @@ event_bytes-length (Comm a b c) = omega arith
 event_bytes-length (Coredump a b c d) = refl
 event_bytes-length (Exit a b c d e f) = refl
 
-pub proc_event_bytes-length : (h : ProcEventHeader) (bytes : List ℕ) → written (proc_event_bytes h) ≡ Ok bytes → length bytes ≡ proc_event_size h
+pub proc_event_bytes-length : (h : ProcEventHeader) (bytes : List ℕ) → written (proc_event_bytes h) ≡ Ok bytes
+    → length bytes ≡ proc_event_size h
 proc_event_bytes-length h bytes e =
     let size : length (proc_event_bytes h) ≡ proc_event_size h = omega (arith, event_bytes-length h.event) in
     written-length (proc_event_bytes h) bytes (proc_event_size h) size e

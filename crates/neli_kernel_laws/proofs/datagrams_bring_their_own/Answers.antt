@@ -11,4 +11,5 @@ pub returns-clause-several : goal.returns-clause-several
 returns-clause-several c = several-numbered
 
 pub returns-clause-open : goal.returns-clause-open
-returns-clause-open c = λ number port datagram us is_open cut all opened. cut-answered number port is_open opened datagram us cut all
+returns-clause-open c = λ number port datagram us is_open cut all opened.
+    cut-answered number port is_open opened datagram us cut all

@@ -8,7 +8,8 @@ use Rattle.neli_link.specs.NdaCacheinfo.{IsPlainNdaCacheinfo, nda_cacheinfo_byte
 pub nda_cacheinfo-width : (h : NdaCacheinfo) → length (nda_cacheinfo_bytes h) ≡ 16
 nda_cacheinfo-width h = refl
 
-pub nda_cacheinfo-reads_back : (h : NdaCacheinfo) → IsPlainNdaCacheinfo h → nda_cacheinfo_header (nda_cacheinfo_bytes h) ≡ h
+pub nda_cacheinfo-reads_back : (h : NdaCacheinfo) → IsPlainNdaCacheinfo h
+    → nda_cacheinfo_header (nda_cacheinfo_bytes h) ≡ h
 nda_cacheinfo-reads_back h is =
     rw (
       number-back 4 h.ndm_confirmed _ is.ndm_confirmed,
@@ -17,7 +18,8 @@ nda_cacheinfo-reads_back h is =
       number-back 4 h.ndm_refcnt [] is.ndm_refcnt,
     ) refl
 
-pub nda_cacheinfo-writes_back : (s : List ℕ) → length s ≡ 16 → AreBytes s → nda_cacheinfo_bytes (nda_cacheinfo_header s) ≡ s
+pub nda_cacheinfo-writes_back : (s : List ℕ) → length s ≡ 16 → AreBytes s
+    → nda_cacheinfo_bytes (nda_cacheinfo_header s) ≡ s
 nda_cacheinfo-writes_back s size small =
     place 4 0 12 s _ _ size small refl
     (place 4 4 8 s _ _ size small refl

@@ -6,7 +6,8 @@ use Rattle.neli_wire.specs.DeError.TheVariants.{Msg, Io, Utf8, InvalidInput, Mem
 use Rattle.neli_wire.specs.Refusals.{Refuses}
 
 -- a refusal of one reading is that of another that is the same
-pub refuses-same : {A B : Type 0} (r : Result B DeError) (one two : Result A DeError) (takes more : Type 0) → one ≡ two → (takes → more) → IfErr r (Refuses one takes) → IfErr r (Refuses two more)
+pub refuses-same : {A B : Type 0} (r : Result B DeError) (one two : Result A DeError) (takes more : Type 0) → one ≡ two
+    → (takes → more) → IfErr r (Refuses one takes) → IfErr r (Refuses two more)
 refuses-same (Ok x) one two takes more same f h = h
 refuses-same (Err (Msg m)) one two takes more same f h = sym same ∙ h
 refuses-same (Err (Io k)) one two takes more same f h = sym same ∙ h

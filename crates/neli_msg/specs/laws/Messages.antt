@@ -10,7 +10,8 @@ use Rattle.neli_msg.specs.Messages.{layout_with, message_layout}
 use Rattle.neli_msg.specs.laws.Kinds.{payload_in-no_memory}
 
 -- the header is in the first 16 bytes
-pub layout_with-placed : {K V : Type 0} (type_of : ℕ → K) (payload_of : Header K → List ℕ → Result V DeError) → IsPlaced (layout_with type_of payload_of)
+pub layout_with-placed : {K V : Type 0} (type_of : ℕ → K) (payload_of : Header K → List ℕ → Result V DeError)
+    → IsPlaced (layout_with type_of payload_of)
 layout_with-placed type_of payload_of = record {
   own = λ s le.
       let at = λ (n : ℕ) (i : ℕ) (fits : i + n ≤ 16). number_in-take n i 16 s fits le in
@@ -22,11 +23,18 @@ layout_with-placed type_of payload_of = record {
       rw (a, b, c, d, e) refl;
 }
 
-pub layout_with-local : {K V : Type 0} (type_of : ℕ → K) (payload_of : Header K → List ℕ → Result V DeError) → IsLocal (frame_at (layout_with type_of payload_of))
-layout_with-local type_of payload_of = frame_at-local (layout_with type_of payload_of) (layout_with-placed type_of payload_of)
+pub layout_with-local : {K V : Type 0} (type_of : ℕ → K) (payload_of : Header K → List ℕ → Result V DeError)
+    → IsLocal (frame_at (layout_with type_of payload_of))
+layout_with-local type_of payload_of = frame_at-local (layout_with type_of payload_of)
+    (layout_with-placed type_of payload_of)
 
-pub layout_with-no_memory : {K V : Type 0} (type_of : ℕ → K) (payload_of : Header K → List ℕ → Result V DeError) → ((h : Header K) (s : List ℕ) → payload_of h s ≢ Err Memory) → (s : List ℕ) → frame_at (layout_with type_of payload_of) s ≢ Err Memory
+pub layout_with-no_memory : {K V : Type 0} (type_of : ℕ → K) (payload_of : Header K → List ℕ → Result V DeError)
+    → ((h : Header K) (s : List ℕ) → payload_of h s ≢ Err Memory) → (s : List ℕ)
+    → frame_at (layout_with type_of payload_of) s ≢ Err Memory
 layout_with-no_memory type_of payload_of none = frame_at-no_memory (layout_with type_of payload_of) none
 
-pub message-no_memory : {K V : Type 0} (type_of : ℕ → K) (number_of : K → ℕ) (read : List ℕ → Result V DeError) → ((s : List ℕ) → read s ≢ Err Memory) → (s : List ℕ) → frame_at (message_layout type_of number_of read) s ≢ Err Memory
-message-no_memory type_of number_of read bodies = layout_with-no_memory type_of _ (λ h. payload_in-no_memory type_of read bodies (number_of h.message_type) h.flags)
+pub message-no_memory : {K V : Type 0} (type_of : ℕ → K) (number_of : K → ℕ) (read : List ℕ → Result V DeError)
+    → ((s : List ℕ) → read s ≢ Err Memory) → (s : List ℕ)
+    → frame_at (message_layout type_of number_of read) s ≢ Err Memory
+message-no_memory type_of number_of read bodies = layout_with-no_memory type_of _
+    (λ h. payload_in-no_memory type_of read bodies (number_of h.message_type) h.flags)

@@ -53,7 +53,8 @@ Read = Attr (AttrType NlmsgerrAttr) (List ℕ)
 -- ---- what stands in the first bytes
 
 -- a part of the first n bytes is the same whatever follows them
-part-same : (n i m : ℕ) (s rest : List ℕ) → i + m ≤ n → n ≤ length s → take m (drop i (take n s ++ rest)) ≡ take m (drop i s)
+part-same : (n i m : ℕ) (s rest : List ℕ) → i + m ≤ n → n ≤ length s
+    → take m (drop i (take n s ++ rest)) ≡ take m (drop i s)
 part-same n i m s rest le long =
     let sized : length (take n s) ≡ n = length-take-le n s long in
     let split : take n s ≡ take (i + (n - i)) s = ap (λ (k : ℕ). take k s) (omega arith) in
@@ -64,16 +65,19 @@ part-same n i m s rest le long =
     ∙ take-take m (n - i) (drop i s) (omega arith)
 
 -- so is a number
-number-same : (k i n : ℕ) (s rest : List ℕ) → i + k ≤ n → n ≤ length s → number_in k i (take n s ++ rest) ≡ number_in k i s
+number-same : (k i n : ℕ) (s rest : List ℕ) → i + k ≤ n → n ≤ length s
+    → number_in k i (take n s ++ rest) ≡ number_in k i s
 number-same k i n s rest le long =
     let sized : length (take n s) ≡ n = length-take-le n s long in
-    sym (number_first k (drop i (take n s ++ rest)) (omega (arith, length-drop i (take n s ++ rest), length-append (take n s) rest, sized)))
+    sym (number_first k (drop i (take n s ++ rest)) (omega (arith, length-drop i (take n s ++ rest),
+        length-append (take n s) rest, sized)))
     ∙ ap (λ (x : List ℕ). little_number k x) (part-same n i k s rest le long)
     ∙ number_first k (drop i s) (omega (arith, length-drop i s))
 
 -- ---- attributes
 
-attribute-again : (frame : List ℕ) (a : Read) → IsFrame (attribute kind_of_field all) frame a.0 a.1 → IsFrame (attribute kind_of_field all) (attribute_zeroed frame) a.0 a.1
+attribute-again : (frame : List ℕ) (a : Read) → IsFrame (attribute kind_of_field all) frame a.0 a.1
+    → IsFrame (attribute kind_of_field all) (attribute_zeroed frame) a.0 a.1
 attribute-again frame a is =
     let n = number_in 2 0 frame in
     let zeros : List ℕ = replicate (length frame - n) 0 in
@@ -81,7 +85,8 @@ attribute-again frame a is =
     let long : n ≤ length frame = omega (arith, is.whole, len) in
     let lens = number-same 2 0 n frame zeros (omega (arith, is.least, len)) long in
     let kinds = number-same 2 2 n frame zeros (omega (arith, is.least, len)) long in
-    let body : take (a.0.len - 4) (drop 4 (take n frame ++ zeros)) ≡ take (a.0.len - 4) (drop 4 frame) = part-same n 4 (a.0.len - 4) frame zeros (omega (arith, is.least, len)) long in
+    let body : take (a.0.len - 4) (drop 4 (take n frame ++ zeros)) ≡ take (a.0.len - 4) (drop 4 frame) =
+        part-same n 4 (a.0.len - 4) frame zeros (omega (arith, is.least, len)) long in
     record {
       header_is = rw (lens, kinds) is.header_is;
       least = is.least;
@@ -90,18 +95,23 @@ attribute-again frame a is =
     }
 
 -- attributes with zeros for padding are the same attributes
-attributes-again : (s : List ℕ) (attrs : Attributes) → ext_ack_in s ≡ Ok attrs → (ext_ack_in (attributes_zeroed s) ≡ Ok attrs) × (length (attributes_zeroed s) ≡ length s)
+attributes-again : (s : List ℕ) (attrs : Attributes) → ext_ack_in s ≡ Ok attrs
+    → (ext_ack_in (attributes_zeroed s) ≡ Ok attrs) × (length (attributes_zeroed s) ≡ length s)
 attributes-again s attrs e =
     let layout = attribute kind_of_field all in
     let placed = attribute-placed kind_of_field all in
     let found = bind_ok (attributes_in kind_of_field s) _ attrs e in
     let items : List Read = found.0 in
     let are : AreFrames layout s items = list-frames layout placed (omega arith) s items found.1 in
-    let again : AreFrames layout (attributes_zeroed s) items = frames-again layout attribute_length attribute_zeroed attribute-states attribute-again (length s) s items (omega arith) are in
-    let read : attributes_in kind_of_field (attributes_zeroed s) ≡ Ok items = frames-list layout placed (omega arith) (attributes_zeroed s) items again in
+    let again : AreFrames layout (attributes_zeroed s) items =
+        frames-again layout attribute_length attribute_zeroed attribute-states attribute-again (length s) s items
+        (omega arith) are in
+    let read : attributes_in kind_of_field (attributes_zeroed s) ≡ Ok items =
+        frames-list layout placed (omega arith) (attributes_zeroed s) items again in
     let known : map attribute_of items ≡ attrs = ok_is (map attribute_of items) attrs found.2 in (
       rw read (ap (λ (x : Attributes). all_attributes x) known),
-      frames-length layout attribute_length attribute_zeroed attribute-states attribute-length (length s) s items (omega arith) are,
+      frames-length layout attribute_length attribute_zeroed attribute-states attribute-length (length s) s items
+          (omega arith) are,
     )
   where
     all_attributes : Attributes → Result Attributes DeError
@@ -115,19 +125,24 @@ pub record IsAgain (number : ℕ) (flags : NlmF) (s z : List ℕ) (u : NlPayload
   pub reads : payload_in same all number flags z ≡ Ok u
 
 -- the kind is told by the type, the flags, the length and the code
-kind-same : (number : ℕ) (flags : NlmF) (s z : List ℕ) → length z ≡ length s → number_in 4 0 z ≡ number_in 4 0 s → kind_of number flags z ≡ kind_of number flags s
+kind-same : (number : ℕ) (flags : NlmF) (s z : List ℕ) → length z ≡ length s → number_in 4 0 z ≡ number_in 4 0 s
+    → kind_of number flags z ≡ kind_of number flags s
 kind-same number flags s z long code = rw (long, code) refl
 
-plain-again : (kind : Kind) (number : ℕ) (flags : NlmF) (s : List ℕ) (u : NlPayload ℕ (List ℕ)) → payload_zeroed kind s ≡ s → payload_in same all number flags s ≡ Ok u → IsAgain number flags s (payload_zeroed kind s) u
+plain-again : (kind : Kind) (number : ℕ) (flags : NlmF) (s : List ℕ) (u : NlPayload ℕ (List ℕ))
+    → payload_zeroed kind s ≡ s → payload_in same all number flags s ≡ Ok u
+    → IsAgain number flags s (payload_zeroed kind s) u
 plain-again kind number flags s u is e = record {
   long = ap length is;
   reads = ap (payload_in same all number flags) is ∙ e;
 }
 
-dump_end-reads : (t : List ℕ) (attrs : Attributes) → 4 ≤ length t → ext_ack_in (drop 4 t) ≡ Ok attrs → dump_end_in t ≡ Ok (answer (code_in t) tt attrs)
+dump_end-reads : (t : List ℕ) (attrs : Attributes) → 4 ≤ length t → ext_ack_in (drop 4 t) ≡ Ok attrs
+    → dump_end_in t ≡ Ok (answer (code_in t) tt attrs)
 dump_end-reads t attrs long lists = rw (le-ltb (length t) 4 long, lists) refl
 
-dump_end-again : (number : ℕ) (flags : NlmF) (s : List ℕ) (u : NlPayload ℕ (List ℕ)) → kind_of number flags s ≡ DumpEnd → payload_as same all DumpEnd s ≡ Ok u → IsAgain number flags s (payload_zeroed DumpEnd s) u
+dump_end-again : (number : ℕ) (flags : NlmF) (s : List ℕ) (u : NlPayload ℕ (List ℕ)) → kind_of number flags s ≡ DumpEnd
+    → payload_as same all DumpEnd s ≡ Ok u → IsAgain number flags s (payload_zeroed DumpEnd s) u
 dump_end-again number flags s u kind e =
     let b = bind_ok (dump_end_in s) _ u e in
     let r = bind_ok (after 4 s) _ b.0 b.1 in
@@ -146,7 +161,8 @@ dump_end-again number flags s u kind e =
     let code : number_in 4 0 z ≡ number_in 4 0 s = number-same 4 0 4 s a (omega arith) long in
     let codes : code_in z ≡ code_in s = ap (cast_signed w32) code in
     let after_code : drop 4 z ≡ a = drop_at (take 4 s) a 4 four in
-    let reads : dump_end_in z ≡ Ok b.0 = dump_end-reads z x.0 (omega (arith, sized)) (ap ext_ack_in after_code ∙ again.0) ∙ ap (λ c. dump_end_of c x.0) codes ∙ ap whole known in
+    let reads : dump_end_in z ≡ Ok b.0 = dump_end-reads z x.0 (omega (arith, sized)) (ap ext_ack_in after_code
+        ∙ again.0) ∙ ap (λ c. dump_end_of c x.0) codes ∙ ap whole known in
     let here : payload_as same all DumpEnd z ≡ Ok u = rw reads b.2 in
     let kinds : kind_of number flags z ≡ DumpEnd = kind-same number flags s z sized code ∙ kind in
     let one : IsAgain number flags s z u = record {
@@ -161,17 +177,22 @@ dump_end-again number flags s u kind e =
     dump_end_of : ℤ → Attributes → Result (Nlmsgerr (Unit {0})) DeError
     dump_end_of c attrs = Ok (answer c tt attrs)
 
-failure-reads : (t body : List ℕ) (attrs : Attributes) → 20 ≤ length t → 16 ≤ echoed_length t → echoed_count t ≤ length t - 20 → take (echoed_count t) (drop 20 t) ≡ body → ext_ack_in (after_echo t) ≡ Ok attrs → failure_in same all t ≡ Ok (answer (code_in t) (echo_with same t body) attrs)
+failure-reads : (t body : List ℕ) (attrs : Attributes) → 20 ≤ length t → 16 ≤ echoed_length t
+    → echoed_count t ≤ length t - 20 → take (echoed_count t) (drop 20 t) ≡ body → ext_ack_in (after_echo t) ≡ Ok attrs
+    → failure_in same all t ≡ Ok (answer (code_in t) (echo_with same t body) attrs)
 failure-reads t body attrs long least there is lists =
-    rw (le-ltb (length t) 20 long, le-ltb (echoed_length t) 16 least, le-ltb (length t - 20) (echoed_count t) there, is, lists) refl
+    rw (le-ltb (length t) 20 long, le-ltb (echoed_length t) 16 least, le-ltb (length t - 20) (echoed_count t) there, is,
+        lists) refl
 
 -- the header is in the first 16 bytes
-header-same : (s z : List ℕ) → 16 ≤ length s → 16 ≤ length z → take 16 z ≡ take 16 s → header_in same z ≡ header_in same s
+header-same : (s z : List ℕ) → 16 ≤ length s → 16 ≤ length z → take 16 z ≡ take 16 s
+    → header_in same z ≡ header_in same s
 header-same s z long enough is =
     let placed = layout_with-placed same (λ (h : Header ℕ). all) in
     sym (placed.own z enough) ∙ ap (header_in same) is ∙ placed.own s long
 
-failure-again : (number : ℕ) (flags : NlmF) (s : List ℕ) (u : NlPayload ℕ (List ℕ)) → kind_of number flags s ≡ Failure → payload_as same all Failure s ≡ Ok u → IsAgain number flags s (payload_zeroed Failure s) u
+failure-again : (number : ℕ) (flags : NlmF) (s : List ℕ) (u : NlPayload ℕ (List ℕ)) → kind_of number flags s ≡ Failure
+    → payload_as same all Failure s ≡ Ok u → IsAgain number flags s (payload_zeroed Failure s) u
 failure-again number flags s u kind e =
     let b = bind_ok (failure_in same all s) _ u e in
     let r = bind_ok (after 20 s) _ b.0 b.1 in
@@ -190,26 +211,41 @@ failure-again number flags s u kind e =
     let a : List ℕ = attributes_zeroed (after_echo s) in
     let zeros : List ℕ = replicate (length (take (echo_end s) s) - (20 + c)) 0 in
     let z : List ℕ = take (20 + c) s ++ (zeros ++ a) in
-    let is : payload_zeroed Failure s ≡ z = ap (λ (y : List ℕ). (y ++ zeros) ++ a) (take-take (20 + c) (echo_end s) s (omega arith)) ∙ append_assoc (take (20 + c) s) zeros a in
+    let is : payload_zeroed Failure s ≡ z = ap (λ (y : List ℕ). (y ++ zeros) ++ a)
+        (take-take (20 + c) (echo_end s) s (omega arith)) ∙ append_assoc (take (20 + c) s) zeros a in
     let front : length (take (20 + c) s) ≡ 20 + c = length-take-le (20 + c) s (omega arith) in
-    let parts : length (take (echo_end s) s) + length (drop (echo_end s) s) ≡ length s = sym (length-append (take (echo_end s) s) (drop (echo_end s) s)) ∙ ap length (take-append-drop (echo_end s) s) in
+    let parts : length (take (echo_end s) s) + length (drop (echo_end s) s) ≡ length s =
+        sym (length-append (take (echo_end s) s) (drop (echo_end s) s)) ∙ ap length (take-append-drop (echo_end s) s) in
     let dropped = length-drop (echo_end s) s in
-    let counted : length zeros ≡ length (take (echo_end s) s) - (20 + c) = length-replicate {A = ℕ} (length (take (echo_end s) s) - (20 + c)) 0 in
-    let both : length z ≡ 20 + c + (length zeros + length a) = omega (arith, length-append (take (20 + c) s) (zeros ++ a), length-append zeros a, front) in
+    let counted : length zeros ≡ length (take (echo_end s) s) - (20 + c) =
+        length-replicate {A = ℕ} (length (take (echo_end s) s) - (20 + c)) 0 in
+    let both : length z ≡ 20 + c + (length zeros + length a) =
+        omega (arith, length-append (take (20 + c) s) (zeros ++ a), length-append zeros a, front) in
     let sized : length z ≡ length s = omega (arith, both, counted, again.1, parts, dropped) in
-    let code : number_in 4 0 z ≡ number_in 4 0 s = number-same 4 0 (20 + c) s (zeros ++ a) (omega arith) (omega arith) in
-    let lens : number_in 4 4 z ≡ number_in 4 4 s = number-same 4 4 (20 + c) s (zeros ++ a) (omega arith) (omega arith) in
+    let code : number_in 4 0 z ≡ number_in 4 0 s = number-same 4 0 (20 + c) s (zeros ++ a) (omega arith)
+        (omega arith) in
+    let lens : number_in 4 4 z ≡ number_in 4 4 s = number-same 4 4 (20 + c) s (zeros ++ a) (omega arith)
+        (omega arith) in
     let count : echoed_count z ≡ c = ap (λ (k : ℕ). k - 16) lens in
-    let body : take (echoed_count z) (drop 20 z) ≡ h.0 = ap (λ (k : ℕ). take k (drop 20 z)) count ∙ part-same (20 + c) 20 c s (zeros ++ a) (omega arith) (omega arith) ∙ echoed in
+    let body : take (echoed_count z) (drop 20 z) ≡ h.0 = ap (λ (k : ℕ). take k (drop 20 z)) count
+        ∙ part-same (20 + c) 20 c s (zeros ++ a) (omega arith) (omega arith) ∙ echoed in
     let end : echo_end z ≡ echo_end s = ap (λ (k : ℕ). 20 + align k) count in
     let attributes : drop (echo_end s) z ≡ a = elim (cases_lt (length s) (echo_end s)) [
-      | inl few ↦ drop_all (echo_end s) z (omega (arith, sized)) ∙ sym (nil_from_length a (omega (arith, again.1, dropped)))
-      | inr enough ↦ ap (λ (y : List ℕ). drop (echo_end s) y) (sym (append_assoc (take (20 + c) s) zeros a)) ∙ drop_at (take (20 + c) s ++ zeros) a (echo_end s) (omega (arith, length-append (take (20 + c) s) zeros, front, counted, parts, dropped))
+      | inl few ↦ drop_all (echo_end s) z (omega (arith, sized))
+          ∙ sym (nil_from_length a (omega (arith, again.1, dropped)))
+      | inr enough ↦ ap (λ (y : List ℕ). drop (echo_end s) y) (sym (append_assoc (take (20 + c) s) zeros a))
+          ∙ drop_at (take (20 + c) s ++ zeros) a (echo_end s)
+          (omega (arith, length-append (take (20 + c) s) zeros, front, counted, parts, dropped))
     ] in
-    let lists : ext_ack_in (after_echo z) ≡ Ok x.0 = ap (λ (k : ℕ). ext_ack_in (drop k z)) end ∙ ap ext_ack_in attributes ∙ again.0 in
+    let lists : ext_ack_in (after_echo z) ≡ Ok x.0 = ap (λ (k : ℕ). ext_ack_in (drop k z)) end
+        ∙ ap ext_ack_in attributes ∙ again.0 in
     let codes : code_in z ≡ code_in s = ap (cast_signed w32) code in
-    let headers : header_in same (drop 4 z) ≡ header_in same (drop 4 s) = header-same (drop 4 s) (drop 4 z) (omega (arith, length-drop 4 s)) (omega (arith, length-drop 4 z, sized)) (part-same (20 + c) 4 16 s (zeros ++ a) (omega arith) (omega arith)) in
-    let reads : failure_in same all z ≡ Ok b.0 = failure-reads z h.0 x.0 (omega (arith, sized)) (omega (arith, lens)) (omega (arith, count, sized)) body lists ∙ ap (λ k. failure_of k (header_in same (drop 4 z)) h.0 x.0) codes ∙ ap (λ k. failure_of (code_in s) k h.0 x.0) headers ∙ ap whole known in
+    let headers : header_in same (drop 4 z) ≡ header_in same (drop 4 s) =
+        header-same (drop 4 s) (drop 4 z) (omega (arith, length-drop 4 s)) (omega (arith, length-drop 4 z, sized))
+        (part-same (20 + c) 4 16 s (zeros ++ a) (omega arith) (omega arith)) in
+    let reads : failure_in same all z ≡ Ok b.0 = failure-reads z h.0 x.0 (omega (arith, sized)) (omega (arith, lens))
+        (omega (arith, count, sized)) body lists ∙ ap (λ k. failure_of k (header_in same (drop 4 z)) h.0 x.0) codes
+        ∙ ap (λ k. failure_of (code_in s) k h.0 x.0) headers ∙ ap whole known in
     let here : payload_as same all Failure z ≡ Ok u = rw reads b.2 in
     let kinds : kind_of number flags z ≡ Failure = kind-same number flags s z sized code ∙ kind in
     let one : IsAgain number flags s z u = record {
@@ -226,7 +262,8 @@ failure-again number flags s u kind e =
 
 -- ---- answers that echo a header alone
 
-headed-reads : (t : List ℕ) (attrs : Attributes) → 20 ≤ length t → ext_ack_in (drop 20 t) ≡ Ok attrs → headed_in same Listed t ≡ Ok (answer (code_in t) (header_in same (drop 4 t)) attrs)
+headed-reads : (t : List ℕ) (attrs : Attributes) → 20 ≤ length t → ext_ack_in (drop 20 t) ≡ Ok attrs
+    → headed_in same Listed t ≡ Ok (answer (code_in t) (header_in same (drop 4 t)) attrs)
 headed-reads t attrs long lists = rw (le-ltb (length t) 20 long, lists) refl
 
 -- with zeros for the padding of its attributes it is read as the same answer, and its code is the same
@@ -235,7 +272,8 @@ record IsHeadAgain (s z : List ℕ) (x : Nlmsgerr (Header ℕ)) : Type 0 where
   code : number_in 4 0 z ≡ number_in 4 0 s
   reads : headed_in same Listed z ≡ Ok x
 
-head-again : (s : List ℕ) (x : Nlmsgerr (Header ℕ)) → headed_in same Listed s ≡ Ok x → IsHeadAgain s (payload_zeroed (Acknowledgement Listed) s) x
+head-again : (s : List ℕ) (x : Nlmsgerr (Header ℕ)) → headed_in same Listed s ≡ Ok x
+    → IsHeadAgain s (payload_zeroed (Acknowledgement Listed) s) x
 head-again s x e =
     let r = bind_ok (after 20 s) _ x e in
     let g = guard_ok (ltb (length s) 20) (InvalidInput (length s)) _ r.0 r.1 in
@@ -247,14 +285,19 @@ head-again s x e =
     let a : List ℕ = attributes_zeroed (drop 20 s) in
     let z : List ℕ = take 20 s ++ a in
     let twenty : length (take 20 s) ≡ 20 = length-take-le 20 s long in
-    let front : zeros_from 20 (take 20 s) ≡ take 20 s = rw (take-take 20 20 s (omega arith), twenty) (append-nil (take 20 s)) in
+    let front : zeros_from 20 (take 20 s) ≡ take 20 s =
+        rw (take-take 20 20 s (omega arith), twenty) (append-nil (take 20 s)) in
     let is : payload_zeroed (Acknowledgement Listed) s ≡ z = ap (λ (y : List ℕ). y ++ a) front in
     let sized : length z ≡ length s = omega (arith, length-append (take 20 s) a, twenty, again.1, length-drop 20 s) in
     let code : number_in 4 0 z ≡ number_in 4 0 s = number-same 4 0 20 s a (omega arith) long in
     let codes : code_in z ≡ code_in s = ap (cast_signed w32) code in
     let after_head : drop 20 z ≡ a = drop_at (take 20 s) a 20 twenty in
-    let headers : header_in same (drop 4 z) ≡ header_in same (drop 4 s) = header-same (drop 4 s) (drop 4 z) (omega (arith, length-drop 4 s)) (omega (arith, length-drop 4 z, sized)) (part-same 20 4 16 s a (omega arith) long) in
-    let reads : headed_in same Listed z ≡ Ok x = headed-reads z t.0 (omega (arith, sized)) (ap ext_ack_in after_head ∙ again.0) ∙ ap (λ c. headed_of c (header_in same (drop 4 z)) t.0) codes ∙ ap (λ k. headed_of (code_in s) k t.0) headers ∙ ap whole known in
+    let headers : header_in same (drop 4 z) ≡ header_in same (drop 4 s) =
+        header-same (drop 4 s) (drop 4 z) (omega (arith, length-drop 4 s)) (omega (arith, length-drop 4 z, sized))
+        (part-same 20 4 16 s a (omega arith) long) in
+    let reads : headed_in same Listed z ≡ Ok x = headed-reads z t.0 (omega (arith, sized)) (ap ext_ack_in after_head
+        ∙ again.0) ∙ ap (λ c. headed_of c (header_in same (drop 4 z)) t.0) codes
+        ∙ ap (λ k. headed_of (code_in s) k t.0) headers ∙ ap whole known in
     let one : IsHeadAgain s z x = record { long = sized; code = code; reads = reads } in
     subst (λ (y : List ℕ). IsHeadAgain s y x) (sym is) one
   where
@@ -264,7 +307,9 @@ head-again s x e =
     headed_of : ℤ → Header ℕ → Attributes → Result (Nlmsgerr (Header ℕ)) DeError
     headed_of c h attrs = Ok (answer c h attrs)
 
-acknowledgement-again : (number : ℕ) (flags : NlmF) (s : List ℕ) (u : NlPayload ℕ (List ℕ)) → kind_of number flags s ≡ Acknowledgement Listed → payload_as same all (Acknowledgement Listed) s ≡ Ok u → IsAgain number flags s (payload_zeroed (Acknowledgement Listed) s) u
+acknowledgement-again : (number : ℕ) (flags : NlmF) (s : List ℕ) (u : NlPayload ℕ (List ℕ))
+    → kind_of number flags s ≡ Acknowledgement Listed → payload_as same all (Acknowledgement Listed) s ≡ Ok u
+    → IsAgain number flags s (payload_zeroed (Acknowledgement Listed) s) u
 acknowledgement-again number flags s u kind e =
     let b = bind_ok (headed_in same Listed s) _ u e in
     let h = head-again s b.0 b.1 in
@@ -276,7 +321,9 @@ acknowledgement-again number flags s u kind e =
       reads = ap (λ (k : Kind). payload_as same all k z) kinds ∙ here;
     }
 
-capped-again : (number : ℕ) (flags : NlmF) (s : List ℕ) (u : NlPayload ℕ (List ℕ)) → kind_of number flags s ≡ Capped Listed → payload_as same all (Capped Listed) s ≡ Ok u → IsAgain number flags s (payload_zeroed (Capped Listed) s) u
+capped-again : (number : ℕ) (flags : NlmF) (s : List ℕ) (u : NlPayload ℕ (List ℕ))
+    → kind_of number flags s ≡ Capped Listed → payload_as same all (Capped Listed) s ≡ Ok u
+    → IsAgain number flags s (payload_zeroed (Capped Listed) s) u
 capped-again number flags s u kind e =
     let b = bind_ok (headed_in same Listed s) _ u e in
     let h = head-again s b.0 b.1 in
@@ -288,10 +335,12 @@ capped-again number flags s u kind e =
       reads = ap (λ (k : Kind). payload_as same all k z) kinds ∙ here;
     }
 
-payload-again : (number : ℕ) (flags : NlmF) (s : List ℕ) (u : NlPayload ℕ (List ℕ)) → payload_in same all number flags s ≡ Ok u → IsAgain number flags s (payload_zeroed (kind_of number flags s) s) u
+payload-again : (number : ℕ) (flags : NlmF) (s : List ℕ) (u : NlPayload ℕ (List ℕ))
+    → payload_in same all number flags s ≡ Ok u → IsAgain number flags s (payload_zeroed (kind_of number flags s) s) u
 payload-again number flags s u e = by (kind_of number flags s) refl e
   where
-    by : (kind : Kind) → kind_of number flags s ≡ kind → payload_as same all kind s ≡ Ok u → IsAgain number flags s (payload_zeroed kind s) u
+    by : (kind : Kind) → kind_of number flags s ≡ kind → payload_as same all kind s ≡ Ok u
+        → IsAgain number flags s (payload_zeroed kind s) u
     by Body is reads = plain-again Body number flags s u (whole-zeroed s) e
     by Nothing is reads = plain-again Nothing number flags s u (whole-zeroed s) e
     by DumpEnd is reads = dump_end-again number flags s u is reads
@@ -303,39 +352,52 @@ payload-again number flags s u e = by (kind_of number flags s) refl e
 
 -- ---- messages
 
-message-again : (frame : List ℕ) (m : Message ℕ (List ℕ)) → IsFrame untyped_layout frame m.0 m.1 → IsFrame untyped_layout (message_zeroed frame) m.0 m.1
+message-again : (frame : List ℕ) (m : Message ℕ (List ℕ)) → IsFrame untyped_layout frame m.0 m.1
+    → IsFrame untyped_layout (message_zeroed frame) m.0 m.1
 message-again frame m is = subst Q is.header_is there is.least is.whole is.payload_is
   where
     Q : Header ℕ → Type 0
-    Q h = 16 ≤ h.len → length frame ≡ align h.len → payload_in same all h.message_type h.flags (take (h.len - 16) (drop 16 frame)) ≡ Ok m.1 → IsFrame untyped_layout (message_zeroed frame) h m.1
+    Q h = 16 ≤ h.len → length frame ≡ align h.len → payload_in same all h.message_type h.flags
+        (take (h.len - 16) (drop 16 frame)) ≡ Ok m.1 → IsFrame untyped_layout (message_zeroed frame) h m.1
 
     there : Q (header_in same frame)
     there least whole reads =
         let n = number_in 4 0 frame in
         let body : List ℕ = take (n - 16) (drop 16 frame) in
-        let sized : length body ≡ n - 16 = length-take-le (n - 16) (drop 16 frame) (omega (arith, whole, length-drop 16 frame)) in
+        let sized : length body ≡ n - 16 = length-take-le (n - 16) (drop 16 frame)
+            (omega (arith, whole, length-drop 16 frame)) in
         let again = payload-again (number_in 2 4 frame) (flags_of (number_in 2 6 frame)) body m.1 reads in
         let p : List ℕ = payload_zeroed (kind_of (number_in 2 4 frame) (flags_of (number_in 2 6 frame)) body) body in
         let zeros : List ℕ = replicate (length frame - n) 0 in
         let front : length (take 16 frame) ≡ 16 = length-take-le 16 frame (omega (arith, whole)) in
         let grouped : message_zeroed frame ≡ take 16 frame ++ (p ++ zeros) = append_assoc (take 16 frame) p zeros in
-        let long : length (message_zeroed frame) ≡ length frame = omega (arith, ap length grouped, length-append (take 16 frame) (p ++ zeros), length-append p zeros, front, again.long, sized, length-replicate {A = ℕ} (length frame - n) 0, whole) in
-        let head : take 16 (message_zeroed frame) ≡ take 16 frame = ap (λ (x : List ℕ). take 16 x) grouped ∙ take_at (take 16 frame) (p ++ zeros) 16 front in
-        let after : drop 16 (message_zeroed frame) ≡ p ++ zeros = ap (λ (x : List ℕ). drop 16 x) grouped ∙ drop_at (take 16 frame) (p ++ zeros) 16 front in
-        let inner : take (n - 16) (drop 16 (message_zeroed frame)) ≡ p = ap (λ (x : List ℕ). take (n - 16) x) after ∙ take_at p zeros (n - 16) (again.long ∙ sized) in
+        let long : length (message_zeroed frame) ≡ length frame =
+            omega (arith, ap length grouped, length-append (take 16 frame) (p ++ zeros), length-append p zeros, front,
+            again.long, sized, length-replicate {A = ℕ} (length frame - n) 0, whole) in
+        let head : take 16 (message_zeroed frame) ≡ take 16 frame = ap (λ (x : List ℕ). take 16 x) grouped
+            ∙ take_at (take 16 frame) (p ++ zeros) 16 front in
+        let after : drop 16 (message_zeroed frame) ≡ p ++ zeros = ap (λ (x : List ℕ). drop 16 x) grouped
+            ∙ drop_at (take 16 frame) (p ++ zeros) 16 front in
+        let inner : take (n - 16) (drop 16 (message_zeroed frame)) ≡ p = ap (λ (x : List ℕ). take (n - 16) x) after
+            ∙ take_at p zeros (n - 16) (again.long ∙ sized) in
         record {
           header_is = header-same frame (message_zeroed frame) (omega (arith, whole)) (omega (arith, long, whole)) head;
           least = least;
           whole = long ∙ whole;
-          payload_is = ap (payload_in same all (number_in 2 4 frame) (flags_of (number_in 2 6 frame))) inner ∙ again.reads;
+          payload_is = ap (payload_in same all (number_in 2 4 frame) (flags_of (number_in 2 6 frame))) inner
+              ∙ again.reads;
         }
 
 -- the messages of a datagram are those of the datagram with zeros for padding
-pub datagram-again : (b : List ℕ) (ms : List (Message ℕ (List ℕ))) → AreFrames untyped_layout b ms → AreFrames untyped_layout (datagram_zeroed b) ms
+pub datagram-again : (b : List ℕ) (ms : List (Message ℕ (List ℕ))) → AreFrames untyped_layout b ms
+    → AreFrames untyped_layout (datagram_zeroed b) ms
 datagram-again b ms are =
-    frames-again untyped_layout message_length message_zeroed message-states message-again (length b) b ms (omega arith) are
+    frames-again untyped_layout message_length message_zeroed message-states message-again (length b) b ms
+        (omega arith) are
 
 -- as many bytes
-pub datagram-length : (b : List ℕ) (ms : List (Message ℕ (List ℕ))) → AreFrames untyped_layout b ms → length (datagram_zeroed b) ≡ length b
+pub datagram-length : (b : List ℕ) (ms : List (Message ℕ (List ℕ))) → AreFrames untyped_layout b ms
+    → length (datagram_zeroed b) ≡ length b
 datagram-length b ms are =
-    frames-length untyped_layout message_length message_zeroed message-states (λ frame m is. (message-again frame m is).whole ∙ sym is.whole) (length b) b ms (omega arith) are
+    frames-length untyped_layout message_length message_zeroed message-states
+        (λ frame m is. (message-again frame m is).whole ∙ sym is.whole) (length b) b ms (omega arith) are

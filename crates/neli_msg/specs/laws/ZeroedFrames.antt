@@ -34,14 +34,17 @@ bytes-drop n s bytes =
     bytes-back (take n s) (drop n s) (subst (λ (x : List ℕ). AreBytes x) (sym (take-append-drop n s)) bytes)
 
 -- the bytes of the number at place i, and then m bytes
-pub place : (n i m : ℕ) (s rest : List ℕ) → i + n ≤ length s → AreBytes s → rest ≡ take m (drop (i + n) s) → little_bytes n (number_in n i s) ++ rest ≡ take (n + m) (drop i s)
+pub place : (n i m : ℕ) (s rest : List ℕ) → i + n ≤ length s → AreBytes s → rest ≡ take m (drop (i + n) s)
+    → little_bytes n (number_in n i s) ++ rest ≡ take (n + m) (drop i s)
 place n i m s rest le bytes after =
-    ap (λ (front : List ℕ). front ++ rest) (little_bytes-number n (drop i s) (omega (arith, length-drop i s)) (bytes-drop i s bytes))
+    ap (λ (front : List ℕ). front ++ rest) (little_bytes-number n (drop i s) (omega (arith, length-drop i s))
+        (bytes-drop i s bytes))
     ∙ ap (λ (back : List ℕ). take n (drop i s) ++ back) (after ∙ ap (λ (x : List ℕ). take m x) (sym (drop-drop n i s)))
     ∙ sym (take-add n m (drop i s))
 
 -- the bytes of the number at place i
-pub last_place : (n i : ℕ) (s : List ℕ) → i + n ≤ length s → AreBytes s → little_bytes n (number_in n i s) ≡ take n (drop i s)
+pub last_place : (n i : ℕ) (s : List ℕ) → i + n ≤ length s → AreBytes s
+    → little_bytes n (number_in n i s) ≡ take n (drop i s)
 last_place n i s le bytes =
     little_bytes-number n (drop i s) (omega (arith, length-drop i s)) (bytes-drop i s bytes)
 
@@ -53,7 +56,9 @@ module _ (stated : List ℕ → ℕ) (zeroed : List ℕ → List ℕ) where
   frames_by-nil zero = refl
   frames_by-nil (suc fuel) = refl
 
-  pub frames_by-step : (fuel : ℕ) (frame rest : List ℕ) → 0 < length frame → length frame ≡ align (stated (frame ++ rest)) → frames_by stated zeroed (suc fuel) (frame ++ rest) ≡ zeroed frame ++ frames_by stated zeroed fuel rest
+  pub frames_by-step : (fuel : ℕ) (frame rest : List ℕ) → 0 < length frame
+      → length frame ≡ align (stated (frame ++ rest)) → frames_by stated zeroed (suc fuel) (frame ++ rest)
+      ≡ zeroed frame ++ frames_by stated zeroed fuel rest
   unfolding frames_by
   frames_by-step fuel [] rest some len = absurd (omega arith)
   frames_by-step fuel (b ∷ f) rest some len =
@@ -65,11 +70,16 @@ module _ (stated : List ℕ → ℕ) (zeroed : List ℕ → List ℕ) where
 -- frames of a layout that takes a byte at least and states its length in its own bytes
 pub record States {H V : Type 0} (layout : Layout H V) (stated : List ℕ → ℕ) : Type 0 where
   pub some : (frame : List ℕ) (h : H) (v : V) → IsFrame layout frame h v → 0 < length frame
-  pub whole : (frame rest : List ℕ) (h : H) (v : V) → IsFrame layout frame h v → length frame ≡ align (stated (frame ++ rest))
+  pub whole : (frame rest : List ℕ) (h : H) (v : V) → IsFrame layout frame h v
+      → length frame ≡ align (stated (frame ++ rest))
 
-module _ {H V : Type 0} (layout : Layout H V) (stated : List ℕ → ℕ) (zeroed : List ℕ → List ℕ) (states : States layout stated) where
+module _ {H V : Type 0} (layout : Layout H V) (stated : List ℕ → ℕ) (zeroed : List ℕ
+    → List ℕ) (states : States layout stated) where
   -- what is written of each frame is what is put in its place
-  pub frames-wire : (wire : H × V → Wire) (P : H × V → Type 0) → ((frame : List ℕ) (a : H × V) → AreBytes frame → P a → IsFrame layout frame a.0 a.1 → wire a ≡ Ok (zeroed frame)) → (fuel : ℕ) (s : List ℕ) (items : List (H × V)) → AreBytes s → length s ≤ fuel → All P items → AreFrames layout s items → wire_all wire items ≡ Ok (frames_by stated zeroed fuel s)
+  pub frames-wire : (wire : H × V → Wire) (P : H × V → Type 0)
+      → ((frame : List ℕ) (a : H × V) → AreBytes frame → P a → IsFrame layout frame a.0 a.1
+      → wire a ≡ Ok (zeroed frame)) → (fuel : ℕ) (s : List ℕ) (items : List (H × V)) → AreBytes s → length s ≤ fuel
+      → All P items → AreFrames layout s items → wire_all wire items ≡ Ok (frames_by stated zeroed fuel s)
   frames-wire wire P each fuel s [] bytes le ps are = rw (are, frames_by-nil stated zeroed fuel) refl
   frames-wire wire P each zero s (a ∷ items) bytes le ps are =
       absurd (omega (arith, ap length are.2, length-append are.0 are.1, states.some are.0 a.0 a.1 are.3))
@@ -78,12 +88,15 @@ module _ {H V : Type 0} (layout : Layout H V) (stated : List ℕ → ℕ) (zeroe
       let parts : AreBytes (are.0 ++ are.1) = subst (λ (x : List ℕ). AreBytes x) are.2 bytes in
       let first = each are.0 a (bytes-front are.0 are.1 parts) (All-head P a items ps) are.3 in
       let shorter : length are.1 ≤ fuel = omega (arith, ap length are.2, length-append are.0 are.1) in
-      let others = frames-wire wire P each fuel are.1 items (bytes-back are.0 are.1 parts) shorter (All-tail P a items ps) are.4 in
+      let others = frames-wire wire P each fuel are.1 items (bytes-back are.0 are.1 parts) shorter
+          (All-tail P a items ps) are.4 in
       let step = frames_by-step stated zeroed fuel are.0 are.1 some (states.whole are.0 are.1 a.0 a.1 are.3) in
       rw (are.2, step, first, others) refl
 
   -- what is put in place of frames of some length has the same length
-  pub frames-length : ((frame : List ℕ) (a : H × V) → IsFrame layout frame a.0 a.1 → length (zeroed frame) ≡ length frame) → (fuel : ℕ) (s : List ℕ) (items : List (H × V)) → length s ≤ fuel → AreFrames layout s items → length (frames_by stated zeroed fuel s) ≡ length s
+  pub frames-length : ((frame : List ℕ) (a : H × V) → IsFrame layout frame a.0 a.1
+      → length (zeroed frame) ≡ length frame) → (fuel : ℕ) (s : List ℕ) (items : List (H × V)) → length s ≤ fuel
+      → AreFrames layout s items → length (frames_by stated zeroed fuel s) ≡ length s
   frames-length each fuel s [] le are = rw (are, frames_by-nil stated zeroed fuel) refl
   frames-length each zero s (a ∷ items) le are =
       absurd (omega (arith, ap length are.2, length-append are.0 are.1, states.some are.0 a.0 a.1 are.3))
@@ -93,10 +106,13 @@ module _ {H V : Type 0} (layout : Layout H V) (stated : List ℕ → ℕ) (zeroe
       let first = each are.0 a are.3 in
       let others = frames-length each fuel are.1 items shorter are.4 in
       let step = frames_by-step stated zeroed fuel are.0 are.1 some (states.whole are.0 are.1 a.0 a.1 are.3) in
-      rw (are.2, step) (length-append (zeroed are.0) (frames_by stated zeroed fuel are.1) ∙ rw (first, others) (sym (length-append are.0 are.1)))
+      rw (are.2, step) (length-append (zeroed are.0) (frames_by stated zeroed fuel are.1)
+          ∙ rw (first, others) (sym (length-append are.0 are.1)))
 
   -- frames that are put in place of frames are frames again
-  pub frames-again : ((frame : List ℕ) (a : H × V) → IsFrame layout frame a.0 a.1 → IsFrame layout (zeroed frame) a.0 a.1) → (fuel : ℕ) (s : List ℕ) (items : List (H × V)) → length s ≤ fuel → AreFrames layout s items → AreFrames layout (frames_by stated zeroed fuel s) items
+  pub frames-again : ((frame : List ℕ) (a : H × V) → IsFrame layout frame a.0 a.1
+      → IsFrame layout (zeroed frame) a.0 a.1) → (fuel : ℕ) (s : List ℕ) (items : List (H × V)) → length s ≤ fuel
+      → AreFrames layout s items → AreFrames layout (frames_by stated zeroed fuel s) items
   frames-again each fuel s [] le are = rw (are, frames_by-nil stated zeroed fuel) refl
   frames-again each zero s (a ∷ items) le are =
       absurd (omega (arith, ap length are.2, length-append are.0 are.1, states.some are.0 a.0 a.1 are.3))
@@ -104,8 +120,10 @@ module _ {H V : Type 0} (layout : Layout H V) (stated : List ℕ → ℕ) (zeroe
       let some = states.some are.0 a.0 a.1 are.3 in
       let shorter : length are.1 ≤ fuel = omega (arith, ap length are.2, length-append are.0 are.1) in
       let step = frames_by-step stated zeroed fuel are.0 are.1 some (states.whole are.0 are.1 a.0 a.1 are.3) in
-      let same : frames_by stated zeroed (suc fuel) s ≡ zeroed are.0 ++ frames_by stated zeroed fuel are.1 = ap (λ (x : List ℕ). frames_by stated zeroed (suc fuel) x) are.2 ∙ step in
-      (zeroed are.0, frames_by stated zeroed fuel are.1, same, each are.0 a are.3, frames-again each fuel are.1 items shorter are.4)
+      let same : frames_by stated zeroed (suc fuel) s ≡ zeroed are.0 ++ frames_by stated zeroed fuel are.1 =
+          ap (λ (x : List ℕ). frames_by stated zeroed (suc fuel) x) are.2 ∙ step in
+      (zeroed are.0, frames_by stated zeroed fuel are.1, same, each are.0 a are.3,
+          frames-again each fuel are.1 items shorter are.4)
 
   -- frames make a multiple of four bytes
   pub frames-aligned : (s : List ℕ) (items : List (H × V)) → AreFrames layout s items → align (length s) ≡ length s
@@ -115,7 +133,8 @@ module _ {H V : Type 0} (layout : Layout H V) (stated : List ℕ → ℕ) (zeroe
       omega (arith, later, ap length are.2, length-append are.0 are.1, are.3.whole)
 
 -- all of a list of values is what another list's is
-pub wire_all-map : {A B : Type 0} (wire : B → Wire) (of : A → B) (xs : List A) → wire_all wire (map of xs) ≡ wire_all (λ x. wire (of x)) xs
+pub wire_all-map : {A B : Type 0} (wire : B → Wire) (of : A → B) (xs : List A)
+    → wire_all wire (map of xs) ≡ wire_all (λ x. wire (of x)) xs
 wire_all-map wire of [] = refl
 wire_all-map wire of (x ∷ xs) = ap (λ (w : Wire). wire (of x) +++ w) (wire_all-map wire of xs)
 

@@ -6,7 +6,8 @@ use Rattle.neli_wire.specs.DeError.TheVariants.{InvalidInput, Memory}
 use Rattle.neli_payloads.specs.HardwareAddress.{hardware_address}
 
 -- one of two outcomes is neither of these refusals
-either-not : (b : Bool) (s : List ℕ) (n : ℕ) (d : DeError) → InvalidInput n ≢ d → cond b (Ok s) (Err (InvalidInput n)) ≢ Err d
+either-not : (b : Bool) (s : List ℕ) (n : ℕ) (d : DeError) → InvalidInput n ≢ d
+    → cond b (Ok s) (Err (InvalidInput n)) ≢ Err d
 either-not true s n d f e = cc
 either-not false s n d f e = f cc
 

@@ -8,7 +8,8 @@ use Rattle.neli_payloads.specs.IfaCacheinfo.{IsPlainIfaCacheinfo, ifa_cacheinfo_
 pub ifa_cacheinfo-width : (v : IfaCacheinfo) → length (ifa_cacheinfo_bytes v) ≡ 16
 ifa_cacheinfo-width v = refl
 
-pub ifa_cacheinfo-reads_back : (v : IfaCacheinfo) → IsPlainIfaCacheinfo v → ifa_cacheinfo_header (ifa_cacheinfo_bytes v) ≡ v
+pub ifa_cacheinfo-reads_back : (v : IfaCacheinfo) → IsPlainIfaCacheinfo v
+    → ifa_cacheinfo_header (ifa_cacheinfo_bytes v) ≡ v
 ifa_cacheinfo-reads_back v is =
     rw (
       number-back 4 v.ifa_prefered _ is.ifa_prefered,
@@ -17,7 +18,8 @@ ifa_cacheinfo-reads_back v is =
       number-back 4 v.tstamp [] is.tstamp,
     ) refl
 
-pub ifa_cacheinfo-writes_back : (s : List ℕ) → length s ≡ 16 → AreBytes s → ifa_cacheinfo_bytes (ifa_cacheinfo_header s) ≡ s
+pub ifa_cacheinfo-writes_back : (s : List ℕ) → length s ≡ 16 → AreBytes s
+    → ifa_cacheinfo_bytes (ifa_cacheinfo_header s) ≡ s
 ifa_cacheinfo-writes_back s size small =
     place 4 0 12 s _ _ size small refl
     (place 4 4 8 s _ _ size small refl

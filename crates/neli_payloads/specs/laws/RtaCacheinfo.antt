@@ -8,7 +8,8 @@ use Rattle.neli_payloads.specs.RtaCacheinfo.{IsPlainRtaCacheinfo, rta_cacheinfo_
 pub rta_cacheinfo-width : (v : RtaCacheinfo) → length (rta_cacheinfo_bytes v) ≡ 32
 rta_cacheinfo-width v = refl
 
-pub rta_cacheinfo-reads_back : (v : RtaCacheinfo) → IsPlainRtaCacheinfo v → rta_cacheinfo_header (rta_cacheinfo_bytes v) ≡ v
+pub rta_cacheinfo-reads_back : (v : RtaCacheinfo) → IsPlainRtaCacheinfo v
+    → rta_cacheinfo_header (rta_cacheinfo_bytes v) ≡ v
 rta_cacheinfo-reads_back v is =
     rw (
       number-back 4 v.rta_clntref _ is.rta_clntref,
@@ -21,7 +22,8 @@ rta_cacheinfo-reads_back v is =
       number-back 4 v.rta_tsage [] is.rta_tsage,
     ) refl
 
-pub rta_cacheinfo-writes_back : (s : List ℕ) → length s ≡ 32 → AreBytes s → rta_cacheinfo_bytes (rta_cacheinfo_header s) ≡ s
+pub rta_cacheinfo-writes_back : (s : List ℕ) → length s ≡ 32 → AreBytes s
+    → rta_cacheinfo_bytes (rta_cacheinfo_header s) ≡ s
 rta_cacheinfo-writes_back s size small =
     place 4 0 28 s _ _ size small refl
     (place 4 4 24 s _ _ size small refl

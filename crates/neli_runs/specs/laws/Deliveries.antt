@@ -24,8 +24,10 @@ module _ {ST SP RT RP : Type 0} where
   -- what was delivered, with what a command adds
   abbrev pub with_gain : ℕ → ℕ → History ST SP RT RP → Command ST SP → List Delivery → List Delivery
   with_gain port k h (command.Datagram b groups) before =
-      if is_handle_open k h then before ++ datagram_share port (λ q. is_open q h) (list_of_handle k h) (cut_of untyped_layout b.items) groups else before
-  with_gain port k h (command.Fault e) before = if is_handle_open k h then before ++ fault_share (list_of_handle k h) e else before
+      if is_handle_open k h then before ++ datagram_share port (λ q. is_open q h) (list_of_handle k h)
+          (cut_of untyped_layout b.items) groups else before
+  with_gain port k h (command.Fault e) before = if is_handle_open k h then before ++ fault_share (list_of_handle k h) e
+      else before
   with_gain port k h (command.SetNextSeq n) before = before
   with_gain port k h (command.Send t f p) before = before
   with_gain port k h (command.Read j) before = before
@@ -43,15 +45,26 @@ module _ {ST SP RT RP : Type 0} where
   live_at : ℕ → Moment ST SP RT RP → Bool
   live_at k m = is_handle_open k m.1
 
-  one-more : (port k : ℕ) (ms : List (Moment ST SP RT RP)) (c : Command ST SP) (h : History ST SP RT RP) → flat_map (by_moment port k) (filter (live_at k) (ms ++ (c, h) ∷ [])) ≡ flat_map (by_moment port k) (filter (live_at k) ms) ++ (if is_handle_open k h then handed_over port k c h else [])
+  one-more : (port k : ℕ) (ms : List (Moment ST SP RT RP)) (c : Command ST SP) (h : History ST SP RT RP)
+      → flat_map (by_moment port k) (filter (live_at k) (ms ++ (c, h) ∷ []))
+      ≡ flat_map (by_moment port k) (filter (live_at k) ms) ++ (if is_handle_open k h then handed_over port k c h
+      else [])
   unfolding by_moment live_at
-  one-more port k [] c h = elim (is_handle_open k h) as (λ b. flat_map (by_moment port k) (if b then (c, h) ∷ [] else []) ≡ (if b then handed_over port k c h else [])) [ true ↦ append-nil (handed_over port k c h) | false ↦ refl ]
-  one-more port k (m ∷ ms) c h = elim (is_handle_open k m.1) as (λ b. flat_map (by_moment port k) (if b then m ∷ filter (live_at k) (ms ++ (c, h) ∷ []) else filter (live_at k) (ms ++ (c, h) ∷ [])) ≡ flat_map (by_moment port k) (if b then m ∷ filter (live_at k) ms else filter (live_at k) ms) ++ (if is_handle_open k h then handed_over port k c h else [])) [
-    | true ↦ ap (λ zs. by_moment port k m ++ zs) (one-more port k ms c h) ∙ sym (append_assoc (by_moment port k m) (flat_map (by_moment port k) (filter (live_at k) ms)) (if is_handle_open k h then handed_over port k c h else []))
+  one-more port k [] c h = elim (is_handle_open k h) as
+      (λ b. flat_map (by_moment port k) (if b then (c, h) ∷ [] else []) ≡ (if b then handed_over port k c h
+      else [])) [ true ↦ append-nil (handed_over port k c h) | false ↦ refl ]
+  one-more port k (m ∷ ms) c h = elim (is_handle_open k m.1) as
+      (λ b. flat_map (by_moment port k) (if b then m ∷ filter (live_at k) (ms ++ (c, h) ∷ [])
+      else filter (live_at k) (ms ++ (c, h) ∷ [])) ≡ flat_map (by_moment port k) (if b then m ∷ filter (live_at k) ms
+      else filter (live_at k) ms) ++ (if is_handle_open k h then handed_over port k c h else [])) [
+    | true ↦ ap (λ zs. by_moment port k m ++ zs) (one-more port k ms c h)
+        ∙ sym (append_assoc (by_moment port k m) (flat_map (by_moment port k) (filter (live_at k) ms))
+        (if is_handle_open k h then handed_over port k c h else []))
     | false ↦ one-more port k ms c h
   ]
 
-  gain-is : (port k : ℕ) (h : History ST SP RT RP) (c : Command ST SP) (before : List Delivery) → before ++ (if is_handle_open k h then handed_over port k c h else []) ≡ with_gain port k h c before
+  gain-is : (port k : ℕ) (h : History ST SP RT RP) (c : Command ST SP) (before : List Delivery)
+      → before ++ (if is_handle_open k h then handed_over port k c h else []) ≡ with_gain port k h c before
   gain-is port k h (command.Datagram b groups) before = gain-some (is_handle_open k h) before _
   gain-is port k h (command.Fault e) before = gain-some (is_handle_open k h) before _
   gain-is port k h (command.SetNextSeq n) before = gain-nothing (is_handle_open k h) before
@@ -60,7 +73,8 @@ module _ {ST SP RT RP : Type 0} where
   gain-is port k h (command.Close j) before = gain-nothing (is_handle_open k h) before
 
   -- a command more adds what it hands over
-  pub deliveries-more : (port k : ℕ) (e : Event ST SP RT RP) (h : History ST SP RT RP) → deliveries port k (e ∷ h) ≡ deliveries port k h ++ (if is_handle_open k h then handed_over port k e.0 h else [])
+  pub deliveries-more : (port k : ℕ) (e : Event ST SP RT RP) (h : History ST SP RT RP)
+      → deliveries port k (e ∷ h) ≡ deliveries port k h ++ (if is_handle_open k h then handed_over port k e.0 h else [])
   unfolding by_moment live_at
   deliveries-more port k e h = one-more port k (moments h) e.0 h
 

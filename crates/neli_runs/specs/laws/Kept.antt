@@ -26,7 +26,9 @@ abbrev pub multicast : HandleState
 multicast = record { number = None; needs_ack = false; single_given = false; ended = false }
 
 -- handle k, given and not closed, whose first deliveries were read as these items
-pub record IsKept {ST SP K P V : Type 0} (type_of : ℕ → K) (number_of : K → ℕ) (view : P → V) (size : P → ℕ) (read : List ℕ → Result V DeError) (port : ℕ) (pending : Pending) (k : ℕ) (x : HandleState) (h : History ST SP K P) (readings : List (Item K P)) : Type 0 where
+pub record IsKept {ST SP K P V : Type 0} (type_of : ℕ → K) (number_of : K → ℕ) (view : P → V) (size : P
+    → ℕ) (read : List ℕ → Result V DeError) (port : ℕ) (pending : Pending) (k : ℕ) (x : HandleState)
+    (h : History ST SP K P) (readings : List (Item K P)) : Type 0 where
   pub live : is_handle_open k h ≡ true
   pub number : x.number ≡ list_of_handle k h
   pub needs : x.needs_ack ≡ needs_of k h
@@ -49,30 +51,41 @@ pub record IsFresh {ST SP K P : Type 0} (port k : ℕ) (h : History ST SP K P) :
 abbrev pub IsOwned : {ST SP K P : Type 0} → ℕ → History ST SP K P → Type 0
 IsOwned q h = (k : ℕ) × (is_handle_open k h ≡ true) × (list_of_handle k h ≡ Some q)
 
-module _ {ST SP K P V : Type 0} (type_of : ℕ → K) (number_of : K → ℕ) (view : P → V) (size : P → ℕ) (read : List ℕ → Result V DeError) where
+module _ {ST SP K P V : Type 0} (type_of : ℕ → K) (number_of : K → ℕ) (view : P → V) (size : P → ℕ) (read : List ℕ
+    → Result V DeError) where
   abbrev pub IsSlot : ℕ → Pending → ℕ → History ST SP K P → Option (Option HandleState) → Type 0
   IsSlot port pending k h None = IsFresh port k h
   IsSlot port pending k h (Some None) = is_handle_open k h ≡ false
-  IsSlot port pending k h (Some (Some x)) = (readings : List (Item K P)) × IsKept type_of number_of view size read port pending k x h readings
+  IsSlot port pending k h (Some (Some x)) = (readings : List (Item K P))
+      × IsKept type_of number_of view size read port pending k x h readings
 
-pub record Agrees {ST SP K P V : Type 0} (type_of : ℕ → K) (number_of : K → ℕ) (view : P → V) (size : P → ℕ) (read : List ℕ → Result V DeError) (port next count : ℕ) (pending : Pending) (slots : ℕ → Option (Option HandleState)) (h : History ST SP K P) : Type 0 where
+pub record Agrees {ST SP K P V : Type 0} (type_of : ℕ → K) (number_of : K → ℕ) (view : P → V) (size : P
+    → ℕ) (read : List ℕ → Result V DeError) (port next count : ℕ) (pending : Pending) (slots : ℕ
+    → Option (Option HandleState)) (h : History ST SP K P) : Type 0 where
   pub next_is : next ≡ next_number h
   pub count_is : count ≡ suc (requests_sent h)
   pub each : (k : ℕ) → IsSlot type_of number_of view size read port pending k h (slots k)
   pub owned : (q : ℕ) (ds : List Delivery) → pending (Some q) ≡ Some ds → IsOwned q h
-  pub one : (j k : ℕ) → is_handle_open j h ≡ true → is_handle_open k h ≡ true → list_of_handle j h ≡ list_of_handle k h → j ≡ k
+  pub one : (j k : ℕ) → is_handle_open j h ≡ true → is_handle_open k h ≡ true → list_of_handle j h ≡ list_of_handle k h
+      → j ≡ k
 
-module _ {ST SP K P V : Type 0} (type_of : ℕ → K) (number_of : K → ℕ) (view : P → V) (size : P → ℕ) (read : List ℕ → Result V DeError) where
+module _ {ST SP K P V : Type 0} (type_of : ℕ → K) (number_of : K → ℕ) (view : P → V) (size : P → ℕ) (read : List ℕ
+    → Result V DeError) where
   -- a session with this next number, these lists and these handles keeps this history
   abbrev pub Holds : ℕ → ℕ → Pending → Handles → History ST SP K P → Type 0
-  Holds port next pending handles h = Agrees type_of number_of view size read port next (length handles) pending (λ k. slice_get handles k) h
+  Holds port next pending handles h = Agrees type_of number_of view size read port next (length handles) pending
+      (λ k. slice_get handles k) h
 
   -- a command with this outcome leads from what is kept of any history to what is kept of it and the command, and the
   -- outcome is what is said
-  abbrev pub StepKeeps : (History ST SP K P → Command ST SP → Outcome ST SP K P → Type 0) → ℕ → ℕ → Pending → Handles → ℕ → Pending → Handles → Command ST SP → Outcome ST SP K P → Type 0
+  abbrev pub StepKeeps : (History ST SP K P → Command ST SP → Outcome ST SP K P → Type 0) → ℕ → ℕ → Pending → Handles
+      → ℕ → Pending → Handles → Command ST SP → Outcome ST SP K P → Type 0
   StepKeeps StepIsRight port next pending handles next' pending' handles' c o =
-      (h : History ST SP K P) → Holds port next pending handles h → StepIsRight h c o × Holds port next' pending' handles' ((c, o) ∷ h)
+      (h : History ST SP K P) → Holds port next pending handles h
+          → StepIsRight h c o × Holds port next' pending' handles' ((c, o) ∷ h)
 
 -- what holds of an outcome, whatever its command is
-abbrev pub StepIsRight : {ST SP K P V : Type 0} → (ℕ → K) → (K → ℕ) → (P → V) → (P → ℕ) → (List ℕ → Result V DeError) → (ST → ℕ) → (SP → Wire) → (SP → ℕ) → ℕ → History ST SP K P → Command ST SP → Outcome ST SP K P → Type 0
-StepIsRight type_of number view size read number_of wire wire_size port h c o = IsSent number_of wire wire_size port h c o × IsAnswered type_of number view size read port h c o
+abbrev pub StepIsRight : {ST SP K P V : Type 0} → (ℕ → K) → (K → ℕ) → (P → V) → (P → ℕ) → (List ℕ → Result V DeError)
+    → (ST → ℕ) → (SP → Wire) → (SP → ℕ) → ℕ → History ST SP K P → Command ST SP → Outcome ST SP K P → Type 0
+StepIsRight type_of number view size read number_of wire wire_size port h c o =
+    IsSent number_of wire wire_size port h c o × IsAnswered type_of number view size read port h c o

@@ -18,7 +18,8 @@ TellApart ([] ∷ Fss) each = TellApart Fss each.1
 TellApart ((F ∷ Fs) ∷ Fss) each = ((x y : Values (F ∷ Fs)) → each.0 x y ≡ true → x ≡ y) × TellApart Fss each.1
 
 -- then two choices of variant and fields that compare equal are one
-one_choice : (Fss : List (List Field)) (each : Each Bool Fss) → TellApart Fss each → (c d : Choice Fss) → by false false Fss each c d ≡ true → c ≡ d
+one_choice : (Fss : List (List Field)) (each : Each Bool Fss) → TellApart Fss each → (c d : Choice Fss)
+    → by false false Fss each c d ≡ true → c ≡ d
 one_choice [] each apart c d e = absurd c
 one_choice ([] ∷ Fss) each apart (inl x) (inl y) e = refl
 one_choice ([] ∷ Fss) each apart (inl x) (inr y) e = absurd (true≢false (sym e))
@@ -34,6 +35,7 @@ pub equality : {T : Type 0} {eq : T → T → Bool} → IsEquivalence eq → ((a
 equality {T} {eq} laws apart a b = (apart a b, λ e. sym (ap (eq a) e) ∙ laws.refl a)
 
 -- so is what an enum derives, where it tells its fields apart
-pub derived-equality : (N : Record) (each : Each Bool N.parts) → IsEquivalence (of_values N false false each) → TellApart N.parts each → IsEquality (of_values N false false each)
+pub derived-equality : (N : Record) (each : Each Bool N.parts) → IsEquivalence (of_values N false false each)
+    → TellApart N.parts each → IsEquality (of_values N false false each)
 derived-equality N each laws apart =
     equality laws (λ a b e. values_one N a b (one_choice N.parts each apart (N.as_values a) (N.as_values b) e))

@@ -24,10 +24,12 @@ pub record IsWide {A : Type 0} (read : List ℕ → Reading A) (n : ℕ) (value 
   pub brief : (s : List ℕ) → length s < n → read s ≡ Err short
 
 pub number_first : (n : ℕ) (s : List ℕ) → n ≤ length s → little_number n (take n s) ≡ little_number n s
-number_first n s le = sym (little_from-append n (take n s) (drop n s) (omega (arith, length-take-le n s le))) ∙ ap (little_number n) (take-append-drop n s)
+number_first n s le = sym (little_from-append n (take n s) (drop n s) (omega (arith, length-take-le n s le)))
+    ∙ ap (little_number n) (take-append-drop n s)
 
 -- the value that the next n bytes spell by their number
-pub value_at-wide_by : {A : Type 0} (n : ℕ) (of : ℕ → A) → IsWide (value_at n (λ bytes. of (little_number n bytes))) n (λ s. of (little_number n s))
+pub value_at-wide_by : {A : Type 0} (n : ℕ) (of : ℕ → A)
+    → IsWide (value_at n (λ bytes. of (little_number n bytes))) n (λ s. of (little_number n s))
 value_at-wide_by n of = record {
   long = λ s le. rw (le-ltb (length s) n le, number_first n s le) refl;
   brief = λ s lt. rw (lt-ltb (length s) n lt) refl;
@@ -36,7 +38,9 @@ value_at-wide_by n of = record {
 pub number_at-wide_by : (n : ℕ) → IsWide (number_at n) n (little_number n)
 number_at-wide_by n = value_at-wide_by n (λ x. x)
 
-pub then-wide : {A B : Type 0} (read : List ℕ → Reading A) (next : A → List ℕ → Reading B) (n m : ℕ) (v : List ℕ → A) (w : A → List ℕ → B) → IsWide read n v → ((x : A) → IsWide (next x) m (w x)) → IsWide (and_then read next) (n + m) (λ s. w (v s) (drop n s))
+pub then-wide : {A B : Type 0} (read : List ℕ → Reading A) (next : A → List ℕ → Reading B) (n m : ℕ) (v : List ℕ
+    → A) (w : A → List ℕ → B) → IsWide read n v → ((x : A) → IsWide (next x) m (w x))
+    → IsWide (and_then read next) (n + m) (λ s. w (v s) (drop n s))
 then-wide read next n m v w first after = record {
   long = λ s le.
       let one = first.long s (omega arith) in
@@ -55,20 +59,31 @@ done-wide x = record { long = λ s le. refl; brief = λ s lt. absurd (omega arit
 -- ---- field by field is by places
 
 -- a payload and its padding, one after the other
-chain : {V C : Type 0} (r : Result V DeError) (rest : List ℕ) (pad : List ℕ → Reading (List ℕ)) (w : V × List ℕ → Result C DeError) (k : V → Result C DeError) → ((v : V) → ((pad rest >>= λ q. done {A = V × List ℕ} (v, q.1)) >>= w) ≡ k v) → (((r >>= λ v. done {A = V × List ℕ} (v, rest)) >>= λ p. (pad p.1 >>= λ q. done {A = V × List ℕ} (p.0, q.1))) >>= w) ≡ (r >>= k)
+chain : {V C : Type 0} (r : Result V DeError) (rest : List ℕ) (pad : List ℕ → Reading (List ℕ)) (w : V × List ℕ
+    → Result C DeError) (k : V → Result C DeError) → ((v : V)
+    → ((pad rest >>= λ q. done {A = V × List ℕ} (v, q.1)) >>= w) ≡ k v)
+    → (((r >>= λ v. done {A = V × List ℕ} (v, rest)) >>= λ p. (pad p.1 >>= λ q. done {A = V × List ℕ} (p.0, q.1)))
+    >>= w) ≡ (r >>= k)
 chain (Ok v) rest pad w k same = same v
 chain (Err e) rest pad w k same = refl
 
-bind_twice : {A B C : Type 0} (r : Result A DeError) (f : A → Result B DeError) (g : B → Result C DeError) → ((r >>= f) >>= g) ≡ (r >>= λ v. (f v >>= g))
+bind_twice : {A B C : Type 0} (r : Result A DeError) (f : A → Result B DeError) (g : B → Result C DeError)
+    → ((r >>= f) >>= g) ≡ (r >>= λ v. (f v >>= g))
 bind_twice (Ok v) f g = refl
 bind_twice (Err e) f g = refl
 
 module _ {H V : Type 0} (layout : Layout H V) (s : List ℕ) (h : H) where
-  padding-is : (v : V) → layout.size ≤ length s → layout.size ≤ layout.length_of h → layout.length_of h ≤ length s → (bytes_at (align (layout.length_of h) - layout.length_of h) (drop (layout.length_of h - layout.size) (drop layout.size s)) >>= λ q. done {A = (H × V) × List ℕ} ((h, v), q.1)) ≡ cond (ltb (length s) (align (layout.length_of h))) (Err short) (Ok ((h, v), drop (align (layout.length_of h)) s))
+  padding-is : (v : V) → layout.size ≤ length s → layout.size ≤ layout.length_of h → layout.length_of h ≤ length s
+      → (bytes_at (align (layout.length_of h) - layout.length_of h)
+      (drop (layout.length_of h - layout.size) (drop layout.size s)) >>= λ q. done {A = (H × V) × List ℕ} ((h, v), q.1))
+      ≡ cond (ltb (length s) (align (layout.length_of h))) (Err short)
+      (Ok ((h, v), drop (align (layout.length_of h)) s))
   padding-is v head least le =
       let len = layout.length_of h in
-      let at : drop (len - layout.size) (drop layout.size s) ≡ drop len s = drop-drop (len - layout.size) layout.size s ∙ ap (λ (n : ℕ). drop n s) (omega arith) in
-      let end : drop (align len - len) (drop len s) ≡ drop (align len) s = drop-drop (align len - len) len s ∙ ap (λ (n : ℕ). drop n s) (omega arith) in
+      let at : drop (len - layout.size) (drop layout.size s) ≡ drop len s = drop-drop (len - layout.size) layout.size s
+          ∙ ap (λ (n : ℕ). drop n s) (omega arith) in
+      let end : drop (align len - len) (drop len s) ≡ drop (align len) s = drop-drop (align len - len) len s
+          ∙ ap (λ (n : ℕ). drop n s) (omega arith) in
       let dropped = length-drop len s in
       elim (cases_lt (length s) (align len)) [
         | inl few ↦
@@ -79,7 +94,9 @@ module _ {H V : Type 0} (layout : Layout H V) (s : List ℕ) (h : H) where
             rw (at, inner, le-ltb (length s) (align len) enough, end) refl
       ]
 
-  padded_payload_at-is : layout.size ≤ length s → (padded_payload_at (layout.payload_of h) layout.size (layout.length_of h) (drop layout.size s) >>= λ v. done {A = (H × V) × List ℕ} ((h, v.0), v.1)) ≡ frame_after layout h s
+  padded_payload_at-is : layout.size ≤ length s → (padded_payload_at (layout.payload_of h) layout.size
+      (layout.length_of h) (drop layout.size s) >>= λ v. done {A = (H × V) × List ℕ} ((h, v.0), v.1))
+      ≡ frame_after layout h s
   padded_payload_at-is head =
       let len = layout.length_of h in
       let dropped = length-drop layout.size s in
@@ -91,29 +108,38 @@ module _ {H V : Type 0} (layout : Layout H V) (s : List ℕ) (h : H) where
                   let inner : ltb (length (drop layout.size s)) (len - layout.size) ≡ true = lt-ltb _ _ (omega arith) in
                   rw (le-ltb len layout.size least, inner, lt-ltb (length s) len few) refl
               | inr enough ↦
-                  let inner : ltb (length (drop layout.size s)) (len - layout.size) ≡ false = le-ltb _ _ (omega arith) in
+                  let inner : ltb (length (drop layout.size s)) (len - layout.size) ≡ false =
+                      le-ltb _ _ (omega arith) in
                   rw (le-ltb len layout.size least, inner, le-ltb (length s) len enough)
-                  (chain (layout.payload_of h (take (len - layout.size) (drop layout.size s))) (drop (len - layout.size) (drop layout.size s)) (bytes_at (align len - len)) _ _
-                  (λ v. bind_twice (bytes_at (align len - len) (drop (len - layout.size) (drop layout.size s))) _ _ ∙ padding-is v head least enough))
+                  (chain (layout.payload_of h (take (len - layout.size) (drop layout.size s)))
+                      (drop (len - layout.size) (drop layout.size s)) (bytes_at (align len - len)) _ _
+                  (λ v. bind_twice (bytes_at (align len - len) (drop (len - layout.size) (drop layout.size s))) _ _
+                      ∙ padding-is v head least enough))
             ]
       ]
 
 -- reading a header and then what it states is reading by places
-pub header_then-is : {H V : Type 0} (layout : Layout H V) (header_at : List ℕ → Reading H) → IsWide header_at layout.size layout.header_of → (s : List ℕ) → header_then header_at layout.length_of layout.size layout.payload_of s ≡ frame_at layout s
+pub header_then-is : {H V : Type 0} (layout : Layout H V) (header_at : List ℕ → Reading H)
+    → IsWide header_at layout.size layout.header_of → (s : List ℕ)
+    → header_then header_at layout.length_of layout.size layout.payload_of s ≡ frame_at layout s
 unfolding frame_at
 header_then-is layout header_at wide s =
     elim (cases_lt (length s) layout.size) [
       | inl few ↦ rw (wide.brief s few, lt-ltb (length s) layout.size few) refl
-      | inr enough ↦ rw (wide.long s enough, le-ltb (length s) layout.size enough) (padded_payload_at-is layout s (layout.header_of s) enough)
+      | inr enough ↦ rw (wide.long s enough, le-ltb (length s) layout.size enough)
+          (padded_payload_at-is layout s (layout.header_of s) enough)
     ]
 
 -- the same for where memory is taken
-pub header_then_takes_memory-is : {H V : Type 0} (layout : Layout H V) (header_at : List ℕ → Reading H) (takes : H → List ℕ → Type 0) → IsWide header_at layout.size layout.header_of → (s : List ℕ) → header_then_takes_memory header_at layout.length_of layout.size takes s → frame_takes_memory layout takes s
+pub header_then_takes_memory-is : {H V : Type 0} (layout : Layout H V) (header_at : List ℕ → Reading H) (takes : H
+    → List ℕ → Type 0) → IsWide header_at layout.size layout.header_of → (s : List ℕ)
+    → header_then_takes_memory header_at layout.length_of layout.size takes s → frame_takes_memory layout takes s
 header_then_takes_memory-is layout header_at takes wide s h =
     elim (cases_lt (length s) layout.size) [
       | inl few ↦ absurd (rw (wide.brief s few) at h)
       | inr enough ↦
-          let body : padded_payload_takes_memory (takes (layout.header_of s)) layout.size (layout.length_of (layout.header_of s)) (drop layout.size s) = rw (wide.long s enough) at h in
+          let body : padded_payload_takes_memory (takes (layout.header_of s)) layout.size
+              (layout.length_of (layout.header_of s)) (drop layout.size s) = rw (wide.long s enough) at h in
           (enough, body.0, omega (arith, body.1.0, length-drop layout.size s), body.1.1)
     ]
 
@@ -124,7 +150,8 @@ pub number_in-take : (n i m : ℕ) (s : List ℕ) → i + n ≤ m → m ≤ leng
 number_in-take n i m s le long =
     let len : length (take m s) ≡ m = length-take-le m s long in
     let more : number_in n i (take m s ++ drop m s) ≡ number_in n i (take m s) =
-    ap (little_number n) (drop-append-le i (take m s) (drop m s) (omega arith)) ∙ little_from-append n (drop i (take m s)) (drop m s) (omega (arith, length-drop i (take m s))) in
+    ap (little_number n) (drop-append-le i (take m s) (drop m s) (omega arith))
+        ∙ little_from-append n (drop i (take m s)) (drop m s) (omega (arith, length-drop i (take m s))) in
     sym more ∙ ap (number_in n i) (take-append-drop m s)
 
 -- what a header says is in its own bytes
@@ -132,7 +159,8 @@ pub record IsPlaced {H V : Type 0} (layout : Layout H V) : Type 0 where
   pub own : (s : List ℕ) → layout.size ≤ length s → layout.header_of (take layout.size s) ≡ layout.header_of s
 
 module _ {H V : Type 0} (layout : Layout H V) (placed : IsPlaced layout) where
-  header-append : (frame rest : List ℕ) → layout.size ≤ length frame → layout.header_of (frame ++ rest) ≡ layout.header_of frame
+  header-append : (frame rest : List ℕ) → layout.size ≤ length frame
+      → layout.header_of (frame ++ rest) ≡ layout.header_of frame
   header-append frame rest le =
       sym (placed.own (frame ++ rest) (omega (arith, length-append frame rest)))
       ∙ ap layout.header_of (take-append-le layout.size frame rest le)
@@ -142,12 +170,16 @@ module _ {H V : Type 0} (layout : Layout H V) (placed : IsPlaced layout) where
   align-le n = omega arith
 
   -- the body of a frame is read past its end as within it
-  payload-append : (n : ℕ) (frame rest : List ℕ) → layout.size ≤ n → n ≤ length frame → take (n - layout.size) (drop layout.size (frame ++ rest)) ≡ take (n - layout.size) (drop layout.size frame)
+  payload-append : (n : ℕ) (frame rest : List ℕ) → layout.size ≤ n → n ≤ length frame
+      → take (n - layout.size) (drop layout.size (frame ++ rest)) ≡ take (n - layout.size) (drop layout.size frame)
   payload-append n frame rest least le =
-      ap (take (n - layout.size)) (drop-append-le layout.size frame rest (omega arith)) ∙ take-append-le (n - layout.size) (drop layout.size frame) rest (omega (arith, length-drop layout.size frame))
+      ap (take (n - layout.size)) (drop-append-le layout.size frame rest (omega arith))
+          ∙ take-append-le (n - layout.size) (drop layout.size frame) rest
+          (omega (arith, length-drop layout.size frame))
 
   -- what begins with a frame is read as that frame
-  pub frame_at-frame : (frame rest : List ℕ) (h : H) (v : V) → IsFrame layout frame h v → frame_at layout (frame ++ rest) ≡ Ok ((h, v), rest)
+  pub frame_at-frame : (frame rest : List ℕ) (h : H) (v : V) → IsFrame layout frame h v
+      → frame_at layout (frame ++ rest) ≡ Ok ((h, v), rest)
   unfolding frame_at
   frame_at-frame frame rest h v is =
       let n = layout.length_of h in
@@ -159,13 +191,15 @@ module _ {H V : Type 0} (layout : Layout H V) (placed : IsPlaced layout) where
       let t2 : ltb n layout.size ≡ false = le-ltb _ _ is.least in
       let t3 : ltb (length (frame ++ rest)) n ≡ false = le-ltb _ _ (omega (arith, is.whole)) in
       let t4 : ltb (length (frame ++ rest)) (align n) ≡ false = le-ltb _ _ (omega (arith, is.whole)) in
-      let body : layout.payload_of h (take (n - layout.size) (drop layout.size (frame ++ rest))) ≡ Ok v = ap (layout.payload_of h) (payload-append n frame rest is.least (omega (arith, is.whole))) ∙ is.payload_is in
+      let body : layout.payload_of h (take (n - layout.size) (drop layout.size (frame ++ rest))) ≡ Ok v =
+          ap (layout.payload_of h) (payload-append n frame rest is.least (omega (arith, is.whole))) ∙ is.payload_is in
       let end : drop (align n) (frame ++ rest) ≡ rest = drop_at frame rest (align n) is.whole in
       let at_h : frame_after layout h (frame ++ rest) ≡ Ok ((h, v), rest) = rw (t2, t3, body, t4, end) refl in
       rw t1 (ap (λ (x : H). frame_after layout x (frame ++ rest)) headers ∙ at_h)
 
   -- what is read has a frame
-  pub frame_of-frame_at : (s r : List ℕ) (h : H) (v : V) → frame_at layout s ≡ Ok ((h, v), r) → (frame : List ℕ) × (s ≡ frame ++ r) × IsFrame layout frame h v
+  pub frame_of-frame_at : (s r : List ℕ) (h : H) (v : V) → frame_at layout s ≡ Ok ((h, v), r)
+      → (frame : List ℕ) × (s ≡ frame ++ r) × IsFrame layout frame h v
   unfolding frame_at
   frame_of-frame_at s r h v e =
       let g1 = guard_ok (ltb (length s) layout.size) short _ ((h, v), r) e in
@@ -183,10 +217,14 @@ module _ {H V : Type 0} (layout : Layout H V) (placed : IsPlaced layout) where
       let rest : List ℕ = drop (align n) s in
       let parts : frame ++ rest ≡ s = take-append-drop (align n) s in
       let len : length frame ≡ align n = length-take-le (align n) s enough in
-      let headers : layout.header_of frame ≡ head = sym (header-append frame rest (omega (arith, len))) ∙ ap layout.header_of parts in
-      let body : layout.payload_of head (take (n - layout.size) (drop layout.size frame)) ≡ Ok b.0 = ap (layout.payload_of head) (sym (payload-append n frame rest least (omega (arith, len))) ∙ ap (λ (t : List ℕ). take (n - layout.size) (drop layout.size t)) parts) ∙ b.1 in
+      let headers : layout.header_of frame ≡ head = sym (header-append frame rest (omega (arith, len)))
+          ∙ ap layout.header_of parts in
+      let body : layout.payload_of head (take (n - layout.size) (drop layout.size frame)) ≡ Ok b.0 =
+          ap (layout.payload_of head) (sym (payload-append n frame rest least (omega (arith, len)))
+          ∙ ap (λ (t : List ℕ). take (n - layout.size) (drop layout.size t)) parts) ∙ b.1 in
       let P : (H × V) × List ℕ → Type 0 = λ q. (f : List ℕ) × (s ≡ f ++ q.1) × IsFrame layout f q.0.0 q.0.1 in
-      let found : P ((head, b.0), rest) = (frame, sym parts, record { header_is = headers; least = least; whole = len; payload_is = body }) in
+      let found : P ((head, b.0), rest) = (frame, sym parts,
+          record { header_is = headers; least = least; whole = len; payload_is = body }) in
       let same : ((head, b.0), rest) ≡ ((h, v), r) = ok_is ((head, b.0), rest) ((h, v), r) g4.1 in
       subst P {x = ((head, b.0), rest)} {y = ((h, v), r)} same found
 
@@ -196,7 +234,8 @@ module _ {H V : Type 0} (layout : Layout H V) (placed : IsPlaced layout) where
       let f = frame_of-frame_at s r p.0 p.1 e in
       (f.0, f.1, λ t. frame_at-frame f.0 t p.0 p.1 f.2)
 
-pub frame_at-no_memory : {H V : Type 0} (layout : Layout H V) → ((h : H) (s : List ℕ) → layout.payload_of h s ≢ Err Memory) → (s : List ℕ) → frame_at layout s ≢ Err Memory
+pub frame_at-no_memory : {H V : Type 0} (layout : Layout H V)
+    → ((h : H) (s : List ℕ) → layout.payload_of h s ≢ Err Memory) → (s : List ℕ) → frame_at layout s ≢ Err Memory
 unfolding frame_at
 frame_at-no_memory {H} {V} layout none s =
     let h = layout.header_of s in
@@ -204,11 +243,14 @@ frame_at-no_memory {H} {V} layout none s =
     guard-not (ltb (length s) layout.size) short Memory _ (λ f. cc)
     (guard-not (ltb n layout.size) (InvalidInput n) Memory _ (λ f. cc)
     (guard-not (ltb (length s) n) (InvalidInput (n - layout.size)) Memory _ (λ f. cc)
-    (bind-not (layout.payload_of h (take (n - layout.size) (drop layout.size s))) _ Memory (none h (take (n - layout.size) (drop layout.size s)))
-    (λ v. guard-not (ltb (length s) (align n)) short Memory (done {A = (H × V) × List ℕ} ((h, v), drop (align n) s)) (λ f. cc) (λ f. cc)))))
+    (bind-not (layout.payload_of h (take (n - layout.size) (drop layout.size s))) _ Memory
+        (none h (take (n - layout.size) (drop layout.size s)))
+    (λ v. guard-not (ltb (length s) (align n)) short Memory (done {A = (H × V) × List ℕ} ((h, v), drop (align n) s))
+        (λ f. cc) (λ f. cc)))))
 
 -- a frame takes bytes
-pub frame_at-shorter : {H V : Type 0} (layout : Layout H V) → IsPlaced layout → 0 < layout.size → (s r : List ℕ) (h : H) (v : V) → frame_at layout s ≡ Ok ((h, v), r) → length r < length s
+pub frame_at-shorter : {H V : Type 0} (layout : Layout H V) → IsPlaced layout → 0 < layout.size
+    → (s r : List ℕ) (h : H) (v : V) → frame_at layout s ≡ Ok ((h, v), r) → length r < length s
 frame_at-shorter layout placed some s r h v e =
     let f = frame_of-frame_at layout placed s r h v e in
     omega (arith, ap length f.1, length-append f.0 r, f.2.whole, f.2.least, align-le layout placed (layout.length_of h))

@@ -14,7 +14,8 @@ padded_payload_at payload_of size len s =
     else (exact_reading payload_of (len - size) s >>= λ p. (bytes_at (align len - len) p.1 >>= λ q. Ok (p.0, q.1)))
 
 -- a header, and then the payload that it states
-abbrev pub header_then : {H V : Type 0} → (List ℕ → Reading H) → (H → ℕ) → ℕ → (H → List ℕ → Result V DeError) → List ℕ → Reading (H × V)
+abbrev pub header_then : {H V : Type 0} → (List ℕ → Reading H) → (H → ℕ) → ℕ → (H → List ℕ → Result V DeError) → List ℕ
+    → Reading (H × V)
 header_then header_at length_of size payload_of s =
     header_at s >>= λ h. (padded_payload_at (payload_of h.0) size (length_of h.0) h.1 >>= λ v. Ok ((h.0, v.0), v.1))
 
@@ -23,5 +24,7 @@ abbrev pub padded_payload_takes_memory : (List ℕ → Type 0) → ℕ → ℕ �
 padded_payload_takes_memory takes size len s = (size ≤ len) × exact_takes_memory takes (len - size) s
 
 -- the same from the header on
-abbrev pub header_then_takes_memory : {H : Type 0} → (List ℕ → Reading H) → (H → ℕ) → ℕ → (H → List ℕ → Type 0) → List ℕ → Type 0
-header_then_takes_memory header_at length_of size takes s = IfRead (header_at s) (λ h rest. padded_payload_takes_memory (takes h) size (length_of h) rest)
+abbrev pub header_then_takes_memory : {H : Type 0} → (List ℕ → Reading H) → (H → ℕ) → ℕ → (H → List ℕ → Type 0) → List ℕ
+    → Type 0
+header_then_takes_memory header_at length_of size takes s =
+    IfRead (header_at s) (λ h rest. padded_payload_takes_memory (takes h) size (length_of h) rest)

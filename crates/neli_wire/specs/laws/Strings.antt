@@ -16,28 +16,33 @@ done x = Ok x
 
 -- a terminated text has one byte more than the text
 pub text_and_zero-length : (text bytes : List ℕ) → text_and_zero text ≡ Ok bytes → length bytes ≡ length text + 1
-text_and_zero-length text bytes e = let same : text ++ 0 ∷ [] ≡ bytes = cc in omega (arith, ap length same, length-append text (0 ∷ []))
+text_and_zero-length text bytes e = let same : text ++ 0 ∷ [] ≡ bytes = cc in
+    omega (arith, ap length same, length-append text (0 ∷ []))
 
 -- neither outcome of a test is that refusal
 neither : {A : Type 0} (b : Bool) (x : A) (d e : DeError) → d ≢ e → cond b (done x) (Err d) ≢ Err e
 neither true x d e other f = cc
 neither false x d e other f = other cc
 
-pub utf8_of-not : (kind : Utf8Error → Utf8) (s : List ℕ) (e : DeError) → NotText (kind (fault_of s)) ≢ e → utf8_of kind s ≢ Err e
+pub utf8_of-not : (kind : Utf8Error → Utf8) (s : List ℕ) (e : DeError) → NotText (kind (fault_of s)) ≢ e
+    → utf8_of kind s ≢ Err e
 utf8_of-not kind s e other f = neither (eqb (utf8_valid_len s) (length s)) s (NotText (kind (fault_of s))) e other f
 
 pub borrowed_text-never_short : (s : List ℕ) → borrowed_text s ≢ Err short
 borrowed_text-never_short s e = utf8_of-not OfStr s short (λ f. cc) e
 
-guarded : {A : Type 0} (b : Bool) (n : ℕ) (r : Result A DeError) (e : DeError) → InvalidInput n ≢ e → r ≢ Err e → cond b (Err (InvalidInput n)) r ≢ Err e
+guarded : {A : Type 0} (b : Bool) (n : ℕ) (r : Result A DeError) (e : DeError) → InvalidInput n ≢ e → r ≢ Err e
+    → cond b (Err (InvalidInput n)) r ≢ Err e
 guarded true n r e f g h = f cc
 guarded false n r e f g h = g h
 
 pub owned_text-never_short : (s : List ℕ) → owned_text s ≢ Err short
-owned_text-never_short s e = guarded (ltb (length s) 1) (length s) _ short (λ f. cc) (utf8_of-not OfString (take (length s - 1) s) short (λ f. cc)) e
+owned_text-never_short s e = guarded (ltb (length s) 1) (length s) _ short (λ f. cc)
+    (utf8_of-not OfString (take (length s - 1) s) short (λ f. cc)) e
 
 pub owned_text-no_memory : (s : List ℕ) → owned_text s ≢ Err Memory
-owned_text-no_memory s e = guarded (ltb (length s) 1) (length s) _ Memory (λ f. cc) (utf8_of-not OfString (take (length s - 1) s) Memory (λ f. cc)) e
+owned_text-no_memory s e = guarded (ltb (length s) 1) (length s) _ Memory (λ f. cc)
+    (utf8_of-not OfString (take (length s - 1) s) Memory (λ f. cc)) e
 
 pub nothing-no_memory : (s : List ℕ) → nothing s ≢ Err Memory
 nothing-no_memory s e = guarded (ltb 0 (length s)) (length s) (done {A = Unit {0}} tt) Memory (λ f. cc) (λ f. cc) e

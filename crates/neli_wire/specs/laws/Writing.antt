@@ -33,7 +33,8 @@ ok_is : (a b : List ℕ) → written a ≡ written b → a ≡ b
 ok_is a b e = cc
 
 -- the second part goes after the first
-pub append_wire_then : (old mid : List ℕ) (a b : Wire) → append_wire old a ≡ Ok mid → append_wire old (a +++ b) ≡ append_wire mid b
+pub append_wire_then : (old mid : List ℕ) (a b : Wire) → append_wire old a ≡ Ok mid
+    → append_wire old (a +++ b) ≡ append_wire mid b
 append_wire_then old mid (Ok x) (Ok y) e = rw (← ok_is (old ++ x) mid e) (ap written (sym (append_assoc old x y)))
 append_wire_then old mid (Ok x) (Err d) e = refl
 append_wire_then old mid (Err d) b e = absurd cc
@@ -72,13 +73,15 @@ append_wire_both old (Ok x) (Err d) = refl
 append_wire_both old (Err d) b = refl
 
 -- the padding goes after the text
-pub append_wire_zeros : (old : List ℕ) (a : Wire) → append_wire old (pad_wire a) ≡ zeros_after (length old) (append_wire old a)
+pub append_wire_zeros : (old : List ℕ) (a : Wire) → append_wire old (pad_wire a)
+    ≡ zeros_after (length old) (append_wire old a)
 append_wire_zeros old (Ok x) =
     let len : length (old ++ x) - length old ≡ length x = omega (arith, length-append old x) in
     rw len (ap written (sym (append_assoc old x (zeros_for (length x)))))
 append_wire_zeros old (Err d) = refl
 
 -- an error that a call passes on refuses the bytes that it refused there
-pub refuses_by : {A : Type 0} (r : Result A SerError) (w : Wire) (e : SerError) → IsErrAnd r (λ d. d ≡ e) → RefusesWrite w e → IfErr r (RefusesWrite w)
+pub refuses_by : {A : Type 0} (r : Result A SerError) (w : Wire) (e : SerError) → IsErrAnd r (λ d. d ≡ e)
+    → RefusesWrite w e → IfErr r (RefusesWrite w)
 refuses_by (Ok x) w e is h = tt
 refuses_by (Err d) w e is h = subst (RefusesWrite w) (sym is) h

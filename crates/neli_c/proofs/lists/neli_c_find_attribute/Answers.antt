@@ -7,4 +7,5 @@ loop-ahead-init c = (none, refl)
 
 pub loop-ahead-preserved : goal.loop-ahead-preserved
 loop-ahead-preserved c =
-    (one _ c.loop-ahead.invariant.0 (c.neli_c_next_attribute-code.ensures.attribute (first_of (search rules, cc))) (first_of (search rules, cc)), c.loop-ahead.invariant.1)
+    (one _ c.loop-ahead.invariant.0 (c.neli_c_next_attribute-code.ensures.attribute (first_of (search rules, cc)))
+        (first_of (search rules, cc)), c.loop-ahead.invariant.1)

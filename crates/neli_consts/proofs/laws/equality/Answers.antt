@@ -58,7 +58,8 @@ pub returns-clause-nlmsg : goal.returns-clause-nlmsg
 returns-clause-nlmsg c = derived-equality nlmsg _ nlmsg-laws (λ x y e i. (eqb-true x.0 y.0 e i, tt), tt)
 
 pub returns-clause-nlmsgerr_attr : goal.returns-clause-nlmsgerr_attr
-returns-clause-nlmsgerr_attr c = derived-equality nlmsgerr_attr _ nlmsgerr_attr-laws (λ x y e i. (eqb-true x.0 y.0 e i, tt), tt)
+returns-clause-nlmsgerr_attr c = derived-equality nlmsgerr_attr _ nlmsgerr_attr-laws
+    (λ x y e i. (eqb-true x.0 y.0 e i, tt), tt)
 
 pub returns-clause-genl_id : goal.returns-clause-genl_id
 returns-clause-genl_id c = derived-equality genl_id _ genl_id-laws (λ x y e i. (eqb-true x.0 y.0 e i, tt), tt)
@@ -70,7 +71,8 @@ pub returns-clause-ctrl_attr : goal.returns-clause-ctrl_attr
 returns-clause-ctrl_attr c = derived-equality ctrl_attr _ ctrl_attr-laws (λ x y e i. (eqb-true x.0 y.0 e i, tt), tt)
 
 pub returns-clause-ctrl_attr_mcast_grp : goal.returns-clause-ctrl_attr_mcast_grp
-returns-clause-ctrl_attr_mcast_grp c = derived-equality ctrl_attr_mcast_grp _ ctrl_attr_mcast_grp-laws (λ x y e i. (eqb-true x.0 y.0 e i, tt), tt)
+returns-clause-ctrl_attr_mcast_grp c = derived-equality ctrl_attr_mcast_grp _ ctrl_attr_mcast_grp-laws
+    (λ x y e i. (eqb-true x.0 y.0 e i, tt), tt)
 
 pub returns-clause-index : goal.returns-clause-index
 returns-clause-index c = equality index-laws (λ a b e i. record { 0 = eqb-true a.0 b.0 e i })

@@ -32,7 +32,8 @@ pub returns-clause-ifla_vlan : goal.returns-clause-ifla_vlan
 returns-clause-ifla_vlan c = derived-equality ifla_vlan _ ifla_vlan-laws (λ x y e i. (eqb-true x.0 y.0 e i, tt), tt)
 
 pub returns-clause-ifla_vlan_qos : goal.returns-clause-ifla_vlan_qos
-returns-clause-ifla_vlan_qos c = derived-equality ifla_vlan_qos _ ifla_vlan_qos-laws (λ x y e i. (eqb-true x.0 y.0 e i, tt), tt)
+returns-clause-ifla_vlan_qos c = derived-equality ifla_vlan_qos _ ifla_vlan_qos-laws
+    (λ x y e i. (eqb-true x.0 y.0 e i, tt), tt)
 
 pub returns-clause-rta : goal.returns-clause-rta
 returns-clause-rta c = derived-equality rta _ rta-laws (λ x y e i. (eqb-true x.0 y.0 e i, tt), tt)

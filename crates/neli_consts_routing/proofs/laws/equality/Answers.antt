@@ -24,7 +24,8 @@ pub returns-clause-af : goal.returns-clause-af
 returns-clause-af c = derived-equality af _ af-laws (λ x y e i. (eqb-true x.0 y.0 e i, tt), tt)
 
 pub returns-clause-rt_addr_family : goal.returns-clause-rt_addr_family
-returns-clause-rt_addr_family c = derived-equality rt_addr_family _ rt_addr_family-laws (λ x y e i. (eqb-true x.0 y.0 e i, tt), tt)
+returns-clause-rt_addr_family c = derived-equality rt_addr_family _ rt_addr_family-laws
+    (λ x y e i. (eqb-true x.0 y.0 e i, tt), tt)
 
 pub returns-clause-rtn : goal.returns-clause-rtn
 returns-clause-rtn c = derived-equality rtn _ rtn-laws (λ x y e i. (eqb-true x.0 y.0 e i, tt), tt)

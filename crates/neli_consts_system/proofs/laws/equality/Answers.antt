@@ -33,31 +33,38 @@ pub returns-clause-cn_msg_val : goal.returns-clause-cn_msg_val
 returns-clause-cn_msg_val c = derived-equality cn_msg_val _ cn_msg_val-laws (λ x y e i. (eqb-true x.0 y.0 e i, tt), tt)
 
 pub returns-clause-proc_event_type : goal.returns-clause-proc_event_type
-returns-clause-proc_event_type c = derived-equality proc_event_type _ proc_event_type-laws (λ x y e i. (eqb-true x.0 y.0 e i, tt), tt)
+returns-clause-proc_event_type c = derived-equality proc_event_type _ proc_event_type-laws
+    (λ x y e i. (eqb-true x.0 y.0 e i, tt), tt)
 
 pub returns-clause-proc_cn_mcast_op : goal.returns-clause-proc_cn_mcast_op
-returns-clause-proc_cn_mcast_op c = derived-equality proc_cn_mcast_op _ proc_cn_mcast_op-laws (λ x y e i. (eqb-true x.0 y.0 e i, tt), tt)
+returns-clause-proc_cn_mcast_op c = derived-equality proc_cn_mcast_op _ proc_cn_mcast_op-laws
+    (λ x y e i. (eqb-true x.0 y.0 e i, tt), tt)
 
 pub returns-clause-nf_log_attr : goal.returns-clause-nf_log_attr
-returns-clause-nf_log_attr c = derived-equality nf_log_attr _ nf_log_attr-laws (λ x y e i. (eqb-true x.0 y.0 e i, tt), tt)
+returns-clause-nf_log_attr c = derived-equality nf_log_attr _ nf_log_attr-laws (λ x y e i. (eqb-true x.0 y.0 e i, tt),
+    tt)
 
 pub returns-clause-nf_log_cfg : goal.returns-clause-nf_log_cfg
 returns-clause-nf_log_cfg c = derived-equality nf_log_cfg _ nf_log_cfg-laws (λ x y e i. (eqb-true x.0 y.0 e i, tt), tt)
 
 pub returns-clause-netfilter_msg : goal.returns-clause-netfilter_msg
-returns-clause-netfilter_msg c = derived-equality netfilter_msg _ netfilter_msg-laws (λ x y e i. (eqb-true x.0 y.0 e i, tt), tt)
+returns-clause-netfilter_msg c = derived-equality netfilter_msg _ netfilter_msg-laws
+    (λ x y e i. (eqb-true x.0 y.0 e i, tt), tt)
 
 pub returns-clause-log_cmd : goal.returns-clause-log_cmd
 returns-clause-log_cmd c = derived-equality log_cmd _ log_cmd-laws (λ x y e i. (eqb-true x.0 y.0 e i, tt), tt)
 
 pub returns-clause-log_copy_mode : goal.returns-clause-log_copy_mode
-returns-clause-log_copy_mode c = derived-equality log_copy_mode _ log_copy_mode-laws (λ x y e i. (eqb-true x.0 y.0 e i, tt), tt)
+returns-clause-log_copy_mode c = derived-equality log_copy_mode _ log_copy_mode-laws
+    (λ x y e i. (eqb-true x.0 y.0 e i, tt), tt)
 
 pub returns-clause-addr_family : goal.returns-clause-addr_family
-returns-clause-addr_family c = derived-equality addr_family _ addr_family-laws (λ x y e i. ((Decides-int_eq x.0 y.0).0 e i, tt), tt)
+returns-clause-addr_family c = derived-equality addr_family _ addr_family-laws
+    (λ x y e i. ((Decides-int_eq x.0 y.0).0 e i, tt), tt)
 
 pub returns-clause-nl_family : goal.returns-clause-nl_family
-returns-clause-nl_family c = derived-equality nl_family _ nl_family-laws (λ x y e i. ((Decides-int_eq x.0 y.0).0 e i, tt), tt)
+returns-clause-nl_family c = derived-equality nl_family _ nl_family-laws
+    (λ x y e i. ((Decides-int_eq x.0 y.0).0 e i, tt), tt)
 
 pub returns-clause-msg : goal.returns-clause-msg
 returns-clause-msg c = equality msg-laws (λ a b e i. record { 0 = eqb-true a.0 b.0 e i })

@@ -5,4 +5,5 @@ use Rattle.neli_errno.proofs.Rows.{find_seen}
 use Rattle.neli_errno.proofs.table.row_of.Goals as goal
 
 pub returns : goal.returns
-returns c = ap (option_map row_seen) (c.copied.ensures ∙ c.find_row.ensures) ∙ find_seen c.errno_rows.result.now c.args.number c.errno_rows.ensures
+returns c = ap (option_map row_seen) (c.copied.ensures ∙ c.find_row.ensures)
+    ∙ find_seen c.errno_rows.result.now c.args.number c.errno_rows.ensures

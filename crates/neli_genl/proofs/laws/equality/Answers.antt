@@ -11,17 +11,24 @@ pub returns-clause-user_header : goal.returns-clause-user_header
 returns-clause-user_header g c = from-parts (λ a b e. refl) (λ a. refl)
 
 pub returns-clause-generic : goal.returns-clause-generic
-returns-clause-generic g c = λ h k u. generic-equality h (lists-equality (attribute-equality k (lists-equality bytes-equality))) u
+returns-clause-generic g c = λ h k u. generic-equality h
+    (lists-equality (attribute-equality k (lists-equality bytes-equality))) u
 
 pub returns-clause-connector : goal.returns-clause-connector
-returns-clause-connector g c = λ h. connector-equality (header-equality c.equality.ensures.cn_msg_idx c.equality.ensures.cn_msg_val) h
+returns-clause-connector g c = λ h. connector-equality
+    (header-equality c.equality.ensures.cn_msg_idx c.equality.ensures.cn_msg_val) h
 
 -- the two process numbers of each variant come first
 pub returns-clause-event : goal.returns-clause-event
 returns-clause-event g c =
     let numbers = pair-equality bytes-equality (pair-equality bytes-equality pair-of-processes) in
     let name = last-field (lists-equality bytes-equality) in
-    derived-equality event _ event-laws (λ x y. (last-field bytes-equality x y).0, (λ x y. (processes pair-of-processes x y).0, (λ x y. (pair-of-processes x y).0, (λ x y. (processes pair-of-numbers x y).0, (λ x y. (processes pair-of-numbers x y).0, (λ x y. (pair-of-processes x y).0, (λ x y. (processes pair-of-processes x y).0, (λ x y. (processes name x y).0, (λ x y. (processes pair-of-processes x y).0, (λ x y. (processes numbers x y).0, tt))))))))))
+    derived-equality event _ event-laws (λ x y. (last-field bytes-equality x y).0,
+        (λ x y. (processes pair-of-processes x y).0, (λ x y. (pair-of-processes x y).0,
+        (λ x y. (processes pair-of-numbers x y).0, (λ x y. (processes pair-of-numbers x y).0,
+        (λ x y. (pair-of-processes x y).0, (λ x y. (processes pair-of-processes x y).0,
+        (λ x y. (processes name x y).0, (λ x y. (processes pair-of-processes x y).0,
+        (λ x y. (processes numbers x y).0, tt))))))))))
 
 pub returns-clause-event_with_header : goal.returns-clause-event_with_header
 returns-clause-event_with_header g c =

@@ -30,9 +30,12 @@ loop-entry-preserved c =
       can_next = tt;
       is_finite = tt;
       trimmed = c.push.ensures.trimmed;
-      room = c.push.ensures.room (length rest) (room_more (length rest) old (subst (λ es. HasRoom (length es) old) step c.loop-entry.invariant.room));
-      readers = readers_left (pending_of old) (pending_of new) c.in-Some.entry rest c.push.ensures.more (subst (HaveReaders (pending_of old)) step c.loop-entry.invariant.readers);
-      entries = ap (λ es. es ++ rest) c.push.ensures.entries ∙ append_assoc (entries_of old) (c.in-Some.entry ∷ []) rest ∙ ap (λ es. entries_of old ++ es) (sym step) ∙ c.loop-entry.invariant.entries;
+      room = c.push.ensures.room (length rest) (room_more (length rest) old
+          (subst (λ es. HasRoom (length es) old) step c.loop-entry.invariant.room));
+      readers = readers_left (pending_of old) (pending_of new) c.in-Some.entry rest c.push.ensures.more
+          (subst (HaveReaders (pending_of old)) step c.loop-entry.invariant.readers);
+      entries = ap (λ es. es ++ rest) c.push.ensures.entries ∙ append_assoc (entries_of old) (c.in-Some.entry ∷ []) rest
+          ∙ ap (λ es. entries_of old ++ es) (sym step) ∙ c.loop-entry.invariant.entries;
       more = λ w. gains_more (pending_of old) (pending_of new) c.in-Some.entry rest c.push.ensures.more w
           ∙ ap (λ es. option_map (λ xs. xs ++ items_for w es) (pending_of old w)) (sym step)
           ∙ c.loop-entry.invariant.more w;
@@ -40,12 +43,15 @@ loop-entry-preserved c =
 
 pub returns-clause-entries : goal.returns-clause-entries
 returns-clause-entries c =
-    let none : into_iter_items c.loop-entry.entry-iterator ≡ [] = nil_from_length _ (sym c.loop-entry.entry-iterator.rest.ok.0 ∙ c.in-None.ensures.steps.0) in
-    sym (append-nil (entries_of c.loop-entry.places)) ∙ ap (λ es. entries_of c.loop-entry.places ++ es) (sym none) ∙ c.loop-entry.invariant.entries
+    let none : into_iter_items c.loop-entry.entry-iterator ≡ [] =
+        nil_from_length _ (sym c.loop-entry.entry-iterator.rest.ok.0 ∙ c.in-None.ensures.steps.0) in
+    sym (append-nil (entries_of c.loop-entry.places)) ∙ ap (λ es. entries_of c.loop-entry.places ++ es) (sym none)
+        ∙ c.loop-entry.invariant.entries
 
 pub returns-clause-more : goal.returns-clause-more
 returns-clause-more c = λ w.
-    let none : into_iter_items c.loop-entry.entry-iterator ≡ [] = nil_from_length _ (sym c.loop-entry.entry-iterator.rest.ok.0 ∙ c.in-None.ensures.steps.0) in
+    let none : into_iter_items c.loop-entry.entry-iterator ≡ [] =
+        nil_from_length _ (sym c.loop-entry.entry-iterator.rest.ok.0 ∙ c.in-None.ensures.steps.0) in
     sym (gains_none (pending_of c.loop-entry.places w))
     ∙ ap (λ es. option_map (λ xs. xs ++ items_for w es) (pending_of c.loop-entry.places w)) (sym none)
     ∙ c.loop-entry.invariant.more w

@@ -14,6 +14,7 @@ invariant-loop-entry l = record {
   room : HasRoom (length (into_iter_items l.entry-iterator)) l.places;
   readers : HaveReaders (pending_of l.places) (into_iter_items l.entry-iterator);
   entries : entries_of l.places ++ into_iter_items l.entry-iterator ≡ entries_of l.fn.places ++ l.fn.entries.items;
-  more : (w : Option ℕ) → option_map (λ xs. xs ++ items_for w (into_iter_items l.entry-iterator)) (pending_of l.places w)
+  more : (w : Option ℕ) → option_map (λ xs. xs ++ items_for w (into_iter_items l.entry-iterator))
+      (pending_of l.places w)
       ≡ option_map (λ xs. xs ++ items_for w l.fn.entries.items) (pending_of l.fn.places w);
 }

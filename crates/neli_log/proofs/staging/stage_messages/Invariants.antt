@@ -13,5 +13,6 @@ decreases-loop-cursor l = length l.cursor.rest
 abbrev pub invariant-loop-cursor : goal.invariant-loop-cursor
 invariant-loop-cursor l = record {
   whole : whole l.cursor ≡ l.fn.bytes;
-  staged : AreStaged (pending_of l.places) l.port l.serial l.fn.bytes l.groups (cut_of untyped_layout l.fn.bytes) l.entries.items (length l.cursor.before) (cut_left l.cursor.rest None);
+  staged : AreStaged (pending_of l.places) l.port l.serial l.fn.bytes l.groups
+      (cut_of untyped_layout l.fn.bytes) l.entries.items (length l.cursor.before) (cut_left l.cursor.rest None);
 }

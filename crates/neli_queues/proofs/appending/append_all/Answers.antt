@@ -19,7 +19,8 @@ loop-piece-preserved c =
     record {
       can_next = tt;
       is_finite = tt;
-      room = HaveRoom-left at new c.in-Some.piece rest c.append_piece.ensures (subst (HaveRoom at) c.in-Some.ensures.steps.0 c.loop-piece.invariant.room);
+      room = HaveRoom-left at new c.in-Some.piece rest c.append_piece.ensures
+          (subst (HaveRoom at) c.in-Some.ensures.steps.0 c.loop-piece.invariant.room);
       hung = λ q. hung-more at new c.in-Some.piece rest c.append_piece.ensures q
           ∙ ap (λ ps. option_map (λ ds. ds ++ gain_of q ps) (at q)) (sym c.in-Some.ensures.steps.0)
           ∙ c.loop-piece.invariant.hung q;

@@ -12,4 +12,5 @@ returns-then-is_empty-clause-cut g c =
     let none : length c.args.bytes.now ≡ 0 = eqb-true _ _ (sym c.is_empty.ensures ∙ c.if-is_empty.true) in
     let nothing : c.args.bytes.now ≡ [] = empty_is c.args.bytes.now none in
     rw (nothing, c.new.ensures.items)
-    (cut_of-end (message_layout g.T.Constant.wire_value g.T.Constant.wire_number g.P.FromBytesWithInput.read) (layout_with-placed g.T.Constant.wire_value _) (omega arith))
+    (cut_of-end (message_layout g.T.Constant.wire_value g.T.Constant.wire_number g.P.FromBytesWithInput.read)
+        (layout_with-placed g.T.Constant.wire_value _) (omega arith))

@@ -7,7 +7,8 @@ use Rattle.neli_reader.proofs.Equality.{answer-equality, echo-equality, enum-equ
 use Rattle.neli_reader.proofs.laws.equality.Goals as goal
 
 pub returns-clause-answer : goal.returns-clause-answer
-returns-clause-answer g c = λ h. answer-equality h (lists-equality (attribute-equality c.equality.ensures.nlmsgerr_attr (lists-equality bytes-equality)))
+returns-clause-answer g c = λ h. answer-equality h (lists-equality
+    (attribute-equality c.equality.ensures.nlmsgerr_attr (lists-equality bytes-equality)))
 
 pub returns-clause-payload : goal.returns-clause-payload
 returns-clause-payload g c = λ h k.

@@ -11,6 +11,8 @@ returns c =
     let result = c.get_attr_payload_as_with_len.result in
     let found = finds_family_name (attrs_in c.args.attrs.now) in
     record {
-      value = subst (λ p. IfOk result (λ name. read_found p owned_text ≡ Ok (string_bytes name))) found c.get_attr_payload_as_with_len.ensures.value;
-      refused = subst (λ p. IfErr result (IsReadRefusal (read_found p owned_text))) found (refused_read result _ _ c.get_attr_payload_as_with_len.ensures.refused);
+      value = subst (λ p. IfOk result (λ name. read_found p owned_text ≡ Ok (string_bytes name))) found
+          c.get_attr_payload_as_with_len.ensures.value;
+      refused = subst (λ p. IfErr result (IsReadRefusal (read_found p owned_text))) found
+          (refused_read result _ _ c.get_attr_payload_as_with_len.ensures.refused);
     }

@@ -16,6 +16,8 @@ returns c =
     let found = finds_mcast_groups (attrs_in c.args.attrs.now) in
     let listed = frame_at (attribute (type_of index_of) (λ bytes. Ok bytes)) in
     record {
-      value = subst (λ p. IfOk result (λ all. list_found p listed ≡ Ok (map nlattr_says (attrs_in all)))) found c.get_nested_attributes.ensures.value;
-      refused = subst (λ p. IfErr result (IsReadRefusal (list_found p listed))) found (refused_read result _ _ c.get_nested_attributes.ensures.refused);
+      value = subst (λ p. IfOk result (λ all. list_found p listed ≡ Ok (map nlattr_says (attrs_in all)))) found
+          c.get_nested_attributes.ensures.value;
+      refused = subst (λ p. IfErr result (IsReadRefusal (list_found p listed))) found
+          (refused_read result _ _ c.get_nested_attributes.ensures.refused);
     }

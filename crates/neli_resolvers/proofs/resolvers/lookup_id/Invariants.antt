@@ -10,7 +10,8 @@ abbrev pub invariant-loop-item : goal.invariant-loop-item
 invariant-loop-item l = record {
   can_next : (goal.iterator-loop-item).can_next l.item-iterator;
   is_finite : (goal.iterator-loop-item).is_finite l.item-iterator;
-  last : last_from (names_told l.id) (option_map (λ p. (string_bytes p.0, string_bytes p.1)) l.found) (into_iter_items l.item-iterator)
+  last : last_from (names_told l.id) (option_map (λ p. (string_bytes p.0, string_bytes p.1)) l.found)
+      (into_iter_items l.item-iterator)
       ≡ last_found (names_told l.id) l.fn.items.items;
   takes : names_take_memory (into_iter_items l.item-iterator) → names_take_memory l.fn.items.items;
 }

@@ -9,6 +9,10 @@ abbrev pub invariant-loop-command : goal.invariant-loop-command
 invariant-loop-command g l = record {
   port : g.D.Deliveries.port_of l.session.router.deliveries ≡ l.fn.pid;
   all : l.yielded ++ l.command-iterator.rest.items ≡ l.fn.commands.items;
-  says : Each (StepIsRight g.RT.Constant.wire_value g.RT.Constant.wire_number g.RP.FromBytesWithInput.view g.RP.Size.wire_length g.RP.FromBytesWithInput.read g.ST.Constant.wire_number g.SP.ToBytes.wire g.SP.Size.wire_length l.fn.pid) l.yielded l.outcomes.items;
-  holds : Holds g.RT.Constant.wire_value g.RT.Constant.wire_number g.RP.FromBytesWithInput.view g.RP.Size.wire_length g.RP.FromBytesWithInput.read l.fn.pid l.session.router.next_seq (g.D.Deliveries.pending l.session.router.deliveries) l.session.handles.items (past [] l.yielded l.outcomes.items);
+  says : Each (StepIsRight g.RT.Constant.wire_value g.RT.Constant.wire_number g.RP.FromBytesWithInput.view
+      g.RP.Size.wire_length g.RP.FromBytesWithInput.read g.ST.Constant.wire_number g.SP.ToBytes.wire
+      g.SP.Size.wire_length l.fn.pid) l.yielded l.outcomes.items;
+  holds : Holds g.RT.Constant.wire_value g.RT.Constant.wire_number g.RP.FromBytesWithInput.view g.RP.Size.wire_length
+      g.RP.FromBytesWithInput.read l.fn.pid l.session.router.next_seq
+      (g.D.Deliveries.pending l.session.router.deliveries) l.session.handles.items (past [] l.yielded l.outcomes.items);
 }

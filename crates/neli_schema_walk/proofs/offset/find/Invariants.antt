@@ -8,4 +8,5 @@ decreases-loop-context l = 10 - length l.steps.items
 
 -- the steps so far, and then those from this place
 abbrev pub invariant-loop-context : goal.invariant-loop-context
-invariant-loop-context l = Follows l.fn.context (l.fn.table, l.attributes, l.fn.offset) l.steps.items (place_seen l.place)
+invariant-loop-context l = Follows l.fn.context (l.fn.table, l.attributes, l.fn.offset) l.steps.items
+    (place_seen l.place)

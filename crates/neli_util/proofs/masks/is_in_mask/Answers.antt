@@ -10,6 +10,8 @@ returns-then-group-eq0 c =
     let mask = c.args.mask in
     let group = c.args.group in
     elim c.then-group-eq0.branch [
-      | then-group-eq0-via-then-group-eq0 w ↦ sym (and_left (ltb 0 group) (eqb (bit_at mask (group - 1)) 1) (le-ltb 0 group (omega (arith, w.if-group-eq0.true))))
-      | then-group-eq0-via-else-group-eq0+then-group-gt-MASK_WIDTH w ↦ sym (is_masked_above mask group (omega arith) (omega (arith, w.if-group-gt-MASK_WIDTH.true)))
+      | then-group-eq0-via-then-group-eq0 w ↦ sym (and_left (ltb 0 group) (eqb (bit_at mask (group - 1)) 1)
+          (le-ltb 0 group (omega (arith, w.if-group-eq0.true))))
+      | then-group-eq0-via-else-group-eq0+then-group-gt-MASK_WIDTH w ↦ sym
+          (is_masked_above mask group (omega arith) (omega (arith, w.if-group-gt-MASK_WIDTH.true)))
     ]

@@ -9,7 +9,8 @@ release-requires c =
     let old = c.loop-content.self in
     let new = c.pop_unawaited.new.self in
     let taken = c.in-Some.ensures.taken in
-    (spans_of (entries_of new), released_names old.places new old.datagrams old.datagrams c.in-Some.content taken.0 taken.1 c.in-Some.ensures.same c.loop-content.invariant.backed)
+    (spans_of (entries_of new), released_names old.places new old.datagrams old.datagrams c.in-Some.content taken.0
+        taken.1 c.in-Some.ensures.same c.loop-content.invariant.backed)
 
 pub loop-content-preserved : goal.loop-content-preserved
 loop-content-preserved c =
@@ -18,8 +19,11 @@ loop-content-preserved c =
     let taken = c.in-Some.ensures.taken in
     record {
       port = c.loop-content.invariant.port;
-      same = λ w. released_pending old.places new old.datagrams c.release.new.datagrams c.in-Some.content taken.0 taken.1 c.in-Some.ensures.same c.loop-content.invariant.backed c.release.ensures.names c.release.ensures.same_bytes w
+      same = λ w. released_pending old.places new old.datagrams c.release.new.datagrams c.in-Some.content taken.0
+          taken.1 c.in-Some.ensures.same c.loop-content.invariant.backed c.release.ensures.names
+          c.release.ensures.same_bytes w
           ∙ c.loop-content.invariant.same w;
       sound = c.in-Some.ensures.sound;
-      backed = released_backed old.places new old.datagrams c.release.new.datagrams c.in-Some.content taken.0 taken.1 c.in-Some.ensures.same c.loop-content.invariant.backed c.release.ensures.names c.release.ensures.same_bytes;
+      backed = released_backed old.places new old.datagrams c.release.new.datagrams c.in-Some.content taken.0 taken.1
+          c.in-Some.ensures.same c.loop-content.invariant.backed c.release.ensures.names c.release.ensures.same_bytes;
     }

@@ -8,7 +8,8 @@ use Rattle.neli_msg.proofs.message.Nlmsghdr+u16+Buffer.to_typed.Goals as goal
 pub returns-in_err-payload-clause-refused : goal.returns-in_err-payload-clause-refused
 returns-in_err-payload-clause-refused g c =
     refuses-passed c.from_residual.result c.in_err-payload.field-0.0 _ _ _ _ c.from_residual.ensures.1
-    (first-whole g.T.Constant.wire_value g.P.FromBytesWithInput.read c.body_len.result c.args.self.now.payload c.body_len.ensures)
+    (first-whole g.T.Constant.wire_value g.P.FromBytesWithInput.read c.body_len.result c.args.self.now.payload
+        c.body_len.ensures)
     (λ h. inl h) c.in_err-payload.ensures.refused
 
 pub returns-in_default-clause-refused : goal.returns-in_default-clause-refused
@@ -18,7 +19,8 @@ returns-in_default-clause-refused g c =
       text,
       inr (
         c.in_ok-payload.payload,
-        sym (first-whole g.T.Constant.wire_value g.P.FromBytesWithInput.read c.body_len.result c.args.self.now.payload c.body_len.ensures) ∙ c.in_ok-payload.ensures.value,
+        sym (first-whole g.T.Constant.wire_value g.P.FromBytesWithInput.read c.body_len.result c.args.self.now.payload
+            c.body_len.ensures) ∙ c.in_ok-payload.ensures.value,
         c.in_ok-payload.ensures.length,
         long,
       ),
@@ -26,4 +28,5 @@ returns-in_default-clause-refused g c =
 
 pub returns-clause-value : goal.returns-clause-value
 returns-clause-value g c =
-    sym (first-whole g.T.Constant.wire_value g.P.FromBytesWithInput.read c.body_len.result c.args.self.now.payload c.body_len.ensures) ∙ c.in_ok-payload.ensures.value
+    sym (first-whole g.T.Constant.wire_value g.P.FromBytesWithInput.read c.body_len.result c.args.self.now.payload
+        c.body_len.ensures) ∙ c.in_ok-payload.ensures.value

@@ -6,4 +6,5 @@ use Rattle.neli_payloads.proofs.hardware_address.HardwareAddressDisplay.fmt.Give
 -- what is written is the text of the bytes so far
 abbrev pub invariant-loop-byte : goal.invariant-loop-byte
 invariant-loop-byte g l =
-    IsPlainFormatter l.fn.f → HasWritten g.W.Write.write_str_gives l.fn.f (hardware_text (get_or l.self 0 0 ∷ take l.byte-index l.rest)) l.f
+    IsPlainFormatter l.fn.f → HasWritten g.W.Write.write_str_gives l.fn.f
+        (hardware_text (get_or l.self 0 0 ∷ take l.byte-index l.rest)) l.f

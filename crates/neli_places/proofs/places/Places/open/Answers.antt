@@ -12,14 +12,18 @@ returns-in_err-insert-clause-trimmed g c =
     let s = c.args.self.now in let h = c.requires.trimmed in
     let same : c.insert.new.self.entries ≡ s.numbers.entries = c.in_err-insert.ensures.err in
     record {
-      sound = sound_unchanged s.numbers c.insert.new.self (place_of s) _ s.base s.shared_base s.caught_up s.entries.items s.links.items s.shared.items h.sound same refl (λ q. ap (lookup (nat_eq q)) same);
-      begins = kept_trimmed (place_of s) _ s.base s.entries.items (unchanged _ (place_of s) refl (λ q. ap (lookup (nat_eq q)) (sym same))) h.begins;
+      sound = sound_unchanged s.numbers c.insert.new.self
+          (place_of s) _ s.base s.shared_base s.caught_up s.entries.items s.links.items s.shared.items h.sound same refl
+          (λ q. ap (lookup (nat_eq q)) same);
+      begins = kept_trimmed (place_of s) _ s.base s.entries.items
+          (unchanged _ (place_of s) refl (λ q. ap (lookup (nat_eq q)) (sym same))) h.begins;
     }
 
 pub overflow_add-self : goal.overflow_add-self
 overflow_add-self g c =
     let s = c.args.self.now in let h = c.requires.trimmed in
-    let f = few_caught s.numbers s.numbers (place_of s) (place_of s) s.base s.shared_base s.caught_up s.entries.items s.links.items s.shared.items h.sound in
+    let f = few_caught s.numbers s.numbers (place_of s)
+        (place_of s) s.base s.shared_base s.caught_up s.entries.items s.links.items s.shared.items h.sound in
     omega (arith, f, c.len.ensures.small, c.len.ensures.len)
 
 pub returns-clause-trimmed : goal.returns-clause-trimmed
@@ -29,7 +33,10 @@ returns-clause-trimmed g c =
     let closed = mapped_none _ (get nat_eq s.numbers c.args.number) c.requires.closed in
     let x : Place = record { from = s.base + c.len-2.result; own = None; seen = s.shared_base + c.len-3.result } in
     record {
-      sound = sound_opened s.numbers c.insert.new.self (place_of s) _ s.base s.shared_base s.caught_up s.entries.items s.links.items s.shared.items h.sound
-          c.args.number x c.in_ok-insert.field-0 closed closed e.old e.entries refl e.updates.0 (omega (arith, s.entries.ok.0, c.len-2.ensures)) refl (omega (arith, s.shared.ok.0, c.len-3.ensures));
-      begins = kept_trimmed (place_of s) _ s.base s.entries.items (put_keeps (place_of s) _ c.args.number x closed refl e.updates.0) h.begins;
+      sound = sound_opened s.numbers c.insert.new.self
+          (place_of s) _ s.base s.shared_base s.caught_up s.entries.items s.links.items s.shared.items h.sound
+          c.args.number x c.in_ok-insert.field-0 closed closed e.old e.entries refl e.updates.0
+              (omega (arith, s.entries.ok.0, c.len-2.ensures)) refl (omega (arith, s.shared.ok.0, c.len-3.ensures));
+      begins = kept_trimmed (place_of s) _ s.base s.entries.items
+          (put_keeps (place_of s) _ c.args.number x closed refl e.updates.0) h.begins;
     }

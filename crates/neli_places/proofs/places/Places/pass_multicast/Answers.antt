@@ -9,7 +9,8 @@ use Rattle.neli_places.proofs.Passes.{passed_pending, same_entry, own_by_multica
 use Rattle.std.proofs.Common.{inl, inr}
 use Rattle.neli_places.proofs.places.Places.pass_multicast.Goals as goal
 
-changed_multicast : (place place' : Option ℕ → Option Place) (x : Place) → place' None ≡ Some x → ((q : ℕ) → place' (Some q) ≡ place (Some q)) → Changed place place' None x
+changed_multicast : (place place' : Option ℕ → Option Place) (x : Place) → place' None ≡ Some x
+    → ((q : ℕ) → place' (Some q) ≡ place (Some q)) → Changed place place' None x
 changed_multicast place place' x none some None p is = (let f : x ≡ p = cc in inr (refl, sym f))
 changed_multicast place place' x none some (Some q) p is = inl (sym (some q) ∙ is)
 
@@ -26,10 +27,13 @@ after_own-requires-clause-route g c = λ e at.
 pub returns-clause-taken : goal.returns-clause-taken
 returns-clause-taken g c = λ d ds old.
     let s = c.args.self.now in
-    passed_pending None s.base s.entries.items c.args.p c.after_own.result s.multicast (Some c.after_own.result) c.args.m d ds c.requires.is refl c.after_own.ensures.from c.requires.next old
+    passed_pending None s.base s.entries.items c.args.p c.after_own.result s.multicast
+        (Some c.after_own.result) c.args.m d ds c.requires.is refl c.after_own.ensures.from c.requires.next old
 
 pub returns-clause-sound : goal.returns-clause-sound
 returns-clause-sound g c =
     let s = c.args.self.now in let h = c.requires.sound in
-    sound_put (place_of s) _ (values s.numbers) (values s.numbers) s.base s.shared_base s.caught_up s.caught_up s.entries.items s.links.items s.shared.items s.shared.items None c.after_own.result
-    (changed_multicast (place_of s) _ c.after_own.result refl (λ q. refl)) c.after_own.ensures.place (λ q none. no_number q _ none) refl h.standing_are h
+    sound_put (place_of s) _ (values s.numbers) (values s.numbers) s.base s.shared_base s.caught_up s.caught_up
+        s.entries.items s.links.items s.shared.items s.shared.items None c.after_own.result
+    (changed_multicast (place_of s) _ c.after_own.result refl (λ q. refl)) c.after_own.ensures.place
+        (λ q none. no_number q _ none) refl h.standing_are h

@@ -13,7 +13,8 @@ returns-then-is_empty g c =
     record {
       next = (nothing, nothing);
       shorter = tt;
-      cut = rw nothing (cut_of-end (message_layout g.T2.Constant.wire_value g.T2.Constant.wire_number g.P2.FromBytesWithInput.read) (layout_with-placed g.T2.Constant.wire_value _) (omega arith));
+      cut = rw nothing (cut_of-end (message_layout g.T2.Constant.wire_value g.T2.Constant.wire_number
+          g.P2.FromBytesWithInput.read) (layout_with-placed g.T2.Constant.wire_value _) (omega arith));
     }
 
 pub returns-in-Ok : goal.returns-in-Ok
@@ -34,10 +35,13 @@ returns-in_default g c =
     let layout = message_layout g.T2.Constant.wire_value g.T2.Constant.wire_number g.P2.FromBytesWithInput.read in
     let none : (true ≡ false → c.args.self.now ≡ []) × (c.args.self.now ≡ [] → true ≡ false) = search rules in
     let any : c.args.self.now ≢ [] = λ e. let f = none.1 e in cc in
-    let nothing : c.set_position.new.self.rest ≡ [] = c.set_position.ensures.rest ∙ (rw (← c.get_ref-end.ensures) (drop_whole c.get_ref-end.result.now)) in
-    let faulty : frame_at layout c.args.self.now ≡ Err c.in-Err.error = rw (← c.self.view_is) (refused_is _ _ c.in-Err.error c.in_default.not-Memory c.in-Err.ensures.refused) in
+    let nothing : c.set_position.new.self.rest ≡ [] = c.set_position.ensures.rest
+        ∙ (rw (← c.get_ref-end.ensures) (drop_whole c.get_ref-end.result.now)) in
+    let faulty : frame_at layout c.args.self.now ≡ Err c.in-Err.error =
+        rw (← c.self.view_is) (refused_is _ _ c.in-Err.error c.in_default.not-Memory c.in-Err.ensures.refused) in
     record {
       next = (any, faulty, nothing);
       shorter = tt;
-      cut = cut_of-fault layout (layout_with-placed g.T2.Constant.wire_value _) (omega arith) c.args.self.now c.in-Err.error any faulty;
+      cut = cut_of-fault layout (layout_with-placed g.T2.Constant.wire_value _)
+          (omega arith) c.args.self.now c.in-Err.error any faulty;
     }

@@ -18,6 +18,7 @@ loop-level-preserved c =
     let yes : c.is_empty.result ≡ true = search rules in
     let none : length c.in-Some.level.rest.now ≡ 0 = eqb-true _ _ (sym c.is_empty.ensures ∙ yes) in (
       c.loop-level.invariant.0,
-      c.loop-level.invariant.1 ∙ left-out c.args.self.now.context c.pop.new.self.items c.loop-level.self.open.items c.in-Some.level c.in-Some.ensures.items (empty_is _ none),
+      c.loop-level.invariant.1 ∙ left-out c.args.self.now.context c.pop.new.self.items c.loop-level.self.open.items
+          c.in-Some.level c.in-Some.ensures.items (empty_is _ none),
       omega (arith, taken, few),
     )

@@ -9,4 +9,6 @@ returns-clause-ok c =
     let ws : List ℕ = c.self.inside.words.items in
     let count = c.div_ceil.result in
     let count_is : count ≡ words_for (8 * c.args.bytes) = omega (arith, c.div_ceil.ensures) in
-    on_ok_weaker c.resize_words.result (λ items. ap array_of items ∙ array_of-resized ws count ∙ ap (λ k. with_capacity (32 * k) (array_of ws)) count_is ∙ ap (with_capacity (32 * words_for (8 * c.args.bytes))) c.self.view_is) c.resize_words.ensures.ok
+    on_ok_weaker c.resize_words.result (λ items. ap array_of items ∙ array_of-resized ws count
+        ∙ ap (λ k. with_capacity (32 * k) (array_of ws)) count_is
+        ∙ ap (with_capacity (32 * words_for (8 * c.args.bytes))) c.self.view_is) c.resize_words.ensures.ok

@@ -7,7 +7,8 @@ use Rattle.neli_util.proofs.bit_array.NetlinkBitArray.set.Goals as goal
 pub returns-then-n-eq0-clause-value : goal.returns-then-n-eq0-clause-value
 returns-then-n-eq0-clause-value c =
     let ws = c.self.inside.words.items in
-    with_number-zero ws ∙ ap (λ k. with_number k (array_of ws)) (sym c.if-n-eq0.true) ∙ ap (with_number c.args.n) c.self.view_is
+    with_number-zero ws ∙ ap (λ k. with_number k (array_of ws)) (sym c.if-n-eq0.true)
+        ∙ ap (with_number c.args.n) c.self.view_is
 
 pub returns-clause-value : goal.returns-clause-value
 returns-clause-value c =
@@ -18,4 +19,5 @@ returns-clause-value c =
     let within : n ≤ 32 * length ws = omega (arith, capacity, c.requires) in
     let some : 0 < n = omega arith in
     let read = get_or_read ws q _ (omega arith) c.index_mut.ensures.value 0 in
-    ap (λ w. array_of (set ws q (bit_or w (1 * 2 ^ ((n - 1) % 32) % 2 ^ 32)))) read ∙ array_of-set ws n some within ∙ ap (with_number n) c.self.view_is
+    ap (λ w. array_of (set ws q (bit_or w (1 * 2 ^ ((n - 1) % 32) % 2 ^ 32)))) read ∙ array_of-set ws n some within
+        ∙ ap (with_number n) c.self.view_is
