@@ -24,4 +24,4 @@ pub stays_within : {T E : Type 0} (limit : ℕ) (before after : Store) (bytes : 
 stays_within limit before after bytes (Err e) room kept left above = same (byte_count after) (byte_count before) left.1
 stays_within limit before after bytes (Ok x) room kept left above =
     within limit (byte_count before) (byte_count after) (kept_with (length (spans_of kept.0)) bytes)
-        (length bytes) kept.1.counted (kept_at_most (length (spans_of kept.0)) bytes) room above
+    (length bytes) kept.1.counted (kept_at_most (length (spans_of kept.0)) bytes) room above

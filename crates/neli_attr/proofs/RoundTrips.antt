@@ -56,7 +56,7 @@ built_nlattr-length {T} wire b a e =
     let two = given_ok _ b.nla_payload _ a one.1 in
     let three = bind_made (payload_in 4 (wire two.0)) _ a two.1 in
     let P : Nlattr T (List ℕ) → Type 0 = λ a. (a.nla_len ≡ 4 + length a.nla_payload)
-        × (4 + length a.nla_payload < 65536) in
+    × (4 + length a.nla_payload < 65536) in
     subst P (made_is (nlattr_with_length one.0 three.0) a three.2) (refl, payload_in-fits (wire two.0) three.0 three.1)
 
 pub built_rtattr-length : {T P : Type 0} (wire : P → Wire) (b : RtattrBuilder T P) (a : Rtattr T (List ℕ))
@@ -66,7 +66,7 @@ built_rtattr-length {T} wire b a e =
     let two = given_ok _ b.rta_payload _ a one.1 in
     let three = bind_made (payload_in 4 (wire two.0)) _ a two.1 in
     let P : Rtattr T (List ℕ) → Type 0 = λ a. (a.rta_len ≡ 4 + length a.rta_payload)
-        × (4 + length a.rta_payload < 65536) in
+    × (4 + length a.rta_payload < 65536) in
     subst P (made_is (rtattr_with_length one.0 three.0) a three.2) (refl, payload_in-fits (wire two.0) three.0 three.1)
 
 -- ---- nesting
@@ -88,8 +88,14 @@ attribute_payload-fits text payload h = by (ltb 65535 (4 + length text)) refl h
 attribute_bytes-longer : (len kind : ℕ) (bytes : List ℕ) → length bytes ≤ length (attribute_bytes len kind bytes)
 attribute_bytes-longer len kind bytes =
     let head : List ℕ = little_bytes 2 len ++ little_bytes 2 kind in
-    omega (arith, length-append (head ++ bytes) (zeros_for (length (head ++ bytes))), length-append head bytes,
-        length-append (little_bytes 2 len) (little_bytes 2 kind), count-unsigned 2 len, count-unsigned 2 kind)
+    omega (
+      arith,
+      length-append (head ++ bytes) (zeros_for (length (head ++ bytes))),
+      length-append head bytes,
+      length-append (little_bytes 2 len) (little_bytes 2 kind),
+      count-unsigned 2 len,
+      count-unsigned 2 kind,
+    )
 
 -- what is appended to a list of attributes comes last in it
 pub nested-last : {K : Type 0} (kind_of : ℕ → K) (kind : ℕ) (old bytes payload : List ℕ) (len : ℕ)
@@ -103,11 +109,15 @@ nested-last {K} kind_of kind old bytes payload len attrs is small nests lists =
     let placed = attribute-placed kind_of (λ (bytes : List ℕ). Ok bytes) in
     let text : List ℕ = attribute_bytes len kind bytes in
     let fits = attribute_payload-fits (old ++ text) payload nests in
-    let room : 4 + length bytes < 65536 = omega (arith, fits.1, length-append old text,
-        attribute_bytes-longer len kind bytes) in
+    let room : 4 + length bytes < 65536 = omega (
+      arith,
+      fits.1,
+      length-append old text,
+      attribute_bytes-longer len kind bytes,
+    ) in
     let frame : IsFrame layout text (record { len = len; kind = kind_of kind }) bytes =
-        rw is (attribute_bytes-frame kind_of (λ bytes. Ok bytes) kind bytes bytes small room refl) in
+    rw is (attribute_bytes-frame kind_of (λ bytes. Ok bytes) kind bytes bytes small room refl) in
     let before = list-frames layout placed (omega arith) old attrs lists in
     let after = frames-list layout placed (omega arith) (old ++ text) (attrs ++ attr len (kind_of kind) bytes ∷ [])
-        (frames-more layout placed (omega arith) old text attrs (attr len (kind_of kind) bytes) before frame) in
+    (frames-more layout placed (omega arith) old text attrs (attr len (kind_of kind) bytes) before frame) in
     subst (λ (s : List ℕ). elements (frame_at layout) s ≡ Ok (attrs ++ attr len (kind_of kind) bytes ∷ [])) fits.0 after

@@ -10,7 +10,7 @@ abbrev pub IsReadBack : {K : Type 0} → (ℕ → K) → ℕ → ℕ → List �
 IsReadBack kind_of len kind payload =
     (bytes : List ℕ) × (attribute_wire len kind (Ok payload) ≡ Ok bytes)
     × ((rest : List ℕ) → frame_at (attribute kind_of (λ bytes. Ok bytes)) (bytes ++ rest)
-        ≡ Ok (attr len (kind_of kind) payload, rest))
+    ≡ Ok (attr len (kind_of kind) payload, rest))
 
 -- a type field has the flags and the number of another one
 pub record KeepsField {T : Type 0} (type_number : T → ℕ) (field read : AttrType T) : Type 0 where

@@ -16,13 +16,19 @@ bit_where flag bit = if flag then bit else 0
 
 -- what a field's number says: bit 15 is the nested flag, bit 14 that of network order, the others the type
 abbrev pub type_of : {T : Type 0} → (ℕ → T) → ℕ → AttrType T
-type_of value_of n = record { nla_nested = has n 32768; nla_network_order = has n 16384;
-    nla_type = value_of (bit_and n 16383) }
+type_of value_of n = record {
+  nla_nested = has n 32768;
+  nla_network_order = has n 16384;
+  nla_type = value_of (bit_and n 16383);
+}
 
 -- the same flags with what the number means
 abbrev pub typed_field : {T : Type 0} → (ℕ → T) → AttrType ℕ → AttrType T
-typed_field value_of t = record { nla_nested = t.nla_nested; nla_network_order = t.nla_network_order;
-    nla_type = value_of t.nla_type }
+typed_field value_of t = record {
+  nla_nested = t.nla_nested;
+  nla_network_order = t.nla_network_order;
+  nla_type = value_of t.nla_type;
+}
 
 -- the number with the two bits set where the flags hold
 abbrev pub field_of : ℕ → Bool → Bool → ℕ
@@ -41,5 +47,8 @@ attr_type_eq same = eq_of_both (eq_of_both (on (λ t. t.nla_nested) beq) (on (λ
 abbrev pub built_attr_type : {T : Type 0} → AttrTypeBuilder T → Outcome (AttrType T)
 built_attr_type b =
     require_field (codes "nla_type") b.nla_type (λ t.
-    Ok (record { nla_nested = unwrap_or b.nla_nested false; nla_network_order = unwrap_or b.nla_network_order false;
-        nla_type = t }))
+    Ok (record {
+      nla_nested = unwrap_or b.nla_nested false;
+      nla_network_order = unwrap_or b.nla_network_order false;
+      nla_type = t;
+    }))

@@ -30,7 +30,7 @@ items-sum size [] None = refl
 items-sum size [] (Some e) = refl
 items-sum size (a ∷ later) fault =
     sum_by-cons (added size) (Ok a) (items_of (later, fault)) ∙ ap (λ n. size a + n) (items-sum size later fault)
-        ∙ sym (sum_by-cons size a later)
+    ∙ sym (sum_by-cons size a later)
 
 items-fault : {A : Type 0} (values : List A) (fault : Option DeError) → fault_among (items_of (values, fault)) ≡ fault
 items-fault [] None = refl

@@ -12,6 +12,8 @@ pub record IsSumSoFar {A : Type 0} (size : A → ℕ) (all left : Cut A) (so_far
 
 pub sum_end : {A : Type 0} (size : A → ℕ) (all left : Cut A) (so_far : ℕ) → IsSumSoFar size all left so_far
     → left ≡ ([], None) → IsSum size all so_far
-sum_end size all left so_far is last =
-    (is.fault ∙ ap (λ c. c.1) last, sym (is.total ∙ ap (λ c. as_u64 (so_far + sum_by size c.0)) last
-        ∙ omega (arith, is.fits)))
+sum_end size all left so_far is last = (
+  is.fault ∙ ap (λ c. c.1) last,
+  sym (is.total ∙ ap (λ c. as_u64 (so_far + sum_by size c.0)) last
+      ∙ omega (arith, is.fits)),
+)

@@ -29,9 +29,16 @@ in-open None h e = absurd cc
 pub free-set : (slots : List Slot) (first : ℕ) (ks : List ℕ) (k : ℕ) (x : Slot) → AreFree slots first ks → IsApart k ks
     → AreFree (slice_set slots k x) first ks
 free-set slots first [] k x free apart = free
-free-set slots first (j ∷ later) k x free apart =
-    (free.0, free.1, free.2, (free.3.0, get-other slots j k x apart.0 ∙ free.3.1,
-        free-set slots free.3.0 later k x free.3.2 apart.1))
+free-set slots first (j ∷ later) k x free apart = (
+  free.0,
+  free.1,
+  free.2,
+  (
+    free.3.0,
+    get-other slots j k x apart.0 ∙ free.3.1,
+    free-set slots free.3.0 later k x free.3.2 apart.1,
+  ),
+)
 
 -- the place of a handle is none of them
 pub open-apart : (slots : List Slot) (first : ℕ) (ks : List ℕ) (k : ℕ) (h : HandleState) → AreFree slots first ks
@@ -54,11 +61,18 @@ pub freed-first : (slots after : List Slot) (first f : ℕ) (ks : List ℕ) (k :
     → AreFree slots first ks → AreFree after f (k ∷ ks)
 freed-first slots after first f ks k h same some is within there free =
     let size : length after ≡ length slots = ap (λ (hs : List Slot). length hs) is
-        ∙ length-set slots k (slot.Free first) in
+    ∙ length-set slots k (slot.Free first) in
     let apart = open-apart slots first ks k h free there in
-    let all : AreFree (slice_set slots k (slot.Free first)) f (k ∷ ks) =
-        (same, some, apart, (first, get-set slots k (slot.Free first) (omega (arith, size, within)),
-        free-set slots first ks k (slot.Free first) free apart)) in
+    let all : AreFree (slice_set slots k (slot.Free first)) f (k ∷ ks) = (
+      same,
+      some,
+      apart,
+      (
+        first,
+        get-set slots k (slot.Free first) (omega (arith, size, within)),
+        free-set slots first ks k (slot.Free first) free apart,
+      ),
+    ) in
     subst (λ (hs : List Slot). AreFree hs f (k ∷ ks)) (sym is) all
 
 -- the first of them is given again
@@ -68,19 +82,23 @@ taken-again : (slots : List Slot) (first : ℕ) (ks : List ℕ) (next : ℕ) (x 
 taken-again slots first [] next x some is free = absurd (some free)
 taken-again slots first (j ∷ later) next x some is free =
     let both : Some (slot.Free free.3.0) ≡ Some (slot.Free next) = sym free.3.1
-        ∙ ap (λ (i : ℕ). slice_get slots i) (sym free.0) ∙ is in
+    ∙ ap (λ (i : ℕ). slice_get slots i) (sym free.0) ∙ is in
     let same : free.3.0 ≡ next = cc in
-    let after = free-set slots free.3.0 later j x free.3.2 free.2 in
-    (free.0, subst (λ (i : ℕ). AreFree (slice_set slots i x) next later) (sym free.0)
-        (subst (λ (n : ℕ). AreFree (slice_set slots j x) n later) same after))
+    let after = free-set slots free.3.0 later j x free.3.2 free.2 in (
+      free.0,
+      subst (λ (i : ℕ). AreFree (slice_set slots i x) next later) (sym free.0)
+          (subst (λ (n : ℕ). AreFree (slice_set slots j x) n later) same after),
+    )
 
 pub given-again : (slots : List Slot) (first k n next : ℕ) (ks : List ℕ) (x : Slot) → k ≡ first → n ≡ next → first ≢ 0
     → slice_get slots first ≡ Some (slot.Free next) → AreFree slots first ks
     → (k ≡ next_place slots ks) × AreFree (slice_set slots k x) n (later_places ks)
 given-again slots first k n next ks x same goes some is free =
-    let r = taken-again slots first ks next x some is free in
-    (same ∙ r.0, subst (λ (i : ℕ). AreFree (slice_set slots i x) n (later_places ks)) (sym same)
-        (subst (λ (m : ℕ). AreFree (slice_set slots first x) m (later_places ks)) (sym goes) r.1))
+    let r = taken-again slots first ks next x some is free in (
+      same ∙ r.0,
+      subst (λ (i : ℕ). AreFree (slice_set slots i x) n (later_places ks)) (sym same)
+          (subst (λ (m : ℕ). AreFree (slice_set slots first x) m (later_places ks)) (sym goes) r.1),
+    )
 
 get-pushed : {X : Type 0} (xs : List X) (x : X) → slice_get (xs ++ x ∷ []) (length xs) ≡ Some x
 get-pushed [] x = refl
@@ -101,4 +119,4 @@ pub again : (slots same : List Slot) (first k : ℕ) (ks : List ℕ) (after : Li
     → AreFree same first ks → (k ≡ next_place same ks) × AreFree after next (later_places ks)
 again slots same first k ks after next is says free =
     subst (λ (hs : List Slot). AreFree hs first ks → (k ≡ next_place hs ks)
-        × AreFree after next (later_places ks)) is says free
+    × AreFree after next (later_places ks)) is says free

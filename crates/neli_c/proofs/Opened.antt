@@ -9,6 +9,6 @@ pub carried : (P : ℤ → Session → Session → Type 0) (code : ℤ) (o n : O
     → IfSome o (λ s. IsSome n × IfSome n (P (to_z w32 (of_z w32 code)) s))
 carried P code o n s u t fits taken same put p =
     let q : P (to_z w32 (of_z w32 code)) s t = subst (λ (z : ℤ). P z s t) (sym (to_z-of_z w32 code fits))
-        (subst (λ (x : Session). P code x t) same p) in
+    (subst (λ (x : Session). P code x t) same p) in
     subst (λ (o : Option Session). IfSome o (λ s. IsSome n × IfSome n (P (to_z w32 (of_z w32 code)) s))) taken
     (subst (λ (n : Option Session). IsSome n × IfSome n (P (to_z w32 (of_z w32 code)) s)) (sym put) (refl, q))

@@ -39,21 +39,27 @@ module _ {E : Type 0} (h after : HandleState) (s t : Session) (code : ℤ) (a b 
   gives : (r : Result (Reply ℕ (List ℕ)) E) (d : Delivery) (ds : List Delivery) → code ≡ reply_code r
       → Holds r s.held t.held a b → Given r d ds
       → OnErr r ((after ≡ h) × (t.router ≡ s.router)) → ((code ≡ memory) × (after ≡ h) × (t.router ≡ s.router))
-          ⊎ GivesDelivery code h after t d ds b
+      ⊎ GivesDelivery code h after t d ds b
   gives (Ok answer) d ds is held given err =
       let i : Item ℕ (List ℕ) = item_of (λ n. n) h.needs_ack (has_number h.number) h.single_given given.0 in
       let same : answer ≡ reply.Item i = given.2 in
       let shows : Holds {E = E} (Ok (reply.Item i)) s.held t.held a b =
-          subst (λ (x : Reply ℕ (List ℕ)). Holds {E = E} (Ok x) s.held t.held a b) same held in
-      inr (given.0, given.1, is ∙ ap (λ (x : Reply ℕ (List ℕ)). reply_code {E = E} (Ok x)) same,
-          given-held E i s.held t.held a b shows, given.3, given.4)
+      subst (λ (x : Reply ℕ (List ℕ)). Holds {E = E} (Ok x) s.held t.held a b) same held in
+      inr (
+        given.0,
+        given.1,
+        is ∙ ap (λ (x : Reply ℕ (List ℕ)). reply_code {E = E} (Ok x)) same,
+        given-held E i s.held t.held a b shows,
+        given.3,
+        given.4,
+      )
   gives (Err e) d ds is held given err = inl (is, err.0, err.1)
 
   pub reads : (r : Result (Reply ℕ (List ℕ)) E) → code ≡ reply_code r → Holds r s.held t.held a b
       → (t.router.next_seq ≡ s.router.next_seq)
       → (h.ended ≡ true → (r ≡ Ok reply.End) × (after ≡ h) × (t.router ≡ s.router))
       → (h.ended ≡ false → pending s h.number ≡ None → (r ≡ Ok (reply.Item (Err router.ClosedChannel)))
-          × (after ≡ record h { ended = true }) × (t.router ≡ s.router))
+      × (after ≡ record h { ended = true }) × (t.router ≡ s.router))
       → (h.ended ≡ false → pending s h.number ≡ Some [] → (r ≡ Ok reply.Waits) × (after ≡ h) × (t.router ≡ s.router))
       → (h.ended ≡ false → (d : Delivery) (ds : List Delivery) → pending s h.number ≡ Some (d ∷ ds) → Given r d ds)
       → ((w : Option ℕ) → w ≢ h.number → pending t w ≡ pending s w)

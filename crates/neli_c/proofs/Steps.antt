@@ -27,7 +27,7 @@ some-there (suc n) m isnt same = omega (arith, same)
 several-some : (n : ℕ) (code : ℤ) → 0 < n → code ≡ several_code n code
 several-some n code some =
     ap (λ (b : Bool). if b then room else code) (sym (ne_eqb n 0
-        (λ is. (let none : n ≡ 0 = is in omega (arith, some, none)))))
+    (λ is. (let none : n ≡ 0 = is in omega (arith, some, none)))))
 
 module _ {A : Type 0} (Step : NeliWalk → NeliWalk → A → Type 0) where
   -- one step more
@@ -42,7 +42,7 @@ module _ {A : Type 0} (Step : NeliWalk → NeliWalk → A → Type 0) where
       → GivesEach Step w v (take (k + 1) (slice_set xs k a))
   each-stored w u v xs k a within so g =
       subst (λ (ys : List A). GivesEach Step w v ys) (sym (take_more_set xs k a within))
-          (each-more w u v (take k xs) a so g)
+      (each-more w u v (take k xs) a so g)
 
   module _ (code_at : NeliWalk → ℤ) where
     -- where there is a first step, its code is that of an item
@@ -57,7 +57,7 @@ module _ {A : Type 0} (Step : NeliWalk → NeliWalk → A → Type 0) where
         → GivesEach Step w v (take n xs) → item ≡ several_code most (code_at w)
     first-code says w v xs n most some within size e =
         sym (first-step says w v xs n some (omega (arith, within, size)) e)
-            ∙ several-some most (code_at w) (omega (arith, some, within))
+        ∙ several-some most (code_at w) (omega (arith, some, within))
 
     -- where none is given, the code is that of the first step
     pub none-given : (w v : NeliWalk) (xs : List A) (n most : ℕ) (code : ℤ) → n ≡ 0 → 0 < most
@@ -66,5 +66,5 @@ module _ {A : Type 0} (Step : NeliWalk → NeliWalk → A → Type 0) where
     none-given w v xs n most code none some e full stopped =
         let same : w ≡ v = subst (λ (k : ℕ). GivesEach Step w v (take k xs)) none e in
         let code_is : code ≡ code_at v = stopped (λ is. (let all : n ≡ most = full is in
-            omega (arith, none, some, all))) in
+        omega (arith, none, some, all))) in
         code_is ∙ ap code_at (sym same) ∙ several-some most (code_at w) some

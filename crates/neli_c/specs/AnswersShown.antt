@@ -13,7 +13,7 @@ use Rattle.neli_c.specs.Walks.{bytes_from}
 abbrev pub payload_shown : List ℕ → NeliMessage → Option (List ℕ)
 payload_shown bytes m =
     if nat_le (m.payload + m.payload_length) (length bytes) then Some (bytes_from m.payload m.payload_length bytes)
-        else None
+    else None
 
 -- the end of a dump: type 3 with the flag MULTI, and some bytes
 abbrev pub is_dump_end : ℕ → ℕ → List ℕ → Bool
@@ -43,7 +43,7 @@ answer_code number flags s =
 abbrev pub error_attributes : ℕ → List ℕ → ℕ
 error_attributes flags s =
     if echoes_header flags s then (if is_capped (flags_of flags) && has_attributes (flags_of flags) then 20
-        else length s)
+    else length s)
     else min (echo_end s) (length s)
 
 -- where the attributes begin
@@ -57,8 +57,13 @@ payload_code m (Some s) = answer_code m.message_type m.flags s
 
 -- the header that an answer echoes
 abbrev pub echo_shown : NeliAnswer → Header ℕ
-echo_shown a = record { len = a.echo_length; message_type = a.echo_type; flags = flags_of a.echo_flags;
-    sequence_number = a.echo_number; port = a.echo_port }
+echo_shown a = record {
+  len = a.echo_length;
+  message_type = a.echo_type;
+  flags = flags_of a.echo_flags;
+  sequence_number = a.echo_number;
+  port = a.echo_port;
+}
 
 -- a header of zeros
 abbrev pub no_header : Header ℕ
@@ -68,6 +73,8 @@ no_header = record { len = 0; message_type = 0; flags = flags_of 0; sequence_num
 abbrev pub IsShown : NeliMessage → NeliAnswer → List ℕ → Type 0
 IsShown m a s =
     (a.code ≡ code_in s) × (echo_shown a ≡ (if nat_eq m.message_type 2 then header_in (λ n. n) (drop 4 s)
-        else no_header))
-    × (a.attributes ≡ record { place = m.payload + attributes_begin m.message_type m.flags s;
-        end = m.payload + length s })
+    else no_header))
+    × (a.attributes ≡ record {
+      place = m.payload + attributes_begin m.message_type m.flags s;
+      end = m.payload + length s;
+    })

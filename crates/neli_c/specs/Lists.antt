@@ -38,7 +38,7 @@ pub data Passes (bytes : List ℕ) (number : ℕ) (w : NeliWalk) : NeliWalk → 
 abbrev pub IsFound : List ℕ → NeliWalk → ℕ → NeliAttribute → Type 0
 IsFound bytes w number a =
     (at : NeliWalk) × (after : NeliWalk) × Passes bytes number w at × GivesAttribute bytes at after a
-        × (a.number ≡ number)
+    × (a.number ≡ number)
 
 -- there is none with this number before the walk's end, or before what is refused with this code
 abbrev pub FindsNone : List ℕ → NeliWalk → ℕ → ℤ → Type 0

@@ -69,7 +69,7 @@ TakesDatagram code bytes groups s t =
     ((code ≡ ok) ⊎ (code ≡ memory))
     × (code ≡ ok → (w : Option ℕ) → pending t w
     ≡ option_map (λ ds. ds ++ datagram_share s.router.deliveries.port (is_open s) w (cut_of untyped_layout bytes)
-        (without_zeros groups)) (pending s w))
+    (without_zeros groups)) (pending s w))
     × (code ≡ memory → (w : Option ℕ) → pending t w ≡ pending s w)
     × KeepsRest s t
 
@@ -77,14 +77,14 @@ TakesDatagram code bytes groups s t =
 abbrev pub fault_kind : ℤ → ErrorKind
 fault_kind n =
     if nat_eq (unsigned_abs n) 11 then kind.WouldBlock
-        else (if nat_eq (unsigned_abs n) 104 then kind.ConnectionReset else kind.Other)
+    else (if nat_eq (unsigned_abs n) 104 then kind.ConnectionReset else kind.Other)
 
 -- each handle gets its share of the fault; or memory ran out, and what waits is the same
 abbrev pub TakesFault : ℤ → ℤ → Session → Session → Type 0
 TakesFault code errno s t =
     ((code ≡ ok) ⊎ (code ≡ memory))
     × (code ≡ ok → (w : Option ℕ) → pending t w ≡ option_map (λ ds. ds ++ fault_share w (socket.Io (fault_kind errno)))
-        (pending s w))
+    (pending s w))
     × (code ≡ memory → (w : Option ℕ) → pending t w ≡ pending s w)
     × KeepsRest s t
 
@@ -112,7 +112,7 @@ ClosesHandle code k s t =
     × (t.handles.items ≡ slice_set s.handles.items k (slot.Free s.freed))
     × (k ≢ 0 → (ks : List ℕ) → HasFree s ks → HasFree t (k ∷ ks))
     × (t.router.deliveries.port ≡ s.router.deliveries.port) × (t.router.next_seq ≡ s.router.next_seq)
-        × (t.held ≡ s.held))
+    × (t.held ≡ s.held))
 
 -- the request of this body is written, the place has its handle, and its number is used up
 abbrev pub SendsRequest : ℕ → ℕ → List ℕ → Session → Session → List ℕ → List ℕ → NeliSent → Type 0
@@ -120,7 +120,7 @@ SendsRequest message_type flags body s t old new sent =
     let number = s.router.next_seq in
     (bytes : List ℕ)
     × (frame_or_refusal {T = ℕ} {P = List ℕ} (λ n. n) (λ b. Ok b) length s.router.deliveries.port number
-        (is_open s number) message_type (flags_of flags) (payload.Payload body) ≡ Ok bytes)
+    (is_open s number) message_type (flags_of flags) (payload.Payload body) ≡ Ok bytes)
     × (new ≡ put_first bytes old) × (sent.length ≡ length bytes)
     × (handle_at sent.handle s.handles.items ≡ None)
     × (t.handles.items ≡ put_at sent.handle (asks number (flags_of flags)) s.handles.items)
@@ -178,8 +178,13 @@ payload_error p = pos 0
 -- what is shown of a message
 abbrev pub item_shown : Nlmsghdr ℕ (List ℕ) → NeliItem
 item_shown m =
-    record { message_type = m.header.message_type; flags = m.header.flags.0; number = m.header.sequence_number;
-        port = m.header.port; error = payload_error m.payload }
+    record {
+      message_type = m.header.message_type;
+      flags = m.header.flags.0;
+      number = m.header.sequence_number;
+      port = m.header.port;
+      error = payload_error m.payload;
+    }
 
 -- a message is held, and shown; without an item both are as before
 abbrev pub Holds : {E : Type 0} → Result (Reply ℕ (List ℕ)) E → Option (Nlmsghdr ℕ (List ℕ))

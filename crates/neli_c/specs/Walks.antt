@@ -58,15 +58,22 @@ walk_code layout (Some (b ∷ s)) = reading_code (frame_at layout (b ∷ s))
 
 -- the header that a message shows
 abbrev pub header_shown : NeliMessage → Header ℕ
-header_shown m = record { len = m.length; message_type = m.message_type; flags = flags_of m.flags;
-    sequence_number = m.number; port = m.port }
+header_shown m = record {
+  len = m.length;
+  message_type = m.message_type;
+  flags = flags_of m.flags;
+  sequence_number = m.number;
+  port = m.port;
+}
 
 -- the message is the frame that begins the bytes that were left; the walk goes past it
 abbrev pub GivesMessage : List ℕ → NeliWalk → NeliWalk → NeliMessage → Type 0
 GivesMessage bytes old new m =
     let s = bytes_from old.place (old.end - old.place) bytes in
-    (frame_at message_layout s ≡ Ok ((header_shown m, bytes_from m.payload m.payload_length bytes),
-        drop (align m.length) s))
+    (frame_at message_layout s ≡ Ok (
+      (header_shown m, bytes_from m.payload m.payload_length bytes),
+      drop (align m.length) s,
+    ))
     × (m.payload ≡ old.place + 16) × (m.payload_length ≡ m.length - 16) × (m.payload + m.payload_length ≤ new.place)
     × (new ≡ record old { place = old.place + align m.length })
     × (new.place ≤ old.end)
@@ -83,8 +90,10 @@ IsInParts a = (a.number ≡ bit_and a.field 16383) × (a.flags ≡ bit_and a.fie
 abbrev pub GivesAttribute : List ℕ → NeliWalk → NeliWalk → NeliAttribute → Type 0
 GivesAttribute bytes old new a =
     let s = bytes_from old.place (old.end - old.place) bytes in
-    (frame_at attribute_layout s ≡ Ok ((head_shown a, bytes_from a.payload a.payload_length bytes),
-        drop (align a.length) s))
+    (frame_at attribute_layout s ≡ Ok (
+      (head_shown a, bytes_from a.payload a.payload_length bytes),
+      drop (align a.length) s,
+    ))
     × IsInParts a
     × (a.payload ≡ old.place + 4) × (a.payload_length ≡ a.length - 4) × (a.payload + a.payload_length ≤ new.place)
     × (new ≡ record old { place = old.place + align a.length })

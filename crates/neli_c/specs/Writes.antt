@@ -16,7 +16,7 @@ put at written out = take at out ++ put_first written (drop at out)
 abbrev pub header_bytes : ℕ → ℕ → ℕ → ℕ → ℕ → List ℕ
 header_bytes len message_type flags number port =
     (((little_bytes 4 len ++ little_bytes 2 message_type) ++ little_bytes 2 flags) ++ little_bytes 4 number)
-        ++ little_bytes 4 port
+    ++ little_bytes 4 port
 
 -- ---- what calls answer
 

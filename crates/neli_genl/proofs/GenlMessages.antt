@@ -43,9 +43,9 @@ module _ {C T H V : Type 0} (width : ℕ) (cmd_number : C → ℕ) (cmd_of : ℕ
       let long : ltb (length s) 4 ≡ false = le-ltb (length s) 4 (omega arith) in
       let parts = parts-back (length s) header attrs value list reads lists in
       let cmds : cmd_of (number_in 1 0 s) ≡ m.cmd = value-back 1 cmd_number cmd_of m.cmd
-          (little_bytes 1 m.version ++ little_bytes 2 m.reserved ++ header ++ attrs) is.cmd in
+      (little_bytes 1 m.version ++ little_bytes 2 m.reserved ++ header ++ attrs) is.cmd in
       let versions : number_in 1 1 s ≡ m.version = number-back 1 m.version
-          (little_bytes 2 m.reserved ++ header ++ attrs) is.version in
+      (little_bytes 2 m.reserved ++ header ++ attrs) is.version in
       let reserves : number_in 2 2 s ≡ m.reserved = number-back 2 m.reserved (header ++ attrs) is.reserved in
       (rw (writes, spells) refl, rw (whole, long, parts, cmds, versions, reserves) refl)
 
@@ -57,17 +57,17 @@ module _ {C T H V : Type 0} (width : ℕ) (cmd_number : C → ℕ) (cmd_of : ℕ
   plain-written a is =
       let small : type_number a.nla_type.nla_type < 65536 = omega (arith, is.kind) in
       attribute-written (type_of value_of) a.nla_len (number_of type_number a.nla_type) a.nla_type a.nla_payload is.len
-          is.fits (number_of-small type_number a.nla_type small)
-          (type_of-named value_of type_number a.nla_type is.kind is.named)
+      is.fits (number_of-small type_number a.nla_type small)
+      (type_of-named value_of type_number a.nla_type is.kind is.named)
 
   attrs-back : (attrs : Attrs T) → ArePlainNlattrs type_number value_of attrs
       → (bytes : List ℕ) × (attrs_wire type_number attrs ≡ Ok bytes)
       × (attributes_in (type_of value_of) bytes ≡ Ok (map nlattr_says attrs))
   attrs-back attrs are =
       list-reads_back (type_of value_of) (nlattr_wire type_number (λ bytes. Ok bytes)) nlattr_says attrs
-          (All-weaker (IsPlainNlattr type_number value_of)
-          (IsWrittenAs (attribute (type_of value_of) (λ bytes. Ok bytes))
-          (nlattr_wire type_number (λ bytes. Ok bytes)) nlattr_says) plain-written attrs are)
+      (All-weaker (IsPlainNlattr type_number value_of)
+      (IsWrittenAs (attribute (type_of value_of) (λ bytes. Ok bytes))
+      (nlattr_wire type_number (λ bytes. Ok bytes)) nlattr_says) plain-written attrs are)
 
   pub genlmsghdr-whole : (view : H → V) (m : Genlmsghdr C T H) → IsPlainGenlmsghdr width cmd_number cmd_of m
       → ArePlainNlattrs type_number value_of m.attrs → GenlReadsBackWhole width cmd_number cmd_of type_number value_of
@@ -75,5 +75,5 @@ module _ {C T H V : Type 0} (width : ℕ) (cmd_number : C → ℕ) (cmd_of : ℕ
   genlmsghdr-whole view m is are header writes reads =
       let list = attrs-back m.attrs are in
       let both = genlmsghdr-back m is header list.0 (view m.header)
-          (map nlattr_says m.attrs) writes reads list.1 list.2 in
+      (map nlattr_says m.attrs) writes reads list.1 list.2 in
       (genlmsghdr_bytes (cmd_number m.cmd) m.version m.reserved ++ header ++ list.0, both.0, both.1)

@@ -58,29 +58,65 @@ module _ (number cpu time : ℕ) (rest : List ℕ) where
   event-back : (event : ProcEvent) → IsPlainEvent event → event_of (event_kind event) (whole event) ≡ Ok event
   event-back (Ack a) is = rw (enough 20 (Ack a) (omega arith), number-back 4 a _ is) refl
   event-back (Fork a b c d) is =
-      rw (enough 32 (Fork a b c d) (omega arith), signed-back a _ is.0.0, signed-back b _ is.0.1,
-          signed-back c _ is.1.0, signed-back d _ is.1.1) refl
+      rw (
+        enough 32 (Fork a b c d) (omega arith),
+        signed-back a _ is.0.0,
+        signed-back b _ is.0.1,
+        signed-back c _ is.1.0,
+        signed-back d _ is.1.1,
+      ) refl
   event-back (Exec a b) is = rw (enough 24 (Exec a b) (omega arith), signed-back a _ is.0, signed-back b _ is.1) refl
   event-back (Uid a b c d) is =
-      rw (enough 32 (Uid a b c d) (omega arith), signed-back a _ is.0.0, signed-back b _ is.0.1, number-back 4 c _ is.1,
-          number-back 4 d _ is.2) refl
+      rw (
+        enough 32 (Uid a b c d) (omega arith),
+        signed-back a _ is.0.0,
+        signed-back b _ is.0.1,
+        number-back 4 c _ is.1,
+        number-back 4 d _ is.2,
+      ) refl
   event-back (Gid a b c d) is =
-      rw (enough 32 (Gid a b c d) (omega arith), signed-back a _ is.0.0, signed-back b _ is.0.1, number-back 4 c _ is.1,
-          number-back 4 d _ is.2) refl
+      rw (
+        enough 32 (Gid a b c d) (omega arith),
+        signed-back a _ is.0.0,
+        signed-back b _ is.0.1,
+        number-back 4 c _ is.1,
+        number-back 4 d _ is.2,
+      ) refl
   event-back (Sid a b) is = rw (enough 24 (Sid a b) (omega arith), signed-back a _ is.0, signed-back b _ is.1) refl
   event-back (Ptrace a b c d) is =
-      rw (enough 32 (Ptrace a b c d) (omega arith), signed-back a _ is.0.0, signed-back b _ is.0.1,
-          signed-back c _ is.1.0, signed-back d _ is.1.1) refl
+      rw (
+        enough 32 (Ptrace a b c d) (omega arith),
+        signed-back a _ is.0.0,
+        signed-back b _ is.0.1,
+        signed-back c _ is.1.0,
+        signed-back d _ is.1.1,
+      ) refl
   event-back (Comm a b c) is =
-      rw (enough 40 (Comm a b c) (omega (arith, length-append c rest, is.1)), signed-back a _ is.0.0,
-          signed-back b _ is.0.1, take_at c rest 16 is.1) refl
+      rw (
+        enough 40 (Comm a b c) (omega (arith, length-append c rest, is.1)),
+        signed-back a _ is.0.0,
+        signed-back b _ is.0.1,
+        take_at c rest 16 is.1,
+      ) refl
   event-back (Coredump a b c d) is =
-      rw (enough 32 (Coredump a b c d) (omega arith), signed-back a _ is.0.0, signed-back b _ is.0.1,
-          signed-back c _ is.1.0, signed-back d _ is.1.1) refl
+      rw (
+        enough 32 (Coredump a b c d) (omega arith),
+        signed-back a _ is.0.0,
+        signed-back b _ is.0.1,
+        signed-back c _ is.1.0,
+        signed-back d _ is.1.1,
+      ) refl
   event-back (Exit a b c d e f) is =
       exit-either (nat_eq c 0) (whole (Exit a b c d e f))
-      ∙ rw (enough 40 (Exit a b c d e f) (omega arith), signed-back a _ is.0.0, signed-back b _ is.0.1,
-          number-back 4 c _ is.1, number-back 4 d _ is.2, signed-back e _ is.3.0, signed-back f _ is.3.1) refl
+      ∙ rw (
+        enough 40 (Exit a b c d e f) (omega arith),
+        signed-back a _ is.0.0,
+        signed-back b _ is.0.1,
+        number-back 4 c _ is.1,
+        number-back 4 d _ is.2,
+        signed-back e _ is.3.0,
+        signed-back f _ is.3.1,
+      ) refl
 
 -- ---- with the header
 
@@ -92,14 +128,14 @@ proc_event-before h rest is =
     let s : List ℕ = proc_event_bytes h ++ rest in
     let long : ltb (length s) 16 ≡ false = le-ltb (length s) 16 (omega arith) in
     let kinds : proc_event_type_of (number_in 4 0 s) ≡ event_kind h.event =
-        value-back 4 proc_event_type_number proc_event_type_of (event_kind h.event)
-        (little_bytes 4 h.cpu ++ little_bytes 8 h.timestamp_ns ++ event_bytes h.event ++ rest) (kind-named h.event) in
+    value-back 4 proc_event_type_number proc_event_type_of (event_kind h.event)
+    (little_bytes 4 h.cpu ++ little_bytes 8 h.timestamp_ns ++ event_bytes h.event ++ rest) (kind-named h.event) in
     let event : event_of (proc_event_type_of (number_in 4 0 s)) s ≡ Ok h.event =
-        ap (λ (k : ProcEventType). event_of k s) kinds ∙ event-back number h.cpu h.timestamp_ns rest h.event is.event in
+    ap (λ (k : ProcEventType). event_of k s) kinds ∙ event-back number h.cpu h.timestamp_ns rest h.event is.event in
     let cpus : number_in 4 4 s ≡ h.cpu = number-back 4 h.cpu
-        (little_bytes 8 h.timestamp_ns ++ event_bytes h.event ++ rest) is.cpu in
+    (little_bytes 8 h.timestamp_ns ++ event_bytes h.event ++ rest) is.cpu in
     let times : number_in 8 8 s ≡ h.timestamp_ns = number-back 8 h.timestamp_ns
-        (event_bytes h.event ++ rest) is.timestamp_ns in
+    (event_bytes h.event ++ rest) is.timestamp_ns in
     rw (long, event, cpus, times) refl
 
 pub proc_event-back : (h : ProcEventHeader) → IsPlainProcEvent h → proc_event_of (proc_event_bytes h) ≡ Ok h

@@ -43,8 +43,14 @@ pub record IsPlainCnMsg (h : CnMsgHeader) : Type 0 where
 -- the header of what was given, with the length of the payload
 abbrev pub cn_msg_with : {P : Type 0} → CnMsgBuilder P → CnMsgIdx → CnMsgVal → ℕ → CnMsgHeader
 cn_msg_with b idx val len =
-    record { idx = idx; val = val; seq = unwrap_or b.seq 0; ack = unwrap_or b.ack 0; len = len;
-        flags = unwrap_or b.flags 0 }
+    record {
+      idx = idx;
+      val = val;
+      seq = unwrap_or b.seq 0;
+      ack = unwrap_or b.ack 0;
+      len = len;
+      flags = unwrap_or b.flags 0;
+    }
 
 -- what a builder makes of its fields: the length is that of the payload's bytes, which fits 16 bits
 abbrev pub cn_msg_built : {P : Type 0} → (P → ℕ) → CnMsgBuilder P → Outcome (CnMsg P)

@@ -64,8 +64,13 @@ abbrev pub fields_of : {C V A : Type 0} → (ℕ → C) → (List ℕ → Readin
     → Result (GenlFields C V A) DeError
 fields_of cmd_of header_at attrs_of s =
     parts_of header_at attrs_of (length s) (drop 4 s) >>= λ parts.
-    Ok (record { cmd = cmd_of (number_in 1 0 s); version = number_in 1 1 s; reserved = number_in 2 2 s;
-        header = parts.0; attrs = parts.1 })
+    Ok (record {
+      cmd = cmd_of (number_in 1 0 s);
+      version = number_in 1 1 s;
+      reserved = number_in 2 2 s;
+      header = parts.0;
+      attrs = parts.1;
+    })
 
 -- what bytes say, where the family's header has `width` bytes, a multiple of four
 abbrev pub genlmsghdr_of : {C V T : Type 0} → ℕ → (ℕ → C) → (ℕ → T) → (List ℕ → Reading V) → List ℕ
@@ -79,7 +84,7 @@ genlmsghdr_of width cmd_of value_of header_at s =
 abbrev pub genlmsghdr_takes_memory : {V : Type 0} → ℕ → (List ℕ → Reading V) → (List ℕ → Type 0) → List ℕ → Type 0
 genlmsghdr_takes_memory width header_at header_takes_memory s =
     (width % 4 ≡ 0) × (4 ≤ length s) × parts_take_memory header_at header_takes_memory (λ rest. 0 < length rest)
-        (drop 4 s)
+    (drop 4 s)
 
 -- the bytes before the family's header
 abbrev pub genlmsghdr_bytes : ℕ → ℕ → ℕ → List ℕ
@@ -89,7 +94,7 @@ genlmsghdr_bytes cmd version reserved = little_bytes 1 cmd ++ little_bytes 1 ver
 abbrev pub genlmsghdr_wire : {C T H : Type 0} → (C → ℕ) → (T → ℕ) → (H → Wire) → Genlmsghdr C T H → Wire
 genlmsghdr_wire cmd_number type_number header_wire m =
     (Ok (genlmsghdr_bytes (cmd_number m.cmd) m.version m.reserved) +++ header_wire m.header)
-        +++ attrs_wire type_number m.attrs
+    +++ attrs_wire type_number m.attrs
 
 -- how many bytes it is written as
 abbrev pub genlmsghdr_size : {C T H : Type 0} → (H → ℕ) → Genlmsghdr C T H → ℕ
@@ -110,5 +115,10 @@ abbrev pub genlmsghdr_plain : {C T H : Type 0} → H → GenlmsghdrBuilder C T H
 genlmsghdr_plain none b =
     require_field (codes "cmd") b.cmd (λ cmd.
     require_field (codes "version") b.version (λ version.
-    Ok (record { cmd = cmd; version = version; reserved = 0; header = unwrap_or b.header none;
-        attrs = unwrap_or b.attrs [] })))
+    Ok (record {
+      cmd = cmd;
+      version = version;
+      reserved = 0;
+      header = unwrap_or b.header none;
+      attrs = unwrap_or b.attrs [];
+    })))

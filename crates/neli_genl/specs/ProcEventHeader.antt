@@ -24,7 +24,7 @@ proc_event_takes_memory s = (16 ≤ length s) × IsUnknown (proc_event_type_of (
 abbrev pub proc_event_bytes : ProcEventHeader → List ℕ
 proc_event_bytes h =
     little_bytes 4 (proc_event_type_number (event_kind h.event)) ++ little_bytes 4 h.cpu
-        ++ little_bytes 8 h.timestamp_ns
+    ++ little_bytes 8 h.timestamp_ns
     ++ event_bytes h.event
 
 -- how many bytes it takes

@@ -6,5 +6,10 @@ use Rattle.neli_genl.specs.declared.genlmsghdr.Genlmsghdr.{Genlmsghdr}
 
 -- what a message says, by what its family's header says
 abbrev pub says : {C T H V : Type 0} → (H → V) → Genlmsghdr C T H → GenlFields C V (AttributesRead T)
-says view m = record { cmd = m.cmd; version = m.version; reserved = m.reserved; header = view m.header;
-    attrs = map nlattr_says m.attrs }
+says view m = record {
+  cmd = m.cmd;
+  version = m.version;
+  reserved = m.reserved;
+  header = view m.header;
+  attrs = map nlattr_says m.attrs;
+}

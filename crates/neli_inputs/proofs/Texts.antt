@@ -14,14 +14,14 @@ pub spelled : (texts : List (Bor (List ℕ))) (lines : List (List ℕ)) (bytes :
     → bytes ≡ flat_map (λ (l : List ℕ). (line_of l).1) lines
 spelled texts lines bytes lent h =
     h ∙ sym (flat_map-map (λ (l : List ℕ). (line_of l).1) (λ (t : Bor (List ℕ)). t.now) texts)
-        ∙ ap (flat_map (λ (l : List ℕ). (line_of l).1)) lent
+    ∙ ap (flat_map (λ (l : List ℕ). (line_of l).1)) lent
 
 pub said : (texts : List (Bor (List ℕ))) (lines : List (List ℕ)) (read : List Line)
     → map (λ (t : Bor (List ℕ)). t.now) texts ≡ lines → read ≡ map (λ (t : Bor (List ℕ)). (line_of t.now).0) texts
     → read ≡ map (λ (l : List ℕ). (line_of l).0) lines
 said texts lines read lent h =
     h ∙ sym (map-map (λ (l : List ℕ). (line_of l).0) (λ (t : Bor (List ℕ)). t.now) texts)
-        ∙ ap (map (λ (l : List ℕ). (line_of l).0)) lent
+    ∙ ap (map (λ (l : List ℕ). (line_of l).0)) lent
 
 -- the items of these lines, without headers
 pub bare : (lines read given : List Line) (bytes lent : List ℕ) (cooked from items : List Item)

@@ -63,28 +63,28 @@ header-read h s rest fits is =
     let ld : length d ≡ 4 = count-unsigned 4 h.sequence_number in
     let from0 : s ≡ a ++ (b ++ (c ++ (d ++ (e ++ rest)))) = is in
     let from4 : drop 4 s ≡ b ++ (c ++ (d ++ (e ++ rest))) = ap (drop 4) from0
-        ∙ drop_at a (b ++ (c ++ (d ++ (e ++ rest)))) 4 la in
+    ∙ drop_at a (b ++ (c ++ (d ++ (e ++ rest)))) 4 la in
     let from6 : drop 6 s ≡ c ++ (d ++ (e ++ rest)) = ap (drop 6) (from0
-        ∙ sym (append_assoc a b (c ++ (d ++ (e ++ rest)))))
-        ∙ drop_at (a ++ b) (c ++ (d ++ (e ++ rest))) 6 (omega (arith, length-append a b, la, lb)) in
+    ∙ sym (append_assoc a b (c ++ (d ++ (e ++ rest)))))
+    ∙ drop_at (a ++ b) (c ++ (d ++ (e ++ rest))) 6 (omega (arith, length-append a b, la, lb)) in
     let front8 : s ≡ (a ++ (b ++ c)) ++ (d ++ (e ++ rest)) = is in
     let from8 : drop 8 s ≡ d ++ (e ++ rest) = ap (drop 8) front8
-        ∙ drop_at (a ++ (b ++ c)) (d ++ (e ++ rest)) 8
-        (omega (arith, length-append a (b ++ c), length-append b c, la, lb, lc)) in
+    ∙ drop_at (a ++ (b ++ c)) (d ++ (e ++ rest)) 8
+    (omega (arith, length-append a (b ++ c), length-append b c, la, lb, lc)) in
     let front12 : s ≡ (a ++ (b ++ (c ++ d))) ++ (e ++ rest) = is in
     let from12 : drop 12 s ≡ e ++ rest = ap (drop 12) front12
-        ∙ drop_at (a ++ (b ++ (c ++ d))) (e ++ rest) 12
-        (omega (arith, length-append a (b ++ (c ++ d)), length-append b (c ++ d), length-append c d, la, lb, lc, ld)) in
+    ∙ drop_at (a ++ (b ++ (c ++ d))) (e ++ rest) 12
+    (omega (arith, length-append a (b ++ (c ++ d)), length-append b (c ++ d), length-append c d, la, lb, lc, ld)) in
     let the_len : number_in 4 0 s ≡ h.len = ap (little_number 4) from0
-        ∙ little_number-reads_back 4 h.len (b ++ (c ++ (d ++ (e ++ rest)))) fits.len in
+    ∙ little_number-reads_back 4 h.len (b ++ (c ++ (d ++ (e ++ rest)))) fits.len in
     let the_type : number_in 2 4 s ≡ h.message_type = ap (little_number 2) from4
-        ∙ little_number-reads_back 2 h.message_type (c ++ (d ++ (e ++ rest))) fits.message_type in
+    ∙ little_number-reads_back 2 h.message_type (c ++ (d ++ (e ++ rest))) fits.message_type in
     let the_flags : number_in 2 6 s ≡ h.flags.0 = ap (little_number 2) from6
-        ∙ little_number-reads_back 2 h.flags.0 (d ++ (e ++ rest)) fits.flags in
+    ∙ little_number-reads_back 2 h.flags.0 (d ++ (e ++ rest)) fits.flags in
     let the_number : number_in 4 8 s ≡ h.sequence_number = ap (little_number 4) from8
-        ∙ little_number-reads_back 4 h.sequence_number (e ++ rest) fits.sequence_number in
+    ∙ little_number-reads_back 4 h.sequence_number (e ++ rest) fits.sequence_number in
     let the_port : number_in 4 12 s ≡ h.port = ap (little_number 4) from12
-        ∙ little_number-reads_back 4 h.port rest fits.port in
+    ∙ little_number-reads_back 4 h.port rest fits.port in
     rw (the_len, the_type, the_flags, the_number, the_port) refl
 
 -- ---- a code and an echoed header
@@ -94,8 +94,13 @@ abbrev text : ℤ → Header ℕ → List ℕ → List ℕ
 text code h rest = signed_bytes w32 4 code ++ (fields h ++ rest)
 
 text-length : (code : ℤ) (h : Header ℕ) (rest : List ℕ) → length (text code h rest) ≡ 20 + length rest
-text-length code h rest = omega (arith, length-append (signed_bytes w32 4 code) (fields h ++ rest),
-    length-append (fields h) rest, count-signed w32 4 refl code, fields-length same h)
+text-length code h rest = omega (
+  arith,
+  length-append (signed_bytes w32 4 code) (fields h ++ rest),
+  length-append (fields h) rest,
+  count-signed w32 4 refl code,
+  fields-length same h,
+)
 
 number-read : (code : ℤ) (h : Header ℕ) (rest : List ℕ) → FitsSigned w32 code
     → number_in 4 0 (text code h rest) ≡ cast_unsigned w32 code
@@ -110,8 +115,12 @@ text-rest : (code : ℤ) (h : Header ℕ) (rest : List ℕ) → drop 20 (text co
 text-rest code h rest =
     ap (drop 20) (sym (append_assoc (signed_bytes w32 4 code) (fields h) rest))
     ∙ drop_at (signed_bytes w32 4 code ++ fields h) rest 20
-        (omega (arith, length-append (signed_bytes w32 4 code) (fields h), count-signed w32 4 refl code,
-        fields-length same h))
+    (omega (
+      arith,
+      length-append (signed_bytes w32 4 code) (fields h),
+      count-signed w32 4 refl code,
+      fields-length same h,
+    ))
 
 zero-fits : FitsSigned w32 (pos 0)
 zero-fits = fits_signed_from_abs w32 (pos 0) (omega arith)
@@ -162,7 +171,7 @@ module _ (s rest : List ℕ) (attrs : Attributes) (code : ℤ) (h : Header ℕ) 
       → headed_in same (tail_of flags) s ≡ Ok (answer code h attrs)
   headed-read flags tail =
       ap (λ (r : Result (List ℕ) DeError). r >>= λ more. tail_in (tail_of flags) more
-          >>= λ list. with_tail list) after-header
+      >>= λ list. with_tail list) after-header
       ∙ ap (λ (r : Result Attributes DeError). r >>= λ list. with_tail list) tail
       ∙ ap (λ (c : ℤ). Ok (answer c (header_in same (drop 4 s)) attrs)) code-read
       ∙ ap (λ (e : Header ℕ). Ok (answer code e attrs)) echo
@@ -178,7 +187,7 @@ module _ (s rest : List ℕ) (attrs : Attributes) (code : ℤ) (h : Header ℕ) 
   ack-read flags tail zero =
       let acknowledged : is_acknowledged s ≡ true = told true zero in
       rw acknowledged (ap (λ (r : Result (Nlmsgerr (Header ℕ)) DeError). r >>= λ e. Ok (payload.Ack e))
-          (headed-read flags tail))
+      (headed-read flags tail))
 
   capped-read : tail_in (tail_of (answer_flags (flags_of 256) attrs)) rest ≡ Ok attrs
       → nat_eq (cast_unsigned w32 code) 0 ≡ false → payload_in same as_bytes 2 (answer_flags (flags_of 256) attrs) s
@@ -186,7 +195,7 @@ module _ (s rest : List ℕ) (attrs : Attributes) (code : ℤ) (h : Header ℕ) 
   capped-read tail some =
       capped-as attrs s (Ok (payload.Capped (answer code h attrs))) (told false some)
       (ap (λ (r : Result (Nlmsgerr (Header ℕ)) DeError). r >>= λ e. Ok (payload.Capped e))
-          (headed-read (answer_flags (flags_of 256) attrs) tail))
+      (headed-read (answer_flags (flags_of 256) attrs) tail))
 
 -- ---- an answer whose payload is read back from its bytes
 
@@ -211,10 +220,12 @@ module _ (asked : Request) (n : ℕ) (attrs : Attributes) (p : NlPayload ℕ (Li
       let one = one-answer asked n attrs p bytes small (is.header_fits.sequence_number, is.port_fits) is.bytes_are in
       let texts : t ≡ one.0 = written-same (payload_wire same (λ b. Ok b) p) t one.0 written one.1 in
       let walked : messages_in same bytes ≡ ((head, t) ∷ [], None) = one.2
-          ∙ ap (λ (s : List ℕ). ((head, s ++ zeros_for (16 + length s)) ∷ [], None)) (sym texts)
-          ∙ ap (λ (s : List ℕ). ((head, s) ∷ [], None)) padded in
-      let kept : untyped (head, t) ≡ Ok own = ap (λ (r : Result (NlPayload ℕ (List ℕ)) DeError). r >>= λ v. Ok (head,
-          v)) read in
+      ∙ ap (λ (s : List ℕ). ((head, s ++ zeros_for (16 + length s)) ∷ [], None)) (sym texts)
+      ∙ ap (λ (s : List ℕ). ((head, s) ∷ [], None)) padded in
+      let kept : untyped (head, t) ≡ Ok own = ap (λ (r : Result (NlPayload ℕ (List ℕ)) DeError). r >>= λ v. Ok (
+        head,
+        v,
+      )) read in
       cut-untyped bytes ((head, t) ∷ []) (own ∷ []) (ap (λ (r : Result Untyped DeError). r ∷ []) kept) walked
 
   answer-for : All (IsFor asked.header.sequence_number asked.port) (own ∷ [])
@@ -248,21 +259,21 @@ module _ (asked : Request) (attrs : Attributes) (extra bytes : List ℕ) (back :
       → IsDelivered asked (acknowledgement asked attrs) bytes
   acknowledgement-delivered is =
       let read = ack-read (echoed (pos 0)) extra attrs (pos 0) asked.header (text-length (pos 0) asked.header extra)
-          (text-rest (pos 0) asked.header extra) (number-read (pos 0) asked.header extra zero-fits)
-          (echo-read (pos 0) asked.header extra is.header_fits) zero-fits (answer_flags (flags_of 256) attrs)
-          (tail-read attrs extra back) refl in
+      (text-rest (pos 0) asked.header extra) (number-read (pos 0) asked.header extra zero-fits)
+      (echo-read (pos 0) asked.header extra is.header_fits) zero-fits (answer_flags (flags_of 256) attrs)
+      (tail-read attrs extra back) refl in
       answer-delivered asked 256 attrs (acknowledgement asked attrs).payload (echoed (pos 0)) bytes (omega arith)
-          (echoed-written (pos 0)) (echoed-full (pos 0)) read is
+      (echoed-written (pos 0)) (echoed-full (pos 0)) read is
 
   pub capped-delivered : (code : ℤ) → code ≢ pos 0 → FitsSigned w32 code
       → IsAnswer asked (capped_error asked code attrs) bytes → IsDelivered asked (capped_error asked code attrs) bytes
   capped-delivered code not fits is =
       let read = capped-read (echoed code) extra attrs code asked.header (text-length code asked.header extra)
-          (text-rest code asked.header extra) (number-read code asked.header extra fits)
-          (echo-read code asked.header extra is.header_fits) fits (tail-read attrs extra back)
-          (some-code code fits not) in
+      (text-rest code asked.header extra) (number-read code asked.header extra fits)
+      (echo-read code asked.header extra is.header_fits) fits (tail-read attrs extra back)
+      (some-code code fits not) in
       answer-delivered asked 256 attrs (capped_error asked code attrs).payload (echoed code) bytes (omega arith)
-          (echoed-written code) (echoed-full code) read is
+      (echoed-written code) (echoed-full code) read is
 
 -- ---- errors with the request whole
 
@@ -293,7 +304,7 @@ module _ (s : List ℕ) (code : ℤ) (h : Header ℕ) (body zeros extra : List �
       let least : ltb (echoed_length s) 16 ≡ false = le-ltb _ _ (omega (arith, stated)) in
       let there : ltb (length s - 20) (echoed_count s) ≡ false = le-ltb _ _ (omega (arith, size, count)) in
       let front : take (echoed_count s) (drop 20 s) ≡ body = ap (λ (n : ℕ). take n (drop 20 s)) count
-          ∙ ap (take (length body)) body_is ∙ take_at body (zeros ++ extra) (length body) refl in
+      ∙ ap (take (length body)) body_is ∙ take_at body (zeros ++ extra) (length body) refl in
       rw (least, there) (ap (λ (b : List ℕ). Ok b) front)
 
   more-read : ext_ack_in (after_echo s) ≡ Ok attrs
@@ -305,21 +316,21 @@ module _ (s : List ℕ) (code : ℤ) (h : Header ℕ) (body zeros extra : List �
   failure-read : failure_in same as_bytes s ≡ Ok (failure code h body attrs)
   failure-read =
       ap (λ (r : Result (List ℕ) DeError). r >>= λ rest. echoed_in s >>= λ b. as_bytes b >>= λ v. ext_ack_in
-          (after_echo s) >>= λ list. whole_with v list) after-fields
+      (after_echo s) >>= λ list. whole_with v list) after-fields
       ∙ ap (λ (r : Result (List ℕ) DeError). r >>= λ b. as_bytes b >>= λ v. ext_ack_in (after_echo s)
-          >>= λ list. whole_with v list) echoed-read
+      >>= λ list. whole_with v list) echoed-read
       ∙ ap (λ (r : Result Attributes DeError). r >>= λ list. whole_with body list) more-read
       ∙ ap (λ (c : ℤ). Ok (failure c (header_in same (drop 4 s)) body attrs)) (ap (cast_signed w32) number
-          ∙ to_z-of_z w32 code fits)
+      ∙ to_z-of_z w32 code fits)
       ∙ ap (λ (e : Header ℕ). Ok (failure code e body attrs)) echo
 
   error-read : nat_eq (cast_unsigned w32 code) 0 ≡ false
       → payload_in same as_bytes 2 (answer_flags (flags_of 0) attrs) s ≡ Ok (payload.Err (failure code h body attrs))
   error-read some =
       let other : is_acknowledged s ≡ false = ap (λ (b : Bool). nat_le 20 (length s) && b)
-          (ap (λ (n : ℕ). nat_eq n 0) number ∙ some) ∙ not-both (nat_le 20 (length s)) in
+      (ap (λ (n : ℕ). nat_eq n 0) number ∙ some) ∙ not-both (nat_le 20 (length s)) in
       whole-as attrs s (Ok (payload.Err (failure code h body attrs))) other
-          (ap (λ (r : Result Whole DeError). r >>= λ e. Ok (payload.Err e)) failure-read)
+      (ap (λ (r : Result Whole DeError). r >>= λ e. Ok (payload.Err e)) failure-read)
 
 pub error-delivered : (asked : Request) (code : ℤ) (attrs : Attributes) (extra bytes : List ℕ) → code ≢ pos 0
     → FitsSigned w32 code → asked.header.len ≡ 16 + length asked.payload.now → AreReadBack attrs extra
@@ -332,18 +343,18 @@ error-delivered asked code attrs extra bytes not fits states back is =
     let rest : List ℕ = body ++ (zeros ++ extra) in
     let t : List ℕ = text code h rest in
     let lz : length zeros ≡ gap (16 + length body) = length-replicate {A = ℕ} (gap (length (fields h ++ body))) 0
-        ∙ ap gap (length-append (fields h) body ∙ ap (λ (n : ℕ). n + length body) (fields-length same h)) in
+    ∙ ap gap (length-append (fields h) body ∙ ap (λ (n : ℕ). n + length body) (fields-length same h)) in
     let size : length t ≡ 20 + align (length body) + length extra =
-        omega (arith, text-length code h rest, length-append body (zeros ++ extra), length-append zeros extra, lz) in
+    omega (arith, text-length code h rest, length-append body (zeros ++ extra), length-append zeros extra, lz) in
     let full : gap (16 + length t) ≡ 0 = omega (arith, size, whole-words attrs extra back.written) in
     let in_parts : front ++ extra ≡ t = simp append_assoc in
     let long : length front ≡ 20 + align (length body) =
-        omega (arith, size, ap length in_parts, length-append front extra) in
+    omega (arith, size, ap length in_parts, length-append front extra) in
     let extra_is : drop (20 + align (length body)) t ≡ extra = ap (drop (20 + align (length body))) (sym in_parts)
-        ∙ drop_at front extra (20 + align (length body)) long in
+    ∙ drop_at front extra (20 + align (length body)) long in
     let read = error-read t code h body zeros extra attrs (number-read code h rest fits)
-        (echo-read code h rest is.header_fits) fits states size (text-rest code h rest) extra_is back.read
-        (some-code code fits not) in
+    (echo-read code h rest is.header_fits) fits states size (text-rest code h rest) extra_is back.read
+    (some-code code fits not) in
     let written : payload_wire same (λ b. Ok b) (error asked code attrs).payload ≡ Ok t =
-        ap (λ (w : Wire). Ok front +++ w) back.written ∙ ap (λ (b : List ℕ). Ok b) in_parts in
+    ap (λ (w : Wire). Ok front +++ w) back.written ∙ ap (λ (b : List ℕ). Ok b) in_parts in
     answer-delivered asked 0 attrs (error asked code attrs).payload t bytes (omega arith) written full read is

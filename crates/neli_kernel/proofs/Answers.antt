@@ -37,8 +37,13 @@ module _ {T P : Type 0} (number_of : T → ℕ) (wire : P → Wire) where
   one-message size sized t flags number port payload bytes type_fits flags_fit number_fits port_fits h =
       let parts = written-parts (message_with size t flags number port payload) bytes h in
       written-walked number_of wire size sized (message_with size t flags number port payload) bytes
-      (record { len = parts.0; message_type = type_fits; flags = flags_fit; sequence_number = number_fits;
-          port = port_fits }) refl parts.1
+      (record {
+        len = parts.0;
+        message_type = type_fits;
+        flags = flags_fit;
+        sequence_number = number_fits;
+        port = port_fits;
+      }) refl parts.1
 
 -- ---- acknowledgements and errors
 
@@ -60,5 +65,5 @@ pub one-answer : (asked : Request) (n : ℕ) (attrs : Attributes) (payload : NlP
     → IsWalked (λ t. t) (λ b. Ok b) (answer_with asked (answer_flags (flags_of n) attrs) payload) bytes
 one-answer asked n attrs payload bytes lt addressed h =
     one-message (λ t. t) (λ b. Ok b) length bytes-sized 2
-        (answer_flags (flags_of n) attrs) asked.header.sequence_number asked.port payload bytes (omega arith)
-        (flags-fit n attrs lt) addressed.0 addressed.1 h
+    (answer_flags (flags_of n) attrs) asked.header.sequence_number asked.port payload bytes (omega arith)
+    (flags-fit n attrs lt) addressed.0 addressed.1 h

@@ -64,9 +64,9 @@ module _ (frame : List ℕ) (m : Lent ℕ) (one : messages_in same frame ≡ (m 
   behind-read full last ms r =
       let parts = All-last HasNoFault full last r.1 in
       let joined : messages_in same (last ++ frame) ≡ ((messages_in same last).0 ++ m ∷ [], None) =
-          messages_in-join last frame parts.1 ∙ ap (messages_before (messages_in same last).0) one in
+      messages_in-join last frame parts.1 ∙ ap (messages_before (messages_in same last).0) one in
       let list : messages_of (full ++ (last ++ frame) ∷ [])
-          ≡ messages_of full ++ ((messages_in same last).0 ++ m ∷ []) =
+      ≡ messages_of full ++ ((messages_in same last).0 ++ m ∷ []) =
       messages_of-last full (last ++ frame) ∙ ap (λ (c : Cut (Lent ℕ)). messages_of full ++ c.0) joined in
       let before : messages_of full ++ (messages_in same last).0 ≡ ms = sym (messages_of-last full last) ∙ r.0 in (
         list ∙ sym (append_assoc (messages_of full) (messages_in same last).0 (m ∷ []))
@@ -116,7 +116,7 @@ put_wire-within limit frame p q is all =
     let placed = placed_is (nat_lt limit (length frame)) (put limit frame p) q is in
     let fits : length frame ≤ limit = (let le = ltb-false _ _ placed.0 in omega arith) in
     subst (λ (x : Packed). AreWithin limit (datagrams_of x)) placed.1
-        (put-within (nat_lt limit (length p.1 + length frame)) limit frame p refl fits all)
+    (put-within (nat_lt limit (length p.1 + length frame)) limit frame p refl fits all)
 
 -- ---- a datagram more
 
@@ -136,9 +136,10 @@ begun-within limit (full, b ∷ last) all = All-push (λ (d : List ℕ). length 
     (omega arith)
 
 pub nothing-read : AreRead (datagrams_of ([], [])) []
-nothing-read =
-    (ap (λ (c : Cut (Lent ℕ)). c.0 ++ []) messages_in-end,
-        All-push HasNoFault [] [] (All-nil HasNoFault) (ap (λ (c : Cut (Lent ℕ)). c.1) messages_in-end))
+nothing-read = (
+  ap (λ (c : Cut (Lent ℕ)). c.0 ++ []) messages_in-end,
+  All-push HasNoFault [] [] (All-nil HasNoFault) (ap (λ (c : Cut (Lent ℕ)). c.1) messages_in-end),
+)
 
 pub nothing-within : (limit : ℕ) → AreWithin limit (datagrams_of ([], []))
 nothing-within limit = All-push (λ (d : List ℕ). length d ≤ limit) [] [] (All-nil (λ (d : List ℕ). length d ≤ limit))

@@ -77,7 +77,7 @@ untyped-end h code attrs text three multi fits back =
     let long : length s ≡ 4 + length text = omega (arith, length-append (signed_bytes w32 4 code) text, four) in
     let text_is : drop 4 s ≡ text = drop_at (signed_bytes w32 4 code) text 4 four in
     let number : number_in 4 0 s ≡ cast_unsigned w32 code = let low = Fits-of_z fits in
-        little_number-reads_back 4 (cast_unsigned w32 code) text low.fits in
+    little_number-reads_back 4 (cast_unsigned w32 code) text low.fits in
     let says : signed_number w32 4 s ≡ code = ap (cast_signed w32) number ∙ to_z-of_z w32 code fits in
     let read = end-read h.flags s text code attrs long text_is says back.read multi in
     let typed = ap (λ (n : ℕ). payload_in same (λ bytes. Ok bytes) n h.flags s) three ∙ read in
@@ -133,7 +133,7 @@ unfolding messages_in
 cut-untyped b ms us are is =
     cut_of-is untyped_layout (layout_with-placed same _) (omega arith) b us None
     (each-untyped b ms us are (subst (λ (c : Cut (Lent ℕ)). Each b c.0 c.1) is
-        (cut_of-each (lent_message same) (layout_with-placed same _) (omega arith) b)))
+    (cut_of-each (lent_message same) (layout_with-placed same _) (omega arith) b)))
 
 -- ---- whose they are
 
@@ -194,9 +194,14 @@ halves (m ∷ ms) ns (u ∷ us) are =
     let parts = kept-cons m u (ms ++ ns) us are in
     let h = halves ms ns us parts.1 in
     let first : AreKept (m ∷ ms) (u ∷ h.before) = rw parts.0
-        (ap (λ (rs : List (Result Untyped DeError)). Ok u ∷ rs) h.first) in
-    record { before = u ∷ h.before; after = h.after; joined = ap (λ (xs : List Untyped). u ∷ xs) h.joined;
-        first = first; later = h.later }
+    (ap (λ (rs : List (Result Untyped DeError)). Ok u ∷ rs) h.first) in
+    record {
+      before = u ∷ h.before;
+      after = h.after;
+      joined = ap (λ (xs : List Untyped). u ∷ xs) h.joined;
+      first = first;
+      later = h.later;
+    }
 
 All-first : {A : Type 0} (P : A → Type 0) (xs ys : List A) → All P (xs ++ ys) → All P xs
 All-first P [] ys h = All-nil P
@@ -225,7 +230,7 @@ module _ (number port : ℕ) (is_open : ℕ → Bool) (opened : is_open number �
       let here = share-asker number port is_open opened d h.before (All-first For h.before h.after both) cut in
       let more = all-asker ds h.after (All-tail HasNoFault d ds none) h.later (All-later For h.before h.after both) in
       let told : shares port is_open (Some number) (d ∷ ds) ≡ map message h.before ++ map message h.after =
-          rw (here, more) refl in
+      rw (here, more) refl in
       told ∙ sym (map-append message h.before h.after) ∙ ap (map message) (sym h.joined)
 
   all-others : (other : Option ℕ) (ds : List (List ℕ)) (us : List Untyped) → other ≢ Some number → All HasNoFault ds
@@ -236,9 +241,9 @@ module _ (number port : ℕ) (is_open : ℕ → Bool) (opened : is_open number �
       let both : All For (h.before ++ h.after) = subst (All For) h.joined all in
       let cut = cut-untyped d (messages_in same d).0 h.before h.first (read-whole d (All-head HasNoFault d ds none)) in
       let here = share-other number port is_open opened other d h.before differs
-          (All-first For h.before h.after both) cut in
+      (All-first For h.before h.after both) cut in
       let more = all-others other ds h.after differs (All-tail HasNoFault d ds none) h.later
-          (All-later For h.before h.after both) in
+      (All-later For h.before h.after both) in
       rw (here, more) refl
 
 -- ---- how they are cut
@@ -271,14 +276,14 @@ pub dump-asker : (ds : List (List ℕ)) (said : List (Lent ℕ)) (us : List Unty
     → shares port is_open (Some number) ds ≡ map message us
 dump-asker ds said us number port is_open read are all opened =
     all-asker number port is_open opened ds us read.1 (subst (λ (ms : List (Lent ℕ)). AreKept ms us)
-        (sym read.0) are) all
+    (sym read.0) are) all
 
 pub dump-others : (ds : List (List ℕ)) (said : List (Lent ℕ)) (us : List Untyped) (number port : ℕ) (is_open : ℕ → Bool)
     → AreRead ds said → AreKept said us → All (IsFor number port) us → is_open number ≡ true → (other : Option ℕ)
     → other ≢ Some number → shares port is_open other ds ≡ []
 dump-others ds said us number port is_open read are all opened other differs =
     all-others number port is_open opened other ds us differs read.1
-        (subst (λ (ms : List (Lent ℕ)). AreKept ms us) (sym read.0) are) all
+    (subst (λ (ms : List (Lent ℕ)). AreKept ms us) (sym read.0) are) all
 
 -- ---- a reply
 
@@ -289,25 +294,37 @@ module _ {T P : Type 0} (number_of : T → ℕ) (wire : P → Wire) (size : P �
     → wire p ≡ Ok bytes → length bytes ≡ size p) (t : T) (flags : NlmF) (number port : ℕ) (body : P)
     (text bytes : List ℕ) (is : IsReply number_of wire size t flags number port body text bytes) where
   abbrev lent_reply : Lent ℕ
-  lent_reply = (header_with (align (16 + length text)) (number_of t) flags number port,
-      text ++ zeros_for (16 + length text))
+  lent_reply = (
+    header_with (align (16 + length text)) (number_of t) flags number port,
+    text ++ zeros_for (16 + length text),
+  )
 
   walked : messages_in same bytes ≡ (lent_reply ∷ [], None)
   walked =
       let one = one-message number_of wire size sized t flags number port
-          (payload.Payload body) bytes is.type_fits is.flags_fit is.number_fits is.port_fits is.bytes_are in
+      (payload.Payload body) bytes is.type_fits is.flags_fit is.number_fits is.port_fits is.bytes_are in
       let both : wire body ≡ Ok one.0 = one.1 in
       let texts : one.0 ≡ text = written-same (wire body) one.0 text both is.text_is in
       let long : length text ≡ size body = sized body text is.text_is in
-      one.2 ∙ ap (λ (n : ℕ). ((header_with (align (16 + n)) (number_of t) flags number port,
-          one.0 ++ zeros_for (16 + length one.0)) ∷ [], None)) (sym long)
-      ∙ ap (λ (s : List ℕ). ((header_with (align (16 + length text)) (number_of t) flags number port,
-          s ++ zeros_for (16 + length s)) ∷ [], None)) texts
+      one.2 ∙ ap (λ (n : ℕ). (
+        (
+          header_with (align (16 + n)) (number_of t) flags number port,
+          one.0 ++ zeros_for (16 + length one.0),
+        ) ∷ [],
+        None,
+      )) (sym long)
+      ∙ ap (λ (s : List ℕ). (
+        (
+          header_with (align (16 + length text)) (number_of t) flags number port,
+          s ++ zeros_for (16 + length s),
+        ) ∷ [],
+        None,
+      )) texts
 
   pub reply-cut : cut_of untyped_layout bytes ≡ (reply_kept (number_of t) flags number port text ∷ [], None)
   reply-cut =
       cut-untyped bytes (lent_reply ∷ []) (kept lent_reply ∷ [])
-          (ap (λ (r : Result Untyped DeError). r ∷ []) (untyped-plain lent_reply is.is_plain)) walked
+      (ap (λ (r : Result Untyped DeError). r ∷ []) (untyped-plain lent_reply is.is_plain)) walked
 
   reply-for : All (IsFor number port) (kept lent_reply ∷ [])
   reply-for = All-push (IsFor number port) [] (kept lent_reply) (All-nil (IsFor number port)) (refl, refl)

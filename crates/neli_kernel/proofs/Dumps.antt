@@ -18,4 +18,4 @@ pub finished-put : (limit : ℕ) (asked : Request) (flags : NlmF) (attrs : Attri
     → datagrams ≡ datagrams_of q → finished limit (end_wire asked flags attrs code) p ≡ Ok datagrams
 finished-put limit asked flags attrs code same p q datagrams is put all =
     subst (λ (n : ℤ). finished limit (end_wire asked flags attrs n) p ≡ Ok datagrams) is (ap all_of put
-        ∙ ap Ok (sym all))
+    ∙ ap Ok (sym all))

@@ -38,9 +38,9 @@ plain-written : (a : Nlattr NlmsgerrAttr (List ℕ)) → IsPlainAttribute a
 plain-written a is =
     let small : nlmsgerr_attr_number a.nla_type.nla_type < 65536 = omega (arith, is.kind) in
     attribute-written (type_of nlmsgerr_attr_of) a.nla_len
-        (number_of nlmsgerr_attr_number a.nla_type) a.nla_type a.nla_payload is.len is.fits
-        (number_of-small nlmsgerr_attr_number a.nla_type small)
-        (type_of-named nlmsgerr_attr_of nlmsgerr_attr_number a.nla_type is.kind is.named)
+    (number_of nlmsgerr_attr_number a.nla_type) a.nla_type a.nla_payload is.len is.fits
+    (number_of-small nlmsgerr_attr_number a.nla_type small)
+    (type_of-named nlmsgerr_attr_of nlmsgerr_attr_number a.nla_type is.kind is.named)
 
 said-again : (attrs : Attributes) → map attribute_of (map nlattr_says attrs) ≡ attrs
 said-again [] = refl
@@ -49,11 +49,11 @@ said-again (a ∷ attrs) = ap (λ (more : Attributes). a ∷ more) (said-again a
 pub plain-read_back : (attrs : Attributes) → All IsPlainAttribute attrs → (text : List ℕ) × AreReadBack attrs text
 plain-read_back attrs are =
     let back = list-reads_back (type_of nlmsgerr_attr_of) one_wire nlattr_says attrs
-        (All-weaker IsPlainAttribute (IsWrittenAs (attribute (type_of nlmsgerr_attr_of)
-        (λ bytes. Ok bytes)) one_wire nlattr_says) plain-written attrs are) in
+    (All-weaker IsPlainAttribute (IsWrittenAs (attribute (type_of nlmsgerr_attr_of)
+    (λ bytes. Ok bytes)) one_wire nlattr_says) plain-written attrs are) in
     let read : ext_ack_in back.0 ≡ Ok attrs =
     ap (λ (r : Result (List (Attr (AttrType NlmsgerrAttr) (List ℕ))) DeError). r >>= λ list. Ok
-        (map attribute_of list)) back.2
+    (map attribute_of list)) back.2
     ∙ ap (λ (list : Attributes). Ok list) (said-again attrs) in
     (back.0, record { written = back.1; read = read })
 

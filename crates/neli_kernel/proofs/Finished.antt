@@ -63,21 +63,24 @@ module _ (asked : Request) (flags : NlmF) (code : ℤ) (attrs : Attributes) (tex
       let h : Header ℕ = (dump_end asked flags code attrs).header in
       let s : List ℕ = signed_bytes w32 4 code ++ text in
       let one = one-message (λ t. t) (λ b. Ok b) length bytes-sized 3
-          (answer_flags (with_multi flags) attrs) asked.header.sequence_number asked.port
-          (dump_end asked flags code attrs).payload frame (omega arith)
-          (flags-fit (bit_or flags.0 2) attrs (or_lt 16 flags.0 2 fits.flags_fit (omega arith))) fits.number_fits
-          fits.port_fits written in
+      (answer_flags (with_multi flags) attrs) asked.header.sequence_number asked.port
+      (dump_end asked flags code attrs).payload frame (omega arith)
+      (flags-fit (bit_or flags.0 2) attrs (or_lt 16 flags.0 2 fits.flags_fit (omega arith))) fits.number_fits
+      fits.port_fits written in
       let known : payload_wire (λ n. n) (λ b. Ok b) (dump_end asked flags code attrs).payload ≡ Ok s =
       ap (λ (w : Wire). Ok (signed_bytes w32 4 code ++ []) +++ w) back.written
-          ∙ ap (λ (b : List ℕ). Ok (b ++ text)) (append-nil (signed_bytes w32 4 code)) in
+      ∙ ap (λ (b : List ℕ). Ok (b ++ text)) (append-nil (signed_bytes w32 4 code)) in
       let is : one.0 ≡ s = written-same (payload_wire (λ n. n) (λ b. Ok b)
-          (dump_end asked flags code attrs).payload) one.0 s one.1 known in
-      let long : length s ≡ 4 + length text = omega (arith, length-append (signed_bytes w32 4 code) text,
-          count-signed w32 4 refl code) in
+      (dump_end asked flags code attrs).payload) one.0 s one.1 known in
+      let long : length s ≡ 4 + length text = omega (
+        arith,
+        length-append (signed_bytes w32 4 code) text,
+        count-signed w32 4 refl code,
+      ) in
       let full : gap (16 + length s) ≡ 0 = omega (arith, long, whole-words attrs text back.written) in
       let padded : s ++ zeros_for (16 + length s) ≡ s = ap (λ (n : ℕ). s ++ replicate n 0) full ∙ append-nil s in
       let own : one.0 ++ zeros_for (16 + length one.0) ≡ s = ap (λ (t : List ℕ). t ++ zeros_for (16 + length t)) is
-          ∙ padded in
+      ∙ padded in
       one.2 ∙ ap (λ (t : List ℕ). ((h, t) ∷ [], None)) own
 
   pub finished-read : (limit : ℕ) (p : Packed) (said : List (Lent ℕ)) (datagrams : List (List ℕ))
@@ -86,10 +89,10 @@ module _ (asked : Request) (flags : NlmF) (code : ℤ) (attrs : Attributes) (tex
       → AreRead datagrams (said ++ end_said asked flags code attrs text ∷ [])
   finished-read limit p said datagrams read is =
       let put = put-in limit (message_or_refusal (λ n. n) (λ b. Ok b)
-          (dump_end asked flags code attrs)) p datagrams is in
+      (dump_end asked flags code attrs)) p datagrams is in
       subst (λ (ds : List (List ℕ)). AreRead ds (said ++ end_said asked flags code attrs text ∷ [])) put.all
       (put_wire-read limit put.frame (end_said asked flags code attrs text) p put.packed said
-          (end-walked put.frame put.written) put.put read)
+      (end-walked put.frame put.written) put.put read)
 
 pub finished-kept : (asked : Request) (flags : NlmF) (code : ℤ) (attrs : Attributes) (text : List ℕ)
     (said : List (Lent ℕ)) (ms : List Untyped) → FitsSigned w32 code → AreReadBack attrs text
@@ -99,7 +102,7 @@ finished-kept asked flags code attrs text said ms fits back are =
     let h : Header ℕ = (dump_end asked flags code attrs).header in
     let own : Untyped = answer_kept (dump_end asked flags code attrs) in
     let last : untyped (end_said asked flags code attrs text) ≡ Ok own =
-        untyped-end h code attrs text refl (multi-end flags attrs) fits back in
+    untyped-end h code attrs text refl (multi-end flags attrs) fits back in
     map-append untyped said (end_said asked flags code attrs text ∷ [])
     ∙ ap (λ (rs : List (Result Untyped DeError)). rs ++ untyped (end_said asked flags code attrs text) ∷ []) are
     ∙ ap (λ (r : Result Untyped DeError). map (λ (m : Untyped). Ok m) ms ++ r ∷ []) last
@@ -139,4 +142,4 @@ module _ (limit : ℕ) (asked : Request) (flags : NlmF) (code : ℤ) (attrs : At
       → shares asked.port is_open other datagrams ≡ []
   finished-others other differs =
       dump-others datagrams (said ++ ending ∷ []) (ms ++ own
-          ∷ []) asked.header.sequence_number asked.port is_open whole-read whole-kept whole-for opened other differs
+      ∷ []) asked.header.sequence_number asked.port is_open whole-read whole-kept whole-for opened other differs

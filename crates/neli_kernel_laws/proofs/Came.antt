@@ -43,7 +43,7 @@ own-messages : (port number : ℕ) (is_open : ℕ → Bool) (us : List Untyped) 
 own-messages port number is_open [] all = refl
 own-messages port number is_open (u ∷ us) all =
     one-own (is_reply port is_open u) (u.0.sequence_number == number) u (filter (λ u. u.0.sequence_number == number) us)
-        (messages_to port is_open number us)
+    (messages_to port is_open number us)
     (All-head (λ u. is_reply port is_open u ≡ true) u us all)
     (own-messages port number is_open us (All-tail (λ u. is_reply port is_open u ≡ true) u us all))
 
@@ -52,7 +52,7 @@ own-share : (port number : ℕ) (is_open : ℕ → Bool) (cut : Cut Untyped) (gr
     ≡ map message (filter (λ u. u.0.sequence_number == number) cut.0)
 own-share port number is_open cut [] none whole all =
     ap (λ f. messages_to port is_open number cut.0 ++ reader_fault f) whole
-        ∙ append-nil (messages_to port is_open number cut.0) ∙ own-messages port number is_open cut.0 all
+    ∙ append-nil (messages_to port is_open number cut.0) ∙ own-messages port number is_open cut.0 all
 own-share port number is_open cut (g ∷ groups) none whole all = cc
 
 -- ---- numbers
@@ -149,14 +149,16 @@ module _ {ST SP RT RP : Type 0} (port : ℕ) where
 
   all-came : (j number : ℕ) (needs : Bool) (before later : History ST SP RT RP) → Keeps j number needs before
       → is_closed (suc j) (later ++ before) ≡ false → AllAnswer port later before → Came j number needs before later
-  all-came j number needs before [] k closed a = record { keeps = k;
-      delivered = sym (append-nil (deliveries port (suc j) before)) }
+  all-came j number needs before [] k closed a = record {
+    keeps = k;
+    delivered = sym (append-nil (deliveries port (suc j) before));
+  }
   all-came j number needs before (e ∷ later) k closed a =
       let still : is_closed (suc j) (later ++ before) ≡ false =
-          or-later _ (is_closed (suc j) (later ++ before)) closed in
+      or-later _ (is_closed (suc j) (later ++ before)) closed in
       let r = all-came j number needs before later k still a.1 in
       let live : is_handle_open (suc j) (later ++ before) ≡ true =
-          open-by _ _ (is-given j (requests_sent (later ++ before)) r.keeps.given) still in
+      open-by _ _ (is-given j (requests_sent (later ++ before)) r.keeps.given) still in
       let start : List Delivery = deliveries port (suc j) before in
       record {
         keeps = keeps-more j number needs e (later ++ before) r.keeps;
@@ -165,7 +167,7 @@ module _ {ST SP RT RP : Type 0} (port : ℕ) where
             ∙ ap (λ (ds : List Delivery). ds ++ map message (brought number e.0)) r.delivered
             ∙ append_assoc start (map message (came number later)) (map message (brought number e.0))
             ∙ ap (λ (ds : List Delivery). start ++ ds)
-                (sym (map-append message (came number later) (brought number e.0)));
+            (sym (map-append message (came number later) (brought number e.0)));
       }
 
   -- ---- nothing came before the request was sent
@@ -174,7 +176,7 @@ module _ {ST SP RT RP : Type 0} (port : ℕ) where
       → deliveries port k (e ∷ h) ≡ deliveries port k h
   fresh-more k e h not =
       handed-open k e h false (handed_over port k e.0 h) (not-open _ (is_closed k h) not) refl
-          ∙ append-nil (deliveries port k h)
+      ∙ append-nil (deliveries port k h)
 
   fresh : (k : ℕ) (h : History ST SP RT RP) → nat_le k (requests_sent h) ≡ false → deliveries port k h ≡ []
   fresh k [] not = refl
@@ -201,7 +203,7 @@ module _ {ST SP RT RP : Type 0} (port : ℕ) where
     start-nothing =
         let not = not-given (requests_sent before) in
         fresh-more (handle_after before) (command.Send t flags p, outcome.Sent sent) before not
-            ∙ fresh (handle_after before) before not
+        ∙ fresh (handle_after before) before not
 
     since : (later : History ST SP RT RP) → is_closed (handle_after before) (later ++ start) ≡ false
         → AllAnswer port later start → Came (requests_sent before) (next_number before) (needs_ack flags) start later
@@ -213,7 +215,7 @@ module _ {ST SP RT RP : Type 0} (port : ℕ) where
         ≡ map message (came (next_number before) later)
     came-delivered later closed a =
         (since later closed a).delivered ∙ ap (λ (ds : List Delivery). ds ++ map message
-            (came (next_number before) later)) start-nothing
+        (came (next_number before) later)) start-nothing
 
     pub came-open : (later : History ST SP RT RP) → is_closed (handle_after before) (later ++ start) ≡ false
         → AllAnswer port later start → is_handle_open (handle_after before) (later ++ start) ≡ true
@@ -234,21 +236,24 @@ module _ {ST SP K P V : Type 0} (type_of : ℕ → K) (number_in : K → ℕ) (v
       → AllAnswer port later (history_sent before t flags p sent)
       → IsComplete (needs_ack flags) (came (next_number before) later)
       → IsAnswered type_of number_in view size read port (later ++ history_sent before t flags p sent)
-          (command.Read (handle_after before)) o
+      (command.Read (handle_after before)) o
       → (r : Reply K P) × IsInTurn (IsReadAs type_of view size read) (came (next_number before) later)
-          (items_of (handle_after before) (later ++ history_sent before t flags p sent)) r × (o ≡ outcome_of r)
+      (items_of (handle_after before) (later ++ history_sent before t flags p sent)) r × (o ≡ outcome_of r)
   read-in-turn port t flags p sent before later o closed a complete is =
       let all : History ST SP K P = later ++ history_sent before t flags p sent in
       let us : List Untyped = came (next_number before) later in
       let given : List (Item K P) = items_of (handle_after before) all in
       let answered : IsReadOf type_of number_in view size read port all (handle_after before) true o =
       subst (λ (b : Bool). IsReadOf type_of number_in view size read port all (handle_after before) b o)
-          (came-open port t flags p sent before later closed a) is in
+      (came-open port t flags p sent before later closed a) is in
       let needed = subst (λ (b : Bool). IsNextAnswer type_of number_in view size read b true
-          (deliveries port (handle_after before) all) given answered.0)
-          (came-needs port t flags p sent before later closed a) answered.1 in
+      (deliveries port (handle_after before) all) given answered.0)
+      (came-needs port t flags p sent before later closed a) answered.1 in
       let next = subst (λ (ds : List Delivery). IsNextAnswer type_of number_in view size read
-          (needs_ack flags) true ds given answered.0) (came-delivered port t flags p sent before later closed
-          a) needed in
-      (answered.0, given-in-turn type_of number_in view size read back
-          (needs_ack flags) us given answered.0 complete next, answered.2)
+      (needs_ack flags) true ds given answered.0) (came-delivered port t flags p sent before later closed
+      a) needed in (
+        answered.0,
+        given-in-turn type_of number_in view size read back
+            (needs_ack flags) us given answered.0 complete next,
+        answered.2,
+      )

@@ -31,8 +31,13 @@ capped-ends false asked code attrs = inl (refl, refl)
 
 pub capped-complete : (needs : Bool) (asked : Request) (code : ℤ) (attrs : Attributes)
     → IsComplete needs (answer_kept (capped_error asked code attrs) ∷ [])
-capped-complete needs asked code attrs = ([], answer_kept (capped_error asked code attrs) ∷ [], All-nil IsPart,
-    capped-ends needs asked code attrs, refl)
+capped-complete needs asked code attrs = (
+  [],
+  answer_kept (capped_error asked code attrs) ∷ [],
+  All-nil IsPart,
+  capped-ends needs asked code attrs,
+  refl,
+)
 
 error-ends : (needs : Bool) (asked : Request) (code : ℤ) (attrs : Attributes)
     → IsEnding needs (answer_kept (error asked code attrs) ∷ [])
@@ -41,8 +46,13 @@ error-ends false asked code attrs = inl (refl, refl)
 
 pub error-complete : (needs : Bool) (asked : Request) (code : ℤ) (attrs : Attributes)
     → IsComplete needs (answer_kept (error asked code attrs) ∷ [])
-error-complete needs asked code attrs = ([], answer_kept (error asked code attrs) ∷ [], All-nil IsPart,
-    error-ends needs asked code attrs, refl)
+error-complete needs asked code attrs = (
+  [],
+  answer_kept (error asked code attrs) ∷ [],
+  All-nil IsPart,
+  error-ends needs asked code attrs,
+  refl,
+)
 
 reply-whole : (message_type number port : ℕ) (flags : NlmF) (text : List ℕ) → message_type < 65536
     → is_multi flags ≡ false → IsWhole (reply_kept message_type flags number port text)
@@ -54,16 +64,24 @@ reply-whole message_type number port flags text fits single = record {
 
 pub reply-complete : (message_type number port : ℕ) (flags : NlmF) (text : List ℕ) → message_type < 65536
     → is_multi flags ≡ false → IsComplete false (reply_kept message_type flags number port text ∷ [])
-reply-complete message_type number port flags text fits single =
-    ([], reply_kept message_type flags number port text ∷ [], All-nil IsPart,
-        inr (reply-whole message_type number port flags text fits single), refl)
+reply-complete message_type number port flags text fits single = (
+  [],
+  reply_kept message_type flags number port text ∷ [],
+  All-nil IsPart,
+  inr (reply-whole message_type number port flags text fits single),
+  refl,
+)
 
 pub acknowledged-complete : (message_type number port : ℕ) (flags : NlmF) (text : List ℕ) (asked : Request)
     (attrs : Attributes) → message_type < 65536 → is_multi flags ≡ false
     → IsComplete true (reply_kept message_type flags number port text ∷ answer_kept (acknowledgement asked attrs) ∷ [])
-acknowledged-complete message_type number port flags text asked attrs fits single =
-    ([], reply_kept message_type flags number port text ∷ answer_kept (acknowledgement asked attrs) ∷ [],
-        All-nil IsPart, (reply-whole message_type number port flags text fits single, refl), refl)
+acknowledged-complete message_type number port flags text asked attrs fits single = (
+  [],
+  reply_kept message_type flags number port text ∷ answer_kept (acknowledgement asked attrs) ∷ [],
+  All-nil IsPart,
+  (reply-whole message_type number port flags text fits single, refl),
+  refl,
+)
 
 or_true : (b : Bool) → (b || true) ≡ true
 or_true true = refl
@@ -107,7 +125,7 @@ pub others-numbered : (number port : ℕ) (datagram : List ℕ) (us : List Untyp
     → numbered other datagram ≡ []
 others-numbered number port datagram us cut all other differs =
     ap (λ (c : Cut Untyped). filter (λ u. u.0.sequence_number == other) c.0) cut
-        ∙ filter-none number port other us differs all
+    ∙ filter-none number port other us differs all
 
 -- ---- several datagrams
 
@@ -157,7 +175,7 @@ module _ (number port : ℕ) (is_open : ℕ → Bool) (opened : is_open number �
   all-answered [] all = All-nil Answered
   all-answered (u ∷ us) all =
       All-cons Answered u us (one-answered u (All-head (IsFor number port) u us all))
-          (all-answered us (All-tail (IsFor number port) u us all))
+      (all-answered us (All-tail (IsFor number port) u us all))
 
   pub cut-answered : (datagram : List ℕ) (us : List Untyped) → cut_of untyped_layout datagram ≡ (us, None)
       → All (IsFor number port) us → All (λ u. is_reply port is_open u ≡ true) (cut_of untyped_layout datagram).0

@@ -70,7 +70,7 @@ module _ {ST SP RT RP : Type 0} (number : ℕ) where
   came-is (e ∷ later) =
       ap (λ (us : List Untyped). us ++ brought number e.0) (came-is later)
       ∙ ap (λ (us : List Untyped). flat_map (numbered number) (datagrams_with number later) ++ us)
-          (brought-is number e.0)
+      (brought-is number e.0)
       ∙ sym (flat_map-append (numbered number) (datagrams_with number later) (taken_with number e.0))
 
 -- ---- datagrams of a request's own answer it
@@ -102,7 +102,7 @@ module _ {ST SP RT RP : Type 0} (port number : ℕ) where
       let live : is_handle_open (suc j) h ≡ true = open-by _ _ (is-given j (requests_sent h) k.given) closed in
       let same : (number_of (suc j) h == number) ≡ true = eq-eqb _ _ k.number_is in
       any-known (requests_sent h) j (λ (i : ℕ). is_handle_open i h && (number_of i h == number)) k.given
-          (and_both _ _ live same)
+      (and_both _ _ live same)
 
   keeps-all : (j : ℕ) (needs : Bool) (start later : History ST SP RT RP) → Keeps port j number needs start
       → Keeps port j number needs (later ++ start)
@@ -117,21 +117,24 @@ module _ {ST SP RT RP : Type 0} (port number : ℕ) where
   all-answer j needs start (e ∷ later) k closed others own =
       let still : is_closed (suc j) (later ++ start) ≡ false = or-later _ (is_closed (suc j) (later ++ start)) closed in
       let before = all-answer j needs start later k still others.1
-          (All-first (Own port number) (datagrams_with number later) (taken_with number e.0) own) in
+      (All-first (Own port number) (datagrams_with number later) (taken_with number e.0) own) in
       let opened : is_open number (later ++ start) ≡ true =
-          number-open j needs (later ++ start) (keeps-all j needs start later k) still in
-      (one-answers e.0 (later ++ start) opened others.0
-          (All-later (Own port number) (datagrams_with number later) (taken_with number e.0) own), before)
+      number-open j needs (later ++ start) (keeps-all j needs start later k) still in (
+        one-answers e.0 (later ++ start) opened others.0
+            (All-later (Own port number) (datagrams_with number later) (taken_with number e.0) own),
+        before,
+      )
 
 own-each : (port number : ℕ) (ds : List (List ℕ)) → All (λ d. (cut_of untyped_layout d).1 ≡ None) ds
     → All (λ d. All (IsFor number port) (messages_cut d)) ds → All (Own port number) ds
 own-each port number [] none all = All-nil (Own port number)
 own-each port number (d ∷ ds) none all =
-    All-cons (Own port number) d ds
-    (All-head (λ d. (cut_of untyped_layout d).1 ≡ None) d ds none,
-        All-head (λ d. All (IsFor number port) (messages_cut d)) d ds all)
+    All-cons (Own port number) d ds (
+      All-head (λ d. (cut_of untyped_layout d).1 ≡ None) d ds none,
+      All-head (λ d. All (IsFor number port) (messages_cut d)) d ds all,
+    )
     (own-each port number ds (All-tail (λ d. (cut_of untyped_layout d).1 ≡ None) d ds none)
-        (All-tail (λ d. All (IsFor number port) (messages_cut d)) d ds all))
+    (All-tail (λ d. All (IsFor number port) (messages_cut d)) d ds all))
 
 -- ---- reads of such a request
 
@@ -143,7 +146,7 @@ module _ {ST SP K P V : Type 0} (type_of : ℕ → K) (number_in : K → ℕ) (v
   pub served-in-turn : (x : Exchange ST SP K P) (asked : Request) (datagrams : List (List ℕ)) (us : List Untyped)
       → flat_map messages_cut datagrams ≡ us → All (λ d. (cut_of untyped_layout d).1 ≡ None) datagrams
       → All (IsFor asked.header.sequence_number asked.port) us → IsComplete (needs_ack x.flags) us
-          → IsServed x asked datagrams
+      → IsServed x asked datagrams
       → ReadsGive type_of number_in view size read asked.port us x
   served-in-turn x asked datagrams us cut none all complete served o is =
       let number : ℕ = own_number x in
@@ -151,17 +154,17 @@ module _ {ST SP K P V : Type 0} (type_of : ℕ → K) (number_in : K → ℕ) (v
       let mine : All (IsFor number port) us = subst (λ (n : ℕ). All (IsFor n port) us) served.number_is all in
       let each = several-numbered number port datagrams us cut mine in
       let own : All (Own port number) (datagrams_with number x.later) =
-          subst (All (Own port number)) (sym served.own) (own-each port number datagrams none each.1) in
+      subst (All (Own port number)) (sym served.own) (own-each port number datagrams none each.1) in
       let start-known = start-keeps port x.message_type x.flags x.payload x.sent x.before in
       let answers : AllAnswer port x.later (history_with x) =
-          all-answer port number (requests_sent x.before) (needs_ack x.flags)
-          (history_with x) x.later start-known served.stays_open served.others own in
+      all-answer port number (requests_sent x.before) (needs_ack x.flags)
+      (history_with x) x.later start-known served.stays_open served.others own in
       let brings : came number x.later ≡ us = came-is number x.later ∙ ap (flat_map (numbered number)) served.own
-          ∙ each.0 in
+      ∙ each.0 in
       let whole : IsComplete (needs_ack x.flags) (came number x.later) =
-          subst (IsComplete (needs_ack x.flags)) (sym brings) complete in
+      subst (IsComplete (needs_ack x.flags)) (sym brings) complete in
       let turn = read-in-turn type_of number_in view size read back port x.message_type x.flags x.payload x.sent
-          x.before x.later o served.stays_open answers whole is in
+      x.before x.later o served.stays_open answers whole is in
       subst (λ (ms : List Untyped). IsReadInTurn (IsReadAs type_of view size read) ms x o) brings turn
 
   -- of one datagram
@@ -171,27 +174,27 @@ module _ {ST SP K P V : Type 0} (type_of : ℕ → K) (number_in : K → ℕ) (v
       → ReadsGive type_of number_in view size read asked.port us x
   datagram-in-turn x asked bytes us needs wants cut all complete =
       let whole : All IsUnbroken (bytes ∷ []) = All-cons IsUnbroken bytes [] (ap (λ (c : Cut Untyped). c.1) cut)
-          (All-nil IsUnbroken) in
+      (All-nil IsUnbroken) in
       served-in-turn x asked (bytes ∷ []) us (append-nil (messages_cut bytes)
-          ∙ ap (λ (c : Cut Untyped). c.0) cut) whole all (subst (λ (b : Bool). IsComplete b us) (sym wants) complete)
+      ∙ ap (λ (c : Cut Untyped). c.0) cut) whole all (subst (λ (b : Bool). IsComplete b us) (sym wants) complete)
 
   -- of two
   pub datagrams-in-turn : (x : Exchange ST SP K P) (asked : Request) (one two : List ℕ) (us vs : List Untyped)
       (needs : Bool)
       → needs_ack x.flags ≡ needs → cut_of untyped_layout one ≡ (us, None) → cut_of untyped_layout two ≡ (vs, None)
       → All (IsFor asked.header.sequence_number asked.port) (us ++ vs) → IsComplete needs (us ++ vs)
-          → IsServed x asked (one ∷ two ∷ [])
+      → IsServed x asked (one ∷ two ∷ [])
       → ReadsGive type_of number_in view size read asked.port (us ++ vs) x
   datagrams-in-turn x asked one two us vs needs wants first second all complete =
       let last : All IsUnbroken (two ∷ []) = All-cons IsUnbroken two [] (ap (λ (c : Cut Untyped). c.1) second)
-          (All-nil IsUnbroken) in
+      (All-nil IsUnbroken) in
       let whole : All IsUnbroken (one ∷ two ∷ []) = All-cons IsUnbroken one (two ∷ [])
-          (ap (λ (c : Cut Untyped). c.1) first) last in
+      (ap (λ (c : Cut Untyped). c.1) first) last in
       let tail : messages_cut two ++ [] ≡ vs = append-nil (messages_cut two) ∙ ap (λ (c : Cut Untyped). c.0) second in
       let cut : messages_cut one ++ (messages_cut two ++ []) ≡ us ++ vs =
-          ap (λ (c : Cut Untyped). c.0 ++ (messages_cut two ++ [])) first ∙ ap (λ (ms : List Untyped). us ++ ms) tail in
+      ap (λ (c : Cut Untyped). c.0 ++ (messages_cut two ++ [])) first ∙ ap (λ (ms : List Untyped). us ++ ms) tail in
       served-in-turn x asked (one ∷ two ∷ []) (us ++ vs) cut whole all
-          (subst (λ (b : Bool). IsComplete b (us ++ vs)) (sym wants) complete)
+      (subst (λ (b : Bool). IsComplete b (us ++ vs)) (sym wants) complete)
 
 -- a message by itself
 pub one-for : (number port : ℕ) (u : Untyped) → IsFor number port u → All (IsFor number port) (u ∷ [])

@@ -60,16 +60,20 @@ module _ {K P V : Type 0} (type_of : ℕ → K) (number_of : K → ℕ) (view : 
   -- the acknowledgement, or an error, where an acknowledgement is needed
   answer-over : (u : Untyped) → is_answer u.1 ≡ true → (x : Item K P) → IsRead u x
       → (last_place number_of true true (x ∷ []) ≡ 0) × (last_item true false x ≡ last_item true false x)
-  answer-over u is (Ok m) read_is = (alone-last number_of true (Ok m) []
-      (read-answer type_of number_of view size read back u m read_is ∙ is), refl)
+  answer-over u is (Ok m) read_is = (
+    alone-last number_of true (Ok m) []
+        (read-answer type_of number_of view size read back u m read_is ∙ is),
+    refl,
+  )
   answer-over u is (Err e) read_is = (alone-last number_of true (Err e) [] refl, refl)
 
   -- an error, where none is
   error-over : (u : Untyped) → is_answer u.1 ≡ true → is_acknowledgement u.1 ≡ false → (x : Item K P) → IsRead u x
       → (last_place number_of false true (x ∷ []) ≡ 0) × (last_item false false x ≡ last_item true false x)
-  error-over u is none (Ok m) read_is =
-      (alone-last number_of false (Ok m) [] (read-answer type_of number_of view size read back u m read_is ∙ is),
-          other-by false m m.payload (read-ack type_of number_of view size read back u m read_is ∙ none))
+  error-over u is none (Ok m) read_is = (
+    alone-last number_of false (Ok m) [] (read-answer type_of number_of view size read back u m read_is ∙ is),
+    other-by false m m.payload (read-ack type_of number_of view size read back u m read_is ∙ none),
+  )
   error-over u is none (Err e) read_is = (alone-last number_of false (Err e) [] refl, refl)
 
   -- a whole reply, where no acknowledgement is needed
@@ -87,9 +91,11 @@ module _ {K P V : Type 0} (type_of : ℕ → K) (number_of : K → ℕ) (view : 
       → (ends_alone y ≡ true) × (last_item true true y ≡ last_item true false y)
   ack-last a is ack (Ok m) read_is =
       let same : is_acknowledgement m.payload ≡ true = read-ack type_of number_of view size read back a m read_is
-          ∙ ack in
-      (read-answer type_of number_of view size read back a m read_is ∙ is, ack-by true m m.payload same
-          ∙ sym (ack-by false m m.payload same))
+      ∙ ack in (
+        read-answer type_of number_of view size read back a m read_is ∙ is,
+        ack-by true m m.payload same
+            ∙ sym (ack-by false m m.payload same),
+      )
   ack-last a is ack (Err e) read_is = (refl, refl)
 
   ack-answer : (p : NlPayload ℕ (List ℕ)) → is_acknowledgement p ≡ true → is_answer p ≡ true
@@ -105,13 +111,13 @@ module _ {K P V : Type 0} (type_of : ℕ → K) (number_of : K → ℕ) (view : 
   ending-turn true (u ∷ []) is = over-turn number_of true IsRead u (answer-over u is)
   ending-turn true (u ∷ a ∷ []) is =
       pair-turn number_of IsRead u a (λ m read_is. whole-single type_of number_of view size read back u m read_is is.0)
-          (ack-last a (ack-answer a.1 is.1) is.1)
+      (ack-last a (ack-answer a.1 is.1) is.1)
   ending-turn true (u ∷ a ∷ b ∷ more) is = absurd is
   ending-turn false [] is = absurd is
   ending-turn false (u ∷ []) (inl error) = over-turn number_of false IsRead u (error-over u error.0 error.1)
   ending-turn false (u ∷ []) (inr whole) =
       over-turn number_of false IsRead u (whole-over u
-          (λ m read_is. whole-single type_of number_of view size read back u m read_is whole))
+      (λ m read_is. whole-single type_of number_of view size read back u m read_is whole))
   ending-turn false (u ∷ a ∷ more) is = absurd is
 
   parts-turn : (needs : Bool) (parts ending : List Untyped) → All IsPart parts → Turn needs ending
@@ -119,7 +125,7 @@ module _ {K P V : Type 0} (type_of : ℕ → K) (number_of : K → ℕ) (view : 
   parts-turn needs [] ending all last = last
   parts-turn needs (u ∷ parts) ending all last =
       quiet-turn number_of needs IsRead u (parts ++ ending)
-          (λ m read_is. part-quiet type_of number_of view size read back u m read_is (All-head IsPart u parts all))
+      (λ m read_is. part-quiet type_of number_of view size read back u m read_is (All-head IsPart u parts all))
       (parts-turn needs parts ending (All-tail IsPart u parts all) last)
 
   complete-turn : (needs : Bool) (us : List Untyped) → IsComplete needs us → Turn needs us
@@ -136,5 +142,11 @@ module _ {K P V : Type 0} (type_of : ℕ → K) (number_of : K → ℕ) (view : 
   pub given-in-turn : (needs : Bool) (us : List Untyped) (given : List (Item K P)) (r : Reply K P) → IsComplete needs us
       → IsNextAnswer type_of number_of view size read needs true (map message us) given r → IsInTurn IsRead us given r
   given-in-turn needs us given r c next =
-      complete-turn needs us c given r (next.0, are-read us next.0 next.1, next.2, next.3, λ waits. next.4 waits
-          ∙ length-map us message)
+      complete-turn needs us c given r (
+        next.0,
+        are-read us next.0 next.1,
+        next.2,
+        next.3,
+        λ waits. next.4 waits
+            ∙ length-map us message,
+      )

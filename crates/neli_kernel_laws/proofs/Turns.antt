@@ -49,9 +49,9 @@ module _ {K P : Type 0} (number_of : K → ℕ) (needs : Bool) where
       → last_of (x ∷ xs) ≡ suc (last_of xs)
   quiet-last x xs alone single = elim needs as (λ b. last_place number_of b true (x ∷ xs)
       ≡ suc (last_place number_of b true xs)) [
-    | true ↦ rw (alone, single) (min_suc _ _)
-    | false ↦ rw (alone, single) (min_suc _ _)
-  ]
+        | true ↦ rw (alone, single) (min_suc _ _)
+        | false ↦ rw (alone, single) (min_suc _ _)
+      ]
 
   quiet-single : (x : Item K P) (xs : List (Item K P)) → is_single number_of true x ≡ false
       → single_place number_of true (x ∷ xs) ≡ suc (single_place number_of true xs)
@@ -66,8 +66,13 @@ module _ {K P : Type 0} (number_of : K → ℕ) (needs : Bool) where
       ≡ answer_at number_of needs true xs i item
   quiet-suc-at x xs i None alone single = rw (quiet-last x xs alone single, lt_suc (last_of xs) (length xs)) refl
   quiet-suc-at x xs i (Some item) alone single =
-      rw (quiet-last x xs alone single, quiet-single x xs single, lt_suc i (last_of xs), eq_suc i (last_of xs),
-          lt_suc (single_place number_of true xs) i) refl
+      rw (
+        quiet-last x xs alone single,
+        quiet-single x xs single,
+        lt_suc i (last_of xs),
+        eq_suc i (last_of xs),
+        lt_suc (single_place number_of true xs) i,
+      ) refl
 
   quiet-suc : (x : Item K P) (xs : List (Item K P)) (i : ℕ) → ends_alone x ≡ false → is_single number_of true x ≡ false
       → answer_of (x ∷ xs) (suc i) ≡ answer_of xs i
@@ -169,31 +174,42 @@ module _ {U K P : Type 0} (number_of : K → ℕ) (needs : Bool) (IsRead : U →
       let q = quiet m are.0 in
       let here : r ≡ reply.Item (Ok m) = sym is ∙ quiet-zero number_of needs (Ok m) xs q.0 q.1 in
       (Ok m, (Ok m, are.0, quiet-last_item m q.0), here)
-  quiet-turn u us quiet rest [] r (Err e ∷ xs, are, were, is, none) =
-      (Err e, (Err e, are.0, refl), sym is ∙ over-zero number_of needs (Err e) xs
-          (alone-last number_of needs (Err e) xs refl))
+  quiet-turn u us quiet rest [] r (Err e ∷ xs, are, were, is, none) = (
+    Err e,
+    (Err e, are.0, refl),
+    sym is ∙ over-zero number_of needs (Err e) xs
+        (alone-last number_of needs (Err e) xs refl),
+  )
   quiet-turn u us quiet rest (g ∷ given) r (Ok m ∷ xs, are, were, is, none) =
       let q = quiet m are.0 in
       let same : Ok m ≡ g = item_is _ _ (sym (quiet-zero number_of needs (Ok m) xs q.0 q.1) ∙ were 0 g refl) in
-      let later = rest given r (xs, are.1, λ i item at. sym (quiet-suc number_of needs (Ok m) xs i q.0 q.1)
-          ∙ were (suc i) item at, sym (quiet-suc number_of needs (Ok m) xs (length given) q.0 q.1) ∙ is,
-          λ w. suc_is _ _ (none w)) in
+      let later = rest given r (
+        xs,
+        are.1,
+        λ i item at. sym (quiet-suc number_of needs (Ok m) xs i q.0 q.1)
+            ∙ were (suc i) item at,
+        sym (quiet-suc number_of needs (Ok m) xs (length given) q.0 q.1) ∙ is,
+        λ w. suc_is _ _ (none w),
+      ) in
       subst (λ (y : Item K P). IsInTurn IsRead (u ∷ us) (y ∷ given) r) same later
   quiet-turn u us quiet rest (g ∷ given) r (Err e ∷ xs, are, were, is, none) =
       let over = alone-last number_of needs (Err e) xs refl in
       let same : Err e ≡ g = item_is _ _ (sym (over-zero number_of needs (Err e) xs over) ∙ were 0 g refl) in
       subst (λ (y : Item K P). IsInTurn IsRead (u ∷ us) (y ∷ given) r) same (sym is
-          ∙ over-suc number_of needs (Err e) xs (length given) over)
+      ∙ over-suc number_of needs (Err e) xs (length given) over)
 
   pub over-turn : (u : U) → IsOver number_of needs IsRead u → InTurn number_of needs IsRead (u ∷ [])
   over-turn u over given r ([], are, were, is, none) = absurd (past-waits number_of needs (length given) 0 r is none)
   over-turn u over [] r (x ∷ [], are, were, is, none) =
-      let o = over x are.0 in
-      (last_item true false x, (x, are.0, refl), sym is ∙ over-zero number_of needs x [] o.0
-          ∙ ap (λ (y : Item K P). reply.Item y) o.1)
+      let o = over x are.0 in (
+        last_item true false x,
+        (x, are.0, refl),
+        sym is ∙ over-zero number_of needs x [] o.0
+            ∙ ap (λ (y : Item K P). reply.Item y) o.1,
+      )
   over-turn u over (g ∷ given) r (x ∷ [], are, were, is, none) =
       ended IsRead (list_any is_err (g ∷ given)) r (sym is
-          ∙ over-suc number_of needs x [] (length given) (over x are.0).0)
+      ∙ over-suc number_of needs x [] (length given) (over x are.0).0)
   over-turn u over given r (x ∷ y ∷ more, are, were, is, none) = absurd are.1
 
 -- a single reply, and what is after it, where an acknowledgement is needed
@@ -202,7 +218,7 @@ module _ {K P : Type 0} (number_of : K → ℕ) (x : Item K P) (alone : ends_alo
   pair-first : (xs : List (Item K P)) → answer number_of true true (x ∷ xs) 0 ≡ reply.Item x
   pair-first xs =
       let place : last_place number_of true true (x ∷ xs) ≡ suc (min (first_place ends_alone xs) 0) =
-          rw (alone, single) (min_suc _ _) in
+      rw (alone, single) (min_suc _ _) in
       rw (place, suc_lt (min (first_place ends_alone xs) 0)) refl
 
   pair-waits : (i : ℕ) → answer number_of true true (x ∷ []) (suc i) ≡ reply.Waits
@@ -219,34 +235,43 @@ module _ {K P : Type 0} (number_of : K → ℕ) (x : Item K P) (alone : ends_alo
 -- a single reply, and the acknowledgement after it
 module _ {U K P : Type 0} (number_of : K → ℕ) (IsRead : U → Item K P → Type 0) (u a : U)
     (single : (m : Nlmsghdr K P) → IsRead u (Ok m) → (ends_alone {K = K} {P = P} (Ok m) ≡ false)
-        × (is_single number_of true (Ok m) ≡ true))
+    × (is_single number_of true (Ok m) ≡ true))
     (last : (y : Item K P) → IsRead a y → (ends_alone y ≡ true)
-        × (last_item true true y ≡ last_item true false y)) where
+    × (last_item true true y ≡ last_item true false y)) where
   pub pair-turn : InTurn number_of true IsRead (u ∷ a ∷ [])
   pair-turn given r ([], are, were, is, none) = absurd (past-waits number_of true (length given) 1 r is none)
-  pair-turn [] r (Ok m ∷ xs, are, were, is, none) =
-      (Ok m, (Ok m, are.0, quiet-last_item m (single m are.0).0), sym is
-          ∙ pair-first number_of (Ok m) (single m are.0).0 (single m are.0).1 xs)
-  pair-turn [] r (Err e ∷ xs, are, were, is, none) =
-      (Err e, (Err e, are.0, refl), sym is ∙ over-zero number_of true (Err e) xs
-          (alone-last number_of true (Err e) xs refl))
+  pair-turn [] r (Ok m ∷ xs, are, were, is, none) = (
+    Ok m,
+    (Ok m, are.0, quiet-last_item m (single m are.0).0),
+    sym is
+        ∙ pair-first number_of (Ok m) (single m are.0).0 (single m are.0).1 xs,
+  )
+  pair-turn [] r (Err e ∷ xs, are, were, is, none) = (
+    Err e,
+    (Err e, are.0, refl),
+    sym is ∙ over-zero number_of true (Err e) xs
+        (alone-last number_of true (Err e) xs refl),
+  )
   pair-turn (g ∷ given) r (Ok m ∷ [], are, were, is, none) =
       absurd (zero_not_suc 0 (suc_is 0 1 (none (sym is
-          ∙ pair-waits number_of (Ok m) (single m are.0).0 (single m are.0).1 (length given)))))
+      ∙ pair-waits number_of (Ok m) (single m are.0).0 (single m are.0).1 (length given)))))
   pair-turn (g ∷ []) r (Ok m ∷ y ∷ [], are, were, is, none) =
       let same : Ok m ≡ g = item_is _ _ (sym (pair-first number_of (Ok m) (single m are.0).0 (single m are.0).1
-          (y ∷ [])) ∙ were 0 g refl) in
-      let here : IsInTurn IsRead (u ∷ a ∷ []) (Ok m ∷ []) r =
-      (last_item true false y, (y, are.1.0, refl), sym is
-          ∙ pair-second number_of (Ok m) (single m are.0).0 (single m are.0).1 y (last y are.1.0).0
-          ∙ ap (λ (x : Item K P). reply.Item x) (last y are.1.0).1) in
+      (y ∷ [])) ∙ were 0 g refl) in
+      let here : IsInTurn IsRead (u ∷ a ∷ []) (Ok m ∷ []) r = (
+        last_item true false y,
+        (y, are.1.0, refl),
+        sym is
+            ∙ pair-second number_of (Ok m) (single m are.0).0 (single m are.0).1 y (last y are.1.0).0
+            ∙ ap (λ (x : Item K P). reply.Item x) (last y are.1.0).1,
+      ) in
       subst (λ (x : Item K P). IsInTurn IsRead (u ∷ a ∷ []) (x ∷ []) r) same here
   pair-turn (g ∷ g' ∷ given) r (Ok m ∷ y ∷ [], are, were, is, none) =
       ended IsRead (list_any is_err (g ∷ g' ∷ given)) r (sym is
-          ∙ pair-past number_of (Ok m) (single m are.0).0 (single m are.0).1 y (length given) (last y are.1.0).0)
+      ∙ pair-past number_of (Ok m) (single m are.0).0 (single m are.0).1 y (length given) (last y are.1.0).0)
   pair-turn (g ∷ given) r (Ok m ∷ y ∷ z ∷ more, are, were, is, none) = absurd are.1.1
   pair-turn (g ∷ given) r (Err e ∷ xs, are, were, is, none) =
       let over = alone-last number_of true (Err e) xs refl in
       let same : Err e ≡ g = item_is _ _ (sym (over-zero number_of true (Err e) xs over) ∙ were 0 g refl) in
       subst (λ (y : Item K P). IsInTurn IsRead (u ∷ a ∷ []) (y ∷ given) r) same (sym is
-          ∙ over-suc number_of true (Err e) xs (length given) over)
+      ∙ over-suc number_of true (Err e) xs (length given) over)

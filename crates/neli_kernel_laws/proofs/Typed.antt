@@ -42,16 +42,18 @@ module _ {K V : Type 0} (type_of : ℕ → K) (read : List ℕ → Result V DeEr
   HasClass p q = (is_answer q ≡ is_answer p) × (is_acknowledgement q ≡ is_acknowledgement p)
 
   is_of : (p : NlPayload ℕ (List ℕ)) (q r : NlPayload K V) → HasClass p q → q ≡ r → HasClass p r
-  is_of p q r has same = (ap (λ (x : NlPayload K V). is_answer x) (sym same) ∙ has.0,
-      ap (λ (x : NlPayload K V). is_acknowledgement x) (sym same) ∙ has.1)
+  is_of p q r has same = (
+    ap (λ (x : NlPayload K V). is_answer x) (sym same) ∙ has.0,
+    ap (λ (x : NlPayload K V). is_acknowledgement x) (sym same) ∙ has.1,
+  )
 
   typed-class : (p : NlPayload ℕ (List ℕ)) (q : NlPayload K V) → typed_payload type_of read p ≡ Ok q → HasClass p q
   typed-class (payload.Payload bytes) q e =
       let b = bind_ok (read bytes) _ q e in is_of (payload.Payload bytes) (payload.Payload b.0) q (refl, refl)
-          (ok_is (payload.Payload b.0) q b.2)
+      (ok_is (payload.Payload b.0) q b.2)
   typed-class (payload.Err f) q e =
       let b = bind_ok (typed_failure type_of read f) _ q e in
-          is_of (payload.Err f) (payload.Err b.0) q (refl, refl) (ok_is (payload.Err b.0) q b.2)
+      is_of (payload.Err f) (payload.Err b.0) q (refl, refl) (ok_is (payload.Err b.0) q b.2)
   typed-class (payload.Ack f) q e = is_of (payload.Ack f) _ q (refl, refl) (ok_is _ q e)
   typed-class (payload.Capped f) q e = is_of (payload.Capped f) _ q (refl, refl) (ok_is _ q e)
   typed-class (payload.DumpExtAck f) q e = is_of (payload.DumpExtAck f) _ q (refl, refl) (ok_is _ q e)

@@ -31,7 +31,7 @@ module _ {K : Type 0} (kind_of : ℕ → K) where
       → within (length s) cut ≡ (attrs, None) → attributes_in kind_of s ≡ Ok attrs
   read_by s (ms, None) attrs cuts e =
       frames-list (lent_attribute kind_of) (attribute-placed kind_of _) (omega arith) s ms
-          (whole_frames (lent_attribute kind_of) s ms cuts) ∙ ap (λ (x : Attrs). Ok x) (ap values e)
+      (whole_frames (lent_attribute kind_of) s ms cuts) ∙ ap (λ (x : Attrs). Ok x) (ap values e)
   read_by s (ms, Some d) attrs cuts e = let clash = ap fault e in absurd cc
 
   refused_by : (s : List ℕ) (cut : Cut (Attr K (List ℕ))) (attrs : Attrs) (f : DeError)
@@ -40,9 +40,9 @@ module _ {K : Type 0} (kind_of : ℕ → K) where
   refused_by s (ms, None) attrs f cuts e = let clash = ap fault e in absurd cc
   refused_by s (ms, Some d) attrs f cuts e =
       let at = frames-refusal (lent_attribute kind_of) (attribute-placed kind_of _)
-          (omega arith) cuts.0 cuts.1 ms d cuts.3 (some-byte cuts.1 cuts.4.0) cuts.4.1 in
+      (omega arith) cuts.0 cuts.1 ms d cuts.3 (some-byte cuts.1 cuts.4.0) cuts.4.1 in
       let here : attributes_in kind_of s ≡ Err (refusal_within (length s) d) =
-          subst (λ (x : List ℕ). attributes_in kind_of x ≡ Err (refusal_within (length x) d)) (sym cuts.2) at in
+      subst (λ (x : List ℕ). attributes_in kind_of x ≡ Err (refusal_within (length x) d)) (sym cuts.2) at in
       let last : refusal_within (length s) d ≡ f = let same = ap fault e in cc in
       here ∙ ap (λ (x : DeError). Err x) last
 

@@ -58,6 +58,6 @@ pub whole-refused : {H V B : Type 0} (read : List ℕ → Result V DeError) (tak
 whole-refused read takes n at s h (Ok x) e is len same refused = tt
 whole-refused {H = H} {V = V} read takes n at s h (Err d) e is len same refused =
     let here : Refuses (exact_reading read n s) (exact_takes_memory takes n s) e =
-        subst (λ (x : List ℕ). Refuses (exact_reading read n x) (exact_takes_memory takes n x) e) is refused in
+    subst (λ (x : List ℕ). Refuses (exact_reading read n x) (exact_takes_memory takes n x) e) is refused in
     subst (λ (x : DeError). Refuses {A = H × V} (read s >>= λ p. Ok (h, p)) (takes s) x) (sym same)
-        (refuses-whole read takes n s len h e here)
+    (refuses-whole read takes n s len h e here)

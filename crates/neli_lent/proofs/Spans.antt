@@ -55,7 +55,7 @@ pub span_message : (s r : List ℕ) (m : Lent ℕ) (w : Nlmsghdr ℕ (List ℕ))
     → (u : Message ℕ (List ℕ)) → Spells s u → u ≡ (w.header, w.payload)
 span_message s r m w lent owned u is =
     ok_is u (message_of (λ b. b) w) (sym (span_owned s r m u lent is) ∙ owned)
-        ∙ ap (λ (p : NlPayload ℕ (List ℕ)). (w.header, p)) (payload_same w.payload)
+    ∙ ap (λ (p : NlPayload ℕ (List ℕ)). (w.header, p)) (payload_same w.payload)
 
 -- a body is its bytes
 pub span_body : (s r : List ℕ) (m : Lent ℕ) → frame_at (lent_message same) s ≡ Ok (m, r)

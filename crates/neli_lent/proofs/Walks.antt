@@ -64,7 +64,7 @@ module _ {K : Type 0} (kind_of : ℕ → K) where
   unfolding attributes_at
   attributes-end place e =
       let none : cut_of (lent_attribute kind_of) place.rest ≡ ([], None) =
-          rw e (cut_of-end (lent_attribute kind_of) (attribute-placed kind_of _) (omega arith)) in
+      rw e (cut_of-end (lent_attribute kind_of) (attribute-placed kind_of _) (omega arith)) in
       ap (within (length (whole place))) none
 
   pub attributes-attribute : (place next : Place) (a : Attr K (List ℕ))
@@ -73,7 +73,7 @@ module _ {K : Type 0} (kind_of : ℕ → K) where
   unfolding attributes_at
   attributes-attribute place next a e same =
       rw same (ap (within (length (whole place))) (cut_of-message (lent_attribute kind_of) (attribute-placed kind_of _)
-          (omega arith) place.rest next.rest a e))
+      (omega arith) place.rest next.rest a e))
 
   pub attributes-fault : (place : Place) (e : DeError) → place.rest ≢ []
       → frame_at (lent_attribute kind_of) place.rest ≡ Err e
@@ -81,7 +81,7 @@ module _ {K : Type 0} (kind_of : ℕ → K) where
   unfolding attributes_at
   attributes-fault place e any is =
       ap (within (length (whole place))) (cut_of-fault (lent_attribute kind_of) (attribute-placed kind_of _)
-          (omega arith) place.rest e any is)
+      (omega arith) place.rest e any is)
 
   pub attribute-longer : (s r : List ℕ) (a : Attr K (List ℕ)) → frame_at (lent_attribute kind_of) s ≡ Ok (a, r)
       → length r + 4 ≤ length s

@@ -29,5 +29,7 @@ pub record HeaderFits (h : Header ℕ) : Type 0 where
 abbrev pub IsWalked : {K P : Type 0} → (K → ℕ) → (P → Wire) → Nlmsghdr K P → List ℕ → Type 0
 IsWalked number_of wire m bytes =
     (body : List ℕ) × (payload_wire number_of wire m.payload ≡ Ok body)
-    × (messages_in (λ n. n) bytes ≡ ((header_numbered number_of m.header, body ++ zeros_for (16 + length body)) ∷ [],
-        None))
+    × (messages_in (λ n. n) bytes ≡ (
+      (header_numbered number_of m.header, body ++ zeros_for (16 + length body)) ∷ [],
+      None,
+    ))

@@ -17,15 +17,14 @@ with_rest-err rest (Err d) e h = ap (λ (x : DeError). Err x) cc
 
 module _ {R V : Type 0} (r : Result R DeError) (read : List ℕ
     → Result V DeError) (n : ℕ) (at s : List ℕ) (is : at ≡ s) (len : n ≡ length s) where
+  all : take n at ≡ s
+  all = ap (take n) is ∙ take_all n s (omega arith)
 
-      all : take n at ≡ s
-      all = ap (take n) is ∙ take_all n s (omega arith)
-
-      by : (r : Result R DeError) → IfErr r (Refuses (exact_reading read n at) (exact_takes_memory takes n at))
-          → IfErr r (Refuses (read s) (takes s))
-      by (Ok x) h = h
-      by (Err (Msg m)) h = with_rest-err (drop n s) (read s) (Msg m) (same ∙ h)
-      by (Err (Io k)) h = with_rest-err (drop n s) (read s) (Io k) (same ∙ h)
-      by (Err (Utf8 u)) h = with_rest-err (drop n s) (read s) (Utf8 u) (same ∙ h)
-      by (Err (InvalidInput m)) h = with_rest-err (drop n s) (read s) (InvalidInput m) (same ∙ h)
-      by (Err Memory) h = rw all at h.1
+  by : (r : Result R DeError) → IfErr r (Refuses (exact_reading read n at) (exact_takes_memory takes n at))
+      → IfErr r (Refuses (read s) (takes s))
+  by (Ok x) h = h
+  by (Err (Msg m)) h = with_rest-err (drop n s) (read s) (Msg m) (same ∙ h)
+  by (Err (Io k)) h = with_rest-err (drop n s) (read s) (Io k) (same ∙ h)
+  by (Err (Utf8 u)) h = with_rest-err (drop n s) (read s) (Utf8 u) (same ∙ h)
+  by (Err (InvalidInput m)) h = with_rest-err (drop n s) (read s) (InvalidInput m) (same ∙ h)
+  by (Err Memory) h = rw all at h.1

@@ -91,8 +91,10 @@ listed_end bytes lines left is end = (lines_are bytes lines left None is end, fa
 pub listed_fault : (bytes lines left : List ℕ) (e : DeError) → IsListed bytes lines left → raw_cut left ≡ ([], Some e)
     → ending_of (Some e) ≢ Memory → Lists bytes lines (ending_of (Some e))
 listed_fault bytes lines left e is end other =
-    lists bytes lines (ending_of (Some e)) other (lines_are bytes lines left (Some e) is end,
-        fault_is bytes lines left (Some e) is end)
+    lists bytes lines (ending_of (Some e)) other (
+      lines_are bytes lines left (Some e) is end,
+      fault_is bytes lines left (Some e) is end,
+    )
 
 -- what is not empty has a message or a fault
 not_done : (b : List ℕ) (ms : List Raw) (f : Option DeError) → Cuts untyped_layout b ms f → b ≢ []
@@ -108,12 +110,15 @@ goes_on ms c (inr fault) = inr fault
 pub listed_memory : (bytes lines left : List ℕ) → IsListed bytes lines left → left ≢ [] → Lists bytes lines Memory
 listed_memory bytes lines left is some =
     let front : take (length is.messages) (raw_cut bytes).0 ≡ is.messages =
-        ap (λ (c : Cut Raw). take (length is.messages) c.0) is.so_far
-        ∙ take_at is.messages (raw_cut left).0 (length is.messages) refl in
+    ap (λ (c : Cut Raw). take (length is.messages) c.0) is.so_far
+    ∙ take_at is.messages (raw_cut left).0 (length is.messages) refl in
     let later = not_done left (raw_cut left).0 (raw_cut left).1
-        (cut_of-Cuts untyped_layout (layout_with-placed (λ n. n) _) (omega arith) left) some in
-    (length is.messages, subst (GoesOnAfter (length is.messages)) (sym is.so_far)
-        (goes_on is.messages (raw_cut left) later), is.made ∙ sym (ap lines_of front))
+    (cut_of-Cuts untyped_layout (layout_with-placed (λ n. n) _) (omega arith) left) some in (
+      length is.messages,
+      subst (GoesOnAfter (length is.messages)) (sym is.so_far)
+          (goes_on is.messages (raw_cut left) later),
+      is.made ∙ sym (ap lines_of front),
+    )
 
 named : (e : DeError) → ending_of (Some e) ≢ Memory
 named (de.InvalidInput n) h = cc
@@ -153,9 +158,12 @@ then_left r left = r >>= λ m. Ok (m, left)
 -- where it is lent, its line is that of the message that is read
 pub lent_begins : (s left : List ℕ) (m : Lent ℕ) (line : Line) → frame_at (lent_message (λ n. n)) s ≡ Ok (m, left)
     → IsLineOf (as_owned (λ n. n) (λ n. n) (λ b. Ok b) m) line → BeginsWith s line left
-lent_begins s left m line lent is =
-    (is.0, owned-read (λ n. n) (λ n. n) (λ b. Ok b) s left m lent
-        ∙ ap (λ (r : Result Raw DeError). then_left r left) is.1, is.2)
+lent_begins s left m line lent is = (
+  is.0,
+  owned-read (λ n. n) (λ n. n) (λ b. Ok b) s left m lent
+      ∙ ap (λ (r : Result Raw DeError). then_left r left) is.1,
+  is.2,
+)
 
 refused_then : (r : Result Raw DeError) (left : List ℕ) (e : DeError) → Refuses r ⊤ e → Refuses (then_left r left) ⊤ e
 refused_then r left de.Memory h = h
@@ -171,7 +179,7 @@ pub lent_refused : {A : Type 0} (r : Result A DeError) (s left : List ℕ) (m : 
 lent_refused (Ok x) s left m e is lent h = tt
 lent_refused (Err d) s left m e is lent h =
     let here = subst (λ (x : Reading Raw). Refuses x ⊤ e) (sym (owned-read (λ n. n) (λ n. n) (λ b. Ok b) s left m lent))
-        (refused_then (as_owned (λ n. n) (λ n. n) (λ b. Ok b) m) left e h) in
+    (refused_then (as_owned (λ n. n) (λ n. n) (λ b. Ok b) m) left e h) in
     subst (λ (x : DeError). Refuses (frame_at untyped_layout s) ⊤ x) (sym is) here
 
 -- ---- lines that are written as they are made
@@ -198,16 +206,25 @@ Listed bytes old now e = (lines : List ℕ) × Lists bytes lines e × Appends ol
 
 pub printed_end : (bytes : List ℕ) (old now : Option (List ℕ)) (left : List ℕ) → IsPrinted bytes old now left
     → left ≡ [] → Listed bytes old now Whole
-printed_end bytes old now left is none = (is.lines, listed_end bytes is.lines left is.listed (end_at left none),
-    is.gained)
+printed_end bytes old now left is none = (
+  is.lines,
+  listed_end bytes is.lines left is.listed (end_at left none),
+  is.gained,
+)
 
 pub printed_error : (bytes : List ℕ) (old now : Option (List ℕ)) (left : List ℕ) (e : DeError)
     → IsPrinted bytes old now left → left ≢ [] → Refuses (frame_at untyped_layout left) ⊤ e
     → Listed bytes old now (ending_by e)
-printed_error bytes old now left e is some refused = (is.lines,
-    listed_error bytes is.lines left e is.listed some refused, is.gained)
+printed_error bytes old now left e is some refused = (
+  is.lines,
+  listed_error bytes is.lines left e is.listed some refused,
+  is.gained,
+)
 
 -- a message that begins what is left makes it shorter
 pub line_shorter : (left later : List ℕ) (line : Line) → BeginsWith left line later → length later < length left
-line_shorter left later line begins = omega (arith, frame_at-longer untyped_layout (layout_with-placed (λ n. n) _)
-    (omega arith) left later begins.0 begins.1)
+line_shorter left later line begins = omega (
+  arith,
+  frame_at-longer untyped_layout (layout_with-placed (λ n. n) _)
+      (omega arith) left later begins.0 begins.1,
+)

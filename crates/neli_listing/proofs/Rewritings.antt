@@ -78,16 +78,16 @@ rewritten bytes old written items fits cut whole none writes =
     let small : AreBytes bytes = λ i. (fits i).fits in
     let tails : All HasNoTail (map seen items) = All-map HasNoTail seen items whole in
     let found : Cuts untyped_layout bytes (raw_cut bytes).0 (raw_cut bytes).1 =
-        cut_of-Cuts untyped_layout (layout_with-placed (λ n. n) _) (omega arith) bytes in
+    cut_of-Cuts untyped_layout (layout_with-placed (λ n. n) _) (omega arith) bytes in
     let cuts : Cuts untyped_layout bytes (map seen items) None =
-        subst (λ (c : Cut Raw). Cuts untyped_layout bytes c.0 c.1) cut found in
+    subst (λ (c : Cut Raw). Cuts untyped_layout bytes c.0 c.1) cut found in
     let law : untyped_wires (map seen items) ≡ Ok (datagram_zeroed bytes) =
-        datagram-back bytes (map seen items) small (whole_frames untyped_layout bytes (map seen items) cuts) tails in
+    datagram-back bytes (map seen items) small (whole_frames untyped_layout bytes (map seen items) cuts) tails in
     let wires : wire_all held_wire items ≡ Ok written =
-        after_nothing (wire_all held_wire items) written
-        (ap (λ (x : List ℕ). append_wire x (wire_all held_wire items)) (sym none) ∙ writes) in
+    after_nothing (wire_all held_wire items) written
+    (ap (λ (x : List ℕ). append_wire x (wire_all held_wire items)) (sym none) ∙ writes) in
     let is : written ≡ datagram_zeroed bytes = written_is written (datagram_zeroed bytes) (sym wires
-        ∙ sym (same_wires items) ∙ law) in (
+    ∙ sym (same_wires items) ∙ law) in (
       ap (λ (c : Cut Raw). c.1) cut,
       subst (λ (c : Cut Raw). All HasNoTail c.0) (sym cut) tails,
       is,

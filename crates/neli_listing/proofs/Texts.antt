@@ -14,4 +14,4 @@ hex4_is n =
     let d : List ℕ = digits 16 false n in
     let zeros : 4 - length d - 0 - char_count [] ≡ 4 - length d = omega (arith, no_text) in
     ap (λ (k : ℕ). replicate k 48 ++ (d ++ [])) zeros ∙ ap (λ (xs : List ℕ). replicate (4 - length d) 48 ++ xs)
-        (append-nil d)
+    (append-nil d)

@@ -51,8 +51,11 @@ received_end port opened (Some q) (g ∷ gs) = refl
 apart_push : (s : Span) (ss : List Span) (t : Span) (at : ℕ) → s.end ≤ at
     → ((i : ℕ) (x : Span) → slice_get ss i ≡ Some x → x.end ≤ at) → at ≤ t.start → Apart s ss → Apart s (ss ++ t ∷ [])
 apart_push s [] t at le before from h = ((λ same. omega arith), tt)
-apart_push s (x ∷ xs) t at le before from h = (h.0, apart_push x xs t at (before 0 x refl)
-    (λ i y there. before (suc i) y there) from h.1)
+apart_push s (x ∷ xs) t at le before from h = (
+  h.0,
+  apart_push x xs t at (before 0 x refl)
+      (λ i y there. before (suc i) y there) from h.1,
+)
 
 are_apart_push : (ss : List Span) (t : Span) (at : ℕ) → ((i : ℕ) (x : Span) → slice_get ss i ≡ Some x → x.end ≤ at)
     → at ≤ t.start → AreApart ss → AreApart (ss ++ t ∷ [])
@@ -96,12 +99,12 @@ module _ (P : Option ℕ → Option (List Content)) (port serial : ℕ) (bytes g
       → deliveries_due port P groups w whole ≡ deliveries_due port P groups w step
       ++ deliveries_due port P groups w rest → deliveries_added bytes w (e ∷ []) ≡ deliveries_due port P groups w step
       → deliveries_added bytes w es ++ deliveries_due port P groups w whole ≡ deliveries_due port P groups w cut
-          → deliveries_added bytes w (es ++ e ∷ []) ++ deliveries_due port P groups w rest
-          ≡ deliveries_due port P groups w cut
+      → deliveries_added bytes w (es ++ e ∷ []) ++ deliveries_due port P groups w rest
+      ≡ deliveries_due port P groups w cut
   lists_pushed es e whole step rest w parts gains is =
       ap (λ ds. ds ++ deliveries_due port P groups w rest) (gained_push w es e)
       ∙ append_assoc (deliveries_added bytes w es) (deliveries_added bytes w (e ∷ []))
-          (deliveries_due port P groups w rest)
+      (deliveries_due port P groups w rest)
       ∙ ap (λ ds. deliveries_added bytes w es ++ (ds ++ deliveries_due port P groups w rest)) gains
       ∙ ap (λ ds. deliveries_added bytes w es ++ ds) (sym parts) ∙ is
 
@@ -110,7 +113,7 @@ module _ (P : Option ℕ → Option (List Content)) (port serial : ℕ) (bytes g
       ++ deliveries_due port P groups w rest → deliveries_added bytes w (e ∷ []) ≡ deliveries_due port P groups w step
       → deliveries_added bytes w (e ∷ []) ≡ []
       → deliveries_added bytes w es ++ deliveries_due port P groups w whole ≡ deliveries_due port P groups w cut
-          → deliveries_added bytes w es ++ deliveries_due port P groups w rest ≡ deliveries_due port P groups w cut
+      → deliveries_added bytes w es ++ deliveries_due port P groups w rest ≡ deliveries_due port P groups w cut
   lists_skipped es e whole step rest w parts gains none is =
       ap (λ ds. deliveries_added bytes w es ++ (ds ++ deliveries_due port P groups w rest)) (sym none ∙ gains)
       ∙ ap (λ ds. deliveries_added bytes w es ++ ds) (sym parts) ∙ is
@@ -127,11 +130,11 @@ module _ (P : Option ℕ → Option (List Content)) (port serial : ℕ) (bytes g
       (s : Span) (a : Address) → AreStaged P port serial bytes groups cut es at (message_before u rest)
       → IsFound serial at bytes s u a
       → ((w : Option ℕ) → deliveries_added bytes w (e ∷ []) ≡ deliveries_due port P groups w (u ∷ [], None))
-          → span_of e.item ≡ s ∷ [] → HasReader P e.route
+      → span_of e.item ≡ s ∷ [] → HasReader P e.route
       → AreStaged P port serial bytes groups cut (es ++ e ∷ []) s.end rest
   staged_kept es at u rest e s a h f gains has r =
       let spans : spans_of (es ++ e ∷ []) ≡ spans_of es ++ s ∷ [] = spans_push es e
-          ∙ ap (λ ss. spans_of es ++ ss) has in
+      ∙ ap (λ ss. spans_of es ++ ss) has in
       record {
         lists = λ w opened. lists_pushed es e (message_before u rest) (u ∷ [], None) rest w
             (received_message port (is_open P) w u rest groups) (gains w) (h.lists w opened);
@@ -149,7 +152,7 @@ module _ (P : Option ℕ → Option (List Content)) (port serial : ℕ) (bytes g
       (s : Span) (a : Address) → AreStaged P port serial bytes groups cut es at (message_before u rest)
       → IsFound serial at bytes s u a
       → ((w : Option ℕ) → deliveries_added bytes w (e ∷ []) ≡ deliveries_due port P groups w (u ∷ [], None))
-          → (HasReader P e.route → ⊥)
+      → (HasReader P e.route → ⊥)
       → AreStaged P port serial bytes groups cut es s.end rest
   staged_skipped es at u rest e s a h f gains none = record {
     lists = λ w opened. lists_skipped es e (message_before u rest) (u ∷ [], None) rest w
@@ -170,7 +173,7 @@ module _ (P : Option ℕ → Option (List Content)) (port serial : ℕ) (bytes g
       → AreStaged P port serial bytes groups cut (es ++ e ∷ []) at ([], None)
   staged_fault es at fault e h gains has r =
       let spans : spans_of (es ++ e ∷ []) ≡ spans_of es = spans_push es e ∙ ap (λ ss. spans_of es ++ ss) has
-          ∙ append-nil (spans_of es) in
+      ∙ append-nil (spans_of es) in
       record {
         lists = λ w opened. lists_pushed es e ([], Some fault) ([], Some fault) ([], None) w
             (sym (ap (λ ds. deliveries_due port P groups w ([], Some fault) ++ ds)
@@ -199,9 +202,14 @@ module _ (P : Option ℕ → Option (List Content)) (port serial : ℕ) (bytes g
   -- what is staged before a place is staged before a later one
   pub staged_further : (es : List (Entry Content)) (at at' : ℕ) (rest : Cut Untyped) → at ≤ at'
       → AreStaged P port serial bytes groups cut es at rest → AreStaged P port serial bytes groups cut es at' rest
-  staged_further es at at' rest le h = record { lists = h.lists;
-      spans = of_further serial at at' (spans_of es) le h.spans; messages = h.messages; readers = h.readers; few =
-      h.few }
+  staged_further es at at' rest le h = record {
+    lists = h.lists;
+    spans = of_further serial at at' (spans_of es) le h.spans;
+    messages = h.messages;
+    readers = h.readers;
+    few =
+        h.few;
+  }
 
   -- in the end each opened list gains what it is due
   pub staged_gains : (es : List (Entry Content)) (at : ℕ) → AreStaged P port serial bytes groups cut es at ([], None)
@@ -242,12 +250,12 @@ span_spells before s after r u is same =
     let f = frame_of-frame_at untyped_layout (layout_with-placed (λ n. n) _) s r u.0 u.1 is in
     let total = ap length same in
     let n : length after - length before ≡ length f.0 =
-        omega (arith, total, length-append after r, length-append before s, ap length f.1, length-append f.0 r) in
+    omega (arith, total, length-append after r, length-append before s, ap length f.1, length-append f.0 r) in
     let text : slice_range (before ++ s) (length before) (length after) ≡ f.0 =
-        ap (take (length after - length before)) (drop_before before s) ∙ ap (take (length after - length before)) f.1
-        ∙ take_before (length after - length before) f.0 r n in
+    ap (take (length after - length before)) (drop_before before s) ∙ ap (take (length after - length before)) f.1
+    ∙ take_before (length after - length before) f.0 r n in
     rw text (ap (frame_at untyped_layout) (sym (append-nil f.0))
-        ∙ frame_at-frame untyped_layout (layout_with-placed (λ n. n) _) f.0 [] u.0 u.1 f.2)
+    ∙ frame_at-frame untyped_layout (layout_with-placed (λ n. n) _) f.0 [] u.0 u.1 f.2)
 
 -- its place is after that where the rest began
 pub after_more : (before s after r : List ℕ) → length r ≤ length s → after ++ r ≡ before ++ s

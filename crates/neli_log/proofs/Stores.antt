@@ -93,9 +93,11 @@ span_dropped zero es i x at = (i, at)
 span_dropped (suc k) [] i x at = cc
 span_dropped (suc k) (e ∷ es) i x at =
     let r = span_dropped k es i x at in
-    let j : length (span_of e.item) + r.0 - length (span_of e.item) ≡ r.0 = omega arith in
-    (length (span_of e.item) + r.0, get_right (span_of e.item) (spans_of es) (length (span_of e.item) + r.0)
-        (omega arith) ∙ (rw j r.1))
+    let j : length (span_of e.item) + r.0 - length (span_of e.item) ≡ r.0 = omega arith in (
+      length (span_of e.item) + r.0,
+      get_right (span_of e.item) (spans_of es) (length (span_of e.item) + r.0)
+          (omega arith) ∙ (rw j r.1),
+    )
 
 -- the span of the first item of a list is one of the entries'
 item_span : (w : Option ℕ) (es : List (Entry Content)) (c : Content) (cs : List Content) (x : Span)
@@ -104,9 +106,11 @@ item_span w [] c cs x is has = cc
 item_span w (e ∷ es) c cs x is has = elim (either (leads w e.route)) [
   | inl it ↦ (let a = rw it at is in let same : e.item ≡ c = cc in (0, rw (same, has) refl))
   | inr it ↦ (let r = item_span w es c cs x (rw it at is) has in
-      let j : length (span_of e.item) + r.0 - length (span_of e.item) ≡ r.0 = omega arith in
-      (length (span_of e.item) + r.0, get_right (span_of e.item) (spans_of es) (length (span_of e.item) + r.0)
-          (omega arith) ∙ (rw j r.1)))
+      let j : length (span_of e.item) + r.0 - length (span_of e.item) ≡ r.0 = omega arith in (
+        length (span_of e.item) + r.0,
+        get_right (span_of e.item) (spans_of es) (length (span_of e.item) + r.0)
+            (omega arith) ∙ (rw j r.1),
+      ))
 ]
 
 first_span : (base : ℕ) (es : List (Entry Content)) (w : Option ℕ) (o : Option Place) (c : Content) (x : Span)
@@ -144,7 +148,7 @@ module _ (s s' : Places Content) (d d' : Datagrams) (c : Content) (r : Route)
       let all = subst (λ es. AreMessages (span_bytes d) (spans_of es)) taken backed.messages in
       let j : length (span_of c) + i - length (span_of c) ≡ i = omega arith in
       all (length (span_of c) + i) x (get_right (span_of c) (spans_of (entries_of s')) (length (span_of c) + i)
-          (omega arith) ∙ (rw j at))
+      (omega arith) ∙ (rw j at))
 
   module _ (names : (ss : List Span) → Names d (span_of c ++ ss)
       → Names d' ss) (texts : (ss : List Span) (i : ℕ) (x : Span) → Names d (span_of c ++ ss) → slice_get ss i ≡ Some x
@@ -167,7 +171,7 @@ module _ (s s' : Places Content) (d d' : Datagrams) (c : Content) (r : Route)
         by None = refl
         by (Some p) = ap (λ ds. Some ds) (items_same (span_bytes d) (span_bytes d') w (rest s'.base (entries_of s') p)
             (λ i x at. (let j = span_dropped (p.from - s'.base) (entries_of s') i x at in
-                texts (spans_of (entries_of s')) j.0 x released_names j.1)))
+            texts (spans_of (entries_of s')) j.0 x released_names j.1)))
 
 -- ---- entries are added, and their datagram
 
@@ -175,13 +179,13 @@ module _ (s s' : Places Content) (d d' : Datagrams) (bytes : List ℕ) (es : Lis
     (entries : entries_of s' ≡ entries_of s ++ es) (more : (w : Option ℕ)
     → items_of s' w ≡ option_map (λ xs. xs ++ items_for w es) (items_of s w))
     (spans : AreOf (next_serial d) (length bytes) (spans_of es)) (messages : AreMessages (part_of bytes) (spans_of es))
-        (backed : AreBacked d (entries_of s))
+    (backed : AreBacked d (entries_of s))
     (names : (old new : List Span) → Names d old → AreOf (next_serial d) (length bytes) new
-        → length new ≡ length (spans_of es) → Names d' (old ++ new))
+    → length new ≡ length (spans_of es) → Names d' (old ++ new))
     (texts : (old : List Span) (i : ℕ) (x : Span) → Names d old → slice_get old i ≡ Some x
-        → span_bytes d' x ≡ span_bytes d x)
+    → span_bytes d' x ≡ span_bytes d x)
     (new_span : (x : Span) → 0 < length (spans_of es) → x.datagram ≡ next_serial d
-        → span_bytes d' x ≡ slice_range bytes x.start x.end) where
+    → span_bytes d' x ≡ slice_range bytes x.start x.end) where
   kept_text : (i : ℕ) (x : Span) → slice_get (spans_of (entries_of s)) i ≡ Some x → span_bytes d' x ≡ span_bytes d x
   kept_text i x at = texts (spans_of (entries_of s)) i x backed.names at
 
@@ -214,11 +218,11 @@ module _ (s s' : Places Content) (d d' : Datagrams) (bytes : List ℕ) (es : Lis
       by (Some p) =
           let old : List Content = items_for w (rest s.base (entries_of s) p) in
           let first : map (delivery_of (span_bytes d')) old ≡ map (delivery_of (span_bytes d)) old =
-              items_same (span_bytes d) (span_bytes d') w (rest s.base (entries_of s) p)
-              (λ i x at. (let j = span_dropped (p.from - s.base) (entries_of s) i x at in kept_text j.0 x j.1)) in
+          items_same (span_bytes d) (span_bytes d') w (rest s.base (entries_of s) p)
+          (λ i x at. (let j = span_dropped (p.from - s.base) (entries_of s) i x at in kept_text j.0 x j.1)) in
           ap (λ ds. Some ds) (map-append (delivery_of (span_bytes d')) old (items_for w es)
-              ∙ ap (λ ds. ds ++ map (delivery_of (span_bytes d')) (items_for w es)) first
-              ∙ ap (λ ds. map (delivery_of (span_bytes d)) old ++ ds) new)
+          ∙ ap (λ ds. ds ++ map (delivery_of (span_bytes d')) (items_for w es)) first
+          ∙ ap (λ ds. map (delivery_of (span_bytes d)) old ++ ds) new)
 
 -- ---- what is due
 
@@ -268,7 +272,7 @@ pub fault_pending : (text : Span → List ℕ) (w : Option ℕ) (e : SocketError
     → is_would_block e ≡ false → o' ≡ option_map (λ xs. xs ++ items_for w
     (record { item = content.Fault e; route = route.Numbers } ∷ [])) o
     → option_map (map (delivery_of text)) o' ≡ option_map (λ ds. ds ++ fault_share w e)
-        (option_map (map (delivery_of text)) o)
+    (option_map (map (delivery_of text)) o)
 fault_pending text w e o o' h is = rw is (by o)
   where
     by : (o : Option (List Content)) → option_map (map (delivery_of text))
@@ -286,8 +290,10 @@ fault_spans es e = spans_append es (record { item = content.Fault e; route = rou
 
 pub fault_backed : (d : Datagrams) (es es' : List (Entry Content)) (e : SocketError)
     → es' ≡ es ++ record { item = content.Fault e; route = route.Numbers } ∷ [] → AreBacked d es → AreBacked d es'
-fault_backed d es es' e is h = rw is (record { names = rw (fault_spans es e) h.names;
-    messages = rw (fault_spans es e) h.messages })
+fault_backed d es es' e is h = rw is (record {
+  names = rw (fault_spans es e) h.names;
+  messages = rw (fault_spans es e) h.messages;
+})
 
 -- ---- a result
 

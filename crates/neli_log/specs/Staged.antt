@@ -47,7 +47,7 @@ pub record AreStaged (pending : Option ℕ → Option (List Content)) (port seri
     (cut : Cut Untyped) (es : List (Entry Content)) (at : ℕ) (rest : Cut Untyped) : Type 0 where
   pub lists : (w : Option ℕ) → is_some (pending w) ≡ true
       → deliveries_added bytes w es ++ deliveries_due port pending groups w rest
-          ≡ deliveries_due port pending groups w cut
+      ≡ deliveries_due port pending groups w cut
   pub spans : AreOf serial at (spans_of es)
   pub messages : AreMessages (part_of bytes) (spans_of es)
   pub readers : HaveReaders pending es

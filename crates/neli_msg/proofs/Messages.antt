@@ -21,16 +21,26 @@ module _ {K V : Type 0} (type_of : ℕ → K) (number_of : K → ℕ) (read : Li
       ≡ Ok ((header_in type_of s, p), drop (align (number_in 4 0 s)) s)
   unfolding frame_at
   message_whole enough =
-      rw (le-ltb (length s) 16 head, le-ltb (number_in 4 0 s) 16 least, le-ltb (length s) (number_in 4 0 s) within,
-          reads, le-ltb (length s) (align (number_in 4 0 s)) enough) refl
+      rw (
+        le-ltb (length s) 16 head,
+        le-ltb (number_in 4 0 s) 16 least,
+        le-ltb (length s) (number_in 4 0 s) within,
+        reads,
+        le-ltb (length s) (align (number_in 4 0 s)) enough,
+      ) refl
 
   -- padding is missing
   pub message_short : length s < align (number_in 4 0 s)
       → frame_at (message_layout type_of number_of read) s ≡ Err short
   unfolding frame_at
   message_short few =
-      rw (le-ltb (length s) 16 head, le-ltb (number_in 4 0 s) 16 least, le-ltb (length s) (number_in 4 0 s) within,
-          reads, lt-ltb (length s) (align (number_in 4 0 s)) few) refl
+      rw (
+        le-ltb (length s) 16 head,
+        le-ltb (number_in 4 0 s) 16 least,
+        le-ltb (length s) (number_in 4 0 s) within,
+        reads,
+        lt-ltb (length s) (align (number_in 4 0 s)) few,
+      ) refl
 
 -- the same told by the values that a reader has of the parts
 module _ {K V : Type 0} (type_of : ℕ → K) (number_of : K → ℕ) (read : List ℕ
@@ -47,26 +57,26 @@ module _ {K V : Type 0} (type_of : ℕ → K) (number_of : K → ℕ) (read : Li
       (take (number_in 4 0 rest - 16) (drop 16 rest)) ≡ Ok p
   reads_there =
       let numbers : number ≡ number_of (type_of (number_in 2 4 rest)) = number_is
-          ∙ ap number_of (kind_is ∙ ap (λ (x : Header K). x.message_type) header) in
+      ∙ ap number_of (kind_is ∙ ap (λ (x : Header K). x.message_type) header) in
       let flag_bits : flags ≡ flags_of (number_in 2 6 rest) = flags_are ∙ ap (λ (x : Header K). x.flags) header in
       let one = subst (λ (x : ℕ). payload_in type_of read x flags (take (len - 16) (drop 16 rest))
-          ≡ Ok p) numbers reads in
+      ≡ Ok p) numbers reads in
       let two = subst (λ (x : NlmF). payload_in type_of read (number_of (type_of (number_in 2 4 rest))) x
-          (take (len - 16) (drop 16 rest)) ≡ Ok p) flag_bits one in
+      (take (len - 16) (drop 16 rest)) ≡ Ok p) flag_bits one in
       subst (λ (x : ℕ). payload_in type_of read (number_of (type_of (number_in 2 4 rest)))
-          (flags_of (number_in 2 6 rest)) (take (x - 16) (drop 16 rest)) ≡ Ok p) stated two
+      (flags_of (number_in 2 6 rest)) (take (x - 16) (drop 16 rest)) ≡ Ok p) stated two
 
   pub parts_short : length rest < end → frame_at (message_layout type_of number_of read) s ≡ Err short
   parts_short few =
       let ends : end ≡ align (number_in 4 0 rest) = end_is ∙ ap align stated in
       subst (λ (x : List ℕ). frame_at (message_layout type_of number_of read) x ≡ Err short) same
       (message_short type_of number_of read rest p head (omega (arith, stated)) (omega (arith, stated)) reads_there
-          (omega (arith, ends)))
+      (omega (arith, ends)))
 
   pub parts_whole : end ≤ length rest → frame_at (message_layout type_of number_of read) s ≡ Ok ((h, p), drop end s)
   parts_whole enough =
       let ends : end ≡ align (number_in 4 0 rest) = end_is ∙ ap align stated in
       let found = message_whole type_of number_of read rest p head (omega (arith, stated))
-          (omega (arith, stated)) reads_there (omega (arith, ends)) in
+      (omega (arith, stated)) reads_there (omega (arith, ends)) in
       subst (λ (x : List ℕ). frame_at (message_layout type_of number_of read) x ≡ Ok ((h, p), drop end x)) same
-          (rw (header, ends) found)
+      (rw (header, ends) found)

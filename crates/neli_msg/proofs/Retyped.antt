@@ -12,8 +12,10 @@ use Rattle.neli_msg.specs.Retyping.{RefusesTyping, body_count, typed_first, type
 
 module _ {K V : Type 0} (type_of : ℕ → K) (read : List ℕ → Result V DeError) where
   first-all : (p : NlPayload ℕ (List ℕ)) → typed_first type_of read (body_count p) p ≡ typed_payload type_of read p
-  first-all (payload.Payload bytes) = rw (le-ltb (length bytes) (length bytes) (omega arith),
-      take_all (length bytes) bytes (omega arith)) refl
+  first-all (payload.Payload bytes) = rw (
+    le-ltb (length bytes) (length bytes) (omega arith),
+    take_all (length bytes) bytes (omega arith),
+  ) refl
   first-all (payload.Err e) = refl
   first-all (payload.Ack e) = refl
   first-all (payload.Capped e) = refl

@@ -51,7 +51,7 @@ built_echo size b =
 abbrev pub built_answer : {M : Type 0} → NlmsgerrBuilder M → Outcome (Nlmsgerr M)
 built_answer b =
     require_field (codes "nlmsg") b.nlmsg (λ answered. Ok
-        (answer (unwrap_or b.error (pos 0)) answered (unwrap_or b.ext_ack [])))
+    (answer (unwrap_or b.error (pos 0)) answered (unwrap_or b.ext_ack [])))
 
 -- a message; without more its sequence number and port are 0
 abbrev pub built_message : {T P : Type 0} → (P → ℕ) → NlmsghdrBuilder T P → Outcome (Nlmsghdr T P)

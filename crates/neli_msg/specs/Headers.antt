@@ -28,4 +28,4 @@ header_in type_of s = record {
 abbrev pub header_wire : {K : Type 0} → (K → ℕ) → Header K → Wire
 header_wire type_number h =
     Ok (little_bytes 4 h.len ++ little_bytes 2 (type_number h.message_type) ++ little_bytes 2 h.flags.0
-        ++ little_bytes 4 h.sequence_number ++ little_bytes 4 h.port)
+    ++ little_bytes 4 h.sequence_number ++ little_bytes 4 h.port)

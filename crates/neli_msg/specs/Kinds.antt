@@ -36,7 +36,7 @@ is_acknowledged s = nat_le 20 (length s) && nat_eq (number_in 4 0 s) 0
 abbrev pub kind_of : ℕ → NlmF → List ℕ → Kind
 kind_of number flags s =
     if nat_eq number 2 then (if is_acknowledged s then Acknowledgement (tail_of flags)
-        else (if is_capped flags then Capped (tail_of flags) else Failure))
+    else (if is_capped flags then Capped (tail_of flags) else Failure))
     else (if nat_eq number 3 then (if nat_eq (length s) 0 then Nothing else (if is_multi flags then DumpEnd else Body))
     else Body)
 

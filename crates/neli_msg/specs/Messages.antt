@@ -13,8 +13,12 @@ Message K V = Header K × NlPayload K V
 
 -- 16 bytes of header, which state the length of the whole, and then a payload
 abbrev pub layout_with : {K V : Type 0} → (ℕ → K) → (Header K → List ℕ → Result V DeError) → Layout (Header K) V
-layout_with type_of payload_of = record { size = 16; header_of = header_in type_of; length_of = λ h. h.len;
-    payload_of = payload_of }
+layout_with type_of payload_of = record {
+  size = 16;
+  header_of = header_in type_of;
+  length_of = λ h. h.len;
+  payload_of = payload_of;
+}
 
 -- an echoed message by itself: its payload is a body
 abbrev pub echo_layout : {K V : Type 0} → (ℕ → K) → (List ℕ → Result V DeError) → Layout (Header K) V

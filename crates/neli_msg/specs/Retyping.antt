@@ -140,7 +140,7 @@ module _ {P V : Type 0} (view : P → V) (size : P → ℕ) (read : List ℕ →
   abbrev pub IsMessageTooLong : {K : Type 0} → (ℕ → K) → NlPayload ℕ (List ℕ) → Type 0
   IsMessageTooLong {K} type_of u =
       IsEchoTooLong u ⊎ ((p : NlPayload K P) × (typed_payload type_of read u
-          ≡ Ok (payload_stating (stated_echo u) view p))
+      ≡ Ok (payload_stating (stated_echo u) view p))
       × HasOwnEcho size p × (4294967295 < align (16 + payload_size size p)))
 
 -- ---- a message, and a router's error: what it has of a message is retyped, and all else stays

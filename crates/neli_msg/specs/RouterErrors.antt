@@ -42,7 +42,7 @@ router_text (Answer e) = Some (codes "Application error was returned by netlink:
 router_text (Capped e) = Some (codes "Application error was returned by netlink: " ++ answer_text e)
 router_text (BadSeqOrPid m) =
     Some (codes "A bad sequence number or PID was received: number " ++ decimal m.header.sequence_number
-        ++ codes ", port " ++ decimal m.header.port)
+    ++ codes ", port " ++ decimal m.header.port)
 router_text NoAck = Some (codes "No ACK received")
 router_text UnexpectedAck = Some (codes "ACK received when none was expected")
 router_text ClosedChannel = Some (codes "A channel required for message processing closed")

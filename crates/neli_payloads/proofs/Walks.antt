@@ -53,7 +53,7 @@ pub hops-hop : (place next : Place) (h : HopHead × List ℕ) → frame_at next_
 unfolding next_hops_at
 hops-hop place next h e same =
     rw same (ap (within (length (whole place))) (cut_of-message next_hop next_hop-placed
-        (omega arith) place.rest next.rest h e))
+    (omega arith) place.rest next.rest h e))
 
 pub hops-fault : (place : Place) (e : DeError) → place.rest ≢ [] → frame_at next_hop place.rest ≡ Err e
     → next_hops_at place ≡ ([], Some (refusal_within (length (whole place)) e))

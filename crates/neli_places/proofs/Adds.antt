@@ -26,8 +26,11 @@ use Rattle.neli_places.specs.Places.{with_last, links_with}
 pub found_push_other : {T : Type 0} (p : Route → Bool) (n : ℕ) (l : List (Entry T)) (e : Entry T) → p e.route ≡ false
     → first_position p n (l ++ e ∷ []) ≡ first_position p n l
 found_push_other p n [] e h = rw h refl
-found_push_other p n (x ∷ l) e h = elim (b_or (p x.route)) [ inl it ↦ rw it refl | inr it ↦ rw it
-    (found_push_other p (suc n) l e h) ]
+found_push_other p n (x ∷ l) e h = elim (b_or (p x.route)) [
+  | inl it ↦ rw it refl
+  | inr it ↦ rw it
+      (found_push_other p (suc n) l e h)
+]
 
 pub found_push_here : {T : Type 0} (p : Route → Bool) (n : ℕ) (l : List (Entry T)) (e : Entry T) → p e.route ≡ true
     → first_position p n l ≡ None → first_position p n (l ++ e ∷ []) ≡ Some (n + length l)
@@ -41,16 +44,22 @@ found_push_here p n (x ∷ l) e h none = elim (b_or (p x.route)) [
 pub found_push_some : {T : Type 0} (p : Route → Bool) (n : ℕ) (l r : List (Entry T)) (m : ℕ)
     → first_position p n l ≡ Some m → first_position p n (l ++ r) ≡ Some m
 found_push_some p n [] r m h = cc
-found_push_some p n (x ∷ l) r m h = elim (b_or (p x.route)) [ inl it ↦ (let f = rw it at h in
-    rw it f) | inr it ↦ rw it (found_push_some p (suc n) l r m (rw it at h)) ]
+found_push_some p n (x ∷ l) r m h = elim (b_or (p x.route)) [
+  | inl it ↦ (let f = rw it at h in
+      rw it f)
+  | inr it ↦ rw it (found_push_some p (suc n) l r m (rw it at h))
+]
 
 pub found_push_there : {T : Type 0} (p : Route → Bool) (n : ℕ) (l r : List (Entry T)) (t : ℕ) (y : Entry T)
     → slice_get l t ≡ Some y → p y.route ≡ true → first_position p n (l ++ r) ≡ first_position p n l
 found_push_there p n [] r t y at h = cc
 found_push_there p n (x ∷ l) r zero y at h = let same : x ≡ y = cc in
     let it : p x.route ≡ true = ap (λ z. p z.route) same ∙ h in rw it refl
-found_push_there p n (x ∷ l) r (suc t) y at h = elim (b_or (p x.route)) [ inl it ↦ rw it refl | inr it ↦ rw it
-    (found_push_there p (suc n) l r t y at h) ]
+found_push_there p n (x ∷ l) r (suc t) y at h = elim (b_or (p x.route)) [
+  | inl it ↦ rw it refl
+  | inr it ↦ rw it
+      (found_push_there p (suc n) l r t y at h)
+]
 
 pub get_push : {A : Type 0} (l : List A) (x : A) (i : ℕ) → i < length l → slice_get (l ++ x ∷ []) i ≡ slice_get l i
 get_push [] x i h = absurd (omega arith)
@@ -96,7 +105,7 @@ module _ {T : Type 0} (base : ℕ) (es : List (Entry T)) (links : List (Option �
   module _ (w : Option ℕ) (off : leads_only w e.route ≡ false) (links' : List (Option ℕ))
       (same_long : length links' ≡ length links)
       (relinks : (i : ℕ) (x : Entry T) → slice_get es i ≡ Some x → leads_only w x.route ≡ true
-          → slice_get links' i ≡ slice_get links i) where
+      → slice_get links' i ≡ slice_get links i) where
     chain_other : (k : ℕ) (o : Option Chain) → k ≤ length es → base ≤ base → ((c : Chain) → o ≡ Some c → base ≤ c.last)
         → IsOwn w base es k o → IsOwn w base (es ++ e ∷ []) k o
     chain_other k None le _ ge h = rw (drop-append-le k es (e ∷ []) le)
@@ -120,8 +129,13 @@ module _ {T : Type 0} (base : ℕ) (es : List (Entry T)) (links : List (Option �
           let old = rw (get_push es e i lt) at at in
           let a = h i x le old is in
           let le' : suc i ≤ length es = omega arith in
-          rw (get_push links' None i (omega arith), relinks i x old is, a, drop-append-le (suc i) es (e ∷ []) le',
-              found_push_other (leads_only w) (suc (base + i)) (drop (suc i) es) e off) refl
+          rw (
+            get_push links' None i (omega arith),
+            relinks i x old is,
+            a,
+            drop-append-le (suc i) es (e ∷ []) le',
+            found_push_other (leads_only w) (suc (base + i)) (drop (suc i) es) e off,
+          ) refl
       | inr ge ↦
           let lt' = slice_get_end (es ++ e ∷ []) i x at in
           let long = long_push es e in
@@ -206,38 +220,46 @@ module _ {T : Type 0} (base : ℕ) (es : List (Entry T)) (links : List (Option �
         let low = found_from (leads_only w) (base + k) (drop k es) c.first h.0 in
         let a1 = h.1 in let a2 = h.2 in
         let l' : length (set links (c.last - base) (Some (base + length es))) ≡ length es =
-            length-set links (c.last - base) (Some (base + length es)) ∙ as_long in
+        length-set links (c.last - base) (Some (base + length es)) ∙ as_long in
         elim (cases_lt i (length es)) [
           | inl lt ↦
               let old = rw (get_push es e i lt) at at in
               let here : i < length (set links (c.last - base) (Some (base + length es))) = omega (arith, l') in
               let le' : suc i ≤ length es = omega arith in
-              rw (get_push (set links (c.last - base) (Some (base + length es))) None i here,
-                  drop-append-le (suc i) es (e ∷ []) le')
+              rw (
+                get_push (set links (c.last - base) (Some (base + length es))) None i here,
+                drop-append-le (suc i) es (e ∷ []) le',
+              )
               (elim (cases_order i (c.last - base)) [
                 | inl same ↦
                     let d : suc c.last ≡ suc (base + i) = omega arith in
                     let none = rw (← same, d) at h.4 in
                     let n : suc (base + i) + length (drop (suc i) es) ≡ base + length es =
-                        (let a = length-drop (suc i) es in omega (arith, a)) in
-                    rw (← same, get_set_here links i (Some (base + length es)) (omega arith),
-                        found_push_here (leads_only w) (suc (base + i)) (drop (suc i) es) e mine none, n) refl
+                    (let a = length-drop (suc i) es in omega (arith, a)) in
+                    rw (
+                      ← same,
+                      get_set_here links i (Some (base + length es)) (omega arith),
+                      found_push_here (leads_only w) (suc (base + i)) (drop (suc i) es) e mine none,
+                      n,
+                    ) refl
                 | inr other ↦ elim other [
                   | inl before ↦
                       let ne : i ≢ c.last - base = omega arith in
                       let s : suc i + (c.last - base - suc i) ≡ c.last - base = omega arith in
                       let y = last_entry c h in
                       let t : slice_get (drop (suc i) es) (c.last - base - suc i) ≡ Some y.0 =
-                          rw (slice_get_drop (suc i) (c.last - base - suc i) es, s) y.1 in
-                      rw (get_set_other links (c.last - base) i (Some (base + length es)) ne,
-                          found_push_there (leads_only w) (suc (base + i)) (drop (suc i) es) (e ∷ [])
-                          (c.last - base - suc i) y.0 t (h.3 y.0 y.1)) (linked i x ge old is)
+                      rw (slice_get_drop (suc i) (c.last - base - suc i) es, s) y.1 in
+                      rw (
+                        get_set_other links (c.last - base) i (Some (base + length es)) ne,
+                        found_push_there (leads_only w) (suc (base + i)) (drop (suc i) es) (e ∷ [])
+                            (c.last - base - suc i) y.0 t (h.3 y.0 y.1),
+                      ) (linked i x ge old is)
                   | inr after ↦
                       let s : suc (c.last - base) + (i - suc (c.last - base)) ≡ i = omega arith in
                       let t : slice_get (drop (suc (c.last - base)) es) (i - suc (c.last - base)) ≡ Some x =
-                          rw (slice_get_drop (suc (c.last - base)) (i - suc (c.last - base)) es, s) old in
+                      rw (slice_get_drop (suc (c.last - base)) (i - suc (c.last - base)) es, s) old in
                       let off = found_none (leads_only w) (suc c.last) (drop (suc (c.last - base)) es) h.4
-                          (i - suc (c.last - base)) x t in
+                      (i - suc (c.last - base)) x t in
                       cc
                 ]
               ])
@@ -321,7 +343,7 @@ items_append w (e ∷ l) r = elim (b_or (leads w e.route)) [
 pub pending_add : {T : Type 0} (w : Option ℕ) (base : ℕ) (es : List (Entry T)) (e : Entry T) (o o' : Option Place)
     → option_map (λ p. p.from) o' ≡ option_map (λ p. p.from) o → ((p : Place) → o ≡ Some p → p.from ≤ base + length es)
     → option_map (λ p. items_for w (rest base (es ++ e ∷ []) p)) o'
-        ≡ option_map (λ ds. ds ++ items_for w (e ∷ [])) (option_map (λ p. items_for w (rest base es p)) o)
+    ≡ option_map (λ ds. ds ++ items_for w (e ∷ [])) (option_map (λ p. items_for w (rest base es p)) o)
 pending_add w base es e None None from within = refl
 pending_add w base es e None (Some x) from within = cc
 pending_add w base es e (Some p) None from within = cc
@@ -330,14 +352,18 @@ pending_add w base es e (Some p) (Some x) from within =
     let a = within p refl in
     let le : p.from - base ≤ length es = omega arith in
     rw (same, drop-append-le (p.from - base) es (e ∷ []) le)
-        (ap Some (items_append w (drop (p.from - base) es) (e ∷ [])))
+    (ap Some (items_append w (drop (p.from - base) es) (e ∷ [])))
 
 some_from : (o o' : Option Place) (p : Place) → option_map (λ p. p.from) o' ≡ option_map (λ p. p.from) o → o ≡ Some p
     → (x : Place) × (o' ≡ Some x) × (x.from ≡ p.from)
 some_from None o' p from is = cc
 some_from (Some y) None p from is = cc
-some_from (Some y) (Some x) p from is = (x, refl, (let same : y ≡ p = cc in let f : x.from ≡ y.from = cc in
-    f ∙ ap (λ z. z.from) same))
+some_from (Some y) (Some x) p from is = (
+  x,
+  refl,
+  (let same : y ≡ p = cc in let f : x.from ≡ y.from = cc in
+      f ∙ ap (λ z. z.from) same),
+)
 
 pub trimmed_add : {T : Type 0} (place place' : Option ℕ
     → Option Place) (base : ℕ) (es : List (Entry T)) (e : Entry T) (w : Option ℕ) (p : Place) → SameFrom place place'
@@ -352,17 +378,23 @@ trimmed_add place place' base (y ∷ es) e w p same is le t h = let x =
 positions_push : {T : Type 0} (n : ℕ) (es : List (Entry T)) (e : Entry T) → is_shared e.route ≡ false
     → shared_positions n (es ++ e ∷ []) ≡ shared_positions n es
 positions_push n [] e h = rw h refl
-positions_push n (x ∷ es) e h = elim (b_or (is_shared x.route)) [ inl it ↦ rw it
-    (ap (λ l. n ∷ l) (positions_push (suc n) es e h)) | inr it ↦ rw it (positions_push (suc n) es e h) ]
+positions_push n (x ∷ es) e h = elim (b_or (is_shared x.route)) [
+  | inl it ↦ rw it
+      (ap (λ l. n ∷ l) (positions_push (suc n) es e h))
+  | inr it ↦ rw it (positions_push (suc n) es e h)
+]
 
 positions_push_shared : {T : Type 0} (n : ℕ) (es : List (Entry T)) (e : Entry T) → is_shared e.route ≡ true
     → shared_positions n (es ++ e ∷ []) ≡ shared_positions n es ++ (n + length es) ∷ []
 positions_push_shared n [] e h = let s : n + 0 ≡ n = omega arith in rw (h, s) refl
 positions_push_shared n (x ∷ es) e h =
     let s : n + suc (length es) ≡ suc n + length es = omega arith in
-    elim (b_or (is_shared x.route)) [ inl it ↦ rw (it, s)
-        (ap (λ l. n ∷ l) (positions_push_shared (suc n) es e h)) | inr it ↦ rw (it, s)
-        (positions_push_shared (suc n) es e h) ]
+    elim (b_or (is_shared x.route)) [
+      | inl it ↦ rw (it, s)
+          (ap (λ l. n ∷ l) (positions_push_shared (suc n) es e h))
+      | inr it ↦ rw (it, s)
+          (positions_push_shared (suc n) es e h)
+    ]
 
 positions_map_push : (ss : List Shared) (x : Shared) → map (λ s. s.at) (ss ++ x ∷ []) ≡ map (λ s. s.at) ss ++ x.at ∷ []
 positions_map_push [] x = refl
@@ -412,7 +444,7 @@ module _ {T : Type 0} (place place' : Option ℕ → Option Place) (numbers numb
       → x.own ≡ Some (with_last p.own (base + length es)) → x.seen ≡ p.seen
       → ((k : ℕ) → waiting_count k numbers' ≡ waiting_count k numbers)
       → AreSound place' numbers' base shared_base c (es ++ e ∷ [])
-          (links_with base p.own (base + length es) links ++ None ∷ []) shared
+      (links_with base p.own (base + length es) links ++ None ∷ []) shared
   sound_add_own w p x altered is mine off from owned seen same =
       let long = long_push es e in
       record {
@@ -422,8 +454,11 @@ module _ {T : Type 0} (place place' : Option ℕ → Option Place) (numbers numb
             let g = relinked_long p.own (base + length es) in let k = h.as_long in omega (arith, f, g, k, long));
         places = λ v y at. elim (altered v y at) [
           | inl old ↦ place_other base es links e h.as_long v
-              (elim (b_or (leads_only v e.route)) [ inl it ↦ absurd
-              (old.0 (own_one w v e.route mine it)) | inr it ↦ it ]) (links_with base p.own (base + length es) links)
+              (elim (b_or (leads_only v e.route)) [
+                | inl it ↦ absurd
+                    (old.0 (own_one w v e.route mine it))
+                | inr it ↦ it
+              ]) (links_with base p.own (base + length es) links)
               (relinked_long p.own (base + length es))
               (relinked_same w v p (base + length es) old.0 (h.places w p is).chain) y (h.places v y old.1)
           | inr new ↦ rw (new.0, new.1) (place_mine base es links e h.as_long w p x mine from owned (h.places w p is))
@@ -472,7 +507,7 @@ pub pending_added : {T : Type 0} (w : Option ℕ) (base : ℕ) (es es' : List (E
     → es' ≡ es ++ e ∷ [] → option_map (λ p. p.from) o' ≡ option_map (λ p. p.from) o
     → ((p : Place) → o ≡ Some p → p.from ≤ base + length es)
     → option_map (λ p. items_for w (rest base es' p)) o'
-        ≡ option_map (λ ds. ds ++ items_for w (e ∷ [])) (option_map (λ p. items_for w (rest base es p)) o)
+    ≡ option_map (λ ds. ds ++ items_for w (e ∷ [])) (option_map (λ p. items_for w (rest base es p)) o)
 pending_added w base es es' e o o' is from within = rw is (pending_add w base es e o o' from within)
 
 pub trimmed_added : {T : Type 0} (place place' : Option ℕ
@@ -486,7 +521,7 @@ pub sound_added : {T : Type 0} (place : Option ℕ → Option Place) (numbers : 
     (es es' : List (Entry T)) (links links' : List (Option ℕ)) (shared shared' : List Shared) → es' ≡ es
     → links' ≡ links → shared' ≡ shared
     → AreSound place numbers base shared_base c es links shared
-        → AreSound place numbers base shared_base c es' links' shared'
+    → AreSound place numbers base shared_base c es' links' shared'
 sound_added place numbers base shared_base c es es' links links' shared shared' a b d h = rw (a, b, d) h
 
 pub trimmed_same : {T : Type 0} (place : Option ℕ → Option Place) (base : ℕ) (es es' : List (Entry T)) → es' ≡ es

@@ -116,30 +116,33 @@ pub sound_put : {T : Type 0} (place place' : Option ℕ → Option Place) (numbe
     (w : Option ℕ) (x : Place)
     → Changed place place' w x → IsPlace w base es links x → ((q : ℕ) → w ≡ Some q → IsSeen shared_base base es x)
     → map (λ s. s.at) shared' ≡ map (λ s. s.at) shared
-        → ((n : ℕ) → standing_at shared' c' n ≡ waiting_count (shared_base + n) numbers')
+    → ((n : ℕ) → standing_at shared' c' n ≡ waiting_count (shared_base + n) numbers')
     → AreSound place numbers base shared_base c es links shared
-        → AreSound place' numbers' base shared_base c' es links shared'
+    → AreSound place' numbers' base shared_base c' es links shared'
 sound_put place place' numbers numbers' base shared_base c c' es links shared shared' w x changed good seen same stand
     h = record {
-  fits = h.fits;
-  shared_fits = (let l : length shared' ≡ length shared = sym (length-map shared' (λ s. s.at))
-      ∙ (ap length same ∙ length-map shared (λ s. s.at)) in let f = h.shared_fits in omega arith);
-  as_long = h.as_long;
-  places = λ v p is. elim (changed v p is) [ inl old ↦ h.places v p old | inr new ↦ rw (new.0, new.1) good ];
-  seen = λ q p is. elim (changed (Some q) p is) [ inl old ↦ h.seen q p old | inr new ↦
-      (rw new.1 (seen q (sym new.0))) ];
-  positions_are = same ∙ h.positions_are;
-  standing_are = stand;
-}
+      fits = h.fits;
+      shared_fits = (let l : length shared' ≡ length shared = sym (length-map shared' (λ s. s.at))
+          ∙ (ap length same ∙ length-map shared (λ s. s.at)) in let f = h.shared_fits in omega arith);
+      as_long = h.as_long;
+      places = λ v p is. elim (changed v p is) [ inl old ↦ h.places v p old | inr new ↦ rw (new.0, new.1) good ];
+      seen = λ q p is. elim (changed (Some q) p is) [
+        | inl old ↦ h.seen q p old
+        | inr new ↦
+            (rw new.1 (seen q (sym new.0)))
+      ];
+      positions_are = same ∙ h.positions_are;
+      standing_are = stand;
+    }
 
 pub sound_less : {T : Type 0} (place place' : Option ℕ
     → Option Place) (numbers numbers' : List Place) (base shared_base c c' : ℕ) (es : List (Entry T))
     (links : List (Option ℕ)) (shared shared' : List Shared)
     → ((v : Option ℕ) (p : Place) → place' v ≡ Some p → place v ≡ Some p)
     → map (λ s. s.at) shared' ≡ map (λ s. s.at) shared
-        → ((n : ℕ) → standing_at shared' c' n ≡ waiting_count (shared_base + n) numbers')
+    → ((n : ℕ) → standing_at shared' c' n ≡ waiting_count (shared_base + n) numbers')
     → AreSound place numbers base shared_base c es links shared
-        → AreSound place' numbers' base shared_base c' es links shared'
+    → AreSound place' numbers' base shared_base c' es links shared'
 sound_less place place' numbers numbers' base shared_base c c' es links shared shared' changed same stand h = record {
   fits = h.fits;
   shared_fits = (let l : length shared' ≡ length shared = sym (length-map shared' (λ s. s.at))
@@ -196,7 +199,7 @@ pub fresh_seen : {T : Type 0} (shared_base base : ℕ) (es : List (Entry T)) (sh
 fresh_seen shared_base base es shared x from seen sp =
     let k : length es ≤ x.from - base = omega arith in
     let l : length shared ≡ shared_count es = sym (length-map shared (λ s. s.at))
-        ∙ (ap length sp ∙ positions_count base es) in
+    ∙ (ap length sp ∙ positions_count base es) in
     rw (take_end es (x.from - base) k) (seen ∙ ap (λ n. shared_base + n) l)
 
 abbrev one_at : ℕ → Place → ℕ
@@ -234,14 +237,14 @@ pub seen_bounds : {T : Type 0} (shared_base base : ℕ) (es : List (Entry T)) (s
     → (shared_base ≤ p.seen) × (p.seen - shared_base ≤ length shared)
 seen_bounds shared_base base es shared p sp h =
     let l : length shared ≡ shared_count es = sym (length-map shared (λ s. s.at))
-        ∙ (ap length sp ∙ positions_count base es) in
+    ∙ (ap length sp ∙ positions_count base es) in
     let le = count_split (p.from - base) es in
     (omega (arith, h), omega (arith, h, l, le))
 
 module _ {S T : Type 0} (m : HashMap ℕ Place S) (place : Option ℕ → Option Place) (place_is : (q : ℕ)
     → place (Some q) ≡ get nat_eq m q)
     (base shared_base c : ℕ) (es : List (Entry T)) (links : List (Option ℕ)) (shared : List Shared)
-        (h : AreSound place (values m) base shared_base c es links shared) where
+    (h : AreSound place (values m) base shared_base c es links shared) where
   pub place_bounds : (q : ℕ) (p : Place) → get nat_eq m q ≡ Some p
       → (shared_base ≤ p.seen) × (p.seen - shared_base ≤ length shared)
   place_bounds q p is = seen_bounds shared_base base es shared p h.positions_are (h.seen q p (place_is q ∙ is))
@@ -260,12 +263,12 @@ module _ {S T : Type 0} (m : HashMap ℕ Place S) (place : Option ℕ → Option
       → IsPermutation (remove_entry (nat_eq q) m.entries) n.entries
       → place' None ≡ place None → ((r : ℕ) → place' (Some r) ≡ cond (nat_eq q r) None (place (Some r)))
       → ((k : ℕ) → standing_at shared' c' k + (if k == (p.seen - shared_base) then 1 else 0) ≡ standing_at shared c k)
-          → map (λ s. s.at) shared' ≡ map (λ s. s.at) shared
+      → map (λ s. s.at) shared' ≡ map (λ s. s.at) shared
       → AreSound place' (values n) base shared_base c' es links shared'
   sound_closed n place' q c' p shared' is perm none some less same =
       let b = place_bounds q p is in
       sound_less place place' (values m) (values n) base shared_base c c' es links shared shared'
-          (removed place place' q none some) same
+      (removed place place' q none some) same
       (λ k.
       let a = waiting_removed m n q (shared_base + k) p perm is in
       let d = less k in
@@ -327,7 +330,7 @@ module _ {S T : Type 0} (m n : HashMap ℕ Place S) (place place' : Option ℕ
       → AreSound place' (values n) base shared_base (c + 1) es links shared
   sound_opened q x old closed unheld is puts none some from own_none seen =
       sound_put place place' (values m) (values n) base shared_base c (c + 1) es links shared shared (Some q) x
-          (changed_number place place' q x none some) (fresh_place (Some q) base es links x from own_none)
+      (changed_number place place' q x none some) (fresh_place (Some q) base es links x from own_none)
       (λ r _. fresh_seen shared_base base es shared x from seen h.positions_are) refl
       (λ k.
       let a = waiting_put m n q (shared_base + k) x old is puts (is ∙ unheld) in

@@ -29,7 +29,7 @@ kept_some place base [] t h = refl
 kept_some place base (e ∷ es) t h =
     let k : t.1.from - base ≡ 0 = (let a = t.3 in omega arith) in
     let is : option_map (λ p. items_for t.0 (rest base (e ∷ es) p)) (place t.0) ≡ Some (e.item ∷ items_for t.0 es) =
-        rw (t.2, k, t.4) refl in
+    rw (t.2, k, t.4) refl in
     let bad = h t.0 (e.item ∷ items_for t.0 es) is in
     cc
 

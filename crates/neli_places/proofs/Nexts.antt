@@ -79,8 +79,11 @@ found_earlier q n (e ∷ es) = elim (b_or (is_shared e.route)) [
 positions_head : {T : Type 0} (n : ℕ) (es : List (Entry T))
     → slice_get (shared_positions n es) 0 ≡ first_position is_shared n es
 positions_head n [] = refl
-positions_head n (e ∷ es) = elim (b_or (is_shared e.route)) [ inl it ↦ rw it refl | inr it ↦ rw it
-    (positions_head (suc n) es) ]
+positions_head n (e ∷ es) = elim (b_or (is_shared e.route)) [
+  | inl it ↦ rw it refl
+  | inr it ↦ rw it
+      (positions_head (suc n) es)
+]
 
 pub spot_found : {T : Type 0} (n k : ℕ) (es : List (Entry T))
     → slice_get (shared_positions n es) (shared_count (take k es)) ≡ first_position is_shared (n + k) (drop k es)
@@ -88,8 +91,11 @@ spot_found n zero es = let s : n + 0 ≡ n = omega arith in rw s (positions_head
 spot_found n (suc k) [] = refl
 spot_found n (suc k) (e ∷ es) =
     let s : n + suc k ≡ suc n + k = omega arith in
-    elim (b_or (is_shared e.route)) [ inl it ↦ rw (it, s) (spot_found (suc n) k es) | inr it ↦ rw (it, s)
-        (spot_found (suc n) k es) ]
+    elim (b_or (is_shared e.route)) [
+      | inl it ↦ rw (it, s) (spot_found (suc n) k es)
+      | inr it ↦ rw (it, s)
+          (spot_found (suc n) k es)
+    ]
 
 pub own_start : {T : Type 0} (w : Option ℕ) (base : ℕ) (es : List (Entry T)) (k : ℕ) (o : Option Chain)
     → IsOwn w base es k o → first_position (leads_only w) (base + k) (drop k es) ≡ start o
@@ -99,7 +105,7 @@ own_start w base es k (Some c) h = h.0
 pub spot_of : {T : Type 0} (shared_base base : ℕ) (es : List (Entry T)) (shared : List Shared) (p : Place)
     → map (λ s. s.at) shared ≡ shared_positions base es → IsSeen shared_base base es p
     → slice_get (map (λ s. s.at) shared) (p.seen - shared_base)
-        ≡ first_position is_shared (base + (p.from - base)) (drop (p.from - base) es)
+    ≡ first_position is_shared (base + (p.from - base)) (drop (p.from - base) es)
 spot_of shared_base base es shared p sp seen =
     let s : p.seen - shared_base ≡ shared_count (take (p.from - base) es) = omega (arith, seen) in
     rw (sp, s) (spot_found base (p.from - base) es)
@@ -116,9 +122,16 @@ found_some p n [] m h = cc
 found_some p n (e ∷ es) m h = elim (b_or (p e.route)) [
   | inl it ↦ (let f = rw it at h in let same : n ≡ m = cc in
       (0, e, omega arith, record { at = refl; passes = it; before = λ j x lt at. absurd (omega arith) }))
-  | inr it ↦ (let f = rw it at h in let r = found_some p (suc n) es m f in let s = r.2 in
-      (suc r.0, r.1, omega arith, record { at = r.3.at; passes = r.3.passes;
-      before = before_more p e es r.0 it r.3.before }))
+  | inr it ↦ (let f = rw it at h in let r = found_some p (suc n) es m f in let s = r.2 in (
+    suc r.0,
+    r.1,
+    omega arith,
+    record {
+      at = r.3.at;
+      passes = r.3.passes;
+      before = before_more p e es r.0 it r.3.before;
+    },
+  ))
 ]
   where
     before_more : {T : Type 0} (p : Route → Bool) (e : Entry T) (es : List (Entry T)) (i : ℕ) → p e.route ≡ false
@@ -159,8 +172,11 @@ found_is p zero n (x ∷ es) e h = let f = h.at in let same : x ≡ e = cc in
 found_is p (suc i) n (x ∷ es) e h =
     let no : p x.route ≡ false = h.before 0 x (omega arith) refl in
     let s : n + suc i ≡ suc n + i = omega arith in
-    rw (no, s) (found_is p i (suc n) es e (record { at = h.at; passes = h.passes;
-        before = λ j y lt at. h.before (suc j) y (omega arith) at }))
+    rw (no, s) (found_is p i (suc n) es e (record {
+      at = h.at;
+      passes = h.passes;
+      before = λ j y lt at. h.before (suc j) y (omega arith) at;
+    }))
 
 pub items_first : {T : Type 0} (w : Option ℕ) (i : ℕ) (l : List (Entry T)) (e : Entry T) → IsFirst (leads w) l i e
     → items_for w l ≡ e.item ∷ items_for w (drop (suc i) l)
@@ -171,8 +187,11 @@ items_first w zero (x ∷ es) e h = let f = h.at in let same : x ≡ e = cc in
     rw it (ap (λ y. y.item ∷ items_for w es) same)
 items_first w (suc i) (x ∷ es) e h =
     let no : leads w x.route ≡ false = h.before 0 x (omega arith) refl in
-    rw no (items_first w i es e (record { at = h.at; passes = h.passes;
-        before = λ j y lt at. h.before (suc j) y (omega arith) at }))
+    rw no (items_first w i es e (record {
+      at = h.at;
+      passes = h.passes;
+      before = λ j y lt at. h.before (suc j) y (omega arith) at;
+    }))
 
 pub items_none : {T : Type 0} (w : Option ℕ) (n : ℕ) (l : List (Entry T)) → first_position (leads w) n l ≡ None
     → items_for w l ≡ []
@@ -207,9 +226,17 @@ pub next_is : {T : Type 0} (w : Option ℕ) (base : ℕ) (es : List (Entry T)) (
 next_is w base es p m h =
     let f = found_some (leads w) (base + (p.from - base)) (rest base es p) m h in
     let s : m - base ≡ (p.from - base) + f.0 = (let g = f.2 in omega arith) in
-    let at : slice_get es (m - base) ≡ Some f.1 = rw (s, ← slice_get_drop (p.from - base) f.0 es) f.3.at in
-    (f.0, f.1, record { position = f.2; here = f.3; at = at; within = slice_get_end es (m - base) f.1 at;
-        from_base = (let g = f.2 in omega arith) })
+    let at : slice_get es (m - base) ≡ Some f.1 = rw (s, ← slice_get_drop (p.from - base) f.0 es) f.3.at in (
+      f.0,
+      f.1,
+      record {
+        position = f.2;
+        here = f.3;
+        at = at;
+        within = slice_get_end es (m - base) f.1 at;
+        from_base = (let g = f.2 in omega arith);
+      },
+    )
 
 pub first_delivery : {T : Type 0} (w : Option ℕ) (base : ℕ) (es : List (Entry T)) (p : Place) (o : Option Place) (m : ℕ)
     (x : Entry T) → o ≡ Some p → first_position (leads w) (base + (p.from - base)) (rest base es p) ≡ Some m

@@ -85,14 +85,17 @@ module _ {T : Type 0} (w : Option ℕ) (base : ℕ) (es : List (Entry T)) (links
       rw (behind, s, ← drop-drop (suc i) (p.from - base) es)
       (sym (skip_found (leads_only w) (suc i) (base + (p.from - base)) (drop (p.from - base) es)
       (upto (leads_only w) i (drop (p.from - base) es) e n.here.at off
-          (λ j x lt at. not_own w x.route (n.here.before j x lt at)))))
+      (λ j x lt at. not_own w x.route (n.here.before j x lt at)))))
 
   pub linked_on : IsLinked w base es links (p.from - base) → IsLinked w base es links (m + 1 - base)
   linked_on h j x ge at is = h j x (let f = n.position in omega arith) at is
 
   own_here : leads_only w e.route ≡ true → IsFirst (leads_only w) (drop (p.from - base) es) i e
-  own_here mine = record { at = n.here.at; passes = mine;
-      before = λ j x lt at. not_own w x.route (n.here.before j x lt at) }
+  own_here mine = record {
+    at = n.here.at;
+    passes = mine;
+    before = λ j x lt at. not_own w x.route (n.here.before j x lt at);
+  }
 
   pub chain_shared : (o : Option Chain) → leads_only w e.route ≡ false → IsOwn w base es (p.from - base) o
       → IsOwn w base es (m + 1 - base) o
@@ -109,10 +112,13 @@ module _ {T : Type 0} (w : Option ℕ) (base : ℕ) (es : List (Entry T)) (links
             let g = r.2 in
             let s : suc (last - base) + (f - base - suc (last - base)) ≡ (m + 1 - base) + r.0 = omega arith in
             let at : slice_get (drop (suc (last - base)) es) (f - base - suc (last - base)) ≡ Some r.1 =
-                rw (slice_get_drop (suc (last - base)) (f - base - suc (last - base)) es, s,
-                ← slice_get_drop (m + 1 - base) r.0 es) r.3.at in
+            rw (
+              slice_get_drop (suc (last - base)) (f - base - suc (last - base)) es,
+              s,
+              ← slice_get_drop (m + 1 - base) r.0 es,
+            ) r.3.at in
             let off = found_none (leads_only w) (suc last) (drop (suc (last - base)) es) none
-                (f - base - suc (last - base)) r.1 at in
+            (f - base - suc (last - base)) r.1 at in
             let on = r.3.passes in
             cc
         | inr le ↦ le
@@ -166,7 +172,7 @@ module _ {T : Type 0} (w : Option ℕ) (base : ℕ) (es : List (Entry T)) (links
   seen_own q shared_base x is off from same h =
       let a = count_add (p.from - base) (suc i) es in
       let b = count_none (suc i) (drop (p.from - base) es)
-          (upto is_shared i (drop (p.from - base) es) e n.here.at off (before_unshared q is)) in
+      (upto is_shared i (drop (p.from - base) es) e n.here.at off (before_unshared q is)) in
       rw (from, behind) (omega (arith, a, b, h, same))
 
   pub counted_shared : (q : ℕ) → w ≡ Some q → is_shared e.route ≡ true
@@ -185,7 +191,7 @@ pub passed_pending : {T : Type 0} (w : Option ℕ) (base : ℕ) (es : List (Entr
     (m : ℕ) (d : T) (ds : List T) → o ≡ Some p → o' ≡ Some x → x.from ≡ m + 1
     → first_position (leads w) (base + (p.from - base)) (rest base es p) ≡ Some m
     → option_map (λ p. items_for w (rest base es p)) o ≡ Some (d ∷ ds)
-        → option_map (λ p. items_for w (rest base es p)) o' ≡ Some ds
+    → option_map (λ p. items_for w (rest base es p)) o' ≡ Some ds
 passed_pending w base es p x o o' m d ds is is' from h old =
     let n = next_is w base es p m h in
     let a = rw (is, passed_items w base es [] p m n.0 n.1 n.2) at old in
@@ -227,7 +233,7 @@ one_at k p = cond (p.seen == k) 1 0
 
 pub waiting_set : (entries : List (ℕ × Place)) (q k : ℕ) (x y : Place) → lookup (nat_eq q) entries ≡ Some y
     → waiting_count k (values_of (set_value (nat_eq q) entries x)) + (if y.seen == k then 1 else 0)
-        ≡ waiting_count k (values_of entries) + (if x.seen == k then 1 else 0)
+    ≡ waiting_count k (values_of entries) + (if x.seen == k then 1 else 0)
 waiting_set entries q k x y is = sum_by-set_value (one_at k) (nat_eq q) entries y x is
 
 cancel : (a b t u : ℕ) → a + t ≡ b + u → u ≡ t → a ≡ b
@@ -242,28 +248,28 @@ waiting_same entries q k x y is same = cancel _ _ _ _ (waiting_set entries q k x
 module _ {S T : Type 0} (a b : HashMap ℕ Place S) (place place' : Option ℕ
     → Option Place) (base shared_base c : ℕ) (es : List (Entry T)) (links : List (Option ℕ)) (shared : List Shared)
     (h : AreSound place (values a) base shared_base c es links shared) (q : ℕ) (y x : Place)
-        (is : get nat_eq a q ≡ Some y) (set_to : b.entries ≡ set_value (nat_eq q) a.entries x)
+    (is : get nat_eq a q ≡ Some y) (set_to : b.entries ≡ set_value (nat_eq q) a.entries x)
     (none : place' None ≡ place None) (some : (r : ℕ) → place' (Some r) ≡ (if nat_eq q r then Some x
-        else place (Some r)))
+    else place (Some r)))
     (good : IsPlace (Some q) base es links x) (counted : IsSeen shared_base base es x) where
   pub sound_passed : x.seen ≡ y.seen → AreSound place' (values b) base shared_base c es links shared
   sound_passed same =
       sound_put place place' (values a) (values b) base shared_base c c es links shared shared (Some q) x
-          (changed_number place place' q x none some) good (λ r _. counted) refl
+      (changed_number place place' q x none some) good (λ r _. counted) refl
       (λ k. let s = ap values_of set_to in rw s (h.standing_are k
-          ∙ sym (waiting_same a.entries q (shared_base + k) x y is same))) h
+      ∙ sym (waiting_same a.entries q (shared_base + k) x y is same))) h
 
   pub sound_moved : (shared1 shared2 : List Shared) (c1 c2 i : ℕ) → y.seen ≡ shared_base + i
       → x.seen ≡ shared_base + (i + 1)
       → ((n : ℕ) → standing_at shared1 c1 n + (if n == i then 1 else 0) ≡ standing_at shared c n)
-          → ((n : ℕ) → standing_at shared2 c2 n ≡ standing_at shared1 c1 n + (if n == (i + 1) then 1 else 0))
+      → ((n : ℕ) → standing_at shared2 c2 n ≡ standing_at shared1 c1 n + (if n == (i + 1) then 1 else 0))
       → map (λ s. s.at) shared1 ≡ map (λ s. s.at) shared → map (λ s. s.at) shared2 ≡ map (λ s. s.at) shared1
       → AreSound place' (values b) base shared_base c2 es links shared2
   sound_moved shared1 shared2 c1 c2 i y_is x_is less more same1 same2 =
       sound_put place place' (values a) (values b) base shared_base c c2 es links shared shared2 (Some q) x
-          (changed_number place place' q x none some) good (λ r _. counted) (same2 ∙ same1)
+      (changed_number place place' q x none some) good (λ r _. counted) (same2 ∙ same1)
       (λ k.
       let f = rw (shift shared_base k i y.seen y_is, shift shared_base k (i + 1) x.seen x_is) at
-          (waiting_set a.entries q (shared_base + k) x y is) in
+      (waiting_set a.entries q (shared_base + k) x y is) in
       let g = h.standing_are k in let l = less k in let m = more k in
       let s = ap values_of set_to in rw s (omega (arith, f, g, l, m))) h

@@ -64,7 +64,7 @@ pub pop_own : {T : Type 0} (w : Option ℕ) (base : ℕ) (e : Entry T) (es : Lis
 pop_own w base e es k k' None c h = pop_found w base e es k k' c ∙ h
 pop_own w base e es k k' (Some o) c h =
     let f : first_position (leads_only w) (base + 1 + k') (drop k' es) ≡ Some o.first = pop_found w base e es k k' c
-        ∙ h.0 in
+    ∙ h.0 in
     let ge : base + 1 + k' ≤ o.first = found_from (leads_only w) (base + 1 + k') (drop k' es) o.first f in
     let le = h.1 in
     let lt = h.2 in
@@ -114,9 +114,9 @@ positions_next base e es o = rw (o, add-one) refl
 sound_pop_own : {T : Type 0} (place : Option ℕ → Option Place) (numbers : List Place) (base shared_base caught_up : ℕ)
     (e : Entry T) (es : List (Entry T)) (l : Option ℕ) (links : List (Option ℕ)) (shared : List Shared)
     → is_shared e.route ≡ false → ((w : Option ℕ) (p : Place) → place w ≡ Some p → leads w e.route ≡ true
-        → base < p.from)
+    → base < p.from)
     → AreSound place numbers base shared_base caught_up (e ∷ es) (l ∷ links) shared
-        → AreSound place numbers (base + 1) shared_base caught_up es links shared
+    → AreSound place numbers (base + 1) shared_base caught_up es links shared
 sound_pop_own place numbers base shared_base caught_up e es l links shared o past h = record {
   fits = (let f = h.fits in omega arith);
   shared_fits = (let f = h.shared_fits in omega arith);
@@ -134,13 +134,13 @@ pub forget_own_sound : {T : Type 0} (place : Option ℕ → Option Place) (numbe
     → all ≡ e ∷ es → e.route ≡ r → es' ≡ drop 1 all → links' ≡ drop 1 links
     → is_shared r ≡ false → ((w : Option ℕ) (p : Place) → place w ≡ Some p → leads w r ≡ true → base < p.from)
     → AreSound place numbers base shared_base caught_up all links shared
-        → AreSound place numbers (base + 1) shared_base caught_up es' links' shared
+    → AreSound place numbers (base + 1) shared_base caught_up es' links' shared
 forget_own_sound place numbers base shared_base caught_up e es all es' [] links' shared r a b c d o past h =
     (let f = h.as_long in let g = rw a at f in cc)
 forget_own_sound place numbers base shared_base caught_up e es all es' (l ∷ links) links' shared r a b c d o past h =
     let two : es' ≡ es = c ∙ ap (drop 1) a in
     rw (two, d) (sound_pop_own place numbers base shared_base caught_up e es l links shared (rw b o)
-        (λ w p is t. past w p is (rw b at t)) (rw a at h))
+    (λ w p is t. past w p is (rw b at t)) (rw a at h))
 
 standing_next : (ss : List Shared) (c n x : ℕ) (xs : List ℕ) → map (λ s. s.at) ss ≡ x ∷ xs
     → standing_at (drop 1 ss) c n ≡ standing_at ss c (suc n)
@@ -165,12 +165,12 @@ sound_pop_shared : {T : Type 0} (place : Option ℕ → Option Place) (numbers :
     (base shared_base caught_up : ℕ) (e : Entry T) (es : List (Entry T)) (l : Option ℕ) (links : List (Option ℕ))
     (shared : List Shared)
     → is_shared e.route ≡ true → ((q : ℕ) → leads (Some q) e.route ≡ true)
-        → ((w : Option ℕ) (p : Place) → place w ≡ Some p → leads w e.route ≡ true → base < p.from)
+    → ((w : Option ℕ) (p : Place) → place w ≡ Some p → leads w e.route ≡ true → base < p.from)
     → AreSound place numbers base shared_base caught_up (e ∷ es) (l ∷ links) shared
-        → AreSound place numbers (base + 1) (shared_base + 1) caught_up es links (drop 1 shared)
+    → AreSound place numbers (base + 1) (shared_base + 1) caught_up es links (drop 1 shared)
 sound_pop_shared place numbers base shared_base caught_up e es l links shared o all past h =
     let sp : map (λ x. x.at) shared ≡ base ∷ shared_positions (base + 1) es = h.positions_are
-        ∙ positions_here base e es o in
+    ∙ positions_here base e es o in
     record {
       fits = (let f = h.fits in omega arith);
       shared_fits = (let f = h.shared_fits in let g = positions_less shared base (shared_positions (base + 1) es) sp in
@@ -190,14 +190,14 @@ pub forget_shared_sound : {T : Type 0} (place : Option ℕ
     → all ≡ e ∷ es → e.route ≡ Numbers → es' ≡ drop 1 all → links' ≡ drop 1 links → shared' ≡ drop 1 shared
     → ((w : Option ℕ) (p : Place) → place w ≡ Some p → leads w Numbers ≡ true → base < p.from)
     → AreSound place numbers base shared_base caught_up all links shared
-        → AreSound place numbers (base + 1) (shared_base + 1) caught_up es' links' shared'
+    → AreSound place numbers (base + 1) (shared_base + 1) caught_up es' links' shared'
 forget_shared_sound place numbers base shared_base caught_up e es all es' [] links' shared shared' a b c d f past h =
     (let g = h.as_long in let i = rw a at g in cc)
 forget_shared_sound place numbers base shared_base caught_up e es all es'
     (l ∷ links) links' shared shared' a b c d f past h =
     let two : es' ≡ es = c ∙ ap (drop 1) a in
     rw (two, d, f) (sound_pop_shared place numbers base shared_base caught_up e es l links shared (rw b refl)
-        (λ q. rw b refl) (λ w p is t. past w p is (rw b at t)) (rw a at h))
+    (λ q. rw b refl) (λ w p is t. past w p is (rw b at t)) (rw a at h))
 
 pub pop_pending : {T : Type 0} (w : Option ℕ) (base : ℕ) (e : Entry T) (es all es' : List (Entry T)) (r : Route)
     (o : Option Place) → all ≡ e ∷ es → e.route ≡ r → es' ≡ drop 1 all
@@ -207,4 +207,4 @@ pop_pending w base e es all es' r None a b d past = refl
 pop_pending w base e es all es' r (Some p) a b d past =
     let two : es' ≡ es = d ∙ ap (drop 1) a in
     rw (two, a) (ap Some (pop_items w e es (p.from - base) (p.from - (base + 1))
-        (passes w e base p (λ t. past p refl (rw b at t)))))
+    (passes w e base p (λ t. past p refl (rw b at t)))))

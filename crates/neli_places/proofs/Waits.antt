@@ -53,7 +53,7 @@ front_standing (y ∷ ys) c x l h = ap (λ z. z.standing) (sym h)
 module _ {T : Type 0} (entries : List (ℕ × Place)) (place : Option ℕ → Option Place) (place_is : (q : ℕ)
     → place (Some q) ≡ lookup (nat_eq q) entries)
     (base shared_base caught_up : ℕ) (e : Entry T) (es all : List (Entry T)) (links : List (Option ℕ))
-        (shared : List Shared) (all_is : all ≡ e ∷ es) (e_is : e.route ≡ Numbers)
+    (shared : List Shared) (all_is : all ≡ e ∷ es) (e_is : e.route ≡ Numbers)
     (h : AreSound place (values_of entries) base shared_base caught_up all links shared) where
   head_waiting : standing_at shared caught_up 0 ≡ waiting_count shared_base (values_of entries)
   head_waiting = h.standing_are 0 ∙ ap (λ n. waiting_count n (values_of entries))
@@ -70,10 +70,15 @@ module _ {T : Type 0} (entries : List (ℕ × Place)) (place : Option ℕ → Op
   awaited unique some =
       let there = counted_entry (λ p. p.seen == shared_base) entries (rw head_waiting at some) in
       let found_it : lookup (nat_eq there.1) entries ≡ Some there.2 =
-          lookup_from_place nat_eq_equiv entries there.0 there.1 there.2 unique there.3 in
-      let is : place (Some there.1) ≡ Some there.2 = place_is there.1 ∙ found_it in
-      (Some there.1, there.2, is, at_head there.2 (h.seen there.1 there.2 is)
-          (eqb_same there.2.seen shared_base there.4), refl)
+      lookup_from_place nat_eq_equiv entries there.0 there.1 there.2 unique there.3 in
+      let is : place (Some there.1) ≡ Some there.2 = place_is there.1 ∙ found_it in (
+        Some there.1,
+        there.2,
+        is,
+        at_head there.2 (h.seen there.1 there.2 is)
+            (eqb_same there.2.seen shared_base there.4),
+        refl,
+      )
 
   pub unawaited : standing_at shared caught_up 0 ≡ 0 → (w : Option ℕ) (p : Place) → place w ≡ Some p
       → leads w Numbers ≡ true → base < p.from
@@ -85,7 +90,7 @@ module _ {T : Type 0} (entries : List (ℕ × Place)) (place : Option ℕ → Op
         let seen = rw s at (h.seen q p is) in
         let same : p.seen ≡ shared_base = omega (arith, seen) in
         let counted = lookup_counts (λ x. x.seen == shared_base) q entries p (sym (place_is q) ∙ is)
-            (rw same (eqb_refl shared_base)) in
+        (rw same (eqb_refl shared_base)) in
         let zero_of = sym head_waiting ∙ none in
         absurd (omega (arith, counted, zero_of))
   ]

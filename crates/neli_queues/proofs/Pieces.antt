@@ -82,7 +82,7 @@ module _ (at new : ℕ → Option (List Delivery)) (p : Piece) (ps : List Piece)
     → new q ≡ option_map (λ ds. ds ++ share q p) (at q)) where
   room_left : HaveRoom at (p ∷ ps) → (q : ℕ) (o : Option (List Delivery)) → at q ≡ o → (ds : List Delivery)
       → option_map (λ ds. ds ++ share q p) o ≡ Some ds → 0 < length (gain_of q ps)
-          → length ds + length (gain_of q ps) < 2 ^ 63
+      → length ds + length (gain_of q ps) < 2 ^ 63
   room_left room q None e ds is some = cc
   room_left room q (Some old) e ds is some =
       let grown : old ++ share q p ≡ ds = cc in
@@ -97,7 +97,7 @@ module _ (at new : ℕ → Option (List Delivery)) (p : Piece) (ps : List Piece)
 
   hung_more : (q : ℕ) (o : Option (List Delivery))
       → option_map (λ ds. ds ++ gain_of q ps) (option_map (λ ds. ds ++ share q p) o)
-          ≡ option_map (λ ds. ds ++ (share q p ++ gain_of q ps)) o
+      ≡ option_map (λ ds. ds ++ (share q p ++ gain_of q ps)) o
   hung_more q None = refl
   hung_more q (Some ds) = ap Some (append_assoc ds (share q p) (gain_of q ps))
 

@@ -21,4 +21,4 @@ gain_of q ps = flat_map (share q) ps
 abbrev pub HaveRoom : (ℕ → Option (List Delivery)) → List Piece → Type 0
 HaveRoom at ps =
     (q : ℕ) (ds : List Delivery) → at q ≡ Some ds → 0 < length (gain_of q ps)
-        → length ds + length (gain_of q ps) < 2 ^ 63
+    → length ds + length (gain_of q ps) < 2 ^ 63

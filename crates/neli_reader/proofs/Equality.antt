@@ -60,9 +60,9 @@ module _ {K : Type 0} {same : K → K → Bool} (h : IsEquality same) where
   header-same : (a : Header K) → header_eq a a ≡ true
   header-same a =
       both_true ((bytes-equality a.len a.len).1 refl) (both_true ((h a.message_type a.message_type).1 refl)
-          (both_true ((bytes-equality a.flags.0 a.flags.0).1 refl)
-          (both_true ((bytes-equality a.sequence_number a.sequence_number).1 refl)
-          ((bytes-equality a.port a.port).1 refl))))
+      (both_true ((bytes-equality a.flags.0 a.flags.0).1 refl)
+      (both_true ((bytes-equality a.sequence_number a.sequence_number).1 refl)
+      ((bytes-equality a.port a.port).1 refl))))
 
   pub header-equality : IsEquality header_eq
   header-equality = from-parts header-apart header-same

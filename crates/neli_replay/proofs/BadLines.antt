@@ -28,7 +28,7 @@ good_from first n ((b ∷ line) ∷ lines) es is =
 abbrev IsFirst : Bool → ℕ → List (List ℕ) → ℕ → Type 0
 IsFirst first n lines k =
     (before : ℕ) × (k ≡ n + before) × (before < length lines) × AreGood first (take before lines)
-        × (¬ AreGood first (take (suc before) lines))
+    × (¬ AreGood first (take (suc before) lines))
 
 no_none : {A : Type 0} (o : Option A) → o ≡ None → IsSome o → ⊥
 no_none None is some = absurd cc

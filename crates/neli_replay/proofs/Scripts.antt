@@ -88,7 +88,7 @@ line_left : (lines : List (Bor (List ℕ))) (i : ℕ) (d : Bor (List ℕ)) → i
 line_left lines i d within =
     drop_more (bytes_in lines) i d.now (omega (arith, within, length-map lines (λ (line : Bor (List ℕ)). line.now)))
     ∙ ap (λ line. line ∷ drop (i + 1) (bytes_in lines))
-        (get_or-map (λ (line : Bor (List ℕ)). line.now) lines i d d.now within)
+    (get_or-map (λ (line : Bor (List ℕ)). line.now) lines i d d.now within)
 
 pub pass_empty : (whole : Result (List Entry) ℕ) (said : List Entry) (first : Bool) (lines : List (Bor (List ℕ)))
     (i : ℕ) (d : Bor (List ℕ)) → whole ≡ after said (entries_from first (i + 1) (drop i (bytes_in lines)))
@@ -96,7 +96,7 @@ pub pass_empty : (whole : Result (List Entry) ℕ) (said : List Entry) (first : 
     → whole ≡ after said (entries_from first (i + 1 + 1) (drop (i + 1) (bytes_in lines)))
 pass_empty whole said first lines i d before within none =
     before ∙ ap (after said) (ap (entries_from first (i + 1)) (line_left lines i d within)
-        ∙ read_empty first (i + 1) (get_or lines i d).now (drop (i + 1) (bytes_in lines)) none)
+    ∙ read_empty first (i + 1) (get_or lines i d).now (drop (i + 1) (bytes_in lines)) none)
 
 pub pass_entry : (whole : Result (List Entry) ℕ) (said : List Entry) (first : Bool) (lines : List (Bor (List ℕ)))
     (i : ℕ) (d : Bor (List ℕ)) (e : Entry) → whole ≡ after said (entries_from first (i + 1) (drop i (bytes_in lines)))
@@ -105,7 +105,7 @@ pub pass_entry : (whole : Result (List Entry) ℕ) (said : List Entry) (first : 
     → whole ≡ after (said ++ e ∷ []) (entries_from false (i + 1 + 1) (drop (i + 1) (bytes_in lines)))
 pass_entry whole said first lines i d e before within some is =
     before ∙ (ap (λ ls. after said (entries_from first (i + 1) ls)) (line_left lines i d within)
-        ∙ read_more said first (i + 1) (get_or lines i d).now (drop (i + 1) (bytes_in lines)) e some is)
+    ∙ read_more said first (i + 1) (get_or lines i d).now (drop (i + 1) (bytes_in lines)) e some is)
 
 pub pass_bad : (whole : Result (List Entry) ℕ) (said : List Entry) (first : Bool) (lines : List (Bor (List ℕ))) (i : ℕ)
     (d : Bor (List ℕ)) → whole ≡ after said (entries_from first (i + 1) (drop i (bytes_in lines))) → i < length lines
@@ -113,7 +113,7 @@ pub pass_bad : (whole : Result (List Entry) ℕ) (said : List Entry) (first : Bo
     → whole ≡ Err (i + 1)
 pass_bad whole said first lines i d before within some is =
     before ∙ (ap (λ ls. after said (entries_from first (i + 1) ls)) (line_left lines i d within)
-        ∙ read_bad said first (i + 1) (get_or lines i d).now (drop (i + 1) (bytes_in lines)) some is)
+    ∙ read_bad said first (i + 1) (get_or lines i d).now (drop (i + 1) (bytes_in lines)) some is)
 
 pub not_none : (n m : ℕ) → n ≡ m + 1 → eqb n 0 ≡ false
 not_none n m is = search (rules, nat_tests)

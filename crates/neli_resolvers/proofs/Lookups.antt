@@ -28,7 +28,7 @@ module _ {K : Type 0} (same : K → K → Bool) (kind : K) (is : K → Bool) (te
   here_or_later : (a : Nlattr K (List ℕ)) (later : List (Nlattr K (List ℕ))) (b : Bool)
       → looked_up same kind later ≡ payload_where is (map nlattr_says later)
       → option_map (λ (x : Nlattr K (List ℕ)). x.nla_payload)
-          (cond b (Some a) (find (λ x. same x.nla_type.nla_type kind) later))
+      (cond b (Some a) (find (λ x. same x.nla_type.nla_type kind) later))
       ≡ option_map (λ x. x.1) (cond b (Some (nlattr_says a)) (find (λ x. is x.0.kind.nla_type) (map nlattr_says later)))
   here_or_later a later true more = refl
   here_or_later a later false more = more
@@ -105,7 +105,7 @@ was_read (Err e) outcome view v h is = cc
 -- where nothing was read and memory did not run out, nothing can be read
 pub was_not_read : {V A : Type 0} (result : Result V DeError) (outcome : Result A DeError)
     → IfErr result (IsReadRefusal outcome) → (result ≡ Err Memory → ⊥) → None ≡ result_ok result
-        → result_ok outcome ≡ None
+    → result_ok outcome ≡ None
 was_not_read (Ok w) outcome h enough is = cc
 was_not_read (Err e) outcome (inl m) enough is = absurd (enough (ap Err m))
 was_not_read (Err e) outcome (inr o) enough is = rw o refl
@@ -139,6 +139,6 @@ number_refused n payload Memory h = absurd (never payload h)
 pub number_found : (n : ℕ) (payload : Option (List ℕ)) (result : Result ℕ DeError)
     → IfOk result (ReadsFirst (read_found payload (number_at n)))
     → IfErr result (Refuses (read_found payload (number_at n)) (IsSomeAnd payload (λ _. ⊥)))
-        → result_ok result ≡ result_ok (read_found payload (first_number n))
+    → result_ok result ≡ result_ok (read_found payload (first_number n))
 number_found n payload (Ok v) (rest, is) refused = rw (number_read n payload v rest is) refl
 number_found n payload (Err e) value refused = rw (number_refused n payload e refused) refl

@@ -28,7 +28,7 @@ sent-frame port number flags attrs bytes k wire size whole fits =
     let frame : List ℕ = getfamily_frame (with_request flags).0 port number bytes in
     let stated : align (16 + (4 + 0 + attrs_size attrs)) ≡ 20 + length bytes = omega (arith, whole, size) in
     let small : nat_lt 4294967295 (align (16 + (4 + 0 + attrs_size attrs))) ≡ false =
-        le-ltb 4294967295 (align (16 + (4 + 0 + attrs_size attrs))) (omega (arith, stated)) in
+    le-ltb 4294967295 (align (16 + (4 + 0 + attrs_size attrs))) (omega (arith, stated)) in
     let none : zeros_for (length frame) ≡ [] = no-zeros frame (k + 5) (omega (arith, whole)) in
     rw (small, wire, none, append-nil bytes, stated) refl
 
@@ -42,20 +42,26 @@ name-wire name =
 length-name : (name : List ℕ) → length (name_bytes name) ≡ align (5 + length name)
 length-name name =
     let long : length (name_text name) ≡ 5 + length name = omega (arith, length-append name (0 ∷ [])) in
-    omega (arith, long, length-append (name_text name) (zeros_for (length (name_text name))),
-        length-replicate {A = ℕ} (gap (length (name_text name))) 0)
+    omega (
+      arith,
+      long,
+      length-append (name_text name) (zeros_for (length (name_text name))),
+      length-replicate {A = ℕ} (gap (length (name_text name))) 0,
+    )
 
 family-frame : (port number : ℕ) (name : List ℕ) → length name ≤ 65530
     → sent_to_controller port number false (flags_of 4) (family_request name) ≡ Ok (family_frame port number name)
 family-frame port number name fits =
     let long = length-name name in
     sent-frame port number (flags_of 4) (name_attribute name ∷ []) (name_bytes name) ((8 + length name) / 4)
-        (name-wire name)
+    (name-wire name)
     (omega (arith, long, length-append name (0 ∷ []))) (omega (arith, long)) (omega (arith, long))
 
 -- what is said outright is what is sent of the body, where the name fits
 pub family_sent-body : (port number : ℕ) (in_use : Bool) (name : List ℕ) → length name ≤ 65530
     → family_sent port number in_use name ≡ sent_to_controller port number in_use (flags_of 4) (family_request name)
 family_sent-body port number true name fits = refl
-family_sent-body port number false name fits = rw (le-ltb 65530 (length name) fits,
-    family-frame port number name fits) refl
+family_sent-body port number false name fits = rw (
+  le-ltb 65530 (length name) fits,
+  family-frame port number name fits,
+) refl

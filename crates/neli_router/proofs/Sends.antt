@@ -29,13 +29,12 @@ module _ {T P : Type 0} (number_of : T → ℕ) (wire : P → Wire) (size : P �
 
   module _ (port number : ℕ) (t : T) (f : NlmF) (p : NlPayload T P) (m : Nlmsghdr T P) (room : Type 0)
       (e : SerError) where
-
     -- the same where the length is known to fit or not
     abbrev built : Bool → Outcome (Nlmsghdr T P)
     built b =
         (if b then Err (Invalid (codes "Length does not fit its field"))
-            else Ok (request_length number_of wire size p)) >>> λ len. Ok
-            (record { header = header_with len t (with_request f) number port; payload = p })
+        else Ok (request_length number_of wire size p)) >>> λ len. Ok
+        (record { header = header_with len t (with_request f) number port; payload = p })
 
     refused-by : (b : Bool) → built b ≡ Ok m → IsRefusal ser_ran_out (message_wire number_of wire m) room e
         → RefusesSend {T = T} {P = P} (if b then Err (router.Msg (codes "Length does not fit its field"))
@@ -45,12 +44,17 @@ module _ {T P : Type 0} (number_of : T → ℕ) (wire : P → Wire) (size : P �
     refused-by false is r =
         let same : request number_of wire size port number t f p ≡ m = cc in
         refused-write (message_wire number_of wire (request number_of wire size port number t f p)) room
-            ((false ≡ false) × (false ≡ false)) e (refl, refl)
-            (subst (λ (x : Nlmsghdr T P). IsRefusal ser_ran_out (message_wire number_of wire x) room e) (sym same) r)
+        ((false ≡ false) × (false ≡ false)) e (refl, refl)
+        (subst (λ (x : Nlmsghdr T P). IsRefusal ser_ran_out (message_wire number_of wire x) room e) (sym same) r)
 
     -- why a built request is not sent
-    pub refused-request : built_message size (record { nl_type = Some t; nl_flags = Some (with_request f);
-        nl_seq = Some number; nl_pid = Some port; nl_payload = Some p }) ≡ Ok m
+    pub refused-request : built_message size (record {
+      nl_type = Some t;
+      nl_flags = Some (with_request f);
+      nl_seq = Some number;
+      nl_pid = Some port;
+      nl_payload = Some p;
+    }) ≡ Ok m
         → IsRefusal ser_ran_out (message_wire number_of wire m) room e
         → RefusesSend {T = T} {P = P} (frame_or_refusal number_of wire size port number false t f p)
         (TakesMemory number_of wire size false p) (socket_of (of_ser e))
@@ -72,8 +76,8 @@ pub refused_request : {T P B : Type 0} (number_of : T → ℕ) (wire : P → Wir
     (TakesMemory number_of wire size in_use payload))
 refused_request number_of wire size port own number in_use t flags payload r e same free is why =
     refused_passed (RefusesSend (frame_or_refusal number_of wire size own number in_use t flags payload)
-        (TakesMemory number_of wire size in_use payload)) r e is
+    (TakesMemory number_of wire size in_use payload)) r e is
     (subst (λ (x : Bool). RefusesSend (frame_or_refusal number_of wire size own number x t flags payload)
-        (TakesMemory number_of wire size x payload) e) (sym free)
+    (TakesMemory number_of wire size x payload) e) (sym free)
     (subst (λ (p : ℕ). RefusesSend (frame_or_refusal number_of wire size p number false t flags payload)
-        (TakesMemory number_of wire size false payload) e) same why))
+    (TakesMemory number_of wire size false payload) e) same why))

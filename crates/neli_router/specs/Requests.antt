@@ -53,7 +53,7 @@ families_request = getfamily []
 abbrev pub sent_to_controller : ℕ → ℕ → Bool → NlmF → Body → Result (List ℕ) Error
 sent_to_controller port number in_use flags body =
     frame_or_refusal genl_id_number (genlmsghdr_wire ctrl_cmd_number ctrl_attr_number (λ _. Ok []))
-        (genlmsghdr_size (λ _. 0))
+    (genlmsghdr_size (λ _. 0))
     port number in_use Ctrl flags (payload.Payload body)
 
 -- ---- as bytes

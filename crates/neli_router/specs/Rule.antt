@@ -61,7 +61,7 @@ module _ {K P : Type 0} (number_of : K → ℕ) (needs numbered : Bool) where
   abbrev pub last_place : List (Item K P) → ℕ
   last_place items =
       min (first_place ends_alone items) (if needs then suc (single_place number_of numbered items)
-          else single_place number_of numbered items)
+      else single_place number_of numbered items)
 
 -- ---- what is given
 
@@ -85,7 +85,7 @@ module _ {K P : Type 0} (number_of : K → ℕ) (needs numbered : Bool) where
   answer_at items i (Some item) =
       if nat_lt i (last_place number_of needs numbered items) then reply.Item item
       else (if i == last_place number_of needs numbered items
-          then reply.Item (last_item needs (nat_lt (single_place number_of numbered items) i) item)
+      then reply.Item (last_item needs (nat_lt (single_place number_of numbered items) i) item)
       else reply.End)
 
   -- answer i: an item, the end, or a wait

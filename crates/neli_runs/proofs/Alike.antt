@@ -46,17 +46,35 @@ module _ {ST SP RT RP : Type 0} where
     pub closed : (k : ℕ) → is_closed k h ≡ is_closed k h'
 
   pub alike-self : (h : History ST SP RT RP) → IsAlike h h
-  alike-self h = record { sent = refl; set = refl; counted = refl; numbers = λ k. refl; needs = λ k. refl;
-      closed = λ k. refl }
+  alike-self h = record {
+    sent = refl;
+    set = refl;
+    counted = refl;
+    numbers = λ k. refl;
+    needs = λ k. refl;
+    closed = λ k. refl;
+  }
 
   pub alike-back : (h h' : History ST SP RT RP) → IsAlike h h' → IsAlike h' h
-  alike-back h h' a = record { sent = sym a.sent; set = sym a.set; counted = sym a.counted;
-      numbers = λ k. sym (a.numbers k); needs = λ k. sym (a.needs k); closed = λ k. sym (a.closed k) }
+  alike-back h h' a = record {
+    sent = sym a.sent;
+    set = sym a.set;
+    counted = sym a.counted;
+    numbers = λ k. sym (a.numbers k);
+    needs = λ k. sym (a.needs k);
+    closed = λ k. sym (a.closed k);
+  }
 
   pub alike-both : (h h' h'' : History ST SP RT RP) → IsAlike h h' → IsAlike h' h'' → IsAlike h h''
-  alike-both h h' h'' a b = record { sent = a.sent ∙ b.sent; set = a.set ∙ b.set; counted = a.counted ∙ b.counted;
-      numbers = λ k. a.numbers k ∙ b.numbers k; needs = λ k. a.needs k ∙ b.needs k; closed = λ k. a.closed k
-      ∙ b.closed k }
+  alike-both h h' h'' a b = record {
+    sent = a.sent ∙ b.sent;
+    set = a.set ∙ b.set;
+    counted = a.counted ∙ b.counted;
+    numbers = λ k. a.numbers k ∙ b.numbers k;
+    needs = λ k. a.needs k ∙ b.needs k;
+    closed = λ k. a.closed k
+        ∙ b.closed k;
+  }
 
   alike-more : (e : Event ST SP RT RP) (h h' : History ST SP RT RP) → IsAlike h h' → IsAlike (e ∷ h) (e ∷ h')
   alike-more e h h' a = record {
@@ -83,14 +101,14 @@ module _ {ST SP RT RP : Type 0} where
   alike_open q h h' a =
       ap (λ n. any_upto n (λ k. is_handle_open k h && (number_of k h == q))) a.sent
       ∙ any_same (requests_sent h') (λ k. is_handle_open k h && (number_of k h == q))
-          (λ k. is_handle_open k h' && (number_of k h' == q)) (λ k. rw (alike_live k h h' a, a.numbers k) refl)
+      (λ k. is_handle_open k h' && (number_of k h' == q)) (λ k. rw (alike_live k h h' a, a.numbers k) refl)
 
   -- a handle gets the same of each command
   gain-same : (port k : ℕ) (c : Command ST SP) (h h' : History ST SP RT RP) → IsAlike h h'
       → handed_over port k c h ≡ handed_over port k c h'
   gain-same port k (command.Datagram b groups) h h' a =
       rw (alike_whose k h h' a) (received_same port (λ q. is_open q h) (λ q. is_open q h') (λ q. alike_open q h h' a)
-          (list_of_handle k h') (cut_of untyped_layout b.items) groups)
+      (list_of_handle k h') (cut_of untyped_layout b.items) groups)
   gain-same port k (command.Fault e) h h' a = rw (alike_whose k h h' a) refl
   gain-same port k (command.SetNextSeq n) h h' a = refl
   gain-same port k (command.Send t f p) h h' a = refl
@@ -103,8 +121,11 @@ module _ {ST SP RT RP : Type 0} where
   deliveries-after port k (e ∷ later) h h' a same =
       let after = alike-after later h h' a in
       deliveries-more port k e (later ++ h)
-      ∙ rw (deliveries-after port k later h h' a same, alike_live k (later ++ h) (later ++ h') after,
-          gain-same port k e.0 (later ++ h) (later ++ h') after) refl
+      ∙ rw (
+        deliveries-after port k later h h' a same,
+        alike_live k (later ++ h) (later ++ h') after,
+        gain-same port k e.0 (later ++ h) (later ++ h') after,
+      ) refl
       ∙ sym (deliveries-more port k e (later ++ h'))
 
   -- ---- histories after which the same is right
@@ -117,8 +138,11 @@ module _ {ST SP RT RP : Type 0} where
 
   module _ (port : ℕ) (Passes : ℕ → Type 0) where
     pub same-back : (h h' : History ST SP RT RP) → IsSameFor port Passes h h' → IsSameFor port Passes h' h
-    same-back h h' s = record { alike = alike-back h h' s.alike; delivered = λ k. sym (s.delivered k);
-        given = λ k p. sym (s.given k p) }
+    same-back h h' s = record {
+      alike = alike-back h h' s.alike;
+      delivered = λ k. sym (s.delivered k);
+      given = λ k p. sym (s.given k p);
+    }
 
     same-more : (e : Event ST SP RT RP) (h h' : History ST SP RT RP) → IsSameFor port Passes h h'
         → IsSameFor port Passes (e ∷ h) (e ∷ h')
@@ -136,7 +160,7 @@ module _ {ST SP RT RP : Type 0} where
     -- what is said of commands of this kind after the one history is said after the other
     module _ (Kind : Command ST SP → Type 0) (Said : History ST SP RT RP → Command ST SP → Outcome ST SP RT RP → Type 0)
         (respects : (h h' : History ST SP RT RP) → IsSameFor port Passes h h'
-            → (c : Command ST SP) (o : Outcome ST SP RT RP) → Kind c → Said h c o → Said h' c o) where
+        → (c : Command ST SP) (o : Outcome ST SP RT RP) → Kind c → Said h c o → Said h' c o) where
       pub each-same : (h h' : History ST SP RT RP) (cs : List (Command ST SP)) (os : List (Outcome ST SP RT RP))
           → IsSameFor port Passes h h' → All Kind cs → EachAfter Said h cs os → EachAfter Said h' cs os
       each-same h h' [] [] s kinds each = each
@@ -154,8 +178,8 @@ module _ {ST SP RT RP : Type 0} where
       sent-same h h' s (command.Send t f p) o is =
           let next : next_number h ≡ next_number h' = rw (s.alike.set, s.alike.counted) refl in
           subst (λ r. IsSending r o) (ap (λ n. frame_or_refusal number wire size port n (is_open n h) t f p) next
-              ∙ ap (λ b. frame_or_refusal number wire size port (next_number h') b t f p)
-              (alike_open (next_number h') h h' s.alike)) is
+          ∙ ap (λ b. frame_or_refusal number wire size port (next_number h') b t f p)
+          (alike_open (next_number h') h h' s.alike)) is
       sent-same h h' s (command.Datagram b groups) o is = is
       sent-same h h' s (command.Fault e) o is = is
       sent-same h h' s (command.SetNextSeq n) o is = is
@@ -180,9 +204,9 @@ module _ {ST SP K P V : Type 0} (port : ℕ) (Passes : ℕ → Type 0) (type_of 
     subst (λ n. IsNextAnswer type_of number view size read n (is_numbered k) (deliveries port k h')
         (items_of k h') is.0) (s.alike.needs k)
         (subst (λ ds. IsNextAnswer type_of number view size read (needs_of k h) (is_numbered k) ds (items_of k h') is.0)
-            (s.delivered k)
+        (s.delivered k)
         (subst (λ xs. IsNextAnswer type_of number view size read (needs_of k h) (is_numbered k)
-            (deliveries port k h) xs is.0) (s.given k passes) is.1)),
+        (deliveries port k h) xs is.0) (s.given k passes) is.1)),
     is.2,
   )
 
@@ -191,7 +215,7 @@ module _ {ST SP K P V : Type 0} (port : ℕ) (Passes : ℕ → Type 0) (type_of 
       → IsAnswered type_of number view size read port h c o → IsAnswered type_of number view size read port h' c o
   answered-same h h' s (command.Read k) o only is =
       subst (λ live. IsReadOf type_of number view size read port h' k live o) (alike_live k h h' s.alike)
-          (read-same h h' s k (is_handle_open k h) o (only k (read_itself k)) is)
+      (read-same h h' s k (is_handle_open k h) o (only k (read_itself k)) is)
   answered-same h h' s (command.Close k) o only is = is ∙ ap (λ live. closed_or_not live) (alike_live k h h' s.alike)
   answered-same h h' s (command.Send t f p) o only is = is
   answered-same h h' s (command.Datagram b groups) o only is = is

@@ -20,9 +20,11 @@ module _ {ST SP RT RP : Type 0} (port k : ℕ) where
   deliveries-later before (e ∷ later) =
       let first = deliveries-later before later in
       let last : List Delivery = if is_handle_open k (later ++ before) then handed_over port k e.0 (later ++ before)
-          else [] in
-      (first.0 ++ last, deliveries-more port k e (later ++ before) ∙ ap (λ ds. ds ++ last) first.1
-          ∙ append_assoc (deliveries port k before) first.0 last)
+      else [] in (
+        first.0 ++ last,
+        deliveries-more port k e (later ++ before) ∙ ap (λ ds. ds ++ last) first.1
+            ∙ append_assoc (deliveries port k before) first.0 last,
+      )
 
 module _ {K P V : Type 0} (type_of : ℕ → K) (number_of : K → ℕ) (view : P → V) (size : P → ℕ) (read : List ℕ
     → Result V DeError) where
@@ -30,6 +32,6 @@ module _ {K P V : Type 0} (type_of : ℕ → K) (number_of : K → ℕ) (view : 
   pub answer-more : (needs numbered : Bool) (ds more : List Delivery) (given : List (Item K P)) (r : Reply K P)
       → r ≢ reply.Waits
       → IsNextAnswer type_of number_of view size read needs numbered ds given r
-          → IsNextAnswer type_of number_of view size read needs numbered (ds ++ more) given r
+      → IsNextAnswer type_of number_of view size read needs numbered (ds ++ more) given r
   answer-more needs numbered ds more given r other h =
       (h.0, readings_append type_of view size read ds more h.0 h.1, h.2, h.3, λ waits. absurd (other waits))

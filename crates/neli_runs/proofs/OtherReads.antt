@@ -39,8 +39,14 @@ module _ {ST SP RT RP : Type 0} (port j : ℕ) where
   -- a read sends and closes nothing
   alike-read : (o : Outcome ST SP RT RP) (h : History ST SP RT RP) → is_sent o ≡ false
       → IsAlike h ((command.Read j, o) ∷ h)
-  alike-read o h unsent = record { sent = rw unsent refl; set = refl; counted = rw unsent refl;
-      numbers = λ k. rw unsent refl; needs = λ k. rw unsent refl; closed = λ k. refl }
+  alike-read o h unsent = record {
+    sent = rw unsent refl;
+    set = refl;
+    counted = rw unsent refl;
+    numbers = λ k. rw unsent refl;
+    needs = λ k. rw unsent refl;
+    closed = λ k. refl;
+  }
 
   same-read : (o : Outcome ST SP RT RP) (h : History ST SP RT RP) → is_sent o ≡ false
       → IsSameFor port (λ k. k ≢ j) h ((command.Read j, o) ∷ h)
@@ -54,7 +60,7 @@ module _ {ST SP RT RP : Type 0} (port j : ℕ) where
 
   module _ (Kind : Command ST SP → Type 0) (Said : History ST SP RT RP → Command ST SP → Outcome ST SP RT RP → Type 0)
       (respects : (h h' : History ST SP RT RP) → IsSameFor port (λ k. k ≢ j) h h'
-          → (c : Command ST SP) (o : Outcome ST SP RT RP) → Kind c → Said h c o → Said h' c o) where
+      → (c : Command ST SP) (o : Outcome ST SP RT RP) → Kind c → Said h c o → Said h' c o) where
     -- what is said of commands of this kind, with the read and without it
     pub each-read : (o : Outcome ST SP RT RP) (before later : History ST SP RT RP) (commands : List (Command ST SP))
         (outcomes : List (Outcome ST SP RT RP)) → is_sent o ≡ false → All Kind commands
@@ -62,7 +68,7 @@ module _ {ST SP RT RP : Type 0} (port j : ℕ) where
         (later ++ (command.Read j, o) ∷ before) commands outcomes
     each-read o before later commands outcomes unsent kinds =
         let same = same-after port (λ k. k ≢ j) later before ((command.Read j, o) ∷ before)
-            (same-read o before unsent) in (
+        (same-read o before unsent) in (
           each-same port (λ k. k ≢ j) Kind Said respects _ _ commands outcomes same kinds,
           each-same port (λ k. k ≢ j) Kind Said respects _ _ commands outcomes
               (same-back port (λ k. k ≢ j) _ _ same) kinds,

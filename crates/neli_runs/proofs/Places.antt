@@ -70,7 +70,7 @@ module _ {A : Type 0} where
   first_append p [] more (suc i) h = absurd (omega arith)
   first_append p (x ∷ xs) more (suc i) h =
       elim (p x) as (λ b. nat_lt (if b then 0 else suc (first_place p (xs ++ more))) (suc i) ≡ nat_lt (if b then 0
-          else suc (first_place p xs)) (suc i))
+      else suc (first_place p xs)) (suc i))
       [ true ↦ refl | false ↦ lt_suc _ _ ∙ (first_append p xs more i (omega arith) ∙ sym (lt_suc _ _)) ]
 
   first_step : (p : A → Bool) (xs : List A) (i : ℕ) (x : A) → slice_get xs i ≡ Some x
@@ -79,13 +79,20 @@ module _ {A : Type 0} where
   first_step p (y ∷ xs) zero x e =
       let same : y ≡ x = cc in
       rw (← same) (elim (p y) as (λ b. nat_lt (if b then 0 else suc (first_place p xs)) 1
-          ≡ (nat_lt (if b then 0 else suc (first_place p xs)) 0 || b)) [ true ↦ refl | false ↦ grind (arith,
-          nat_tests) ])
+      ≡ (nat_lt (if b then 0 else suc (first_place p xs)) 0 || b)) [
+        | true ↦ refl
+        | false ↦ grind (
+          arith,
+          nat_tests,
+        )
+      ])
   first_step p (y ∷ xs) (suc i) x e =
       elim (p y) as (λ b. nat_lt (if b then 0 else suc (first_place p xs)) (suc (suc i))
-          ≡ (nat_lt (if b then 0 else suc (first_place p xs)) (suc i) || p x))
-      [ true ↦ grind (arith, nat_tests) | false ↦ lt_suc _ _
-          ∙ (first_step p xs i x e ∙ ap (λ b. b || p x) (sym (lt_suc _ _))) ]
+      ≡ (nat_lt (if b then 0 else suc (first_place p xs)) (suc i) || p x)) [
+        | true ↦ grind (arith, nat_tests)
+        | false ↦ lt_suc _ _
+            ∙ (first_step p xs i x e ∙ ap (λ b. b || p x) (sym (lt_suc _ _)))
+      ]
 
 -- ---- the last place
 
@@ -105,16 +112,20 @@ module _ {K P : Type 0} (number_of : K → ℕ) (numbered : Bool) where
   last_append needs items more zero h = lt_zero _ ∙ sym (lt_zero _)
   last_append true items more (suc i) h =
       let both : (nat_lt (first_place ends_alone (items ++ more)) (suc i) || nat_lt
-          (suc (single_place number_of numbered (items ++ more))) (suc i))
-          ≡ (nat_lt (first_place ends_alone items) (suc i) || nat_lt (suc (single_place number_of numbered items))
-          (suc i)) =
-      rw (first_append ends_alone items more (suc i) h, lt_suc (single_place number_of numbered (items ++ more)) i,
-          lt_suc (single_place number_of numbered items) i, single_append items more i (omega arith)) refl in
+      (suc (single_place number_of numbered (items ++ more))) (suc i))
+      ≡ (nat_lt (first_place ends_alone items) (suc i) || nat_lt (suc (single_place number_of numbered items))
+      (suc i)) =
+      rw (
+        first_append ends_alone items more (suc i) h,
+        lt_suc (single_place number_of numbered (items ++ more)) i,
+        lt_suc (single_place number_of numbered items) i,
+        single_append items more i (omega arith),
+      ) refl in
       lt_min _ _ _ ∙ (both ∙ sym (lt_min _ _ _))
   last_append false items more (suc i) h =
       let both : (nat_lt (first_place ends_alone (items ++ more)) (suc i) || nat_lt
-          (single_place number_of numbered (items ++ more)) (suc i))
-          ≡ (nat_lt (first_place ends_alone items) (suc i) || nat_lt (single_place number_of numbered items) (suc i)) =
+      (single_place number_of numbered (items ++ more)) (suc i))
+      ≡ (nat_lt (first_place ends_alone items) (suc i) || nat_lt (single_place number_of numbered items) (suc i)) =
       rw (first_append ends_alone items more (suc i) h, single_append items more (suc i) h) refl in
       lt_min _ _ _ ∙ (both ∙ sym (lt_min _ _ _))
 
@@ -122,24 +133,27 @@ module _ {K P : Type 0} (number_of : K → ℕ) (numbered : Bool) where
   pub last_step : (needs : Bool) (items : List (Item K P)) (i : ℕ) (item : Item K P) → slice_get items i ≡ Some item
       → nat_lt (last_place number_of needs numbered items) i ≡ false
       → nat_lt (last_place number_of needs numbered items) (suc i)
-          ≡ ends_at number_of needs numbered (nat_lt (single_place number_of numbered items) i) item
+      ≡ ends_at number_of needs numbered (nat_lt (single_place number_of numbered items) i) item
   last_step true items i item e still =
       let parts : (nat_lt (first_place ends_alone items) i || nat_lt (suc (single_place number_of numbered items)) i)
-          ≡ false = sym (lt_min _ _ _) ∙ still in
+      ≡ false = sym (lt_min _ _ _) ∙ still in
       let left : nat_lt (first_place ends_alone items) i ≡ false =
-          or_false_left (nat_lt (first_place ends_alone items) i)
-          (nat_lt (suc (single_place number_of numbered items)) i) parts in
-      lt_min _ _ _ ∙ rw (first_step ends_alone items i item e, left,
-          lt_suc (single_place number_of numbered items) i) refl
+      or_false_left (nat_lt (first_place ends_alone items) i)
+      (nat_lt (suc (single_place number_of numbered items)) i) parts in
+      lt_min _ _ _ ∙ rw (
+        first_step ends_alone items i item e,
+        left,
+        lt_suc (single_place number_of numbered items) i,
+      ) refl
   last_step false items i item e still =
       let parts : (nat_lt (first_place ends_alone items) i || nat_lt (single_place number_of numbered items) i)
-          ≡ false = sym (lt_min _ _ _) ∙ still in
+      ≡ false = sym (lt_min _ _ _) ∙ still in
       let left : nat_lt (first_place ends_alone items) i ≡ false =
-          or_false_left (nat_lt (first_place ends_alone items) i)
-          (nat_lt (single_place number_of numbered items) i) parts in
+      or_false_left (nat_lt (first_place ends_alone items) i)
+      (nat_lt (single_place number_of numbered items) i) parts in
       let right : nat_lt (single_place number_of numbered items) i ≡ false =
-          or_false_right (nat_lt (first_place ends_alone items) i)
-          (nat_lt (single_place number_of numbered items) i) parts in
+      or_false_right (nat_lt (first_place ends_alone items) i)
+      (nat_lt (single_place number_of numbered items) i) parts in
       lt_min _ _ _ ∙ rw (first_step ends_alone items i item e, left, single_step items i item e, right) refl
 
   -- ---- answers
@@ -148,17 +162,20 @@ module _ {K P : Type 0} (number_of : K → ℕ) (numbered : Bool) where
     pub answer_gives : (items : List (Item K P)) (i : ℕ) (item : Item K P) → slice_get items i ≡ Some item
         → nat_lt (last_place number_of needs numbered items) i ≡ false
         → answer number_of needs numbered items i ≡ reply.Item
-            (item_of number_of needs numbered (nat_lt (single_place number_of numbered items) i) item)
+        (item_of number_of needs numbered (nat_lt (single_place number_of numbered items) i) item)
     answer_gives items i item e still =
         let last : nat_lt (last_place number_of needs numbered items) (suc i)
-            ≡ ends_at number_of needs numbered (nat_lt (single_place number_of numbered items) i) item =
-            last_step needs items i item e still in
-        rw e (rw (lt_from_suc (last_place number_of needs numbered items) i still,
-            eq_from_suc (last_place number_of needs numbered items) i still, last)
+        ≡ ends_at number_of needs numbered (nat_lt (single_place number_of numbered items) i) item =
+        last_step needs items i item e still in
+        rw e (rw (
+          lt_from_suc (last_place number_of needs numbered items) i still,
+          eq_from_suc (last_place number_of needs numbered items) i still,
+          last,
+        )
         (elim (ends_at number_of needs numbered (nat_lt (single_place number_of numbered items) i) item) as
         (λ b. (if not b then reply.Item item else (if b
-            then reply.Item (last_item needs (nat_lt (single_place number_of numbered items) i) item) else reply.End))
-            ≡ reply.Item (if b then last_item needs (nat_lt (single_place number_of numbered items) i) item else item))
+        then reply.Item (last_item needs (nat_lt (single_place number_of numbered items) i) item) else reply.End))
+        ≡ reply.Item (if b then last_item needs (nat_lt (single_place number_of numbered items) i) item else item))
         [ true ↦ refl | false ↦ refl ]))
 
     not_item : (b : Bool) (x : Item K P) → (if b then reply.End else reply.Waits) ≡ reply.Item x → ⊥
@@ -177,11 +194,11 @@ module _ {K P : Type 0} (number_of : K → ℕ) (numbered : Bool) where
               let bad = rw (o.0, o.1) at g in cc)
           | inr still ↦
               (let gave : reply.Item (item_of number_of needs numbered
-                  (nat_lt (single_place number_of numbered items) i) item)
-                  ≡ reply.Item x = sym (answer_gives items i item e still)
-                  ∙ (ap (answer_at number_of needs numbered items i) e ∙ g) in
+              (nat_lt (single_place number_of numbered items) i) item)
+              ≡ reply.Item x = sym (answer_gives items i item e still)
+              ∙ (ap (answer_at number_of needs numbered items i) e ∙ g) in
               answer_gives (items ++ more) i item (slice_front items more i item e)
-                  (last_append needs items more i inside_i ∙ still) ∙ (rw (single_append items more i inside_i) gave))
+              (last_append needs items more i inside_i ∙ still) ∙ (rw (single_append items more i inside_i) gave))
         ]
 
     -- an item stays
@@ -196,37 +213,39 @@ module _ {K P : Type 0} (number_of : K → ℕ) (numbered : Bool) where
         → nat_lt (last_place number_of needs numbered items) (length items) ≡ true
         → answer_at number_of needs numbered items i at ≡ reply.End
     end_past items i None over within = rw within refl
-    end_past items i (Some item) over within = rw ((over_place i (last_place number_of needs numbered items) over).0,
-        (over_place i (last_place number_of needs numbered items) over).1) refl
+    end_past items i (Some item) over within = rw (
+      (over_place i (last_place number_of needs numbered items) over).0,
+      (over_place i (last_place number_of needs numbered items) over).1,
+    ) refl
 
     end_front : (items more : List (Item K P)) (i : ℕ) (at : Option (Item K P)) → slice_get items i ≡ at
         → answer_at number_of needs numbered items i at ≡ reply.End
         → answer number_of needs numbered (items ++ more) i ≡ reply.End
     end_front items more i None e g = elim (true_or_false
         (nat_lt (last_place number_of needs numbered items) (length items))) [
-      | inl over ↦
-          (let later : nat_lt (last_place number_of needs numbered (items ++ more)) (length items)
+          | inl over ↦
+              (let later : nat_lt (last_place number_of needs numbered (items ++ more)) (length items)
               ≡ true = last_append needs items more (length items) (omega arith) ∙ over in
-          end_past (items ++ more) i (slice_get (items ++ more) i)
+              end_past (items ++ more) i (slice_get (items ++ more) i)
               (lt_longer _ (length items) i (none_past items i e) later)
               (lt_longer _ (length items) (length (items ++ more)) (longer-front items more) later))
-      | inr still ↦ (let bad = rw still at g in cc)
-    ]
+          | inr still ↦ (let bad = rw still at g in cc)
+        ]
     end_front items more i (Some item) e g =
         let inside : suc i ≤ length items = within_front items i item e in
         let inside_i : i ≤ length items = omega arith in
         elim (true_or_false (nat_lt (last_place number_of needs numbered items) i)) [
           | inl over ↦
               (let later : nat_lt (last_place number_of needs numbered (items ++ more)) i
-                  ≡ true = last_append needs items more i inside_i ∙ over in
+              ≡ true = last_append needs items more i inside_i ∙ over in
               let longer : length items ≤ length (items ++ more) = longer-front items more in
               end_past (items ++ more) i (slice_get (items ++ more) i) later
-                  (lt_longer _ i (length (items ++ more)) (omega arith) later))
+              (lt_longer _ i (length (items ++ more)) (omega arith) later))
           | inr still ↦
               (let gave : reply.Item (item_of number_of needs numbered
-                  (nat_lt (single_place number_of numbered items) i) item)
-                  ≡ reply.End = sym (answer_gives items i item e still)
-                  ∙ (ap (answer_at number_of needs numbered items i) e ∙ g) in
+              (nat_lt (single_place number_of numbered items) i) item)
+              ≡ reply.End = sym (answer_gives items i item e still)
+              ∙ (ap (answer_at number_of needs numbered items i) e ∙ g) in
               absurd cc)
         ]
 

@@ -88,13 +88,13 @@ module _ {K P : Type 0} (number_of : K → ℕ) (needs numbered : Bool) where
   pub answer_push : (readings : List (Item K P)) (item : Item K P)
       → nat_lt (last_place number_of needs numbered readings) (length readings) ≡ false
       → answer number_of needs numbered (readings ++ item ∷ []) (length readings)
-          ≡ reply.Item (item_of number_of needs numbered
-          (nat_lt (single_place number_of numbered readings) (length readings)) item)
+      ≡ reply.Item (item_of number_of needs numbered
+      (nat_lt (single_place number_of numbered readings) (length readings)) item)
   answer_push readings item still =
       answer_gives number_of numbered needs (readings ++ item ∷ []) (length readings) item (push_at readings item)
-          (last_append number_of numbered needs readings (item ∷ []) (length readings) (omega arith) ∙ still)
+      (last_append number_of numbered needs readings (item ∷ []) (length readings) (omega arith) ∙ still)
       ∙ ap (λ after. reply.Item (item_of number_of needs numbered after item))
-          (single_append number_of numbered readings (item ∷ []) (length readings) (omega arith))
+      (single_append number_of numbered readings (item ∷ []) (length readings) (omega arith))
 
   -- whether a single reply is among them then
   pub single_push : (readings : List (Item K P)) (item : Item K P)
@@ -103,18 +103,18 @@ module _ {K P : Type 0} (number_of : K → ℕ) (needs numbered : Bool) where
   single_push readings item =
       single_step number_of numbered (readings ++ item ∷ []) (length readings) item (push_at readings item)
       ∙ ap (λ b. b || is_single number_of numbered item)
-          (single_append number_of numbered readings (item ∷ []) (length readings) (omega arith))
+      (single_append number_of numbered readings (item ∷ []) (length readings) (omega arith))
 
   -- whether they are ended then
   pub last_push : (readings : List (Item K P)) (item : Item K P)
       → nat_lt (last_place number_of needs numbered readings) (length readings) ≡ false
       → nat_lt (last_place number_of needs numbered (readings ++ item ∷ [])) (suc (length readings))
-          ≡ ends_at number_of needs numbered (nat_lt (single_place number_of numbered readings) (length readings)) item
+      ≡ ends_at number_of needs numbered (nat_lt (single_place number_of numbered readings) (length readings)) item
   last_push readings item still =
       last_step number_of numbered needs (readings ++ item ∷ []) (length readings) item (push_at readings item)
-          (last_append number_of numbered needs readings (item ∷ []) (length readings) (omega arith) ∙ still)
+      (last_append number_of numbered needs readings (item ∷ []) (length readings) (omega arith) ∙ still)
       ∙ ap (λ after. ends_at number_of needs numbered after item)
-          (single_append number_of numbered readings (item ∷ []) (length readings) (omega arith))
+      (single_append number_of numbered readings (item ∷ []) (length readings) (omega arith))
 
   -- the items given so far stay answers
   pub were_grow : (readings more given : List (Item K P)) → WereAnswers number_of needs numbered readings given
@@ -155,9 +155,12 @@ module _ {K P V : Type 0} (type_of : ℕ → K) (number_of : K → ℕ) (view : 
       → nat_lt (last_place number_of needs numbered readings) (length readings) ≡ false
       → drop (length readings) ds ≡ d ∷ rest → IsReading type_of view size read d item
       → IsNextAnswer type_of number_of view size read needs numbered ds given
-          (reply.Item (item_of number_of needs numbered
-          (nat_lt (single_place number_of numbered readings) (length readings)) item))
-  next_item d rest item still at is =
-      (readings ++ item ∷ [], readings_push type_of view size read ds readings d rest item are at is,
-          were_grow number_of needs numbered readings (item ∷ []) given were,
-          rw count (answer_push number_of needs numbered readings item still), λ e. cc)
+      (reply.Item (item_of number_of needs numbered
+      (nat_lt (single_place number_of numbered readings) (length readings)) item))
+  next_item d rest item still at is = (
+    readings ++ item ∷ [],
+    readings_push type_of view size read ds readings d rest item are at is,
+    were_grow number_of needs numbered readings (item ∷ []) given were,
+    rw count (answer_push number_of needs numbered readings item still),
+    λ e. cc,
+  )

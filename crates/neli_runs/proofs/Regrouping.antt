@@ -57,12 +57,12 @@ module _ (port : ℕ) (test : ℕ → Bool) where
 
   datagram_share-more : (w : Option ℕ) (groups : List ℕ) (a b : List ℕ) → IsWhole untyped_layout a
       → datagram_share port test w (cut_of untyped_layout a) groups ++ datagram_share port test w
-          (cut_of untyped_layout b) groups ≡ datagram_share port test w (cut_of untyped_layout (a ++ b)) groups
+      (cut_of untyped_layout b) groups ≡ datagram_share port test w (cut_of untyped_layout (a ++ b)) groups
   datagram_share-more w groups a b whole =
       let first : cut_of untyped_layout a ≡ ((cut_of untyped_layout a).0, None) =
-          ap (λ (g : Option DeError). ((cut_of untyped_layout a).0, g)) whole in
+      ap (λ (g : Option DeError). ((cut_of untyped_layout a).0, g)) whole in
       ap (λ cut. datagram_share port test w cut groups ++ datagram_share port test w
-          (cut_of untyped_layout b) groups) first
+      (cut_of untyped_layout b) groups) first
       ∙ sym (datagram_share-join w groups (cut_of untyped_layout a).0 (cut_of untyped_layout b))
       ∙ ap (λ cut. datagram_share port test w cut groups) (sym (untyped-join a b whole))
 
@@ -76,14 +76,20 @@ module _ {ST SP RT RP : Type 0} where
   -- a datagram opens and closes nothing
   alike-datagram : (b : Bytes) (groups : List ℕ) (h : History ST SP RT RP)
       → IsAlike ((command.Datagram b groups, outcome.Done) ∷ h) h
-  alike-datagram b groups h = record { sent = refl; set = refl; counted = refl; numbers = λ k. refl; needs = λ k. refl;
-      closed = λ k. refl }
+  alike-datagram b groups h = record {
+    sent = refl;
+    set = refl;
+    counted = refl;
+    numbers = λ k. refl;
+    needs = λ k. refl;
+    closed = λ k. refl;
+  }
 
   alike-came : (groups : List ℕ) (bs : List Bytes) (h : History ST SP RT RP) → IsAlike (history_with groups bs h) h
   alike-came groups [] h = alike-self h
   alike-came groups (b ∷ later) h =
       alike-both _ _ _ (alike-came groups later ((command.Datagram b groups, outcome.Done) ∷ h))
-          (alike-datagram b groups h)
+      (alike-datagram b groups h)
 
   -- what a handle gets of bytes that come as one datagram
   part_of : ℕ → ℕ → List ℕ → History ST SP RT RP → List ℕ → List Delivery
@@ -99,18 +105,22 @@ module _ {ST SP RT RP : Type 0} where
       → part_of port k groups h b ≡ part_of port k groups h' b
   unfolding part_of
   part-same port k groups h h' b a =
-      rw (alike_live k h h' a, alike_whose k h h' a, received_same port (λ q. is_open q h) (λ q. is_open q h')
-          (λ q. alike_open q h h' a) (list_of_handle k h') (cut_of untyped_layout b) groups) refl
+      rw (
+        alike_live k h h' a,
+        alike_whose k h h' a,
+        received_same port (λ q. is_open q h) (λ q. is_open q h')
+            (λ q. alike_open q h h' a) (list_of_handle k h') (cut_of untyped_layout b) groups,
+      ) refl
 
   part-more : (port k : ℕ) (groups : List ℕ) (h : History ST SP RT RP) (a b : List ℕ) → IsWhole untyped_layout a
       → part_of port k groups h a ++ part_of port k groups h b ≡ part_of port k groups h (a ++ b)
   unfolding part_of
   part-more port k groups h a b whole = elim (is_handle_open k h) as (λ live.
       (if live then datagram_share port (λ q. is_open q h) (list_of_handle k h) (cut_of untyped_layout a) groups
-          else []) ++ (if live then datagram_share port (λ q. is_open q h) (list_of_handle k h)
-          (cut_of untyped_layout b) groups else [])
+      else []) ++ (if live then datagram_share port (λ q. is_open q h) (list_of_handle k h)
+      (cut_of untyped_layout b) groups else [])
       ≡ (if live then datagram_share port (λ q. is_open q h) (list_of_handle k h)
-          (cut_of untyped_layout (a ++ b)) groups else [])) [
+      (cut_of untyped_layout (a ++ b)) groups else [])) [
         | true ↦ datagram_share-more port (λ q. is_open q h) (list_of_handle k h) groups a b whole
         | false ↦ refl
       ]
@@ -127,14 +137,17 @@ module _ {ST SP RT RP : Type 0} where
       sym (append-nil (deliveries port k h)) ∙ ap (λ ds. deliveries port k h ++ ds) (sym (part-nothing port k groups h))
   deliveries-came port k groups (b ∷ []) h whole =
       part-one port k groups h b ∙ ap (λ (x : List ℕ). deliveries port k h ++ part_of port k groups h x)
-          (sym (append-nil b.items))
+      (sym (append-nil b.items))
   deliveries-came port k groups (b ∷ c ∷ later) h whole =
       let next = (command.Datagram b groups, outcome.Done) ∷ h in
       deliveries-came port k groups (c ∷ later) next whole.1
-      ∙ rw (part-one port k groups h b, part-same port k groups next h (concatenation (c ∷ later))
-          (alike-datagram b groups h)) refl
+      ∙ rw (
+        part-one port k groups h b,
+        part-same port k groups next h (concatenation (c ∷ later))
+            (alike-datagram b groups h),
+      ) refl
       ∙ append_assoc (deliveries port k h) (part_of port k groups h b.items)
-          (part_of port k groups h (concatenation (c ∷ later)))
+      (part_of port k groups h (concatenation (c ∷ later)))
       ∙ ap (λ ds. deliveries port k h ++ ds) (part-more port k groups h b.items (concatenation (c ∷ later)) whole.0)
 
   -- ---- the same bytes in other datagrams
@@ -143,17 +156,17 @@ module _ {ST SP RT RP : Type 0} where
       → IsAlike (later ++ history_with groups bs before) (later ++ history_with groups cs before)
   regrouped-alike groups bs cs before later =
       alike-after later (history_with groups bs before) (history_with groups cs before)
-          (alike-both _ _ _ (alike-came groups bs before) (alike-back _ _ (alike-came groups cs before)))
+      (alike-both _ _ _ (alike-came groups bs before) (alike-back _ _ (alike-came groups cs before)))
 
   pub regrouped-deliveries : (port k : ℕ) (groups : List ℕ) (bs cs : List Bytes) (before later : History ST SP RT RP)
       → IsRegrouped bs cs → deliveries port k (later ++ history_with groups bs before)
       ≡ deliveries port k (later ++ history_with groups cs before)
   regrouped-deliveries port k groups bs cs before later r =
       deliveries-after port k later (history_with groups bs before) (history_with groups cs before)
-          (regrouped-alike groups bs cs before [])
+      (regrouped-alike groups bs cs before [])
       (deliveries-came port k groups bs before r.0 ∙ ap
-          (λ (x : List ℕ). deliveries port k before ++ part_of port k groups before x) r.2
-          ∙ sym (deliveries-came port k groups cs before r.1))
+      (λ (x : List ℕ). deliveries port k before ++ part_of port k groups before x) r.2
+      ∙ sym (deliveries-came port k groups cs before r.1))
 
   -- ---- and so with what is done next
 
@@ -172,12 +185,12 @@ module _ {ST SP RT RP : Type 0} where
 
   module _ (port : ℕ) (Said : History ST SP RT RP → Command ST SP → Outcome ST SP RT RP → Type 0)
       (respects : (h h' : History ST SP RT RP) → IsSameFor port (λ k. ⊤) h h'
-          → (c : Command ST SP) (o : Outcome ST SP RT RP) → Said h c o → Said h' c o) where
+      → (c : Command ST SP) (o : Outcome ST SP RT RP) → Said h c o → Said h' c o) where
     pub regrouped-each : (groups : List ℕ) (bs cs : List Bytes) (before : History ST SP RT RP)
         (commands : List (Command ST SP)) (outcomes : List (Outcome ST SP RT RP)) → IsRegrouped bs cs
         → EachAfter Said (history_with groups bs before) commands outcomes
         → EachAfter Said (history_with groups cs before) commands outcomes
     regrouped-each groups bs cs before commands outcomes r each =
         each-same port (λ k. ⊤) (λ c. ⊤) Said (λ h h' s c o _. respects h h' s c o) (history_with groups bs before)
-            (history_with groups cs before) commands outcomes (regrouped-same port groups bs cs before r)
-            (λ i d within. tt) each
+        (history_with groups cs before) commands outcomes (regrouped-same port groups bs cs before r)
+        (λ i d within. tt) each

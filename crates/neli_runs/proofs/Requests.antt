@@ -35,7 +35,7 @@ module _ {T P : Type 0} (number_of : T → ℕ) (wire : P → Wire) (size : P �
       let length_of : ℕ = request_length number_of wire size payload in
       let too_long : RouterError T P = router.Msg (codes "Length does not fit its field") in
       let sent : Result (List ℕ) (RouterError T P) = as_request
-          (message_wire number_of wire (request number_of wire size port number t flags payload)) in
+      (message_wire number_of wire (request number_of wire size port number t flags payload)) in
       let parts = unless_long (nat_lt 4294967295 length_of) too_long sent bytes h in
       ((let le = ltb-false _ _ parts.0 in omega arith), wire_is {T = T} {P = P} _ bytes parts.1)
 
@@ -47,5 +47,10 @@ module _ {T P : Type 0} (number_of : T → ℕ) (wire : P → Wire) (size : P �
   one-request port number in_use t flags payload bytes port_fits number_fits type_fits flags_fit h =
       let parts = sent-parts port number in_use t flags payload bytes h in
       written-walked number_of wire size sized (request number_of wire size port number t flags payload) bytes
-      (record { len = parts.0; message_type = type_fits; flags = or_lt 16 flags.0 1 flags_fit (omega arith);
-          sequence_number = number_fits; port = port_fits }) refl parts.1
+      (record {
+        len = parts.0;
+        message_type = type_fits;
+        flags = or_lt 16 flags.0 1 flags_fit (omega arith);
+        sequence_number = number_fits;
+        port = port_fits;
+      }) refl parts.1

@@ -67,8 +67,8 @@ module _ {ST SP K P V : Type 0} (type_of : ℕ → K) (number : K → ℕ) (view
       → Type 0) (pid port next next' : ℕ) (pending pending' : Pending) (handles handles' : Handles) (c : Command ST SP)
       (o : Outcome ST SP K P) (h : History ST SP K P) → port ≡ pid
       → StepKeeps type_of number view size read (Said port) port next pending handles next' pending' handles' c o
-          → Holds type_of number view size read pid next pending handles h
-          → Said pid h c o × Holds type_of number view size read pid next' pending' handles' ((c, o) ∷ h)
+      → Holds type_of number view size read pid next pending handles h
+      → Said pid h c o × Holds type_of number view size read pid next' pending' handles' ((c, o) ∷ h)
   went Said pid port next next' pending pending' handles handles' c o h e goes =
       subst (λ p. StepKeeps type_of number view size read
       (Said p) p next pending handles next' pending' handles' c o) e goes h

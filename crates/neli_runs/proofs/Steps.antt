@@ -51,8 +51,11 @@ true_le m n h = grind (arith, nat_tests)
 -- equal or not
 same_or : (m n : ℕ) → (m ≡ n) ⊎ (m ≢ n)
 same_or m n = elim (m == n) as (λ b. ((m == n) ≡ b) → (m ≡ n)
-    ⊎ (m ≢ n)) [ true ↦ (λ h. inl (eqb_same m n h)) | false ↦
-    (λ h. inr (λ e. false_not_true (m == n) h (rw e (eqb_refl n)))) ] refl
+    ⊎ (m ≢ n)) [
+      | true ↦ (λ h. inl (eqb_same m n h))
+      | false ↦
+          (λ h. inr (λ e. false_not_true (m == n) h (rw e (eqb_refl n))))
+    ] refl
 
 and_true_left : (a b : Bool) → (a && b) ≡ true → a ≡ true
 and_true_left true b e = refl
@@ -146,9 +149,9 @@ module _ {ST SP K P V : Type 0} (type_of : ℕ → K) (number : K → ℕ) (view
 
   pub slot_same : (port k : ℕ) (pending pending' : Pending) (h h' : History ST SP K P) → IsSame port k h h'
       → (is_handle_open k h ≡ true → pending' (list_of_handle k h) ≡ pending (list_of_handle k h))
-          → (s : Option (Option HandleState))
+      → (s : Option (Option HandleState))
       → IsSlot type_of number view size read port pending k h s
-          → IsSlot type_of number view size read port pending' k h' s
+      → IsSlot type_of number view size read port pending' k h' s
   slot_same port k pending pending' h h' s same None x = record {
     later = s.later ∙ x.later;
     closed = s.closed ∙ x.closed;
@@ -177,13 +180,16 @@ module _ {ST SP K P V : Type 0} (type_of : ℕ → K) (number : K → ℕ) (view
       → Option (Option HandleState)) (h h' : History ST SP K P)
       → requests_sent h' ≡ requests_sent h → next' ≡ next_number h' → ((k : ℕ) → IsSame port k h h')
       → Agrees type_of number view size read port next count pending slots h
-          → Agrees type_of number view size read port next' count pending slots h'
+      → Agrees type_of number view size read port next' count pending slots h'
   agrees_same port next next' count pending slots h h' many next_is same a = record {
     next_is = next_is;
     count_is = a.count_is ∙ ap suc (sym many);
     each = λ k. slot_same port k pending pending h h' (same k) (λ _. refl) (slots k) (a.each k);
-    owned = λ q ds p. let o = a.owned q ds p in (o.0, same_live port o.0 h h' (same o.0) ∙ o.1,
-        (same o.0).list_of_handle ∙ o.2);
+    owned = λ q ds p. let o = a.owned q ds p in (
+      o.0,
+      same_live port o.0 h h' (same o.0) ∙ o.1,
+      (same o.0).list_of_handle ∙ o.2,
+    );
     one = λ j k p q r. a.one j k (sym (same_live port j h h' (same j)) ∙ p) (sym (same_live port k h h' (same k)) ∙ q)
         (sym (same j).list_of_handle ∙ (r ∙ (same k).list_of_handle));
   }
@@ -191,74 +197,110 @@ module _ {ST SP K P V : Type 0} (type_of : ℕ → K) (number : K → ℕ) (view
   pub agrees_set : (port next count n : ℕ) (pending : Pending) (slots : ℕ
       → Option (Option HandleState)) (h : History ST SP K P)
       → n < 2 ^ 32 → Agrees type_of number view size read port next count pending slots h
-          → Agrees type_of number view size read port n count pending slots ((command.SetNextSeq n, outcome.Done) ∷ h)
+      → Agrees type_of number view size read port n count pending slots ((command.SetNextSeq n, outcome.Done) ∷ h)
   agrees_set port next count n pending slots h small a =
       agrees_same port next n count pending slots h _ refl (omega arith)
-          (λ k. record { later = refl; closed = refl; items = refl; deliveries = refl; needs = refl;
-          list_of_handle = whose_unsent k (command.SetNextSeq n) outcome.Done h refl }) a
+      (λ k. record {
+        later = refl;
+        closed = refl;
+        items = refl;
+        deliveries = refl;
+        needs = refl;
+        list_of_handle = whose_unsent k (command.SetNextSeq n) outcome.Done h refl;
+      }) a
 
   pub agrees_unsent : (port next count : ℕ) (t : ST) (f : NlmF) (p : NlPayload ST SP) (o : Outcome ST SP K P)
       (pending : Pending) (slots : ℕ → Option (Option HandleState)) (h : History ST SP K P)
       → is_sent o ≡ false → ((k : ℕ) → items_of k ((command.Send t f p, o) ∷ h) ≡ items_of k h)
       → Agrees type_of number view size read port next count pending slots h
-          → Agrees type_of number view size read port next count pending slots ((command.Send t f p, o) ∷ h)
+      → Agrees type_of number view size read port next count pending slots ((command.Send t f p, o) ∷ h)
   agrees_unsent port next count t f p o pending slots h unsent items a =
       let many : requests_sent ((command.Send t f p, o) ∷ h) ≡ requests_sent h = rw unsent refl in
       agrees_same port next next count pending slots h _ many (a.next_is ∙ rw unsent refl)
-          (λ k. record { later = ap (nat_le k) many; closed = refl; items = items k; deliveries = refl;
-          needs = rw unsent refl; list_of_handle = whose_unsent k (command.Send t f p) o h unsent }) a
+      (λ k. record {
+        later = ap (nat_le k) many;
+        closed = refl;
+        items = items k;
+        deliveries = refl;
+        needs = rw unsent refl;
+        list_of_handle = whose_unsent k (command.Send t f p) o h unsent;
+      }) a
 
   -- a read that gives no item, or a close of no handle
   pub agrees_idle : (port next count : ℕ) (c : Command ST SP) (o : Outcome ST SP K P) (pending : Pending) (slots : ℕ
       → Option (Option HandleState)) (h : History ST SP K P)
       → requests_sent ((c, o) ∷ h) ≡ requests_sent h → next_number ((c, o) ∷ h) ≡ next_number h
-          → ((k : ℕ) → IsSame port k h ((c, o) ∷ h))
+      → ((k : ℕ) → IsSame port k h ((c, o) ∷ h))
       → Agrees type_of number view size read port next count pending slots h
-          → Agrees type_of number view size read port next count pending slots ((c, o) ∷ h)
+      → Agrees type_of number view size read port next count pending slots ((c, o) ∷ h)
   agrees_idle port next count c o pending slots h many number_is same a =
       agrees_same port next next count pending slots h ((c, o) ∷ h) many (a.next_is ∙ sym number_is) same a
 
   pub agrees_read_end : (port next count i : ℕ) (pending : Pending) (slots : ℕ
       → Option (Option HandleState)) (h : History ST SP K P)
       → Agrees type_of number view size read port next count pending slots h
-          → Agrees type_of number view size read port next count pending slots ((command.Read i, outcome.End) ∷ h)
+      → Agrees type_of number view size read port next count pending slots ((command.Read i, outcome.End) ∷ h)
   agrees_read_end port next count i pending slots h a =
       agrees_idle port next count (command.Read i) outcome.End pending slots h refl refl
-          (λ k. record { later = refl; closed = refl; items = refl; deliveries = refl; needs = refl;
-          list_of_handle = whose_unsent k (command.Read i) outcome.End h refl }) a
+      (λ k. record {
+        later = refl;
+        closed = refl;
+        items = refl;
+        deliveries = refl;
+        needs = refl;
+        list_of_handle = whose_unsent k (command.Read i) outcome.End h refl;
+      }) a
 
   pub agrees_read_waits : (port next count i : ℕ) (pending : Pending) (slots : ℕ
       → Option (Option HandleState)) (h : History ST SP K P)
       → Agrees type_of number view size read port next count pending slots h
-          → Agrees type_of number view size read port next count pending slots ((command.Read i, outcome.Waits) ∷ h)
+      → Agrees type_of number view size read port next count pending slots ((command.Read i, outcome.Waits) ∷ h)
   agrees_read_waits port next count i pending slots h a =
       agrees_idle port next count (command.Read i) outcome.Waits pending slots h refl refl
-          (λ k. record { later = refl; closed = refl; items = refl; deliveries = refl; needs = refl;
-          list_of_handle = whose_unsent k (command.Read i) outcome.Waits h refl }) a
+      (λ k. record {
+        later = refl;
+        closed = refl;
+        items = refl;
+        deliveries = refl;
+        needs = refl;
+        list_of_handle = whose_unsent k (command.Read i) outcome.Waits h refl;
+      }) a
 
   pub agrees_read_none : (port next count i : ℕ) (pending : Pending) (slots : ℕ
       → Option (Option HandleState)) (h : History ST SP K P)
       → Agrees type_of number view size read port next count pending slots h
-          → Agrees type_of number view size read port next count pending slots ((command.Read i, outcome.NoHandle) ∷ h)
+      → Agrees type_of number view size read port next count pending slots ((command.Read i, outcome.NoHandle) ∷ h)
   agrees_read_none port next count i pending slots h a =
       agrees_idle port next count (command.Read i) outcome.NoHandle pending slots h refl refl
-          (λ k. record { later = refl; closed = refl; items = refl; deliveries = refl; needs = refl;
-          list_of_handle = whose_unsent k (command.Read i) outcome.NoHandle h refl }) a
+      (λ k. record {
+        later = refl;
+        closed = refl;
+        items = refl;
+        deliveries = refl;
+        needs = refl;
+        list_of_handle = whose_unsent k (command.Read i) outcome.NoHandle h refl;
+      }) a
 
   pub agrees_close_none : (port next count i : ℕ) (pending : Pending) (slots : ℕ
       → Option (Option HandleState)) (h : History ST SP K P)
       → Agrees type_of number view size read port next count pending slots h
-          → Agrees type_of number view size read port next count pending slots ((command.Close i, outcome.NoHandle) ∷ h)
+      → Agrees type_of number view size read port next count pending slots ((command.Close i, outcome.NoHandle) ∷ h)
   agrees_close_none port next count i pending slots h a =
       agrees_idle port next count (command.Close i) outcome.NoHandle pending slots h refl refl
-          (λ k. record { later = refl; closed = rw (and_false (i == k)) refl; items = refl; deliveries = refl;
-          needs = refl; list_of_handle = whose_unsent k (command.Close i) outcome.NoHandle h refl }) a
+      (λ k. record {
+        later = refl;
+        closed = rw (and_false (i == k)) refl;
+        items = refl;
+        deliveries = refl;
+        needs = refl;
+        list_of_handle = whose_unsent k (command.Close i) outcome.NoHandle h refl;
+      }) a
 
   -- what a handle that is open has pending
   kept_of : (port k : ℕ) (pending : Pending) (h : History ST SP K P) (s : Option (Option HandleState))
       → IsSlot type_of number view size read port pending k h s → is_handle_open k h ≡ true
       → (x : HandleState) × (readings : List (Item K P)) × (s ≡ Some (Some x))
-          × IsKept type_of number view size read port pending k x h readings
+      × IsKept type_of number view size read port pending k x h readings
   kept_of port k pending h None x p = absurd (false_not_true (is_handle_open k h) (rw x.later refl) p)
   kept_of port k pending h (Some None) x p = absurd (false_not_true (is_handle_open k h) x p)
   kept_of port k pending h (Some (Some handle)) x p = (handle, x.0, refl, x.1)
@@ -291,8 +333,11 @@ module _ {ST SP K P V : Type 0} (type_of : ℕ → K) (number : K → ℕ) (view
       deliveries = refl;
       needs = rw (sent, eqb_other k (suc (requests_sent h)) other) refl;
       list_of_handle = elim k as (λ k. k ≢ suc (requests_sent h)
-          → list_of_handle k after ≡ list_of_handle k h) [ zero ↦ (λ _. refl) | suc k ↦
-          (λ o. rw (sent, eqb_other (suc k) (suc (requests_sent h)) o) refl) ] other;
+          → list_of_handle k after ≡ list_of_handle k h) [
+            | zero ↦ (λ _. refl)
+            | suc k ↦
+                (λ o. rw (sent, eqb_other (suc k) (suc (requests_sent h)) o) refl)
+          ] other;
     }
 
     sent_fresh : IsFresh port (suc (requests_sent h)) h
@@ -303,8 +348,11 @@ module _ {ST SP K P V : Type 0} (type_of : ℕ → K) (number : K → ℕ) (view
     sent_whose = rw (sent, eqb_refl (suc (requests_sent h))) (ap Some (sym a.next_is))
 
     sent_live : is_handle_open (suc (requests_sent h)) after ≡ true
-    sent_live = rw (sent_sends, true_le (suc (requests_sent h)) (suc (requests_sent h)) (omega arith),
-        sent_fresh.closed) refl
+    sent_live = rw (
+      sent_sends,
+      true_le (suc (requests_sent h)) (suc (requests_sent h)) (omega arith),
+      sent_fresh.closed,
+    ) refl
 
     sent_needs : needs_of (suc (requests_sent h)) after ≡ needs_ack f
     sent_needs = rw (sent, eqb_refl (suc (requests_sent h))) refl
@@ -354,9 +402,11 @@ module _ {ST SP K P V : Type 0} (type_of : ℕ → K) (number : K → ℕ) (view
     sent_owned : (q : ℕ) (ds : List Delivery) → pending' (Some q) ≡ Some ds → IsOwned q after
     sent_owned q ds p = elim (same_or q next) [
       | inl e ↦ (suc (requests_sent h), sent_live, rw e sent_whose)
-      | inr o ↦ let w = a.owned q ds (sym (others (Some q) (λ e. o (some_inj q next e))) ∙ p) in
-          (w.0, same_live port w.0 h after (sent_same w.0 (sent_not_new w.0 w.1)) ∙ w.1,
-              (sent_same w.0 (sent_not_new w.0 w.1)).list_of_handle ∙ w.2)
+      | inr o ↦ let w = a.owned q ds (sym (others (Some q) (λ e. o (some_inj q next e))) ∙ p) in (
+        w.0,
+        same_live port w.0 h after (sent_same w.0 (sent_not_new w.0 w.1)) ∙ w.1,
+        (sent_same w.0 (sent_not_new w.0 w.1)).list_of_handle ∙ w.2,
+      )
     ]
 
     sent_one : (j k : ℕ) → is_handle_open j after ≡ true → is_handle_open k after ≡ true
@@ -394,10 +444,10 @@ module _ {ST SP K P V : Type 0} (type_of : ℕ → K) (number : K → ℕ) (view
       (d : Delivery) (ds : List Delivery) (item : Item K P)
       (a : Agrees type_of number view size read port next count pending slots h)
       (before : slots k ≡ Some (Some x)) (kept : IsKept type_of number view size read port pending k x h readings)
-          (still : x.ended ≡ false)
+      (still : x.ended ≡ false)
       (first : pending (list_of_handle k h) ≡ Some (d ∷ ds)) (is : IsReading type_of view size read d item)
       (taken : pending' (list_of_handle k h) ≡ Some ds) (others : (w : Option ℕ) → w ≢ list_of_handle k h
-          → pending' w ≡ pending w)
+      → pending' w ≡ pending w)
       (new : slots' k ≡ Some (Some x')) (old : (j : ℕ) → j ≢ k → slots' j ≡ slots j)
       (x_is : x' ≡ record {
         number = x.number;
@@ -474,7 +524,7 @@ module _ {ST SP K P V : Type 0} (type_of : ℕ → K) (number : K → ℕ) (view
     read_owned q es (Some fs) p r = let o = a.owned q fs p in (o.0, o.1, read_whose o.0 ∙ o.2)
     read_owned q es None p r =
         let apart : Some q ≢ list_of_handle k h = λ e. some_not_none
-            (pending (list_of_handle k h)) _ (ap pending (sym e) ∙ p) first in
+        (pending (list_of_handle k h)) _ (ap pending (sym e) ∙ p) first in
         absurd (some_not_none (pending' (Some q)) _ (others (Some q) apart ∙ p) r)
 
     pub agrees_read : Agrees type_of number view size read port next count pending' slots' read_after
@@ -492,7 +542,7 @@ module _ {ST SP K P V : Type 0} (type_of : ℕ → K) (number : K → ℕ) (view
       → Option (Option HandleState)) (h : History ST SP K P)
       (a : Agrees type_of number view size read port next count pending slots h) (live : is_handle_open k h ≡ true)
       (gone : pending' (list_of_handle k h) ≡ None) (others : (w : Option ℕ) → w ≢ list_of_handle k h
-          → pending' w ≡ pending w)
+      → pending' w ≡ pending w)
       (new : slots' k ≡ Some None) (old : (j : ℕ) → j ≢ k → slots' j ≡ slots j) where
     abbrev close_after : History ST SP K P
     close_after = (command.Close k, outcome.Done) ∷ h
@@ -529,7 +579,7 @@ module _ {ST SP K P V : Type 0} (type_of : ℕ → K) (number : K → ℕ) (view
     close_owned : (q : ℕ) (es : List Delivery) → pending' (Some q) ≡ Some es → IsOwned q close_after
     close_owned q es p =
         let apart : Some q ≢ list_of_handle k h = λ e. some_not_none (pending' (list_of_handle k h)) _ gone
-            (ap pending' (sym e) ∙ p) in
+        (ap pending' (sym e) ∙ p) in
         let o = a.owned q es (sym (others (Some q) apart) ∙ p) in
         let other : o.0 ≢ k = λ e. apart (sym o.2 ∙ ap (λ i. list_of_handle i h) e) in
         (o.0, same_live port o.0 h close_after (close_same o.0 other) ∙ o.1, close_whose o.0 ∙ o.2)
@@ -558,10 +608,10 @@ module _ {ST SP K P V : Type 0} (type_of : ℕ → K) (number : K → ℕ) (view
       let o = a.owned q ds p in sym (open_owner o.0 q h o.1 o.2)
   open_by port next count pending slots h a q None p =
       sym (any_false (requests_sent h) (λ k. is_handle_open k h && (number_of k h == q))
-          (λ k. not_both (is_handle_open (suc k) h) (number_of (suc k) h == q) (λ live same.
+      (λ k. not_both (is_handle_open (suc k) h) (number_of (suc k) h == q) (λ live same.
       let kept = kept_of port (suc k) pending h (slots (suc k)) (a.each (suc k)) live in
       some_not_none (pending (Some q)) _ p (ap (λ i. pending (Some i)) (sym (eqb_same (number_of (suc k) h) q same))
-          ∙ kept.3.left))))
+      ∙ kept.3.left))))
 
   pub open_test : (port next count : ℕ) (pending : Pending) (slots : ℕ
       → Option (Option HandleState)) (h : History ST SP K P)
@@ -578,10 +628,10 @@ module _ {ST SP K P V : Type 0} (type_of : ℕ → K) (number : K → ℕ) (view
       (grown : (w : Option ℕ) → pending' w ≡ option_map (λ ds. ds ++ more w) (pending w))
       (many : requests_sent h' ≡ requests_sent h) (next_same : next_number h' ≡ next_number h)
       (closed : (k : ℕ) → is_closed k h' ≡ is_closed k h) (items_same : (k : ℕ)
-          → items_of k h' ≡ items_of k h) (needs_same : (k : ℕ) → needs_of k h' ≡ needs_of k h) (whose_same : (k : ℕ)
-          → list_of_handle k h' ≡ list_of_handle k h)
+      → items_of k h' ≡ items_of k h) (needs_same : (k : ℕ) → needs_of k h' ≡ needs_of k h) (whose_same : (k : ℕ)
+      → list_of_handle k h' ≡ list_of_handle k h)
       (handed : (k : ℕ) → delivered port k h' ≡ (if is_handle_open k h
-          then delivered port k h ++ more (list_of_handle k h) else delivered port k h)) where
+      then delivered port k h ++ more (list_of_handle k h) else delivered port k h)) where
     more_live : (k : ℕ) → is_handle_open k h' ≡ is_handle_open k h
     more_live k = rw (many, closed k) refl
 
@@ -596,15 +646,18 @@ module _ {ST SP K P V : Type 0} (type_of : ℕ → K) (number : K → ℕ) (view
     }
     more_slot k (Some None) x = more_live k ∙ x
     more_slot k (Some (Some handle)) x =
-        let all : delivered port k h' ≡ delivered port k h ++ more (list_of_handle k h) = handed k ∙ rw x.1.live refl in
-            (
+        let all : delivered port k h' ≡ delivered port k h ++ more (list_of_handle k h) = handed k ∙ rw x.1.live refl in (
           x.0,
           record {
             live = more_live k ∙ x.1.live;
             number = x.1.number ∙ sym (whose_same k);
             needs = x.1.needs ∙ sym (needs_same k);
-            left = rw (whose_same k, all, drop_append (length x.0) (delivered port k h)
-                (more (list_of_handle k h)) x.1.within) (grown (list_of_handle k h)
+            left = rw (
+              whose_same k,
+              all,
+              drop_append (length x.0) (delivered port k h)
+                  (more (list_of_handle k h)) x.1.within,
+            ) (grown (list_of_handle k h)
                 ∙ ap (option_map (λ ds. ds ++ more (list_of_handle k h))) x.1.left);
             within = rw all (longer (length x.0) (delivered port k h) (more (list_of_handle k h)) x.1.within);
             are_read = rw all (readings_append type_of view size read (delivered port k h)
@@ -636,20 +689,20 @@ module _ {ST SP K P V : Type 0} (type_of : ℕ → K) (number : K → ℕ) (view
       → Option (Option HandleState)) (h : History ST SP K P) (c : Command ST SP) → hands_over c ≡ true
       → Agrees type_of number view size read port next count pending slots h
       → ((w : Option ℕ) → pending' w ≡ option_map (λ ds. ds ++ handed_by port (λ q. is_some (pending (Some q))) c w)
-          (pending w))
+      (pending w))
       → Agrees type_of number view size read port next count pending' slots ((c, outcome.Done) ∷ h)
   agrees_handed port next count pending pending' slots h (command.Datagram b groups) is a grown =
       agrees_more port next count pending pending' slots h ((command.Datagram b groups, outcome.Done) ∷ h)
-          (λ w. datagram_share port (λ q. is_open q h) w (cut_of untyped_layout b.items) groups) a
+      (λ w. datagram_share port (λ q. is_open q h) w (cut_of untyped_layout b.items) groups) a
       (λ w. grown w ∙ ap (λ more. option_map (λ ds. ds ++ more) (pending w))
-          (received_same port (λ q. is_some (pending (Some q))) (λ q. is_open q h)
-          (open_test port next count pending slots h a) w (cut_of untyped_layout b.items) groups))
+      (received_same port (λ q. is_some (pending (Some q))) (λ q. is_open q h)
+      (open_test port next count pending slots h a) w (cut_of untyped_layout b.items) groups))
       refl refl (λ k. refl) (λ k. refl) (λ k. refl) (λ k. whose_unsent k
-          (command.Datagram b groups) outcome.Done h refl)
+      (command.Datagram b groups) outcome.Done h refl)
       (λ k. refl)
   agrees_handed port next count pending pending' slots h (command.Fault e) is a grown =
       agrees_more port next count pending pending' slots h ((command.Fault e, outcome.Done) ∷ h)
-          (λ w. fault_share w e) a grown
+      (λ w. fault_share w e) a grown
       refl refl (λ k. refl) (λ k. refl) (λ k. refl) (λ k. whose_unsent k (command.Fault e) outcome.Done h refl)
       (λ k. refl)
   agrees_handed port next count pending pending' slots h (command.SetNextSeq n) is a grown = absurd cc
@@ -661,12 +714,18 @@ module _ {ST SP K P V : Type 0} (type_of : ℕ → K) (number : K → ℕ) (view
   pub agrees_pending : (port next count : ℕ) (pending pending' : Pending) (slots : ℕ
       → Option (Option HandleState)) (h : History ST SP K P)
       → ((w : Option ℕ) → pending' w ≡ pending w) → Agrees type_of number view size read port next count pending slots h
-          → Agrees type_of number view size read port next count pending' slots h
+      → Agrees type_of number view size read port next count pending' slots h
   agrees_pending port next count pending pending' slots h same a = record {
     next_is = a.next_is;
     count_is = a.count_is;
-    each = λ k. slot_same port k pending pending' h h (record { later = refl; closed = refl; items = refl;
-        deliveries = refl; needs = refl; list_of_handle = refl }) (λ _. same (list_of_handle k h)) (slots k) (a.each k);
+    each = λ k. slot_same port k pending pending' h h (record {
+      later = refl;
+      closed = refl;
+      items = refl;
+      deliveries = refl;
+      needs = refl;
+      list_of_handle = refl;
+    }) (λ _. same (list_of_handle k h)) (slots k) (a.each k);
     owned = λ q ds p. a.owned q ds (sym (same (Some q)) ∙ p);
     one = a.one;
   }
@@ -698,12 +757,16 @@ module _ (ST SP : Type 0) {K P V : Type 0} (type_of : ℕ → K) (number : K →
       → (k : ℕ) → IsSlot {ST = ST} {SP = SP} type_of number view size read port pending k [] (slots k)
   start_each port pending slots empty first rest zero = rw first (start_kept port pending empty)
   start_each port pending slots empty first rest (suc k) =
-      rw (rest k) (record { later = grind (arith, nat_tests); closed = refl; items_none = refl;
-      deliveries_none = refl })
+      rw (rest k) (record {
+        later = grind (arith, nat_tests);
+        closed = refl;
+        items_none = refl;
+        deliveries_none = refl;
+      })
 
   pub agrees_start : (port : ℕ) (pending : Pending) (slots : ℕ → Option (Option HandleState))
       → pending None ≡ Some [] → ((q : ℕ) → pending (Some q) ≡ None) → slots 0 ≡ Some (Some multicast)
-          → ((k : ℕ) → slots (suc k) ≡ None)
+      → ((k : ℕ) → slots (suc k) ≡ None)
       → Agrees {ST = ST} {SP = SP} type_of number view size read port 0 1 pending slots []
   agrees_start port pending slots empty numbers first rest = record {
     next_is = refl;

@@ -65,15 +65,19 @@ module _ {ST SP K P V : Type 0} (type_of : ℕ → K) (number : K → ℕ) (view
   pub goes_handed : (port next : ℕ) (pending pending' : Pending) (handles : Handles) (c : Command ST SP)
       → hands_over c ≡ true
       → ((w : Option ℕ) → pending' w ≡ option_map (λ ds. ds ++ handed_by port (λ q. is_some (pending (Some q))) c w)
-          (pending w)) → StepKeeps type_of number view size read
-          (StepIsRight type_of number view size read number_of wire wire_size port) port next pending handles next
-          pending' handles c outcome.Done
-  goes_handed port next pending pending' handles (command.Datagram b g) is grown h a =
-      ((tt, refl), agrees_handed type_of number view size read port next (length handles) pending pending'
-      (λ k. slice_get handles k) h (command.Datagram b g) is a grown)
-  goes_handed port next pending pending' handles (command.Fault e) is grown h a =
-      ((tt, refl), agrees_handed type_of number view size read port next (length handles) pending pending'
-      (λ k. slice_get handles k) h (command.Fault e) is a grown)
+      (pending w)) → StepKeeps type_of number view size read
+      (StepIsRight type_of number view size read number_of wire wire_size port) port next pending handles next
+      pending' handles c outcome.Done
+  goes_handed port next pending pending' handles (command.Datagram b g) is grown h a = (
+    (tt, refl),
+    agrees_handed type_of number view size read port next (length handles) pending pending'
+        (λ k. slice_get handles k) h (command.Datagram b g) is a grown,
+  )
+  goes_handed port next pending pending' handles (command.Fault e) is grown h a = (
+    (tt, refl),
+    agrees_handed type_of number view size read port next (length handles) pending pending'
+        (λ k. slice_get handles k) h (command.Fault e) is a grown,
+  )
   goes_handed port next pending pending' handles (command.SetNextSeq n) is grown h a = absurd cc
   goes_handed port next pending pending' handles (command.Send t f p) is grown h a = absurd cc
   goes_handed port next pending pending' handles (command.Read k) is grown h a = absurd cc
@@ -95,16 +99,16 @@ module _ {ST SP K P V : Type 0} (type_of : ℕ → K) (number : K → ℕ) (view
   pub goes_unsent : (port next next' : ℕ) (t : ST) (f : NlmF) (p : NlPayload ST SP) (pending pending' : Pending)
       (handles : Handles) (takes : Type 0) (e : RouterError ST SP)
       → e ≢ router.Memory → RefusesSend (frame_or_refusal number_of wire wire_size port next
-          (is_some (pending (Some next))) t f p) takes e
+      (is_some (pending (Some next))) t f p) takes e
       → next' ≡ next → ((w : Option ℕ) → pending' w ≡ pending w)
       → StepKeeps type_of number view size read (StepIsRight type_of number view size read number_of wire wire_size
-          port) port next pending handles next' pending' handles (command.Send t f p) (outcome.NotSent e)
+      port) port next pending handles next' pending' handles (command.Send t f p) (outcome.NotSent e)
   goes_unsent port next next' t f p pending pending' handles takes e other refused next_is same h a = (
     (sym (sent-is port next t f p pending handles h a) ∙ refused-is _ takes e other refused, tt),
     rw next_is (agrees_unsent type_of number view size read port next (length handles) t f p
         (outcome.NotSent e) pending' (λ k. slice_get handles k) h refl (λ k. refl)
         (agrees_pending type_of number view size read port next (length handles) pending pending'
-            (λ k. slice_get handles k) h same a)),
+        (λ k. slice_get handles k) h same a)),
   )
 
   pub goes_sent : (port next next' : ℕ) (t : ST) (f : NlmF) (p : NlPayload ST SP) (o : Outcome ST SP K P)
@@ -114,20 +118,20 @@ module _ {ST SP K P V : Type 0} (type_of : ℕ → K) (number : K → ℕ) (view
       → frame_or_refusal number_of wire wire_size port next (is_some (pending (Some next))) t f p ≡ Ok bytes
       → is_some (pending (Some next)) ≡ false
       → next' ≡ (next + 1) % 2 ^ 32 → pending' (Some next) ≡ Some []
-          → ((w : Option ℕ) → w ≢ Some next → pending' w ≡ pending w)
+      → ((w : Option ℕ) → w ≢ Some next → pending' w ≡ pending w)
       → x ≡ asks next f
       → StepKeeps type_of number view size read (StepIsRight type_of number view size read number_of wire wire_size
-          port) port next pending handles next' pending' (handles ++ Some x ∷ []) (command.Send t f p) o
+      port) port next pending handles next' pending' (handles ++ Some x ∷ []) (command.Send t f p) o
   goes_sent port next next' t f p o bytes pending pending' handles x is_sent no_item says is unused next_is opened
       others x_is h a = (
-    (says _ (sym (sent-is port next t f p pending handles h a) ∙ is), tt),
-    agrees_sent type_of number view size read port next next' (length handles)
-        (length (handles ++ Some x ∷ [])) t f p o pending pending' (λ k. slice_get handles k)
-        (λ k. slice_get (handles ++ Some x ∷ []) k) h x
-        is_sent (no_item h) a (none_of (pending (Some next)) unused) next_is
+        (says _ (sym (sent-is port next t f p pending handles h a) ∙ is), tt),
+        agrees_sent type_of number view size read port next next' (length handles)
+            (length (handles ++ Some x ∷ [])) t f p o pending pending' (λ k. slice_get handles k)
+            (λ k. slice_get (handles ++ Some x ∷ []) k) h x
+            is_sent (no_item h) a (none_of (pending (Some next)) unused) next_is
             (length_push handles (Some x)) opened others (slice_get_past handles (length handles) (omega arith))
             (push_at handles (Some x)) (push_other handles (Some x)) x_is,
-  )
+      )
 
   -- ---- places without a handle
 
@@ -142,19 +146,21 @@ module _ {ST SP K P V : Type 0} (type_of : ℕ → K) (number : K → ℕ) (view
       → ((x : HandleState) → slice_get handles k ≢ Some (Some x))
       → StepKeeps type_of number view size read (StepIsRight type_of number view size read number_of wire wire_size
       port) port next pending handles next pending handles (command.Read k) outcome.NoHandle
-  goes_read_none port next k pending handles gone h a =
-      ((tt, rw (dead_at port k pending h (slice_get handles k) (a.each k) gone) refl),
-          agrees_read_none type_of number view size read port next (length handles) k pending
-          (λ k. slice_get handles k) h a)
+  goes_read_none port next k pending handles gone h a = (
+    (tt, rw (dead_at port k pending h (slice_get handles k) (a.each k) gone) refl),
+    agrees_read_none type_of number view size read port next (length handles) k pending
+        (λ k. slice_get handles k) h a,
+  )
 
   pub goes_close_none : (port next k : ℕ) (pending : Pending) (handles : Handles)
       → ((x : HandleState) → slice_get handles k ≢ Some (Some x))
       → StepKeeps type_of number view size read (StepIsRight type_of number view size read number_of wire wire_size
       port) port next pending handles next pending handles (command.Close k) outcome.NoHandle
-  goes_close_none port next k pending handles gone h a =
-      ((tt, rw (dead_at port k pending h (slice_get handles k) (a.each k) gone) refl),
-          agrees_close_none type_of number view size read port next (length handles) k pending
-          (λ k. slice_get handles k) h a)
+  goes_close_none port next k pending handles gone h a = (
+    (tt, rw (dead_at port k pending h (slice_get handles k) (a.each k) gone) refl),
+    agrees_close_none type_of number view size read port next (length handles) k pending
+        (λ k. slice_get handles k) h a,
+  )
 
   -- ---- closes
 
@@ -166,17 +172,17 @@ module _ {ST SP K P V : Type 0} (type_of : ℕ → K) (number : K → ℕ) (view
   pub goes_close : (port next k : ℕ) (pending pending' : Pending) (handles : Handles) (x : HandleState)
       → slice_get handles k ≡ Some (Some x)
       → pending' x.number ≡ None → ((w : Option ℕ) → w ≢ x.number → pending' w ≡ pending w)
-          → StepKeeps type_of number view size read (StepIsRight type_of number view size read number_of wire wire_size
-          port) port next pending handles next pending' (set handles k None) (command.Close k) outcome.Done
+      → StepKeeps type_of number view size read (StepIsRight type_of number view size read number_of wire wire_size
+      port) port next pending handles next pending' (set handles k None) (command.Close k) outcome.Done
   goes_close port next k pending pending' handles x at_k gone others h a =
       let kept = kept_at port k pending h (slice_get handles k) x at_k (a.each k) in (
         (tt, rw kept.1.live refl),
         subst (λ n. Agrees type_of number view size read port next n pending' (λ j. slice_get (set handles k None) j)
             ((command.Close k, outcome.Done) ∷ h)) (sym (length-set handles k None))
             (agrees_close type_of number view size read port next (length handles) k pending pending'
-                (λ j. slice_get handles j) (λ j. slice_get (set handles k None) j) h a kept.1.live
+            (λ j. slice_get handles j) (λ j. slice_get (set handles k None) j) h a kept.1.live
             (rw kept.1.number at gone) (λ w o. others w (λ e. o (e ∙ kept.1.number)))
-                (set_at handles None k (slice_get_within handles k (Some x) at_k)) (set_other handles None k)),
+            (set_at handles None k (slice_get_within handles k (Some x) at_k)) (set_other handles None k)),
       )
 
   -- ---- reads
@@ -192,9 +198,11 @@ module _ {ST SP K P V : Type 0} (type_of : ℕ → K) (number : K → ℕ) (view
       (gives : x.ended ≡ false → (d : Delivery) (ds : List Delivery) → pending x.number ≡ Some (d ∷ ds) →
       (item : Item K P) × IsReading type_of view size read d item
       × (r ≡ reply.Item (item_of number x.needs_ack (has_number x.number) x.single_given item))
-          × (pending' x.number ≡ Some ds)
-      × (x' ≡ record x { single_given = x.single_given || is_single number (has_number x.number) item;
-          ended = ends_at number x.needs_ack (has_number x.number) x.single_given item }))
+      × (pending' x.number ≡ Some ds)
+      × (x' ≡ record x {
+        single_given = x.single_given || is_single number (has_number x.number) item;
+        ended = ends_at number x.needs_ack (has_number x.number) x.single_given item;
+      }))
       (others : (w : Option ℕ) → w ≢ x.number → pending' w ≡ pending w)
       (h : History ST SP K P) (a : Holds type_of number view size read port next pending handles h) where
     abbrev Gone : Outcome ST SP K P → Type 0
@@ -246,12 +254,12 @@ module _ {ST SP K P V : Type 0} (type_of : ℕ → K) (number : K → ℕ) (view
         let first : pending (list_of_handle k h) ≡ Some (d ∷ ds) = read_of.1.left ∙ ap Some some in
         let t = gives still d ds (ap pending read_of.1.number ∙ first) in
         let still_so : nat_lt (last_place number (needs_of k h) (is_numbered k) read_of.0) (length read_of.0) ≡ false =
-            sym read_of.1.ended ∙ still in
+        sym read_of.1.ended ∙ still in
         let item : r ≡ reply.Item (item_of number (needs_of k h) (is_numbered k)
-            (nat_lt (single_place number (is_numbered k) read_of.0) (length read_of.0)) t.0) = t.2
-            ∙ item_same number x.needs_ack (needs_of k h) (has_number x.number) (is_numbered k) x.single_given
-            (nat_lt (single_place number (is_numbered k) read_of.0)
-            (length read_of.0)) t.0 read_of.1.needs read_number read_of.1.given in
+        (nat_lt (single_place number (is_numbered k) read_of.0) (length read_of.0)) t.0) = t.2
+        ∙ item_same number x.needs_ack (needs_of k h) (has_number x.number) (is_numbered k) x.single_given
+        (nat_lt (single_place number (is_numbered k) read_of.0)
+        (length read_of.0)) t.0 read_of.1.needs read_number read_of.1.given in
         rw (next_is, item, length-set handles k (Some x')) (
           read_says _ (next_item type_of number view size read (needs_of k h) (is_numbered k) (delivered port k h)
               (items_of k h) read_of.0 read_of.1.are_read read_of.1.items read_of.1.count d ds t.0 still_so some t.1),
@@ -260,7 +268,7 @@ module _ {ST SP K P V : Type 0} (type_of : ℕ → K) (number : K → ℕ) (view
               (set handles k (Some x')) j) h x x' read_of.0 d ds t.0 a at_k read_of.1 still first t.1
               (rw read_of.1.number at t.3) (λ w n. others w (λ e. n (e ∙ read_of.1.number)))
               (set_at handles (Some x') k (slice_get_within handles k (Some x) at_k)) (set_other handles (Some x') k)
-                  (rw read_number at t.4),
+              (rw read_number at t.4),
         )
 
     pub goes_read_by : Gone (outcome_of r)
@@ -289,27 +297,29 @@ module _ {ST SP K P V : Type 0} (type_of : ℕ → K) (number : K → ℕ) (view
   pub goes_close_at : (port next next' k : ℕ) (pending pending' : Pending) (handles handles' : Handles)
       (x : HandleState) → slice_get handles k ≡ Some (Some x) → handles' ≡ set handles k None → next' ≡ next
       → pending' x.number ≡ None → ((w : Option ℕ) → w ≢ x.number → pending' w ≡ pending w)
-          → StepKeeps type_of number view size read (StepIsRight type_of number view size read number_of wire wire_size
-          port) port next pending handles next' pending' handles' (command.Close k) outcome.Done
+      → StepKeeps type_of number view size read (StepIsRight type_of number view size read number_of wire wire_size
+      port) port next pending handles next' pending' handles' (command.Close k) outcome.Done
   goes_close_at port next next' k pending pending' handles handles' x at_k left next_is gone others =
       rw (left, next_is) (goes_close port next k pending pending' handles x at_k gone others)
 
   pub goes_read_at : (port next next' k : ℕ) (pending pending' : Pending) (handles taken put : Handles)
       (x x' : HandleState) (r : Reply K P) (o : Outcome ST SP K P)
       → slice_get handles k ≡ Some (Some x) → taken ≡ set handles k None → put ≡ set taken k (Some x')
-          → o ≡ outcome_of r → next' ≡ next
+      → o ≡ outcome_of r → next' ≡ next
       → (x.ended ≡ true → (r ≡ reply.End) × (x' ≡ x) × (pending' ≡ pending))
       → (x.ended ≡ false → pending x.number ≡ Some [] → (r ≡ reply.Waits) × (x' ≡ x) × (pending' ≡ pending))
       → (x.ended ≡ false → (d : Delivery) (ds : List Delivery) → pending x.number ≡ Some (d ∷ ds) →
       (item : Item K P) × IsReading type_of view size read d item
       × (r ≡ reply.Item (item_of number x.needs_ack (has_number x.number) x.single_given item))
-          × (pending' x.number ≡ Some ds)
-      × (x' ≡ record x { single_given = x.single_given || is_single number (has_number x.number) item;
-          ended = ends_at number x.needs_ack (has_number x.number) x.single_given item }))
+      × (pending' x.number ≡ Some ds)
+      × (x' ≡ record x {
+        single_given = x.single_given || is_single number (has_number x.number) item;
+        ended = ends_at number x.needs_ack (has_number x.number) x.single_given item;
+      }))
       → ((w : Option ℕ) → w ≢ x.number → pending' w ≡ pending w)
       → StepKeeps type_of number view size read (StepIsRight type_of number view size read number_of wire wire_size
-          port) port next pending handles next' pending' put (command.Read k) o
+      port) port next pending handles next' pending' put (command.Read k) o
   goes_read_at port next next' k pending pending' handles taken put x x' r o at_k took puts told next_is ended waits
       gives others h a =
       rw (puts, took, set_set handles None (Some x') k, told)
-          (goes_read_by port next next' k pending pending' handles x x' r at_k next_is ended waits gives others h a)
+      (goes_read_by port next next' k pending pending' handles x x' r at_k next_is ended waits gives others h a)

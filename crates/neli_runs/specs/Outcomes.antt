@@ -35,7 +35,7 @@ module _ {ST SP RT RP : Type 0} (number_of : ST → ℕ) (wire : SP → Wire) (s
   abbrev pub IsSent : History ST SP RT RP → Command ST SP → Outcome ST SP RT RP → Type 0
   IsSent h (command.Send message_type flags payload) o =
       IsSending (frame_or_refusal number_of wire size port (next_number h)
-          (is_open (next_number h) h) message_type flags payload) o
+      (is_open (next_number h) h) message_type flags payload) o
   IsSent h c o = ⊤
 
 -- ---- what is read
@@ -51,7 +51,7 @@ module _ {K P V : Type 0} (type_of : ℕ → K) (view : P → V) (size : P → �
 abbrev pub WereAnswers : {K P : Type 0} → (K → ℕ) → Bool → Bool → List (Item K P) → List (Item K P) → Type 0
 WereAnswers {K} {P} number_of needs numbered readings given =
     (i : ℕ) (item : Item K P) → slice_get given i ≡ Some item
-        → answer number_of needs numbered readings i ≡ reply.Item item
+    → answer number_of needs numbered readings i ≡ reply.Item item
 
 module _ {K P V : Type 0} (type_of : ℕ → K) (number_of : K → ℕ) (view : P → V) (size : P → ℕ) (read : List ℕ
     → Result V DeError) where
@@ -60,7 +60,7 @@ module _ {K P V : Type 0} (type_of : ℕ → K) (number_of : K → ℕ) (view : 
   abbrev pub IsNextAnswer : Bool → Bool → List Delivery → List (Item K P) → Reply K P → Type 0
   IsNextAnswer needs numbered ds given r =
       (readings : List (Item K P)) × AreReadings type_of view size read ds readings
-          × WereAnswers number_of needs numbered readings given
+      × WereAnswers number_of needs numbered readings given
       × (answer number_of needs numbered readings (length given) ≡ r)
       × (r ≡ reply.Waits → length readings ≡ length ds)
 
@@ -81,7 +81,7 @@ module _ {ST SP K P V : Type 0} (type_of : ℕ → K) (number_of : K → ℕ) (v
   abbrev pub IsReadOf : History ST SP K P → ℕ → Bool → Outcome ST SP K P → Type 0
   IsReadOf h k true o =
       (r : Reply K P) × IsNextAnswer type_of number_of view size read (needs_of k h) (is_numbered k)
-          (deliveries port k h) (items_of k h) r
+      (deliveries port k h) (items_of k h) r
       × (o ≡ outcome_of r)
   IsReadOf h k false o = o ≡ outcome.NoHandle
 

@@ -14,7 +14,7 @@ or_else None other = other
 abbrev pub table_in : Schema → TableId → Option Table
 table_in schema id =
     or_else (find (λ (table : Table). nat_eq table.id.0 id.0) schema.own.now)
-        (find (λ (table : Table). nat_eq table.id.0 id.0) schema.tables.now)
+    (find (λ (table : Table). nat_eq table.id.0 id.0) schema.tables.now)
 
 -- the row of this number, or else that of every number
 abbrev pub row_in : Table → ℕ → Option Row

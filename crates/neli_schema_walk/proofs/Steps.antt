@@ -38,21 +38,21 @@ module _ (c : Context) where
     next s at r is room seen =
         let one : 10 - length s ≡ suc (9 - length s) = omega (arith, room) in
         is ∙ ap (λ (n : ℕ). s ++ steps_at n c at) one ∙ ap (λ (x : List Step). s ++ x)
-            (steps-at (9 - length s) at (stepped_seen r) seen)
+        (steps-at (9 - length s) at (stepped_seen r) seen)
 
     -- no attribute is there
     pub follows-none : (s : List Step) (at : At) (r : Option (Step × Option Place)) → Follows s at → length s < 10
         → stepped_seen r ≡ step_at c at → r ≡ None → s ≡ steps_at 10 c start
     follows-none s at r is room seen none =
         sym (next s at r is room seen ∙ ap (λ (x : Option (Step × Option Place)). s ++ steps_of
-            (steps_at (9 - length s) c) (stepped_seen x)) none ∙ append-nil s)
+        (steps_at (9 - length s) c) (stepped_seen x)) none ∙ append-nil s)
 
     -- the last step
     pub follows-last : (s : List Step) (at : At) (r : Option (Step × Option Place)) (step : Step) → Follows s at
         → length s < 10 → stepped_seen r ≡ step_at c at → r ≡ Some (step, None) → s ++ step ∷ [] ≡ steps_at 10 c start
     follows-last s at r step is room seen last =
         sym (next s at r is room seen ∙ ap (λ (x : Option (Step × Option Place)). s ++ steps_of
-            (steps_at (9 - length s) c) (stepped_seen x)) last)
+        (steps_at (9 - length s) c) (stepped_seen x)) last)
 
     -- a step further in
     pub follows-more : (s : List Step) (at : At) (r : Option (Step × Option Place)) (step : Step) (inner : Place)

@@ -77,9 +77,9 @@ left-last c path (level ∷ levels) last =
     let deeper = path ++ level.inside ∷ [] in
     ap (λ (x : List Seen). x ++ level_items c path level) (left-last c deeper levels last)
     ∙ append_assoc (level_items c (deeper ++ insides levels) last) (left_items c deeper levels)
-        (level_items c path level)
+    (level_items c path level)
     ∙ ap (λ (p : List Step). level_items c p last ++ (left_items c deeper levels ++ level_items c path level))
-        (append_assoc path (level.inside ∷ []) (insides levels))
+    (append_assoc path (level.inside ∷ []) (insides levels))
 
 -- nothing is left of it
 pub left-end : (c : Context) (levels : List Level) (last : Level) → last.rest.now ≡ []
@@ -87,9 +87,9 @@ pub left-end : (c : Context) (levels : List Level) (last : Level) → last.rest.
 left-end c levels last none =
     left-last c [] levels last
     ∙ ap (λ (cut : Cut Lent). walked c (9 - length (insides levels)) (insides levels) last.table last.bytes.now cut
-        ++ left_items c [] levels) (attributes-end last.rest.now none)
+    ++ left_items c [] levels) (attributes-end last.rest.now none)
     ∙ ap (λ (x : List Seen). x ++ left_items c [] levels)
-        (walked-none c (insides levels) last.table last.bytes.now (9 - length (insides levels)) None)
+    (walked-none c (insides levels) last.table last.bytes.now (9 - length (insides levels)) None)
 
 -- a list of which nothing is left may be taken out
 pub left-out : (c : Context) (levels old : List Level) (last : Level) → old ≡ levels ++ last ∷ [] → last.rest.now ≡ []
@@ -105,13 +105,13 @@ left-nest c levels new nest table payload new_is table_is bytes_is rest_is =
     ap (left_items c []) new_is
     ∙ left-last c [] levels nest
     ∙ ap (λ (n : ℕ). walked c (9 - n) (insides levels) nest.table nest.bytes.now (attributes_of nest.rest.now)
-        ++ left_items c [] levels) (length-map levels (λ (l : Level). l.inside))
+    ++ left_items c [] levels) (length-map levels (λ (l : Level). l.inside))
     ∙ ap (λ (t : Table). walked c (9 - length levels) (insides levels) t nest.bytes.now (attributes_of nest.rest.now)
-        ++ left_items c [] levels) table_is
+    ++ left_items c [] levels) table_is
     ∙ ap (λ (b : List ℕ). walked c (9 - length levels) (insides levels) table b (attributes_of nest.rest.now)
-        ++ left_items c [] levels) bytes_is
+    ++ left_items c [] levels) bytes_is
     ∙ ap (λ (b : List ℕ). walked c (9 - length levels) (insides levels) table (nested_bytes table payload)
-        (attributes_of b) ++ left_items c [] levels) rest_is
+    (attributes_of b) ++ left_items c [] levels) rest_is
 
 -- a fault is left of it
 pub left-fault : (c : Context) (levels : List Level) (last : Level) (e : DeError) → last.rest.now ≢ []
@@ -120,9 +120,9 @@ pub left-fault : (c : Context) (levels : List Level) (last : Level) (e : DeError
 left-fault c levels last e any is =
     left-last c [] levels last
     ∙ ap (λ (cut : Cut Lent). walked c (9 - length (insides levels)) (insides levels) last.table last.bytes.now cut
-        ++ left_items c [] levels) (attributes-fault last.rest.now e any is)
+    ++ left_items c [] levels) (attributes-fault last.rest.now e any is)
     ∙ ap (λ (x : List Seen). x ++ left_items c [] levels)
-        (walked-none c (insides levels) last.table last.bytes.now (9 - length (insides levels)) (Some e))
+    (walked-none c (insides levels) last.table last.bytes.now (9 - length (insides levels)) (Some e))
 
 -- ---- an attribute is left of it
 
@@ -157,7 +157,7 @@ module _ (c : Context) (levels : List Level) (last : Level) (rest : Bor (List �
       ++ left_items c [] levels
   left-before =
       left-last c [] levels last ∙ ap (λ (cut : Cut Lent). at_last cut ++ left_items c [] levels)
-          (attributes-more last.rest.now rest.now a is)
+      (attributes-more last.rest.now rest.now a is)
 
   left-after : (step : Step) → at_last (attributes_of rest.now) ++ left_items c [] levels ≡ left_items c [] (after step)
   left-after step = sym (left-last c [] levels (later_level last rest step))
@@ -168,9 +168,9 @@ module _ (c : Context) (levels : List Level) (last : Level) (rest : Bor (List �
   left-closed step e =
       left-before
       ∙ ap (λ (x : List Seen). x ++ left_items c [] levels)
-          (closed-at c (insides levels) last.table last.bytes.now a (attributes_of rest.now) depth e)
+      (closed-at c (insides levels) last.table last.bytes.now a (attributes_of rest.now) depth e)
       ∙ ap (λ (x : List Seen). attribute_item last.table (insides levels) a
-          (closed (shape_in c last.table last.bytes.now a)) ∷ x) (left-after step)
+      (closed (shape_in c last.table last.bytes.now a)) ∷ x) (left-after step)
 
   left-more : (step : Step) (deeper : ℕ) → depth ≡ suc deeper
       → left_items c [] (levels ++ last ∷ []) ≡ attribute_item last.table (insides levels) a
@@ -179,13 +179,13 @@ module _ (c : Context) (levels : List Level) (last : Level) (rest : Bor (List �
       ++ left_items c [] (after step))
   left-more step deeper e =
       let nested = nest_items (walked c deeper (insides levels ++ step_of last.table a ∷ []))
-          (shape_in c last.table last.bytes.now a) a.1 in
+      (shape_in c last.table last.bytes.now a) a.1 in
       let item = attribute_item last.table (insides levels) a (shape_in c last.table last.bytes.now a) in
       left-before
       ∙ ap (λ (x : List Seen). x ++ left_items c [] levels)
-          (more-at c (insides levels) last.table last.bytes.now a (attributes_of rest.now) depth deeper e)
+      (more-at c (insides levels) last.table last.bytes.now a (attributes_of rest.now) depth deeper e)
       ∙ ap (λ (x : List Seen). item ∷ x) (append_assoc nested (at_last (attributes_of rest.now))
-          (left_items c [] levels) ∙ ap (λ (x : List Seen). nested ++ x) (left-after step))
+      (left_items c [] levels) ∙ ap (λ (x : List Seen). nested ++ x) (left-after step))
 
   -- what is said of it where its list is the tenth, and where it is not
   pub given-full : (shape : Shaped) (new : List Level) → length levels ≡ 9
@@ -196,7 +196,7 @@ module _ (c : Context) (levels : List Level) (last : Level) (rest : Bor (List �
       let inner : length (insides levels) ≡ length levels = length-map levels (λ (l : Level). l.inside) in
       sym (left-closed (step_of last.table a) (omega (arith, inner, nine))
       ∙ ap (λ (s : Shaped). attribute_item last.table (insides levels) a s ∷ left_items c []
-          (after (step_of last.table a))) (sym is_closed)
+      (after (step_of last.table a))) (sym is_closed)
       ∙ ap (λ (x : List Seen). attribute_item last.table (insides levels) a shape ∷ x) (sym same))
 
   pub given-more : (shape : Shaped) (new : List Level) → length levels < 9
@@ -208,18 +208,18 @@ module _ (c : Context) (levels : List Level) (last : Level) (rest : Bor (List �
   given-more shape new fewer is_open entered =
       let inner : length (insides levels) ≡ length levels = length-map levels (λ (l : Level). l.inside) in
       let more : length (after (step_of last.table a)) ≡ length levels + 1 =
-          length-append levels (later_level last rest (step_of last.table a) ∷ []) in
+      length-append levels (later_level last rest (step_of last.table a) ∷ []) in
       let path : insides (after (step_of last.table a)) ≡ insides levels ++ step_of last.table a ∷ [] =
-          map-append (λ (l : Level). l.inside) levels (later_level last rest (step_of last.table a) ∷ []) in
+      map-append (λ (l : Level). l.inside) levels (later_level last rest (step_of last.table a) ∷ []) in
       let deeper = 9 - length (after (step_of last.table a)) in
       let same : left_items c [] new ≡ nest_items (walked c deeper (insides levels ++ step_of last.table a ∷ []))
-          (shape_in c last.table last.bytes.now a) a.1 ++ left_items c [] (after (step_of last.table a)) =
+      (shape_in c last.table last.bytes.now a) a.1 ++ left_items c [] (after (step_of last.table a)) =
       entered ∙ ap (λ (p : List Step). nest_items (walked c deeper p) (shape_in c last.table last.bytes.now a) a.1
-          ++ left_items c [] (after (step_of last.table a))) path in
+      ++ left_items c [] (after (step_of last.table a))) path in
       sym (left-more (step_of last.table a) deeper (omega (arith, inner, more, fewer))
       ∙ ap (λ (s : Shaped). attribute_item last.table (insides levels) a s ∷
-          (nest_items (walked c deeper (insides levels ++ step_of last.table a ∷ []))
-          (shape_in c last.table last.bytes.now a) a.1 ++ left_items c [] (after (step_of last.table a)))) (sym is_open)
+      (nest_items (walked c deeper (insides levels ++ step_of last.table a ∷ []))
+      (shape_in c last.table last.bytes.now a) a.1 ++ left_items c [] (after (step_of last.table a)))) (sym is_open)
       ∙ ap (λ (x : List Seen). attribute_item last.table (insides levels) a shape ∷ x) (sym same))
 
 -- ---- what a step says
@@ -241,7 +241,7 @@ pub step-said : (table : Table) (a : Lent) (step : Step) (row : Option Row) → 
 step-said table a step row number_is row_is name_is =
     ap (λ n. record step { number = n }) number_is
     ∙ ap (λ n. record step { number = a.0.kind.nla_type; name = n }) (name_is
-        ∙ ap (λ (r : Option Row). option_map (λ (x : Row). x.name) r) row_is)
+    ∙ ap (λ (r : Option Row). option_map (λ (x : Row). x.name) r) row_is)
 
 nine-or-fewer : (n : ℕ) → n < 10 → (n ≡ 9) ⊎ (n < 9)
 nine-or-fewer n room = by (ltb n 9) refl
@@ -270,11 +270,11 @@ module _ (c : Context) (levels : List Level) (last : Level) (rest : Bor (List �
   given-attribute step path row payload found shape pushed new room path_is step_is row_is payload_is found_is pushed_is
       full entered =
       ap (λ (p : List Step). attribute_seen_at p row payload shape ∷ left_items c [] new) (path_is
-          ∙ ap (λ (s : Step). insides levels ++ s ∷ []) step_is)
+      ∙ ap (λ (s : Step). insides levels ++ s ∷ []) step_is)
       ∙ ap (λ (r : Option Row). attribute_seen_at (insides levels ++ step_of last.table a ∷ []) r payload shape
-          ∷ left_items c [] new) row_is
+      ∷ left_items c [] new) row_is
       ∙ ap (λ (p : List ℕ). attribute_seen_at (insides levels ++ step_of last.table a ∷ [])
-          (row_in last.table a.0.kind.nla_type) p shape ∷ left_items c [] new) payload_is
+      (row_in last.table a.0.kind.nla_type) p shape ∷ left_items c [] new) payload_is
       ∙ by (nine-or-fewer (length levels) room)
     where
       pushed_at : pushed ≡ later (step_of last.table a)
@@ -292,11 +292,11 @@ module _ (c : Context) (levels : List Level) (last : Level) (rest : Bor (List �
       by (inl nine) =
           let f = full (omega (arith, more, nine)) in
           given-full c levels last rest a is shape new nine (f.0 ∙ ap closed found_at) (f.1
-              ∙ ap (left_items c []) pushed_at)
+          ∙ ap (left_items c []) pushed_at)
       by (inr fewer) =
           let e = entered (omega (arith, more, fewer)) in
           given-more c levels last rest a is shape new fewer (e.0 ∙ found_at) (e.1
-              ∙ ap (λ (xs : List Level). nested_in xs found payload) pushed_at
-              ∙ ap (λ (s : Shaped). nested_in (later (step_of last.table a)) s payload) found_at
-              ∙ ap (λ (p : List ℕ). nested_in (later (step_of last.table a))
-              (shape_in c last.table last.bytes.now a) p) payload_is)
+          ∙ ap (λ (xs : List Level). nested_in xs found payload) pushed_at
+          ∙ ap (λ (s : Shaped). nested_in (later (step_of last.table a)) s payload) found_at
+          ∙ ap (λ (p : List ℕ). nested_in (later (step_of last.table a))
+          (shape_in c last.table last.bytes.now a) p) payload_is)

@@ -63,7 +63,7 @@ zero_text_shape payload = if ends_in_zero payload then text_shape payload else E
 abbrev pub address_shape : ℕ → List ℕ → Shaped
 address_shape family payload =
     if family == 2 then of_size 4 payload shape.Ipv4 else (if family == 10 then of_size 16 payload shape.Ipv6
-        else Ok shape.Bytes)
+    else Ok shape.Bytes)
 
 -- ---- tables
 

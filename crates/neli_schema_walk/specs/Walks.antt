@@ -82,7 +82,7 @@ nest_items inner shaped payload = []
 unfoldable pub walked : Context → ℕ → List Step → Table → List ℕ → Cut Lent → List Seen
 walked context zero path table list cut =
     flat_map (λ (a : Lent). attribute_item table path a (closed (shape_in context table list a)) ∷ []) cut.0
-        ++ fault_items path cut.1
+    ++ fault_items path cut.1
 walked context (suc depth) path table list cut =
     flat_map (λ (a : Lent). attribute_item table path a (shape_in context table list a)
     ∷ nest_items (walked context depth (path ++ step_of table a ∷ [])) (shape_in context table list a) a.1) cut.0

@@ -19,10 +19,10 @@ pub escaped_step :
     → (done ++ escaped_char c) ++ escaped rest ≡ all
 escaped_step done bs rest all c text is so_far =
     append_assoc done (escaped_char c) (escaped rest) ∙ ap (λ (l : List ℕ). done ++ l)
-        (sym (escaped_first bs rest c text is)) ∙ so_far
+    (sym (escaped_first bs rest c text is)) ∙ so_far
 
 -- of a text with nothing left all is written
 pub escaped_end : (done bs all : List ℕ) → length bs ≡ 0 → done ++ escaped bs ≡ all → done ≡ all
 escaped_end done bs all empty so_far =
     sym (append-nil done) ∙ ap (λ (l : List ℕ). done ++ l)
-        (sym (ap escaped (nil_from_length bs empty) ∙ ap (flat_map escaped_char) chars-nil)) ∙ so_far
+    (sym (ap escaped (nil_from_length bs empty) ∙ ap (flat_map escaped_char) chars-nil)) ∙ so_far

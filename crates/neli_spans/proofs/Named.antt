@@ -50,7 +50,7 @@ released_one first n d d' ds s ss more less same h = record {
     within_of : ((i j : ℕ) (t : Span) (x : Datagram) → slice_get (s ∷ ss) i ≡ Some t → t.datagram ≡ first + j
         → slice_get (d ∷ ds) j ≡ Some x → (t.start ≤ t.end) × (t.end ≤ length x.bytes.items))
         → (i j : ℕ) (t : Span) (x : Datagram) → slice_get ss i ≡ Some t → t.datagram ≡ first + j
-            → slice_get (d' ∷ ds) j ≡ Some x → (t.start ≤ t.end) × (t.end ≤ length x.bytes.items)
+        → slice_get (d' ∷ ds) j ≡ Some x → (t.start ≤ t.end) × (t.end ≤ length x.bytes.items)
     within_of g i zero t x at is there =
         let f : d' ≡ x = cc in
         let e : d.bytes ≡ x.bytes = sym same ∙ ap (λ y. y.bytes) f in
@@ -64,7 +64,7 @@ laid_push n [] x = (let s : n + 0 ≡ n = omega arith in rw s (append-nil (copie
 laid_push n (d ∷ ds) x =
     let s : n + suc (length ds) ≡ suc n + length ds = omega arith in
     rw s (ap (λ l. copies d.spans n ++ l) (laid_push (suc n) ds x)
-        ∙ sym (append_assoc (copies d.spans n) (serials_by_span (suc n) ds) (copies x.spans (suc n + length ds))))
+    ∙ sym (append_assoc (copies d.spans n) (serials_by_span (suc n) ds) (copies x.spans (suc n + length ds))))
 
 of_serials : (serial : ℕ) (ss : List Span) → ((i : ℕ) (s : Span) → slice_get ss i ≡ Some s → s.datagram ≡ serial)
     → map (λ s. s.datagram) ss ≡ copies (length ss) serial
@@ -130,8 +130,10 @@ apart_join : (serial : ℕ) (s : Span) (old new : List Span) → s.datagram < se
     → ((i : ℕ) (t : Span) → slice_get new i ≡ Some t → t.datagram ≡ serial) → Apart s old → AreApart new
     → Apart s (old ++ new)
 apart_join serial s [] new lt low of h g = apart_from serial s new lt of g
-apart_join serial s (t ∷ ts) new lt low of h g = (h.0,
-    apart_join serial t ts new (low 0 t refl) (λ i u at. low (suc i) u at) of h.1 g)
+apart_join serial s (t ∷ ts) new lt low of h g = (
+  h.0,
+  apart_join serial t ts new (low 0 t refl) (λ i u at. low (suc i) u at) of h.1 g,
+)
 
 apart_append : (serial : ℕ) (old new : List Span) → ((i : ℕ) (t : Span) → slice_get old i ≡ Some t
     → t.datagram < serial) → ((i : ℕ) (t : Span) → slice_get new i ≡ Some t → t.datagram ≡ serial) → AreApart old
@@ -146,8 +148,11 @@ pub kept : (first : ℕ) (ds ds' : List Datagram) (x : Datagram) (old new : List
     → AreOf (first + length ds) (length x.bytes.items) new → NamesFrom first ds old → NamesFrom first ds' (old ++ new)
 kept first ds ds' x old new is few some long of h = rw is (record {
   fits = (let a = length-append ds (x ∷ []) in omega (arith, a, few));
-  serials = map-append (λ s. s.datagram) old new ∙ (rw (h.serials,
-      of_serials (first + length ds) new (λ i s at. (of.one i s at).0), long) (sym (laid_push first ds x)));
+  serials = map-append (λ s. s.datagram) old new ∙ (rw (
+    h.serials,
+    of_serials (first + length ds) new (λ i s at. (of.one i s at).0),
+    long,
+  ) (sym (laid_push first ds x)));
   some = some_of;
   apart = apart_append (first + length ds) old new (λ i t at. (named_bound first ds old i t h at).1)
       (λ i t at. (of.one i t at).0) h.apart of.apart;
@@ -209,7 +214,7 @@ released_set first d x d' es items s ss is read bytes less more h =
 pub span_in : (first : ℕ) (ds : List Datagram) (ss : List Span) (i : ℕ) (s : Span) → NamesFrom first ds ss
     → slice_get ss i ≡ Some s
     → (x : Datagram) × (slice_get ds (s.datagram - first) ≡ Some x) × (first ≤ s.datagram)
-        × (s.datagram - first < length ds) × (s.start ≤ s.end) × (s.end ≤ length x.bytes.items)
+    × (s.datagram - first < length ds) × (s.start ≤ s.end) × (s.end ≤ length x.bytes.items)
 span_in first ds ss i s h at =
     let b = named_bound first ds ss i s h at in
     let b0 = b.0 in let b1 = b.1 in
@@ -232,7 +237,7 @@ pub text_popped : (first : ℕ) (d : Datagram) (es items items' : List Datagram)
     (t : Span) → items ≡ d ∷ es → items' ≡ drop 1 items → d.spans ≡ 1 → NamesFrom first items (s ∷ ss)
     → slice_get ss i ≡ Some t
     → span_bytes_in t (slice_get items' (t.datagram - (first + 1)))
-        ≡ span_bytes_in t (slice_get items (t.datagram - first))
+    ≡ span_bytes_in t (slice_get items (t.datagram - first))
 text_popped first d es items items' s ss i t is gone one h at =
     let f : items' ≡ es = gone ∙ ap (drop 1) is in
     let b = (named_bound (first + 1) items' ss i t (released_pop first d es items items' s ss is gone one h) at).0 in

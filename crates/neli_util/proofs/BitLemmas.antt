@@ -21,13 +21,20 @@ zeros k = let z : ℕ = 0 in replicate k z
 
 get_or-zeros : (k i : ℕ) → get_or (zeros k) i 0 ≡ 0
 get_or-zeros k i =
-    elim (cases_lt i k) [ inl h ↦ get_or-replicate k i 0 0 h | inr h ↦ get_or_past (zeros k) i 0
-        (omega (arith, length-replicate {A = ℕ} k 0)) ]
+    elim (cases_lt i k) [
+      | inl h ↦ get_or-replicate k i 0 0 h
+      | inr h ↦ get_or_past (zeros k) i 0
+          (omega (arith, length-replicate {A = ℕ} k 0))
+    ]
 
 length-resized : (ws : List ℕ) (count : ℕ) → length (take count ws ++ zeros (count - length ws)) ≡ count
 length-resized ws count =
-    omega (arith, length-append (take count ws) (zeros (count - length ws)), length-take count ws,
-        length-replicate {A = ℕ} (count - length ws) 0)
+    omega (
+      arith,
+      length-append (take count ws) (zeros (count - length ws)),
+      length-take count ws,
+      length-replicate {A = ℕ} (count - length ws) 0,
+    )
 
 get_or-resized : (ws : List ℕ) (count i : ℕ) → i < count
     → get_or (take count ws ++ zeros (count - length ws)) i 0 ≡ get_or ws i 0
@@ -46,7 +53,7 @@ get_or-resized ws count i low =
 pub has_bit_past : (ws : List ℕ) (n : ℕ) → 32 * length ws < n → has_bit ws n ≡ false
 has_bit_past ws n above =
     ap (λ w. eqb (bit_at w ((n - 1) % 32)) 1) (get_or_past ws ((n - 1) / 32) 0 (omega arith))
-        ∙ ap (λ b. eqb b 1) (bit_at-zero ((n - 1) % 32))
+    ∙ ap (λ b. eqb b 1) (bit_at-zero ((n - 1) % 32))
 
 -- the numbers of an array are those whose bit is set
 pub has-numbers : (ws : List ℕ) (n : ℕ) → 0 < n → n ≤ 32 * length ws
@@ -54,15 +61,15 @@ pub has-numbers : (ws : List ℕ) (n : ℕ) → 0 < n → n ≤ 32 * length ws
 has-numbers ws n some within =
     let low : 1 ≤ n = some in
     has-filter (has_bit ws) (range_with_len 1 (32 * length ws)) n
-        ∙ ap (λ b. has_bit ws n && b) (has-range (32 * length ws) 1 n
-        ∙ and_from (leb 1 n) (ltb n (1 + 32 * length ws)) (le-leb 1 n low)
-        (lt-ltb n (1 + 32 * length ws) (omega arith))) ∙ and_true (has_bit ws n)
+    ∙ ap (λ b. has_bit ws n && b) (has-range (32 * length ws) 1 n
+    ∙ and_from (leb 1 n) (ltb n (1 + 32 * length ws)) (le-leb 1 n low)
+    (lt-ltb n (1 + 32 * length ws) (omega arith))) ∙ and_true (has_bit ws n)
 
 -- 0 is no number of an array
 pub has_no_zero : (ws : List ℕ) → has (filter (has_bit ws) (range_with_len 1 (32 * length ws))) 0 ≡ false
 has_no_zero ws =
     has-filter (has_bit ws) (range_with_len 1 (32 * length ws)) 0
-        ∙ ap (λ b. has_bit ws 0 && b) (has-range (32 * length ws) 1 0) ∙ and_false (has_bit ws 0)
+    ∙ ap (λ b. has_bit ws 0 && b) (has-range (32 * length ws) 1 0) ∙ and_false (has_bit ws 0)
 
 -- ---- arrays
 
@@ -75,14 +82,14 @@ numbers_resized ws count =
     let new = take count ws ++ replicate (count - length ws) 0 in
     let agree : All (λ n. has_bit new n ≡ stays n) (range_with_len 1 c) =
     All-weaker (λ k. (1 ≤ k) × (k < 1 + c)) (λ n. has_bit new n ≡ stays n)
-        (λ n h. ap (λ w. eqb (bit_at w ((n - 1) % 32)) 1)
-        (get_or-resized ws count ((n - 1) / 32) (omega (arith, h.0, h.1)))
-        ∙ sym (ap (λ b. has_bit ws n && b) (le-leb n c (omega (arith, h.1))) ∙ and_true (has_bit ws n)))
-        (range_with_len 1 c) (range_within c 1) in
+    (λ n h. ap (λ w. eqb (bit_at w ((n - 1) % 32)) 1)
+    (get_or-resized ws count ((n - 1) / 32) (omega (arith, h.0, h.1)))
+    ∙ sym (ap (λ b. has_bit ws n && b) (le-leb n c (omega (arith, h.1))) ∙ and_true (has_bit ws n)))
+    (range_with_len 1 c) (range_within c 1) in
     filter_agree_on (has_bit new) stays (range_with_len 1 c) agree
-        ∙ filter_ranges stays c (32 * length ws) (λ k h. ap (λ b. has_bit ws k && b) (lt-leb k c h)
-        ∙ and_false (has_bit ws k)) (λ k h. and_left (has_bit ws k) (leb k c) (has_bit_past ws k h))
-        ∙ sym (filter-filter (has_bit ws) (λ n. leb n c) (range_with_len 1 (32 * length ws)))
+    ∙ filter_ranges stays c (32 * length ws) (λ k h. ap (λ b. has_bit ws k && b) (lt-leb k c h)
+    ∙ and_false (has_bit ws k)) (λ k h. and_left (has_bit ws k) (leb k c) (has_bit_past ws k h))
+    ∙ sym (filter-filter (has_bit ws) (λ n. leb n c) (range_with_len 1 (32 * length ws)))
 
 same_array : (c d : ℕ) (ns ms : List ℕ) → c ≡ d → ns ≡ ms
     → (let a : BitArray = record { capacity = c; numbers = ns } in a)
@@ -96,7 +103,7 @@ array_of-resized ws count =
     let new = take count ws ++ replicate (count - length ws) 0 in
     let long : 32 * length new ≡ 32 * count = ap (λ n. 32 * n) (length-resized ws count) in
     same_array (32 * length new) (32 * count) _ _ long (ap (λ n. filter (has_bit new) (range_with_len 1 n)) long
-        ∙ numbers_resized ws count)
+    ∙ numbers_resized ws count)
 
 -- the bit of a number that is set, and all others
 has_bit-set : (ws : List ℕ) (n k : ℕ) → 0 < n → n ≤ 32 * length ws → 0 < k
@@ -113,19 +120,19 @@ has_bit-set ws n k some within low =
       | inl h ↦
           let here : bit_at (get_or (set ws q word) ((k - 1) / 32) 0) ((k - 1) % 32) ≡ 1 =
           ap (λ m. bit_at (get_or (set ws q word) ((m - 1) / 32) 0) ((m - 1) % 32)) h
-              ∙ ap (λ v. bit_at v r) (get_or-set_same ws q word 0 there) ∙ bit_at_set_same w32 w r inside in
+          ∙ ap (λ v. bit_at v r) (get_or-set_same ws q word 0 there) ∙ bit_at_set_same w32 w r inside in
           eq-eqb (bit_at (get_or (set ws q word) ((k - 1) / 32) 0) ((k - 1) % 32)) 1 here
-              ∙ sym (or_right (has_bit ws k) (eqb k n) (eq-eqb k n h))
+          ∙ sym (or_right (has_bit ws k) (eqb k n) (eq-eqb k n h))
       | inr h ↦
           let differs : (has_bit ws k || eqb k n) ≡ has_bit ws k = ap (λ b. has_bit ws k || b) (ne_eqb k n h)
-              ∙ or_false (has_bit ws k) in
+          ∙ or_false (has_bit ws k) in
           elim (cases_eq ((k - 1) / 32) q) [
             | inl e ↦
                 let other : (k - 1) % 32 ≢ r = λ f. h (omega (arith, e, f)) in
                 ap (λ j. eqb (bit_at (get_or (set ws q word) j 0) ((k - 1) % 32)) 1) e
-                    ∙ ap (λ v. eqb (bit_at v ((k - 1) % 32)) 1) (get_or-set_same ws q word 0 there)
-                    ∙ ap (λ b. eqb b 1) (bit_at_set_other w32 w r inside ((k - 1) % 32) other)
-                    ∙ sym (ap (λ j. eqb (bit_at (get_or ws j 0) ((k - 1) % 32)) 1) e) ∙ sym differs
+                ∙ ap (λ v. eqb (bit_at v ((k - 1) % 32)) 1) (get_or-set_same ws q word 0 there)
+                ∙ ap (λ b. eqb b 1) (bit_at_set_other w32 w r inside ((k - 1) % 32) other)
+                ∙ sym (ap (λ j. eqb (bit_at (get_or ws j 0) ((k - 1) % 32)) 1) e) ∙ sym differs
             | inr e ↦ ap (λ v. eqb (bit_at v ((k - 1) % 32)) 1) (get_or-set_other ws q ((k - 1) / 32) word 0 e)
                 ∙ sym differs
           ]
@@ -139,14 +146,14 @@ array_of-set ws n some within =
     let new = set ws ((n - 1) / 32) (bit_or (get_or ws ((n - 1) / 32) 0) (1 * 2 ^ ((n - 1) % 32) % 2 ^ 32)) in
     let c = 32 * length ws in
     let long : 32 * length new ≡ c = ap (λ n. 32 * n) (length-set ws ((n - 1) / 32)
-        (bit_or (get_or ws ((n - 1) / 32) 0) (1 * 2 ^ ((n - 1) % 32) % 2 ^ 32))) in
+    (bit_or (get_or ws ((n - 1) / 32) 0) (1 * 2 ^ ((n - 1) % 32) % 2 ^ 32))) in
     let numbers = filter (has_bit ws) (range_with_len 1 c) in
     let agree : All (λ k. has_bit new k ≡ (has numbers k || eqb k n)) (range_with_len 1 c) =
     All-weaker (λ k. (1 ≤ k) × (k < 1 + c)) (λ k. has_bit new k ≡ (has numbers k || eqb k n))
-        (λ k h. has_bit-set ws n k some within h.0 ∙ sym
-        (ap (λ b. b || eqb k n) (has-numbers ws k h.0 (omega (arith, h.1))))) (range_with_len 1 c) (range_within c 1) in
+    (λ k h. has_bit-set ws n k some within h.0 ∙ sym
+    (ap (λ b. b || eqb k n) (has-numbers ws k h.0 (omega (arith, h.1))))) (range_with_len 1 c) (range_within c 1) in
     same_array (32 * length new) c _ _ long (ap (λ m. filter (has_bit new) (range_with_len 1 m)) long
-        ∙ filter_agree_on (has_bit new) (λ k. has numbers k || eqb k n) (range_with_len 1 c) agree)
+    ∙ filter_agree_on (has_bit new) (λ k. has numbers k || eqb k n) (range_with_len 1 c) agree)
 
 -- to set 0 changes nothing
 pub with_number-zero : (ws : List ℕ) → array_of ws ≡ with_number 0 (array_of ws)
@@ -155,8 +162,8 @@ with_number-zero ws =
     let numbers = filter (has_bit ws) (range_with_len 1 c) in
     let agree : All (λ k. has_bit ws k ≡ (has numbers k || eqb k 0)) (range_with_len 1 c) =
     All-weaker (λ k. (1 ≤ k) × (k < 1 + c)) (λ k. has_bit ws k ≡ (has numbers k || eqb k 0))
-        (λ k h. sym (ap (λ b. has numbers k || b) (ne_eqb k 0 (λ e. omega (arith, e, h.0))) ∙ or_false (has numbers k)
-        ∙ has-numbers ws k h.0 (omega (arith, h.1)))) (range_with_len 1 c) (range_within c 1) in
+    (λ k h. sym (ap (λ b. has numbers k || b) (ne_eqb k 0 (λ e. omega (arith, e, h.0))) ∙ or_false (has numbers k)
+    ∙ has-numbers ws k h.0 (omega (arith, h.1)))) (range_with_len 1 c) (range_within c 1) in
     same_array c c _ _ refl (filter_agree_on (has_bit ws) (λ k. has numbers k || eqb k 0) (range_with_len 1 c) agree)
 
 -- an array's numbers rise
@@ -168,5 +175,5 @@ numbers_rise ws = IsStrictlyIncreasing-filter (has_bit ws) (range_with_len 1 (32
 pub numbers_within : (ws : List ℕ) → All (λ n. (0 < n) × (n ≤ 32 * length ws)) (array_of ws).numbers
 numbers_within ws =
     All-filter (has_bit ws) (λ n. (0 < n) × (n ≤ 32 * length ws)) (range_with_len 1 (32 * length ws))
-        (All-weaker (λ k. (1 ≤ k) × (k < 1 + 32 * length ws)) (λ n. (0 < n) × (n ≤ 32 * length ws))
-        (λ k h. (h.0, omega (arith, h.1))) (range_with_len 1 (32 * length ws)) (range_within (32 * length ws) 1))
+    (All-weaker (λ k. (1 ≤ k) × (k < 1 + 32 * length ws)) (λ n. (0 < n) × (n ≤ 32 * length ws))
+    (λ k h. (h.0, omega (arith, h.1))) (range_with_len 1 (32 * length ws)) (range_within (32 * length ws) 1))

@@ -24,10 +24,13 @@ pub filter-filter : (p q : ℕ → Bool) (xs : List ℕ) → filter q (filter p 
 filter-filter p q [] = refl
 filter-filter p q (x ∷ xs) =
     let step : (b : Bool) → filter q (cond b (x ∷ filter p xs) (filter p xs))
-        ≡ cond (b && q x) (x ∷ filter (λ y. p y && q y) xs) (filter (λ y. p y && q y) xs) =
-        λ b. elim b as (λ v. filter q (cond v (x ∷ filter p xs) (filter p xs))
-        ≡ cond (v && q x) (x ∷ filter (λ y. p y && q y) xs) (filter (λ y. p y && q y) xs)) [ true ↦ ap
-        (λ ys. cond (q x) (x ∷ ys) ys) (filter-filter p q xs) | false ↦ filter-filter p q xs ] in
+    ≡ cond (b && q x) (x ∷ filter (λ y. p y && q y) xs) (filter (λ y. p y && q y) xs) =
+    λ b. elim b as (λ v. filter q (cond v (x ∷ filter p xs) (filter p xs))
+    ≡ cond (v && q x) (x ∷ filter (λ y. p y && q y) xs) (filter (λ y. p y && q y) xs)) [
+      | true ↦ ap
+          (λ ys. cond (q x) (x ∷ ys) ys) (filter-filter p q xs)
+      | false ↦ filter-filter p q xs
+    ] in
     step (p x)
 
 -- two tests that agree on a list's elements keep the same ones
@@ -36,14 +39,14 @@ filter_agree_on p q [] h = refl
 filter_agree_on p q (x ∷ xs) h =
     let rest = filter_agree_on p q xs (All-tail (λ x. p x ≡ q x) x xs h) in
     ap (λ b. cond b (x ∷ filter p xs) (filter p xs)) (All-head (λ x. p x ≡ q x) x xs h)
-        ∙ ap (λ ys. cond (q x) (x ∷ ys) ys) rest
+    ∙ ap (λ ys. cond (q x) (x ∷ ys) ys) rest
 
 -- a test that no element passes keeps none
 pub filter_none : (p : ℕ → Bool) (xs : List ℕ) → All (λ x. p x ≡ false) xs → filter p xs ≡ []
 filter_none p [] h = refl
 filter_none p (x ∷ xs) h =
     ap (λ b. cond b (x ∷ filter p xs) (filter p xs)) (All-head (λ x. p x ≡ false) x xs h)
-        ∙ filter_none p xs (All-tail (λ x. p x ≡ false) x xs h)
+    ∙ filter_none p xs (All-tail (λ x. p x ≡ false) x xs h)
 
 -- ---- ranges
 
@@ -54,15 +57,15 @@ range-append (suc m) a n =
     let longer : suc m + n ≡ suc (m + n) = omega arith in
     let next : a + 1 + m ≡ a + suc m = omega arith in
     ap (range_with_len a) longer ∙ ap (λ xs. a ∷ xs) (range-append m (a + 1) n
-        ∙ ap (λ k. range_with_len (a + 1) m ++ range_with_len k n) next)
+    ∙ ap (λ k. range_with_len (a + 1) m ++ range_with_len k n) next)
 
 -- the numbers of a range are from its start and below its end
 pub range_within : (n a : ℕ) → All (λ k. (a ≤ k) × (k < a + n)) (range_with_len a n)
 range_within zero a = All-nil (λ k. (a ≤ k) × (k < a + zero))
 range_within (suc n) a =
     All-cons (λ k. (a ≤ k) × (k < a + suc n)) a (range_with_len (a + 1) n) (omega arith, omega arith)
-        (All-weaker (λ k. (a + 1 ≤ k) × (k < a + 1 + n)) (λ k. (a ≤ k) × (k < a + suc n))
-        (λ k h. (omega (arith, h.0), omega (arith, h.1))) (range_with_len (a + 1) n) (range_within n (a + 1)))
+    (All-weaker (λ k. (a + 1 ≤ k) × (k < a + 1 + n)) (λ k. (a ≤ k) × (k < a + suc n))
+    (λ k h. (omega (arith, h.0), omega (arith, h.1))) (range_with_len (a + 1) n) (range_within n (a + 1)))
 
 eqb_step : (a k n : ℕ) → (eqb a k || (leb (a + 1) k && ltb k (a + 1 + n))) ≡ (leb a k && ltb k (a + suc n))
 eqb_step a k n = grind (arith, nat_tests)
@@ -83,17 +86,17 @@ pub filter_range_more : (p : ℕ → Bool) (n : ℕ) → filter p (range_with_le
 filter_range_more p n =
     let next : 1 + n ≡ n + 1 = omega arith in
     ap (filter p) (range-append n 1 1) ∙ filter-append p (range_with_len 1 n) (range_with_len (1 + n) 1)
-        ∙ ap (λ k. filter p (range_with_len 1 n) ++ cond (p k) (k ∷ []) []) next
+    ∙ ap (λ k. filter p (range_with_len 1 n) ++ cond (p k) (k ∷ []) []) next
 
 -- a longer range has no more numbers that pass, where none passes past the shorter one
 filter_range_longer : (p : ℕ → Bool) (m d : ℕ) → ((n : ℕ) → m < n → p n ≡ false)
     → filter p (range_with_len 1 (m + d)) ≡ filter p (range_with_len 1 m)
 filter_range_longer p m d above =
     let none = filter_none p (range_with_len (1 + m) d)
-        (All-weaker (λ k. (1 + m ≤ k) × (k < 1 + m + d)) (λ k. p k ≡ false) (λ k h. above k (omega (arith, h.0)))
-        (range_with_len (1 + m) d) (range_within d (1 + m))) in
+    (All-weaker (λ k. (1 + m ≤ k) × (k < 1 + m + d)) (λ k. p k ≡ false) (λ k h. above k (omega (arith, h.0)))
+    (range_with_len (1 + m) d) (range_within d (1 + m))) in
     ap (filter p) (range-append m 1 d) ∙ filter-append p (range_with_len 1 m) (range_with_len (1 + m) d)
-        ∙ ap (λ xs. filter p (range_with_len 1 m) ++ xs) none ∙ append-nil (filter p (range_with_len 1 m))
+    ∙ ap (λ xs. filter p (range_with_len 1 m) ++ xs) none ∙ append-nil (filter p (range_with_len 1 m))
 
 -- two ranges have the same numbers that pass, where none passes past either
 pub filter_ranges : (p : ℕ → Bool) (m n : ℕ) → ((k : ℕ) → m < k → p k ≡ false) → ((k : ℕ) → n < k → p k ≡ false)
@@ -123,7 +126,7 @@ pub has-firsts : (ns : List ℕ) (n : ℕ) → has (firsts ns) n ≡ has ns n
 has-firsts [] n = refl
 has-firsts (m ∷ ns) n =
     ap (λ b. eqb m n || b) (has-filter (λ k. not (eqb k m)) (firsts ns) n
-        ∙ ap (λ b. not (eqb n m) && b) (has-firsts ns n)) ∙ eqb_firsts m n (has ns n)
+    ∙ ap (λ b. not (eqb n m) && b) (has-firsts ns n)) ∙ eqb_firsts m n (has ns n)
 
 -- a last number that is kept or not
 pub filter_last : (p : ℕ → Bool) (n : ℕ) (b : Bool) → filter p (cond b [] (n ∷ [])) ≡ cond (not b && p n) (n ∷ []) []
@@ -143,8 +146,8 @@ firsts-push [] n = refl
 firsts-push (m ∷ ns) n =
     let other : ℕ → Bool = λ k. not (eqb k m) in
     ap (λ xs. m ∷ filter other xs) (firsts-push ns n) ∙ ap (λ xs. m ∷ xs)
-        (filter-append other (firsts ns) (cond (has ns n) [] (n ∷ []))
-        ∙ ap (λ xs. filter other (firsts ns) ++ xs) (filter_last other n (has ns n) ∙ last_once m n (has ns n)))
+    (filter-append other (firsts ns) (cond (has ns n) [] (n ∷ []))
+    ∙ ap (λ xs. filter other (firsts ns) ++ xs) (filter_last other n (has ns n) ∙ last_once m n (has ns n)))
 
 -- ---- lists with numbers added
 
@@ -153,7 +156,7 @@ pub has-lacking : (added groups : List ℕ) (n : ℕ) → has (lacking added gro
     ≡ (not (has groups n) && (ltb 0 n && has added n))
 has-lacking added groups n =
     has-filter (λ k. not (has groups k)) _ n ∙ ap (λ b. not (has groups n) && b) (has-filter (λ k. ltb 0 k) _ n
-        ∙ ap (λ b. ltb 0 n && b) (has-firsts added n))
+    ∙ ap (λ b. ltb 0 n && b) (has-firsts added n))
 
 -- what a list has after numbers were added
 pub has-with_added : (added groups : List ℕ) (n : ℕ) → has (with_added added groups) n
@@ -179,15 +182,15 @@ with_added-push added groups n =
     let above : ℕ → Bool = λ k. ltb 0 k in
     let last = cond (has added n) [] (n ∷ []) in
     let kept : filter lacks (filter above (firsts (added ++ n ∷ [])))
-        ≡ filter lacks (filter above (firsts added)) ++ cond ((not (has added n) && above n) && lacks n) (n ∷ []) [] =
+    ≡ filter lacks (filter above (firsts added)) ++ cond ((not (has added n) && above n) && lacks n) (n ∷ []) [] =
     ap (λ xs. filter lacks (filter above xs)) (firsts-push added n)
-        ∙ ap (filter lacks) (filter-append above (firsts added) last
-        ∙ ap (λ xs. filter above (firsts added) ++ xs) (filter_last above n (has added n)))
-        ∙ filter-append lacks (filter above (firsts added)) _
-        ∙ ap (λ xs. filter lacks (filter above (firsts added)) ++ xs)
-        (filter_last_if lacks n (not (has added n) && above n)) in
+    ∙ ap (filter lacks) (filter-append above (firsts added) last
+    ∙ ap (λ xs. filter above (firsts added) ++ xs) (filter_last above n (has added n)))
+    ∙ filter-append lacks (filter above (firsts added)) _
+    ∙ ap (λ xs. filter lacks (filter above (firsts added)) ++ xs)
+    (filter_last_if lacks n (not (has added n) && above n)) in
     let same = last_added (has groups n) (above n) (has added n) n
-        ∙ ap (λ b. cond (above n && not b) (n ∷ []) []) (sym (has-with_added added groups n)) in
+    ∙ ap (λ b. cond (above n && not b) (n ∷ []) []) (sym (has-with_added added groups n)) in
     ap (λ xs. groups ++ xs) kept ∙ sym (append_assoc groups _ _) ∙ ap (λ xs. with_added added groups ++ xs) same
 
 -- a number is added unless it is 0 or there
@@ -211,7 +214,7 @@ pub lacking-some : (added some groups : List ℕ) (n : ℕ) → has added n ≡ 
 lacking-some added some groups n named above lacks none =
     let out = had_not (has groups n) _ (sym (has-with_added some groups n) ∙ lacks) in
     let left = and_from (not (has groups n)) (ltb 0 n && has added n) (not_from_false (has groups n) out)
-        (and_from (ltb 0 n) (has added n) (lt-ltb 0 n above) named) in
+    (and_from (ltb 0 n) (has added n) (lt-ltb 0 n above) named) in
     true≢false (sym left ∙ sym (has-lacking added groups n) ∙ ap (λ xs. has xs n) none)
 
 -- a list has the number at each of its indices

@@ -51,9 +51,9 @@ and_within true n w some above =
 pub has-groups_of : (mask n : ℕ) → mask < 2 ^ 32 → has (groups_of mask) n ≡ is_masked mask n
 has-groups_of mask n fits =
     has-filter (is_masked mask) (range_with_len 1 mask_width) n
-        ∙ ap (λ b. is_masked mask n && b) (has-range mask_width 1 n)
-        ∙ and_within (is_masked mask n) n mask_width (is_masked-positive mask n)
-        (λ h. is_masked_above mask n fits (omega (arith, mask_width-is, h)))
+    ∙ ap (λ b. is_masked mask n && b) (has-range mask_width 1 n)
+    ∙ and_within (is_masked mask n) n mask_width (is_masked-positive mask n)
+    (λ h. is_masked_above mask n fits (omega (arith, mask_width-is, h)))
 
 -- a mask with the bit of one more group
 pub is_masked-set : (mask g n : ℕ) → 0 < g → g ≤ 32 → is_masked (bit_or mask (1 * 2 ^ (g - 1) % 2 ^ 32)) n
@@ -64,10 +64,10 @@ is_masked-set mask g n some within =
     elim (cases_eq n g) [
       | inl h ↦
           let set : bit_at with_bit (n - 1) ≡ 1 = ap (λ k. bit_at with_bit (k - 1)) h
-              ∙ bit_at_set_same w32 mask (g - 1) inside in
+          ∙ bit_at_set_same w32 mask (g - 1) inside in
           and_from (ltb 0 n) (eqb (bit_at with_bit (n - 1)) 1) (lt-ltb 0 n (omega (arith, h)))
-              (eq-eqb (bit_at with_bit (n - 1)) 1 set)
-              ∙ sym (or_right (is_masked mask n) (eqb g n) (eq-eqb g n (sym h)))
+          (eq-eqb (bit_at with_bit (n - 1)) 1 set)
+          ∙ sym (or_right (is_masked mask n) (eqb g n) (eq-eqb g n (sym h)))
       | inr h ↦
           let differs : eqb g n ≡ false = ne_eqb g n (λ e. h (sym e)) in
           elim (cases_lt 0 n) [
@@ -85,7 +85,7 @@ pub IsMaskOf-push : (groups : List ℕ) (mask g : ℕ) → IsMaskOf groups mask 
     → IsMaskOf (groups ++ g ∷ []) (bit_or mask (1 * 2 ^ (g - 1) % 2 ^ 32))
 IsMaskOf-push groups mask g is some within n =
     is_masked-set mask g n some within ∙ ap (λ b. b || eqb g n) (is n)
-        ∙ sym (has-append groups (g ∷ []) n ∙ ap (λ b. has groups n || b) (or_false (eqb g n)))
+    ∙ sym (has-append groups (g ∷ []) n ∙ ap (λ b. has groups n || b) (or_false (eqb g n)))
 
 -- the first group past the mask, and those after it
 pub past_mask-at : (groups : List ℕ) (i : ℕ) → i < length groups → past_mask (take i groups) ≡ []
@@ -95,12 +95,12 @@ past_mask-at groups i within none above =
     let group = get_or groups i 0 in
     let rest = drop (i + 1) groups in
     ap past_mask (sym (take-append-drop i groups) ∙ ap (λ xs. take i groups ++ xs) (drop_more groups i 0 within))
-        ∙ filter-append past (take i groups) (group ∷ rest) ∙ ap (λ xs. xs ++ filter past (group ∷ rest)) none
-        ∙ ap (λ b. cond b (group ∷ filter past rest) (filter past rest)) (lt-ltb 32 group above)
+    ∙ filter-append past (take i groups) (group ∷ rest) ∙ ap (λ xs. xs ++ filter past (group ∷ rest)) none
+    ∙ ap (λ b. cond b (group ∷ filter past rest) (filter past rest)) (lt-ltb 32 group above)
 
 -- one more group that has a bit
 pub past_mask-push : (groups : List ℕ) (g : ℕ) → past_mask groups ≡ [] → g ≤ 32 → past_mask (groups ++ g ∷ []) ≡ []
 past_mask-push groups g none within =
     let past : ℕ → Bool = λ n. ltb 32 n in
     filter-append past groups (g ∷ []) ∙ ap (λ xs. xs ++ filter past (g ∷ [])) none
-        ∙ ap (λ b. cond b (g ∷ []) []) (le-ltb 32 g within)
+    ∙ ap (λ b. cond b (g ∷ []) []) (le-ltb 32 g within)

@@ -35,8 +35,8 @@ module _ {V : Type 0} (read : List ℕ → Reading V) (bytes : List ℕ) (vs : L
   Spells-end le =
       let none : length at.rest ≡ 0 = omega (arith, ap length so_far.place, length-append at.before at.rest) in
       let all : elements_by read (InvalidInput (length bytes)) (length bytes) bytes ≡ Ok vs = sym so_far.others
-          ∙ (rw (nothing_left read (InvalidInput (length bytes)) (length bytes - length vs) at.rest none)
-          (ap done (append-nil vs))) in
+      ∙ (rw (nothing_left read (InvalidInput (length bytes)) (length bytes - length vs) at.rest none)
+      (ap done (append-nil vs))) in
       rw all refl
 
   pub Spells-shorter : (v : V) (next : Place) → IsLocal read → read at.rest ≡ Ok (v, next.rest) → whole next ≡ whole at
@@ -44,9 +44,9 @@ module _ {V : Type 0} (read : List ℕ → Reading V) (bytes : List ℕ) (vs : L
   Spells-shorter v next local e same place_after =
       let front = local at.rest next.rest v e in
       let len : length at.rest ≡ length front.0 + length next.rest = ap length front.1
-          ∙ length-append front.0 next.rest in
+      ∙ length-append front.0 next.rest in
       let total : length next.before + length next.rest ≡ length at.before + length at.rest =
-          sym (length-append next.before next.rest) ∙ ap length same ∙ length-append at.before at.rest in
+      sym (length-append next.before next.rest) ∙ ap length same ∙ length-append at.before at.rest in
       omega (arith, len, total, place_after)
 
   pub Spells-more : (v : V) (next : Place) → IsLocal read → read at.rest ≡ Ok (v, next.rest) → whole next ≡ whole at
@@ -55,14 +55,14 @@ module _ {V : Type 0} (read : List ℕ → Reading V) (bytes : List ℕ) (vs : L
       let shorter = Spells-shorter v next local e same place_after in
       let count : length (vs ++ v ∷ []) ≡ length vs + 1 = length-append vs (v ∷ []) in
       let step : length bytes - length vs ≡ suc (length bytes - length (vs ++ v ∷ [])) =
-          omega (arith, so_far.room, shorter, count) in
+      omega (arith, so_far.room, shorter, count) in
       record {
         place = same ∙ so_far.place;
         room = omega (arith, so_far.room, shorter, count);
         others = sym (regroup vs v (elements_by read (InvalidInput (length bytes))
             (length bytes - length (vs ++ v ∷ [])) next.rest))
             ∙ ap (with_front vs) (sym (one_more read (InvalidInput (length bytes))
-                (length bytes - length (vs ++ v ∷ [])) at.rest next.rest v e shorter))
+            (length bytes - length (vs ++ v ∷ [])) at.rest next.rest v e shorter))
             ∙ ap (λ (fuel : ℕ). with_front vs (elements_by read (InvalidInput (length bytes)) fuel at.rest)) (sym step)
             ∙ so_far.others;
       }
@@ -75,8 +75,11 @@ module _ {V : Type 0} (read : List ℕ → Reading V) (bytes : List ℕ) (vs : L
   Spells-refused e lt h =
       let some = some_left lt in
       let step : length bytes - length vs ≡ suc (length bytes - length vs - 1) = omega (arith, so_far.room, some) in
-      sym so_far.others ∙ (rw (step, none_read read (InvalidInput (length bytes))
-          (length bytes - length vs - 1) at.rest e h some) refl)
+      sym so_far.others ∙ (rw (
+        step,
+        none_read read (InvalidInput (length bytes))
+            (length bytes - length vs - 1) at.rest e h some,
+      ) refl)
 
   pub Spells-stuck : (v : V) (next : Place) → length at.before < length bytes → read at.rest ≡ Ok (v, next.rest)
       → whole next ≡ whole at → length next.before ≡ length at.before
@@ -84,12 +87,15 @@ module _ {V : Type 0} (read : List ℕ → Reading V) (bytes : List ℕ) (vs : L
   Spells-stuck v next lt e same stays =
       let some = some_left lt in
       let total : length next.before + length next.rest ≡ length at.before + length at.rest =
-          sym (length-append next.before next.rest) ∙ ap length same ∙ length-append at.before at.rest in
+      sym (length-append next.before next.rest) ∙ ap length same ∙ length-append at.before at.rest in
       let step : length bytes - length vs ≡ suc (length bytes - length vs - 1) = omega (arith, so_far.room, some) in
       let all : elements_by read (InvalidInput (length bytes)) (length bytes) bytes
-          ≡ Err (InvalidInput (length bytes)) = sym so_far.others
-          ∙ (rw (step, none_taken read (InvalidInput (length bytes))
-          (length bytes - length vs - 1) at.rest next.rest v e some (omega (arith, total, stays))) refl) in
+      ≡ Err (InvalidInput (length bytes)) = sym so_far.others
+      ∙ (rw (
+        step,
+        none_taken read (InvalidInput (length bytes))
+            (length bytes - length vs - 1) at.rest next.rest v e some (omega (arith, total, stays)),
+      ) refl) in
       rw all refl
 
 -- a refusal, not for memory, is its own

@@ -31,15 +31,14 @@ pub record Writes {A : Type 0} (wire : A → Wire) (old : List ℕ) (xs : List A
 
 module _ {A : Type 0} (wire : A → Wire) (old : List ℕ) (xs : List A) (i : ℕ) (now : List ℕ)
     (so_far : Writes wire old xs i now) where
-
   pub Writes-refused : (x : A) (e : SerError) → i < length xs → x ≡ get_or xs i x → RefusesWrite (wire x) e
       → RefusesWrite (wire_all wire xs) e
   Writes-refused x e lt is h =
       let same : wire x +++ wire_all wire (drop (i + 1) xs) ≡ wire_all wire (drop i xs) =
-          ap (wire_all wire) (sym (rw (← is) at (drop_more xs i x lt))) in
+      ap (wire_all wire) (sym (rw (← is) at (drop_more xs i x lt))) in
       refused_rest old now (wire x +++ wire_all wire (drop (i + 1) xs)) (wire_all wire xs) e
-          (omega (arith, length-take (length old) now, ap length so_far.front)) (ap (append_wire now) same
-          ∙ so_far.others) (refused_part_first (wire x) (wire_all wire (drop (i + 1) xs)) e h)
+      (omega (arith, length-take (length old) now, ap length so_far.front)) (ap (append_wire now) same
+      ∙ so_far.others) (refused_part_first (wire x) (wire_all wire (drop (i + 1) xs)) e h)
 
 -- values that take a byte by their sizes take memory to be written
 pub takes-room : (w : Wire) (n : ℕ) → 0 < n → ((bytes : List ℕ) → w ≡ Ok bytes → length bytes ≡ n) → TakesRoom w

@@ -45,11 +45,11 @@ abbrev pub frame_takes_memory : {H V : Type 0} → Layout H V → (H → List �
 frame_takes_memory layout takes s =
     let header = layout.header_of s in let n = layout.length_of header in
     (layout.size ≤ length s) × (layout.size ≤ n) × (n ≤ length s)
-        × takes header (take (n - layout.size) (drop layout.size s))
+    × takes header (take (n - layout.size) (drop layout.size s))
 
 -- the bytes are the frames of these headers and payloads, one after the other
 abbrev pub AreFrames : {H V : Type 0} → Layout H V → List ℕ → List (H × V) → Type 0
 AreFrames layout s [] = s ≡ []
 AreFrames layout s (a ∷ later) =
     (frame : List ℕ) × (rest : List ℕ) × (s ≡ frame ++ rest) × IsFrame layout frame a.0 a.1
-        × AreFrames layout rest later
+    × AreFrames layout rest later

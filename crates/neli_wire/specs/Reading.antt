@@ -77,7 +77,7 @@ abbrev pub AreElements : {V : Type 0} → (List ℕ → Reading V) → List ℕ 
 AreElements read s [] = s ≡ []
 AreElements read s (v ∷ vs) =
     (own : List ℕ) × (rest : List ℕ) × (s ≡ own ++ rest) × (0 < length own)
-        × ((t : List ℕ) → read (own ++ t) ≡ Ok (v, t))
+    × ((t : List ℕ) → read (own ++ t) ≡ Ok (v, t))
     × AreElements read rest vs
 
 -- ---- laws that a reading meets

@@ -15,9 +15,14 @@ header_bytes p = little_bytes 1 p.hops ++ little_bytes 1 p.kind ++ little_bytes 
 
 header_bytes-length : {P : Type 0} (p : Probe P) → length (header_bytes p) ≡ 4
 header_bytes-length p =
-    omega (arith, length-append (little_bytes 1 p.hops ++ little_bytes 1 p.kind) (little_bytes 2 p.port),
-        length-append (little_bytes 1 p.hops) (little_bytes 1 p.kind), count-unsigned 1 p.hops, count-unsigned 1 p.kind,
-        count-unsigned 2 p.port)
+    omega (
+      arith,
+      length-append (little_bytes 1 p.hops ++ little_bytes 1 p.kind) (little_bytes 2 p.port),
+      length-append (little_bytes 1 p.hops) (little_bytes 1 p.kind),
+      count-unsigned 1 p.hops,
+      count-unsigned 1 p.kind,
+      count-unsigned 2 p.port,
+    )
 
 pub probe_wire-length : {P : Type 0} (wire : P → Wire) (size : P → ℕ)
     → ((v : P) (bytes : List ℕ) → wire v ≡ Ok bytes → length bytes ≡ size v) → (p : Probe P) (bytes : List ℕ)

@@ -19,13 +19,13 @@ watch_wire-length w bytes e =
     let p = both_written (Ok (little_bytes 2 w.port)) (wire_all level_wire w.levels.items) bytes e in
     let port : length p.0 ≡ 2 = written-length (little_bytes 2 w.port) p.0 2 (count-unsigned 2 w.port) p.2 in
     let levels = wire_all-length level_wire (λ n. 4) (λ n b f. written-length (little_bytes 4 n) b 4
-        (count-unsigned 4 n) f) w.levels.items p.1 p.3 in
+    (count-unsigned 4 n) f) w.levels.items p.1 p.3 in
     omega (arith, ap length p.4, length-append p.0 p.1, port, levels)
 
 pub watch_wire-no_memory : (w : Watch) → watch_wire w ≢ Err ser.Memory
 watch_wire-no_memory w =
     both-no_memory (Ok (little_bytes 2 w.port)) (wire_all level_wire w.levels.items)
-        (written-no_memory (little_bytes 2 w.port))
+    (written-no_memory (little_bytes 2 w.port))
     (wire_all-no_memory level_wire (λ n. written-no_memory (little_bytes 4 n)) w.levels.items)
 
 watch_fields-no_memory : (s : List ℕ) → watch_fields s ≢ Err Memory
@@ -33,7 +33,7 @@ unfolding watch_fields
 watch_fields-no_memory s =
     bind-not (number_at 2 s) _ Memory (number_at-no_memory 2 s)
     (λ port. bind-not (elements (number_at 4) port.1) _ Memory
-        (elements-no_memory (number_at 4) (number_at-no_memory 4) port.1) (λ levels f. cc))
+    (elements-no_memory (number_at 4) (number_at-no_memory 4) port.1) (λ levels f. cc))
 
 pub watch_of-no_memory : (s : List ℕ) → watch_of s ≢ Err Memory
 watch_of-no_memory s = map_refusal-no_memory (length s) (watch_fields s) (watch_fields-no_memory s)

@@ -55,8 +55,10 @@ flags-equality = from-parts apart same
 -- what compares two parts
 pub both-apart : {A B C : Type 0} {p : A → A → Bool} {q : B → B → Bool} → IsEquality p → IsEquality q
     → (f : C → A) (g : C → B) (a b : C) → (p (f a) (f b) && q (g a) (g b)) ≡ true → (f a ≡ f b) × (g a ≡ g b)
-both-apart {A} {B} {C} {p} {q} h k f g a b e = ((h (f a) (f b)).0 (first_so (p (f a) (f b)) (q (g a) (g b)) e),
-    (k (g a) (g b)).0 (second_so (p (f a) (f b)) (q (g a) (g b)) e))
+both-apart {A} {B} {C} {p} {q} h k f g a b e = (
+  (h (f a) (f b)).0 (first_so (p (f a) (f b)) (q (g a) (g b)) e),
+  (k (g a) (g b)).0 (second_so (p (f a) (f b)) (q (g a) (g b)) e),
+)
 
 -- pairs, part by part
 pub pair-equality : {A B : Type 0} {p : A → A → Bool} {q : B → B → Bool} → IsEquality p → IsEquality q
@@ -80,11 +82,11 @@ module _ {T : Type 0} {same : T → T → Bool} (h : IsEquality same) where
   field-apart : (a b : AttrType T) → attr_type_eq same a b ≡ true → a ≡ b
   field-apart a b e =
       let flags = first_so (beq a.nla_nested b.nla_nested && beq a.nla_network_order b.nla_network_order)
-          (same a.nla_type b.nla_type) e in
+      (same a.nla_type b.nla_type) e in
       let kind = second_so (beq a.nla_nested b.nla_nested && beq a.nla_network_order b.nla_network_order)
-          (same a.nla_type b.nla_type) e in
+      (same a.nla_type b.nla_type) e in
       let both = both-apart flags-equality flags-equality (λ (t : AttrType T). t.nla_nested)
-          (λ t. t.nla_network_order) a b flags in
+      (λ t. t.nla_network_order) a b flags in
       λ i. record { nla_nested = both.0 i; nla_network_order = both.1 i; nla_type = (h a.nla_type b.nla_type).0 kind i }
 
   pub field-equality : IsEquality (attr_type_eq same)
@@ -96,13 +98,16 @@ module _ {T : Type 0} {same : T → T → Bool} (h : IsEquality same) where
     attribute-apart : (a b : Nlattr T P) → nlattr_eq same same_payload a b ≡ true → a ≡ b
     attribute-apart a b e =
         let head = first_so (nat_eq a.nla_len b.nla_len && attr_type_eq same a.nla_type b.nla_type)
-            (same_payload a.nla_payload b.nla_payload) e in
+        (same_payload a.nla_payload b.nla_payload) e in
         let payload = second_so (nat_eq a.nla_len b.nla_len && attr_type_eq same a.nla_type b.nla_type)
-            (same_payload a.nla_payload b.nla_payload) e in
+        (same_payload a.nla_payload b.nla_payload) e in
         let both = both-apart bytes-equality field-equality (λ (t : Nlattr T P). t.nla_len)
-            (λ t. t.nla_type) a b head in
-        λ i. record { nla_len = both.0 i; nla_type = both.1 i;
-            nla_payload = (k a.nla_payload b.nla_payload).0 payload i }
+        (λ t. t.nla_type) a b head in
+        λ i. record {
+          nla_len = both.0 i;
+          nla_type = both.1 i;
+          nla_payload = (k a.nla_payload b.nla_payload).0 payload i;
+        }
 
     pub attribute-equality : IsEquality (nlattr_eq same same_payload)
     attribute-equality = from-parts attribute-apart (λ a. both_true

@@ -46,19 +46,19 @@ module _ {K V : Type 0} (kind_of : ℕ → K) (payload_of : List ℕ
       let l12 : length (one ++ two) ≡ 4 = omega (arith, length-append one two, l1, l2) in
       let lt : length text ≡ len = omega (arith, length-append (one ++ two) bytes, l12) in
       let lz : length zeros ≡ align (length text) - length text =
-          length-replicate {A = ℕ} (align (length text) - length text) 0 in
+      length-replicate {A = ℕ} (align (length text) - length text) 0 in
       let first : text ++ zeros ≡ one ++ (two ++ (bytes ++ zeros)) = simp append_assoc in
       let after : text ++ zeros ≡ (one ++ two) ++ (bytes ++ zeros) = append_assoc (one ++ two) bytes zeros in
       let place2 : drop 2 (text ++ zeros) ≡ two ++ (bytes ++ zeros) = ap (drop 2) first
-          ∙ drop_at one (two ++ (bytes ++ zeros)) 2 l1 in
+      ∙ drop_at one (two ++ (bytes ++ zeros)) 2 l1 in
       let place4 : drop 4 (text ++ zeros) ≡ bytes ++ zeros = ap (drop 4) after
-          ∙ drop_at (one ++ two) (bytes ++ zeros) 4 l12 in
+      ∙ drop_at (one ++ two) (bytes ++ zeros) 4 l12 in
       let the_len : number_in 2 0 (text ++ zeros) ≡ len = ap (little_number 2) first
-          ∙ little_number-reads_back 2 len (two ++ (bytes ++ zeros)) fits in
+      ∙ little_number-reads_back 2 len (two ++ (bytes ++ zeros)) fits in
       let the_kind : number_in 2 2 (text ++ zeros) ≡ kind = ap (little_number 2) place2
-          ∙ little_number-reads_back 2 kind (bytes ++ zeros) small in
+      ∙ little_number-reads_back 2 kind (bytes ++ zeros) small in
       let body : take (len - 4) (drop 4 (text ++ zeros)) ≡ bytes = ap (take (len - 4)) place4
-          ∙ take_at bytes zeros (len - 4) (omega arith) in
+      ∙ take_at bytes zeros (len - 4) (omega arith) in
       record {
         header_is = rw (the_len, the_kind) refl;
         least = omega arith;
@@ -104,9 +104,12 @@ pub list-reads_back : {A K : Type 0} (kind_of : ℕ → K) (wire : A → Wire) (
     → (bytes : List ℕ) × (wire_all wire xs ≡ Ok bytes) × (attributes_in kind_of bytes ≡ Ok (map says xs))
 list-reads_back kind_of wire says xs each =
     let layout = attribute kind_of (λ (bytes : List ℕ). Ok bytes) in
-    let all = written-frames layout wire says xs each in
-    (all.0, all.1, frames-list layout (attribute-placed kind_of (λ (bytes : List ℕ). Ok bytes)) (omega arith) all.0
-        (map says xs) all.2)
+    let all = written-frames layout wire says xs each in (
+      all.0,
+      all.1,
+      frames-list layout (attribute-placed kind_of (λ (bytes : List ℕ). Ok bytes)) (omega arith) all.0
+          (map says xs) all.2,
+    )
 
 -- an attribute of this type, whose number means it, is written as a frame
 pub attribute-written : {K : Type 0} (kind_of : ℕ → K) (len number : ℕ) (kind : K) (payload : List ℕ)
@@ -117,12 +120,12 @@ attribute-written {K} kind_of len number kind payload is fits small named =
     let layout = attribute kind_of (λ (bytes : List ℕ). Ok bytes) in
     let n = 4 + length payload in
     let frame : IsFrame layout (attribute_bytes n number payload) (attr n (kind_of number) payload).0 payload =
-        attribute_bytes-frame kind_of (λ (bytes : List ℕ). Ok bytes) number payload payload small (omega arith) refl in
+    attribute_bytes-frame kind_of (λ (bytes : List ℕ). Ok bytes) number payload payload small (omega arith) refl in
     let typed : IsFrame layout (attribute_bytes n number payload) (attr n kind payload).0 payload =
-        subst (λ (k : K). IsFrame layout (attribute_bytes n number payload) (attr n k payload).0 payload) named frame in
+    subst (λ (k : K). IsFrame layout (attribute_bytes n number payload) (attr n k payload).0 payload) named frame in
     let sized : IsFrame layout (attribute_bytes len number payload) (attr len kind payload).0 payload =
-        subst (λ (m : ℕ). IsFrame layout (attribute_bytes m number payload) (attr m kind payload).0 payload)
-        (sym is) typed in
+    subst (λ (m : ℕ). IsFrame layout (attribute_bytes m number payload) (attr m kind payload).0 payload)
+    (sym is) typed in
     (attribute_bytes len number payload, refl, sized)
 
 -- ---- flags
@@ -157,13 +160,13 @@ field-parts : (n : ℕ) (nested order : Bool) → n < 16384 → let field = fiel
     (has field 32768 ≡ nested) × (has field 16384 ≡ order) × (bit_and field 16383 ≡ n)
 field-parts n nested order lt =
     let sum : field_of n nested order ≡ n + bit_where nested 32768 + bit_where order 16384 =
-        field_of-sum n nested order lt in
+    field_of-sum n nested order lt in
     let field : ℕ = n + bit_where nested 32768 + bit_where order 16384 in
     let low : bit_and field 16383 ≡ n = and_mask field 14 ∙ number-part n nested order lt in
     let high : has field 32768 ≡ nested = flag-is (bit_and field 32768) 32768 nested refl (and_pow field 15
-        ∙ high-part n nested order lt) in
+    ∙ high-part n nested order lt) in
     let mid : has field 16384 ≡ order = flag-is (bit_and field 16384) 16384 order refl (and_pow field 14
-        ∙ low-part n nested order lt) in
+    ∙ low-part n nested order lt) in
     subst (λ (m : ℕ). (has m 32768 ≡ nested) × (has m 16384 ≡ order) × (bit_and m 16383 ≡ n)) (sym sum) (high, mid, low)
 
 -- a field with a number of 14 bits is read back
@@ -198,4 +201,4 @@ number_of-small type_number t lt =
     let nested = bit_where t.nla_nested 32768 in
     let order = bit_where t.nla_network_order 16384 in
     or_lt 16 (bit_or n nested) order (or_lt 16 n nested lt (bit_where-small t.nla_nested 32768 (omega arith)))
-        (bit_where-small t.nla_network_order 16384 (omega arith))
+    (bit_where-small t.nla_network_order 16384 (omega arith))

@@ -28,8 +28,8 @@ head_at-wide : {K : Type 0} (kind_of : ℕ → K) → IsWide (head_at kind_of) 4
 unfolding head_at
 head_at-wide {K} kind_of =
     let kinds = λ (len : ℕ). then-wide (number_as kind_of) (λ kind s. Ok (head len kind, s)) 2 0
-        (λ s. kind_of (little_number 2 s)) (λ kind _. head len kind) (value_at-wide_by 2 kind_of)
-        (λ kind. done-wide (head len kind)) in
+    (λ s. kind_of (little_number 2 s)) (λ kind _. head len kind) (value_at-wide_by 2 kind_of)
+    (λ kind. done-wide (head len kind)) in
     then-wide (number_at 2) _ 2 2 (little_number 2) _ (number_at-wide_by 2) kinds
 
 module _ {K V : Type 0} (kind_of : ℕ → K) (payload_of : List ℕ → Result V DeError) where
@@ -64,9 +64,17 @@ align-le n = omega arith
 padded_written : (w : Wire) (bytes : List ℕ) → pad_wire w ≡ Ok bytes
     → (x : List ℕ) × (w ≡ Ok x) × (length bytes ≡ align (length x))
 padded_written (Ok x) bytes e =
-    let same : x ++ zeros_for (length x) ≡ bytes = cc in
-    (x, refl, omega (arith, ap length same, length-append x (zeros_for (length x)),
-        length-replicate {A = ℕ} (align (length x) - length x) 0, align-le (length x)))
+    let same : x ++ zeros_for (length x) ≡ bytes = cc in (
+      x,
+      refl,
+      omega (
+        arith,
+        ap length same,
+        length-append x (zeros_for (length x)),
+        length-replicate {A = ℕ} (align (length x) - length x) 0,
+        align-le (length x),
+      ),
+    )
 padded_written (Err d) bytes e = absurd cc
 
 -- the header and the payload take four bytes and those of the payload
@@ -76,8 +84,12 @@ unpadded-length len kind n payload payloads bytes e =
     let both : List ℕ = little_bytes 2 len ++ little_bytes 2 kind in
     let q = both_written (Ok both) payload bytes e in
     let same : both ≡ q.0 = cc (q.2) in
-    let four : length both ≡ 4 = omega (arith, length-append (little_bytes 2 len) (little_bytes 2 kind),
-        count-unsigned 2 len, count-unsigned 2 kind) in
+    let four : length both ≡ 4 = omega (
+      arith,
+      length-append (little_bytes 2 len) (little_bytes 2 kind),
+      count-unsigned 2 len,
+      count-unsigned 2 kind,
+    ) in
     omega (arith, ap length q.4, length-append q.0 q.1, ap length same, four, payloads q.1 q.3)
 
 -- an attribute takes four bytes and those of its payload, rounded up to four
@@ -94,7 +106,7 @@ pub attribute_wire-zeros : (len kind n : ℕ) (payload : Wire)
     → attribute_wire len kind payload ≡ Ok bytes → EndsInZeros (4 + n) bytes
 attribute_wire-zeros len kind n payload payloads =
     padded-zeros (Ok (little_bytes 2 len ++ little_bytes 2 kind) +++ payload) (4 + n)
-        (unpadded-length len kind n payload payloads)
+    (unpadded-length len kind n payload payloads)
 
 padded-no_memory : (w : Wire) → w ≢ Err ser.Memory → pad_wire w ≢ Err ser.Memory
 padded-no_memory (Ok x) h e = cc
@@ -104,7 +116,7 @@ pub attribute_wire-no_memory : (len kind : ℕ) (payload : Wire) → payload ≢
     → attribute_wire len kind payload ≢ Err ser.Memory
 attribute_wire-no_memory len kind payload payloads =
     padded-no_memory (Ok (little_bytes 2 len ++ little_bytes 2 kind) +++ payload)
-        (both-no_memory (Ok (little_bytes 2 len ++ little_bytes 2 kind)) payload (λ e. cc) payloads)
+    (both-no_memory (Ok (little_bytes 2 len ++ little_bytes 2 kind)) payload (λ e. cc) payloads)
 
 -- what stands after nothing is all
 pub after_nothing : (w : Wire) (bytes : List ℕ) → append_wire [] w ≡ Ok bytes → w ≡ Ok bytes

@@ -35,11 +35,11 @@ field_of-parts n lt =
     let order : bit_and n 16384 ≡ (n / 16384 % 2) * 16384 = and_pow n 14 in
     let number : bit_and n 16383 ≡ n % 16384 = and_mask n 14 in
     let one : bit_or (n % 16384) (bit_and n 32768) ≡ n % 16384 + bit_and n 32768 =
-        or_bit (n % 16384) (bit_and n 32768) 15 high (omega arith) in
+    or_bit (n % 16384) (bit_and n 32768) 15 high (omega arith) in
     let two : bit_or (n % 16384 + bit_and n 32768) (bit_and n 16384) ≡ n % 16384 + bit_and n 32768 + bit_and n 16384 =
-        or_bit (n % 16384 + bit_and n 32768) (bit_and n 16384) 14 low (omega (arith, nested)) in
+    or_bit (n % 16384 + bit_and n 32768) (bit_and n 16384) 14 low (omega (arith, nested)) in
     rw (whole_bit (bit_and n 32768) 32768 refl high, whole_bit (bit_and n 16384) 16384 refl low, number, one, two)
-        (omega (arith, nested, order))
+    (omega (arith, nested, order))
 
 -- what a number is read as has that number
 pub number_of-type_of : {T : Type 0} (type_number : T → ℕ) (value_of : ℕ → T)
@@ -64,11 +64,11 @@ pub field_of-sum : (n : ℕ) (nested network_order : Bool) → n < 16384
     → field_of n nested network_order ≡ n + bit_where nested 32768 + bit_where network_order 16384
 field_of-sum n nested network_order lt =
     let one : bit_or n (bit_where nested 32768) ≡ n + bit_where nested 32768 =
-        or_bit n (bit_where nested 32768) 15 (bit_or_none nested 32768) (omega arith) in
+    or_bit n (bit_where nested 32768) 15 (bit_or_none nested 32768) (omega arith) in
     let two : bit_or (n + bit_where nested 32768) (bit_where network_order 16384)
-        ≡ n + bit_where nested 32768 + bit_where network_order 16384 =
-        or_bit (n + bit_where nested 32768) (bit_where network_order 16384) 14 (bit_or_none network_order 16384)
-        (free nested) in
+    ≡ n + bit_where nested 32768 + bit_where network_order 16384 =
+    or_bit (n + bit_where nested 32768) (bit_where network_order 16384) 14 (bit_or_none network_order 16384)
+    (free nested) in
     rw (one, two) refl
   where
     bit_or_none : (flag : Bool) (p : ℕ) → (bit_where flag p ≡ 0) ⊎ (bit_where flag p ≡ p)

@@ -43,7 +43,7 @@ pub exact_refused : {V : Type 0} (read : List ℕ → Result V DeError) (takes :
     → Refuses (exact_reading read n s) (exact_takes_memory takes n s) e
 exact_refused read takes n s e le h =
     rw (le-ltb (length s) n le) (refused_first (read (take n s)) (λ v. Ok (v, drop n s)) (takes (take n s))
-        (exact_takes_memory takes n s) e h (λ some. (le, some)))
+    (exact_takes_memory takes n s) e h (λ some. (le, some)))
 
 module _ {H V : Type 0} (n : ℕ) (header_of : List ℕ → H) (rest_of : List ℕ → Result V DeError) where
   body_of-not : (d : DeError) → ((k : ℕ) → InvalidInput k ≢ d) → ((s : List ℕ) → rest_of s ≢ Err d) → (s : List ℕ)
@@ -69,5 +69,7 @@ module _ {H V : Type 0} (n : ℕ) (header_of : List ℕ → H) (rest_of : List �
   -- a header that is read back makes the whole read back
   pub reads_back : (bytes_of : H → List ℕ) (h : H) (rest : Wire) → length (bytes_of h) ≡ n → header_of (bytes_of h) ≡ h
       → ReadsBack n bytes_of header_of rest_of h rest
-  reads_back bytes_of h rest size back = λ bytes value wire read. (rw wire refl,
-      body_of-reads_back (bytes_of h) bytes h value size back read)
+  reads_back bytes_of h rest size back = λ bytes value wire read. (
+    rw wire refl,
+    body_of-reads_back (bytes_of h) bytes h value size back read,
+  )

@@ -54,7 +54,7 @@ pub last_place : (n i : ℕ) (s : List ℕ) (x : ℕ) → length s ≡ i + n →
     → little_bytes n x ≡ drop i s
 last_place n i s x size small number =
     ap (little_bytes n) number ∙ place-bytes n i 0 s (omega arith) small
-        ∙ take_all n (drop i s) (omega (arith, length-drop i s))
+    ∙ take_all n (drop i s) (omega (arith, length-drop i s))
 
 -- the number of the signed number at a place
 pub signed-place : (i : ℕ) (s : List ℕ) → AreBytes s → cast_unsigned w32 (signed_number w32 4 (drop i s))

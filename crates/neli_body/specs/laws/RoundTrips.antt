@@ -15,16 +15,16 @@ module _ {T : Type 0} (number_of : T → ℕ) (value_of : ℕ → T) where
       → IsWrittenAs (attribute value_of (λ bytes. Ok bytes)) (rtattr_wire number_of (λ bytes. Ok bytes)) rtattr_says a
   plain-written a is =
       attribute-written value_of a.rta_len (number_of a.rta_type) a.rta_type a.rta_payload is.len is.fits is.kind.fits
-          is.kind.named
+      is.kind.named
 
   -- plain attributes are read back
   pub plain-reads_back : (attrs : Attrs T) → ArePlainAttrs number_of value_of attrs
       → AreReadBack number_of value_of attrs
   plain-reads_back attrs are =
       list-reads_back value_of (rtattr_wire number_of (λ bytes. Ok bytes)) rtattr_says attrs
-          (All-weaker (IsPlainAttr number_of value_of)
-          (IsWrittenAs (attribute value_of (λ bytes. Ok bytes))
-          (rtattr_wire number_of (λ bytes. Ok bytes)) rtattr_says) plain-written attrs are)
+      (All-weaker (IsPlainAttr number_of value_of)
+      (IsWrittenAs (attribute value_of (λ bytes. Ok bytes))
+      (rtattr_wire number_of (λ bytes. Ok bytes)) rtattr_says) plain-written attrs are)
 
   -- with a header that is read back they make a body that is read back
   pub whole-reads_back : {H : Type 0} (n : ℕ) (bytes_of : H → List ℕ) (header_of : List ℕ → H) (h : H) (attrs : Attrs T)
@@ -33,5 +33,5 @@ module _ {T : Type 0} (number_of : T → ℕ) (value_of : ℕ → T) where
   whole-reads_back n bytes_of header_of h attrs size back are =
       let list = plain-reads_back attrs are in
       let both = reads_back n header_of (attrs_of value_of) bytes_of h (attrs_wire number_of attrs) size back list.0
-          (attrs_view attrs) list.1 list.2 in
+      (attrs_view attrs) list.1 list.2 in
       (bytes_of h ++ list.0, both.0, both.1)

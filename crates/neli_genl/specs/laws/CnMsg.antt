@@ -27,9 +27,9 @@ cn_msg-reads_back h is =
 pub cn_msg-writes_back : (s : List ℕ) → length s ≡ 20 → AreBytes s → cn_msg_bytes (cn_msg_header s) ≡ s
 cn_msg-writes_back s size small =
     place 4 0 16 s _ _ size small (first_with-number cn_msg_idx_number cn_msg_idx_variants cn_msg_idx.UnrecognizedConst
-        (λ n. refl) _)
+    (λ n. refl) _)
     (place 4 4 12 s _ _ size small (first_with-number cn_msg_val_number cn_msg_val_variants cn_msg_val.UnrecognizedConst
-        (λ n. refl) _)
+    (λ n. refl) _)
     (place 4 8 8 s _ _ size small refl
     (place 4 12 4 s _ _ size small refl
     (place 2 16 2 s _ _ size small refl

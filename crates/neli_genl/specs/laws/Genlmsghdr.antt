@@ -41,8 +41,17 @@ module _ {C T H : Type 0} (cmd_number : C → ℕ) (type_number : T → ℕ) (he
       let q = both_written (Ok front) (header_wire m.header) p.0 p.2 in
       let same : front ≡ q.0 = cc (q.2) in
       let four : length front ≡ 4 = refl in
-      omega (arith, ap length p.4, length-append p.0 p.1, ap length q.4, length-append q.0 q.1, ap length same, four,
-          each m.header q.1 q.3, attrs_wire-length type_number m.attrs p.1 p.3)
+      omega (
+        arith,
+        ap length p.4,
+        length-append p.0 p.1,
+        ap length q.4,
+        length-append q.0 q.1,
+        ap length same,
+        four,
+        each m.header q.1 q.3,
+        attrs_wire-length type_number m.attrs p.1 p.3,
+      )
 
   -- it ends in no padding of its own
   pub genlmsghdr_wire-zeros : (header_size : H → ℕ) → ((h : H) (bytes : List ℕ) → header_wire h ≡ Ok bytes
@@ -56,9 +65,9 @@ module _ {C T H : Type 0} (cmd_number : C → ℕ) (type_number : T → ℕ) (he
       → genlmsghdr_wire cmd_number type_number header_wire m ≢ Err ser.Memory
   genlmsghdr_wire-no_memory none m =
       both-no_memory (Ok (genlmsghdr_bytes (cmd_number m.cmd) m.version m.reserved) +++ header_wire m.header)
-          (attrs_wire type_number m.attrs)
+      (attrs_wire type_number m.attrs)
       (both-no_memory (Ok (genlmsghdr_bytes (cmd_number m.cmd) m.version m.reserved)) (header_wire m.header)
-          (written-no_memory (genlmsghdr_bytes (cmd_number m.cmd) m.version m.reserved)) (none m.header))
+      (written-no_memory (genlmsghdr_bytes (cmd_number m.cmd) m.version m.reserved)) (none m.header))
       (attrs_wire-no_memory type_number m.attrs)
 
 module _ {V A : Type 0} (header_at : List ℕ → Reading V) (attrs_of : List ℕ → Result A DeError) where
@@ -67,7 +76,7 @@ module _ {V A : Type 0} (header_at : List ℕ → Reading V) (attrs_of : List �
   unfolding parts_of
   parts_of-not d n s header attrs =
       bind-not (map_refusal (refusal_within n) (header_at s)) _ d header
-          (λ h. bind-not (attrs_of h.1) _ d (attrs h.1) (λ list e. cc))
+      (λ h. bind-not (attrs_of h.1) _ d (attrs h.1) (λ list e. cc))
 
 module _ {C T V : Type 0} (width : ℕ) (cmd_of : ℕ → C) (value_of : ℕ → T) (header_at : List ℕ → Reading V) where
   genlmsghdr_of-not : (d : DeError) → ((n : ℕ) → InvalidInput n ≢ d)
@@ -79,7 +88,7 @@ module _ {C T V : Type 0} (width : ℕ) (cmd_of : ℕ → C) (value_of : ℕ →
       (guard-not (ltb (length s) 4) (InvalidInput (length s)) d _ (input (length s))
       (bind-not (parts_of header_at (attributes_in (type_of value_of)) (length s) (drop 4 s)) _ d
       (parts_of-not header_at (attributes_in (type_of value_of)) d (length s) (drop 4 s)
-          (headers (length s) (drop 4 s)) attrs)
+      (headers (length s) (drop 4 s)) attrs)
       (λ parts e. cc)))
 
   pub genlmsghdr_of-no_memory : ((s : List ℕ) → header_at s ≢ Err Memory) → (s : List ℕ)
@@ -87,7 +96,7 @@ module _ {C T V : Type 0} (width : ℕ) (cmd_of : ℕ → C) (value_of : ℕ →
   genlmsghdr_of-no_memory none =
       genlmsghdr_of-not Memory (λ n e. cc) (λ n s. map_refusal-no_memory n (header_at s) (none s))
       (elements-no_memory (frame_at (attribute (type_of value_of) (λ b. Ok b)))
-          (attribute-no_memory (type_of value_of) (λ b. Ok b) (λ b e. cc)))
+      (attribute-no_memory (type_of value_of) (λ b. Ok b) (λ b e. cc)))
 
   pub genlmsghdr_of-never_short : (s : List ℕ) → genlmsghdr_of width cmd_of value_of header_at s ≢ Err short
   genlmsghdr_of-never_short =

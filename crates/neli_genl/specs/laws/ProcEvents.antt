@@ -51,7 +51,7 @@ proc_event_of-not : (d : DeError) → ((n : ℕ) → InvalidInput n ≢ d) → (
 proc_event_of-not d input words s =
     guard-not (ltb (length s) 16) (InvalidInput (length s)) d _ (input (length s))
     (bind-not (event_of (proc_event_type_of (number_in 4 0 s)) s) _ d
-        (event_of-not d input words (proc_event_type_of (number_in 4 0 s)) s) (λ event e. cc))
+    (event_of-not d input words (proc_event_type_of (number_in 4 0 s)) s) (λ event e. cc))
 
 pub proc_event_of-no_memory : (s : List ℕ) → proc_event_of s ≢ Err Memory
 proc_event_of-no_memory = proc_event_of-not Memory (λ n e. cc) (λ text e. cc)

@@ -8,7 +8,7 @@ use Rattle.neli_kernel_laws.proofs.acknowledged_request_is_answered.Goals as goa
 pub returns : goal.returns
 returns g c = λ x asked attrs text bytes needs back is.
     datagram-in-turn g.RT.Constant.wire_value g.RT.Constant.wire_number g.RP.FromBytesWithInput.view
-        g.RP.Size.wire_length g.RP.FromBytesWithInput.read g.met.RT.Constant.back_to_number
+    g.RP.Size.wire_length g.RP.FromBytesWithInput.read g.met.RT.Constant.back_to_number
     x asked bytes _ true needs (c.acknowledgement_is_delivered.ensures.one_message asked attrs text bytes back is)
     (one-for asked.header.sequence_number asked.port (answer_kept (acknowledgement asked attrs)) (refl, refl))
-        (acknowledgement-complete asked attrs)
+    (acknowledgement-complete asked attrs)

@@ -40,8 +40,13 @@ passed true b c d e1 e2 e3 e4 x y is = absurd cc
 passed false true c d e1 e2 e3 e4 x y is = absurd cc
 passed false false true d e1 e2 e3 e4 x y is = absurd cc
 passed false false false true e1 e2 e3 e4 x y is = absurd cc
-passed false false false false e1 e2 e3 e4 x y is = record { first = refl; second = refl; third = refl; fourth = refl;
-    value = ok_is x y is }
+passed false false false false e1 e2 e3 e4 x y is = record {
+  first = refl;
+  second = refl;
+  third = refl;
+  fourth = refl;
+  value = ok_is x y is;
+}
 
 -- each guard that refuses what is lent refuses the reading, or its payload is refused before
 refused-by : {X Y V : Type 0} (a b c d : Bool) (e1 e2 e3 e4 e : DeError) (x : X) (p : Result V DeError) (of : V → Y)
@@ -63,10 +68,10 @@ module _ {K V : Type 0} (type_of : ℕ → K) (number_of : K → ℕ) (read : Li
       let body = take (h.len - 16) (drop 16 s) in
       let end = drop (align h.len) s in
       let pass = passed (ltb (length s) 16) (ltb h.len 16) (ltb (length s) h.len) (ltb (length s) (align h.len)) short
-          (InvalidInput h.len) (InvalidInput (h.len - 16)) short ((h, body), end) (m, r) e in
+      (InvalidInput h.len) (InvalidInput (h.len - 16)) short ((h, body), end) (m, r) e in
       let payload = payload_in type_of read (number_of h.message_type) h.flags body in
       rw (pass.first, pass.second, pass.third, pass.fourth) (regroup h end payload
-          ∙ ap (λ (p : Lent K × List ℕ). owned_reading type_of number_of read p.0 p.1) pass.value)
+      ∙ ap (λ (p : Lent K × List ℕ). owned_reading type_of number_of read p.0 p.1) pass.value)
 
   pub owned-refused : (s : List ℕ) (e : DeError) → frame_at (lent_message type_of) s ≡ Err e
       → IsErr (frame_at (message_layout type_of number_of read) s)
@@ -76,5 +81,5 @@ module _ {K V : Type 0} (type_of : ℕ → K) (number_of : K → ℕ) (read : Li
       let body = take (h.len - 16) (drop 16 s) in
       let end = drop (align h.len) s in
       refused-by (ltb (length s) 16) (ltb h.len 16) (ltb (length s) h.len) (ltb (length s) (align h.len)) short
-          (InvalidInput h.len) (InvalidInput (h.len - 16)) short e ((h, body), end)
-          (payload_in type_of read (number_of h.message_type) h.flags body) (λ v. ((h, v), end)) is
+      (InvalidInput h.len) (InvalidInput (h.len - 16)) short e ((h, body), end)
+      (payload_in type_of read (number_of h.message_type) h.flags body) (λ v. ((h, v), end)) is

@@ -48,41 +48,61 @@ frame-written h body zeros fits long whole =
     let frame : List ℕ = (fields h ++ body) ++ zeros in
     let from0 : frame ≡ a ++ (b ++ (c ++ (d ++ (e ++ rest)))) = simp append_assoc in
     let from4 : drop 4 frame ≡ b ++ (c ++ (d ++ (e ++ rest))) = ap (drop 4) from0
-        ∙ drop_at a (b ++ (c ++ (d ++ (e ++ rest)))) 4 la in
+    ∙ drop_at a (b ++ (c ++ (d ++ (e ++ rest)))) 4 la in
     let from6 : drop 6 frame ≡ c ++ (d ++ (e ++ rest)) =
-        ap (drop 6) (from0 ∙ sym (append_assoc a b (c ++ (d ++ (e ++ rest)))))
-        ∙ drop_at (a ++ b) (c ++ (d ++ (e ++ rest))) 6 (omega (arith, length-append a b, la, lb)) in
+    ap (drop 6) (from0 ∙ sym (append_assoc a b (c ++ (d ++ (e ++ rest)))))
+    ∙ drop_at (a ++ b) (c ++ (d ++ (e ++ rest))) 6 (omega (arith, length-append a b, la, lb)) in
     let front8 : frame ≡ (a ++ (b ++ c)) ++ (d ++ (e ++ rest)) = from0 ∙ simp append_assoc in
     let from8 : drop 8 frame ≡ d ++ (e ++ rest) = ap (drop 8) front8
-        ∙ drop_at (a ++ (b ++ c)) (d ++ (e ++ rest)) 8
-        (omega (arith, length-append a (b ++ c), length-append b c, la, lb, lc)) in
+    ∙ drop_at (a ++ (b ++ c)) (d ++ (e ++ rest)) 8
+    (omega (arith, length-append a (b ++ c), length-append b c, la, lb, lc)) in
     let front12 : frame ≡ (a ++ (b ++ (c ++ d))) ++ (e ++ rest) = from0 ∙ simp append_assoc in
     let from12 : drop 12 frame ≡ e ++ rest = ap (drop 12) front12
-        ∙ drop_at (a ++ (b ++ (c ++ d))) (e ++ rest) 12
-        (omega (arith, length-append a (b ++ (c ++ d)), length-append b (c ++ d), length-append c d, la, lb, lc, ld)) in
+    ∙ drop_at (a ++ (b ++ (c ++ d))) (e ++ rest) 12
+    (omega (arith, length-append a (b ++ (c ++ d)), length-append b (c ++ d), length-append c d, la, lb, lc, ld)) in
     let front16 : frame ≡ (a ++ (b ++ (c ++ (d ++ e)))) ++ rest = from0 ∙ simp append_assoc in
     let from16 : drop 16 frame ≡ rest = ap (drop 16) front16
-        ∙ drop_at (a ++ (b ++ (c ++ (d ++ e)))) rest 16
-        (omega (arith, length-append a (b ++ (c ++ (d ++ e))), length-append b (c ++ (d ++ e)),
-        length-append c (d ++ e), length-append d e, la, lb, lc, ld, le)) in
+    ∙ drop_at (a ++ (b ++ (c ++ (d ++ e)))) rest 16
+    (omega (
+      arith,
+      length-append a (b ++ (c ++ (d ++ e))),
+      length-append b (c ++ (d ++ e)),
+      length-append c (d ++ e),
+      length-append d e,
+      la,
+      lb,
+      lc,
+      ld,
+      le,
+    )) in
     let the_len : number_in 4 0 frame ≡ h.len = ap (little_number 4) from0
-        ∙ little_number-reads_back 4 h.len (b ++ (c ++ (d ++ (e ++ rest)))) fits.len in
+    ∙ little_number-reads_back 4 h.len (b ++ (c ++ (d ++ (e ++ rest)))) fits.len in
     let the_type : number_in 2 4 frame ≡ h.message_type = ap (little_number 2) from4
-        ∙ little_number-reads_back 2 h.message_type (c ++ (d ++ (e ++ rest))) fits.message_type in
+    ∙ little_number-reads_back 2 h.message_type (c ++ (d ++ (e ++ rest))) fits.message_type in
     let the_flags : number_in 2 6 frame ≡ h.flags.0 = ap (little_number 2) from6
-        ∙ little_number-reads_back 2 h.flags.0 (d ++ (e ++ rest)) fits.flags in
+    ∙ little_number-reads_back 2 h.flags.0 (d ++ (e ++ rest)) fits.flags in
     let the_number : number_in 4 8 frame ≡ h.sequence_number = ap (little_number 4) from8
-        ∙ little_number-reads_back 4 h.sequence_number (e ++ rest) fits.sequence_number in
+    ∙ little_number-reads_back 4 h.sequence_number (e ++ rest) fits.sequence_number in
     let the_port : number_in 4 12 frame ≡ h.port = ap (little_number 4) from12
-        ∙ little_number-reads_back 4 h.port rest fits.port in
+    ∙ little_number-reads_back 4 h.port rest fits.port in
     let payload : take (h.len - 16) (drop 16 frame) ≡ rest = ap (take (h.len - 16)) (from16 ∙ sym (append-nil rest))
-        ∙ take_at rest [] (h.len - 16) (omega arith) in
+    ∙ take_at rest [] (h.len - 16) (omega arith) in
     record {
       header_is = rw (the_len, the_type, the_flags, the_number, the_port) refl;
       least = omega arith;
-      whole = ap (λ (s : List ℕ). length s) front16 ∙ omega (arith, length-append (a ++ (b ++ (c ++ (d ++ e)))) rest,
-          length-append a (b ++ (c ++ (d ++ e))), length-append b (c ++ (d ++ e)), length-append c (d ++ e),
-          length-append d e, la, lb, lc, ld, le);
+      whole = ap (λ (s : List ℕ). length s) front16 ∙ omega (
+        arith,
+        length-append (a ++ (b ++ (c ++ (d ++ e)))) rest,
+        length-append a (b ++ (c ++ (d ++ e))),
+        length-append b (c ++ (d ++ e)),
+        length-append c (d ++ e),
+        length-append d e,
+        la,
+        lb,
+        lc,
+        ld,
+        le,
+      );
       payload_is = ap (λ (s : List ℕ). Ok s) payload;
     }
 
@@ -94,9 +114,9 @@ one-frame s h body is =
     let layout = lent_message same in
     let placed = layout_with-placed same _ in
     let read : frame_at layout s ≡ Ok ((h, body), []) = ap (frame_at layout) (sym (append-nil s))
-        ∙ frame_at-frame layout placed s [] h body is in
+    ∙ frame_at-frame layout placed s [] h body is in
     cut_of-message layout placed (omega arith) s [] (h, body) read
-        ∙ ap (λ (later : Cut (Lent ℕ)). ((h, body) ∷ later.0, later.1)) (cut_of-end layout placed (omega arith))
+    ∙ ap (λ (later : Cut (Lent ℕ)). ((h, body) ∷ later.0, later.1)) (cut_of-end layout placed (omega arith))
 
 -- ---- messages
 
@@ -117,21 +137,28 @@ pub written-walked : {K P : Type 0} (number_of : K → ℕ) (wire : P → Wire) 
     → message_wire number_of wire m ≡ Ok bytes → IsWalked number_of wire m bytes
 written-walked number_of wire size sized m bytes fits own written =
     let padded = padded-parts (header_wire number_of m.header
-        +++ payload_wire number_of wire m.payload) bytes written in
+    +++ payload_wire number_of wire m.payload) bytes written in
     let both = both_written (header_wire number_of m.header)
-        (payload_wire number_of wire m.payload) padded.0 padded.1 in
+    (payload_wire number_of wire m.payload) padded.0 padded.1 in
     let body : List ℕ = both.1 in
     let head = header-bytes number_of m.header both.0 both.2 in
     let long : length body ≡ payload_size size m.payload =
-        payload_wire-length number_of wire size sized m.payload body both.3 in
+    payload_wire-length number_of wire size sized m.payload body both.3 in
     let h : Header ℕ = header_numbered number_of m.header in
     let zeros : List ℕ = zeros_for (16 + length body) in
     let lz : length zeros ≡ gap (16 + length body) = length-replicate {A = ℕ} (gap (16 + length body)) 0 in
     let frame = frame-written h body zeros fits (omega (arith, lz, long, own)) (omega (arith, own)) in
     let joined : fields h ++ body ≡ padded.0 = ap (λ (s : List ℕ). s ++ body) head ∙ sym both.4 in
-    let size16 : length padded.0 ≡ 16 + length body = omega (arith, ap length both.4, length-append both.0 both.1,
-        header_wire-length number_of m.header both.0 both.2) in
+    let size16 : length padded.0 ≡ 16 + length body = omega (
+      arith,
+      ap length both.4,
+      length-append both.0 both.1,
+      header_wire-length number_of m.header both.0 both.2,
+    ) in
     let text : (fields h ++ body) ++ zeros ≡ bytes = ap (λ (s : List ℕ). s ++ zeros) joined
-        ∙ ap (λ (n : ℕ). padded.0 ++ zeros_for n) (sym size16) ∙ padded.2 in
-    (body, both.3, subst (λ (s : List ℕ). messages_in same s ≡ ((h, body ++ zeros) ∷ [], None)) text
-        (one-frame _ h (body ++ zeros) frame))
+    ∙ ap (λ (n : ℕ). padded.0 ++ zeros_for n) (sym size16) ∙ padded.2 in (
+      body,
+      both.3,
+      subst (λ (s : List ℕ). messages_in same s ≡ ((h, body ++ zeros) ∷ [], None)) text
+          (one-frame _ h (body ++ zeros) frame),
+    )

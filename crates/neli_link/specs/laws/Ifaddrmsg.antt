@@ -26,9 +26,9 @@ ifaddrmsg-reads_back h is =
 pub ifaddrmsg-writes_back : (s : List ℕ) → length s ≡ 8 → AreBytes s → ifaddrmsg_bytes (ifaddrmsg_header s) ≡ s
 ifaddrmsg-writes_back s size small =
     place 1 0 7 s _ _ size small (first_with-number rt_addr_family_number rt_addr_family_variants
-        rt_addr_family.UnrecognizedConst (λ n. refl) _)
+    rt_addr_family.UnrecognizedConst (λ n. refl) _)
     (place 1 1 6 s _ _ size small refl
     (place 1 2 5 s _ _ size small refl
     (place 1 3 4 s _ _ size small (first_with-number rt_scope_number rt_scope_variants rt_scope.UnrecognizedConst
-        (λ n. refl) _)
+    (λ n. refl) _)
     (last_place 4 4 s _ size small refl))))

@@ -27,10 +27,10 @@ ifinfomsg-reads_back h is =
 pub ifinfomsg-writes_back : (s : List ℕ) → length s ≡ 16 → AreBytes s → ifinfomsg_bytes (ifinfomsg_header s) ≡ s
 ifinfomsg-writes_back s size small =
     place 1 0 15 s _ _ size small (first_with-number rt_addr_family_number rt_addr_family_variants
-        rt_addr_family.UnrecognizedConst (λ n. refl) _)
+    rt_addr_family.UnrecognizedConst (λ n. refl) _)
     (place 1 1 14 s _ _ size small refl
     (place 2 2 12 s _ _ size small (first_with-number arphrd_number arphrd_variants arphrd.UnrecognizedConst
-        (λ n. refl) _)
+    (λ n. refl) _)
     (place 4 4 8 s _ _ size small (signed-place 4 s small)
     (place 4 8 4 s _ _ size small refl
     (last_place 4 12 s _ size small refl)))))

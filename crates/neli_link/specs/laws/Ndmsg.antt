@@ -28,11 +28,11 @@ ndmsg-reads_back h is =
 pub ndmsg-writes_back : (s : List ℕ) → length s ≡ 12 → AreBytes s → ndmsg_bytes (ndmsg_header s) ≡ s
 ndmsg-writes_back s size small =
     place 1 0 11 s _ _ size small (first_with-number rt_addr_family_number rt_addr_family_variants
-        rt_addr_family.UnrecognizedConst (λ n. refl) _)
+    rt_addr_family.UnrecognizedConst (λ n. refl) _)
     (place 1 1 10 s _ _ size small refl
     (place 2 2 8 s _ _ size small refl
     (place 4 4 4 s _ _ size small (signed-place 4 s small)
     (place 2 8 2 s _ _ size small refl
     (place 1 10 1 s _ _ size small refl
     (last_place 1 11 s _ size small (first_with-number rtn_number rtn_variants rtn.UnrecognizedConst
-        (λ n. refl) _)))))))
+    (λ n. refl) _)))))))

@@ -18,13 +18,13 @@ ext_ack_in-no_memory : (s : List ℕ) → ext_ack_in s ≢ Err Memory
 ext_ack_in-no_memory s =
     bind-not (attributes_in (type_of nlmsgerr_attr_of) s) _ Memory
     (elements-no_memory (frame_at (attribute (type_of nlmsgerr_attr_of) (λ bytes. Ok bytes)))
-        (attribute-no_memory (type_of nlmsgerr_attr_of) (λ bytes. Ok bytes) (λ bytes f. cc)) s)
+    (attribute-no_memory (type_of nlmsgerr_attr_of) (λ bytes. Ok bytes) (λ bytes f. cc)) s)
     (λ attrs f. cc)
 
 ext_ack_in-never_short : (s : List ℕ) → ext_ack_in s ≢ Err short
 ext_ack_in-never_short s =
     bind-not (attributes_in (type_of nlmsgerr_attr_of) s) _ short
-        (elements-never_short (frame_at (attribute (type_of nlmsgerr_attr_of) (λ bytes. Ok bytes))) s) (λ attrs f. cc)
+    (elements-never_short (frame_at (attribute (type_of nlmsgerr_attr_of) (λ bytes. Ok bytes))) s) (λ attrs f. cc)
 
 -- ---- a refusal that is neither of a body nor of attributes, nor of a length
 
@@ -36,7 +36,7 @@ module _ (d : DeError) (lengths : (n : ℕ) → InvalidInput n ≢ d) (attribute
   echoed_in-not s =
       guard-not (ltb (echoed_length s) 16) (InvalidInput (echoed_length s)) d _ (lengths (echoed_length s))
       (guard-not (ltb (length s - 20) (echoed_count s)) (InvalidInput (echoed_count s)) d _ (lengths (echoed_count s))
-          (λ f. cc))
+      (λ f. cc))
 
   dump_end_in-not : (s : List ℕ) → dump_end_in s ≢ Err d
   dump_end_in-not s = bind-not (after 4 s) _ d (after-not 4 s)

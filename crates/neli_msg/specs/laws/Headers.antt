@@ -12,7 +12,7 @@ module _ {K : Type 0} (type_number : K → ℕ) where
   abbrev fields : Header K → List ℕ
   fields h =
       little_bytes 4 h.len ++ little_bytes 2 (type_number h.message_type) ++ little_bytes 2 h.flags.0
-          ++ little_bytes 4 h.sequence_number ++ little_bytes 4 h.port
+      ++ little_bytes 4 h.sequence_number ++ little_bytes 4 h.port
 
   -- a header has 16 bytes
   pub fields-length : (h : Header K) → length (fields h) ≡ 16

@@ -44,7 +44,7 @@ module _ (Q : DeError → Type 0) (missing : Q short) (lengths : (n : ℕ) → Q
       (only-guard (ltb n layout.size) (InvalidInput n) _ (lengths n)
       (only-guard (ltb (length s) n) (InvalidInput (n - layout.size)) _ (lengths (n - layout.size))
       (only-then (layout.payload_of h (take (n - layout.size) (drop layout.size s))) _ (payloads h
-          (take (n - layout.size) (drop layout.size s)))
+      (take (n - layout.size) (drop layout.size s)))
       (λ v. only-guard (ltb (length s) (align n)) short _ missing (λ e is. absurd cc)))))
 
   only-test : {A : Type 0} (b : Bool) (r : Result A DeError) (d : DeError) → Only r → Q d → Only (cond b r (Err d))
@@ -60,9 +60,9 @@ module _ (Q : DeError → Type 0) (missing : Q short) (lengths : (n : ℕ) → Q
   only-elements read stuck q each (suc fuel) (b ∷ s) e is =
       only-then (read (b ∷ s)) _ (each (b ∷ s))
       (λ p. only-test (ltb (length p.1) (suc (length s)))
-          (elements_by read stuck fuel p.1 >>= λ more. Ok (p.0 ∷ more)) stuck
+      (elements_by read stuck fuel p.1 >>= λ more. Ok (p.0 ∷ more)) stuck
       (only-then (elements_by read stuck fuel p.1) _ (only-elements read stuck q each fuel p.1)
-          (λ more d no. absurd cc)) q) e is
+      (λ more d no. absurd cc)) q) e is
 
   only-within : (n : ℕ) (b : Bool) (d : DeError) → Q d → Q (cond b (InvalidInput n) d)
   only-within n true d q = lengths n
@@ -79,7 +79,7 @@ module _ (Q : DeError → Type 0) (missing : Q short) (lengths : (n : ℕ) → Q
       only-then (attributes_in (type_of nlmsgerr_attr_of) s) _
       (only-map (length s) (elements_by read (InvalidInput (length s)) (length s) s)
       (only-elements read (InvalidInput (length s)) (lengths (length s))
-          (only-frame (attribute (type_of nlmsgerr_attr_of) (λ bytes. Ok bytes)) (λ h t e is. absurd cc)) (length s) s))
+      (only-frame (attribute (type_of nlmsgerr_attr_of) (λ bytes. Ok bytes)) (λ h t e is. absurd cc)) (length s) s))
       (λ attrs e is. absurd cc)
 
   -- ---- payloads and messages
@@ -91,7 +91,7 @@ module _ (Q : DeError → Type 0) (missing : Q short) (lengths : (n : ℕ) → Q
   only-echoed s =
       only-guard (ltb (echoed_length s) 16) (InvalidInput (echoed_length s)) _ (lengths (echoed_length s))
       (only-guard (ltb (length s - 20) (echoed_count s)) (InvalidInput (echoed_count s)) _ (lengths (echoed_count s))
-          (λ e is. absurd cc))
+      (λ e is. absurd cc))
 
   only-tail : (tail : Tail) (s : List ℕ) → Only (tail_in tail s)
   only-tail Unread s e is = absurd cc
@@ -100,15 +100,15 @@ module _ (Q : DeError → Type 0) (missing : Q short) (lengths : (n : ℕ) → Q
   only-headed : {K : Type 0} (of : ℕ → K) (tail : Tail) (s : List ℕ) → Only (headed_in of tail s)
   only-headed of tail s =
       only-then (after 20 s) _ (only-after 20 s) (λ rest. only-then (tail_in tail rest) _ (only-tail tail rest)
-          (λ attrs d no. absurd cc))
+      (λ attrs d no. absurd cc))
 
   only-payload : {K : Type 0} (of : ℕ → K) (kind : Kind) (s : List ℕ) → Only (payload_as of (λ bytes. Ok bytes) kind s)
   only-payload of Body s e is = absurd cc
   only-payload of Nothing s e is = absurd cc
   only-payload of DumpEnd s e is =
       only-then (dump_end_in s) _ (only-then (after 4 s) _ (only-after 4 s)
-          (λ rest. only-then (ext_ack_in rest) _ (only-attributes rest) (λ attrs d no. absurd cc)))
-          (λ x d no. absurd cc) e is
+      (λ rest. only-then (ext_ack_in rest) _ (only-attributes rest) (λ attrs d no. absurd cc)))
+      (λ x d no. absurd cc) e is
   only-payload of (Acknowledgement tail) s e is = only-then (headed_in of tail s) _ (only-headed of tail s)
       (λ x d no. absurd cc) e is
   only-payload of (Capped tail) s e is = only-then (headed_in of tail s) _ (only-headed of tail s)
@@ -124,4 +124,4 @@ module _ (Q : DeError → Type 0) (missing : Q short) (lengths : (n : ℕ) → Q
       → Only (frame_at (message_layout of number_of (λ bytes. Ok bytes)) s)
   only-message of number_of =
       only-frame (message_layout of number_of (λ bytes. Ok bytes))
-          (λ h s. only-payload of (kind_of (number_of h.message_type) h.flags s) s)
+      (λ h s. only-payload of (kind_of (number_of h.message_type) h.flags s) s)

@@ -81,9 +81,9 @@ module _ {K V : Type 0} (type_of : ℕ → K) (read : List ℕ → Result V DeEr
       let known : answer (code_in s) (echo_with same s body.0) attrs.0 ≡ b.0 = ok_is _ b.0 attrs.2 in
       rw (r.1, body.1)
       (echo-chain (λ v x. answer (code_in s) (echo_with type_of s v) x) (echo_with type_of s) attrs.0
-          (λ m. answer (code_in s) m attrs.0) (read body.0) (ext_ack_in (after_echo s)) attrs.1 (λ v. refl)
+      (λ m. answer (code_in s) m attrs.0) (read body.0) (ext_ack_in (after_echo s)) attrs.1 (λ v. refl)
       ∙ ap (typed_payload type_of read) (ap (λ (x : Nlmsgerr (NlmsghdrErr ℕ (List ℕ))). payload.Err x) known
-          ∙ ok_is (payload.Err b.0) u b.2))
+      ∙ ok_is (payload.Err b.0) u b.2))
 
   -- a payload that is read untyped is read as what it says as the other types
   pub payload_in-typed : (number : ℕ) (flags : NlmF) (s : List ℕ) (u : NlPayload ℕ (List ℕ))
@@ -128,13 +128,13 @@ module _ {K V : Type 0} (type_of : ℕ → K) (read : List ℕ → Result V DeEr
       fails-then (echoed_in s) _ _ (λ body.
       fails-after (read body) (ext_ack_in (after_echo s)) _ (λ v x. answer (code_in s) (echo_with type_of s v) x)
       (fails-bind (ext_ack_in (after_echo s)) (λ x. answer (code_in s) (echo_with same s body) x)
-          (ext_ack_in (after_echo s)) (λ e is. rw is refl))))
+      (ext_ack_in (after_echo s)) (λ e is. rw is refl))))
 
   headed-fails : (tail : Tail) (s : List ℕ) → Fails (headed_in same tail s) (headed_in type_of tail s)
   headed-fails tail s =
       fails-then (after 20 s) _ _ (λ rest.
       fails-then (tail_in tail rest) _ _ (λ attrs. fails-not (answer (code_in s) (header_in same (drop 4 s)) attrs)
-          (done (answer (code_in s) (header_in type_of (drop 4 s)) attrs))))
+      (done (answer (code_in s) (header_in type_of (drop 4 s)) attrs))))
 
   payload_as-fails : (kind : Kind) (s : List ℕ) → Fails (payload_as same all kind s) (payload_as type_of read kind s)
   payload_as-fails Body s = fails-not (payload.Payload s) (payload_as type_of read Body s)
@@ -164,14 +164,16 @@ module _ {K V : Type 0} (type_of : ℕ → K) (read : List ℕ → Result V DeEr
         (take (number_in 4 0 s - 16) (drop 16 s)) ≡ typed_payload type_of read u
         → ltb (length s) (align (number_in 4 0 s)) ≡ false
         → frame_at (message_layout type_of number_of read) s
-        ≡ (typed_payload type_of read u >>= λ v. done {A = Message K V × List ℕ} ((header_in type_of s, v),
-        drop (align (number_in 4 0 s)) s))
+        ≡ (typed_payload type_of read u >>= λ v. done {A = Message K V × List ℕ} (
+          (header_in type_of s, v),
+          drop (align (number_in 4 0 s)) s,
+        ))
     unfolding frame_at
     message-by s u numbers head least within typed whole =
         let end = drop (align (number_in 4 0 s)) s in
         let F : Bool → Type 0 = λ x. (typed_payload type_of read u >>= λ v. cond x (Err short)
-            (done {A = Message K V × List ℕ} ((header_in type_of s, v), end)))
-            ≡ (typed_payload type_of read u >>= λ v. done {A = Message K V × List ℕ} ((header_in type_of s, v), end)) in
+        (done {A = Message K V × List ℕ} ((header_in type_of s, v), end)))
+        ≡ (typed_payload type_of read u >>= λ v. done {A = Message K V × List ℕ} ((header_in type_of s, v), end)) in
         rw (head, least, within, numbers, typed) (subst F (sym whole) refl)
 
     chain : (p : Result (NlPayload K V) DeError) (h : Header K) (rest : List ℕ)
@@ -195,11 +197,13 @@ module _ {K V : Type 0} (type_of : ℕ → K) (read : List ℕ → Result V DeEr
         let g4 = guard_ok (ltb (length s) (align n)) short _ (m, r) b.2 in
         let typed = payload_in-typed (number_in 2 4 s) flags (take (n - 16) (drop 16 s)) b.0 b.1 in
         let P : Message ℕ (List ℕ) × List ℕ → Type 0 =
-            λ q. (typed_payload type_of read b.0 >>= λ v. done {A = Message K V × List ℕ} ((header_in type_of s, v),
-            drop (align n) s)) ≡ (typed_message type_of read q.0 >>= λ t. done (t, q.1)) in
+        λ q. (typed_payload type_of read b.0 >>= λ v. done {A = Message K V × List ℕ} (
+          (header_in type_of s, v),
+          drop (align n) s,
+        )) ≡ (typed_message type_of read q.0 >>= λ t. done (t, q.1)) in
         message-by s b.0 (untyped-is s bytes) g1.0 g2.0 g3.0 typed g4.0
         ∙ subst P (ok_is ((header_in same s, b.0), drop (align n) s) (m, r) g4.1)
-            (chain (typed_payload type_of read b.0) (header_in type_of s) (drop (align n) s))
+        (chain (typed_payload type_of read b.0) (header_in type_of s) (drop (align n) s))
 
     fails-guard : {A B : Type 0} (b : Bool) (d : DeError) (p : Result A DeError) (q : Result B DeError) → Fails p q
         → Fails (cond b (Err d) p) (cond b (Err d) q)
@@ -228,7 +232,7 @@ module _ {K V : Type 0} (type_of : ℕ → K) (read : List ℕ → Result V DeEr
         (fails-guard (ltb n 16) (InvalidInput n) _ _
         (fails-guard (ltb (length s) n) (InvalidInput (n - 16)) _ _
         (fails-end (payload_in same all (number_in 2 4 s) flags body)
-            (payload_in type_of read (number_in 2 4 s) flags body) (ltb (length s) (align n)) short _ _
+        (payload_in type_of read (number_in 2 4 s) flags body) (ltb (length s) (align n)) short _ _
         (payload_as-fails (kind_of (number_in 2 4 s) flags body) body)))))
 
   -- ---- when retyping succeeds
@@ -240,8 +244,10 @@ module _ {K V : Type 0} (type_of : ℕ → K) (read : List ℕ → Result V DeEr
   typed_payload-ok : (u : NlPayload ℕ (List ℕ)) → IsOk (typed_payload type_of read u) ↔ IsRead read u
   typed_payload-ok (payload.Payload bytes) = ok-map (read bytes) (λ v. payload.Payload v)
   typed_payload-ok (payload.Err e) =
-      let inner = ok-map (read e.nlmsg.payload) (λ v. record { header = typed_header type_of e.nlmsg.header;
-          payload = v }) in
+      let inner = ok-map (read e.nlmsg.payload) (λ v. record {
+        header = typed_header type_of e.nlmsg.header;
+        payload = v;
+      }) in
       let one = ok-map (typed_echo type_of read e.nlmsg) (λ m. answer e.error m e.ext_ack) in
       let two = ok-map (typed_failure type_of read e) (λ f. payload.Err f) in
       (λ h. inner.0 (one.0 (two.0 h)), λ h. two.1 (one.1 (inner.1 h)))

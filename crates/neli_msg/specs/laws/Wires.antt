@@ -39,8 +39,13 @@ padded-length : (w : Wire) (n : ℕ) → ((bytes : List ℕ) → w ≡ Ok bytes 
 padded-length (Ok x) n sized bytes e =
     let same : x ++ zeros_for (length x) ≡ bytes = cc in
     let len : length x ≡ n = sized x refl in
-    let all : length bytes ≡ align (length x) = omega (arith, ap length same, length-append x (zeros_for (length x)),
-        length-replicate {A = ℕ} (align (length x) - length x) 0, align-le (length x)) in
+    let all : length bytes ≡ align (length x) = omega (
+      arith,
+      ap length same,
+      length-append x (zeros_for (length x)),
+      length-replicate {A = ℕ} (align (length x) - length x) 0,
+      align-le (length x),
+    ) in
     all ∙ ap align len
 padded-length (Err d) n sized bytes e = absurd cc
 
@@ -65,8 +70,8 @@ module _ {M : Type 0} (wire : M → Wire) where
   answer_wire-length size sized e =
       both-length (Ok (signed_bytes w32 4 e.error) +++ wire e.nlmsg) (attributes_wire e.ext_ack) (4 + size e.nlmsg) _
       (both-length (Ok (signed_bytes w32 4 e.error)) (wire e.nlmsg) 4 (size e.nlmsg)
-          (λ bytes is. written-length (signed_bytes w32 4 e.error) bytes 4 (count-signed w32 4 refl e.error) is)
-          (sized e.nlmsg))
+      (λ bytes is. written-length (signed_bytes w32 4 e.error) bytes 4 (count-signed w32 4 refl e.error) is)
+      (sized e.nlmsg))
       (attributes_wire-length e.ext_ack)
 
   pub answer_wire-zeros : (size : M → ℕ) → ((m : M) (bytes : List ℕ) → wire m ≡ Ok bytes → length bytes ≡ size m)
@@ -79,7 +84,7 @@ module _ {M : Type 0} (wire : M → Wire) where
   answer_wire-no_memory none e =
       both-no_memory (Ok (signed_bytes w32 4 e.error) +++ wire e.nlmsg) (attributes_wire e.ext_ack)
       (both-no_memory (Ok (signed_bytes w32 4 e.error)) (wire e.nlmsg) (written-no_memory (signed_bytes w32 4 e.error))
-          (none e.nlmsg))
+      (none e.nlmsg))
       (attributes_wire-no_memory e.ext_ack)
 
 -- ---- echoed messages, payloads and messages

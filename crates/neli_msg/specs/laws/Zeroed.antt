@@ -65,7 +65,7 @@ written bytes = Ok bytes
 abbrev header_bytes : Header ℕ → List ℕ
 header_bytes h =
     little_bytes 4 h.len ++ little_bytes 2 h.message_type ++ little_bytes 2 h.flags.0
-        ++ little_bytes 4 h.sequence_number ++ little_bytes 4 h.port
+    ++ little_bytes 4 h.sequence_number ++ little_bytes 4 h.port
 
 -- a header that was read is written as its bytes
 header-back : (s : List ℕ) → 16 ≤ length s → AreBytes s → header_bytes (header_in same s) ≡ take 16 s
@@ -99,7 +99,7 @@ attribute-states = record {
   whole = λ frame rest h v is.
       let stated : number_in 2 0 frame ≡ h.len = ap (λ h. h.len) is.header_is in
       let before : number_in 2 0 (frame ++ rest) ≡ number_in 2 0 frame =
-          little_from-append 2 frame rest (omega (arith, is.whole, is.least)) in
+      little_from-append 2 frame rest (omega (arith, is.whole, is.least)) in
       is.whole ∙ ap align (sym (before ∙ stated));
 }
 
@@ -110,9 +110,9 @@ attribute-text : (frame : List ℕ) → 4 ≤ number_in 2 0 frame → number_in 
 attribute-text frame least le bytes =
     let n = number_in 2 0 frame in
     let head : little_bytes 2 (number_in 2 0 frame) ++ little_bytes 2 (number_in 2 2 frame) ≡ take 4 frame =
-        place 2 0 2 frame _ (omega arith) bytes (last_place 2 2 frame (omega arith) bytes) in
+    place 2 0 2 frame _ (omega arith) bytes (last_place 2 2 frame (omega arith) bytes) in
     ap (λ (x : List ℕ). x ++ take (n - 4) (drop 4 frame)) head ∙ sym (take-add 4 (n - 4) frame)
-        ∙ ap (λ (m : ℕ). take m frame) (omega arith)
+    ∙ ap (λ (m : ℕ). take m frame) (omega arith)
 
 attribute-back : (frame : List ℕ) (a : Read) → AreBytes frame → IsFrame (attribute kind_of_field all) frame a.0 a.1
     → read_wire a ≡ Ok (attribute_zeroed frame)
@@ -123,16 +123,16 @@ attribute-back frame a bytes is =
     let number : number_of nlmsgerr_attr_number a.0.kind ≡ number_in 2 2 frame =
     sym (ap (λ h. number_of nlmsgerr_attr_number h.kind) is.header_is)
     ∙ number_of-type_of nlmsgerr_attr_number nlmsgerr_attr_of
-        (λ m _. first_with-number nlmsgerr_attr_number nlmsgerr_attr_variants UnrecognizedConst (λ k. refl) m)
-        (number_in 2 2 frame) small in
+    (λ m _. first_with-number nlmsgerr_attr_number nlmsgerr_attr_variants UnrecognizedConst (λ k. refl) m)
+    (number_in 2 2 frame) small in
     let body : a.1 ≡ take (n - 4) (drop 4 frame) = sym (ok_is (take (a.0.len - 4) (drop 4 frame)) a.1 is.payload_is)
-        ∙ ap (λ (m : ℕ). take (m - 4) (drop 4 frame)) len in
+    ∙ ap (λ (m : ℕ). take (m - 4) (drop 4 frame)) len in
     let whole : length frame ≡ align n = is.whole ∙ ap align len in
     let least : 4 ≤ n = omega (arith, len, is.least) in
     let text = attribute-text frame least (omega (arith, whole)) bytes in
     let sized : length (take n frame) ≡ n = length-take-le n frame (omega (arith, whole)) in
     let wire : (little_bytes 2 a.0.len ++ little_bytes 2 (number_of nlmsgerr_attr_number a.0.kind)) ++ a.1
-        ≡ take n frame =
+    ≡ take n frame =
     ap (λ (x : ℕ). (little_bytes 2 x ++ little_bytes 2 (number_of nlmsgerr_attr_number a.0.kind)) ++ a.1) len
     ∙ ap (λ (x : ℕ). (little_bytes 2 n ++ little_bytes 2 x) ++ a.1) number
     ∙ ap (λ (x : List ℕ). (little_bytes 2 n ++ little_bytes 2 (number_in 2 2 frame)) ++ x) body
@@ -148,8 +148,13 @@ attribute-length frame a is =
     let len : a.0.len ≡ n = sym (ap (λ h. h.len) is.header_is) in
     let whole : length frame ≡ align n = is.whole ∙ ap align len in
     let sized : length (take n frame) ≡ n = length-take-le n frame (omega (arith, whole)) in
-    omega (arith, whole, sized, length-append (take n frame) (replicate (length frame - n) 0),
-        length-replicate {A = ℕ} (length frame - n) 0)
+    omega (
+      arith,
+      whole,
+      sized,
+      length-append (take n frame) (replicate (length frame - n) 0),
+      length-replicate {A = ℕ} (length frame - n) 0,
+    )
 
 -- attributes that were read are written as their bytes, with zeros for padding
 pub record AreBack (s : List ℕ) (attrs : Attributes) : Type 0 where
@@ -163,10 +168,10 @@ attributes-back s attrs bytes e =
     let found = bind_ok (attributes_in kind_of_field s) _ attrs e in
     let items : List Read = found.0 in
     let are : AreFrames layout s items = list-frames layout (attribute-placed kind_of_field all)
-        (omega arith) s items found.1 in
+    (omega arith) s items found.1 in
     let known : map attribute_of items ≡ attrs = ok_is (map attribute_of items) attrs found.2 in
     let each = frames-wire layout attribute_length attribute_zeroed attribute-states read_wire (λ _. ⊤)
-        (λ frame a b _ is. attribute-back frame a b is) (length s) s items bytes (omega arith) (all-true items) are in
+    (λ frame a b _ is. attribute-back frame a b is) (length s) s items bytes (omega arith) (all-true items) are in
     record {
       back = ap attributes_wire (sym known) ∙ wire_all-map
           (nlattr_wire nlmsgerr_attr_number (λ bytes. Ok bytes)) attribute_of items ∙ each;
@@ -227,7 +232,7 @@ head-parts s long bytes =
     let code = code-back s (omega arith) bytes in
     let header = header-back (drop 4 s) (omega (arith, length-drop 4 s)) (bytes-drop 4 s bytes) in
     ap (λ (x : List ℕ). x ++ header_bytes (header_in same (drop 4 s))) code ∙ ap (λ (x : List ℕ). take 4 s ++ x) header
-        ∙ sym (take-add 4 16 s)
+    ∙ sym (take-add 4 16 s)
 
 head-back : (tail : Tail) (s : List ℕ) (x : Nlmsgerr (Header ℕ)) → AreBytes s → IsAllRead tail (16 + length s)
     → headed_in same tail s ≡ Ok x → IsHeadBack tail s x
@@ -256,15 +261,20 @@ head-back Listed s x bytes all_read e =
     let listed = attributes-back (drop 20 s) t.0 (bytes-drop 20 s bytes) attrs in
     let twenty : length (take 20 s) ≡ 20 = length-take-le 20 s long in
     let front : zeros_from 20 (take 20 s) ≡ take 20 s =
-        rw (take-take 20 20 s (omega arith), twenty) (append-nil (take 20 s)) in
+    rw (take-take 20 20 s (omega arith), twenty) (append-nil (take 20 s)) in
     let sized : length (take 20 s ++ attributes_zeroed (drop 20 s)) ≡ length s =
-        omega (arith, length-append (take 20 s) (attributes_zeroed (drop 20 s)), twenty, listed.long,
-        length-drop 20 s) in
+    omega (
+      arith,
+      length-append (take 20 s) (attributes_zeroed (drop 20 s)),
+      twenty,
+      listed.long,
+      length-drop 20 s,
+    ) in
     let one : IsHeadBack Listed s (answer (code_in s) (header_in same (drop 4 s)) t.0) = record {
       bytes = take 20 s ++ attributes_zeroed (drop 20 s);
       wire =
           ap (λ (w : Wire). (written (signed_bytes w32 4 (code_in s)) +++ written
-              (header_bytes (header_in same (drop 4 s)))) +++ w) listed.back
+          (header_bytes (header_in same (drop 4 s)))) +++ w) listed.back
           ∙ ap (λ (x : List ℕ). written (x ++ attributes_zeroed (drop 20 s))) (head-parts s long bytes);
       is = rw (sized, front) refl;
     } in
@@ -277,7 +287,7 @@ acknowledgement-back tail s u bytes all_read e =
     let b = bind_ok (headed_in same tail s) _ u e in
     let back = head-back tail s b.0 bytes all_read b.1 in
     let one : IsBack (Acknowledgement tail) s (payload.Ack b.0) =
-        record { bytes = back.bytes; wire = back.wire; is = back.is } in
+    record { bytes = back.bytes; wire = back.wire; is = back.is } in
     subst (λ (x : NlPayload ℕ (List ℕ)). IsBack (Acknowledgement tail) s x) (ok_is (payload.Ack b.0) u b.2) one
 
 capped-back : (tail : Tail) (s : List ℕ) (u : NlPayload ℕ (List ℕ)) → AreBytes s → IsAllRead tail (16 + length s)
@@ -286,7 +296,7 @@ capped-back tail s u bytes all_read e =
     let b = bind_ok (headed_in same tail s) _ u e in
     let back = head-back tail s b.0 bytes all_read b.1 in
     let one : IsBack (Capped tail) s (payload.Capped b.0) =
-        record { bytes = back.bytes; wire = back.wire; is = back.is } in
+    record { bytes = back.bytes; wire = back.wire; is = back.is } in
     subst (λ (x : NlPayload ℕ (List ℕ)). IsBack (Capped tail) s x) (ok_is (payload.Capped b.0) u b.2) one
 
 dump_end-back : (s : List ℕ) (u : NlPayload ℕ (List ℕ)) → AreBytes s → payload_as same all DumpEnd s ≡ Ok u
@@ -305,7 +315,7 @@ dump_end-back s u bytes e =
     let four : length (take 4 s) ≡ 4 = length-take-le 4 s long in
     let front : zeros_from 4 (take 4 s) ≡ take 4 s = rw (take-take 4 4 s (omega arith), four) (append-nil (take 4 s)) in
     let sized : length (take 4 s ++ attributes_zeroed (drop 4 s)) ≡ length s =
-        omega (arith, length-append (take 4 s) (attributes_zeroed (drop 4 s)), four, listed.long, length-drop 4 s) in
+    omega (arith, length-append (take 4 s) (attributes_zeroed (drop 4 s)), four, listed.long, length-drop 4 s) in
     let one : IsBack DumpEnd s (payload.DumpExtAck (answer (code_in s) tt x.0)) = record {
       bytes = take 4 s ++ attributes_zeroed (drop 4 s);
       wire =
@@ -314,7 +324,7 @@ dump_end-back s u bytes e =
       is = rw (sized, front) refl;
     } in
     subst (λ (x : NlPayload ℕ (List ℕ)). IsBack DumpEnd s x) (ap (λ x. payload.DumpExtAck x) known
-        ∙ ok_is (payload.DumpExtAck b.0) u b.2) one
+    ∙ ok_is (payload.DumpExtAck b.0) u b.2) one
 
 -- ---- errors
 
@@ -326,13 +336,18 @@ echo-padding s c attrs enough long whole =
     let w = (take (20 + c) s ++ zeros_for (16 + c)) ++ attrs in
     let front : length (take (20 + c) s) ≡ 20 + c = length-take-le (20 + c) s enough in
     let gaps : length (zeros_for (16 + c)) ≡ align c - c = length-replicate {A = ℕ} (align (16 + c) - (16 + c)) 0
-        ∙ omega arith in
+    ∙ omega arith in
     let sized : length w ≡ 20 + align c + length attrs =
-        omega (arith, length-append (take (20 + c) s ++ zeros_for (16 + c)) attrs,
-        length-append (take (20 + c) s) (zeros_for (16 + c)), front, gaps) in
+    omega (
+      arith,
+      length-append (take (20 + c) s ++ zeros_for (16 + c)) attrs,
+      length-append (take (20 + c) s) (zeros_for (16 + c)),
+      front,
+      gaps,
+    ) in
     let none : align (16 + length w) - (16 + length w) ≡ 0 = omega (arith, sized, whole) in
     let kept : take (20 + c) (take (20 + align c) s) ≡ take (20 + c) s =
-        take-take (20 + c) (20 + align c) s (omega arith) in
+    take-take (20 + c) (20 + align c) s (omega arith) in
     let left : w ++ zeros_for (16 + length w) ≡ w = (rw none refl) ∙ append-nil w in
     elim (cases_lt (length s) (20 + align c)) [
       | inl few ↦
@@ -340,10 +355,10 @@ echo-padding s c attrs enough long whole =
           let is : attrs ≡ [] = nil_from_length attrs nothing in
           let all_there : take (20 + align c) s ≡ s = take_all (20 + align c) s (omega arith) in
           let count : (length s - (20 + c)) + (align (16 + length s) - (16 + length s)) ≡ align (16 + c) - (16 + c) =
-              omega arith in
+          omega arith in
           let zeros : replicate (length s - (20 + c)) 0 ++ zeros_for (16 + length s) ≡ zeros_for (16 + c) =
-              replicate-append-replicate (length s - (20 + c)) (align (16 + length s) - (16 + length s)) 0
-              ∙ ap (λ (n : ℕ). replicate n 0) count in
+          replicate-append-replicate (length s - (20 + c)) (align (16 + length s) - (16 + length s)) 0
+          ∙ ap (λ (n : ℕ). replicate n 0) count in
           left
           ∙ ap (λ (x : List ℕ). (take (20 + c) s ++ zeros_for (16 + c)) ++ x) is
           ∙ append-nil _
@@ -380,26 +395,26 @@ failure-back s u bytes e =
     let sixteen : length (take 16 (drop 4 s)) ≡ 16 = length-take-le 16 (drop 4 s) (omega (arith, length-drop 4 s)) in
     let counted : length (take c (drop 20 s)) ≡ c = length-take-le c (drop 20 s) (omega (arith, length-drop 20 s)) in
     let padded : length (take 16 (drop 4 s) ++ take c (drop 20 s)) ≡ 16 + c =
-        omega (arith, length-append (take 16 (drop 4 s)) (take c (drop 20 s)), sixteen, counted) in
+    omega (arith, length-append (take 16 (drop 4 s)) (take c (drop 20 s)), sixteen, counted) in
     let front : take 4 s ++ (take 16 (drop 4 s) ++ take c (drop 20 s)) ≡ take (20 + c) s =
     sym (append_assoc (take 4 s) (take 16 (drop 4 s)) (take c (drop 20 s)))
-        ∙ ap (λ (y : List ℕ). y ++ take c (drop 20 s)) (sym (take-add 4 16 s)) ∙ sym (take-add 20 c s) in
+    ∙ ap (λ (y : List ℕ). y ++ take c (drop 20 s)) (sym (take-add 4 16 s)) ∙ sym (take-add 20 c s) in
     let a : List ℕ = attributes_zeroed (after_echo s) in
     let body : List ℕ = take c (drop 20 s) in
     let answered_header : Header ℕ = header_in same (drop 4 s) in
     let text : take 4 s ++ ((take 16 (drop 4 s) ++ take c (drop 20 s)) ++ zeros_for (16 + c))
-        ≡ take (20 + c) s ++ zeros_for (16 + c) =
+    ≡ take (20 + c) s ++ zeros_for (16 + c) =
     sym (append_assoc (take 4 s) (take 16 (drop 4 s) ++ take c (drop 20 s)) (zeros_for (16 + c)))
-        ∙ ap (λ (y : List ℕ). y ++ zeros_for (16 + c)) front in
+    ∙ ap (λ (y : List ℕ). y ++ zeros_for (16 + c)) front in
     let left : length a ≡ length s - (20 + align c) = listed.long ∙ length-drop (echo_end s) s in
     let whole : align (length a) ≡ length a = ap align listed.long ∙ listed.whole ∙ sym listed.long in
     let one : IsBack Failure s (payload.Err (answer (code_in s) (echo_with same s (take c (drop 20 s))) x.0)) = record {
       bytes = (take (20 + c) s ++ zeros_for (16 + c)) ++ a;
       wire =
           ap (λ (w : Wire). (written (signed_bytes w32 4 (code_in s)) +++ pad_wire
-              (written (header_bytes answered_header) +++ written body)) +++ w) listed.back
+          (written (header_bytes answered_header) +++ written body)) +++ w) listed.back
           ∙ ap (λ (x : List ℕ). written ((x ++ ((header_bytes answered_header ++ body) ++ zeros_for
-              (length (header_bytes answered_header ++ body)))) ++ a)) code
+          (length (header_bytes answered_header ++ body)))) ++ a)) code
           ∙ ap (λ (x : List ℕ). written ((take 4 s ++ ((x ++ body) ++ zeros_for (length (x ++ body)))) ++ a)) header
           ∙ ap (λ (k : ℕ). written ((take 4 s ++ ((take 16 (drop 4 s) ++ body) ++ zeros_for k)) ++ a)) padded
           ∙ ap (λ (x : List ℕ). written (x ++ a)) text;
@@ -407,7 +422,7 @@ failure-back s u bytes e =
     } in
     let answered = ap (λ (y : List ℕ). payload.Err (answer (code_in s) (echo_with same s y) x.0)) echoed in
     subst (λ (x : NlPayload ℕ (List ℕ)). IsBack Failure s x) (answered ∙ ap (λ x. payload.Err x) known
-        ∙ ok_is (payload.Err b.0) u b.2) one
+    ∙ ok_is (payload.Err b.0) u b.2) one
 
 -- ---- messages
 
@@ -415,7 +430,7 @@ failure-back s u bytes e =
 abbrev kind_bits : Bool → Bool → Bool → Bool → Bool → Bool → Tail → Kind
 kind_bits is2 ok capped is3 none multi tail =
     cond is2 (cond ok (Acknowledgement tail) (cond capped (Capped tail) Failure))
-        (cond is3 (cond none Nothing (cond multi DumpEnd Body)) Body)
+    (cond is3 (cond none Nothing (cond multi DumpEnd Body)) Body)
 
 -- a payload that says nothing has no bytes
 nothing-bits : (is2 ok capped is3 none multi : Bool) (tail : Tail)
@@ -431,7 +446,7 @@ nothing-bits false ok capped false none multi tail e = absurd cc
 nothing-empty : (number : ℕ) (flags : NlmF) (s : List ℕ) → kind_of number flags s ≡ Nothing → length s ≡ 0
 nothing-empty number flags s e =
     eqb-true (length s) 0 (nothing-bits (nat_eq number 2) (is_acknowledged s) (is_capped flags) (nat_eq number 3)
-        (nat_eq (length s) 0) (is_multi flags) (tail_of flags) e)
+    (nat_eq (length s) 0) (is_multi flags) (tail_of flags) e)
 
 -- the tail of an answer that echoes a header alone is the one that the flags tell
 acknowledgement-bits : (is2 ok capped is3 none multi : Bool) (tail t : Tail)
@@ -458,13 +473,13 @@ acknowledgement-tail : (number : ℕ) (flags : NlmF) (s : List ℕ) (t : Tail) �
     → tail_of flags ≡ t
 acknowledgement-tail number flags s t =
     acknowledgement-bits (nat_eq number 2) (is_acknowledged s) (is_capped flags) (nat_eq number 3) (nat_eq (length s) 0)
-        (is_multi flags) (tail_of flags) t
+    (is_multi flags) (tail_of flags) t
 
 capped-tail : (number : ℕ) (flags : NlmF) (s : List ℕ) (t : Tail) → kind_of number flags s ≡ Capped t
     → tail_of flags ≡ t
 capped-tail number flags s t =
     capped-bits (nat_eq number 2) (is_acknowledged s) (is_capped flags) (nat_eq number 3) (nat_eq (length s) 0)
-        (is_multi flags) (tail_of flags) t
+    (is_multi flags) (tail_of flags) t
 
 -- where no byte of a payload was left unread, none was after the header that it echoes
 acknowledgement-read : (tail : Tail) (s : List ℕ) (u : NlPayload ℕ (List ℕ)) (len : ℕ)
@@ -490,11 +505,11 @@ payload-back number flags s u bytes e tail = by (kind_of number flags s) refl e
     by DumpEnd is e = dump_end-back s u bytes e
     by (Acknowledgement t) is e =
         let no_tail : HasNoTailIn t (16 + length s) u =
-            subst (λ (x : Tail). HasNoTailIn x (16 + length s) u) (acknowledgement-tail number flags s t is) tail in
+        subst (λ (x : Tail). HasNoTailIn x (16 + length s) u) (acknowledgement-tail number flags s t is) tail in
         acknowledgement-back t s u bytes (acknowledgement-read t s u (16 + length s) e no_tail) e
     by (Capped t) is e =
         let no_tail : HasNoTailIn t (16 + length s) u =
-            subst (λ (x : Tail). HasNoTailIn x (16 + length s) u) (capped-tail number flags s t is) tail in
+        subst (λ (x : Tail). HasNoTailIn x (16 + length s) u) (capped-tail number flags s t is) tail in
         capped-back t s u bytes (capped-read t s u (16 + length s) e no_tail) e
     by Failure is e = failure-back s u bytes e
 
@@ -504,7 +519,7 @@ message-states = record {
   whole = λ frame rest h v is.
       let stated : number_in 4 0 frame ≡ h.len = ap (λ h. h.len) is.header_is in
       let before : number_in 4 0 (frame ++ rest) ≡ number_in 4 0 frame =
-          little_from-append 4 frame rest (omega (arith, is.whole, is.least)) in
+      little_from-append 4 frame rest (omega (arith, is.whole, is.least)) in
       is.whole ∙ ap align (sym (before ∙ stated));
 }
 
@@ -526,29 +541,29 @@ message-back frame m bytes tail is = subst Q is.header_is there is.least is.whol
     there : Q (header_in same frame)
     there least whole reads tail =
         let sized : length body ≡ n - 16 = length-take-le (n - 16) (drop 16 frame)
-            (omega (arith, whole, length-drop 16 frame)) in
+        (omega (arith, whole, length-drop 16 frame)) in
         let len : 16 + length body ≡ n = omega (arith, sized) in
         let flags : NlmF = flags_of (number_in 2 6 frame) in
         let tailless : HasNoTailIn (tail_of flags) (16 + length body) m.1 =
-            subst (λ (k : ℕ). HasNoTailIn (tail_of flags) k m.1) (sym len) tail in
+        subst (λ (k : ℕ). HasNoTailIn (tail_of flags) k m.1) (sym len) tail in
         let back = payload-back (number_in 2 4 frame) (flags_of (number_in 2 6 frame)) body m.1
-            (bytes-take (n - 16) (drop 16 frame) (bytes-drop 16 frame bytes)) reads tailless in
+        (bytes-take (n - 16) (drop 16 frame) (bytes-drop 16 frame bytes)) reads tailless in
         let w : List ℕ = back.bytes in
         let head = header-back frame (omega (arith, whole)) bytes in
         let front : length (take 16 frame) ≡ 16 = length-take-le 16 frame (omega (arith, whole)) in
         let count : length (take 16 frame ++ w) ≡ 16 + length w =
-            omega (arith, length-append (take 16 frame) w, front) in
+        omega (arith, length-append (take 16 frame) w, front) in
         let zeros : zeros_for (16 + length body) ≡ replicate (length frame - n) 0 = rw (len, whole) refl in
         let payload_is : List ℕ = payload_zeroed (kind_of (number_in 2 4 frame)
-            (flags_of (number_in 2 6 frame)) body) body in
+        (flags_of (number_in 2 6 frame)) body) body in
         let ends : w ++ zeros_for (16 + length w) ≡ payload_is ++ replicate (length frame - n) 0 = back.is
-            ∙ ap (λ (x : List ℕ). payload_is ++ x) zeros in
+        ∙ ap (λ (x : List ℕ). payload_is ++ x) zeros in
         let grouped : (take 16 frame ++ w) ++ zeros_for (16 + length w)
-            ≡ take 16 frame ++ (w ++ zeros_for (16 + length w)) =
-            append_assoc (take 16 frame) w (zeros_for (16 + length w)) in
+        ≡ take 16 frame ++ (w ++ zeros_for (16 + length w)) =
+        append_assoc (take 16 frame) w (zeros_for (16 + length w)) in
         let text : (take 16 frame ++ w) ++ zeros_for (16 + length w) ≡ message_zeroed frame = grouped
-            ∙ ap (λ (x : List ℕ). take 16 frame ++ x) ends
-            ∙ sym (append_assoc (take 16 frame) payload_is (replicate (length frame - n) 0)) in
+        ∙ ap (λ (x : List ℕ). take 16 frame ++ x) ends
+        ∙ sym (append_assoc (take 16 frame) payload_is (replicate (length frame - n) 0)) in
         ap (λ (x : Wire). pad_wire (written (header_bytes (header_in same frame)) +++ x)) back.wire
         ∙ ap (λ (x : List ℕ). written ((x ++ w) ++ zeros_for (length (x ++ w)))) head
         ∙ ap (λ (k : ℕ). written ((take 16 frame ++ w) ++ zeros_for k)) count
@@ -559,4 +574,4 @@ pub datagram-back : (b : List ℕ) (ms : List (Message ℕ (List ℕ))) → AreB
     → All HasNoTail ms → untyped_wires ms ≡ Ok (datagram_zeroed b)
 datagram-back b ms bytes are tails =
     frames-wire untyped_layout message_length message_zeroed message-states untyped_wire HasNoTail message-back
-        (length b) b ms bytes (omega arith) tails are
+    (length b) b ms bytes (omega arith) tails are

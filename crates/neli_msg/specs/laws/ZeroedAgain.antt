@@ -69,8 +69,12 @@ number-same : (k i n : ℕ) (s rest : List ℕ) → i + k ≤ n → n ≤ length
     → number_in k i (take n s ++ rest) ≡ number_in k i s
 number-same k i n s rest le long =
     let sized : length (take n s) ≡ n = length-take-le n s long in
-    sym (number_first k (drop i (take n s ++ rest)) (omega (arith, length-drop i (take n s ++ rest),
-        length-append (take n s) rest, sized)))
+    sym (number_first k (drop i (take n s ++ rest)) (omega (
+      arith,
+      length-drop i (take n s ++ rest),
+      length-append (take n s) rest,
+      sized,
+    )))
     ∙ ap (λ (x : List ℕ). little_number k x) (part-same n i k s rest le long)
     ∙ number_first k (drop i s) (omega (arith, length-drop i s))
 
@@ -86,7 +90,7 @@ attribute-again frame a is =
     let lens = number-same 2 0 n frame zeros (omega (arith, is.least, len)) long in
     let kinds = number-same 2 2 n frame zeros (omega (arith, is.least, len)) long in
     let body : take (a.0.len - 4) (drop 4 (take n frame ++ zeros)) ≡ take (a.0.len - 4) (drop 4 frame) =
-        part-same n 4 (a.0.len - 4) frame zeros (omega (arith, is.least, len)) long in
+    part-same n 4 (a.0.len - 4) frame zeros (omega (arith, is.least, len)) long in
     record {
       header_is = rw (lens, kinds) is.header_is;
       least = is.least;
@@ -104,10 +108,10 @@ attributes-again s attrs e =
     let items : List Read = found.0 in
     let are : AreFrames layout s items = list-frames layout placed (omega arith) s items found.1 in
     let again : AreFrames layout (attributes_zeroed s) items =
-        frames-again layout attribute_length attribute_zeroed attribute-states attribute-again (length s) s items
-        (omega arith) are in
+    frames-again layout attribute_length attribute_zeroed attribute-states attribute-again (length s) s items
+    (omega arith) are in
     let read : attributes_in kind_of_field (attributes_zeroed s) ≡ Ok items =
-        frames-list layout placed (omega arith) (attributes_zeroed s) items again in
+    frames-list layout placed (omega arith) (attributes_zeroed s) items again in
     let known : map attribute_of items ≡ attrs = ok_is (map attribute_of items) attrs found.2 in (
       rw read (ap (λ (x : Attributes). all_attributes x) known),
       frames-length layout attribute_length attribute_zeroed attribute-states attribute-length (length s) s items
@@ -162,7 +166,7 @@ dump_end-again number flags s u kind e =
     let codes : code_in z ≡ code_in s = ap (cast_signed w32) code in
     let after_code : drop 4 z ≡ a = drop_at (take 4 s) a 4 four in
     let reads : dump_end_in z ≡ Ok b.0 = dump_end-reads z x.0 (omega (arith, sized)) (ap ext_ack_in after_code
-        ∙ again.0) ∙ ap (λ c. dump_end_of c x.0) codes ∙ ap whole known in
+    ∙ again.0) ∙ ap (λ c. dump_end_of c x.0) codes ∙ ap whole known in
     let here : payload_as same all DumpEnd z ≡ Ok u = rw reads b.2 in
     let kinds : kind_of number flags z ≡ DumpEnd = kind-same number flags s z sized code ∙ kind in
     let one : IsAgain number flags s z u = record {
@@ -181,8 +185,13 @@ failure-reads : (t body : List ℕ) (attrs : Attributes) → 20 ≤ length t →
     → echoed_count t ≤ length t - 20 → take (echoed_count t) (drop 20 t) ≡ body → ext_ack_in (after_echo t) ≡ Ok attrs
     → failure_in same all t ≡ Ok (answer (code_in t) (echo_with same t body) attrs)
 failure-reads t body attrs long least there is lists =
-    rw (le-ltb (length t) 20 long, le-ltb (echoed_length t) 16 least, le-ltb (length t - 20) (echoed_count t) there, is,
-        lists) refl
+    rw (
+      le-ltb (length t) 20 long,
+      le-ltb (echoed_length t) 16 least,
+      le-ltb (length t - 20) (echoed_count t) there,
+      is,
+      lists,
+    ) refl
 
 -- the header is in the first 16 bytes
 header-same : (s z : List ℕ) → 16 ≤ length s → 16 ≤ length z → take 16 z ≡ take 16 s
@@ -212,23 +221,23 @@ failure-again number flags s u kind e =
     let zeros : List ℕ = replicate (length (take (echo_end s) s) - (20 + c)) 0 in
     let z : List ℕ = take (20 + c) s ++ (zeros ++ a) in
     let is : payload_zeroed Failure s ≡ z = ap (λ (y : List ℕ). (y ++ zeros) ++ a)
-        (take-take (20 + c) (echo_end s) s (omega arith)) ∙ append_assoc (take (20 + c) s) zeros a in
+    (take-take (20 + c) (echo_end s) s (omega arith)) ∙ append_assoc (take (20 + c) s) zeros a in
     let front : length (take (20 + c) s) ≡ 20 + c = length-take-le (20 + c) s (omega arith) in
     let parts : length (take (echo_end s) s) + length (drop (echo_end s) s) ≡ length s =
-        sym (length-append (take (echo_end s) s) (drop (echo_end s) s)) ∙ ap length (take-append-drop (echo_end s) s) in
+    sym (length-append (take (echo_end s) s) (drop (echo_end s) s)) ∙ ap length (take-append-drop (echo_end s) s) in
     let dropped = length-drop (echo_end s) s in
     let counted : length zeros ≡ length (take (echo_end s) s) - (20 + c) =
-        length-replicate {A = ℕ} (length (take (echo_end s) s) - (20 + c)) 0 in
+    length-replicate {A = ℕ} (length (take (echo_end s) s) - (20 + c)) 0 in
     let both : length z ≡ 20 + c + (length zeros + length a) =
-        omega (arith, length-append (take (20 + c) s) (zeros ++ a), length-append zeros a, front) in
+    omega (arith, length-append (take (20 + c) s) (zeros ++ a), length-append zeros a, front) in
     let sized : length z ≡ length s = omega (arith, both, counted, again.1, parts, dropped) in
     let code : number_in 4 0 z ≡ number_in 4 0 s = number-same 4 0 (20 + c) s (zeros ++ a) (omega arith)
-        (omega arith) in
+    (omega arith) in
     let lens : number_in 4 4 z ≡ number_in 4 4 s = number-same 4 4 (20 + c) s (zeros ++ a) (omega arith)
-        (omega arith) in
+    (omega arith) in
     let count : echoed_count z ≡ c = ap (λ (k : ℕ). k - 16) lens in
     let body : take (echoed_count z) (drop 20 z) ≡ h.0 = ap (λ (k : ℕ). take k (drop 20 z)) count
-        ∙ part-same (20 + c) 20 c s (zeros ++ a) (omega arith) (omega arith) ∙ echoed in
+    ∙ part-same (20 + c) 20 c s (zeros ++ a) (omega arith) (omega arith) ∙ echoed in
     let end : echo_end z ≡ echo_end s = ap (λ (k : ℕ). 20 + align k) count in
     let attributes : drop (echo_end s) z ≡ a = elim (cases_lt (length s) (echo_end s)) [
       | inl few ↦ drop_all (echo_end s) z (omega (arith, sized))
@@ -238,14 +247,14 @@ failure-again number flags s u kind e =
           (omega (arith, length-append (take (20 + c) s) zeros, front, counted, parts, dropped))
     ] in
     let lists : ext_ack_in (after_echo z) ≡ Ok x.0 = ap (λ (k : ℕ). ext_ack_in (drop k z)) end
-        ∙ ap ext_ack_in attributes ∙ again.0 in
+    ∙ ap ext_ack_in attributes ∙ again.0 in
     let codes : code_in z ≡ code_in s = ap (cast_signed w32) code in
     let headers : header_in same (drop 4 z) ≡ header_in same (drop 4 s) =
-        header-same (drop 4 s) (drop 4 z) (omega (arith, length-drop 4 s)) (omega (arith, length-drop 4 z, sized))
-        (part-same (20 + c) 4 16 s (zeros ++ a) (omega arith) (omega arith)) in
+    header-same (drop 4 s) (drop 4 z) (omega (arith, length-drop 4 s)) (omega (arith, length-drop 4 z, sized))
+    (part-same (20 + c) 4 16 s (zeros ++ a) (omega arith) (omega arith)) in
     let reads : failure_in same all z ≡ Ok b.0 = failure-reads z h.0 x.0 (omega (arith, sized)) (omega (arith, lens))
-        (omega (arith, count, sized)) body lists ∙ ap (λ k. failure_of k (header_in same (drop 4 z)) h.0 x.0) codes
-        ∙ ap (λ k. failure_of (code_in s) k h.0 x.0) headers ∙ ap whole known in
+    (omega (arith, count, sized)) body lists ∙ ap (λ k. failure_of k (header_in same (drop 4 z)) h.0 x.0) codes
+    ∙ ap (λ k. failure_of (code_in s) k h.0 x.0) headers ∙ ap whole known in
     let here : payload_as same all Failure z ≡ Ok u = rw reads b.2 in
     let kinds : kind_of number flags z ≡ Failure = kind-same number flags s z sized code ∙ kind in
     let one : IsAgain number flags s z u = record {
@@ -286,18 +295,18 @@ head-again s x e =
     let z : List ℕ = take 20 s ++ a in
     let twenty : length (take 20 s) ≡ 20 = length-take-le 20 s long in
     let front : zeros_from 20 (take 20 s) ≡ take 20 s =
-        rw (take-take 20 20 s (omega arith), twenty) (append-nil (take 20 s)) in
+    rw (take-take 20 20 s (omega arith), twenty) (append-nil (take 20 s)) in
     let is : payload_zeroed (Acknowledgement Listed) s ≡ z = ap (λ (y : List ℕ). y ++ a) front in
     let sized : length z ≡ length s = omega (arith, length-append (take 20 s) a, twenty, again.1, length-drop 20 s) in
     let code : number_in 4 0 z ≡ number_in 4 0 s = number-same 4 0 20 s a (omega arith) long in
     let codes : code_in z ≡ code_in s = ap (cast_signed w32) code in
     let after_head : drop 20 z ≡ a = drop_at (take 20 s) a 20 twenty in
     let headers : header_in same (drop 4 z) ≡ header_in same (drop 4 s) =
-        header-same (drop 4 s) (drop 4 z) (omega (arith, length-drop 4 s)) (omega (arith, length-drop 4 z, sized))
-        (part-same 20 4 16 s a (omega arith) long) in
+    header-same (drop 4 s) (drop 4 z) (omega (arith, length-drop 4 s)) (omega (arith, length-drop 4 z, sized))
+    (part-same 20 4 16 s a (omega arith) long) in
     let reads : headed_in same Listed z ≡ Ok x = headed-reads z t.0 (omega (arith, sized)) (ap ext_ack_in after_head
-        ∙ again.0) ∙ ap (λ c. headed_of c (header_in same (drop 4 z)) t.0) codes
-        ∙ ap (λ k. headed_of (code_in s) k t.0) headers ∙ ap whole known in
+    ∙ again.0) ∙ ap (λ c. headed_of c (header_in same (drop 4 z)) t.0) codes
+    ∙ ap (λ k. headed_of (code_in s) k t.0) headers ∙ ap whole known in
     let one : IsHeadAgain s z x = record { long = sized; code = code; reads = reads } in
     subst (λ (y : List ℕ). IsHeadAgain s y x) (sym is) one
   where
@@ -365,21 +374,30 @@ message-again frame m is = subst Q is.header_is there is.least is.whole is.paylo
         let n = number_in 4 0 frame in
         let body : List ℕ = take (n - 16) (drop 16 frame) in
         let sized : length body ≡ n - 16 = length-take-le (n - 16) (drop 16 frame)
-            (omega (arith, whole, length-drop 16 frame)) in
+        (omega (arith, whole, length-drop 16 frame)) in
         let again = payload-again (number_in 2 4 frame) (flags_of (number_in 2 6 frame)) body m.1 reads in
         let p : List ℕ = payload_zeroed (kind_of (number_in 2 4 frame) (flags_of (number_in 2 6 frame)) body) body in
         let zeros : List ℕ = replicate (length frame - n) 0 in
         let front : length (take 16 frame) ≡ 16 = length-take-le 16 frame (omega (arith, whole)) in
         let grouped : message_zeroed frame ≡ take 16 frame ++ (p ++ zeros) = append_assoc (take 16 frame) p zeros in
         let long : length (message_zeroed frame) ≡ length frame =
-            omega (arith, ap length grouped, length-append (take 16 frame) (p ++ zeros), length-append p zeros, front,
-            again.long, sized, length-replicate {A = ℕ} (length frame - n) 0, whole) in
+        omega (
+          arith,
+          ap length grouped,
+          length-append (take 16 frame) (p ++ zeros),
+          length-append p zeros,
+          front,
+          again.long,
+          sized,
+          length-replicate {A = ℕ} (length frame - n) 0,
+          whole,
+        ) in
         let head : take 16 (message_zeroed frame) ≡ take 16 frame = ap (λ (x : List ℕ). take 16 x) grouped
-            ∙ take_at (take 16 frame) (p ++ zeros) 16 front in
+        ∙ take_at (take 16 frame) (p ++ zeros) 16 front in
         let after : drop 16 (message_zeroed frame) ≡ p ++ zeros = ap (λ (x : List ℕ). drop 16 x) grouped
-            ∙ drop_at (take 16 frame) (p ++ zeros) 16 front in
+        ∙ drop_at (take 16 frame) (p ++ zeros) 16 front in
         let inner : take (n - 16) (drop 16 (message_zeroed frame)) ≡ p = ap (λ (x : List ℕ). take (n - 16) x) after
-            ∙ take_at p zeros (n - 16) (again.long ∙ sized) in
+        ∙ take_at p zeros (n - 16) (again.long ∙ sized) in
         record {
           header_is = header-same frame (message_zeroed frame) (omega (arith, whole)) (omega (arith, long, whole)) head;
           least = least;
@@ -393,11 +411,11 @@ pub datagram-again : (b : List ℕ) (ms : List (Message ℕ (List ℕ))) → Are
     → AreFrames untyped_layout (datagram_zeroed b) ms
 datagram-again b ms are =
     frames-again untyped_layout message_length message_zeroed message-states message-again (length b) b ms
-        (omega arith) are
+    (omega arith) are
 
 -- as many bytes
 pub datagram-length : (b : List ℕ) (ms : List (Message ℕ (List ℕ))) → AreFrames untyped_layout b ms
     → length (datagram_zeroed b) ≡ length b
 datagram-length b ms are =
     frames-length untyped_layout message_length message_zeroed message-states
-        (λ frame m is. (message-again frame m is).whole ∙ sym is.whole) (length b) b ms (omega arith) are
+    (λ frame m is. (message-again frame m is).whole ∙ sym is.whole) (length b) b ms (omega arith) are

@@ -38,7 +38,7 @@ pub place : (n i m : ℕ) (s rest : List ℕ) → i + n ≤ length s → AreByte
     → little_bytes n (number_in n i s) ++ rest ≡ take (n + m) (drop i s)
 place n i m s rest le bytes after =
     ap (λ (front : List ℕ). front ++ rest) (little_bytes-number n (drop i s) (omega (arith, length-drop i s))
-        (bytes-drop i s bytes))
+    (bytes-drop i s bytes))
     ∙ ap (λ (back : List ℕ). take n (drop i s) ++ back) (after ∙ ap (λ (x : List ℕ). take m x) (sym (drop-drop n i s)))
     ∙ sym (take-add n m (drop i s))
 
@@ -89,7 +89,7 @@ module _ {H V : Type 0} (layout : Layout H V) (stated : List ℕ → ℕ) (zeroe
       let first = each are.0 a (bytes-front are.0 are.1 parts) (All-head P a items ps) are.3 in
       let shorter : length are.1 ≤ fuel = omega (arith, ap length are.2, length-append are.0 are.1) in
       let others = frames-wire wire P each fuel are.1 items (bytes-back are.0 are.1 parts) shorter
-          (All-tail P a items ps) are.4 in
+      (All-tail P a items ps) are.4 in
       let step = frames_by-step stated zeroed fuel are.0 are.1 some (states.whole are.0 are.1 a.0 a.1 are.3) in
       rw (are.2, step, first, others) refl
 
@@ -107,7 +107,7 @@ module _ {H V : Type 0} (layout : Layout H V) (stated : List ℕ → ℕ) (zeroe
       let others = frames-length each fuel are.1 items shorter are.4 in
       let step = frames_by-step stated zeroed fuel are.0 are.1 some (states.whole are.0 are.1 a.0 a.1 are.3) in
       rw (are.2, step) (length-append (zeroed are.0) (frames_by stated zeroed fuel are.1)
-          ∙ rw (first, others) (sym (length-append are.0 are.1)))
+      ∙ rw (first, others) (sym (length-append are.0 are.1)))
 
   -- frames that are put in place of frames are frames again
   pub frames-again : ((frame : List ℕ) (a : H × V) → IsFrame layout frame a.0 a.1
@@ -121,9 +121,13 @@ module _ {H V : Type 0} (layout : Layout H V) (stated : List ℕ → ℕ) (zeroe
       let shorter : length are.1 ≤ fuel = omega (arith, ap length are.2, length-append are.0 are.1) in
       let step = frames_by-step stated zeroed fuel are.0 are.1 some (states.whole are.0 are.1 a.0 a.1 are.3) in
       let same : frames_by stated zeroed (suc fuel) s ≡ zeroed are.0 ++ frames_by stated zeroed fuel are.1 =
-          ap (λ (x : List ℕ). frames_by stated zeroed (suc fuel) x) are.2 ∙ step in
-      (zeroed are.0, frames_by stated zeroed fuel are.1, same, each are.0 a are.3,
-          frames-again each fuel are.1 items shorter are.4)
+      ap (λ (x : List ℕ). frames_by stated zeroed (suc fuel) x) are.2 ∙ step in (
+        zeroed are.0,
+        frames_by stated zeroed fuel are.1,
+        same,
+        each are.0 a are.3,
+        frames-again each fuel are.1 items shorter are.4,
+      )
 
   -- frames make a multiple of four bytes
   pub frames-aligned : (s : List ℕ) (items : List (H × V)) → AreFrames layout s items → align (length s) ≡ length s

@@ -32,7 +32,7 @@ byte-back : (b : ℕ) → b < 256 → byte_of_digits (digit_value (digit_char (b
     ≡ Some b
 byte-back b small =
     rw (digit-back (b / 16) (omega (arith, small)), digit-back (b % 16) (omega arith))
-        (ap (λ (n : ℕ). Some n) (omega arith))
+    (ap (λ (n : ℕ). Some n) (omega arith))
 
 abbrev later_text : List ℕ → List ℕ
 later_text bytes = flat_map (λ c. codes ":" ++ byte_text c) bytes

@@ -37,9 +37,13 @@ module _ {H V : Type 0} (layout : Layout H V) (placed : IsPlaced layout) (some :
   each-of : (front rest : List ℕ) (ms : List (H × V)) (f : Option DeError) → AreFrames layout front ms
       → EndsIn layout rest f → CutsEach (front ++ rest) ms f
   each-of front rest [] f are ends = subst (λ (x : List ℕ). EndsIn layout (x ++ rest) f) (sym are) ends
-  each-of front rest (m ∷ ms) f are ends =
-      (are.0, are.1 ++ rest, ap (λ (x : List ℕ). x ++ rest) are.2 ∙ append_assoc are.0 are.1 rest, are.3,
-          each-of are.1 rest ms f are.4 ends)
+  each-of front rest (m ∷ ms) f are ends = (
+    are.0,
+    are.1 ++ rest,
+    ap (λ (x : List ℕ). x ++ rest) are.2 ∙ append_assoc are.0 are.1 rest,
+    are.3,
+    each-of are.1 rest ms f are.4 ends,
+  )
 
   pub Cuts-each : (b : List ℕ) (ms : List (H × V)) (f : Option DeError) → Cuts layout b ms f → CutsEach b ms f
   Cuts-each b ms f c = subst (λ (x : List ℕ). CutsEach x ms f) (sym c.2) (each-of c.0 c.1 ms f c.3 c.4)
@@ -47,9 +51,13 @@ module _ {H V : Type 0} (layout : Layout H V) (placed : IsPlaced layout) (some :
   pub each-Cuts : (b : List ℕ) (ms : List (H × V)) (f : Option DeError) → CutsEach b ms f → Cuts layout b ms f
   each-Cuts b [] f ends = ([], b, refl, refl, ends)
   each-Cuts b (m ∷ ms) f c =
-      let more = each-Cuts c.1 ms f c.4 in
-      (c.0 ++ more.0, more.1, c.2 ∙ ap (λ (x : List ℕ). c.0 ++ x) more.2 ∙ sym (append_assoc c.0 more.0 more.1),
-          (c.0, more.0, refl, c.3, more.3), more.4)
+      let more = each-Cuts c.1 ms f c.4 in (
+        c.0 ++ more.0,
+        more.1,
+        c.2 ∙ ap (λ (x : List ℕ). c.0 ++ x) more.2 ∙ sym (append_assoc c.0 more.0 more.1),
+        (c.0, more.0, refl, c.3, more.3),
+        more.4,
+      )
 
   -- what is read takes the bytes of a header at least
   pub frame_at-longer : (s r : List ℕ) (m : H × V) → frame_at layout s ≡ Ok (m, r) → length r + layout.size ≤ length s
@@ -60,8 +68,13 @@ module _ {H V : Type 0} (layout : Layout H V) (placed : IsPlaced layout) (some :
   -- ---- a byte list has one cut at most
 
   frame_some : (frame rest : List ℕ) (m : H × V) → IsFrame layout frame m.0 m.1 → [] ≡ frame ++ rest → ⊥
-  frame_some frame rest m is e = absurd (omega (arith, ap length e, length-append frame rest, frame-long frame m is,
-      some))
+  frame_some frame rest m is e = absurd (omega (
+    arith,
+    ap length e,
+    length-append frame rest,
+    frame-long frame m is,
+    some,
+  ))
 
   read_of : (b frame rest : List ℕ) (m : H × V) → b ≡ frame ++ rest → IsFrame layout frame m.0 m.1
       → frame_at layout b ≡ Ok (m, rest)
@@ -79,7 +92,7 @@ module _ {H V : Type 0} (layout : Layout H V) (placed : IsPlaced layout) (some :
   one_each b (m ∷ ms) [] f (Some e) p q = let clash = sym q.1 ∙ read_of b p.0 p.1 m p.2 p.3 in absurd cc
   one_each b (m ∷ ms) (n ∷ ns) f g p q =
       let pair : (m, p.1) ≡ (n, q.1) = ok_is (m, p.1) (n, q.1) (sym (read_of b p.0 p.1 m p.2 p.3)
-          ∙ read_of b q.0 q.1 n q.2 q.3) in
+      ∙ read_of b q.0 q.1 n q.2 q.3) in
       let rests : q.1 ≡ p.1 = sym (ap (λ (x : (H × V) × List ℕ). x.1) pair) in
       let others = one_each p.1 ms ns f g p.4 (subst (λ (x : List ℕ). CutsEach x ns g) rests q.4) in
       (ap (λ (x : (H × V) × List ℕ). x.0 ∷ ms) pair ∙ ap (λ (xs : List (H × V)). n ∷ xs) others.0, others.1)
@@ -147,7 +160,7 @@ module _ {H V : Type 0} (layout : Layout H V) (placed : IsPlaced layout) (some :
       → cut_of layout (a ++ b) ≡ messages_before (cut_of layout a).0 (cut_of layout b)
   cut_of-join a b whole =
       cut_of-is (a ++ b) _ _ (each-join a b _ _ _ (subst
-          (λ (g : Option DeError). CutsEach a (cut_of layout a).0 g) whole (cut_of-each a)) (cut_of-each b))
+      (λ (g : Option DeError). CutsEach a (cut_of layout a).0 g) whole (cut_of-each a)) (cut_of-each b))
 
   -- ---- how many messages there can be
 

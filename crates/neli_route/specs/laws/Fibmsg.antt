@@ -32,14 +32,14 @@ fibmsg-reads_back h is =
 pub fibmsg-writes_back : (s : List ℕ) → length s ≡ 12 → AreBytes s → fibmsg_bytes (fibmsg_header s) ≡ s
 fibmsg-writes_back s size small =
     place 1 0 11 s _ _ size small (first_with-number rt_addr_family_number rt_addr_family_variants
-        rt_addr_family.UnrecognizedConst (λ n. refl) _)
+    rt_addr_family.UnrecognizedConst (λ n. refl) _)
     (place 1 1 10 s _ _ size small refl
     (place 1 2 9 s _ _ size small refl
     (place 1 3 8 s _ _ size small refl
     (place 1 4 7 s _ _ size small (first_with-number rt_table_number rt_table_variants rt_table.UnrecognizedConst
-        (λ n. refl) _)
+    (λ n. refl) _)
     (place 1 5 6 s _ _ size small refl
     (place 1 6 5 s _ _ size small refl
     (place 1 7 4 s _ _ size small (first_with-number fr_act_number fr_act_variants fr_act.UnrecognizedConst
-        (λ n. refl) _)
+    (λ n. refl) _)
     (last_place 4 8 s _ size small refl))))))))

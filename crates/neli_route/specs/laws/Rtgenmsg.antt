@@ -22,6 +22,6 @@ rtgenmsg-reads_back h is =
 pub rtgenmsg-writes_back : (s : List ℕ) → length s ≡ 4 → AreBytes s → rtgenmsg_bytes (rtgenmsg_header s) ≡ s
 rtgenmsg-writes_back s size small =
     place 1 0 3 s _ _ size small (first_with-number rt_addr_family_number rt_addr_family_variants
-        rt_addr_family.UnrecognizedConst (λ n. refl) _)
+    rt_addr_family.UnrecognizedConst (λ n. refl) _)
     (place 1 1 2 s _ _ size small refl
     (last_place 2 2 s _ size small refl))

@@ -36,15 +36,15 @@ rtmsg-reads_back h is =
 pub rtmsg-writes_back : (s : List ℕ) → length s ≡ 12 → AreBytes s → rtmsg_bytes (rtmsg_header s) ≡ s
 rtmsg-writes_back s size small =
     place 1 0 11 s _ _ size small (first_with-number rt_addr_family_number rt_addr_family_variants
-        rt_addr_family.UnrecognizedConst (λ n. refl) _)
+    rt_addr_family.UnrecognizedConst (λ n. refl) _)
     (place 1 1 10 s _ _ size small refl
     (place 1 2 9 s _ _ size small refl
     (place 1 3 8 s _ _ size small refl
     (place 1 4 7 s _ _ size small (first_with-number rt_table_number rt_table_variants rt_table.UnrecognizedConst
-        (λ n. refl) _)
+    (λ n. refl) _)
     (place 1 5 6 s _ _ size small (first_with-number rtprot_number rtprot_variants rtprot.UnrecognizedConst
-        (λ n. refl) _)
+    (λ n. refl) _)
     (place 1 6 5 s _ _ size small (first_with-number rt_scope_number rt_scope_variants rt_scope.UnrecognizedConst
-        (λ n. refl) _)
+    (λ n. refl) _)
     (place 1 7 4 s _ _ size small (first_with-number rtn_number rtn_variants rtn.UnrecognizedConst (λ n. refl) _)
     (last_place 4 8 s _ size small refl))))))))

@@ -25,7 +25,7 @@ module _ {ST SP RT RP : Type 0} where
   abbrev pub with_gain : ℕ → ℕ → History ST SP RT RP → Command ST SP → List Delivery → List Delivery
   with_gain port k h (command.Datagram b groups) before =
       if is_handle_open k h then before ++ datagram_share port (λ q. is_open q h) (list_of_handle k h)
-          (cut_of untyped_layout b.items) groups else before
+      (cut_of untyped_layout b.items) groups else before
   with_gain port k h (command.Fault e) before = if is_handle_open k h then before ++ fault_share (list_of_handle k h) e
       else before
   with_gain port k h (command.SetNextSeq n) before = before
@@ -57,11 +57,11 @@ module _ {ST SP RT RP : Type 0} where
       (λ b. flat_map (by_moment port k) (if b then m ∷ filter (live_at k) (ms ++ (c, h) ∷ [])
       else filter (live_at k) (ms ++ (c, h) ∷ [])) ≡ flat_map (by_moment port k) (if b then m ∷ filter (live_at k) ms
       else filter (live_at k) ms) ++ (if is_handle_open k h then handed_over port k c h else [])) [
-    | true ↦ ap (λ zs. by_moment port k m ++ zs) (one-more port k ms c h)
-        ∙ sym (append_assoc (by_moment port k m) (flat_map (by_moment port k) (filter (live_at k) ms))
-        (if is_handle_open k h then handed_over port k c h else []))
-    | false ↦ one-more port k ms c h
-  ]
+        | true ↦ ap (λ zs. by_moment port k m ++ zs) (one-more port k ms c h)
+            ∙ sym (append_assoc (by_moment port k m) (flat_map (by_moment port k) (filter (live_at k) ms))
+            (if is_handle_open k h then handed_over port k c h else []))
+        | false ↦ one-more port k ms c h
+      ]
 
   gain-is : (port k : ℕ) (h : History ST SP RT RP) (c : Command ST SP) (before : List Delivery)
       → before ++ (if is_handle_open k h then handed_over port k c h else []) ≡ with_gain port k h c before

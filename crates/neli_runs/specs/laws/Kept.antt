@@ -82,7 +82,7 @@ module _ {ST SP K P V : Type 0} (type_of : ℕ → K) (number_of : K → ℕ) (v
       → ℕ → Pending → Handles → Command ST SP → Outcome ST SP K P → Type 0
   StepKeeps StepIsRight port next pending handles next' pending' handles' c o =
       (h : History ST SP K P) → Holds port next pending handles h
-          → StepIsRight h c o × Holds port next' pending' handles' ((c, o) ∷ h)
+      → StepIsRight h c o × Holds port next' pending' handles' ((c, o) ∷ h)
 
 -- what holds of an outcome, whatever its command is
 abbrev pub StepIsRight : {ST SP K P V : Type 0} → (ℕ → K) → (K → ℕ) → (P → V) → (P → ℕ) → (List ℕ → Result V DeError)

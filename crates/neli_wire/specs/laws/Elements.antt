@@ -11,7 +11,7 @@ elements_by read stuck fuel [] = Ok []
 elements_by read stuck zero (b ∷ s) = Err stuck
 elements_by read stuck (suc fuel) (b ∷ s) =
     read (b ∷ s) >>= λ p. if nat_lt (length p.1) (suc (length s))
-        then (elements_by read stuck fuel p.1 >>= λ more. Ok (p.0 ∷ more)) else Err stuck
+    then (elements_by read stuck fuel p.1 >>= λ more. Ok (p.0 ∷ more)) else Err stuck
 
 -- the elements that a whole byte list spells
 abbrev pub elements : {V : Type 0} → (List ℕ → Reading V) → List ℕ → Result (List V) DeError

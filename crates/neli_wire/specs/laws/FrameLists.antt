@@ -25,9 +25,14 @@ module _ {H V : Type 0} (layout : Layout H V) (placed : IsPlaced layout) (some :
   pub frames-elements : (s : List ℕ) (items : List (H × V)) → AreFrames layout s items
       → AreElements (frame_at layout) s items
   frames-elements s [] are = are
-  frames-elements s (a ∷ items) are =
-      (are.0, are.1, are.2, frame-some are.0 a.0 a.1 are.3, λ t. frame_at-frame layout placed are.0 t a.0 a.1 are.3,
-          frames-elements are.1 items are.4)
+  frames-elements s (a ∷ items) are = (
+    are.0,
+    are.1,
+    are.2,
+    frame-some are.0 a.0 a.1 are.3,
+    λ t. frame_at-frame layout placed are.0 t a.0 a.1 are.3,
+    frames-elements are.1 items are.4,
+  )
 
   -- a list that is read is its frames
   pub list-frames : (s : List ℕ) (items : List (H × V)) → elements (frame_at layout) s ≡ Ok items
@@ -51,6 +56,10 @@ module _ {H V : Type 0} (layout : Layout H V) (placed : IsPlaced layout) (some :
   pub frames-more : (s frame : List ℕ) (items : List (H × V)) (a : H × V) → AreFrames layout s items
       → IsFrame layout frame a.0 a.1 → AreFrames layout (s ++ frame) (items ++ a ∷ [])
   frames-more s frame [] a are is = (frame, [], ap (λ (x : List ℕ). x ++ frame) are ∙ sym (append-nil frame), is, refl)
-  frames-more s frame (b ∷ items) a are is =
-      (are.0, are.1 ++ frame, ap (λ (x : List ℕ). x ++ frame) are.2 ∙ append_assoc are.0 are.1 frame, are.3,
-          frames-more are.1 frame items a are.4 is)
+  frames-more s frame (b ∷ items) a are is = (
+    are.0,
+    are.1 ++ frame,
+    ap (λ (x : List ℕ). x ++ frame) are.2 ∙ append_assoc are.0 are.1 frame,
+    are.3,
+    frames-more are.1 frame items a are.4 is,
+  )

@@ -81,9 +81,9 @@ module _ {H V : Type 0} (layout : Layout H V) (s : List ℕ) (h : H) where
   padding-is v head least le =
       let len = layout.length_of h in
       let at : drop (len - layout.size) (drop layout.size s) ≡ drop len s = drop-drop (len - layout.size) layout.size s
-          ∙ ap (λ (n : ℕ). drop n s) (omega arith) in
+      ∙ ap (λ (n : ℕ). drop n s) (omega arith) in
       let end : drop (align len - len) (drop len s) ≡ drop (align len) s = drop-drop (align len - len) len s
-          ∙ ap (λ (n : ℕ). drop n s) (omega arith) in
+      ∙ ap (λ (n : ℕ). drop n s) (omega arith) in
       let dropped = length-drop len s in
       elim (cases_lt (length s) (align len)) [
         | inl few ↦
@@ -109,12 +109,12 @@ module _ {H V : Type 0} (layout : Layout H V) (s : List ℕ) (h : H) where
                   rw (le-ltb len layout.size least, inner, lt-ltb (length s) len few) refl
               | inr enough ↦
                   let inner : ltb (length (drop layout.size s)) (len - layout.size) ≡ false =
-                      le-ltb _ _ (omega arith) in
+                  le-ltb _ _ (omega arith) in
                   rw (le-ltb len layout.size least, inner, le-ltb (length s) len enough)
                   (chain (layout.payload_of h (take (len - layout.size) (drop layout.size s)))
-                      (drop (len - layout.size) (drop layout.size s)) (bytes_at (align len - len)) _ _
+                  (drop (len - layout.size) (drop layout.size s)) (bytes_at (align len - len)) _ _
                   (λ v. bind_twice (bytes_at (align len - len) (drop (len - layout.size) (drop layout.size s))) _ _
-                      ∙ padding-is v head least enough))
+                  ∙ padding-is v head least enough))
             ]
       ]
 
@@ -139,7 +139,7 @@ header_then_takes_memory-is layout header_at takes wide s h =
       | inl few ↦ absurd (rw (wide.brief s few) at h)
       | inr enough ↦
           let body : padded_payload_takes_memory (takes (layout.header_of s)) layout.size
-              (layout.length_of (layout.header_of s)) (drop layout.size s) = rw (wide.long s enough) at h in
+          (layout.length_of (layout.header_of s)) (drop layout.size s) = rw (wide.long s enough) at h in
           (enough, body.0, omega (arith, body.1.0, length-drop layout.size s), body.1.1)
     ]
 
@@ -151,7 +151,7 @@ number_in-take n i m s le long =
     let len : length (take m s) ≡ m = length-take-le m s long in
     let more : number_in n i (take m s ++ drop m s) ≡ number_in n i (take m s) =
     ap (little_number n) (drop-append-le i (take m s) (drop m s) (omega arith))
-        ∙ little_from-append n (drop i (take m s)) (drop m s) (omega (arith, length-drop i (take m s))) in
+    ∙ little_from-append n (drop i (take m s)) (drop m s) (omega (arith, length-drop i (take m s))) in
     sym more ∙ ap (number_in n i) (take-append-drop m s)
 
 -- what a header says is in its own bytes
@@ -174,8 +174,8 @@ module _ {H V : Type 0} (layout : Layout H V) (placed : IsPlaced layout) where
       → take (n - layout.size) (drop layout.size (frame ++ rest)) ≡ take (n - layout.size) (drop layout.size frame)
   payload-append n frame rest least le =
       ap (take (n - layout.size)) (drop-append-le layout.size frame rest (omega arith))
-          ∙ take-append-le (n - layout.size) (drop layout.size frame) rest
-          (omega (arith, length-drop layout.size frame))
+      ∙ take-append-le (n - layout.size) (drop layout.size frame) rest
+      (omega (arith, length-drop layout.size frame))
 
   -- what begins with a frame is read as that frame
   pub frame_at-frame : (frame rest : List ℕ) (h : H) (v : V) → IsFrame layout frame h v
@@ -192,7 +192,7 @@ module _ {H V : Type 0} (layout : Layout H V) (placed : IsPlaced layout) where
       let t3 : ltb (length (frame ++ rest)) n ≡ false = le-ltb _ _ (omega (arith, is.whole)) in
       let t4 : ltb (length (frame ++ rest)) (align n) ≡ false = le-ltb _ _ (omega (arith, is.whole)) in
       let body : layout.payload_of h (take (n - layout.size) (drop layout.size (frame ++ rest))) ≡ Ok v =
-          ap (layout.payload_of h) (payload-append n frame rest is.least (omega (arith, is.whole))) ∙ is.payload_is in
+      ap (layout.payload_of h) (payload-append n frame rest is.least (omega (arith, is.whole))) ∙ is.payload_is in
       let end : drop (align n) (frame ++ rest) ≡ rest = drop_at frame rest (align n) is.whole in
       let at_h : frame_after layout h (frame ++ rest) ≡ Ok ((h, v), rest) = rw (t2, t3, body, t4, end) refl in
       rw t1 (ap (λ (x : H). frame_after layout x (frame ++ rest)) headers ∙ at_h)
@@ -218,13 +218,16 @@ module _ {H V : Type 0} (layout : Layout H V) (placed : IsPlaced layout) where
       let parts : frame ++ rest ≡ s = take-append-drop (align n) s in
       let len : length frame ≡ align n = length-take-le (align n) s enough in
       let headers : layout.header_of frame ≡ head = sym (header-append frame rest (omega (arith, len)))
-          ∙ ap layout.header_of parts in
+      ∙ ap layout.header_of parts in
       let body : layout.payload_of head (take (n - layout.size) (drop layout.size frame)) ≡ Ok b.0 =
-          ap (layout.payload_of head) (sym (payload-append n frame rest least (omega (arith, len)))
-          ∙ ap (λ (t : List ℕ). take (n - layout.size) (drop layout.size t)) parts) ∙ b.1 in
+      ap (layout.payload_of head) (sym (payload-append n frame rest least (omega (arith, len)))
+      ∙ ap (λ (t : List ℕ). take (n - layout.size) (drop layout.size t)) parts) ∙ b.1 in
       let P : (H × V) × List ℕ → Type 0 = λ q. (f : List ℕ) × (s ≡ f ++ q.1) × IsFrame layout f q.0.0 q.0.1 in
-      let found : P ((head, b.0), rest) = (frame, sym parts,
-          record { header_is = headers; least = least; whole = len; payload_is = body }) in
+      let found : P ((head, b.0), rest) = (
+        frame,
+        sym parts,
+        record { header_is = headers; least = least; whole = len; payload_is = body },
+      ) in
       let same : ((head, b.0), rest) ≡ ((h, v), r) = ok_is ((head, b.0), rest) ((h, v), r) g4.1 in
       subst P {x = ((head, b.0), rest)} {y = ((h, v), r)} same found
 
@@ -244,9 +247,9 @@ frame_at-no_memory {H} {V} layout none s =
     (guard-not (ltb n layout.size) (InvalidInput n) Memory _ (λ f. cc)
     (guard-not (ltb (length s) n) (InvalidInput (n - layout.size)) Memory _ (λ f. cc)
     (bind-not (layout.payload_of h (take (n - layout.size) (drop layout.size s))) _ Memory
-        (none h (take (n - layout.size) (drop layout.size s)))
+    (none h (take (n - layout.size) (drop layout.size s)))
     (λ v. guard-not (ltb (length s) (align n)) short Memory (done {A = (H × V) × List ℕ} ((h, v), drop (align n) s))
-        (λ f. cc) (λ f. cc)))))
+    (λ f. cc) (λ f. cc)))))
 
 -- a frame takes bytes
 pub frame_at-shorter : {H V : Type 0} (layout : Layout H V) → IsPlaced layout → 0 < layout.size

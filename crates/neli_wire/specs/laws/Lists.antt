@@ -62,11 +62,11 @@ elements_by-no_memory read stuck each other (suc fuel) [] e = cc
 elements_by-no_memory read stuck each other zero (b ∷ s) e = other cc
 elements_by-no_memory read stuck each other (suc fuel) (b ∷ s) e =
     bind-no_memory (read (b ∷ s)) (λ p. cond (ltb (length p.1) (suc (length s)))
-        (elements_by read stuck fuel p.1 >>= λ more. Ok (p.0 ∷ more)) (Err stuck)) (each (b ∷ s))
+    (elements_by read stuck fuel p.1 >>= λ more. Ok (p.0 ∷ more)) (Err stuck)) (each (b ∷ s))
     (λ p. guard-no_memory (ltb (length p.1) (suc (length s)))
-        (elements_by read stuck fuel p.1 >>= λ more. Ok (p.0 ∷ more)) stuck
-        (bind-no_memory (elements_by read stuck fuel p.1) (λ more. Ok (p.0 ∷ more))
-        (elements_by-no_memory read stuck each other fuel p.1) (λ more f. cc)) other) e
+    (elements_by read stuck fuel p.1 >>= λ more. Ok (p.0 ∷ more)) stuck
+    (bind-no_memory (elements_by read stuck fuel p.1) (λ more. Ok (p.0 ∷ more))
+    (elements_by-no_memory read stuck each other fuel p.1) (λ more f. cc)) other) e
 
 refusal_within-no_memory : (n : ℕ) (b : Bool) (e : DeError) → e ≢ Memory → cond b (InvalidInput n) e ≢ Memory
 refusal_within-no_memory n true e p f = cc
@@ -179,12 +179,14 @@ module _ {V : Type 0} (read : List ℕ → Reading V) (stuck : DeError) where
       let both = length-append front rest in
       let inner = length-append are.1 rest in
       let parts : front ++ rest ≡ are.0 ++ (are.1 ++ rest) = ap (λ (x : List ℕ). x ++ rest) are.2
-          ∙ append_assoc are.0 are.1 rest in
+      ∙ append_assoc are.0 are.1 rest in
       let here : read (front ++ rest) ≡ Ok (v, are.1 ++ rest) = ap read parts ∙ are.4 (are.1 ++ rest) in
       let later : elements_by read stuck fuel (are.1 ++ rest) ≡ Err e =
-          by_refused fuel are.1 rest vs e (omega (arith, len, are.3, both, inner)) are.5 some h in
-      rw (one_more read stuck fuel (front ++ rest) (are.1 ++ rest) v here (omega (arith, len, are.3, both, inner)),
-          later) refl
+      by_refused fuel are.1 rest vs e (omega (arith, len, are.3, both, inner)) are.5 some h in
+      rw (
+        one_more read stuck fuel (front ++ rest) (are.1 ++ rest) v here (omega (arith, len, are.3, both, inner)),
+        later,
+      ) refl
 
 unpassed : {A : Type 0} (n : ℕ) (r : Result A DeError) (x : A) → map_refusal (refusal_within n) r ≡ Ok x → r ≡ Ok x
 unpassed n (Ok y) x e = e
@@ -195,7 +197,7 @@ pub elements-are : {V : Type 0} (read : List ℕ → Reading V) → IsLocal read
     → elements read s ≡ Ok vs → AreElements read s vs
 elements-are read local s vs e =
     are_by read (InvalidInput (length s)) local (length s) s vs
-        (unpassed (length s) (elements_by read (InvalidInput (length s)) (length s) s) vs e)
+    (unpassed (length s) (elements_by read (InvalidInput (length s)) (length s) s) vs e)
 
 -- and what is so spelled is read
 pub are-elements : {V : Type 0} (read : List ℕ → Reading V) (s : List ℕ) (vs : List V) → AreElements read s vs
@@ -209,7 +211,7 @@ pub elements-refusal : {V : Type 0} (read : List ℕ → Reading V) (front rest 
 elements-refusal read front rest vs e are some h =
     let stuck : DeError = InvalidInput (length (front ++ rest)) in
     rw (by_refused read stuck (length (front ++ rest)) front rest vs e (omega arith) are some
-        (λ more. none_read read stuck more rest e h some)) refl
+    (λ more. none_read read stuck more rest e h some)) refl
 
 -- after elements that are read, one that takes no byte refuses the list
 pub elements-stuck : {V : Type 0} (read : List ℕ → Reading V) (front rest r : List ℕ) (vs : List V) (v : V)
@@ -218,4 +220,4 @@ pub elements-stuck : {V : Type 0} (read : List ℕ → Reading V) (front rest r 
 elements-stuck read front rest r vs v are some h none =
     let stuck : DeError = InvalidInput (length (front ++ rest)) in
     rw (by_refused read stuck (length (front ++ rest)) front rest vs stuck (omega arith) are some
-        (λ more. none_taken read stuck more rest r v h some none)) refl
+    (λ more. none_taken read stuck more rest r v h some none)) refl

@@ -20,7 +20,7 @@ byte_at-shift : (j a y : ℕ) → a < 256 → byte_at (suc j) (a + 256 * y) ≡ 
 byte_at-shift j a y lt =
     let low : (a + 256 * y) / 256 ≡ y = omega arith in
     let part : (a + 256 * y) / 256 ^ suc j ≡ y / 256 ^ j = ap (λ (p : ℕ). (a + 256 * y) / p) (pow-succ' 256 j)
-        ∙ sym (div-div-eq-div-mul (a + 256 * y) 256 (256 ^ j)) ∙ ap (λ (x : ℕ). x / 256 ^ j) low in
+    ∙ sym (div-div-eq-div-mul (a + 256 * y) 256 (256 ^ j)) ∙ ap (λ (x : ℕ). x / 256 ^ j) low in
     ap (λ (x : ℕ). x % 256) part ∙ sym (byte_is j y)
 
 bytes-shift : (k j a y : ℕ) → a < 256 → bytes_low_first (suc j) k (a + 256 * y) ≡ bytes_low_first j k y
@@ -36,7 +36,7 @@ little_bytes-number (suc n) (a ∷ s) le small =
     let tail : little_from 1 n (a ∷ s) ≡ little_from 0 n s = little_from-cons 0 n a s in
     let head : byte_at 0 (a + 256 * little_from 0 n s) ≡ a = omega arith in
     let ih : bytes_low_first 0 n (little_from 0 n s) ≡ take n s =
-        little_bytes-number n s (omega arith) (λ i. small (suc i)) in
+    little_bytes-number n s (omega arith) (λ i. small (suc i)) in
     rw (tail, head, bytes-shift n 0 a (little_from 0 n s) lt, ih) refl
 
 -- ---- the highest byte first
@@ -52,13 +52,13 @@ byte_lower k j a y =
     let positive : 0 < 256 ^ k = let h = one-le-pow k 256 (omega arith) in omega arith in
     let above : a * 256 ^ (k + suc j) ≡ 256 ^ k * (a * 256 ^ j * 256) =
     ap (λ (x : ℕ). a * x) (pow-add 256 k (suc j)) ∙ sym (mul_assoc a (256 ^ k) (256 ^ suc j))
-        ∙ ap (λ (x : ℕ). x * 256 ^ suc j) (mul_comm a (256 ^ k)) ∙ mul_assoc (256 ^ k) a (256 ^ suc j)
+    ∙ ap (λ (x : ℕ). x * 256 ^ suc j) (mul_comm a (256 ^ k)) ∙ mul_assoc (256 ^ k) a (256 ^ suc j)
     ∙ ap (λ (x : ℕ). 256 ^ k * (a * x)) (pow-suc 256 j)
-        ∙ ap (λ (x : ℕ). 256 ^ k * x) (sym (mul_assoc a (256 ^ j) 256)) in
+    ∙ ap (λ (x : ℕ). 256 ^ k * x) (sym (mul_assoc a (256 ^ j) 256)) in
     let part : (a * 256 ^ (k + suc j) + y) / 256 ^ k ≡ a * 256 ^ j * 256 + y / 256 ^ k =
-        ap (λ (x : ℕ). (x + y) / 256 ^ k) above ∙ mul-add-div positive (a * 256 ^ j * 256) y in
+    ap (λ (x : ℕ). (x + y) / 256 ^ k) above ∙ mul-add-div positive (a * 256 ^ j * 256) y in
     byte_is k (a * 256 ^ (k + suc j) + y) ∙ ap (λ (x : ℕ). x % 256) part
-        ∙ mul-add-mod_self_right (a * 256 ^ j) 256 (y / 256 ^ k) ∙ sym (byte_is k y)
+    ∙ mul-add-mod_self_right (a * 256 ^ j) 256 (y / 256 ^ k) ∙ sym (byte_is k y)
 
 bytes_lower : (k j a y : ℕ) → bytes_high_first k (a * 256 ^ (k + j) + y) ≡ bytes_high_first k y
 bytes_lower zero j a y = refl
@@ -76,7 +76,7 @@ big_bytes-number (suc n) (a ∷ s) le small =
     let head : byte_at n (a * 256 ^ n + big_from 0 n s) ≡ a = byte_high n a (big_from 0 n s) lt low in
     let zero_more : n + 0 ≡ n = omega arith in
     let others : bytes_high_first n (a * 256 ^ n + big_from 0 n s) ≡ bytes_high_first n (big_from 0 n s) =
-        rw zero_more at (bytes_lower n 0 a (big_from 0 n s)) in
+    rw zero_more at (bytes_lower n 0 a (big_from 0 n s)) in
     let ih : bytes_high_first n (big_from 0 n s) ≡ take n s = big_bytes-number n s (omega arith) (λ i. small (suc i)) in
     rw (tail, head, others, ih) refl
 

@@ -31,7 +31,7 @@ ok_is x y e = cc
 pub done-local : {A B : Type 0} (f : A → B) (x : A) → IsLocal (λ s. Ok (f x, s))
 done-local {B = B} f x s r v e =
     let P : B × List ℕ → Type 0 = λ q. (front : List ℕ) × (s ≡ front ++ q.1)
-        × ((t : List ℕ) → done {A = B × List ℕ} (f x, front ++ t) ≡ Ok (q.0, t)) in
+    × ((t : List ℕ) → done {A = B × List ℕ} (f x, front ++ t) ≡ Ok (q.0, t)) in
     subst P (ok_is (f x, s) (v, r) e) ([], refl, λ t. refl)
 
 pub and_then-local : {A B : Type 0} (read : List ℕ → Reading A) (next : A → List ℕ → Reading B) → IsLocal read
@@ -39,9 +39,11 @@ pub and_then-local : {A B : Type 0} (read : List ℕ → Reading A) (next : A �
 and_then-local read next first after s r v e =
     let b = bind_ok (read s) (λ p. next p.0 p.1) (v, r) e in
     let one = first s b.0.1 b.0.0 b.1 in
-    let two = after b.0.0 b.0.1 r v b.2 in
-    (one.0 ++ two.0, one.1 ∙ ap (λ (x : List ℕ). one.0 ++ x) two.1 ∙ sym (append_assoc one.0 two.0 r),
-        λ t. rw (append_assoc, one.2 (two.0 ++ t)) (two.2 t))
+    let two = after b.0.0 b.0.1 r v b.2 in (
+      one.0 ++ two.0,
+      one.1 ∙ ap (λ (x : List ℕ). one.0 ++ x) two.1 ∙ sym (append_assoc one.0 two.0 r),
+      λ t. rw (append_assoc, one.2 (two.0 ++ t)) (two.2 t),
+    )
 
 pub bytes_at-local : (n : ℕ) → IsLocal (bytes_at n)
 bytes_at-local n s r v e =
@@ -49,7 +51,7 @@ bytes_at-local n s r v e =
     let long : n ≤ length s = ltb-false _ _ g.0 in
     let len : length (take n s) ≡ n = length-take-le n s long in
     let P : List ℕ × List ℕ → Type 0 = λ q. (front : List ℕ) × (s ≡ front ++ q.1)
-        × ((t : List ℕ) → bytes_at n (front ++ t) ≡ Ok (q.0, t)) in
+    × ((t : List ℕ) → bytes_at n (front ++ t) ≡ Ok (q.0, t)) in
     let again : (t : List ℕ) → bytes_at n (take n s ++ t) ≡ Ok (take n s, t) = λ t.
     let enough : ltb (length (take n s ++ t)) n ≡ false = le-ltb _ _ (omega (arith, length-append (take n s) t)) in
     rw (enough, take_at (take n s) t n len, drop_at (take n s) t n len) refl in
@@ -69,8 +71,11 @@ pub and_then-no_memory : {A B : Type 0} (read : List ℕ → Reading A) (next : 
     → and_then read next s ≢ Err Memory
 and_then-no_memory {A} {B} read next first after s e =
     let P : Reading A → Type 0 = λ r. r ≡ read s → (r >>= λ p. next p.0 p.1) ≡ Err Memory → ⊥ in
-    (elim (read s) as P [ Ok p ↦ λ _ f. after p.0 p.1 f | Err d ↦ λ is f. first s (sym is
-        ∙ ap (λ (x : DeError). Err x) cc) ]) refl e
+    (elim (read s) as P [
+      | Ok p ↦ λ _ f. after p.0 p.1 f
+      | Err d ↦ λ is f. first s (sym is
+          ∙ ap (λ (x : DeError). Err x) cc)
+    ]) refl e
 
 pub bytes_at-no_memory : (n : ℕ) (s : List ℕ) → bytes_at n s ≢ Err Memory
 bytes_at-no_memory n s e = guard-no_memory (ltb (length s) n) (take n s, drop n s) e

@@ -26,7 +26,11 @@ padded-zeros (Ok x) n sized bytes e =
     let len : length x ≡ n = sized x refl in
     let same : x ++ zeros_for (length x) ≡ bytes = cc in
     let zeros : length (x ++ zeros_for (length x)) - n ≡ align (length x) - length x =
-    omega (arith, len, length-append x (zeros_for (length x)),
-        length-replicate {A = ℕ} (align (length x) - length x) 0) in
+    omega (
+      arith,
+      len,
+      length-append x (zeros_for (length x)),
+      length-replicate {A = ℕ} (align (length x) - length x) 0,
+    ) in
     rw (← same, take_at x (zeros_for (length x)) n len, zeros) refl
 padded-zeros (Err d) n sized bytes e = absurd cc

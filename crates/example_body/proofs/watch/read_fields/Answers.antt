@@ -16,7 +16,7 @@ returns-in_err-levels-clause-refused c =
     let levels = rw c.rest.ensures at c.in_err-levels.ensures.refused in
     rw (p.1, p.2, port)
     (refused_first (elements (number_at 4) rest) (λ found. Ok (record { port = c.in_ok-port.port; levels = found }))
-        (0 < length rest) (0 < length rest) c.in_err-levels.field-0.0 levels (λ some. some))
+    (0 < length rest) (0 < length rest) c.in_err-levels.field-0.0 levels (λ some. some))
 
 pub returns-clause-value : goal.returns-clause-value
 unfolding watch_fields

@@ -7,8 +7,8 @@ pub returns-clause-read : goal.returns-clause-read
 returns-clause-read g c b a built small =
     let lengths = built_nlattr-length g.P.ToBytes.wire b a built in
     attribute-reads_back (type_of g.T.Constant.wire_value) a.nla_len
-        (number_of g.T.Constant.wire_number a.nla_type) a.nla_payload
-        (number_of-small g.T.Constant.wire_number a.nla_type small) lengths.0 lengths.1
+    (number_of g.T.Constant.wire_number a.nla_type) a.nla_payload
+    (number_of-small g.T.Constant.wire_number a.nla_type small) lengths.0 lengths.1
 
 pub returns-clause-field : goal.returns-clause-field
 returns-clause-field g c = type_of-number_of g.T.Constant.wire_value g.T.Constant.wire_number

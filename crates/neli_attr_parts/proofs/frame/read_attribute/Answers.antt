@@ -11,5 +11,5 @@ returns-clause-refused g c =
     refuses-same c.read_fields.result _ _ _ _
     (attribute_at-is g.K.Constant.wire_value g.P.FromBytesWithInput.read c.args.cursor.now.rest)
     (attribute_takes_memory-is g.K.Constant.wire_value g.P.FromBytesWithInput.read g.P.FromBytesWithInput.takes_memory
-        c.args.cursor.now.rest)
+    c.args.cursor.now.rest)
     c.read_fields.ensures.refused

@@ -20,9 +20,9 @@ adds n m before rest (Some t) first later is =
     let here : rest ≡ drop n m.1 = which (nat_lt (length m.1) n) (InvalidInput (length m.1)) (drop n m.1) rest later in
     is.1
     ∙ ap (λ (s : List ℕ). as_u64 (attributes_add (λ k. k)
-        (attributes_at (λ k. k) (record { before = s; rest = rest })).0)) first
+    (attributes_at (λ k. k) (record { before = s; rest = rest })).0)) first
     ∙ ap (λ (s : List ℕ). as_u64 (attributes_add (λ k. k)
-        (attributes_at (λ k. k) (record { before = []; rest = s })).0)) here
+    (attributes_at (λ k. k) (record { before = []; rest = s })).0)) here
 
 pub returns : goal.returns
 returns g c = adds _ (message_said c.args.message.now) _ _ _ c.in-Ok.ensures.value.0 c.in-Ok.ensures.value.1

@@ -6,4 +6,4 @@ use Rattle.neli_bench.proofs.owned.attributes_add.Given as goal
 abbrev pub invariant-loop-attribute : goal.invariant-loop-attribute
 invariant-loop-attribute g l =
     l.total ≡ as_u64 (sum_by (λ a. type_and_length (g.T.Constant.wire_number a.rta_type) a.rta_payload)
-        (take l.attribute-index l.attribute-items))
+    (take l.attribute-index l.attribute-items))

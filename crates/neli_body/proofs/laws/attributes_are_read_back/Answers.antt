@@ -8,4 +8,4 @@ pub returns-clause-whole : goal.returns-clause-whole
 returns-clause-whole g c h attrs is are =
     let header = g.H.FixedHeader in
     whole-reads_back g.T.Constant.wire_number g.T.Constant.wire_value header.width header.bytes_of header.header_of h
-        attrs (g.met.H.FixedHeader.width_is h) (g.met.H.FixedHeader.reads_back h is) are
+    attrs (g.met.H.FixedHeader.width_is h) (g.met.H.FixedHeader.reads_back h is) are

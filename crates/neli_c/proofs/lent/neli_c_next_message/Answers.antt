@@ -8,5 +8,5 @@ returns-in-Ok-clause-message c = λ _.
     let w : NeliWalk = c.args.walk.now in
     let moved = ap (λ (n : ℕ). record w { place = w.place + n }) c.alignto.ensures in
     message-given c.args.bytes.now w _ c.in-Some.rest.now c.new-cursor.result.rest _ _ _ _ c.in-Some.ensures.places
-        c.new-cursor.ensures.rest c.in-Ok.ensures.value c.message_at.ensures.header c.message_at.ensures.payload
-        c.message_at.ensures.payload_length moved
+    c.new-cursor.ensures.rest c.in-Ok.ensures.value c.message_at.ensures.header c.message_at.ensures.payload
+    c.message_at.ensures.payload_length moved

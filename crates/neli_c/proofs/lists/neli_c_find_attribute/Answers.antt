@@ -6,6 +6,8 @@ pub loop-ahead-init : goal.loop-ahead-init
 loop-ahead-init c = (none, refl)
 
 pub loop-ahead-preserved : goal.loop-ahead-preserved
-loop-ahead-preserved c =
-    (one _ c.loop-ahead.invariant.0 (c.neli_c_next_attribute-code.ensures.attribute (first_of (search rules, cc)))
-        (first_of (search rules, cc)), c.loop-ahead.invariant.1)
+loop-ahead-preserved c = (
+  one _ c.loop-ahead.invariant.0 (c.neli_c_next_attribute-code.ensures.attribute (first_of (search rules, cc)))
+      (first_of (search rules, cc)),
+  c.loop-ahead.invariant.1,
+)

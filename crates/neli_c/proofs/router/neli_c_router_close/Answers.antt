@@ -5,5 +5,5 @@ use Rattle.neli_c.proofs.router.neli_c_router_close.Goals as goal
 pub returns-clause-open : goal.returns-clause-open
 returns-clause-open c =
     carried (λ z. ClosesHandle z c.args.handle) c.close-code.result _ _ _ c.deref_mut.result.now _
-        (record { sfits = c.close-code.type_inv }) c.in-Some.ensures.taken c.deref_mut.ensures.value c.put.ensures
-        c.close-code.ensures
+    (record { sfits = c.close-code.type_inv }) c.in-Some.ensures.taken c.deref_mut.ensures.value c.put.ensures
+    c.close-code.ensures

@@ -10,7 +10,7 @@ loop-given-preserved c =
     let was = c.loop-given.invariant in
     let r = c.neli_c_next_attribute-code in
     let step : AttributeStep c.args.bytes.now c.loop-given.walk r.new.walk r.new.attribute =
-        (first_of (search rules, cc), r.ensures.attribute (first_of (search rules, cc))) in (
+    (first_of (search rules, cc), r.ensures.attribute (first_of (search rules, cc))) in (
       within-stored ms k _ c.loop-given-test.true,
       each-stored (AttributeStep c.args.bytes.now) _ _ _ ms k _ c.loop-given-test.true was.1 step,
       rest-stored ms _ k _ was.2,

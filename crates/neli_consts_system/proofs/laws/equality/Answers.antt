@@ -41,8 +41,10 @@ returns-clause-proc_cn_mcast_op c = derived-equality proc_cn_mcast_op _ proc_cn_
     (λ x y e i. (eqb-true x.0 y.0 e i, tt), tt)
 
 pub returns-clause-nf_log_attr : goal.returns-clause-nf_log_attr
-returns-clause-nf_log_attr c = derived-equality nf_log_attr _ nf_log_attr-laws (λ x y e i. (eqb-true x.0 y.0 e i, tt),
-    tt)
+returns-clause-nf_log_attr c = derived-equality nf_log_attr _ nf_log_attr-laws (
+  λ x y e i. (eqb-true x.0 y.0 e i, tt),
+  tt,
+)
 
 pub returns-clause-nf_log_cfg : goal.returns-clause-nf_log_cfg
 returns-clause-nf_log_cfg c = derived-equality nf_log_cfg _ nf_log_cfg-laws (λ x y e i. (eqb-true x.0 y.0 e i, tt), tt)

@@ -23,12 +23,34 @@ pub returns-clause-event : goal.returns-clause-event
 returns-clause-event g c =
     let numbers = pair-equality bytes-equality (pair-equality bytes-equality pair-of-processes) in
     let name = last-field (lists-equality bytes-equality) in
-    derived-equality event _ event-laws (λ x y. (last-field bytes-equality x y).0,
-        (λ x y. (processes pair-of-processes x y).0, (λ x y. (pair-of-processes x y).0,
-        (λ x y. (processes pair-of-numbers x y).0, (λ x y. (processes pair-of-numbers x y).0,
-        (λ x y. (pair-of-processes x y).0, (λ x y. (processes pair-of-processes x y).0,
-        (λ x y. (processes name x y).0, (λ x y. (processes pair-of-processes x y).0,
-        (λ x y. (processes numbers x y).0, tt))))))))))
+    derived-equality event _ event-laws (
+      λ x y. (last-field bytes-equality x y).0,
+      (
+        λ x y. (processes pair-of-processes x y).0,
+        (
+          λ x y. (pair-of-processes x y).0,
+          (
+            λ x y. (processes pair-of-numbers x y).0,
+            (
+              λ x y. (processes pair-of-numbers x y).0,
+              (
+                λ x y. (pair-of-processes x y).0,
+                (
+                  λ x y. (processes pair-of-processes x y).0,
+                  (
+                    λ x y. (processes name x y).0,
+                    (
+                      λ x y. (processes pair-of-processes x y).0,
+                      (λ x y. (processes numbers x y).0, tt),
+                    ),
+                  ),
+                ),
+              ),
+            ),
+          ),
+        ),
+      ),
+    )
 
 pub returns-clause-event_with_header : goal.returns-clause-event_with_header
 returns-clause-event_with_header g c =

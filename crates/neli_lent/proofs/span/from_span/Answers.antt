@@ -7,7 +7,7 @@ use Rattle.neli_lent.proofs.span.from_span.Goals as goal
 pub returns-in-Err-clause-refused : goal.returns-in-Err-clause-refused
 returns-in-Err-clause-refused g c = λ u is.
     absurd (span_lent c.args.span.now u c.in-Err.error is
-        (sym (ap (frame_at (lent_message same)) c.new-cursor.ensures.rest) ∙ c.in-Err.ensures.refused))
+    (sym (ap (frame_at (lent_message same)) c.new-cursor.ensures.rest) ∙ c.in-Err.ensures.refused))
 
 pub returns-in-Ok-to_nlmsghdr-clause-value : goal.returns-in-Ok-to_nlmsghdr-clause-value
 returns-in-Ok-to_nlmsghdr-clause-value g c = λ u is.
@@ -34,19 +34,19 @@ pub returns-then-has_plain_body-clause-value : goal.returns-then-has_plain_body-
 returns-then-has_plain_body-clause-value g c = λ u is.
     let lent = sym (ap (frame_at (lent_message same)) c.new-cursor.ensures.rest) ∙ c.in-Ok.ensures.value in
     let said = span_body c.args.span.now _ (message_said c.in-Ok.message) lent
-        (c.has_plain_body.ensures.body c.if-has_plain_body.true) u is in
+    (c.has_plain_body.ensures.body c.if-has_plain_body.true) u is in
     rw (said, ← c.nl_payload.ensures) c.with_body.ensures.value
 
 pub returns-then-has_plain_body-clause-header : goal.returns-then-has_plain_body-clause-header
 returns-then-has_plain_body-clause-header g c = λ u is.
     let lent = sym (ap (frame_at (lent_message same)) c.new-cursor.ensures.rest) ∙ c.in-Ok.ensures.value in
     let said = span_body c.args.span.now _ (message_said c.in-Ok.message) lent
-        (c.has_plain_body.ensures.body c.if-has_plain_body.true) u is in
+    (c.has_plain_body.ensures.body c.if-has_plain_body.true) u is in
     rw (said, ← c.header.ensures) c.with_body.ensures.header
 
 pub returns-then-has_plain_body-clause-refused : goal.returns-then-has_plain_body-clause-refused
 returns-then-has_plain_body-clause-refused g c = λ u is.
     let lent = sym (ap (frame_at (lent_message same)) c.new-cursor.ensures.rest) ∙ c.in-Ok.ensures.value in
     let said = span_body c.args.span.now _ (message_said c.in-Ok.message) lent
-        (c.has_plain_body.ensures.body c.if-has_plain_body.true) u is in
+    (c.has_plain_body.ensures.body c.if-has_plain_body.true) u is in
     rw (said, ← c.nl_payload.ensures) c.with_body.ensures.refused

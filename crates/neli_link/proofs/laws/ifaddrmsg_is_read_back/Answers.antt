@@ -9,12 +9,12 @@ use Rattle.neli_link.proofs.laws.ifaddrmsg_is_read_back.Goals as goal
 pub returns-clause-back : goal.returns-clause-back
 returns-clause-back c m is =
     reads_back 8 ifaddrmsg_header (attrs_of ifa_of) ifaddrmsg_bytes m.header (attrs_wire ifa_number m.rtattrs)
-        (ifaddrmsg-width m.header) (ifaddrmsg-reads_back m.header is)
+    (ifaddrmsg-width m.header) (ifaddrmsg-reads_back m.header is)
 
 pub returns-clause-whole : goal.returns-clause-whole
 returns-clause-whole c m is =
     whole-reads_back ifa_number ifa_of 8 ifaddrmsg_bytes ifaddrmsg_header m.header m.rtattrs (ifaddrmsg-width m.header)
-        (ifaddrmsg-reads_back m.header is)
+    (ifaddrmsg-reads_back m.header is)
 
 pub returns-clause-bytes : goal.returns-clause-bytes
 returns-clause-bytes c = ifaddrmsg-writes_back

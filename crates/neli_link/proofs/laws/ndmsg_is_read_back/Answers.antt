@@ -9,12 +9,12 @@ use Rattle.neli_link.proofs.laws.ndmsg_is_read_back.Goals as goal
 pub returns-clause-back : goal.returns-clause-back
 returns-clause-back c m is =
     reads_back 12 ndmsg_header (attrs_of nda_of) ndmsg_bytes m.header (attrs_wire nda_number m.rtattrs)
-        (ndmsg-width m.header) (ndmsg-reads_back m.header is)
+    (ndmsg-width m.header) (ndmsg-reads_back m.header is)
 
 pub returns-clause-whole : goal.returns-clause-whole
 returns-clause-whole c m is =
     whole-reads_back nda_number nda_of 12 ndmsg_bytes ndmsg_header m.header m.rtattrs (ndmsg-width m.header)
-        (ndmsg-reads_back m.header is)
+    (ndmsg-reads_back m.header is)
 
 pub returns-clause-bytes : goal.returns-clause-bytes
 returns-clause-bytes c = ndmsg-writes_back

@@ -6,4 +6,4 @@ use Rattle.neli_listing.proofs.input.read_whole.Given as goal
 abbrev pub invariant-loop-turn : goal.invariant-loop-turn
 invariant-loop-turn g l =
     Consumes (g.R.Read.remaining l.fn.input) (g.R.Read.remaining l.input) l.bytes.items
-        × (l._turn ≤ length l.bytes.items)
+    × (l._turn ≤ length l.bytes.items)

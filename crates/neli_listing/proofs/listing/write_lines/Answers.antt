@@ -11,7 +11,7 @@ loop-cursor-smaller g c = line_shorter _ _ c.in-Ok.line c.in-Ok.ensures.value
 pub loop-cursor-preserved : goal.loop-cursor-preserved
 loop-cursor-preserved g c =
     printed_more c.args.bytes.now _ _ _ _ _ c.in-Ok.line c.loop-cursor.invariant c.in-Ok.ensures.value
-        c.in_ok-writeln-in-Ok.ensures.bytes
+    c.in_ok-writeln-in-Ok.ensures.bytes
 
 pub returns-in-Err-clause-lists : goal.returns-in-Err-clause-lists
 returns-in-Err-clause-lists g c =
@@ -19,7 +19,7 @@ returns-in-Err-clause-lists g c =
     let none : (true ≡ false → left ≡ []) × (left ≡ [] → true ≡ false) = search rules in
     let any : left ≢ [] = λ e. let f = none.1 e in cc in
     rw c.ending_at.ensures (printed_error c.args.bytes.now _ _ left c.in-Err.error c.loop-cursor.invariant any
-        c.in-Err.ensures.refused)
+    c.in-Err.ensures.refused)
 
 pub returns-in-Err-clause-named : goal.returns-in-Err-clause-named
 returns-in-Err-clause-named g c =
@@ -30,4 +30,4 @@ pub returns-clause-lists : goal.returns-clause-lists
 returns-clause-lists g c =
     let count : length c.rest.result.now ≡ 0 = eqb-true _ _ (sym c.is_empty.ensures ∙ c.loop-cursor-test.false) in
     printed_end c.args.bytes.now _ _ c.loop-cursor.cursor.rest c.loop-cursor.invariant (sym c.rest.ensures
-        ∙ empty_is c.rest.result.now count)
+    ∙ empty_is c.rest.result.now count)

@@ -13,11 +13,11 @@ IsRead m = HasNoTail (message_of (λ b. b) m)
 pub loop-message-preserved : goal.loop-message-preserved
 loop-message-preserved c =
     All-more IsRead c.args.messages.now c.loop-message.message-index c.message-item.result c.loop-message-test.true
-        c.loop-message.invariant
+    c.loop-message.invariant
     (subst IsRead c.message-item.is (c.is_whole.ensures.0 c.if-not-is_whole.false))
 
 pub returns : goal.returns
 returns c =
     let whole = subst (All IsRead) (take_all c.loop-message.message-index c.args.messages.now c.loop-message-test.false)
-        c.loop-message.invariant in
+    c.loop-message.invariant in
     (λ yes. whole, λ each. refl)

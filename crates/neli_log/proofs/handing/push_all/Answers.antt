@@ -44,14 +44,14 @@ loop-entry-preserved c =
 pub returns-clause-entries : goal.returns-clause-entries
 returns-clause-entries c =
     let none : into_iter_items c.loop-entry.entry-iterator ≡ [] =
-        nil_from_length _ (sym c.loop-entry.entry-iterator.rest.ok.0 ∙ c.in-None.ensures.steps.0) in
+    nil_from_length _ (sym c.loop-entry.entry-iterator.rest.ok.0 ∙ c.in-None.ensures.steps.0) in
     sym (append-nil (entries_of c.loop-entry.places)) ∙ ap (λ es. entries_of c.loop-entry.places ++ es) (sym none)
-        ∙ c.loop-entry.invariant.entries
+    ∙ c.loop-entry.invariant.entries
 
 pub returns-clause-more : goal.returns-clause-more
 returns-clause-more c = λ w.
     let none : into_iter_items c.loop-entry.entry-iterator ≡ [] =
-        nil_from_length _ (sym c.loop-entry.entry-iterator.rest.ok.0 ∙ c.in-None.ensures.steps.0) in
+    nil_from_length _ (sym c.loop-entry.entry-iterator.rest.ok.0 ∙ c.in-None.ensures.steps.0) in
     sym (gains_none (pending_of c.loop-entry.places w))
     ∙ ap (λ es. option_map (λ xs. xs ++ items_for w es) (pending_of c.loop-entry.places w)) (sym none)
     ∙ c.loop-entry.invariant.more w

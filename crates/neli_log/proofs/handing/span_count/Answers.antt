@@ -7,7 +7,7 @@ pub overflow_add-count : goal.overflow_add-count
 overflow_add-count c =
     let es = c.args.entries.now in
     let counted : c.loop-entry.count + length (spans_of (drop c.loop-entry.entry-index es)) ≡ length (spans_of es) =
-        c.loop-entry.invariant.counted in
+    c.loop-entry.invariant.counted in
     let small : length es < 2 ^ 64 = c.loop-entry.invariant.small in
     let here = spans_at es c.loop-entry.entry-index c.entry-item.result c.loop-entry-test.true c.entry-item.is in
     let few = spans_few es in

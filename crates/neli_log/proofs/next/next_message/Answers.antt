@@ -8,14 +8,14 @@ pub returns-then-has_plain_body-clause-message : goal.returns-then-has_plain_bod
 returns-then-has_plain_body-clause-message c =
     let lent = sym (ap (λ p. frame_at (lent_message (λ n. n)) p.rest) c.ahead-ahead.ensures) ∙ c.in-Ok.ensures.value in
     let read = read_lent _ _ (message_said c.in-Ok.message) _ lent
-        (c.has_plain_body.ensures.body c.if-has_plain_body.true) in
+    (c.has_plain_body.ensures.body c.if-has_plain_body.true) in
     (_, read, c.nl_seq.ensures, c.nl_pid.ensures)
 
 pub returns-then-has_plain_body-clause-shorter : goal.returns-then-has_plain_body-clause-shorter
 returns-then-has_plain_body-clause-shorter c =
     let lent = sym (ap (λ p. frame_at (lent_message (λ n. n)) p.rest) c.ahead-ahead.ensures) ∙ c.in-Ok.ensures.value in
     read_shorter _ _ _ (read_lent _ _ (message_said c.in-Ok.message) _ lent
-        (c.has_plain_body.ensures.body c.if-has_plain_body.true))
+    (c.has_plain_body.ensures.body c.if-has_plain_body.true))
 
 pub returns-in-Ok-from_bytes-clause-shorter : goal.returns-in-Ok-from_bytes-clause-shorter
 returns-in-Ok-from_bytes-clause-shorter c = read_shorter _ _ _ c.in-Ok-from_bytes.ensures.value

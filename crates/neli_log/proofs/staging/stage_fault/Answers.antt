@@ -10,13 +10,13 @@ pub returns-in_ok-push : goal.returns-in_ok-push
 returns-in_ok-push c = λ port serial at bytes groups cut h.
     rw c.in_ok-push.ensures.items
     (staged_fault (pending_of c.args.places.now) port serial bytes groups cut c.args.entries.now.items at c.args.fault
-        (record { item = content.Fault (socket.De c.args.fault); route = route.Numbers }) h
+    (record { item = content.Fault (socket.De c.args.fault); route = route.Numbers }) h
     (λ w. fault_gains port (pending_of c.args.places.now) bytes groups c.args.fault _ w refl) refl
-        (c.has_reader.ensures.0 c.if-has_reader.true))
+    (c.has_reader.ensures.0 c.if-has_reader.true))
 
 pub returns-else-has_reader : goal.returns-else-has_reader
 returns-else-has_reader c = λ port serial at bytes groups cut h.
     staged_unread_fault (pending_of c.args.places.now) port serial bytes groups cut c.args.entries.now.items at
-        c.args.fault (record { item = content.Fault (socket.De c.args.fault); route = route.Numbers }) h
+    c.args.fault (record { item = content.Fault (socket.De c.args.fault); route = route.Numbers }) h
     (λ w. fault_gains port (pending_of c.args.places.now) bytes groups c.args.fault _ w refl)
-        (λ r. (let yes = c.has_reader.ensures.1 r in let no = c.if-has_reader.false in cc))
+    (λ r. (let yes = c.has_reader.ensures.1 r in let no = c.if-has_reader.false in cc))

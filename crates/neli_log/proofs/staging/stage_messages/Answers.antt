@@ -16,15 +16,15 @@ returns-in-Some c =
     let cut = cut_of untyped_layout bytes in
     let inv = c.loop-cursor.invariant in
     let start = subst (λ b. AreStaged P c.args.port c.args.serial b c.args.groups.now cut c.loop-cursor.entries.items
-        (length old.before) (cut_left old.rest None)) (sym inv.whole) inv.staged in
+    (length old.before) (cut_left old.rest None)) (sym inv.whole) inv.staged in
     let after = c.in_ok-fault.ensures.staged cut start in
     let stated = subst (λ b. AreStaged P c.args.port c.args.serial b c.args.groups.now cut
-        c.stage_next.new.entries.items (length new.before) (cut_left new.rest c.in_ok-fault.fault)) inv.whole after in
+    c.stage_next.new.entries.items (length new.before) (cut_left new.rest c.in_ok-fault.fault)) inv.whole after in
     let fault = subst (λ f. AreStaged P c.args.port c.args.serial bytes c.args.groups.now cut
-        c.stage_next.new.entries.items (length new.before) (cut_left new.rest f)) c.in-Some.is stated in
+    c.stage_next.new.entries.items (length new.before) (cut_left new.rest f)) c.in-Some.is stated in
     staged_further P c.args.port c.args.serial bytes c.args.groups.now cut c.stage_next.new.entries.items
-        (length new.before) (length bytes) ([], Some c.in-Some.fault)
-        (before_within new.before new.rest bytes (c.in_ok-fault.ensures.moved ∙ inv.whole)) fault
+    (length new.before) (length bytes) ([], Some c.in-Some.fault)
+    (before_within new.before new.rest bytes (c.in_ok-fault.ensures.moved ∙ inv.whole)) fault
 
 pub loop-cursor-preserved : goal.loop-cursor-preserved
 loop-cursor-preserved c =
@@ -35,10 +35,10 @@ loop-cursor-preserved c =
     let cut = cut_of untyped_layout bytes in
     let inv = c.loop-cursor.invariant in
     let start = subst (λ b. AreStaged P c.args.port c.args.serial b c.args.groups.now cut c.loop-cursor.entries.items
-        (length old.before) (cut_left old.rest None)) (sym inv.whole) inv.staged in
+    (length old.before) (cut_left old.rest None)) (sym inv.whole) inv.staged in
     let after = c.in_ok-fault.ensures.staged cut start in
     let stated = subst (λ b. AreStaged P c.args.port c.args.serial b c.args.groups.now cut
-        c.stage_next.new.entries.items (length new.before) (cut_left new.rest c.in_ok-fault.fault)) inv.whole after in
+    c.stage_next.new.entries.items (length new.before) (cut_left new.rest c.in_ok-fault.fault)) inv.whole after in
     record {
       whole = c.in_ok-fault.ensures.moved ∙ inv.whole;
       staged = subst (λ f. AreStaged P c.args.port c.args.serial bytes c.args.groups.now cut
@@ -56,6 +56,6 @@ returns c =
     let none : length c.rest.result.now ≡ 0 = eqb-true _ _ (sym c.is_empty.ensures ∙ yes) in
     let left : length here.rest ≡ 0 = sym (ap (λ (s : List ℕ). length s) c.rest.ensures) ∙ none in
     let all = subst (λ r. AreStaged P c.args.port c.args.serial bytes c.args.groups.now cut c.loop-cursor.entries.items
-        (length here.before) r) (cut_done here.rest left) inv.staged in
+    (length here.before) r) (cut_done here.rest left) inv.staged in
     staged_further P c.args.port c.args.serial bytes c.args.groups.now cut c.loop-cursor.entries.items
-        (length here.before) (length bytes) ([], None) (before_within here.before here.rest bytes inv.whole) all
+    (length here.before) (length bytes) ([], None) (before_within here.before here.rest bytes inv.whole) all

@@ -19,13 +19,13 @@ returns-in_ok-stage_message-in-Ok-clause-staged c = λ cut h.
     let shorter = rw c.in-Ok.is at c.in_ok-address.ensures.shorter in
     let x : Span = record { datagram = c.args.serial; start = c.position-start.result; end = c.position.result } in
     let found = staged_found c.args.serial old.before old.rest new.before new.rest m.0 c.in-Ok.address x refl
-        c.position-start.ensures.value c.position.ensures.value m.1 shorter moved m.2 m.3 in
+    c.position-start.ensures.value c.position.ensures.value m.1 shorter moved m.2 m.3 in
     let before = subst (λ r. AreStaged P c.args.port c.args.serial (whole old) c.args.groups.now cut es
-        (length old.before) r) (cut_first old.rest new.rest m.0 m.1) h in
+    (length old.before) r) (cut_first old.rest new.rest m.0 m.1) h in
     subst (λ n. AreStaged P c.args.port c.args.serial (whole old) c.args.groups.now cut
-        c.stage_message.new.entries.items n (cut_of untyped_layout new.rest)) c.position.ensures.value
+    c.stage_message.new.entries.items n (cut_of untyped_layout new.rest)) c.position.ensures.value
     (c.in_ok-stage_message-in-Ok.ensures c.args.serial (length old.before) (whole old) m.0 cut
-        (cut_of untyped_layout new.rest) before found)
+    (cut_of untyped_layout new.rest) before found)
 
 pub returns-in-Err-clause-staged : goal.returns-in-Err-clause-staged
 returns-in-Err-clause-staged c = λ cut h.
@@ -37,6 +37,6 @@ returns-in-Err-clause-staged c = λ cut h.
     let stays = rw c.in-Err.is at c.in_ok-address.ensures.stays in
     let same_place = ap (λ p. length p.before) stays in
     let before = subst (λ r. AreStaged P c.args.port c.args.serial (whole old) c.args.groups.now cut es
-        (length old.before) r) (cut_last old.rest c.in-Err.fault c.requires fault) h in
+    (length old.before) r) (cut_last old.rest c.in-Err.fault c.requires fault) h in
     subst (λ n. AreStaged P c.args.port c.args.serial (whole old) c.args.groups.now cut es n ([], Some c.in-Err.fault))
-        (sym same_place) before
+    (sym same_place) before

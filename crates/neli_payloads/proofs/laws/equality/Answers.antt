@@ -24,8 +24,10 @@ returns-clause-ifa_cacheinfo c =
 
 pub returns-clause-rta_cacheinfo : goal.returns-clause-rta_cacheinfo
 returns-clause-rta_cacheinfo c =
-    parts-equality (λ (v : RtaCacheinfo). (v.rta_clntref,
-        (v.rta_lastuse, (v.rta_expires, (v.rta_error, (v.rta_used, (v.rta_id, (v.rta_ts, v.rta_tsage))))))))
+    parts-equality (λ (v : RtaCacheinfo). (
+      v.rta_clntref,
+      (v.rta_lastuse, (v.rta_expires, (v.rta_error, (v.rta_used, (v.rta_id, (v.rta_ts, v.rta_tsage)))))),
+    ))
     (λ t. record {
       rta_clntref = t.0;
       rta_lastuse = t.1.0;
@@ -37,19 +39,75 @@ returns-clause-rta_cacheinfo c =
       rta_tsage = t.1.1.1.1.1.1.1;
     }) (λ v. refl)
     (pair-equality bytes-equality (pair-equality bytes-equality
-        (pair-equality signed (pair-equality bytes-equality
-        (pair-equality bytes-equality (pair-equality bytes-equality (pair-equality bytes-equality bytes-equality)))))))
+    (pair-equality signed (pair-equality bytes-equality
+    (pair-equality bytes-equality (pair-equality bytes-equality (pair-equality bytes-equality bytes-equality)))))))
 
 pub returns-clause-link_stats64 : goal.returns-clause-link_stats64
 returns-clause-link_stats64 c =
-    parts-equality (λ (v : LinkStats64). (v.rx_packets,
-        (v.tx_packets, (v.rx_bytes, (v.tx_bytes, (v.rx_errors,
-        (v.tx_errors, (v.rx_dropped, (v.tx_dropped, (v.multicast,
-        (v.collisions, (v.rx_length_errors, (v.rx_over_errors,
-        (v.rx_crc_errors, (v.rx_frame_errors, (v.rx_fifo_errors,
-        (v.rx_missed_errors, (v.tx_aborted_errors, (v.tx_carrier_errors,
-        (v.tx_fifo_errors, (v.tx_heartbeat_errors, (v.tx_window_errors,
-        (v.rx_compressed, (v.tx_compressed, (v.rx_nohandler, v.rx_otherhost_dropped)))))))))))))))))))))))))
+    parts-equality (λ (v : LinkStats64). (
+      v.rx_packets,
+      (
+        v.tx_packets,
+        (
+          v.rx_bytes,
+          (
+            v.tx_bytes,
+            (
+              v.rx_errors,
+              (
+                v.tx_errors,
+                (
+                  v.rx_dropped,
+                  (
+                    v.tx_dropped,
+                    (
+                      v.multicast,
+                      (
+                        v.collisions,
+                        (
+                          v.rx_length_errors,
+                          (
+                            v.rx_over_errors,
+                            (
+                              v.rx_crc_errors,
+                              (
+                                v.rx_frame_errors,
+                                (
+                                  v.rx_fifo_errors,
+                                  (
+                                    v.rx_missed_errors,
+                                    (
+                                      v.tx_aborted_errors,
+                                      (
+                                        v.tx_carrier_errors,
+                                        (
+                                          v.tx_fifo_errors,
+                                          (
+                                            v.tx_heartbeat_errors,
+                                            (
+                                              v.tx_window_errors,
+                                              (v.rx_compressed, (v.tx_compressed, (v.rx_nohandler, v.rx_otherhost_dropped))),
+                                            ),
+                                          ),
+                                        ),
+                                      ),
+                                    ),
+                                  ),
+                                ),
+                              ),
+                            ),
+                          ),
+                        ),
+                      ),
+                    ),
+                  ),
+                ),
+              ),
+            ),
+          ),
+        ),
+      ),
+    ))
     (λ t. record {
       rx_packets = t.0;
       tx_packets = t.1.0;
@@ -78,14 +136,14 @@ returns-clause-link_stats64 c =
       rx_otherhost_dropped = t.1.1.1.1.1.1.1.1.1.1.1.1.1.1.1.1.1.1.1.1.1.1.1.1;
     }) (λ v. refl)
     (pair-equality bytes-equality (pair-equality bytes-equality
-        (pair-equality bytes-equality (pair-equality bytes-equality
-        (pair-equality bytes-equality (pair-equality bytes-equality
-        (pair-equality bytes-equality (pair-equality bytes-equality
-        (pair-equality bytes-equality (pair-equality bytes-equality
-        (pair-equality bytes-equality (pair-equality bytes-equality
-        (pair-equality bytes-equality (pair-equality bytes-equality
-        (pair-equality bytes-equality (pair-equality bytes-equality
-        (pair-equality bytes-equality (pair-equality bytes-equality
-        (pair-equality bytes-equality (pair-equality bytes-equality
-        (pair-equality bytes-equality (pair-equality bytes-equality
-        (pair-equality bytes-equality (pair-equality bytes-equality bytes-equality))))))))))))))))))))))))
+    (pair-equality bytes-equality (pair-equality bytes-equality
+    (pair-equality bytes-equality (pair-equality bytes-equality
+    (pair-equality bytes-equality (pair-equality bytes-equality
+    (pair-equality bytes-equality (pair-equality bytes-equality
+    (pair-equality bytes-equality (pair-equality bytes-equality
+    (pair-equality bytes-equality (pair-equality bytes-equality
+    (pair-equality bytes-equality (pair-equality bytes-equality
+    (pair-equality bytes-equality (pair-equality bytes-equality
+    (pair-equality bytes-equality (pair-equality bytes-equality
+    (pair-equality bytes-equality (pair-equality bytes-equality
+    (pair-equality bytes-equality (pair-equality bytes-equality bytes-equality))))))))))))))))))))))))

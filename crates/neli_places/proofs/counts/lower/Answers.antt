@@ -6,7 +6,7 @@ pub overflow_sub-index_mut : goal.overflow_sub-index_mut
 overflow_sub-index_mut c =
     let l : c.args.i < length c.args.shared.now.items = omega (arith, c.args.shared.now.ok.0) in
     let r = standing_read c.args.shared.now.items c.args.caught_up.now c.args.i c.index_mut.result.now l
-        c.index_mut.ensures.value in
+    c.index_mut.ensures.value in
     omega (arith, r, c.requires.some)
 
 pub overflow_sub-caught_up : goal.overflow_sub-caught_up
@@ -18,7 +18,7 @@ pub returns-then-i-len-clause-less : goal.returns-then-i-len-clause-less
 returns-then-i-len-clause-less c = λ n.
     let l : c.args.i < length c.args.shared.now.items = omega (arith, c.args.shared.now.ok.0) in
     lower_at c.args.shared.now.items c.args.caught_up.now c.args.i c.index_mut.result.now _ n l
-        c.index_mut.ensures.value refl c.requires.some
+    c.index_mut.ensures.value refl c.requires.some
 
 pub returns-then-i-len-clause-positions : goal.returns-then-i-len-clause-positions
 returns-then-i-len-clause-positions c =

@@ -6,7 +6,7 @@ pub overflow_add-index_mut : goal.overflow_add-index_mut
 overflow_add-index_mut c =
     let l : c.args.i < length c.args.shared.now.items = omega (arith, c.args.shared.now.ok.0) in
     let r = standing_read c.args.shared.now.items c.args.caught_up.now c.args.i c.index_mut.result.now l
-        c.index_mut.ensures.value in
+    c.index_mut.ensures.value in
     omega (arith, r, c.requires.few)
 
 pub overflow_add-caught_up : goal.overflow_add-caught_up
@@ -18,7 +18,7 @@ pub returns-then-i-len-clause-more : goal.returns-then-i-len-clause-more
 returns-then-i-len-clause-more c = λ n.
     let l : c.args.i < length c.args.shared.now.items = omega (arith, c.args.shared.now.ok.0) in
     raise_at c.args.shared.now.items c.args.caught_up.now c.args.i c.index_mut.result.now _ n l
-        c.index_mut.ensures.value refl
+    c.index_mut.ensures.value refl
 
 pub returns-then-i-len-clause-positions : goal.returns-then-i-len-clause-positions
 returns-then-i-len-clause-positions c =

@@ -11,7 +11,7 @@ returns c = λ q is_open.
     let none : c.loop-number.number-iterator ≡ [] = c.in-None.ensures.steps.0 in
     let has : is_member nat_eq (keys c.args.numbers.now) q ≡ true =
     ap (λ ks. is_member nat_eq ks q) (sym c.keys-number-items.ensures.rest) ∙ sym (c.keys-number-items.ensures.has q)
-        ∙ is_open in
+    ∙ is_open in
     let one = copies-one c.args.delivery.now q (keys c.args.numbers.now) c.keys-number-items.ensures.unique has in
     sym (append-nil (gain_of q c.loop-number.pieces.items))
     ∙ ap (λ ks. gain_of q c.loop-number.pieces.items ++ copies c.args.delivery.now q ks) (sym none)

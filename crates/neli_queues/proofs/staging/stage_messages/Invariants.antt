@@ -9,6 +9,6 @@ use Rattle.neli_queues.proofs.staging.stage_messages.Given as goal
 abbrev pub invariant-loop-message : goal.invariant-loop-message
 invariant-loop-message l = (q : ℕ) → is_open l.numbers q ≡ true
     → gain_of q l.pieces.items ++ messages_to l.port (is_open l.numbers) q
-        (map (message_of (λ b. b)) (into_iter_items l.message-iterator))
+    (map (message_of (λ b. b)) (into_iter_items l.message-iterator))
     ≡ gain_of q l.initial.pieces.items ++ messages_to l.port (is_open l.numbers) q
-        (map (message_of (λ b. b)) l.fn.messages.items)
+    (map (message_of (λ b. b)) l.fn.messages.items)

@@ -13,4 +13,4 @@ returns-then-is_empty-clause-cut g c =
     let nothing : c.args.bytes.now ≡ [] = empty_is c.args.bytes.now none in
     rw (nothing, c.new.ensures.items)
     (cut_of-end (message_layout g.T.Constant.wire_value g.T.Constant.wire_number g.P.FromBytesWithInput.read)
-        (layout_with-placed g.T.Constant.wire_value _) (omega arith))
+    (layout_with-placed g.T.Constant.wire_value _) (omega arith))

@@ -6,5 +6,8 @@ use Rattle.neli_reader.proofs.laws.has_few_messages.Goals as goal
 
 pub returns : goal.returns
 returns g c b ms f cuts =
-    omega (arith, Cuts-long (message_layout g.T.Constant.wire_value g.T.Constant.wire_number
-        g.P.FromBytesWithInput.read) (layout_with-placed g.T.Constant.wire_value _) (omega arith) b ms f cuts)
+    omega (
+      arith,
+      Cuts-long (message_layout g.T.Constant.wire_value g.T.Constant.wire_number
+          g.P.FromBytesWithInput.read) (layout_with-placed g.T.Constant.wire_value _) (omega arith) b ms f cuts,
+    )

@@ -11,9 +11,13 @@ pub returns-clause-written : goal.returns-clause-written
 returns-clause-written c b ms bytes cuts tails = datagram-back b ms bytes (whole_frames untyped_layout b ms cuts) tails
 
 pub returns-clause-read_again : goal.returns-clause-read_again
-returns-clause-read_again c b ms cuts =
-    (datagram_zeroed b, [], sym (append-nil (datagram_zeroed b)),
-        datagram-again b ms (whole_frames untyped_layout b ms cuts), refl)
+returns-clause-read_again c b ms cuts = (
+  datagram_zeroed b,
+  [],
+  sym (append-nil (datagram_zeroed b)),
+  datagram-again b ms (whole_frames untyped_layout b ms cuts),
+  refl,
+)
 
 pub returns-clause-as_long : goal.returns-clause-as_long
 returns-clause-as_long c b ms cuts = datagram-length b ms (whole_frames untyped_layout b ms cuts)

@@ -11,6 +11,6 @@ pub loop-byte-preserved : goal.loop-byte-preserved
 loop-byte-preserved g c =
     let byte = get_or c.args.bytes.now c.loop-byte.byte-index 0 in
     let one : Appends (g.W.Write.contents c.loop-byte.output) (g.W.Write.contents c.write.new.self)
-        (padded_integral (format_spec 32 0 4 2 (2 ^ 64 - 1)) false [] (digits 16 false byte)) = search rules in
+    (padded_integral (format_spec 32 0 4 2 (2 ^ 64 - 1)) false [] (digits 16 false byte)) = search rules in
     hex_more _ _ _ c.args.bytes.now c.loop-byte.byte-index c.loop-byte-test.true
-        (omega (arith, c.type_inv.bytes c.loop-byte.byte-index)) c.loop-byte.invariant one
+    (omega (arith, c.type_inv.bytes c.loop-byte.byte-index)) c.loop-byte.invariant one

@@ -9,7 +9,7 @@ loop-outcome-preserved g c =
     let i = c.loop-outcome.outcome-index in
     let all = c.args.outcomes.now in
     let left : drop i all ≡ o ∷ drop (i + 1) all = drop_more all i o c.loop-outcome-test.true
-        ∙ ap (λ x. x ∷ drop (i + 1) all) (sym c.outcome-item.is) in
+    ∙ ap (λ x. x ∷ drop (i + 1) all) (sym c.outcome-item.is) in
     let sent = c.count_sent-handle.ensures in
     let line = rw sent at c.in_ok-write_outcome.ensures in
     rw sent (

@@ -6,5 +6,5 @@ use Rattle.neli_replay.proofs.report.write_report.Given as goal
 abbrev pub invariant-loop-outcome : goal.invariant-loop-outcome
 invariant-loop-outcome g l =
     IsPrinted l.outcomes (g.W.Write.contents l.fn.output) (g.W.Write.contents l.output) l.handle
-        (drop l.outcome-index l.outcomes)
+    (drop l.outcome-index l.outcomes)
     × (l.handle ≤ l.outcome-index)

@@ -6,4 +6,4 @@ use Rattle.neli_replay.proofs.words.parts_of.Goals as goal
 pub returns : goal.returns
 returns c =
     map_from_collect _ c.collect.ensures.ran (YieldsList-from_slice_split _ (λ b. eqb b c.args.mark) c.args.text.now
-        c.split.ensures.rest c.split.ensures.done c.split.ensures.closure (λ x b q k. search (rules, tests)))
+    c.split.ensures.rest c.split.ensures.done c.split.ensures.closure (λ x b q k. search (rules, tests)))

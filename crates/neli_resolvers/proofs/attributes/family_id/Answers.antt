@@ -10,5 +10,5 @@ pub returns : goal.returns
 returns c =
     c.ok.ensures.value
     ∙ number_found 2 _ c.get_attr_payload_as.result c.get_attr_payload_as.ensures.value
-        c.get_attr_payload_as.ensures.refused
+    c.get_attr_payload_as.ensures.refused
     ∙ ap (λ p. result_ok (read_found p (first_number 2))) (finds_family_id (attrs_in c.args.attrs.now))

@@ -8,7 +8,7 @@ use Rattle.neli_resolvers.proofs.groups.match_number.Goals as goal
 pub returns-in_default : goal.returns-in_default
 returns-in_default c =
     let unread = was_not_read c.group_attrs.result (group_attrs
-        (nlattr_says c.args.group.now)) c.group_attrs.ensures.refused
+    (nlattr_says c.args.group.now)) c.group_attrs.ensures.refused
     c.in_ok-attrs.ensures.enough (sym c.in_default.is ∙ c.in_ok-attrs.ensures.value) in
     rw unread refl
 
@@ -16,9 +16,9 @@ pub returns-in_default-2 : goal.returns-in_default-2
 returns-in_default-2 c =
     let attrs = c.in-Some.attrs in
     let read = was_read c.group_attrs.result (group_attrs (nlattr_says c.args.group.now))
-        (λ h. map nlattr_says (attrs_in h)) attrs
+    (λ h. map nlattr_says (attrs_in h)) attrs
     c.group_attrs.ensures.value (sym c.in-Some.is ∙ c.in_ok-attrs.ensures.value) in
     let unread = was_not_read c.group_name.result (group_name
-        (map nlattr_says (attrs_in attrs))) c.group_name.ensures.refused
+    (map nlattr_says (attrs_in attrs))) c.group_name.ensures.refused
     c.in_ok-own.ensures.enough (sym c.in_default-2.is ∙ c.in_ok-own.ensures.value) in
     rw (read, unread) refl

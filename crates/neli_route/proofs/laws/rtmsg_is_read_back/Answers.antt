@@ -9,12 +9,12 @@ use Rattle.neli_route.proofs.laws.rtmsg_is_read_back.Goals as goal
 pub returns-clause-back : goal.returns-clause-back
 returns-clause-back c m is =
     reads_back 12 rtmsg_header (attrs_of rta_of) rtmsg_bytes m.header (attrs_wire rta_number m.rtattrs)
-        (rtmsg-width m.header) (rtmsg-reads_back m.header is)
+    (rtmsg-width m.header) (rtmsg-reads_back m.header is)
 
 pub returns-clause-whole : goal.returns-clause-whole
 returns-clause-whole c m is =
     whole-reads_back rta_number rta_of 12 rtmsg_bytes rtmsg_header m.header m.rtattrs (rtmsg-width m.header)
-        (rtmsg-reads_back m.header is)
+    (rtmsg-reads_back m.header is)
 
 pub returns-clause-bytes : goal.returns-clause-bytes
 returns-clause-bytes c = rtmsg-writes_back

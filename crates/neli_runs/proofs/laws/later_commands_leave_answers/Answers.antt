@@ -9,5 +9,5 @@ pub returns-clause-answer : goal.returns-clause-answer
 returns-clause-answer g c port k needs numbered given r before later other h =
     let more = deliveries-later port k before later in
     rw more.1 (answer-more g.RT.Constant.wire_value g.RT.Constant.wire_number g.RP.FromBytesWithInput.view
-        g.RP.Size.wire_length g.RP.FromBytesWithInput.read needs numbered
-        (deliveries port k before) more.0 given r other h)
+    g.RP.Size.wire_length g.RP.FromBytesWithInput.read needs numbered
+    (deliveries port k before) more.0 given r other h)

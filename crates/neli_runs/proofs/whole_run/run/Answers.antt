@@ -21,14 +21,14 @@ loop-command-preserved g c =
     let inv = c.loop-command.invariant in
     let far = past [] c.loop-command.yielded c.loop-command.outcomes.items in
     let one = went g.RT.Constant.wire_value g.RT.Constant.wire_number g.RP.FromBytesWithInput.view g.RP.Size.wire_length
-        g.RP.FromBytesWithInput.read (StepIsRight g.RT.Constant.wire_value g.RT.Constant.wire_number
-        g.RP.FromBytesWithInput.view g.RP.Size.wire_length g.RP.FromBytesWithInput.read g.ST.Constant.wire_number
-        g.SP.ToBytes.wire g.SP.Size.wire_length) c.args.pid
-        (g.D.Deliveries.port_of c.loop-command.session.router.deliveries) c.loop-command.session.router.next_seq
-        c.step.new.self.router.next_seq (g.D.Deliveries.pending c.loop-command.session.router.deliveries)
-        (g.D.Deliveries.pending c.step.new.self.router.deliveries) c.loop-command.session.handles.items
-        c.step.new.self.handles.items c.in-Some.command c.in_ok-outcome.outcome far inv.port
-        c.in_ok-outcome.ensures.goes inv.holds in
+    g.RP.FromBytesWithInput.read (StepIsRight g.RT.Constant.wire_value g.RT.Constant.wire_number
+    g.RP.FromBytesWithInput.view g.RP.Size.wire_length g.RP.FromBytesWithInput.read g.ST.Constant.wire_number
+    g.SP.ToBytes.wire g.SP.Size.wire_length) c.args.pid
+    (g.D.Deliveries.port_of c.loop-command.session.router.deliveries) c.loop-command.session.router.next_seq
+    c.step.new.self.router.next_seq (g.D.Deliveries.pending c.loop-command.session.router.deliveries)
+    (g.D.Deliveries.pending c.step.new.self.router.deliveries) c.loop-command.session.handles.items
+    c.step.new.self.handles.items c.in-Some.command c.in_ok-outcome.outcome far inv.port
+    c.in_ok-outcome.ensures.goes inv.holds in
     record {
       port = c.in_ok-outcome.ensures.port ∙ inv.port;
       all = append_assoc c.loop-command.yielded (c.in-Some.command ∷ []) c.next.new.self.rest.items
@@ -40,21 +40,21 @@ loop-command-preserved g c =
 pub returns-clause-sent : goal.returns-clause-sent
 returns-clause-sent g c =
     let all : c.loop-command.yielded ≡ c.args.commands.items =
-        nothing-left c.loop-command.yielded c.loop-command.command-iterator.rest.items c.args.commands.items
-        (sym c.loop-command.command-iterator.rest.ok.0 ∙ c.in-None.ensures.steps.0) c.loop-command.invariant.all in
+    nothing-left c.loop-command.yielded c.loop-command.command-iterator.rest.items c.args.commands.items
+    (sym c.loop-command.command-iterator.rest.ok.0 ∙ c.in-None.ensures.steps.0) c.loop-command.invariant.all in
     rw (← all) (each_map (StepIsRight g.RT.Constant.wire_value g.RT.Constant.wire_number g.RP.FromBytesWithInput.view
-        g.RP.Size.wire_length g.RP.FromBytesWithInput.read g.ST.Constant.wire_number g.SP.ToBytes.wire
-        g.SP.Size.wire_length c.args.pid) (IsSent g.ST.Constant.wire_number g.SP.ToBytes.wire g.SP.Size.wire_length
-        c.args.pid) (λ h k o s.
-        s.0) [] c.loop-command.yielded c.loop-command.outcomes.items c.loop-command.invariant.says)
+    g.RP.Size.wire_length g.RP.FromBytesWithInput.read g.ST.Constant.wire_number g.SP.ToBytes.wire
+    g.SP.Size.wire_length c.args.pid) (IsSent g.ST.Constant.wire_number g.SP.ToBytes.wire g.SP.Size.wire_length
+    c.args.pid) (λ h k o s.
+    s.0) [] c.loop-command.yielded c.loop-command.outcomes.items c.loop-command.invariant.says)
 
 pub returns-clause-read : goal.returns-clause-read
 returns-clause-read g c =
     let all : c.loop-command.yielded ≡ c.args.commands.items =
-        nothing-left c.loop-command.yielded c.loop-command.command-iterator.rest.items c.args.commands.items
-        (sym c.loop-command.command-iterator.rest.ok.0 ∙ c.in-None.ensures.steps.0) c.loop-command.invariant.all in
+    nothing-left c.loop-command.yielded c.loop-command.command-iterator.rest.items c.args.commands.items
+    (sym c.loop-command.command-iterator.rest.ok.0 ∙ c.in-None.ensures.steps.0) c.loop-command.invariant.all in
     rw (← all) (each_map (StepIsRight g.RT.Constant.wire_value g.RT.Constant.wire_number g.RP.FromBytesWithInput.view
-        g.RP.Size.wire_length g.RP.FromBytesWithInput.read g.ST.Constant.wire_number g.SP.ToBytes.wire
-        g.SP.Size.wire_length c.args.pid) (IsAnswered g.RT.Constant.wire_value g.RT.Constant.wire_number
-        g.RP.FromBytesWithInput.view g.RP.Size.wire_length g.RP.FromBytesWithInput.read c.args.pid)
-        (λ h k o s. s.1) [] c.loop-command.yielded c.loop-command.outcomes.items c.loop-command.invariant.says)
+    g.RP.Size.wire_length g.RP.FromBytesWithInput.read g.ST.Constant.wire_number g.SP.ToBytes.wire
+    g.SP.Size.wire_length c.args.pid) (IsAnswered g.RT.Constant.wire_value g.RT.Constant.wire_number
+    g.RP.FromBytesWithInput.view g.RP.Size.wire_length g.RP.FromBytesWithInput.read c.args.pid)
+    (λ h k o s. s.1) [] c.loop-command.yielded c.loop-command.outcomes.items c.loop-command.invariant.says)

@@ -12,12 +12,12 @@ returns-then-offset-size c =
     let same : c.alignto-size.result ≡ align c.in-Ok.attr.len = c.alignto-size.ensures ∙ ap align c.attr_len.ensures in
     let within : c.loop-attr.offset < align c.in-Ok.attr.len = omega (arith, same, c.if-offset-size.true) in
     sym (c.loop-attr.invariant ∙ containing-here c.loop-attr.cursor.rest c.lend.new.cursor.rest
-        (attribute_said c.in-Ok.attr) (attributes-more _ _ _ c.in-Ok.ensures.value) c.loop-attr.offset within)
+    (attribute_said c.in-Ok.attr) (attributes-more _ _ _ c.in-Ok.ensures.value) c.loop-attr.offset within)
 
 pub loop-attr-smaller : goal.loop-attr-smaller
 loop-attr-smaller c =
     let fewer = attributes-shorter c.loop-attr.cursor.rest c.lend.new.cursor.rest
-        (attribute_said c.in-Ok.attr) c.in-Ok.ensures.value in
+    (attribute_said c.in-Ok.attr) c.in-Ok.ensures.value in
     omega (arith, fewer)
 
 pub loop-attr-preserved : goal.loop-attr-preserved
@@ -26,10 +26,10 @@ loop-attr-preserved c =
     let past : align c.in-Ok.attr.len ≤ c.loop-attr.offset = omega (arith, same, c.if-offset-size.false) in
     c.loop-attr.invariant
     ∙ containing-later c.loop-attr.cursor.rest c.lend.new.cursor.rest (attribute_said c.in-Ok.attr)
-        (attributes-more _ _ _ c.in-Ok.ensures.value) c.loop-attr.offset past
+    (attributes-more _ _ _ c.in-Ok.ensures.value) c.loop-attr.offset past
     ∙ ap (λ (n : ℕ). containing (c.loop-attr.offset - n) (attributes_of c.lend.new.cursor.rest).0) (sym same)
 
 pub returns : goal.returns
 returns c =
     sym (c.loop-attr.invariant ∙ containing-none c.loop-attr.offset c.loop-attr.cursor.rest
-        (attributes-none _ _ c.in_default.ensures.refused))
+    (attributes-none _ _ c.in_default.ensures.refused))

@@ -8,12 +8,12 @@ use Rattle.neli_schema_walk.proofs.payload.text_shape.Goals as goal
 pub returns-in-Ok : goal.returns-in-Ok
 returns-in-Ok c =
     let yes : is_utf8 (without_zero c.args.payload.now) ≡ true = ap is_utf8 (sym c.without_zero.ensures)
-        ∙ is_utf8-from_IsUtf8 c.without_zero.result.now c.in-Ok.ensures.cases.1 in
+    ∙ is_utf8-from_IsUtf8 c.without_zero.result.now c.in-Ok.ensures.cases.1 in
     rw yes refl
 
 pub returns-in-Err : goal.returns-in-Err
 returns-in-Err c =
     let no : is_utf8 (without_zero c.args.payload.now) ≡ false =
-        not-true _ (λ e. c.in-Err.ensures.cases.0 (IsUtf8-from_is_utf8 c.without_zero.result.now
-        (ap is_utf8 c.without_zero.ensures ∙ e))) in
+    not-true _ (λ e. c.in-Err.ensures.cases.0 (IsUtf8-from_is_utf8 c.without_zero.result.now
+    (ap is_utf8 c.without_zero.ensures ∙ e))) in
     rw no refl

@@ -13,7 +13,7 @@ pub returns-in-len1 : goal.returns-in-len1
 returns-in-len1 c =
     let decides = slice_eq-Decides Decides-eqb c.as_str.result.now c.args.name.now c.eq.result c.eq.ensures in
     let words : c.args.words.now ≡ c.word-item.result ∷ [] =
-        one_element _ _ c.in-len1.len_at_least c.in-len1.len_below c.word-item.is in (
+    one_element _ _ c.in-len1.len_at_least c.in-len1.len_below c.word-item.is in (
       λ yes. rw words (ap (λ bytes. bytes ∷ []) (sym c.as_str.ensures.value ∙ decides.0 yes)),
       λ same.
           let one : string_bytes c.word-item.result ∷ [] ≡ c.args.name.now ∷ [] = rw words at same in

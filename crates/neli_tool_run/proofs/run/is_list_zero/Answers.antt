@@ -15,11 +15,13 @@ two_elements (a ∷ b ∷ c ∷ xs) x y some few first second = absurd (omega (a
 pub returns-in-len2 : goal.returns-in-len2
 returns-in-len2 c =
     let first : string_bytes c.first-item.result ≡ codes "list" = sym c.as_str.ensures.value
-        ∙ (slice_eq-Decides Decides-eqb c.as_str.result.now (codes "list") c.eq.result c.eq.ensures).0 c.if-eq.true in
+    ∙ (slice_eq-Decides Decides-eqb c.as_str.result.now (codes "list") c.eq.result c.eq.ensures).0 c.if-eq.true in
     let second : string_bytes c.second-item.result ≡ codes "zero" = sym c.as_str-then-eq.ensures.value
-        ∙ (slice_eq-Decides Decides-eqb c.as_str-then-eq.result.now
-        (codes "zero") c.eq-then-eq.result c.eq-then-eq.ensures).0 c.if-eq-2.true in
+    ∙ (slice_eq-Decides Decides-eqb c.as_str-then-eq.result.now
+    (codes "zero") c.eq-then-eq.result c.eq-then-eq.ensures).0 c.if-eq-2.true in
     let words : c.args.words.now ≡ c.first-item.result ∷ c.second-item.result ∷ [] =
-        two_elements _ _ _ c.in-len2.len_at_least c.in-len2.len_below c.first-item.is c.second-item.is in
-    (λ _. rw words (ap (λ bytes. bytes ∷ string_bytes c.second-item.result ∷ []) first
-        ∙ ap (λ bytes. codes "list" ∷ bytes ∷ []) second), λ _. refl)
+    two_elements _ _ _ c.in-len2.len_at_least c.in-len2.len_below c.first-item.is c.second-item.is in (
+      λ _. rw words (ap (λ bytes. bytes ∷ string_bytes c.second-item.result ∷ []) first
+          ∙ ap (λ bytes. codes "list" ∷ bytes ∷ []) second),
+      λ _. refl,
+    )

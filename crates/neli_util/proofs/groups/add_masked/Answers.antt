@@ -15,7 +15,7 @@ returns-in-Err-clause-none_lacking c none =
     let lacks = ap (λ xs. has xs (bit + 1)) (sym c.loop-bit.invariant) ∙ c.in-Err.ensures.lacking in
     let named = has-groups_of mask (bit + 1) (omega arith) ∙ sym c.is_in_mask.ensures ∙ c.if-is_in_mask.true in
     absurd (lacking-some (groups_of mask) (filter (is_masked mask) (range_with_len 1 bit)) c.args.list.now.items
-        (bit + 1) named c.in-Err.ensures.above lacks none)
+    (bit + 1) named c.in-Err.ensures.above lacks none)
 
 pub loop-bit-preserved : goal.loop-bit-preserved
 loop-bit-preserved c =
@@ -30,11 +30,11 @@ loop-bit-preserved c =
           let is = sym c.is_in_mask.ensures ∙ w.if-is_in_mask.true in
           let all = ap (λ xs. with_added xs groups) more ∙ ap kept is ∙ with_added-then passed groups (bit + 1) in
           ap (λ v. v.items) w.list-is ∙ w.in_default.ensures.ok ∙ ap (with_added ((bit + 1) ∷ [])) c.loop-bit.invariant
-              ∙ sym all
+          ∙ sym all
       | else-is_in_mask w ↦
           let is = sym c.is_in_mask.ensures ∙ w.if-is_in_mask.false in
           let same = ap (λ xs. with_added xs groups) more ∙ ap kept is
-              ∙ ap (λ xs. with_added xs groups) (append-nil passed) in
+          ∙ ap (λ xs. with_added xs groups) (append-nil passed) in
           ap (λ v. v.items) w.list-is ∙ c.loop-bit.invariant ∙ sym same
     ]
 
@@ -42,4 +42,4 @@ pub returns-clause-ok : goal.returns-clause-ok
 returns-clause-ok c =
     let all : c.loop-bit.bit ≡ mask_width = omega (arith, mask_width-is) in
     c.loop-bit.invariant ∙ ap (λ n. with_added (filter (is_masked c.args.mask)
-        (range_with_len 1 n)) c.args.list.now.items) all
+    (range_with_len 1 n)) c.args.list.now.items) all

@@ -14,4 +14,4 @@ returns-in_err-reserve-clause-refused g c =
     let all = wire_all g.T.ToBytes.wire items in
     refuses_by c.from_residual.result all Memory c.from_residual.ensures.1
     (takes-room all (sum_by g.T.Size.wire_length items) (omega (arith, c.size_of_all-room.ensures, c.if-room-gt0.true))
-        (wire_all-length g.T.ToBytes.wire g.T.Size.wire_length g.met.T.ToBytes.length_is items))
+    (wire_all-length g.T.ToBytes.wire g.T.Size.wire_length g.met.T.ToBytes.length_is items))

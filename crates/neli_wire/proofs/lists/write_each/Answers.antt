@@ -9,5 +9,5 @@ returns-in_err-to_bytes-clause-refused g c =
     let e = c.in_err-to_bytes.field-0.0 in
     refuses_by c.from_residual.result _ e c.from_residual.ensures.1
     (Writes-refused g.T.ToBytes.wire c.args.buffer.now.items c.args.items.now c.loop-item.item-index
-        c.loop-item.buffer.items c.loop-item.invariant c.item-item.result e
-        (omega arith) c.item-item.is c.in_err-to_bytes.ensures.refused)
+    c.loop-item.buffer.items c.loop-item.invariant c.item-item.result e
+    (omega arith) c.item-item.is c.in_err-to_bytes.ensures.refused)

@@ -10,6 +10,6 @@ returns-in_ok-from_str-in-Ok-clause-value c =
     let n = length c.args.bytes.now - 1 in
     let body = take n c.args.bytes.now in
     let same : string_bytes c.in_ok-from_str-in-Ok.field-0 ≡ body = c.in_ok-from_str-in-Ok.ensures.ok
-        ∙ c.in-Ok.ensures.cases.0 in
+    ∙ c.in-Ok.ensures.cases.0 in
     let some : ltb (length c.args.bytes.now) 1 ≡ false = le-ltb _ _ (omega arith) in
     rw (same, some) (utf8_of-text OfString body c.in-Ok.ensures.cases.1)

@@ -9,5 +9,5 @@ use Rattle.neli_attr.proofs.nlattr.Nlattr+T+Buffer.get_attr_handle.Goals as goal
 pub returns-clause-refused : goal.returns-clause-refused
 returns-clause-refused g c =
     subst (λ (s : List ℕ). IfErr c.handle_of_payload.result
-        (Refuses (attributes_in (type_of g.R.Constant.wire_value) s) (0 < length s)))
+    (Refuses (attributes_in (type_of g.R.Constant.wire_value) s) (0 < length s)))
     c.as_ref.ensures c.handle_of_payload.ensures.refused

@@ -16,7 +16,7 @@ returns-clause-some c =
     let after : HandleState = c.next_typed-answer.new.handle in
     let out = (c.in-Some.ensures.some refl).1 in
     let put = ap (λ (hs : List Slot). slice_set hs c.args.k (slot.Open after)) out
-        ∙ set-set s.handles.items c.args.k (slot.Free 0) (slot.Open after) in
+    ∙ set-set s.handles.items c.args.k (slot.Free 0) (slot.Open after) in
     let r = c.next_typed-answer.ensures in
     let code = to_z-of_z w32 c.hold.result (record { sfits = c.hold.type_inv }) ∙ c.hold.ensures.code in
     of-value _ _ h c.in-Some.ensures.taken (
@@ -25,7 +25,10 @@ returns-clause-some c =
       refl,
       λ ks free. subst (λ (hs : List Slot). AreFree hs s.freed ks) (sym put)
           (free-read s.handles.items s.freed ks c.args.k h (slot.Open after) (sym c.in-Some.ensures.taken) free),
-      reads h after s (record { router = c.next_typed-answer.new.self; handles = c.take.new.handles; freed = s.freed;
-          held = c.hold.new.held
-          }) _ _ _ _ code c.hold.ensures.held r.next_seq r.ended r.closed r.waits r.gives r.others r.err,
+      reads h after s (record {
+        router = c.next_typed-answer.new.self;
+        handles = c.take.new.handles;
+        freed = s.freed;
+        held = c.hold.new.held;
+      }) _ _ _ _ code c.hold.ensures.held r.next_seq r.ended r.closed r.waits r.gives r.others r.err,
     )

@@ -46,14 +46,19 @@ returns-in-Err-clause-sent c = λ e. absurd (c.of_error.ensures.refused
 pub returns-in-Ok-send-clause-refused : goal.returns-in-Ok-send-clause-refused
 returns-in-Ok-send-clause-refused c = λ ne.
     let long : length c.in-Ok-send.bytes.items ≡ align (16 + length c.in-Ok.buffer) =
-        frame-length _ _ _ _ _ _ c.in-Ok-send.bytes.items c.in-Ok-send.ensures.bytes in
+    frame-length _ _ _ _ _ _ c.in-Ok-send.bytes.items c.in-Ok-send.ensures.bytes in
     let body : length c.in-Ok.buffer ≡ length c.args.body.now = ap (λ b. length b) c.in-Ok.ensures in
     let same : length c.deref.result.now ≡ length c.in-Ok-send.bytes.items = ap (λ b. length b) c.deref.ensures.value in
     let fits : length c.deref.result.now ≤ length c.args.out.now =
-        omega (arith, long, body, same, c.if-out-wanted.false) in
+    omega (arith, long, body, same, c.if-out-wanted.false) in
     let good : c.copy.result ≡ ok = c.copy.ensures.code ∙ ap (λ b. if b then ok else room) (le-leb _ _ fits) in
     absurd (ne (to_z-of_z w32 c.copy.result (record { sfits = c.copy.type_inv }) ∙ good))
 
 pub returns-in-Err-clause-refused : goal.returns-in-Err-clause-refused
-returns-in-Err-clause-refused c = λ ne. (c.in-Err.ensures.err.0, c.in-Err.ensures.err.1, refl, c.reserve.ensures.items,
-    refl)
+returns-in-Err-clause-refused c = λ ne. (
+  c.in-Err.ensures.err.0,
+  c.in-Err.ensures.err.1,
+  refl,
+  c.reserve.ensures.items,
+  refl,
+)

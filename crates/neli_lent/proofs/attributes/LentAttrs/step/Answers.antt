@@ -11,7 +11,7 @@ pub returns-then-is_empty-clause-cut : goal.returns-then-is_empty-clause-cut
 returns-then-is_empty-clause-cut g c =
     let none : length c.rest.result.now ≡ 0 = eqb-true _ _ (sym c.is_empty.ensures ∙ c.if-is_empty.true) in
     let nothing : c.args.self.now.rest ≡ [] = ap (λ (p : Place). p.rest) (sym c.self.view_is) ∙ sym c.rest.ensures
-        ∙ empty_is c.rest.result.now none in
+    ∙ empty_is c.rest.result.now none in
     attributes-end g.K.Constant.wire_value c.args.self.now nothing
 
 pub returns-then-is_empty-clause-end : goal.returns-then-is_empty-clause-end
@@ -20,7 +20,7 @@ returns-then-is_empty-clause-end g c = λ _. returns-then-is_empty-clause-cut g 
 pub returns-in-Ok-clause-cut : goal.returns-in-Ok-clause-cut
 returns-in-Ok-clause-cut g c =
     attributes-attribute g.K.Constant.wire_value c.args.self.now c.lend.new.cursor _
-        (rw c.self.view_is at c.in-Ok.ensures.value) (rw c.self.view_is at c.in-Ok.ensures.moved)
+    (rw c.self.view_is at c.in-Ok.ensures.value) (rw c.self.view_is at c.in-Ok.ensures.moved)
 
 pub returns-in-Ok-clause-shorter : goal.returns-in-Ok-clause-shorter
 returns-in-Ok-clause-shorter g c =
@@ -31,13 +31,13 @@ returns-in-Err-clause-cut g c =
     let none : (true ≡ false → c.args.self.now.rest ≡ []) × (c.args.self.now.rest ≡ [] → true ≡ false) = search rules in
     let any : c.args.self.now.rest ≢ [] = λ e. let f = none.1 e in cc in
     let bytes : c.get_ref-end.result.now ≡ whole c.args.self.now = c.get_ref-end.ensures
-        ∙ ap whole (c.in-Err.ensures.unchanged ∙ c.self.view_is) in
+    ∙ ap whole (c.in-Err.ensures.unchanged ∙ c.self.view_is) in
     let fault = c.within_input.ensures ∙ ap (λ (s : List ℕ). refusal_within (length s) c.in-Err.error) bytes in
     attributes-fault g.K.Constant.wire_value c.args.self.now c.in-Err.error any
-        (rw c.self.view_is at c.in-Err.ensures.refused) ∙ ap (λ (e : DeError). ([], Some e)) (sym fault)
+    (rw c.self.view_is at c.in-Err.ensures.refused) ∙ ap (λ (e : DeError). ([], Some e)) (sym fault)
 
 -- the cursor stands after the last byte
 pub returns-in-Err-clause-fault : goal.returns-in-Err-clause-fault
 returns-in-Err-clause-fault g c =
     attributes-end g.K.Constant.wire_value c.set_position.new.self (c.set_position.ensures.rest
-        ∙ (rw (← c.get_ref-end.ensures) (drop_whole c.get_ref-end.result.now)))
+    ∙ (rw (← c.get_ref-end.ensures) (drop_whole c.get_ref-end.result.now)))

@@ -9,5 +9,14 @@ prove-unreachable-requires g c =
     let new = c.step.new.self in
     let fewer = rw c.in_ok-_attr.was at c.in-Some.ensures.shorter in
     let place = ap (λ (p : Place). length p.before) c.attrs.view_is in
-    absurd (omega (arith, c.if-prove.true, c.position-place.ensures.value, place, ap length c.in-Some.ensures.moved,
-        length-append old.before old.rest, length-append new.before new.rest, fewer, c.loop-item.invariant.1))
+    absurd (omega (
+      arith,
+      c.if-prove.true,
+      c.position-place.ensures.value,
+      place,
+      ap length c.in-Some.ensures.moved,
+      length-append old.before old.rest,
+      length-append new.before new.rest,
+      fewer,
+      c.loop-item.invariant.1,
+    ))

@@ -8,7 +8,7 @@ pub returns-then-is_empty-clause-cut : goal.returns-then-is_empty-clause-cut
 returns-then-is_empty-clause-cut g c =
     let none : length c.rest.result.now ≡ 0 = eqb-true _ _ (sym c.is_empty.ensures ∙ c.if-is_empty.true) in
     messages-end g.T.Constant.wire_value c.args.self.now (sym c.self.view_is ∙ sym c.rest.ensures
-        ∙ empty_is c.rest.result.now none)
+    ∙ empty_is c.rest.result.now none)
 
 pub returns-then-is_empty-clause-end : goal.returns-then-is_empty-clause-end
 returns-then-is_empty-clause-end g c = λ _. returns-then-is_empty-clause-cut g c
@@ -27,4 +27,4 @@ returns-in-Err-clause-cut g c =
 pub returns-in-Err-clause-fault : goal.returns-in-Err-clause-fault
 returns-in-Err-clause-fault g c =
     messages-end g.T.Constant.wire_value _ (c.set_position.ensures.rest
-        ∙ (rw (← c.get_ref-end.ensures) (drop_whole c.get_ref-end.result.now)))
+    ∙ (rw (← c.get_ref-end.ensures) (drop_whole c.get_ref-end.result.now)))

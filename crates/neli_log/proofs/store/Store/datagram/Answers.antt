@@ -19,10 +19,10 @@ returns-then-is_empty-clause-ok c = λ w.
     let s = c.args.self.now in
     let opened : ℕ → Bool = λ q. is_some (pending_of s (Some q)) in
     let none : c.args.bytes.now ≡ [] = empty_is c.args.bytes.now
-        (eqb-true _ _ (sym c.is_empty.ensures ∙ c.if-is_empty.true)) in
+    (eqb-true _ _ (sym c.is_empty.ensures ∙ c.if-is_empty.true)) in
     mapped_nothing (delivery_of (span_bytes s.datagrams)) (items_of s.places w) _
     (λ _. subst (λ b. [] ≡ datagram_share s.port opened w (cut_of untyped_layout b) c.args.groups.now) (sym none)
-        (received_nothing s.port opened w c.args.groups.now))
+    (received_nothing s.port opened w c.args.groups.now))
 
 pub returns-then-is_empty-2-clause-ok : goal.returns-then-is_empty-2-clause-ok
 returns-then-is_empty-2-clause-ok c = λ w.
@@ -32,13 +32,13 @@ returns-then-is_empty-2-clause-ok c = λ w.
     let cut = cut_of untyped_layout bytes in
     let es = c.in_ok-entries.entries.items in
     let same = received_same s.port (is_open P) (λ q. is_some (pending_of s (Some q)))
-        (λ q. sym (mapped_is_some _ (P (Some q)))) w cut c.args.groups.now in
+    (λ q. sym (mapped_is_some _ (P (Some q)))) w cut c.args.groups.now in
     let len : c.in_ok-entries.entries.len ≡ 0 = eqb-true _ _ (sym c.is_empty-2.ensures ∙ c.if-is_empty-2.true) in
     let none : es ≡ [] = nil_from_length es (omega (arith, len, c.in_ok-entries.entries.ok.0)) in
     mapped_nothing (delivery_of (span_bytes s.datagrams)) (P w) _
     (λ opened. ap (deliveries_added bytes w) (sym none)
-        ∙ (staged_gains P s.port c.next_serial-serial.result bytes c.args.groups.now cut es
-        (length bytes) c.in_ok-entries.ensures w opened ∙ same))
+    ∙ (staged_gains P s.port c.next_serial-serial.result bytes c.args.groups.now cut es
+    (length bytes) c.in_ok-entries.ensures w opened ∙ same))
 
 pub returns-clause-ok : goal.returns-clause-ok
 returns-clause-ok c =
@@ -50,11 +50,11 @@ returns-clause-ok c =
     on_ok c.hand_over.result _ _
     (λ h w.
     let same = received_same s.port (is_open P) (λ q. is_some (pending_of s (Some q)))
-        (λ q. sym (mapped_is_some _ (P (Some q)))) w cut c.args.groups.now in
+    (λ q. sym (mapped_is_some _ (P (Some q)))) w cut c.args.groups.now in
     h w ∙ mapped_more (delivery_of (span_bytes s.datagrams)) (P w) (deliveries_added bytes w es)
-        (datagram_share s.port (λ q. is_some (pending_of s (Some q))) w cut c.args.groups.now)
+    (datagram_share s.port (λ q. is_some (pending_of s (Some q))) w cut c.args.groups.now)
     (λ opened. staged_gains P s.port c.next_serial-serial.result bytes c.args.groups.now cut es
-        (length bytes) c.in_ok-entries.ensures w opened ∙ same)) c.hand_over.ensures.ok
+    (length bytes) c.in_ok-entries.ensures w opened ∙ same)) c.hand_over.ensures.ok
 
 pub returns-then-is_empty-clause-kept : goal.returns-then-is_empty-clause-kept
 returns-then-is_empty-clause-kept c = ([], keeps_none c.args.self.now c.args.bytes.now)
@@ -63,8 +63,10 @@ pub returns-then-is_empty-2-clause-kept : goal.returns-then-is_empty-2-clause-ke
 returns-then-is_empty-2-clause-kept c = ([], keeps_none c.args.self.now c.args.bytes.now)
 
 pub returns-clause-kept : goal.returns-clause-kept
-returns-clause-kept c = on_ok c.hand_over.result _ _ (λ kept. (c.in_ok-entries.entries.items,
-    kept)) c.hand_over.ensures.kept
+returns-clause-kept c = on_ok c.hand_over.result _ _ (λ kept. (
+  c.in_ok-entries.entries.items,
+  kept,
+)) c.hand_over.ensures.kept
 
 pub returns-clause-once : goal.returns-clause-once
 returns-clause-once c =
@@ -72,5 +74,5 @@ returns-clause-once c =
     let es = c.in_ok-entries.entries.items in
     let few = c.in_ok-entries.ensures.few in
     added_few c.hand_over.result s c.hand_over.new.self c.args.bytes.now es
-        (delivery_count (cut_of untyped_layout c.args.bytes.now)) c.hand_over.ensures.kept c.hand_over.ensures.left
-        (omega arith)
+    (delivery_count (cut_of untyped_layout c.args.bytes.now)) c.hand_over.ensures.kept c.hand_over.ensures.left
+    (omega arith)

@@ -10,4 +10,4 @@ returns-clause-taken c = λ d ds h.
     let s = c.args.self.now in
     c.trim.ensures.same c.args.whose
     ∙ mapped_taken (delivery_of (span_bytes s.datagrams)) (items_of s.places c.args.whose)
-        (items_of c.pass.new.self c.args.whose) d ds h c.pass.ensures.taken
+    (items_of c.pass.new.self c.args.whose) d ds h c.pass.ensures.taken

@@ -15,22 +15,22 @@ pub returns-then-would_block-clause-ok : goal.returns-then-would_block-clause-ok
 returns-then-would_block-clause-ok c = λ w.
     let s = c.args.self.now in
     mapped_nothing (delivery_of (span_bytes s.datagrams))
-        (pending_of s.places w) _ (λ _. blocked_brings w c.args.error (sym c.would_block.ensures
-        ∙ c.if-would_block.true))
+    (pending_of s.places w) _ (λ _. blocked_brings w c.args.error (sym c.would_block.ensures
+    ∙ c.if-would_block.true))
 
 pub returns-then-not-has_reader-clause-ok : goal.returns-then-not-has_reader-clause-ok
 returns-then-not-has_reader-clause-ok c = λ w.
     let s = c.args.self.now in
     mapped_nothing (delivery_of (span_bytes s.datagrams))
-        (pending_of s.places w) _ (unread_brings (pending_of s.places) w c.args.error
-        (λ r. (let yes = c.has_reader.ensures.1 r in let no = c.if-not-has_reader.true in cc)))
+    (pending_of s.places w) _ (unread_brings (pending_of s.places) w c.args.error
+    (λ r. (let yes = c.has_reader.ensures.1 r in let no = c.if-not-has_reader.true in cc)))
 
 pub returns-clause-ok : goal.returns-clause-ok
 returns-clause-ok c = λ w.
     let s = c.args.self.now in
     let e : Entry Content = record { item = content.Fault c.args.error; route = route.Numbers } in
     fault_pending (span_bytes s.datagrams) w c.args.error (pending_of s.places w) (pending_of c.push.new.self w)
-        (sym c.would_block.ensures ∙ c.if-would_block.false)
+    (sym c.would_block.ensures ∙ c.if-would_block.false)
     (c.push.ensures.more w ∙ ap (option_map (λ xs. xs ++ items_for w (e ∷ []))) (c.in_ok-reserve.ensures.same w))
 
 pub returns-clause-log : goal.returns-clause-log

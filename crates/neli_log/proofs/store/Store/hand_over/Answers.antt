@@ -11,13 +11,13 @@ returns-clause-ok c = λ w.
     let s = c.args.self.now in
     let es = c.args.entries.items in
     let count : c.span_count-spans.result ≡ length (spans_of es) = c.span_count-spans.ensures
-        ∙ ap (λ xs. length (spans_of xs)) c.deref.ensures.value in
+    ∙ ap (λ xs. length (spans_of xs)) c.deref.ensures.value in
     handed_pending s.places c.push_all.new.places s.datagrams c.keep_copy.new.datagrams c.args.bytes.now es
     (c.push_all.ensures.entries ∙ ap (λ xs. xs ++ es) c.in_ok-reserve.ensures.entries)
     (λ v. c.push_all.ensures.more v ∙ ap (option_map (λ xs. xs ++ items_for v es)) (c.in_ok-reserve.ensures.same v))
     c.requires.spans c.requires.messages c.requires.log.backed
     (λ old new h of n. c.in_ok-keep_copy.ensures.names old new h of (n
-        ∙ sym count)) c.in_ok-keep_copy.ensures.same_bytes
+    ∙ sym count)) c.in_ok-keep_copy.ensures.same_bytes
     (λ x some is. c.in_ok-keep_copy.ensures.new_span x (subst (λ n. 0 < n) (sym count) some) is) w
 
 pub returns-clause-log : goal.returns-clause-log
@@ -25,16 +25,16 @@ returns-clause-log c =
     let s = c.args.self.now in
     let es = c.args.entries.items in
     let count : c.span_count-spans.result ≡ length (spans_of es) = c.span_count-spans.ensures
-        ∙ ap (λ xs. length (spans_of xs)) c.deref.ensures.value in
+    ∙ ap (λ xs. length (spans_of xs)) c.deref.ensures.value in
     record {
       trimmed = c.push_all.ensures.trimmed;
       backed = handed_backed s.places c.push_all.new.places s.datagrams c.keep_copy.new.datagrams c.args.bytes.now es
           (c.push_all.ensures.entries ∙ ap (λ xs. xs ++ es) c.in_ok-reserve.ensures.entries)
           (λ v. c.push_all.ensures.more v ∙ ap (option_map (λ xs. xs ++ items_for v es))
-              (c.in_ok-reserve.ensures.same v))
+          (c.in_ok-reserve.ensures.same v))
           c.requires.spans c.requires.messages c.requires.log.backed
           (λ old new h of n. c.in_ok-keep_copy.ensures.names old new h of (n
-              ∙ sym count)) c.in_ok-keep_copy.ensures.same_bytes
+          ∙ sym count)) c.in_ok-keep_copy.ensures.same_bytes
           (λ x some is. c.in_ok-keep_copy.ensures.new_span x (subst (λ n. 0 < n) (sym count) some) is);
     }
 
@@ -43,7 +43,7 @@ returns-clause-kept c =
     let s = c.args.self.now in
     let es = c.args.entries.items in
     let count : c.span_count-spans.result ≡ length (spans_of es) = c.span_count-spans.ensures
-        ∙ ap (λ xs. length (spans_of xs)) c.deref.ensures.value in
+    ∙ ap (λ xs. length (spans_of xs)) c.deref.ensures.value in
     record {
       entries = c.push_all.ensures.entries ∙ ap (λ xs. xs ++ es) c.in_ok-reserve.ensures.entries;
       readers = c.requires.readers;

@@ -8,9 +8,11 @@ pub release-requires : goal.release-requires
 release-requires c =
     let old = c.loop-content.self in
     let new = c.pop_unawaited.new.self in
-    let taken = c.in-Some.ensures.taken in
-    (spans_of (entries_of new), released_names old.places new old.datagrams old.datagrams c.in-Some.content taken.0
-        taken.1 c.in-Some.ensures.same c.loop-content.invariant.backed)
+    let taken = c.in-Some.ensures.taken in (
+      spans_of (entries_of new),
+      released_names old.places new old.datagrams old.datagrams c.in-Some.content taken.0
+          taken.1 c.in-Some.ensures.same c.loop-content.invariant.backed,
+    )
 
 pub loop-content-preserved : goal.loop-content-preserved
 loop-content-preserved c =

@@ -9,7 +9,7 @@ pub returns-in_err-payload-clause-refused : goal.returns-in_err-payload-clause-r
 returns-in_err-payload-clause-refused g c =
     refuses-passed c.from_residual.result c.in_err-payload.field-0.0 _ _ _ _ c.from_residual.ensures.1
     (first-whole g.T.Constant.wire_value g.P.FromBytesWithInput.read c.body_len.result c.args.self.now.payload
-        c.body_len.ensures)
+    c.body_len.ensures)
     (λ h. inl h) c.in_err-payload.ensures.refused
 
 pub returns-in_default-clause-refused : goal.returns-in_default-clause-refused
@@ -29,4 +29,4 @@ returns-in_default-clause-refused g c =
 pub returns-clause-value : goal.returns-clause-value
 returns-clause-value g c =
     sym (first-whole g.T.Constant.wire_value g.P.FromBytesWithInput.read c.body_len.result c.args.self.now.payload
-        c.body_len.ensures) ∙ c.in_ok-payload.ensures.value
+    c.body_len.ensures) ∙ c.in_ok-payload.ensures.value

@@ -7,4 +7,4 @@ use Rattle.neli_payloads.proofs.hardware_address.HardwareAddressDisplay.fmt.Give
 abbrev pub invariant-loop-byte : goal.invariant-loop-byte
 invariant-loop-byte g l =
     IsPlainFormatter l.fn.f → HasWritten g.W.Write.write_str_gives l.fn.f
-        (hardware_text (get_or l.self 0 0 ∷ take l.byte-index l.rest)) l.f
+    (hardware_text (get_or l.self 0 0 ∷ take l.byte-index l.rest)) l.f

@@ -11,7 +11,7 @@ pub link-requires : goal.link-requires
 link-requires g c = λ o is.
     let s = c.args.self.now in let h = c.requires.trimmed.sound in
     let b = last_bounds None s.base s.entries.items (c.args.p.from - s.base) c.args.p.own o is
-        (h.places None c.args.p c.requires.is).chain in
+    (h.places None c.args.p c.requires.is).chain in
     rw h.as_long b
 
 pub returns-clause-more : goal.returns-clause-more
@@ -20,8 +20,8 @@ returns-clause-more g c = λ w.
     let e : Entry _ = record { item = c.args.item; route = Multicast } in
     let x : Place = record { from = c.args.p.from; own = Some c.with_last.result; seen = c.args.p.seen } in
     pending_added w s.base s.entries.items c.append.new.entries.items e (place_of s w) _ c.append.ensures.entries
-        (from_multicast (place_of s) (place_of (record s { multicast = Some x })) c.args.p x c.requires.is refl refl
-        (λ q. refl) w) (λ p is. (h.places w p is).within)
+    (from_multicast (place_of s) (place_of (record s { multicast = Some x })) c.args.p x c.requires.is refl refl
+    (λ q. refl) w) (λ p is. (h.places w p is).within)
 
 pub returns-clause-trimmed : goal.returns-clause-trimmed
 returns-clause-trimmed g c =
@@ -30,10 +30,10 @@ returns-clause-trimmed g c =
     let x : Place = record { from = c.args.p.from; own = Some c.with_last.result; seen = c.args.p.seen } in
     let len : c.len.result ≡ length s.entries.items = omega (arith, s.entries.ok.0, c.len.ensures) in
     let owned : Some c.with_last.result ≡ Some (with_last c.args.p.own (s.base + length s.entries.items)) =
-        ap Some (rw len at c.with_last.ensures) in
+    ap Some (rw len at c.with_last.ensures) in
     let links : c.append.new.links.items ≡ links_with s.base c.args.p.own
-        (s.base + length s.entries.items) s.links.items ++ None ∷ [] = c.append.ensures.links
-        ∙ ap (λ l. l ++ None ∷ []) (rw len at c.link.ensures.links) in
+    (s.base + length s.entries.items) s.links.items ++ None ∷ [] = c.append.ensures.links
+    ∙ ap (λ l. l ++ None ∷ []) (rw len at c.link.ensures.links) in
     record {
       sound = sound_added _ (values s.numbers) s.base s.shared_base s.caught_up _ c.append.new.entries.items _
           c.append.new.links.items s.shared.items s.shared.items c.append.ensures.entries links refl
@@ -41,7 +41,7 @@ returns-clause-trimmed g c =
           (values s.numbers) s.base s.shared_base s.caught_up s.entries.items s.links.items s.shared.items e h
           c.requires.room.positions
           None c.args.p x (altered_multicast (place_of s) _ x refl (λ q. refl)) c.requires.is refl refl refl owned refl
-              (λ k. refl));
+          (λ k. refl));
       begins = trimmed_added (place_of s) _ s.base s.entries.items c.append.new.entries.items e None c.args.p
           c.append.ensures.entries (from_multicast (place_of s) _ c.args.p x c.requires.is refl refl
           (λ q. refl)) c.requires.is (h.places None c.args.p c.requires.is).within refl c.requires.trimmed.begins;

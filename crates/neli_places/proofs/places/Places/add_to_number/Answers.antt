@@ -15,7 +15,7 @@ pub link-requires : goal.link-requires
 link-requires g c = λ o is.
     let s = c.args.self.now in let h = c.requires.trimmed.sound in
     let b = last_bounds (Some c.args.n) s.base s.entries.items (c.args.p.from - s.base) c.args.p.own o is
-        (h.places (Some c.args.n) c.args.p c.requires.is).chain in
+    (h.places (Some c.args.n) c.args.p c.requires.is).chain in
     rw h.as_long b
 
 pub returns-clause-more : goal.returns-clause-more
@@ -24,8 +24,8 @@ returns-clause-more g c = λ w.
     let e : Entry _ = record { item = c.args.item; route = Number c.args.n } in
     let x : Place = record { from = c.args.p.from; own = Some c.with_last.result; seen = c.args.p.seen } in
     pending_added w s.base s.entries.items c.append.new.entries.items e (place_of s w) _ c.append.ensures.entries
-        (from_number (place_of s) (place_of (record s { numbers = c.put.new.numbers })) c.args.n c.args.p x
-        c.requires.is refl refl c.put.ensures.updates w) (λ p is. (h.places w p is).within)
+    (from_number (place_of s) (place_of (record s { numbers = c.put.new.numbers })) c.args.n c.args.p x
+    c.requires.is refl refl c.put.ensures.updates w) (λ p is. (h.places w p is).within)
 
 pub returns-clause-trimmed : goal.returns-clause-trimmed
 returns-clause-trimmed g c =
@@ -34,13 +34,13 @@ returns-clause-trimmed g c =
     let x : Place = record { from = c.args.p.from; own = Some c.with_last.result; seen = c.args.p.seen } in
     let len : c.len.result ≡ length s.entries.items = omega (arith, s.entries.ok.0, c.len.ensures) in
     let owned : Some c.with_last.result ≡ Some (with_last c.args.p.own (s.base + length s.entries.items)) =
-        ap Some (rw len at c.with_last.ensures) in
+    ap Some (rw len at c.with_last.ensures) in
     let links : c.append.new.links.items ≡ links_with s.base c.args.p.own
-        (s.base + length s.entries.items) s.links.items ++ None ∷ [] = c.append.ensures.links
-        ∙ ap (λ l. l ++ None ∷ []) (rw len at c.link.ensures.links) in
+    (s.base + length s.entries.items) s.links.items ++ None ∷ [] = c.append.ensures.links
+    ∙ ap (λ l. l ++ None ∷ []) (rw len at c.link.ensures.links) in
     let same : (k : ℕ) → waiting_count k (values c.put.new.numbers) ≡ waiting_count k (values s.numbers) =
-        (λ k. ap (λ es. waiting_count k (values_of es)) c.put.ensures.entries
-        ∙ waiting_same s.numbers.entries c.args.n k x c.args.p c.requires.is refl) in
+    (λ k. ap (λ es. waiting_count k (values_of es)) c.put.ensures.entries
+    ∙ waiting_same s.numbers.entries c.args.n k x c.args.p c.requires.is refl) in
     record {
       sound = sound_added _ (values c.put.new.numbers) s.base s.shared_base s.caught_up _ c.append.new.entries.items _
           c.append.new.links.items s.shared.items s.shared.items c.append.ensures.entries links refl
@@ -48,7 +48,7 @@ returns-clause-trimmed g c =
           (values c.put.new.numbers) s.base s.shared_base s.caught_up s.entries.items s.links.items s.shared.items e h
           c.requires.room.positions
           (Some c.args.n) c.args.p x (altered_number (place_of s) _ c.args.n x refl c.put.ensures.updates) c.requires.is
-              (eqb_refl c.args.n) refl refl owned refl same);
+          (eqb_refl c.args.n) refl refl owned refl same);
       begins = trimmed_added (place_of s) _ s.base s.entries.items c.append.new.entries.items e
           (Some c.args.n) c.args.p c.append.ensures.entries
           (from_number (place_of s) _ c.args.n c.args.p x c.requires.is refl refl c.put.ensures.updates) c.requires.is

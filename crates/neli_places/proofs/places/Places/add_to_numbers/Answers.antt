@@ -13,7 +13,7 @@ returns-clause-more g c = λ w.
     let s = c.args.self.now in let h = c.requires.trimmed.sound in
     let e : Entry _ = record { item = c.args.item; route = Numbers } in
     pending_added w s.base s.entries.items c.append.new.entries.items e (place_of s w)
-        (place_of s w) c.append.ensures.entries refl (λ p is. (h.places w p is).within)
+    (place_of s w) c.append.ensures.entries refl (λ p is. (h.places w p is).within)
 
 pub returns-clause-trimmed : goal.returns-clause-trimmed
 returns-clause-trimmed g c =

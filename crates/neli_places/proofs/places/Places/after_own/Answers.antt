@@ -28,10 +28,10 @@ returns-clause-place g c =
     let n = next_is c.args.whose s.base s.entries.items c.args.p c.args.m c.requires.next in
     let l : c.args.m - s.base < length s.links.items = (let a = n.2.within in omega (arith, a, h.as_long)) in
     place_own c.args.whose s.base s.entries.items s.links.items c.args.p c.args.m n.0 n.1 n.2 _ c.index-link.result.now
-        (c.requires.route n.1 n.2.at)
+    (c.requires.route n.1 n.2.at)
     (slice_get_read s.links.items (length s.links.items)
-        (c.args.m - s.base) c.index-link.result.now refl l c.index-link.ensures) refl c.without_first.ensures
-        (h.places c.args.whose c.args.p c.requires.is)
+    (c.args.m - s.base) c.index-link.result.now refl l c.index-link.ensures) refl c.without_first.ensures
+    (h.places c.args.whose c.args.p c.requires.is)
 
 pub returns-clause-counted : goal.returns-clause-counted
 returns-clause-counted g c = λ q is.
@@ -39,5 +39,5 @@ returns-clause-counted g c = λ q is.
     let n = next_is c.args.whose s.base s.entries.items c.args.p c.args.m c.requires.next in
     let x : Place = record { from = c.args.m + 1; own = c.without_first.result; seen = c.args.p.seen } in
     seen_own c.args.whose s.base s.entries.items s.links.items c.args.p c.args.m n.0 n.1 n.2 q s.shared_base x is
-        (unshared_own c.args.whose n.1.route (c.requires.route n.1 n.2.at)) refl refl
-        (h.seen q c.args.p (rw is at c.requires.is))
+    (unshared_own c.args.whose n.1.route (c.requires.route n.1 n.2.at)) refl refl
+    (h.seen q c.args.p (rw is at c.requires.is))

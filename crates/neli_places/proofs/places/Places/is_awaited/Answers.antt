@@ -6,9 +6,13 @@ use Rattle.neli_places.proofs.places.Places.is_awaited.Goals as goal
 
 pub returns-in-Some-get-clause-yes : goal.returns-in-Some-get-clause-yes
 returns-in-Some-get-clause-yes g c = λ t.
-    let v = rw c.in-Some-get.is at c.get.ensures.value in
-    (Some c.in-Number.n, c.in-Some-get.p.now, sym v, grind (arith, nat_tests),
-        rw c.in-Number.is (eqb_refl c.in-Number.n))
+    let v = rw c.in-Some-get.is at c.get.ensures.value in (
+      Some c.in-Number.n,
+      c.in-Some-get.p.now,
+      sym v,
+      grind (arith, nat_tests),
+      rw c.in-Number.is (eqb_refl c.in-Number.n),
+    )
 
 pub returns-in-Some-front-clause-yes : goal.returns-in-Some-front-clause-yes
 returns-in-Some-front-clause-yes g c = λ t.
@@ -16,11 +20,11 @@ returns-in-Some-front-clause-yes g c = λ t.
     let v : 0 < deque_len s.shared = c.in-Some-front.ensures.variant.0 refl in
     let some : 0 < length s.shared.items = omega (arith, s.shared.ok.0) in
     let is : standing_at s.shared.items s.caught_up 0 ≡ c.in-Some-front.s.now.standing =
-        front_standing s.shared.items s.caught_up c.in-Some-front.s.now some c.in-Some-front.ensures.lookup in
+    front_standing s.shared.items s.caught_up c.in-Some-front.s.now some c.in-Some-front.ensures.lookup in
     let up : 0 < standing_at s.shared.items s.caught_up 0 = grind (arith, nat_tests) in
     rw c.in-Numbers.is (awaited s.numbers.entries (place_of s)
-        (λ q. refl) s.base s.shared_base s.caught_up a.0 a.1 s.entries.items s.links.items s.shared.items a.2 (a.3
-        ∙ c.in-Numbers.is) c.requires.sound c.len.ensures.unique up)
+    (λ q. refl) s.base s.shared_base s.caught_up a.0 a.1 s.entries.items s.links.items s.shared.items a.2 (a.3
+    ∙ c.in-Numbers.is) c.requires.sound c.len.ensures.unique up)
 
 pub returns-in-Some-front-clause-no : goal.returns-in-Some-front-clause-no
 returns-in-Some-front-clause-no g c = λ t.
@@ -28,8 +32,8 @@ returns-in-Some-front-clause-no g c = λ t.
     let v : 0 < deque_len s.shared = c.in-Some-front.ensures.variant.0 refl in
     let some : 0 < length s.shared.items = omega (arith, s.shared.ok.0) in
     let is : standing_at s.shared.items s.caught_up 0 ≡ c.in-Some-front.s.now.standing =
-        front_standing s.shared.items s.caught_up c.in-Some-front.s.now some c.in-Some-front.ensures.lookup in
+    front_standing s.shared.items s.caught_up c.in-Some-front.s.now some c.in-Some-front.ensures.lookup in
     let none : standing_at s.shared.items s.caught_up 0 ≡ 0 = grind (arith, nat_tests) in
     rw c.in-Numbers.is (unawaited s.numbers.entries (place_of s)
-        (λ q. refl) s.base s.shared_base s.caught_up a.0 a.1 s.entries.items s.links.items s.shared.items a.2 (a.3
-        ∙ c.in-Numbers.is) c.requires.sound none)
+    (λ q. refl) s.base s.shared_base s.caught_up a.0 a.1 s.entries.items s.links.items s.shared.items a.2 (a.3
+    ∙ c.in-Numbers.is) c.requires.sound none)

@@ -23,7 +23,7 @@ pub overflow_add-self : goal.overflow_add-self
 overflow_add-self g c =
     let s = c.args.self.now in let h = c.requires.trimmed in
     let f = few_caught s.numbers s.numbers (place_of s)
-        (place_of s) s.base s.shared_base s.caught_up s.entries.items s.links.items s.shared.items h.sound in
+    (place_of s) s.base s.shared_base s.caught_up s.entries.items s.links.items s.shared.items h.sound in
     omega (arith, f, c.len.ensures.small, c.len.ensures.len)
 
 pub returns-clause-trimmed : goal.returns-clause-trimmed
@@ -36,7 +36,7 @@ returns-clause-trimmed g c =
       sound = sound_opened s.numbers c.insert.new.self
           (place_of s) _ s.base s.shared_base s.caught_up s.entries.items s.links.items s.shared.items h.sound
           c.args.number x c.in_ok-insert.field-0 closed closed e.old e.entries refl e.updates.0
-              (omega (arith, s.entries.ok.0, c.len-2.ensures)) refl (omega (arith, s.shared.ok.0, c.len-3.ensures));
+          (omega (arith, s.entries.ok.0, c.len-2.ensures)) refl (omega (arith, s.shared.ok.0, c.len-3.ensures));
       begins = kept_trimmed (place_of s) _ s.base s.entries.items
           (put_keeps (place_of s) _ c.args.number x closed refl e.updates.0) h.begins;
     }

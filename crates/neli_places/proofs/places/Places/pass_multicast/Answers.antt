@@ -28,12 +28,12 @@ pub returns-clause-taken : goal.returns-clause-taken
 returns-clause-taken g c = λ d ds old.
     let s = c.args.self.now in
     passed_pending None s.base s.entries.items c.args.p c.after_own.result s.multicast
-        (Some c.after_own.result) c.args.m d ds c.requires.is refl c.after_own.ensures.from c.requires.next old
+    (Some c.after_own.result) c.args.m d ds c.requires.is refl c.after_own.ensures.from c.requires.next old
 
 pub returns-clause-sound : goal.returns-clause-sound
 returns-clause-sound g c =
     let s = c.args.self.now in let h = c.requires.sound in
     sound_put (place_of s) _ (values s.numbers) (values s.numbers) s.base s.shared_base s.caught_up s.caught_up
-        s.entries.items s.links.items s.shared.items s.shared.items None c.after_own.result
+    s.entries.items s.links.items s.shared.items s.shared.items None c.after_own.result
     (changed_multicast (place_of s) _ c.after_own.result refl (λ q. refl)) c.after_own.ensures.place
-        (λ q none. no_number q _ none) refl h.standing_are h
+    (λ q none. no_number q _ none) refl h.standing_are h

@@ -14,5 +14,5 @@ pub returns-clause-sound : goal.returns-clause-sound
 returns-clause-sound g c =
     let s = c.args.self.now in
     sound_less (place_of s) _ (values s.numbers) (values s.numbers) s.base s.shared_base s.caught_up s.caught_up
-        s.entries.items s.links.items s.shared.items s.shared.items
+    s.entries.items s.links.items s.shared.items s.shared.items
     (same_place (place_of s) _ refl (λ q. refl)) refl c.requires.standing_are c.requires

@@ -10,4 +10,4 @@ pub returns-then-is_empty-clause-ok : goal.returns-then-is_empty-clause-ok
 returns-then-is_empty-clause-ok c = λ w.
     let none : c.args.bytes.now ≡ [] = nil_from_length _ (grind (arith, common_steps)) in
     received_empty c.args.self.now.port (is_open c.args.self.now.numbers) c.args.bytes.now none c.args.groups.now w
-        (pending_of c.args.self.now w)
+    (pending_of c.args.self.now w)

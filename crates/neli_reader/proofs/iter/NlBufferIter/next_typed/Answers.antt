@@ -36,9 +36,9 @@ returns-in_default g c =
     let none : (true ≡ false → c.args.self.now ≡ []) × (c.args.self.now ≡ [] → true ≡ false) = search rules in
     let any : c.args.self.now ≢ [] = λ e. let f = none.1 e in cc in
     let nothing : c.set_position.new.self.rest ≡ [] = c.set_position.ensures.rest
-        ∙ (rw (← c.get_ref-end.ensures) (drop_whole c.get_ref-end.result.now)) in
+    ∙ (rw (← c.get_ref-end.ensures) (drop_whole c.get_ref-end.result.now)) in
     let faulty : frame_at layout c.args.self.now ≡ Err c.in-Err.error =
-        rw (← c.self.view_is) (refused_is _ _ c.in-Err.error c.in_default.not-Memory c.in-Err.ensures.refused) in
+    rw (← c.self.view_is) (refused_is _ _ c.in-Err.error c.in_default.not-Memory c.in-Err.ensures.refused) in
     record {
       next = (any, faulty, nothing);
       shorter = tt;

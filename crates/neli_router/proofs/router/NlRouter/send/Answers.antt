@@ -5,6 +5,6 @@ use Rattle.neli_router.proofs.router.NlRouter.send.Goals as goal
 pub returns-in_err-bytes-clause-refused : goal.returns-in_err-bytes-clause-refused
 returns-in_err-bytes-clause-refused g c =
     refused_request g.ST.Constant.wire_number g.SP.ToBytes.wire g.SP.Size.wire_length _ _ c.args.self.now.next_seq _
-        c.args.nl_type c.args.nl_flags c.args.nl_payload
+    c.args.nl_type c.args.nl_flags c.args.nl_payload
     c.from_residual.result c.in_err-bytes.field-0.0 c.pid.ensures (sym c.is_open.ensures
-        ∙ c.if-is_open.false) c.from_residual.ensures.1 c.in_err-bytes.ensures.refused
+    ∙ c.if-is_open.false) c.from_residual.ensures.1 c.in_err-bytes.ensures.refused

@@ -16,10 +16,10 @@ returns-clause-items c =
     let number_is : c.nla_type-number.result.now ≡ c.args.attr.now.kind.nla_type = cc in
     let row_is = c.row-row.ensures ∙ ap (row_in level.table) number_is in
     let path_is = c.push.ensures.items ∙ ap (λ (steps : List Step). steps ++ step ∷ []) (c.path_to-path.ensures
-        ∙ ap insides c.as_slice.ensures.value) in
+    ∙ ap insides c.as_slice.ensures.value) in
     let step_is = step-said level.table a step c.row-row.result number_is row_is c.name_of.ensures in
     given-attribute before.context before.open.items level c.args.rest a c.requires.frame step c.push.new.self.items
-        c.row-row.result c.attr_payload-payload.result.now c.shape_of-shape.result c.enter-shape.result
-        c.push-2.new.self.items c.enter-shape.new.self.open.items c.requires.room path_is step_is row_is
-        c.attr_payload-payload.ensures c.shape_of-shape.ensures c.push-2.ensures.items c.enter-shape.ensures.full
-        c.enter-shape.ensures.entered
+    c.row-row.result c.attr_payload-payload.result.now c.shape_of-shape.result c.enter-shape.result
+    c.push-2.new.self.items c.enter-shape.new.self.open.items c.requires.room path_is step_is row_is
+    c.attr_payload-payload.ensures c.shape_of-shape.ensures c.push-2.ensures.items c.enter-shape.ensures.full
+    c.enter-shape.ensures.entered

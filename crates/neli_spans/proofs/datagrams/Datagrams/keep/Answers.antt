@@ -11,7 +11,7 @@ returns-clause-names c = λ old new h of long.
     let ok : is_ok c.push_back.result ≡ true = c.push_back.ensures.succeeds c.requires.room.slot in
     let pushed : c.push_back.new.self.items ≡ s.list.items ++ x ∷ [] = rw ok at c.push_back.ensures.items in
     kept s.first s.list.items c.push_back.new.self.items x old new pushed c.requires.room.serial c.requires.some long of
-        h
+    h
 
 pub returns-clause-same_bytes : goal.returns-clause-same_bytes
 returns-clause-same_bytes c = λ old i s h at.

@@ -8,7 +8,7 @@ returns-then-spans-eq1-clause-names c = λ s ss h.
     let v : 0 < deque_len q = c.in-Some.ensures.variant.0 refl in
     let f = front_is q.items c.in-Some.datagram.now (omega (arith, q.ok.0)) c.in-Some.ensures.lookup in
     released_pop c.args.self.now.first c.in-Some.datagram.now f.0 q.items c.pop_front.new.self.items s ss f.1
-        c.pop_front.ensures.rest c.if-spans-eq1.true h
+    c.pop_front.ensures.rest c.if-spans-eq1.true h
 
 pub returns-else-spans-eq1-clause-names : goal.returns-else-spans-eq1-clause-names
 returns-else-spans-eq1-clause-names c = λ s ss h.
@@ -16,7 +16,7 @@ returns-else-spans-eq1-clause-names c = λ s ss h.
     let v : 0 < deque_len q = c.in-Some.ensures.variant.0 refl in
     let f = front_is q.items c.in-Some.datagram.now (omega (arith, q.ok.0)) c.in-Some.ensures.lookup in
     released_set c.args.self.now.first c.in-Some.datagram.now c.index_mut.result.now _ f.0 q.items s ss f.1
-        c.index_mut.ensures.value refl refl c.if-spans-eq1.false h
+    c.index_mut.ensures.value refl refl c.if-spans-eq1.false h
 
 pub returns-then-spans-eq1-clause-same_bytes : goal.returns-then-spans-eq1-clause-same_bytes
 returns-then-spans-eq1-clause-same_bytes c = λ s t ss i h at.
@@ -24,7 +24,7 @@ returns-then-spans-eq1-clause-same_bytes c = λ s t ss i h at.
     let v : 0 < deque_len q = c.in-Some.ensures.variant.0 refl in
     let f = front_is q.items c.in-Some.datagram.now (omega (arith, q.ok.0)) c.in-Some.ensures.lookup in
     text_popped c.args.self.now.first c.in-Some.datagram.now f.0 q.items c.pop_front.new.self.items s ss i t f.1
-        c.pop_front.ensures.rest c.if-spans-eq1.true h at
+    c.pop_front.ensures.rest c.if-spans-eq1.true h at
 
 pub returns-else-spans-eq1-clause-same_bytes : goal.returns-else-spans-eq1-clause-same_bytes
 returns-else-spans-eq1-clause-same_bytes c = λ s t ss i h at.

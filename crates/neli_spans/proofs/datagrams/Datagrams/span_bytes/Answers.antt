@@ -21,7 +21,7 @@ part-requires-clause-within c =
     let r = c.requires in let d = c.args.self.now in
     let w = span_in d.first d.list.items r.0 r.1 c.args.s r.2 r.3 in
     let here = slice_get_read d.list.items (length d.list.items)
-        (c.args.s.datagram - d.first) c.index-datagram.result.now refl w.3 c.index-datagram.ensures in
+    (c.args.s.datagram - d.first) c.index-datagram.result.now refl w.3 c.index-datagram.ensures in
     let same = same_read d.list.items (c.args.s.datagram - d.first) w.0 c.index-datagram.result.now w.1 here in
     rw (c.deref.ensures.value, ← same) w.5
 
@@ -30,6 +30,6 @@ returns c =
     let r = c.requires in let d = c.args.self.now in
     let w = span_in d.first d.list.items r.0 r.1 c.args.s r.2 r.3 in
     let here = slice_get_read d.list.items (length d.list.items)
-        (c.args.s.datagram - d.first) c.index-datagram.result.now refl w.3 c.index-datagram.ensures in
+    (c.args.s.datagram - d.first) c.index-datagram.result.now refl w.3 c.index-datagram.ensures in
     text_read c.args.s d.list.items (c.args.s.datagram - d.first) c.index-datagram.result.now c.deref.result.now here
-        c.deref.ensures.value c.part.ensures
+    c.deref.ensures.value c.part.ensures

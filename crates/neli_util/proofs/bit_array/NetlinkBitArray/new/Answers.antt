@@ -7,5 +7,5 @@ pub returns-clause-numbers : goal.returns-clause-numbers
 returns-clause-numbers c =
     let count = c.div_ceil.result in
     ap (λ xs. (array_of xs).numbers) c.in_ok-resize_words.ensures.ok
-        ∙ ap (λ a. a.numbers) (array_of-resized c.new-words.result.items count)
-        ∙ ap (λ xs. (with_capacity (32 * count) (array_of xs)).numbers) c.new-words.ensures.items
+    ∙ ap (λ a. a.numbers) (array_of-resized c.new-words.result.items count)
+    ∙ ap (λ xs. (with_capacity (32 * count) (array_of xs)).numbers) c.new-words.ensures.items

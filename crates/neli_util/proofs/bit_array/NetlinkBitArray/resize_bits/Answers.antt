@@ -10,5 +10,5 @@ returns-clause-ok c =
     let count = c.div_ceil.result in
     let count_is : count ≡ words_for (c.args.bits) = omega (arith, c.div_ceil.ensures) in
     on_ok_weaker c.resize_words.result (λ items. ap array_of items ∙ array_of-resized ws count
-        ∙ ap (λ k. with_capacity (32 * k) (array_of ws)) count_is
-        ∙ ap (with_capacity (32 * words_for (c.args.bits))) c.self.view_is) c.resize_words.ensures.ok
+    ∙ ap (λ k. with_capacity (32 * k) (array_of ws)) count_is
+    ∙ ap (with_capacity (32 * words_for (c.args.bits))) c.self.view_is) c.resize_words.ensures.ok

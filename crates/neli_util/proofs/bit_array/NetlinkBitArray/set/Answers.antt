@@ -8,7 +8,7 @@ pub returns-then-n-eq0-clause-value : goal.returns-then-n-eq0-clause-value
 returns-then-n-eq0-clause-value c =
     let ws = c.self.inside.words.items in
     with_number-zero ws ∙ ap (λ k. with_number k (array_of ws)) (sym c.if-n-eq0.true)
-        ∙ ap (with_number c.args.n) c.self.view_is
+    ∙ ap (with_number c.args.n) c.self.view_is
 
 pub returns-clause-value : goal.returns-clause-value
 returns-clause-value c =
@@ -20,4 +20,4 @@ returns-clause-value c =
     let some : 0 < n = omega arith in
     let read = get_or_read ws q _ (omega arith) c.index_mut.ensures.value 0 in
     ap (λ w. array_of (set ws q (bit_or w (1 * 2 ^ ((n - 1) % 32) % 2 ^ 32)))) read ∙ array_of-set ws n some within
-        ∙ ap (with_number n) c.self.view_is
+    ∙ ap (with_number n) c.self.view_is

@@ -23,10 +23,14 @@ returns-in_err-push-clause-empty c none =
     let ws : List ℕ = c.self.inside.words.items in
     let bit = c.loop-bit.bit in
     let capacity = ap (λ a. a.capacity) c.self.view_is in
-    let within : bit < 32 * length ws = omega (arith, capacity, c.len_bits-bit-end.ensures.value,
-        c.loop-bit-test.true) in
+    let within : bit < 32 * length ws = omega (
+      arith,
+      capacity,
+      c.len_bits-bit-end.ensures.value,
+      c.loop-bit-test.true,
+    ) in
     let sets = number_of_bit ws bit _ (get_or_read ws (bit / 32) _ (omega arith) c.index.ensures 0)
-        ∙ sym c.word_has_bit.ensures ∙ c.if-word_has_bit.true in
+    ∙ sym c.word_has_bit.ensures ∙ c.if-word_has_bit.true in
     let has_it = has-numbers ws (bit + 1) (omega arith) (omega arith) ∙ sets in
     absurd (true≢false (sym has_it ∙ ap (λ xs. has xs (bit + 1)) (ap (λ a. a.numbers) c.self.view_is ∙ none)))
 
@@ -45,21 +49,25 @@ loop-bit-preserved c =
     let ws : List ℕ = c.self.inside.words.items in
     let bit = c.loop-bit.bit in
     let capacity = ap (λ a. a.capacity) c.self.view_is in
-    let within : bit < 32 * length ws = omega (arith, capacity, c.len_bits-bit-end.ensures.value,
-        c.loop-bit-test.true) in
+    let within : bit < 32 * length ws = omega (
+      arith,
+      capacity,
+      c.len_bits-bit-end.ensures.value,
+      c.loop-bit-test.true,
+    ) in
     let sets = number_of_bit ws bit _ (get_or_read ws (bit / 32) _ (omega arith) c.index.ensures 0)
-        ∙ sym c.word_has_bit.ensures in
+    ∙ sym c.word_has_bit.ensures in
     let before = filter (has_bit ws) (range_with_len 1 bit) in
     let more = filter_range_more (has_bit ws) bit in
     elim c.if-word_has_bit.branch [
       | then-word_has_bit+in_ok-push w ↦
           ap (λ v. v.items) w.numbers-is ∙ w.in_ok-push.ensures.items
-              ∙ ap (λ xs. xs ++ (bit + 1) ∷ []) c.loop-bit.invariant
-              ∙ sym (more ∙ ap (λ b. before ++ cond b ((bit + 1) ∷ []) []) (sets ∙ w.if-word_has_bit.true))
+          ∙ ap (λ xs. xs ++ (bit + 1) ∷ []) c.loop-bit.invariant
+          ∙ sym (more ∙ ap (λ b. before ++ cond b ((bit + 1) ∷ []) []) (sets ∙ w.if-word_has_bit.true))
       | else-word_has_bit w ↦
           ap (λ v. v.items) w.numbers-is ∙ c.loop-bit.invariant
-              ∙ sym (more ∙ ap (λ b. before ++ cond b ((bit + 1) ∷ []) []) (sets ∙ w.if-word_has_bit.false)
-              ∙ append-nil before)
+          ∙ sym (more ∙ ap (λ b. before ++ cond b ((bit + 1) ∷ []) []) (sets ∙ w.if-word_has_bit.false)
+          ∙ append-nil before)
     ]
 
 pub returns-clause-lowest_first : goal.returns-clause-lowest_first

@@ -9,5 +9,8 @@ pub returns-in_err-append-clause-refused : goal.returns-in_err-append-clause-ref
 returns-in_err-append-clause-refused g c =
     let bytes : Wire = Ok (g.T.Number.WireNumber.bytes_of (g.T.Constant.wire_number c.args.self.now)) in
     refuses_by c.from_residual.result bytes Memory c.from_residual.ensures.1
-    (omega (arith, g.met.T.Number.WireNumber.count_is (g.T.Constant.wire_number c.args.self.now),
-        c.in_err-append.ensures.memory))
+    (omega (
+      arith,
+      g.met.T.Number.WireNumber.count_is (g.T.Constant.wire_number c.args.self.now),
+      c.in_err-append.ensures.memory,
+    ))
