@@ -32,16 +32,16 @@ pub enum ProcEvent {
     },
     /// A process runs another program.
     Exec {
-        /// The thread.
+        /// The number of the thread.
         process_pid: i32,
-        /// Its process.
+        /// The number of its process, which all its threads share.
         process_tgid: i32,
     },
     /// A process has other user numbers, the real one and the effective one.
     Uid {
-        /// The thread.
+        /// The number of the thread.
         process_pid: i32,
-        /// Its process.
+        /// The number of its process, which all its threads share.
         process_tgid: i32,
         /// The real user.
         ruid: u32,
@@ -50,9 +50,9 @@ pub enum ProcEvent {
     },
     /// A process has other group numbers, the real one and the effective one.
     Gid {
-        /// The thread.
+        /// The number of the thread.
         process_pid: i32,
-        /// Its process.
+        /// The number of its process, which all its threads share.
         process_tgid: i32,
         /// The real group.
         rgid: u32,
@@ -61,16 +61,16 @@ pub enum ProcEvent {
     },
     /// A process began a session.
     Sid {
-        /// The thread.
+        /// The number of the thread.
         process_pid: i32,
-        /// Its process.
+        /// The number of its process, which all its threads share.
         process_tgid: i32,
     },
     /// A process is traced, or no longer where the tracer's numbers are 0.
     Ptrace {
-        /// The thread.
+        /// The number of the thread.
         process_pid: i32,
-        /// Its process.
+        /// The number of its process, which all its threads share.
         process_tgid: i32,
         /// The tracer's thread, or 0.
         tracer_pid: i32,
@@ -79,18 +79,18 @@ pub enum ProcEvent {
     },
     /// A thread has another name: 16 bytes, with zeros after it.
     Comm {
-        /// The thread.
+        /// The number of the thread.
         process_pid: i32,
-        /// Its process.
+        /// The number of its process, which all its threads share.
         process_tgid: i32,
         /// The name, with zeros after it.
         comm: [u8; 16],
     },
     /// A process wrote its memory to a file.
     Coredump {
-        /// The thread.
+        /// The number of the thread.
         process_pid: i32,
-        /// Its process.
+        /// The number of its process, which all its threads share.
         process_tgid: i32,
         /// The parent's thread.
         parent_pid: i32,
@@ -99,9 +99,9 @@ pub enum ProcEvent {
     },
     /// A thread ended, with the status and the signal that its parent gets.
     Exit {
-        /// The thread.
+        /// The number of the thread.
         process_pid: i32,
-        /// Its process.
+        /// The number of its process, which all its threads share.
         process_tgid: i32,
         /// The status, as wait(2) gives it.
         exit_code: u32,
