@@ -10,7 +10,7 @@ use Rattle.neli_deliveries.specs.Deliveries.{Untyped, message}
 use Rattle.neli_deliveries.specs.Readings.{Item}
 use Rattle.neli_runs.specs.Outcomes.{AreReadings, IsNextAnswer}
 use Rattle.neli_runs.specs.Reply.{Reply}
-use Rattle.neli_runs.specs.Rule.{ends_alone, is_answer, is_single, last_by, last_item, last_place}
+use Rattle.neli_runs.specs.Rule.{ends_alone, is_answer, is_single, last_item_of_payload, last_item, last_place}
 use Rattle.neli_kernel_laws.specs.Complete.{IsComplete, IsEnding, IsPart, is_acknowledgement}
 use Rattle.neli_kernel_laws.specs.Turns.{IsInTurn, IsReadAs}
 use Rattle.neli_kernel_laws.proofs.Turns.{AreRead, InTurn, alone-last, over-turn, pair-turn, quiet-turn, single-last}
@@ -20,7 +20,7 @@ use Rattle.neli_kernel_laws.proofs.Typed.{part-quiet, read-ack, read-answer, who
 
 -- an acknowledgement that is needed is given as it is, after a single reply or not
 ack-by : {K P : Type 0} (after : Bool) (m : Nlmsghdr K P) (p : NlPayload K P) → is_acknowledgement p ≡ true
-    → last_by true after m p ≡ Ok m
+    → last_item_of_payload true after m p ≡ Ok m
 ack-by after m (payload.Ack e) is = refl
 ack-by after m (payload.Err e) is = cc
 ack-by after m (payload.Capped e) is = cc
@@ -30,7 +30,7 @@ ack-by after m payload.Empty is = cc
 
 -- what else is given is the same, whether an acknowledgement is needed or not
 other-by : {K P : Type 0} (needs : Bool) (m : Nlmsghdr K P) (p : NlPayload K P) → is_acknowledgement p ≡ false
-    → last_by needs false m p ≡ last_by true false m p
+    → last_item_of_payload needs false m p ≡ last_item_of_payload true false m p
 other-by needs m (payload.Ack e) is = cc
 other-by needs m (payload.Err e) is = refl
 other-by needs m (payload.Capped e) is = refl

@@ -9,7 +9,7 @@ use Rattle.neli_reader.specs.NlPayload.TheVariants as payload
 use Rattle.neli_runs.specs.Reply.{Reply}
 use Rattle.neli_runs.specs.Reply.TheVariants as reply
 use Rattle.neli_deliveries.specs.Readings.{Item}
-use Rattle.neli_runs.specs.Rule.{answer, answer_at, ends_alone, first_place, is_answer, is_single, last_by, last_item, last_place, single_place}
+use Rattle.neli_runs.specs.Rule.{answer, answer_at, ends_alone, first_place, is_answer, is_single, last_item_of_payload, last_item, last_place, single_place}
 use Rattle.neli_runs.specs.Outcomes.{WereAnswers}
 use Rattle.neli_kernel_laws.specs.Turns.{IsInTurn, IsReplyOrEnd, is_err}
 
@@ -142,7 +142,7 @@ suc_is : (m n : ℕ) → suc m ≡ suc n → m ≡ n
 suc_is m n e = cc
 
 -- what does not end the answers is given as it is
-quiet-by : {K P : Type 0} (m : Nlmsghdr K P) (p : NlPayload K P) → is_answer p ≡ false → last_by true false m p ≡ Ok m
+quiet-by : {K P : Type 0} (m : Nlmsghdr K P) (p : NlPayload K P) → is_answer p ≡ false → last_item_of_payload true false m p ≡ Ok m
 quiet-by m (payload.Ack e) alone = refl
 quiet-by m (payload.Err e) alone = cc
 quiet-by m (payload.Capped e) alone = cc

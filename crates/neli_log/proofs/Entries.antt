@@ -14,9 +14,9 @@ use Rattle.neli_log.specs.declared.content.Content.TheVariants as content
 use Rattle.neli_log.specs.Contents.{delivery_of, span_of, spans_of}
 use Rattle.neli_log.specs.Staged.{HaveReaders}
 
-pub either : (b : Bool) → (b ≡ true) ⊎ (b ≡ false)
-either true = inl refl
-either false = inr refl
+pub true_or_false : (b : Bool) → (b ≡ true) ⊎ (b ≡ false)
+true_or_false true = inl refl
+true_or_false false = inr refl
 
 -- ---- lists by index
 
@@ -59,7 +59,7 @@ spans_append (x ∷ xs) ys = ap (λ ss. span_of x.item ++ ss) (spans_append xs y
 pub items_append : {T : Type 0} (w : Option ℕ) (xs ys : List (Entry T))
     → items_for w (xs ++ ys) ≡ items_for w xs ++ items_for w ys
 items_append w [] ys = refl
-items_append w (x ∷ xs) ys = elim (either (leads w x.route)) [
+items_append w (x ∷ xs) ys = elim (true_or_false (leads w x.route)) [
   | inl it ↦ rw it (ap (λ zs. x.item ∷ zs) (items_append w xs ys))
   | inr it ↦ rw it (items_append w xs ys)
 ]
@@ -93,7 +93,7 @@ pub items_same : (f g : Span → List ℕ) (w : Option ℕ) (es : List (Entry Co
     → ((i : ℕ) (s : Span) → slice_get (spans_of es) i ≡ Some s → g s ≡ f s)
     → map (delivery_of g) (items_for w es) ≡ map (delivery_of f) (items_for w es)
 items_same f g w [] same = refl
-items_same f g w (e ∷ es) same = elim (either (leads w e.route)) [
+items_same f g w (e ∷ es) same = elim (true_or_false (leads w e.route)) [
   | inl it ↦ rw it (ap2 (one e.item (λ i s at. same i s (left i s at))) (items_same f g w es (later same)))
   | inr it ↦ rw it (items_same f g w es (later same))
 ]

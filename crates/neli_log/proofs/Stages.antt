@@ -16,7 +16,7 @@ use Rattle.neli_places.specs.declared.entry.Entry.{Entry}
 use Rattle.neli_places.specs.Places.{HasReader}
 use Rattle.neli_places.specs.Routes.{items_for, leads}
 use Rattle.neli_spans.specs.declared.span.Span.{Span}
-use Rattle.neli_spans.specs.Spans.{AreApart, AreOf, Apart, IsWithin}
+use Rattle.neli_spans.specs.Spans.{AreApart, AreSpansOf, Apart, IsWithin}
 use Rattle.neli_reader.specs.SocketError.TheVariants as socket
 use Rattle.neli_places.specs.declared.entry.Route.TheVariants as route
 use Rattle.neli_log.specs.declared.content.Content.{Content}
@@ -24,7 +24,7 @@ use Rattle.neli_log.specs.declared.content.Content.TheVariants as content
 use Rattle.neli_log.specs.declared.next.Address.{Address}
 use Rattle.neli_log.specs.Contents.{AreMessages, delivery_of, part_of, span_of, spans_of}
 use Rattle.neli_log.specs.Staged.{AreStaged, HaveReaders, IsFound, deliveries_due, deliveries_added, is_open}
-use Rattle.neli_log.proofs.Entries.{each_joined, each_one, either, items_append, spans_append}
+use Rattle.neli_log.proofs.Entries.{each_joined, each_one, true_or_false, items_append, spans_append}
 
 -- ---- what is due of a message, and then of the rest
 
@@ -63,14 +63,14 @@ are_apart_push [] t at before from h = tt
 are_apart_push (s ∷ ss) t at before from h = apart_push s ss t at (before 0 s refl)
     (λ i x there. before (suc i) x there) from h
 
-of_further : (serial at at' : ℕ) (ss : List Span) → at ≤ at' → AreOf serial at ss → AreOf serial at' ss
+of_further : (serial at at' : ℕ) (ss : List Span) → at ≤ at' → AreSpansOf serial at ss → AreSpansOf serial at' ss
 of_further serial at at' ss le h = record {
   one = λ i s there. (let a = h.one i s there in (a.0, (a.1.0, (let b = a.1.1 in omega arith))));
   apart = h.apart;
 }
 
 of_push : (serial at : ℕ) (ss : List Span) (t : Span) → t.datagram ≡ serial → at ≤ t.start → t.start ≤ t.end
-    → AreOf serial at ss → AreOf serial t.end (ss ++ t ∷ [])
+    → AreSpansOf serial at ss → AreSpansOf serial t.end (ss ++ t ∷ [])
 of_push serial at ss t same from le h = record {
   one = each_joined (λ s. (s.datagram ≡ serial) × IsWithin t.end s) ss (t ∷ [])
       (λ i s there. (let a = h.one i s there in (a.0, (a.1.0, (let b = a.1.1 in omega arith)))))
@@ -89,7 +89,7 @@ module _ (P : Option ℕ → Option (List Content)) (port serial : ℕ) (bytes g
   -- nobody gets it
   gained_unread : (w : Option ℕ) (e : Entry Content) → (HasReader P e.route → ⊥) → is_some (P w) ≡ true
       → deliveries_added bytes w (e ∷ []) ≡ []
-  gained_unread w e none opened = elim (either (leads w e.route)) [
+  gained_unread w e none opened = elim (true_or_false (leads w e.route)) [
     | inl it ↦ absurd (none (w, opened, it))
     | inr it ↦ rw it refl
   ]
@@ -138,7 +138,7 @@ module _ (P : Option ℕ → Option (List Content)) (port serial : ℕ) (bytes g
       record {
         lists = λ w opened. lists_pushed es e (message_before u rest) (u ∷ [], None) rest w
             (received_message port (is_open P) w u rest groups) (gains w) (h.lists w opened);
-        spans = subst (AreOf serial s.end) (sym spans)
+        spans = subst (AreSpansOf serial s.end) (sym spans)
             (of_push serial at (spans_of es) s f.datagram f.after f.ordered h.spans);
         messages = subst (AreMessages (part_of bytes)) (sym spans)
             (each_joined (λ x. IsSpan (part_of bytes x)) (spans_of es) (s ∷ []) h.messages
@@ -178,7 +178,7 @@ module _ (P : Option ℕ → Option (List Content)) (port serial : ℕ) (bytes g
         lists = λ w opened. lists_pushed es e ([], Some fault) ([], Some fault) ([], None) w
             (sym (ap (λ ds. deliveries_due port P groups w ([], Some fault) ++ ds)
             (received_end port (is_open P) w groups) ∙ append-nil _)) (gains w) (h.lists w opened);
-        spans = subst (AreOf serial at) (sym spans) h.spans;
+        spans = subst (AreSpansOf serial at) (sym spans) h.spans;
         messages = subst (AreMessages (part_of bytes)) (sym spans) h.messages;
         readers = readers_push es e r h.readers;
         few = (let before = h.few in omega (arith, length-append es (e ∷ [])));

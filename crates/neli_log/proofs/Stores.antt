@@ -21,14 +21,14 @@ use Rattle.neli_places.specs.Places.{pending_of as items_of, head_of as first_of
 use Rattle.neli_places.specs.Routes.{entry, items_for, leads}
 use Rattle.neli_spans.specs.declared.span.Span.{Span}
 use Rattle.neli_spans.specs.declared.datagrams.Datagrams.{Datagrams}
-use Rattle.neli_spans.specs.Spans.{AreOf, Names, next_serial, span_bytes}
+use Rattle.neli_spans.specs.Spans.{AreSpansOf, SpansName, next_serial, span_bytes}
 use Rattle.neli_log.specs.declared.content.Content.{Content}
 use Rattle.neli_log.specs.declared.content.Content.TheVariants as content
 use Rattle.neli_log.specs.Contents.{AreBacked, AreMessages, IsReadable, delivery_of, part_of, span_of, spans_of}
 use Rattle.neli_log.specs.declared.store.Store.{Store}
 use Rattle.neli_log.specs.Log.{IsAsBefore, Keeps, entry_count}
 use Rattle.neli_log.specs.Staged.{deliveries_added}
-use Rattle.neli_log.proofs.Entries.{each_joined, either, get_end, get_right, items_same, spans_append}
+use Rattle.neli_log.proofs.Entries.{each_joined, true_or_false, get_end, get_right, items_same, spans_append}
 
 -- ---- lists that are mapped, where there are any
 
@@ -103,7 +103,7 @@ span_dropped (suc k) (e ∷ es) i x at =
 item_span : (w : Option ℕ) (es : List (Entry Content)) (c : Content) (cs : List Content) (x : Span)
     → items_for w es ≡ c ∷ cs → span_of c ≡ x ∷ [] → (j : ℕ) × (slice_get (spans_of es) j ≡ Some x)
 item_span w [] c cs x is has = cc
-item_span w (e ∷ es) c cs x is has = elim (either (leads w e.route)) [
+item_span w (e ∷ es) c cs x is has = elim (true_or_false (leads w e.route)) [
   | inl it ↦ (let a = rw it at is in let same : e.item ≡ c = cc in (0, rw (same, has) refl))
   | inr it ↦ (let r = item_span w es c cs x (rw it at is) has in
       let j : length (span_of e.item) + r.0 - length (span_of e.item) ≡ r.0 = omega arith in (
@@ -140,8 +140,8 @@ first_readable s d w (content.Fault e) h is = tt
 module _ (s s' : Places Content) (d d' : Datagrams) (c : Content) (r : Route)
     (taken : entries_of s ≡ entry c r ∷ entries_of s') (same : (w : Option ℕ)
     → items_of s' w ≡ items_of s w) (backed : AreBacked d (entries_of s)) where
-  pub released_names : Names d (span_of c ++ spans_of (entries_of s'))
-  released_names = subst (λ es. Names d (spans_of es)) taken backed.names
+  pub released_names : SpansName d (span_of c ++ spans_of (entries_of s'))
+  released_names = subst (λ es. SpansName d (spans_of es)) taken backed.names
 
   released_messages : AreMessages (span_bytes d) (spans_of (entries_of s'))
   released_messages i x at =
@@ -150,8 +150,8 @@ module _ (s s' : Places Content) (d d' : Datagrams) (c : Content) (r : Route)
       all (length (span_of c) + i) x (get_right (span_of c) (spans_of (entries_of s')) (length (span_of c) + i)
       (omega arith) ∙ (rw j at))
 
-  module _ (names : (ss : List Span) → Names d (span_of c ++ ss)
-      → Names d' ss) (texts : (ss : List Span) (i : ℕ) (x : Span) → Names d (span_of c ++ ss) → slice_get ss i ≡ Some x
+  module _ (names : (ss : List Span) → SpansName d (span_of c ++ ss)
+      → SpansName d' ss) (texts : (ss : List Span) (i : ℕ) (x : Span) → SpansName d (span_of c ++ ss) → slice_get ss i ≡ Some x
       → span_bytes d' x ≡ span_bytes d x) where
     pub released_backed : AreBacked d' (entries_of s')
     released_backed = record {
@@ -178,11 +178,11 @@ module _ (s s' : Places Content) (d d' : Datagrams) (c : Content) (r : Route)
 module _ (s s' : Places Content) (d d' : Datagrams) (bytes : List ℕ) (es : List (Entry Content))
     (entries : entries_of s' ≡ entries_of s ++ es) (more : (w : Option ℕ)
     → items_of s' w ≡ option_map (λ xs. xs ++ items_for w es) (items_of s w))
-    (spans : AreOf (next_serial d) (length bytes) (spans_of es)) (messages : AreMessages (part_of bytes) (spans_of es))
+    (spans : AreSpansOf (next_serial d) (length bytes) (spans_of es)) (messages : AreMessages (part_of bytes) (spans_of es))
     (backed : AreBacked d (entries_of s))
-    (names : (old new : List Span) → Names d old → AreOf (next_serial d) (length bytes) new
-    → length new ≡ length (spans_of es) → Names d' (old ++ new))
-    (texts : (old : List Span) (i : ℕ) (x : Span) → Names d old → slice_get old i ≡ Some x
+    (names : (old new : List Span) → SpansName d old → AreSpansOf (next_serial d) (length bytes) new
+    → length new ≡ length (spans_of es) → SpansName d' (old ++ new))
+    (texts : (old : List Span) (i : ℕ) (x : Span) → SpansName d old → slice_get old i ≡ Some x
     → span_bytes d' x ≡ span_bytes d x)
     (new_span : (x : Span) → 0 < length (spans_of es) → x.datagram ≡ next_serial d
     → span_bytes d' x ≡ slice_range bytes x.start x.end) where

@@ -12,7 +12,7 @@ use Rattle.neli_deliveries.specs.Deliveries.{Untyped, message, stray}
 use Rattle.neli_places.specs.declared.entry.Entry.{Entry}
 use Rattle.neli_spans.specs.declared.span.Span.{Span}
 use Rattle.neli_spans.specs.declared.datagrams.Datagrams.{Datagrams}
-use Rattle.neli_spans.specs.Spans.{IsNamed, Names, span_bytes}
+use Rattle.neli_spans.specs.Spans.{IsNamed, SpansName, span_bytes}
 use Rattle.neli_log.specs.declared.content.Content.{Content}
 use Rattle.neli_log.specs.declared.content.Content.TheVariants as content
 
@@ -44,7 +44,7 @@ AreMessages part ss = (i : ℕ) (s : Span) → slice_get ss i ≡ Some s → IsS
 
 -- the spans of these entries name the kept datagrams, and each is a message
 pub record AreBacked (kept : Datagrams) (es : List (Entry Content)) : Type 0 where
-  pub names : Names kept (spans_of es)
+  pub names : SpansName kept (spans_of es)
   pub messages : AreMessages (span_bytes kept) (spans_of es)
 
 -- the bytes of a span of these bytes

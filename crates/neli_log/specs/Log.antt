@@ -1,5 +1,5 @@
 -- What a log holds.
-use Rattle.std.specs.Prelude.{ℕ, zero, suc, ◌≡◌, ◌+◌, List, ◌++◌, length, map, Option}
+use Rattle.std.specs.Prelude.{ℕ, zero, suc, ◌≡◌, ◌≤◌, ◌+◌, List, ◌++◌, length, map, Option}
 use Rattle.std.specs.Option.{option_map}
 use Rattle.neli_deliveries.specs.declared.delivery.Delivery.{Delivery}
 use Rattle.neli_places.specs.declared.entry.Entry.{Entry}
@@ -49,6 +49,10 @@ pub record Keeps (before after : Store) (bytes : List ℕ) (es : List (Entry Con
 -- entries come after the others, as `Keeps` says
 abbrev pub KeepsEntries : Store → Store → List ℕ → Type 0
 KeepsEntries before after bytes = (es : List (Entry Content)) × Keeps before after bytes es
+
+-- no entry more is kept than before, and no byte
+abbrev pub KeepsNoMore : Store → Store → Type 0
+KeepsNoMore before after = (entry_count after ≤ entry_count before) × (byte_count after ≤ byte_count before)
 
 -- entries and bytes are as they were
 abbrev pub IsAsBefore : Store → Store → Type 0

@@ -11,7 +11,7 @@ use Rattle.neli_places.specs.Places.{HasReader}
 use Rattle.neli_places.specs.Routes.{items_for}
 use Rattle.neli_lent.specs.Spans.{Spells}
 use Rattle.neli_spans.specs.declared.span.Span.{Span}
-use Rattle.neli_spans.specs.Spans.{AreOf}
+use Rattle.neli_spans.specs.Spans.{AreSpansOf}
 use Rattle.neli_log.specs.declared.content.Content.{Content}
 use Rattle.neli_log.specs.declared.next.Address.{Address}
 use Rattle.neli_log.specs.Contents.{AreMessages, delivery_of, part_of, spans_of}
@@ -48,7 +48,7 @@ pub record AreStaged (pending : Option ℕ → Option (List Content)) (port seri
   pub lists : (w : Option ℕ) → is_some (pending w) ≡ true
       → deliveries_added bytes w es ++ deliveries_due port pending groups w rest
       ≡ deliveries_due port pending groups w cut
-  pub spans : AreOf serial at (spans_of es)
+  pub spans : AreSpansOf serial at (spans_of es)
   pub messages : AreMessages (part_of bytes) (spans_of es)
   pub readers : HaveReaders pending es
   pub few : length es + delivery_count rest ≤ delivery_count cut

@@ -1,9 +1,9 @@
 //! How entries and datagrams come to be kept, once there is nothing left to refuse.
 
-ghost use Rattle.std.specs.Prelude.{◌≡◌, ◌++◌, ◌+◌, ◌<◌, ℕ, List, Option, Some, OnErr, OnOk, length, option_map, slice_get, slice_range};
+ghost use Rattle.std.specs.Prelude.{◌≡◌, ◌++◌, ◌+◌, ◌<◌, ◌≤◌, ℕ, List, Option, Some, OnErr, OnOk, length, option_map, slice_get, slice_range};
 ghost use Rattle.neli_places.specs.Places.{HasRoom, IsTrimmed, entries_of, pending_of};
 ghost use Rattle.neli_places.specs.Routes.{items_for};
-ghost use Rattle.neli_spans.specs.Spans.{AreNamed, AreOf, IsUnchanged, Names, bytes_of, next_serial, span_bytes};
+ghost use Rattle.neli_spans.specs.Spans.{AreNamed, AreSpansOf, IsUnchanged, SpansName, bytes_of, next_serial, span_bytes};
 ghost use Rattle.neli_spans.specs.declared.span.Span.{Span as Part};
 ghost use Rattle.neli_log.specs.Contents.{span_of, spans_of};
 ghost use Rattle.neli_log.specs.Log.{kept_with};
@@ -63,10 +63,10 @@ pub(crate) fn keep_copy(
     spans: usize,
 ) -> Result<(), NoMemory>
     requires { AreNamed datagrams.old }
-    ensures names { OnOk result ((old new : List Part) → Names datagrams.old old
-        → AreOf (next_serial datagrams.old) (length bytes.now) new → length new ≡ spans
-        → Names datagrams.new (old ++ new)) }
-    ensures same_bytes { OnOk result ((old : List Part) (i : ℕ) (s : Part) → Names datagrams.old old
+    ensures names { OnOk result ((old new : List Part) → SpansName datagrams.old old
+        → AreSpansOf (next_serial datagrams.old) (length bytes.now) new → length new ≡ spans
+        → SpansName datagrams.new (old ++ new)) }
+    ensures same_bytes { OnOk result ((old : List Part) (i : ℕ) (s : Part) → SpansName datagrams.old old
         → slice_get old i ≡ Some s → span_bytes datagrams.new s ≡ span_bytes datagrams.old s) }
     ensures new_span { OnOk result ((s : Part) → 0 < spans
         → s.datagram ≡ next_serial datagrams.old
@@ -87,12 +87,13 @@ pub(crate) fn keep_copy(
 /// An entry's span goes, if it has one, and its datagram where no other span names it. Every other span means the
 /// bytes that it did.
 pub(crate) fn release(datagrams: &mut Datagrams, content: Content)
-    requires { (ss : List Part) × Names datagrams.old (span_of content ++ ss) }
-    ensures names { (ss : List Part) → Names datagrams.old (span_of content ++ ss)
-        → Names datagrams.new ss }
+    requires { (ss : List Part) × SpansName datagrams.old (span_of content ++ ss) }
+    ensures names { (ss : List Part) → SpansName datagrams.old (span_of content ++ ss)
+        → SpansName datagrams.new ss }
     ensures same_bytes { (ss : List Part) (i : ℕ) (s : Part)
-        → Names datagrams.old (span_of content ++ ss) → slice_get ss i ≡ Some s
+        → SpansName datagrams.old (span_of content ++ ss) → slice_get ss i ≡ Some s
         → span_bytes datagrams.new s ≡ span_bytes datagrams.old s }
+    ensures bytes { bytes_of datagrams.new ≤ bytes_of datagrams.old }
 {
     match content {
         Content::Fault(_) => (),

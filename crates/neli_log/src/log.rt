@@ -1,11 +1,11 @@
 //! The log as a store of deliveries.
 
-ghost use Rattle.std.specs.Prelude.{◌≡◌, ◌≢◌, ◌↔◌, ◌≤◌, ◌+◌, ◌++◌, ℕ, List, [], Option, None, Some, IsOk, OnErr, OnOk, is_some, option_map, true};
+ghost use Rattle.std.specs.Prelude.{◌≡◌, ◌≢◌, ◌↔◌, ◌≤◌, ◌+◌, ◌++◌, ℕ, List, [], ◌∷◌, Option, None, Some, IsOk, OnErr, OnOk, is_some, option_map, true};
 ghost use Rattle.neli_reader.specs.Agreement.{untyped_layout};
 ghost use Rattle.neli_reader.specs.Cuts.{cut_of};
 ghost use Rattle.neli_deliveries.specs.declared.delivery.Delivery.{Delivery as Waiting};
 ghost use Rattle.neli_deliveries.specs.Deliveries.{datagram_share, fault_share, is_would_block};
-ghost use Rattle.neli_log.specs.Log.{IsAsBefore, KeepsEntries, byte_count, entry_count, pending_of};
+ghost use Rattle.neli_log.specs.Log.{IsAsBefore, KeepsEntries, KeepsNoMore, byte_count, entry_count, pending_of};
 ghost use Rattle.neli_log.specs.Staged.{delivery_count};
 
 use crate::store::Store;
@@ -93,7 +93,14 @@ impl Deliveries for Log {
         self.store.open(number)
     }
 
-    fn close(&mut self, whose: Option<u32>) {
+    /// No entry and no byte more is kept than before.
+    fn close(&mut self, whose: Option<u32>)
+        ensures port { self.new.port ≡ self.old.port }
+        ensures closed { pending_of self.new whose ≡ None }
+        ensures others { (w : Option ℕ) → w ≢ whose
+            → pending_of self.new w ≡ pending_of self.old w }
+        ensures fewer { KeepsNoMore self.old self.new }
+    {
         self.store.close(whose);
     }
 
@@ -142,7 +149,16 @@ impl Deliveries for Log {
         self.store.first(alloc, whose)
     }
 
-    fn drop_first(&mut self, whose: Option<u32>) {
+    /// No entry and no byte more is kept than before.
+    fn drop_first(&mut self, whose: Option<u32>)
+        requires { (d : Waiting) × (ds : List Waiting) × (pending_of self.old whose ≡ Some (d ∷ ds)) }
+        ensures port { self.new.port ≡ self.old.port }
+        ensures taken { (d : Waiting) (ds : List Waiting) → pending_of self.old whose ≡ Some (d ∷ ds)
+            → pending_of self.new whose ≡ Some ds }
+        ensures others { (w : Option ℕ) → w ≢ whose
+            → pending_of self.new w ≡ pending_of self.old w }
+        ensures fewer { KeepsNoMore self.old self.new }
+    {
         self.store.drop_first(whose);
     }
 }

@@ -7,9 +7,9 @@ ghost use Rattle.neli_deliveries.specs.declared.delivery.Delivery.{Delivery as W
 ghost use Rattle.neli_deliveries.specs.Deliveries.{fault_share, head_of, is_would_block, datagram_share};
 ghost use Rattle.neli_deliveries.specs.Readings.{IsFirst, IsReading};
 ghost use Rattle.neli_places.specs.Places.{pending_of as items_of};
-ghost use Rattle.neli_spans.specs.Spans.{AreOf, next_serial, span_bytes};
+ghost use Rattle.neli_spans.specs.Spans.{AreSpansOf, next_serial, span_bytes};
 ghost use Rattle.neli_log.specs.Contents.{AreMessages, IsReadable, delivery_of, part_of, spans_of};
-ghost use Rattle.neli_log.specs.Log.{IsAsBefore, IsTrimmedAndBacked, IsUntrimmed, Keeps, KeepsEntries, byte_count, entry_count, pending_of};
+ghost use Rattle.neli_log.specs.Log.{IsAsBefore, IsTrimmedAndBacked, IsUntrimmed, Keeps, KeepsEntries, KeepsNoMore, byte_count, entry_count, pending_of};
 ghost use Rattle.neli_log.specs.Staged.{HaveReaders, delivery_count, deliveries_added};
 
 use crate::content::Content;
@@ -69,6 +69,7 @@ impl Store {
         requires { IsUntrimmed self.old }
         ensures port { self.new.port ≡ self.old.port }
         ensures same { (w : Option ℕ) → pending_of self.new w ≡ pending_of self.old w }
+        ensures fewer { KeepsNoMore self.old self.new }
         ensures log { IsTrimmedAndBacked self.new }
     {
         while let Some(content) = self.places.pop_unawaited() {
@@ -100,6 +101,7 @@ impl Store {
         ensures closed { pending_of self.new whose ≡ None }
         ensures others { (w : Option ℕ) → w ≢ whose
             → pending_of self.new w ≡ pending_of self.old w }
+        ensures fewer { KeepsNoMore self.old self.new }
         ensures log { IsTrimmedAndBacked self.new }
     {
         self.places.remove(whose);
@@ -114,6 +116,7 @@ impl Store {
             → pending_of self.old whose ≡ Some (d ∷ ds) → pending_of self.new whose ≡ Some ds }
         ensures others { (w : Option ℕ) → w ≢ whose
             → pending_of self.new w ≡ pending_of self.old w }
+        ensures fewer { KeepsNoMore self.old self.new }
         ensures log { IsTrimmedAndBacked self.new }
     {
         self.places.pass(whose);
@@ -123,7 +126,7 @@ impl Store {
     /// Keeps these entries, whose spans are of these bytes.
     fn hand_over(&mut self, bytes: &[u8], entries: Vec<Entry<Content>>) -> Result<(), NoMemory>
         requires log { IsTrimmedAndBacked self.old }
-        requires spans { AreOf (next_serial self.old.datagrams) (length bytes.now)
+        requires spans { AreSpansOf (next_serial self.old.datagrams) (length bytes.now)
             (spans_of entries.items) }
         requires messages { AreMessages (part_of bytes.now) (spans_of entries.items) }
         requires readers { HaveReaders (items_of self.old.places) entries.items }

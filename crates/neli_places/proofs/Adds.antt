@@ -13,8 +13,8 @@ use Rattle.neli_places.specs.declared.place.Chain.{Chain}
 use Rattle.neli_places.specs.declared.place.Place.{Place}
 use Rattle.neli_places.specs.declared.place.Shared.{Shared}
 use Rattle.neli_places.specs.Routes.{leads, leads_only, is_shared, items_for, first_position, shared_positions}
-use Rattle.neli_places.specs.Places.{IsOwn, IsLinked, IsPlace, IsSeen, AreSound, BeginsAwaited, rest, standing_at, waiting_count}
-use Rattle.neli_places.proofs.Pops.{b_or, found_from}
+use Rattle.neli_places.specs.Places.{IsChain, IsLinked, IsPlace, CountsPassed, AreSound, BeginsAwaited, rest, readers_at, waiting_count}
+use Rattle.neli_places.proofs.Pops.{true_or_false, found_from}
 use Rattle.neli_places.proofs.Waits.{eqb_refl, eqb_same}
 use Rattle.std.specs.Map.{lookup}
 use Rattle.std.proofs.Common.{length-append, length-drop}
@@ -26,7 +26,7 @@ use Rattle.neli_places.specs.Places.{with_last, links_with}
 pub found_push_other : {T : Type 0} (p : Route → Bool) (n : ℕ) (l : List (Entry T)) (e : Entry T) → p e.route ≡ false
     → first_position p n (l ++ e ∷ []) ≡ first_position p n l
 found_push_other p n [] e h = rw h refl
-found_push_other p n (x ∷ l) e h = elim (b_or (p x.route)) [
+found_push_other p n (x ∷ l) e h = elim (true_or_false (p x.route)) [
   | inl it ↦ rw it refl
   | inr it ↦ rw it
       (found_push_other p (suc n) l e h)
@@ -35,7 +35,7 @@ found_push_other p n (x ∷ l) e h = elim (b_or (p x.route)) [
 pub found_push_here : {T : Type 0} (p : Route → Bool) (n : ℕ) (l : List (Entry T)) (e : Entry T) → p e.route ≡ true
     → first_position p n l ≡ None → first_position p n (l ++ e ∷ []) ≡ Some (n + length l)
 found_push_here p n [] e h none = let s : n + 0 ≡ n = omega arith in rw (h, s) refl
-found_push_here p n (x ∷ l) e h none = elim (b_or (p x.route)) [
+found_push_here p n (x ∷ l) e h none = elim (true_or_false (p x.route)) [
   | inl it ↦ (let f = rw it at none in cc)
   | inr it ↦ (let s : n + suc (length l) ≡ suc n + length l = omega arith in
       rw (it, s) (found_push_here p (suc n) l e h (rw it at none)))
@@ -44,7 +44,7 @@ found_push_here p n (x ∷ l) e h none = elim (b_or (p x.route)) [
 pub found_push_some : {T : Type 0} (p : Route → Bool) (n : ℕ) (l r : List (Entry T)) (m : ℕ)
     → first_position p n l ≡ Some m → first_position p n (l ++ r) ≡ Some m
 found_push_some p n [] r m h = cc
-found_push_some p n (x ∷ l) r m h = elim (b_or (p x.route)) [
+found_push_some p n (x ∷ l) r m h = elim (true_or_false (p x.route)) [
   | inl it ↦ (let f = rw it at h in
       rw it f)
   | inr it ↦ rw it (found_push_some p (suc n) l r m (rw it at h))
@@ -55,7 +55,7 @@ pub found_push_there : {T : Type 0} (p : Route → Bool) (n : ℕ) (l r : List (
 found_push_there p n [] r t y at h = cc
 found_push_there p n (x ∷ l) r zero y at h = let same : x ≡ y = cc in
     let it : p x.route ≡ true = ap (λ z. p z.route) same ∙ h in rw it refl
-found_push_there p n (x ∷ l) r (suc t) y at h = elim (b_or (p x.route)) [
+found_push_there p n (x ∷ l) r (suc t) y at h = elim (true_or_false (p x.route)) [
   | inl it ↦ rw it refl
   | inr it ↦ rw it
       (found_push_there p (suc n) l r t y at h)
@@ -107,7 +107,7 @@ module _ {T : Type 0} (base : ℕ) (es : List (Entry T)) (links : List (Option �
       (relinks : (i : ℕ) (x : Entry T) → slice_get es i ≡ Some x → leads_only w x.route ≡ true
       → slice_get links' i ≡ slice_get links i) where
     chain_other : (k : ℕ) (o : Option Chain) → k ≤ length es → base ≤ base → ((c : Chain) → o ≡ Some c → base ≤ c.last)
-        → IsOwn w base es k o → IsOwn w base (es ++ e ∷ []) k o
+        → IsChain w base es k o → IsChain w base (es ++ e ∷ []) k o
     chain_other k None le _ ge h = rw (drop-append-le k es (e ∷ []) le)
         (found_push_other (leads_only w) (base + k) (drop k es) e off ∙ h)
     chain_other k (Some c) le _ ge h =
@@ -152,15 +152,15 @@ module _ {T : Type 0} (base : ℕ) (es : List (Entry T)) (links : List (Option �
         let le : p.from - base ≤ length es = (let a = h.within in omega arith) in
         record {
           within = (let a = h.within in omega (arith, long));
-          chain = chain_other (p.from - base) p.own le (omega arith) (λ c is. low p c is h.chain) h.chain;
+          chain = chain_other (p.from - base) p.chain le (omega arith) (λ c is. low p c is h.chain) h.chain;
           linked = linked_other (p.from - base) h.linked;
         }
       where
-        low_of : (k : ℕ) (c : Chain) → IsOwn w base es k (Some c) → base ≤ c.last
+        low_of : (k : ℕ) (c : Chain) → IsChain w base es k (Some c) → base ≤ c.last
         low_of k c h = let a = found_from (leads_only w) (base + k) (drop k es) c.first h.0 in let b = h.1 in
             omega arith
 
-        low : (p : Place) (c : Chain) → p.own ≡ Some c → IsOwn w base es (p.from - base) p.own → base ≤ c.last
+        low : (p : Place) (c : Chain) → p.chain ≡ Some c → IsChain w base es (p.from - base) p.chain → base ≤ c.last
         low p c is h = low_of (p.from - base) c (rw is at h)
 
   -- the place of the list to which it goes
@@ -168,8 +168,8 @@ module _ {T : Type 0} (base : ℕ) (es : List (Entry T)) (links : List (Option �
     long : length (es ++ e ∷ []) ≡ length es + 1
     long = long_push es e
 
-    pub chain_mine : (o : Option Chain) → IsOwn w base es k o
-        → IsOwn w base (es ++ e ∷ []) k (Some (with_last o (base + length es)))
+    pub chain_mine : (o : Option Chain) → IsChain w base es k o
+        → IsChain w base (es ++ e ∷ []) k (Some (with_last o (base + length es)))
     chain_mine None h =
         let n : base + k + length (drop k es) ≡ base + length es = (let a = length-drop k es in omega (arith, a)) in
         let i : base + length es - base ≡ length es = omega arith in (
@@ -201,7 +201,7 @@ module _ {T : Type 0} (base : ℕ) (es : List (Entry T)) (links : List (Option �
         let f = get_last links' None in
         rw (drop_end (es ++ e ∷ []) (suc i) (omega (arith, long)), g) f
 
-    -- what is own from k on, while none is
+    -- the chain from k on, while there is none
     none_mine : (i : ℕ) (x : Entry T) → first_position (leads_only w) (base + k) (drop k es) ≡ None → k ≤ i
         → slice_get es i ≡ Some x → leads_only w x.route ≡ true → ⊥
     none_mine i x none ge at is =
@@ -210,7 +210,7 @@ module _ {T : Type 0} (base : ℕ) (es : List (Entry T)) (links : List (Option �
         let off = found_none (leads_only w) (base + k) (drop k es) none (i - k) x f in
         cc
 
-    pub linked_mine : (o : Option Chain) → IsOwn w base es k o → IsLinked w base es links k
+    pub linked_mine : (o : Option Chain) → IsChain w base es k o → IsLinked w base es links k
         → IsLinked w base (es ++ e ∷ []) (links_with base o (base + length es) links ++ None ∷ []) k
     linked_mine None h linked i x ge at is = elim (cases_lt i (length es)) [
       | inl lt ↦ absurd (none_mine i x h ge (rw (get_push es e i lt) at at) is)
@@ -272,20 +272,20 @@ module _ {T : Type 0} (base : ℕ) (es : List (Entry T)) (links : List (Option �
         at_index (y ∷ l) zero h = (y, refl)
         at_index (y ∷ l) (suc j) h = at_index l j (omega arith)
 
-        last_entry : (c : Chain) → IsOwn w base es k (Some c) → (y : Entry T) × (slice_get es (c.last - base) ≡ Some y)
+        last_entry : (c : Chain) → IsChain w base es k (Some c) → (y : Entry T) × (slice_get es (c.last - base) ≡ Some y)
         last_entry c h = (let low = found_from (leads_only w) (base + k) (drop k es) c.first h.0 in let a1 = h.1 in
             let a2 = h.2 in at_index es (c.last - base) (omega arith))
 
   pub place_mine : (w : Option ℕ) (p x : Place) → leads_only w e.route ≡ true → x.from ≡ p.from
-      → x.own ≡ Some (with_last p.own (base + length es)) → IsPlace w base es links p
-      → IsPlace w base (es ++ e ∷ []) (links_with base p.own (base + length es) links ++ None ∷ []) x
+      → x.chain ≡ Some (with_last p.chain (base + length es)) → IsPlace w base es links p
+      → IsPlace w base (es ++ e ∷ []) (links_with base p.chain (base + length es) links ++ None ∷ []) x
   place_mine w p x mine from owned h =
       let long = long_push es e in
       let le : p.from - base ≤ length es = (let a = h.within in omega arith) in
       record {
         within = (let a = h.within in omega (arith, long, from));
-        chain = rw (from, owned) (chain_mine w mine (p.from - base) le p.own h.chain);
-        linked = rw from (linked_mine w mine (p.from - base) le p.own h.chain h.linked);
+        chain = rw (from, owned) (chain_mine w mine (p.from - base) le p.chain h.chain);
+        linked = rw from (linked_mine w mine (p.from - base) le p.chain h.chain h.linked);
       }
 
 -- ---- the whole log
@@ -308,7 +308,7 @@ altered_multicast place place' x none some (Some q) p is = inl ((λ e. no_some q
 pub altered_number : (place place' : Option ℕ → Option Place) (n : ℕ) (x : Place) → place' None ≡ place None
     → ((q : ℕ) → place' (Some q) ≡ cond (nat_eq n q) (Some x) (place (Some q))) → Altered place place' (Some n) x
 altered_number place place' n x none some None p is = inl (no_some n, sym none ∙ is)
-altered_number place place' n x none some (Some q) p is = elim (b_or (nat_eq n q)) [
+altered_number place place' n x none some (Some q) p is = elim (true_or_false (nat_eq n q)) [
   | inl it ↦ (let f = rw it at (sym (some q) ∙ is) in let same : x ≡ p = cc in
       inr (ap Some (sym (eqb_same n q it)), sym same))
   | inr it ↦ (let f = rw it at (sym (some q) ∙ is) in inl ((λ e. differs n q it e), f))
@@ -326,7 +326,7 @@ pub from_number : (place place' : Option ℕ → Option Place) (n : ℕ) (p x : 
     → x.from ≡ p.from → place' None ≡ place None → ((q : ℕ)
     → place' (Some q) ≡ cond (nat_eq n q) (Some x) (place (Some q))) → SameFrom place place'
 from_number place place' n p x is from none some None = rw none refl
-from_number place place' n p x is from none some (Some q) = elim (b_or (nat_eq n q)) [
+from_number place place' n p x is from none some (Some q) = elim (true_or_false (nat_eq n q)) [
   | inl it ↦ (let same : n ≡ q = eqb_same n q it in let is' : place (Some q) ≡ Some p = rw same at is in
       rw (some q, it, is', from) refl)
   | inr it ↦ rw (some q, it) refl
@@ -335,7 +335,7 @@ from_number place place' n p x is from none some (Some q) = elim (b_or (nat_eq n
 pub items_append : {T : Type 0} (w : Option ℕ) (l r : List (Entry T))
     → items_for w (l ++ r) ≡ items_for w l ++ items_for w r
 items_append w [] r = refl
-items_append w (e ∷ l) r = elim (b_or (leads w e.route)) [
+items_append w (e ∷ l) r = elim (true_or_false (leads w e.route)) [
   | inl it ↦ rw it (ap (λ ds. e.item ∷ ds) (items_append w l r))
   | inr it ↦ rw it (items_append w l r)
 ]
@@ -378,7 +378,7 @@ trimmed_add place place' base (y ∷ es) e w p same is le t h = let x =
 positions_push : {T : Type 0} (n : ℕ) (es : List (Entry T)) (e : Entry T) → is_shared e.route ≡ false
     → shared_positions n (es ++ e ∷ []) ≡ shared_positions n es
 positions_push n [] e h = rw h refl
-positions_push n (x ∷ es) e h = elim (b_or (is_shared x.route)) [
+positions_push n (x ∷ es) e h = elim (true_or_false (is_shared x.route)) [
   | inl it ↦ rw it
       (ap (λ l. n ∷ l) (positions_push (suc n) es e h))
   | inr it ↦ rw it (positions_push (suc n) es e h)
@@ -389,7 +389,7 @@ positions_push_shared : {T : Type 0} (n : ℕ) (es : List (Entry T)) (e : Entry 
 positions_push_shared n [] e h = let s : n + 0 ≡ n = omega arith in rw (h, s) refl
 positions_push_shared n (x ∷ es) e h =
     let s : n + suc (length es) ≡ suc n + length es = omega arith in
-    elim (b_or (is_shared x.route)) [
+    elim (true_or_false (is_shared x.route)) [
       | inl it ↦ rw (it, s)
           (ap (λ l. n ∷ l) (positions_push_shared (suc n) es e h))
       | inr it ↦ rw (it, s)
@@ -400,8 +400,8 @@ positions_map_push : (ss : List Shared) (x : Shared) → map (λ s. s.at) (ss ++
 positions_map_push [] x = refl
 positions_map_push (s ∷ ss) x = ap (λ l. s.at ∷ l) (positions_map_push ss x)
 
-standing_push : (ss : List Shared) (x : Shared) (c n : ℕ) → x.standing ≡ c
-    → standing_at (ss ++ x ∷ []) 0 n ≡ standing_at ss c n
+standing_push : (ss : List Shared) (x : Shared) (c n : ℕ) → x.readers ≡ c
+    → readers_at (ss ++ x ∷ []) 0 n ≡ readers_at ss c n
 standing_push [] x c zero h = h
 standing_push [] x c (suc zero) h = refl
 standing_push [] x c (suc (suc n)) h = refl
@@ -409,13 +409,13 @@ standing_push (s ∷ ss) x c zero h = refl
 standing_push (s ∷ ss) x c (suc n) h = standing_push ss x c n h
 
 seen_add : {T : Type 0} (shared_base base : ℕ) (es : List (Entry T)) (e : Entry T) (p : Place)
-    → p.from ≤ base + length es → IsSeen shared_base base es p → IsSeen shared_base base (es ++ e ∷ []) p
+    → p.from ≤ base + length es → CountsPassed shared_base base es p → CountsPassed shared_base base (es ++ e ∷ []) p
 seen_add shared_base base es e p le h =
     let k : p.from - base ≤ length es = omega arith in
     rw (take-append-le (p.from - base) es (e ∷ []) k) h
 
-seen_from : {T : Type 0} (shared_base base : ℕ) (es : List (Entry T)) (p x : Place) → x.from ≡ p.from → x.seen ≡ p.seen
-    → IsSeen shared_base base es p → IsSeen shared_base base es x
+seen_from : {T : Type 0} (shared_base base : ℕ) (es : List (Entry T)) (p x : Place) → x.from ≡ p.from → x.shared_passed ≡ p.shared_passed
+    → CountsPassed shared_base base es p → CountsPassed shared_base base es x
 seen_from shared_base base es p x from seen h = rw (from, seen) h
 
 module _ {T : Type 0} (place place' : Option ℕ → Option Place) (numbers numbers' : List Place) (base shared_base c : ℕ)
@@ -426,12 +426,12 @@ module _ {T : Type 0} (place place' : Option ℕ → Option Place) (numbers numb
   relinked_long None m = refl
   relinked_long (Some o) m = length-set links (o.last - base) (Some m)
 
-  relinked_same : (w v : Option ℕ) (p : Place) (m : ℕ) → v ≢ w → IsOwn w base es (p.from - base) p.own
+  relinked_same : (w v : Option ℕ) (p : Place) (m : ℕ) → v ≢ w → IsChain w base es (p.from - base) p.chain
       → (i : ℕ) (x : Entry T) → slice_get es i ≡ Some x → leads_only v x.route ≡ true
-      → slice_get (links_with base p.own m links) i ≡ slice_get links i
-  relinked_same w v p m other owned i x at is = by p.own owned
+      → slice_get (links_with base p.chain m links) i ≡ slice_get links i
+  relinked_same w v p m other owned i x at is = by p.chain owned
     where
-      by : (o : Option Chain) → IsOwn w base es (p.from - base) o
+      by : (o : Option Chain) → IsChain w base es (p.from - base) o
           → slice_get (links_with base o m links) i ≡ slice_get links i
       by None g = refl
       by (Some o) g = elim (cases_eq i (o.last - base)) [
@@ -441,39 +441,39 @@ module _ {T : Type 0} (place place' : Option ℕ → Option Place) (numbers numb
 
   pub sound_add_own : (w : Option ℕ) (p x : Place) → Altered place place' w x → place w ≡ Some p
       → leads_only w e.route ≡ true → is_shared e.route ≡ false → x.from ≡ p.from
-      → x.own ≡ Some (with_last p.own (base + length es)) → x.seen ≡ p.seen
+      → x.chain ≡ Some (with_last p.chain (base + length es)) → x.shared_passed ≡ p.shared_passed
       → ((k : ℕ) → waiting_count k numbers' ≡ waiting_count k numbers)
       → AreSound place' numbers' base shared_base c (es ++ e ∷ [])
-      (links_with base p.own (base + length es) links ++ None ∷ []) shared
+      (links_with base p.chain (base + length es) links ++ None ∷ []) shared
   sound_add_own w p x altered is mine off from owned seen same =
       let long = long_push es e in
       record {
         fits = (omega (arith, long, room));
         shared_fits = (let f = h.shared_fits in omega (arith, long));
-        as_long = (let f = length-append (links_with base p.own (base + length es) links) (None ∷ []) in
-            let g = relinked_long p.own (base + length es) in let k = h.as_long in omega (arith, f, g, k, long));
+        as_long = (let f = length-append (links_with base p.chain (base + length es) links) (None ∷ []) in
+            let g = relinked_long p.chain (base + length es) in let k = h.as_long in omega (arith, f, g, k, long));
         places = λ v y at. elim (altered v y at) [
           | inl old ↦ place_other base es links e h.as_long v
-              (elim (b_or (leads_only v e.route)) [
+              (elim (true_or_false (leads_only v e.route)) [
                 | inl it ↦ absurd
                     (old.0 (own_one w v e.route mine it))
                 | inr it ↦ it
-              ]) (links_with base p.own (base + length es) links)
-              (relinked_long p.own (base + length es))
+              ]) (links_with base p.chain (base + length es) links)
+              (relinked_long p.chain (base + length es))
               (relinked_same w v p (base + length es) old.0 (h.places w p is).chain) y (h.places v y old.1)
           | inr new ↦ rw (new.0, new.1) (place_mine base es links e h.as_long w p x mine from owned (h.places w p is))
         ];
-        seen = λ q y at. elim (altered (Some q) y at) [
-          | inl old ↦ seen_add shared_base base es e y (h.places (Some q) y old.1).within (h.seen q y old.1)
+        passed = λ q y at. elim (altered (Some q) y at) [
+          | inl old ↦ seen_add shared_base base es e y (h.places (Some q) y old.1).within (h.passed q y old.1)
           | inr new ↦ (let is' : place (Some q) ≡ Some p = rw new.0 is in
               rw new.1 (seen_from shared_base base (es ++ e ∷ []) p x from seen
-              (seen_add shared_base base es e p (h.places (Some q) p is').within (h.seen q p is'))))
+              (seen_add shared_base base es e p (h.places (Some q) p is').within (h.passed q p is'))))
         ];
         positions_are = h.positions_are ∙ sym (positions_push base es e off);
         standing_are = λ k. h.standing_are k ∙ sym (same (shared_base + k));
       }
 
-  pub sound_add_shared : (s : Shared) → is_shared e.route ≡ true → s.at ≡ base + length es → s.standing ≡ c
+  pub sound_add_shared : (s : Shared) → is_shared e.route ≡ true → s.at ≡ base + length es → s.readers ≡ c
       → AreSound place numbers base shared_base 0 (es ++ e ∷ []) (links ++ None ∷ []) (shared ++ s ∷ [])
   sound_add_shared s it at standing_is =
       let long = long_push es e in
@@ -483,17 +483,17 @@ module _ {T : Type 0} (place place' : Option ℕ → Option Place) (numbers numb
         as_long = (let f = length-append links (None ∷ []) in let k = h.as_long in omega (arith, f, k, long));
         places = λ v y is. place_other base es links e h.as_long v (own_unshared v e.route it) links refl
             (λ i x a b. refl) y (h.places v y is);
-        seen = λ q y is. seen_add shared_base base es e y (h.places (Some q) y is).within (h.seen q y is);
+        passed = λ q y is. seen_add shared_base base es e y (h.places (Some q) y is).within (h.passed q y is);
         positions_are = positions_map_push shared s ∙ (rw (h.positions_are, at)
             (sym (positions_push_shared base es e it)));
         standing_are = λ k. standing_push shared s c k standing_is ∙ h.standing_are k;
       }
 
 pub last_bounds : {T : Type 0} (w : Option ℕ) (base : ℕ) (es : List (Entry T)) (k : ℕ) (o : Option Chain) (c : Chain)
-    → o ≡ Some c → IsOwn w base es k o → (base ≤ c.last) × (c.last < base + length es)
+    → o ≡ Some c → IsChain w base es k o → (base ≤ c.last) × (c.last < base + length es)
 last_bounds w base es k o c is h = go (rw is at h)
   where
-    go : IsOwn w base es k (Some c) → (base ≤ c.last) × (c.last < base + length es)
+    go : IsChain w base es k (Some c) → (base ≤ c.last) × (c.last < base + length es)
     go g = let low = found_from (leads_only w) (base + k) (drop k es) c.first g.0 in let b = g.1 in let d = g.2 in
         (omega arith, d)
 

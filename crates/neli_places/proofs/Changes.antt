@@ -10,8 +10,8 @@ use Rattle.neli_places.specs.declared.entry.Entry.{Entry}
 use Rattle.neli_places.specs.declared.place.Place.{Place}
 use Rattle.neli_places.specs.declared.place.Shared.{Shared}
 use Rattle.neli_places.specs.Routes.{is_shared, shared_positions, shared_count}
-use Rattle.neli_places.specs.Places.{IsPlace, IsSeen, AreSound, BeginsAwaited, standing_at, waiting_count}
-use Rattle.neli_places.proofs.Pops.{b_or}
+use Rattle.neli_places.specs.Places.{IsPlace, CountsPassed, AreSound, BeginsAwaited, readers_at, waiting_count}
+use Rattle.neli_places.proofs.Pops.{true_or_false}
 use Rattle.neli_places.proofs.Waits.{eqb_refl, eqb_same, lookup_counts}
 use Rattle.neli_places.proofs.Nexts.{slice_get_end}
 use Rattle.std.specs.HashMap.{HashMap, PutsEntry, get, values}
@@ -20,31 +20,31 @@ use Rattle.std.specs.Map.{remove_entry}
 use Rattle.std.proofs.lemmas.Map.Entries.{length-values_of, sum_by_puts_entry, sum_by_values_permutation, sum_by-remove_entry}
 use Rattle.std.proofs.lemmas.List.Sums.{count_by-le-length}
 
-pub standing_end : (ss : List Shared) (c : ℕ) → standing_at ss c (length ss) ≡ c
+pub standing_end : (ss : List Shared) (c : ℕ) → readers_at ss c (length ss) ≡ c
 standing_end [] c = refl
 standing_end (s ∷ ss) c = standing_end ss c
 
 pub standing_read : (ss : List Shared) (c i : ℕ) (x : Shared) → i < length ss → x ≡ get_or ss i x
-    → standing_at ss c i ≡ x.standing
+    → readers_at ss c i ≡ x.readers
 standing_read [] c i x l h = absurd (omega arith)
-standing_read (s ∷ ss) c zero x l h = ap (λ y. y.standing) (sym h)
+standing_read (s ∷ ss) c zero x l h = ap (λ y. y.readers) (sym h)
 standing_read (s ∷ ss) c (suc i) x l h = standing_read ss c i x (omega arith) h
 
 standing_set_here : (ss : List Shared) (c i : ℕ) (x : Shared) → i < length ss
-    → standing_at (set ss i x) c i ≡ x.standing
+    → readers_at (set ss i x) c i ≡ x.readers
 standing_set_here [] c i x h = absurd (omega arith)
 standing_set_here (s ∷ ss) c zero x h = refl
 standing_set_here (s ∷ ss) c (suc i) x h = standing_set_here ss c i x (omega arith)
 
 standing_set_other : (ss : List Shared) (c i n : ℕ) (x : Shared) → n ≢ i
-    → standing_at (set ss i x) c n ≡ standing_at ss c n
+    → readers_at (set ss i x) c n ≡ readers_at ss c n
 standing_set_other [] c i n x h = refl
 standing_set_other (s ∷ ss) c zero zero x h = absurd (h refl)
 standing_set_other (s ∷ ss) c zero (suc n) x h = refl
 standing_set_other (s ∷ ss) c (suc i) zero x h = refl
 standing_set_other (s ∷ ss) c (suc i) (suc n) x h = standing_set_other ss c i n x (λ e. h (ap suc e))
 
-standing_caught_other : (ss : List Shared) (c c' n : ℕ) → n ≢ length ss → standing_at ss c' n ≡ standing_at ss c n
+standing_caught_other : (ss : List Shared) (c c' n : ℕ) → n ≢ length ss → readers_at ss c' n ≡ readers_at ss c n
 standing_caught_other [] c c' zero h = absurd (h refl)
 standing_caught_other [] c c' (suc n) h = refl
 standing_caught_other (s ∷ ss) c c' zero h = refl
@@ -55,16 +55,16 @@ eqb_other m n h = grind (arith, nat_tests)
 
 -- one fewer at index i
 pub lower_at : (ss : List Shared) (c i : ℕ) (x y : Shared) (n : ℕ) → i < length ss → x ≡ get_or ss i x
-    → y.standing ≡ x.standing - 1 → 0 < standing_at ss c i
-    → standing_at (set ss i y) c n + (if n == i then 1 else 0) ≡ standing_at ss c n
+    → y.readers ≡ x.readers - 1 → 0 < readers_at ss c i
+    → readers_at (set ss i y) c n + (if n == i then 1 else 0) ≡ readers_at ss c n
 lower_at ss c i x y n l h e some = elim (cases_eq n i) [
   | inl same ↦ (let a = standing_set_here ss c i y l in let b = standing_read ss c i x l h in
       rw (same, eqb_refl i, a, e, b) (omega arith))
   | inr other ↦ rw (eqb_other n i other, standing_set_other ss c i n y other) (omega arith)
 ]
 
-pub lower_end : (ss : List Shared) (c i n : ℕ) → i ≤ length ss → length ss ≤ i → 0 < standing_at ss c i
-    → standing_at ss (c - 1) n + (if n == i then 1 else 0) ≡ standing_at ss c n
+pub lower_end : (ss : List Shared) (c i n : ℕ) → i ≤ length ss → length ss ≤ i → 0 < readers_at ss c i
+    → readers_at ss (c - 1) n + (if n == i then 1 else 0) ≡ readers_at ss c n
 lower_end ss c i n l g some =
     let at : i ≡ length ss = omega arith in
     let up : 0 < c = rw (at, standing_end) at some in
@@ -75,8 +75,8 @@ lower_end ss c i n l g some =
 
 -- one more at index i
 pub raise_at : (ss : List Shared) (c i : ℕ) (x y : Shared) (n : ℕ) → i < length ss → x ≡ get_or ss i x
-    → y.standing ≡ x.standing + 1
-    → standing_at (set ss i y) c n ≡ standing_at ss c n + (if n == i then 1 else 0)
+    → y.readers ≡ x.readers + 1
+    → readers_at (set ss i y) c n ≡ readers_at ss c n + (if n == i then 1 else 0)
 raise_at ss c i x y n l h e = elim (cases_eq n i) [
   | inl same ↦ (let a = standing_set_here ss c i y l in let b = standing_read ss c i x l h in
       rw (same, eqb_refl i, a, e, b) refl)
@@ -84,7 +84,7 @@ raise_at ss c i x y n l h e = elim (cases_eq n i) [
 ]
 
 pub raise_end : (ss : List Shared) (c i n : ℕ) → i ≤ length ss → length ss ≤ i
-    → standing_at ss (c + 1) n ≡ standing_at ss c n + (if n == i then 1 else 0)
+    → readers_at ss (c + 1) n ≡ readers_at ss c n + (if n == i then 1 else 0)
 raise_end ss c i n l g =
     let at : i ≡ length ss = omega arith in
     rw at (elim (cases_eq n (length ss)) [
@@ -105,7 +105,7 @@ Changed place place' w x = (v : Option ℕ) (p : Place) → place' v ≡ Some p 
 pub changed_number : (place place' : Option ℕ → Option Place) (n : ℕ) (x : Place) → place' None ≡ place None
     → ((q : ℕ) → place' (Some q) ≡ cond (nat_eq n q) (Some x) (place (Some q))) → Changed place place' (Some n) x
 changed_number place place' n x none some None p is = inl (sym none ∙ is)
-changed_number place place' n x none some (Some q) p is = elim (b_or (nat_eq n q)) [
+changed_number place place' n x none some (Some q) p is = elim (true_or_false (nat_eq n q)) [
   | inl it ↦ (let f = rw it at (sym (some q) ∙ is) in let same : x ≡ p = cc in
       inr (ap Some (sym (eqb_same n q it)), sym same))
   | inr it ↦ (let f = rw it at (sym (some q) ∙ is) in inl f)
@@ -114,9 +114,9 @@ changed_number place place' n x none some (Some q) p is = elim (b_or (nat_eq n q
 pub sound_put : {T : Type 0} (place place' : Option ℕ → Option Place) (numbers numbers' : List Place)
     (base shared_base c c' : ℕ) (es : List (Entry T)) (links : List (Option ℕ)) (shared shared' : List Shared)
     (w : Option ℕ) (x : Place)
-    → Changed place place' w x → IsPlace w base es links x → ((q : ℕ) → w ≡ Some q → IsSeen shared_base base es x)
+    → Changed place place' w x → IsPlace w base es links x → ((q : ℕ) → w ≡ Some q → CountsPassed shared_base base es x)
     → map (λ s. s.at) shared' ≡ map (λ s. s.at) shared
-    → ((n : ℕ) → standing_at shared' c' n ≡ waiting_count (shared_base + n) numbers')
+    → ((n : ℕ) → readers_at shared' c' n ≡ waiting_count (shared_base + n) numbers')
     → AreSound place numbers base shared_base c es links shared
     → AreSound place' numbers' base shared_base c' es links shared'
 sound_put place place' numbers numbers' base shared_base c c' es links shared shared' w x changed good seen same stand
@@ -126,8 +126,8 @@ sound_put place place' numbers numbers' base shared_base c c' es links shared sh
           ∙ (ap length same ∙ length-map shared (λ s. s.at)) in let f = h.shared_fits in omega arith);
       as_long = h.as_long;
       places = λ v p is. elim (changed v p is) [ inl old ↦ h.places v p old | inr new ↦ rw (new.0, new.1) good ];
-      seen = λ q p is. elim (changed (Some q) p is) [
-        | inl old ↦ h.seen q p old
+      passed = λ q p is. elim (changed (Some q) p is) [
+        | inl old ↦ h.passed q p old
         | inr new ↦
             (rw new.1 (seen q (sym new.0)))
       ];
@@ -140,7 +140,7 @@ pub sound_less : {T : Type 0} (place place' : Option ℕ
     (links : List (Option ℕ)) (shared shared' : List Shared)
     → ((v : Option ℕ) (p : Place) → place' v ≡ Some p → place v ≡ Some p)
     → map (λ s. s.at) shared' ≡ map (λ s. s.at) shared
-    → ((n : ℕ) → standing_at shared' c' n ≡ waiting_count (shared_base + n) numbers')
+    → ((n : ℕ) → readers_at shared' c' n ≡ waiting_count (shared_base + n) numbers')
     → AreSound place numbers base shared_base c es links shared
     → AreSound place' numbers' base shared_base c' es links shared'
 sound_less place place' numbers numbers' base shared_base c c' es links shared shared' changed same stand h = record {
@@ -149,7 +149,7 @@ sound_less place place' numbers numbers' base shared_base c c' es links shared s
       ∙ (ap length same ∙ length-map shared (λ s. s.at)) in let f = h.shared_fits in omega arith);
   as_long = h.as_long;
   places = λ v p is. h.places v p (changed v p is);
-  seen = λ q p is. h.seen q p (changed (Some q) p is);
+  passed = λ q p is. h.passed q p (changed (Some q) p is);
   positions_are = same ∙ h.positions_are;
   standing_are = stand;
 }
@@ -158,7 +158,7 @@ pub removed : (place place' : Option ℕ → Option Place) (n : ℕ) → place' 
     → ((q : ℕ) → place' (Some q) ≡ cond (nat_eq n q) None (place (Some q))) → (v : Option ℕ) (p : Place)
     → place' v ≡ Some p → place v ≡ Some p
 removed place place' n none some None p is = sym none ∙ is
-removed place place' n none some (Some q) p is = elim (b_or (nat_eq n q)) [
+removed place place' n none some (Some q) p is = elim (true_or_false (nat_eq n q)) [
   | inl it ↦ (let f = rw it at (sym (some q) ∙ is) in cc)
   | inr it ↦ (let f = rw it at (sym (some q) ∙ is) in f)
 ]
@@ -178,13 +178,13 @@ take_end (e ∷ es) (suc n) h = ap (λ l. e ∷ l) (take_end es n (omega arith))
 
 pub positions_count : {T : Type 0} (n : ℕ) (es : List (Entry T)) → length (shared_positions n es) ≡ shared_count es
 positions_count n [] = refl
-positions_count n (e ∷ es) = elim (b_or (is_shared e.route)) [
+positions_count n (e ∷ es) = elim (true_or_false (is_shared e.route)) [
   | inl it ↦ rw it (ap suc (positions_count (suc n) es))
   | inr it ↦ rw it (positions_count (suc n) es)
 ]
 
 pub fresh_place : {T : Type 0} (w : Option ℕ) (base : ℕ) (es : List (Entry T)) (links : List (Option ℕ)) (x : Place)
-    → x.from ≡ base + length es → x.own ≡ None → IsPlace w base es links x
+    → x.from ≡ base + length es → x.chain ≡ None → IsPlace w base es links x
 fresh_place w base es links x from none =
     let k : length es ≤ x.from - base = omega arith in
     record {
@@ -194,8 +194,8 @@ fresh_place w base es links x from none =
     }
 
 pub fresh_seen : {T : Type 0} (shared_base base : ℕ) (es : List (Entry T)) (shared : List Shared) (x : Place)
-    → x.from ≡ base + length es → x.seen ≡ shared_base + length shared
-    → map (λ s. s.at) shared ≡ shared_positions base es → IsSeen shared_base base es x
+    → x.from ≡ base + length es → x.shared_passed ≡ shared_base + length shared
+    → map (λ s. s.at) shared ≡ shared_positions base es → CountsPassed shared_base base es x
 fresh_seen shared_base base es shared x from seen sp =
     let k : length es ≤ x.from - base = omega arith in
     let l : length shared ≡ shared_count es = sym (length-map shared (λ s. s.at))
@@ -203,17 +203,17 @@ fresh_seen shared_base base es shared x from seen sp =
     rw (take_end es (x.from - base) k) (seen ∙ ap (λ n. shared_base + n) l)
 
 abbrev one_at : ℕ → Place → ℕ
-one_at k p = cond (p.seen == k) 1 0
+one_at k p = cond (p.shared_passed == k) 1 0
 
 pub waiting_put : {S : Type 0} (m n : HashMap ℕ Place S) (q k : ℕ) (x : Place) (old : Option Place)
     → old ≡ get nat_eq m q → PutsEntry nat_eq m n q x old → old ≡ None
-    → waiting_count k (values n) ≡ waiting_count k (values m) + (if x.seen == k then 1 else 0)
+    → waiting_count k (values n) ≡ waiting_count k (values m) + (if x.shared_passed == k then 1 else 0)
 waiting_put m n q k x old is puts none = let f = sum_by_puts_entry (one_at k) nat_eq m n q x old is puts in
     let g = rw none at f in omega (arith, g)
 
 pub waiting_removed : {S : Type 0} (m n : HashMap ℕ Place S) (q k : ℕ) (y : Place)
     → IsPermutation (remove_entry (nat_eq q) m.entries) n.entries → get nat_eq m q ≡ Some y
-    → waiting_count k (values n) + (if y.seen == k then 1 else 0) ≡ waiting_count k (values m)
+    → waiting_count k (values n) + (if y.shared_passed == k then 1 else 0) ≡ waiting_count k (values m)
 waiting_removed m n q k y perm is =
     let f = sum_by_values_permutation (one_at k) (remove_entry (nat_eq q) m.entries) n.entries perm in
     let g = sum_by-remove_entry (one_at k) (nat_eq q) m.entries in
@@ -221,20 +221,20 @@ waiting_removed m n q k y perm is =
     omega (arith, f, i)
 
 pub few_waiting : (k : ℕ) (ps : List Place) → waiting_count k ps ≤ length ps
-few_waiting k ps = count_by-le-length (λ p. p.seen == k) ps
+few_waiting k ps = count_by-le-length (λ p. p.shared_passed == k) ps
 
 pub count_split : {T : Type 0} (k : ℕ) (es : List (Entry T)) → shared_count (take k es) ≤ shared_count es
 count_split zero es = omega arith
 count_split (suc k) [] = omega arith
-count_split (suc k) (e ∷ es) = elim (b_or (is_shared e.route)) [
+count_split (suc k) (e ∷ es) = elim (true_or_false (is_shared e.route)) [
   | inl it ↦ rw it (let f = count_split k es in omega arith)
   | inr it ↦ rw it (count_split k es)
 ]
 
 -- what is known of a place's serial number
 pub seen_bounds : {T : Type 0} (shared_base base : ℕ) (es : List (Entry T)) (shared : List Shared) (p : Place)
-    → map (λ s. s.at) shared ≡ shared_positions base es → IsSeen shared_base base es p
-    → (shared_base ≤ p.seen) × (p.seen - shared_base ≤ length shared)
+    → map (λ s. s.at) shared ≡ shared_positions base es → CountsPassed shared_base base es p
+    → (shared_base ≤ p.shared_passed) × (p.shared_passed - shared_base ≤ length shared)
 seen_bounds shared_base base es shared p sp h =
     let l : length shared ≡ shared_count es = sym (length-map shared (λ s. s.at))
     ∙ (ap length sp ∙ positions_count base es) in
@@ -246,15 +246,15 @@ module _ {S T : Type 0} (m : HashMap ℕ Place S) (place : Option ℕ → Option
     (base shared_base c : ℕ) (es : List (Entry T)) (links : List (Option ℕ)) (shared : List Shared)
     (h : AreSound place (values m) base shared_base c es links shared) where
   pub place_bounds : (q : ℕ) (p : Place) → get nat_eq m q ≡ Some p
-      → (shared_base ≤ p.seen) × (p.seen - shared_base ≤ length shared)
-  place_bounds q p is = seen_bounds shared_base base es shared p h.positions_are (h.seen q p (place_is q ∙ is))
+      → (shared_base ≤ p.shared_passed) × (p.shared_passed - shared_base ≤ length shared)
+  place_bounds q p is = seen_bounds shared_base base es shared p h.positions_are (h.passed q p (place_is q ∙ is))
 
-  pub place_standing : (q : ℕ) (p : Place) → get nat_eq m q ≡ Some p → 0 < standing_at shared c (p.seen - shared_base)
+  pub place_standing : (q : ℕ) (p : Place) → get nat_eq m q ≡ Some p → 0 < readers_at shared c (p.shared_passed - shared_base)
   place_standing q p is =
       let b = place_bounds q p is in
-      let n : shared_base + (p.seen - shared_base) ≡ p.seen = omega (arith, b.0) in
-      let f = lookup_counts (λ x. x.seen == p.seen) q m.entries p is (eqb_refl p.seen) in
-      let g = h.standing_are (p.seen - shared_base) in
+      let n : shared_base + (p.shared_passed - shared_base) ≡ p.shared_passed = omega (arith, b.0) in
+      let f = lookup_counts (λ x. x.shared_passed == p.shared_passed) q m.entries p is (eqb_refl p.shared_passed) in
+      let g = h.standing_are (p.shared_passed - shared_base) in
       rw (g, n) f
 
   -- its place is gone
@@ -262,7 +262,7 @@ module _ {S T : Type 0} (m : HashMap ℕ Place S) (place : Option ℕ → Option
       → Option Place) (q c' : ℕ) (p : Place) (shared' : List Shared) → get nat_eq m q ≡ Some p
       → IsPermutation (remove_entry (nat_eq q) m.entries) n.entries
       → place' None ≡ place None → ((r : ℕ) → place' (Some r) ≡ cond (nat_eq q r) None (place (Some r)))
-      → ((k : ℕ) → standing_at shared' c' k + (if k == (p.seen - shared_base) then 1 else 0) ≡ standing_at shared c k)
+      → ((k : ℕ) → readers_at shared' c' k + (if k == (p.shared_passed - shared_base) then 1 else 0) ≡ readers_at shared c k)
       → map (λ s. s.at) shared' ≡ map (λ s. s.at) shared
       → AreSound place' (values n) base shared_base c' es links shared'
   sound_closed n place' q c' p shared' is perm none some less same =
@@ -273,13 +273,13 @@ module _ {S T : Type 0} (m : HashMap ℕ Place S) (place : Option ℕ → Option
       let a = waiting_removed m n q (shared_base + k) p perm is in
       let d = less k in
       let g = h.standing_are k in
-      elim (cases_eq k (p.seen - shared_base)) [
-        | inl at ↦ (let s : p.seen ≡ shared_base + k = omega (arith, b.0) in
+      elim (cases_eq k (p.shared_passed - shared_base)) [
+        | inl at ↦ (let s : p.shared_passed ≡ shared_base + k = omega (arith, b.0) in
             let a1 = rw (s, eqb_refl (shared_base + k)) at a in let d1 = rw (← at, eqb_refl k) at d in
             omega (arith, a1, d1, g))
-        | inr away ↦ (let s : (p.seen == (shared_base + k))
-            ≡ false = eqb_other p.seen (shared_base + k) (λ e. away (omega (arith, e))) in let a1 = rw s at a in
-            let d1 = rw (eqb_other k (p.seen - shared_base) away) at d in omega (arith, a1, d1, g))
+        | inr away ↦ (let s : (p.shared_passed == (shared_base + k))
+            ≡ false = eqb_other p.shared_passed (shared_base + k) (λ e. away (omega (arith, e))) in let a1 = rw s at a in
+            let d1 = rw (eqb_other k (p.shared_passed - shared_base) away) at d in omega (arith, a1, d1, g))
       ]) h
 
 pub unchanged : (place place' : Option ℕ → Option Place) → place' None ≡ place None
@@ -297,7 +297,7 @@ pub put_keeps : (place place' : Option ℕ → Option Place) (n : ℕ) (x : Plac
     → place' None ≡ place None → ((q : ℕ) → place' (Some q) ≡ cond (nat_eq n q) (Some x) (place (Some q)))
     → (v : Option ℕ) (p : Place) → place v ≡ Some p → place' v ≡ Some p
 put_keeps place place' n x closed none some None p is = none ∙ is
-put_keeps place place' n x closed none some (Some q) p is = elim (b_or (nat_eq n q)) [
+put_keeps place place' n x closed none some (Some q) p is = elim (true_or_false (nat_eq n q)) [
   | inl it ↦ (let same : n ≡ q = eqb_same n q it in let f : place (Some q) ≡ None = rw (← same) closed in cc)
   | inr it ↦ (let f = rw it at (some q) in f ∙ is)
 ]
@@ -326,7 +326,7 @@ module _ {S T : Type 0} (m n : HashMap ℕ Place S) (place place' : Option ℕ
   pub sound_opened : (q : ℕ) (x : Place) (old : Option Place) → place (Some q) ≡ None → get nat_eq m q ≡ None
       → old ≡ get nat_eq m q → PutsEntry nat_eq m n q x old
       → place' None ≡ place None → ((r : ℕ) → place' (Some r) ≡ cond (nat_eq q r) (Some x) (place (Some r)))
-      → x.from ≡ base + length es → x.own ≡ None → x.seen ≡ shared_base + length shared
+      → x.from ≡ base + length es → x.chain ≡ None → x.shared_passed ≡ shared_base + length shared
       → AreSound place' (values n) base shared_base (c + 1) es links shared
   sound_opened q x old closed unheld is puts none some from own_none seen =
       sound_put place place' (values m) (values n) base shared_base c (c + 1) es links shared shared (Some q) x
@@ -337,10 +337,10 @@ module _ {S T : Type 0} (m n : HashMap ℕ Place S) (place place' : Option ℕ
       let d = raise_end shared c (length shared) k (omega arith) (omega arith) in
       let g = h.standing_are k in
       elim (cases_eq k (length shared)) [
-        | inl at ↦ (let s : x.seen ≡ shared_base + k = seen ∙ ap (λ i. shared_base + i) (sym at) in
+        | inl at ↦ (let s : x.shared_passed ≡ shared_base + k = seen ∙ ap (λ i. shared_base + i) (sym at) in
             let a1 = rw (s, eqb_refl (shared_base + k)) at a in let d1 = rw (← at, eqb_refl k) at d in
             omega (arith, a1, d1, g))
-        | inr away ↦ (let s : (x.seen == (shared_base + k))
-            ≡ false = eqb_other x.seen (shared_base + k) (λ e. away (omega (arith, e, seen))) in let a1 = rw s at a in
+        | inr away ↦ (let s : (x.shared_passed == (shared_base + k))
+            ≡ false = eqb_other x.shared_passed (shared_base + k) (λ e. away (omega (arith, e, seen))) in let a1 = rw s at a in
             let d1 = rw (eqb_other k (length shared) away) at d in omega (arith, a1, d1, g))
       ]) h

@@ -10,8 +10,8 @@ use Rattle.neli_places.specs.declared.place.Chain.{Chain}
 use Rattle.neli_places.specs.declared.place.Place.{Place}
 use Rattle.neli_places.specs.declared.place.Shared.{Shared}
 use Rattle.neli_places.specs.Routes.{leads, leads_only, is_shared, items_for, first_position, shared_positions, shared_count, lesser_of}
-use Rattle.neli_places.specs.Places.{IsOwn, IsSeen, rest, start}
-use Rattle.neli_places.proofs.Pops.{b_or, found_from}
+use Rattle.neli_places.specs.Places.{IsChain, CountsPassed, rest, start}
+use Rattle.neli_places.proofs.Pops.{true_or_false, found_from}
 use Rattle.std.specs.Prelude.{nat_le}
 use Rattle.neli_places.specs.Places.{head_of}
 
@@ -64,11 +64,11 @@ pub found_earlier : {T : Type 0} (q n : ℕ) (es : List (Entry T))
     → first_position (leads (Some q)) n es ≡ lesser_of (first_position (leads_only (Some q)) n es)
     (first_position is_shared n es)
 found_earlier q n [] = refl
-found_earlier q n (e ∷ es) = elim (b_or (is_shared e.route)) [
+found_earlier q n (e ∷ es) = elim (true_or_false (is_shared e.route)) [
   | inl it ↦ rw (to_shared q e.route it, own_unshared (Some q) e.route it, it)
       (sym (earlier_second n (first_position (leads_only (Some q)) (suc n) es)
       (found_from (leads_only (Some q)) (suc n) es)))
-  | inr it ↦ elim (b_or (leads_only (Some q) e.route)) [
+  | inr it ↦ elim (true_or_false (leads_only (Some q) e.route)) [
     | inl mine ↦ rw (to_own (Some q) e.route mine, mine, it)
         (sym (earlier_first n (first_position is_shared (suc n) es)
         (λ m f. let g = found_from is_shared (suc n) es m f in omega arith)))
@@ -79,7 +79,7 @@ found_earlier q n (e ∷ es) = elim (b_or (is_shared e.route)) [
 positions_head : {T : Type 0} (n : ℕ) (es : List (Entry T))
     → slice_get (shared_positions n es) 0 ≡ first_position is_shared n es
 positions_head n [] = refl
-positions_head n (e ∷ es) = elim (b_or (is_shared e.route)) [
+positions_head n (e ∷ es) = elim (true_or_false (is_shared e.route)) [
   | inl it ↦ rw it refl
   | inr it ↦ rw it
       (positions_head (suc n) es)
@@ -91,23 +91,23 @@ spot_found n zero es = let s : n + 0 ≡ n = omega arith in rw s (positions_head
 spot_found n (suc k) [] = refl
 spot_found n (suc k) (e ∷ es) =
     let s : n + suc k ≡ suc n + k = omega arith in
-    elim (b_or (is_shared e.route)) [
+    elim (true_or_false (is_shared e.route)) [
       | inl it ↦ rw (it, s) (spot_found (suc n) k es)
       | inr it ↦ rw (it, s)
           (spot_found (suc n) k es)
     ]
 
 pub own_start : {T : Type 0} (w : Option ℕ) (base : ℕ) (es : List (Entry T)) (k : ℕ) (o : Option Chain)
-    → IsOwn w base es k o → first_position (leads_only w) (base + k) (drop k es) ≡ start o
+    → IsChain w base es k o → first_position (leads_only w) (base + k) (drop k es) ≡ start o
 own_start w base es k None h = h
 own_start w base es k (Some c) h = h.0
 
 pub spot_of : {T : Type 0} (shared_base base : ℕ) (es : List (Entry T)) (shared : List Shared) (p : Place)
-    → map (λ s. s.at) shared ≡ shared_positions base es → IsSeen shared_base base es p
-    → slice_get (map (λ s. s.at) shared) (p.seen - shared_base)
+    → map (λ s. s.at) shared ≡ shared_positions base es → CountsPassed shared_base base es p
+    → slice_get (map (λ s. s.at) shared) (p.shared_passed - shared_base)
     ≡ first_position is_shared (base + (p.from - base)) (drop (p.from - base) es)
 spot_of shared_base base es shared p sp seen =
-    let s : p.seen - shared_base ≡ shared_count (take (p.from - base) es) = omega (arith, seen) in
+    let s : p.shared_passed - shared_base ≡ shared_count (take (p.from - base) es) = omega (arith, seen) in
     rw (sp, s) (spot_found base (p.from - base) es)
 
 -- the first that passes stands at index i
@@ -119,7 +119,7 @@ pub record IsFirst {T : Type 0} (p : Route → Bool) (l : List (Entry T)) (i : �
 pub found_some : {T : Type 0} (p : Route → Bool) (n : ℕ) (l : List (Entry T)) (m : ℕ) → first_position p n l ≡ Some m
     → (i : ℕ) × (e : Entry T) × (m ≡ n + i) × IsFirst p l i e
 found_some p n [] m h = cc
-found_some p n (e ∷ es) m h = elim (b_or (p e.route)) [
+found_some p n (e ∷ es) m h = elim (true_or_false (p e.route)) [
   | inl it ↦ (let f = rw it at h in let same : n ≡ m = cc in
       (0, e, omega arith, record { at = refl; passes = it; before = λ j x lt at. absurd (omega arith) }))
   | inr it ↦ (let f = rw it at h in let r = found_some p (suc n) es m f in let s = r.2 in (
@@ -143,11 +143,11 @@ found_some p n (e ∷ es) m h = elim (b_or (p e.route)) [
 pub found_none : {T : Type 0} (p : Route → Bool) (n : ℕ) (l : List (Entry T)) → first_position p n l ≡ None
     → (j : ℕ) (x : Entry T) → slice_get l j ≡ Some x → p x.route ≡ false
 found_none p n [] h j x at = cc
-found_none p n (e ∷ es) h zero x at = elim (b_or (p e.route)) [
+found_none p n (e ∷ es) h zero x at = elim (true_or_false (p e.route)) [
   | inl it ↦ (let f = rw it at h in cc)
   | inr it ↦ (let same : e ≡ x = cc in ap (λ y. p y.route) (sym same) ∙ it)
 ]
-found_none p n (e ∷ es) h (suc j) x at = elim (b_or (p e.route)) [
+found_none p n (e ∷ es) h (suc j) x at = elim (true_or_false (p e.route)) [
   | inl it ↦ (let f = rw it at h in cc)
   | inr it ↦ found_none p (suc n) es (rw it at h) j x at
 ]
@@ -196,7 +196,7 @@ items_first w (suc i) (x ∷ es) e h =
 pub items_none : {T : Type 0} (w : Option ℕ) (n : ℕ) (l : List (Entry T)) → first_position (leads w) n l ≡ None
     → items_for w l ≡ []
 items_none w n [] h = refl
-items_none w n (e ∷ es) h = elim (b_or (leads w e.route)) [
+items_none w n (e ∷ es) h = elim (true_or_false (leads w e.route)) [
   | inl it ↦ (let f = rw it at h in cc)
   | inr it ↦ rw it (items_none w (suc n) es (rw it at h))
 ]

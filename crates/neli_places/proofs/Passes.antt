@@ -12,8 +12,8 @@ use Rattle.neli_places.specs.declared.place.Chain.{Chain}
 use Rattle.neli_places.specs.declared.place.Place.{Place}
 use Rattle.neli_places.specs.declared.place.Shared.{Shared}
 use Rattle.neli_places.specs.Routes.{leads, leads_only, is_shared, items_for, first_position, shared_count}
-use Rattle.neli_places.specs.Places.{IsOwn, IsLinked, IsPlace, IsSeen, AreSound, rest, without_first, standing_at, waiting_count}
-use Rattle.neli_places.proofs.Pops.{b_or, not_own}
+use Rattle.neli_places.specs.Places.{IsChain, IsLinked, IsPlace, CountsPassed, AreSound, rest, without_first, readers_at, waiting_count}
+use Rattle.neli_places.proofs.Pops.{true_or_false, not_own}
 use Rattle.neli_places.proofs.Waits.{eqb_refl}
 use Rattle.std.specs.Map.{lookup, set_value, values_of}
 use Rattle.std.specs.HashMap.{HashMap, get, values}
@@ -33,7 +33,7 @@ count_add (suc a) b [] = let s : suc a + b ≡ suc (a + b) = omega arith in rw s
 count_add (suc a) b (e ∷ es) =
     let s : suc a + b ≡ suc (a + b) = omega arith in
     let r = count_add a b es in
-    elim (b_or (is_shared e.route)) [ inl it ↦ rw (s, it) (omega (arith, r)) | inr it ↦ rw (s, it) r ]
+    elim (true_or_false (is_shared e.route)) [ inl it ↦ rw (s, it) (omega (arith, r)) | inr it ↦ rw (s, it) r ]
 
 count_none : {T : Type 0} (b : ℕ) (es : List (Entry T))
     → ((j : ℕ) (x : Entry T) → j < b → slice_get es j ≡ Some x → is_shared x.route ≡ false)
@@ -97,8 +97,8 @@ module _ {T : Type 0} (w : Option ℕ) (base : ℕ) (es : List (Entry T)) (links
     before = λ j x lt at. not_own w x.route (n.here.before j x lt at);
   }
 
-  pub chain_shared : (o : Option Chain) → leads_only w e.route ≡ false → IsOwn w base es (p.from - base) o
-      → IsOwn w base es (m + 1 - base) o
+  pub chain_shared : (o : Option Chain) → leads_only w e.route ≡ false → IsChain w base es (p.from - base) o
+      → IsChain w base es (m + 1 - base) o
   chain_shared None off h = found_own_same off ∙ h
   chain_shared (Some c) off h = (found_own_same off ∙ h.0, h.1, h.2, h.3, h.4)
 
@@ -135,9 +135,9 @@ module _ {T : Type 0} (w : Option ℕ) (base : ℕ) (es : List (Entry T)) (links
       let b = rw (s, t) at a in
       cc
 
-  pub chain_own : (o : Option Chain) (l : Option ℕ) → leads_only w e.route ≡ true → IsOwn w base es (p.from - base) o
+  pub chain_own : (o : Option Chain) (l : Option ℕ) → leads_only w e.route ≡ true → IsChain w base es (p.from - base) o
       → l ≡ first_position (leads_only w) (base + (m + 1 - base)) (drop (m + 1 - base) es)
-      → IsOwn w base es (m + 1 - base) (without_first o l)
+      → IsChain w base es (m + 1 - base) (without_first o l)
   chain_own None l mine h is = (let f = found_is (leads_only w) i (base + (p.from - base)) (drop (p.from - base) es) e
       (own_here mine) in let g : ◌≡◌ {A = Option ℕ} None (Some (base + (p.from - base) + i)) = sym h ∙ f in cc)
   chain_own (Some c) None mine h is = sym is
@@ -148,18 +148,18 @@ module _ {T : Type 0} (w : Option ℕ) (base : ℕ) (es : List (Entry T)) (links
       (sym is, bound c.last f ge (sym is) h.4, h.2, h.3, h.4)
 
   pub place_own : (x : Place) (l : Option ℕ) → leads_only w e.route ≡ true → slice_get links (m - base) ≡ Some l
-      → x.from ≡ m + 1 → x.own ≡ without_first p.own l → IsPlace w base es links p → IsPlace w base es links x
+      → x.from ≡ m + 1 → x.chain ≡ without_first p.chain l → IsPlace w base es links p → IsPlace w base es links x
   place_own x l mine at from owned h = record {
     within = (let a = n.within in let b = n.from_base in omega arith);
-    chain = rw (from, owned) (chain_own p.own l mine h.chain (link_here mine h.linked l at));
+    chain = rw (from, owned) (chain_own p.chain l mine h.chain (link_here mine h.linked l at));
     linked = rw from (linked_on h.linked);
   }
 
-  pub place_shared : (x : Place) → is_shared e.route ≡ true → x.from ≡ m + 1 → x.own ≡ p.own → IsPlace w base es links p
+  pub place_shared : (x : Place) → is_shared e.route ≡ true → x.from ≡ m + 1 → x.chain ≡ p.chain → IsPlace w base es links p
       → IsPlace w base es links x
   place_shared x it from owned h = record {
     within = (let a = n.within in let b = n.from_base in omega arith);
-    chain = rw (from, owned) (chain_shared p.own (own_unshared w e.route it) h.chain);
+    chain = rw (from, owned) (chain_shared p.chain (own_unshared w e.route it) h.chain);
     linked = rw from (linked_on h.linked);
   }
 
@@ -168,7 +168,7 @@ module _ {T : Type 0} (w : Option ℕ) (base : ℕ) (es : List (Entry T)) (links
   before_unshared q is j x lt at = not_shared q x.route (rw is at (n.here.before j x lt at))
 
   pub seen_own : (q shared_base : ℕ) (x : Place) → w ≡ Some q → is_shared e.route ≡ false → x.from ≡ m + 1
-      → x.seen ≡ p.seen → IsSeen shared_base base es p → IsSeen shared_base base es x
+      → x.shared_passed ≡ p.shared_passed → CountsPassed shared_base base es p → CountsPassed shared_base base es x
   seen_own q shared_base x is off from same h =
       let a = count_add (p.from - base) (suc i) es in
       let b = count_none (suc i) (drop (p.from - base) es)
@@ -183,7 +183,7 @@ module _ {T : Type 0} (w : Option ℕ) (base : ℕ) (es : List (Entry T)) (links
       rw behind (omega (arith, a, b))
 
   pub seen_shared : (q shared_base : ℕ) (x : Place) → w ≡ Some q → is_shared e.route ≡ true → x.from ≡ m + 1
-      → x.seen ≡ p.seen + 1 → IsSeen shared_base base es p → IsSeen shared_base base es x
+      → x.shared_passed ≡ p.shared_passed + 1 → CountsPassed shared_base base es p → CountsPassed shared_base base es x
   seen_shared q shared_base x is it from same h = let a = counted_shared q is it in rw from (omega (arith, a, h, same))
 
 -- how what waits changes
@@ -205,10 +205,10 @@ pub nothing_pending : {T : Type 0} (w : Option ℕ) (base : ℕ) (es : List (Ent
 nothing_pending w base es p o d ds is none old = let a = rw (is, none) at old in cc
 
 pub unshared_own : (w : Option ℕ) (r : Route) → leads_only w r ≡ true → is_shared r ≡ false
-unshared_own w r h = elim (b_or (is_shared r)) [ inl it ↦ (let f = own_unshared w r it in cc) | inr it ↦ it ]
+unshared_own w r h = elim (true_or_false (is_shared r)) [ inl it ↦ (let f = own_unshared w r it in cc) | inr it ↦ it ]
 
 pub own_by_to : (w : Option ℕ) (r : Route) → leads w r ≡ true → is_shared r ≡ false → leads_only w r ≡ true
-own_by_to w r t s = elim (b_or (leads_only w r)) [ inl it ↦ it | inr it ↦ (let f = to_neither w r it s in cc) ]
+own_by_to w r t s = elim (true_or_false (leads_only w r)) [ inl it ↦ it | inr it ↦ (let f = to_neither w r it s in cc) ]
 
 pub own_by_multicast : (r : Route) → leads None r ≡ true → leads_only None r ≡ true
 own_by_multicast Multicast t = refl
@@ -229,18 +229,18 @@ shift base n i s is = elim (cases_eq n i) [
 ]
 
 abbrev one_at : ℕ → Place → ℕ
-one_at k p = cond (p.seen == k) 1 0
+one_at k p = cond (p.shared_passed == k) 1 0
 
 pub waiting_set : (entries : List (ℕ × Place)) (q k : ℕ) (x y : Place) → lookup (nat_eq q) entries ≡ Some y
-    → waiting_count k (values_of (set_value (nat_eq q) entries x)) + (if y.seen == k then 1 else 0)
-    ≡ waiting_count k (values_of entries) + (if x.seen == k then 1 else 0)
+    → waiting_count k (values_of (set_value (nat_eq q) entries x)) + (if y.shared_passed == k then 1 else 0)
+    ≡ waiting_count k (values_of entries) + (if x.shared_passed == k then 1 else 0)
 waiting_set entries q k x y is = sum_by-set_value (one_at k) (nat_eq q) entries y x is
 
 cancel : (a b t u : ℕ) → a + t ≡ b + u → u ≡ t → a ≡ b
 cancel a b t u h e = omega arith
 
 pub waiting_same : (entries : List (ℕ × Place)) (q k : ℕ) (x y : Place) → lookup (nat_eq q) entries ≡ Some y
-    → x.seen ≡ y.seen → waiting_count k (values_of (set_value (nat_eq q) entries x))
+    → x.shared_passed ≡ y.shared_passed → waiting_count k (values_of (set_value (nat_eq q) entries x))
     ≡ waiting_count k (values_of entries)
 waiting_same entries q k x y is same = cancel _ _ _ _ (waiting_set entries q k x y is)
     (ap (λ (n : ℕ). if n == k then 1 else 0) same)
@@ -251,25 +251,25 @@ module _ {S T : Type 0} (a b : HashMap ℕ Place S) (place place' : Option ℕ
     (is : get nat_eq a q ≡ Some y) (set_to : b.entries ≡ set_value (nat_eq q) a.entries x)
     (none : place' None ≡ place None) (some : (r : ℕ) → place' (Some r) ≡ (if nat_eq q r then Some x
     else place (Some r)))
-    (good : IsPlace (Some q) base es links x) (counted : IsSeen shared_base base es x) where
-  pub sound_passed : x.seen ≡ y.seen → AreSound place' (values b) base shared_base c es links shared
+    (good : IsPlace (Some q) base es links x) (counted : CountsPassed shared_base base es x) where
+  pub sound_passed : x.shared_passed ≡ y.shared_passed → AreSound place' (values b) base shared_base c es links shared
   sound_passed same =
       sound_put place place' (values a) (values b) base shared_base c c es links shared shared (Some q) x
       (changed_number place place' q x none some) good (λ r _. counted) refl
       (λ k. let s = ap values_of set_to in rw s (h.standing_are k
       ∙ sym (waiting_same a.entries q (shared_base + k) x y is same))) h
 
-  pub sound_moved : (shared1 shared2 : List Shared) (c1 c2 i : ℕ) → y.seen ≡ shared_base + i
-      → x.seen ≡ shared_base + (i + 1)
-      → ((n : ℕ) → standing_at shared1 c1 n + (if n == i then 1 else 0) ≡ standing_at shared c n)
-      → ((n : ℕ) → standing_at shared2 c2 n ≡ standing_at shared1 c1 n + (if n == (i + 1) then 1 else 0))
+  pub sound_moved : (shared1 shared2 : List Shared) (c1 c2 i : ℕ) → y.shared_passed ≡ shared_base + i
+      → x.shared_passed ≡ shared_base + (i + 1)
+      → ((n : ℕ) → readers_at shared1 c1 n + (if n == i then 1 else 0) ≡ readers_at shared c n)
+      → ((n : ℕ) → readers_at shared2 c2 n ≡ readers_at shared1 c1 n + (if n == (i + 1) then 1 else 0))
       → map (λ s. s.at) shared1 ≡ map (λ s. s.at) shared → map (λ s. s.at) shared2 ≡ map (λ s. s.at) shared1
       → AreSound place' (values b) base shared_base c2 es links shared2
   sound_moved shared1 shared2 c1 c2 i y_is x_is less more same1 same2 =
       sound_put place place' (values a) (values b) base shared_base c c2 es links shared shared2 (Some q) x
       (changed_number place place' q x none some) good (λ r _. counted) (same2 ∙ same1)
       (λ k.
-      let f = rw (shift shared_base k i y.seen y_is, shift shared_base k (i + 1) x.seen x_is) at
+      let f = rw (shift shared_base k i y.shared_passed y_is, shift shared_base k (i + 1) x.shared_passed x_is) at
       (waiting_set a.entries q (shared_base + k) x y is) in
       let g = h.standing_are k in let l = less k in let m = more k in
       let s = ap values_of set_to in rw s (omega (arith, f, g, l, m))) h

@@ -9,16 +9,16 @@ use Rattle.neli_places.specs.declared.place.Chain.{Chain}
 use Rattle.neli_places.specs.declared.place.Place.{Place}
 use Rattle.neli_places.specs.declared.place.Shared.{Shared}
 use Rattle.neli_places.specs.Routes.{leads, leads_only, is_shared, items_for, first_position, shared_positions}
-use Rattle.neli_places.specs.Places.{IsOwn, IsLinked, IsPlace, IsSeen, AreSound, rest, standing_at, waiting_count}
+use Rattle.neli_places.specs.Places.{IsChain, IsLinked, IsPlace, CountsPassed, AreSound, rest, readers_at, waiting_count}
 
-pub b_or : (b : Bool) → (b ≡ true) ⊎ (b ≡ false)
-b_or true = inl refl
-b_or false = inr refl
+pub true_or_false : (b : Bool) → (b ≡ true) ⊎ (b ≡ false)
+true_or_false true = inl refl
+true_or_false false = inr refl
 
 pub found_from : {T : Type 0} (p : Route → Bool) (n : ℕ) (es : List (Entry T)) (m : ℕ) → first_position p n es ≡ Some m
     → n ≤ m
 found_from p n [] m h = cc
-found_from p n (e ∷ es) m h = elim (b_or (p e.route)) [
+found_from p n (e ∷ es) m h = elim (true_or_false (p e.route)) [
   | inl it ↦ (let s = rw it at h in let same : n ≡ m = cc in omega arith)
   | inr it ↦ (let s = rw it at h in let more = found_from p (suc n) es m s in omega arith)
 ]
@@ -60,7 +60,7 @@ pop_linked w base e es l links k k' c h i x from at is =
     rw s (h (suc i) x le at is)
 
 pub pop_own : {T : Type 0} (w : Option ℕ) (base : ℕ) (e : Entry T) (es : List (Entry T)) (k k' : ℕ) (o : Option Chain)
-    → Passes w e k k' → IsOwn w base (e ∷ es) k o → IsOwn w (base + 1) es k' o
+    → Passes w e k k' → IsChain w base (e ∷ es) k o → IsChain w (base + 1) es k' o
 pop_own w base e es k k' None c h = pop_found w base e es k k' c ∙ h
 pop_own w base e es k k' (Some o) c h =
     let f : first_position (leads_only w) (base + 1 + k') (drop k' es) ≡ Some o.first = pop_found w base e es k k' c
@@ -76,7 +76,7 @@ pub pop_place : {T : Type 0} (w : Option ℕ) (base : ℕ) (e : Entry T) (es : L
     → IsPlace w base (e ∷ es) (l ∷ links) p → IsPlace w (base + 1) es links p
 pop_place w base e es l links p c h = record {
   within = (let le = h.within in omega arith);
-  chain = pop_own w base e es _ _ p.own c h.chain;
+  chain = pop_own w base e es _ _ p.chain c h.chain;
   linked = pop_linked w base e es l links _ _ c h.linked;
 }
 
@@ -85,7 +85,7 @@ pub passes : {T : Type 0} (w : Option ℕ) (e : Entry T) (base : ℕ) (p : Place
     → Passes w e (p.from - base) (p.from - (base + 1))
 passes w e base p h = elim (cases_lt base p.from) [
   | inl lt ↦ inr (omega arith)
-  | inr le ↦ elim (b_or (leads w e.route)) [
+  | inr le ↦ elim (true_or_false (leads w e.route)) [
     | inl it ↦ (let lt = h it in absurd (omega arith))
     | inr it ↦ inl (omega arith, omega arith, it)
   ]
@@ -93,15 +93,15 @@ passes w e base p h = elim (cases_lt base p.from) [
 
 pub pop_seen_own : {T : Type 0} (q shared_base base : ℕ) (e : Entry T) (es : List (Entry T)) (p : Place)
     → is_shared e.route ≡ false → Passes (Some q) e (p.from - base) (p.from - (base + 1))
-    → IsSeen shared_base base (e ∷ es) p → IsSeen shared_base (base + 1) es p
+    → CountsPassed shared_base base (e ∷ es) p → CountsPassed shared_base (base + 1) es p
 pop_seen_own q shared_base base e es p o c h = elim c [
   | inl a ↦ (let s = rw a.0 at h in rw a.1 s)
   | inr a ↦ (let s = rw (a, o) at h in s)
 ]
 
 pub pop_seen_shared : {T : Type 0} (q shared_base base : ℕ) (e : Entry T) (es : List (Entry T)) (p : Place)
-    → is_shared e.route ≡ true → base < p.from → IsSeen shared_base base (e ∷ es) p
-    → IsSeen (shared_base + 1) (base + 1) es p
+    → is_shared e.route ≡ true → base < p.from → CountsPassed shared_base base (e ∷ es) p
+    → CountsPassed (shared_base + 1) (base + 1) es p
 pop_seen_shared q shared_base base e es p o lt h =
     let a : p.from - base ≡ suc (p.from - (base + 1)) = omega arith in
     let s = rw (a, o) at h in
@@ -122,8 +122,8 @@ sound_pop_own place numbers base shared_base caught_up e es l links shared o pas
   shared_fits = (let f = h.shared_fits in omega arith);
   as_long = (let f = h.as_long in omega arith);
   places = λ w p is. pop_place w base e es l links p (passes w e base p (past w p is)) (h.places w p is);
-  seen = λ q p is. pop_seen_own q shared_base base e es p o (passes (Some q) e base p (past (Some q) p is))
-      (h.seen q p is);
+  passed = λ q p is. pop_seen_own q shared_base base e es p o (passes (Some q) e base p (past (Some q) p is))
+      (h.passed q p is);
   positions_are = h.positions_are ∙ positions_next base e es o;
   standing_are = h.standing_are;
 }
@@ -143,7 +143,7 @@ forget_own_sound place numbers base shared_base caught_up e es all es' (l ∷ li
     (λ w p is t. past w p is (rw b at t)) (rw a at h))
 
 standing_next : (ss : List Shared) (c n x : ℕ) (xs : List ℕ) → map (λ s. s.at) ss ≡ x ∷ xs
-    → standing_at (drop 1 ss) c n ≡ standing_at ss c (suc n)
+    → readers_at (drop 1 ss) c n ≡ readers_at ss c (suc n)
 standing_next [] c n x xs h = cc
 standing_next (s ∷ ss) c n x xs h = refl
 
@@ -177,7 +177,7 @@ sound_pop_shared place numbers base shared_base caught_up e es l links shared o 
           omega arith);
       as_long = (let f = h.as_long in omega arith);
       places = λ w p is. pop_place w base e es l links p (passes w e base p (past w p is)) (h.places w p is);
-      seen = λ q p is. pop_seen_shared q shared_base base e es p o (past (Some q) p is (all q)) (h.seen q p is);
+      passed = λ q p is. pop_seen_shared q shared_base base e es p o (past (Some q) p is (all q)) (h.passed q p is);
       positions_are = positions_drop shared base (shared_positions (base + 1) es) sp;
       standing_are = λ n. standing_next shared caught_up n base (shared_positions (base + 1) es) sp
           ∙ (h.standing_are (suc n) ∙ ap (λ k. waiting_count k numbers)

@@ -56,9 +56,9 @@ RouteAt {T} s m P = (e : Entry T) → slice_get s.entries.items (m - s.base) ≡
 -- ---- chains: the entries from index k on that go to one list alone
 
 -- the first and the last of them
-abbrev pub IsOwn : {T : Type 0} → Option ℕ → ℕ → List (Entry T) → ℕ → Option Chain → Type 0
-IsOwn {T} w base es k None = first_position (leads_only w) (base + k) (drop k es) ≡ None
-IsOwn {T} w base es k (Some c) =
+abbrev pub IsChain : {T : Type 0} → Option ℕ → ℕ → List (Entry T) → ℕ → Option Chain → Type 0
+IsChain {T} w base es k None = first_position (leads_only w) (base + k) (drop k es) ≡ None
+IsChain {T} w base es k (Some c) =
     (first_position (leads_only w) (base + k) (drop k es) ≡ Some c.first)
     × (c.first ≤ c.last) × (c.last < base + length es)
     × ((e : Entry T) → slice_get es (c.last - base) ≡ Some e → leads_only w e.route ≡ true)
@@ -95,18 +95,18 @@ links_with base (Some c) m links = slice_set links (c.last - base) (Some m)
 
 -- how many places wait for that with the serial number n before any other
 abbrev pub waiting_count : ℕ → List Place → ℕ
-waiting_count n ps = count_by (λ p. p.seen == n) ps
+waiting_count n ps = count_by (λ p. p.shared_passed == n) ps
 
 -- the same as it is kept, by index: for each such entry, and for the next one that has not come
-abbrev pub standing_at : List Shared → ℕ → ℕ → ℕ
-standing_at [] caught_up zero = caught_up
-standing_at [] caught_up (suc n) = 0
-standing_at (s ∷ ss) caught_up zero = s.standing
-standing_at (s ∷ ss) caught_up (suc n) = standing_at ss caught_up n
+abbrev pub readers_at : List Shared → ℕ → ℕ → ℕ
+readers_at [] caught_up zero = caught_up
+readers_at [] caught_up (suc n) = 0
+readers_at (s ∷ ss) caught_up zero = s.readers
+readers_at (s ∷ ss) caught_up (suc n) = readers_at ss caught_up n
 
 -- a place counts those before it
-abbrev pub IsSeen : {T : Type 0} → ℕ → ℕ → List (Entry T) → Place → Type 0
-IsSeen shared_base base es p = p.seen ≡ shared_base + shared_count (take (p.from - base) es)
+abbrev pub CountsPassed : {T : Type 0} → ℕ → ℕ → List (Entry T) → Place → Type 0
+CountsPassed shared_base base es p = p.shared_passed ≡ shared_base + shared_count (take (p.from - base) es)
 
 -- ---- the whole
 
@@ -114,7 +114,7 @@ IsSeen shared_base base es p = p.seen ≡ shared_base + shared_count (take (p.fr
 pub record IsPlace {T : Type 0} (w : Option ℕ) (base : ℕ) (es : List (Entry T)) (links : List (Option ℕ))
     (p : Place) : Type 0 where
   pub within : p.from ≤ base + length es
-  pub chain : IsOwn w base es (p.from - base) p.own
+  pub chain : IsChain w base es (p.from - base) p.chain
   pub linked : IsLinked w base es links (p.from - base)
 
 -- the fields say the same as the entries: `place` are the places, `numbers` those of numbers in any order
@@ -125,9 +125,9 @@ pub record AreSound {T : Type 0} (place : Option ℕ → Option Place) (numbers 
   pub shared_fits : shared_base + length shared ≤ base + length es
   pub as_long : length links ≡ length es
   pub places : (w : Option ℕ) (p : Place) → place w ≡ Some p → IsPlace w base es links p
-  pub seen : (q : ℕ) (p : Place) → place (Some q) ≡ Some p → IsSeen shared_base base es p
+  pub passed : (q : ℕ) (p : Place) → place (Some q) ≡ Some p → CountsPassed shared_base base es p
   pub positions_are : map (λ x. x.at) shared ≡ shared_positions base es
-  pub standing_are : (n : ℕ) → standing_at shared caught_up n ≡ waiting_count (shared_base + n) numbers
+  pub standing_are : (n : ℕ) → readers_at shared caught_up n ≡ waiting_count (shared_base + n) numbers
 
 -- the same of these fields
 abbrev pub IsSound : {T : Type 0} → Places T → Type 0
@@ -135,17 +135,17 @@ IsSound s = AreSound (place_of s) (values s.numbers) s.base s.shared_base s.caug
     s.shared.items
 
 -- a place stands at the first entry, which has this route and so goes there
-abbrev pub Stands : (Option ℕ → Option Place) → ℕ → Route → Type 0
-Stands place base route = (w : Option ℕ) × (p : Place) × (place w ≡ Some p) × (p.from ≤ base) × (leads w route ≡ true)
+abbrev pub AwaitsFirst : (Option ℕ → Option Place) → ℕ → Route → Type 0
+AwaitsFirst place base route = (w : Option ℕ) × (p : Place) × (place w ≡ Some p) × (p.from ≤ base) × (leads w route ≡ true)
 
 -- each place to which the first entry goes, with this route, is past it
-abbrev pub ArePast : (Option ℕ → Option Place) → ℕ → Route → Type 0
-ArePast place base route = (w : Option ℕ) (p : Place) → place w ≡ Some p → leads w route ≡ true → base < p.from
+abbrev pub HavePassedFirst : (Option ℕ → Option Place) → ℕ → Route → Type 0
+HavePassedFirst place base route = (w : Option ℕ) (p : Place) → place w ≡ Some p → leads w route ≡ true → base < p.from
 
 -- nothing is kept, or the least place stands at the first entry
 abbrev pub BeginsAwaited : {T : Type 0} → (Option ℕ → Option Place) → ℕ → List (Entry T) → Type 0
 BeginsAwaited place base [] = Unit {0}
-BeginsAwaited place base (e ∷ es) = Stands place base e.route
+BeginsAwaited place base (e ∷ es) = AwaitsFirst place base e.route
 
 -- nothing is kept that nobody waits for: no entry before the least place, and none at all where no place is left
 pub record IsTrimmed {T : Type 0} (s : Places T) : Type 0 where

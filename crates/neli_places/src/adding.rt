@@ -26,11 +26,11 @@ impl<T: Drop> Places<T> {
         ensures room { LeavesRoom self.old self.new }
     {
         let at = self.base + self.entries.len() as u64;
-        link(&mut self.links, self.base, p.own, at);
+        link(&mut self.links, self.base, p.chain, at);
         self.multicast = Some(Place {
             from: p.from,
-            own: Some(with_last(p.own, at)),
-            seen: p.seen,
+            chain: Some(with_last(p.chain, at)),
+            shared_passed: p.shared_passed,
         });
         append(
             &mut self.entries,
@@ -55,11 +55,11 @@ impl<T: Drop> Places<T> {
         ensures room { LeavesRoom self.old self.new }
     {
         let at = self.base + self.entries.len() as u64;
-        link(&mut self.links, self.base, p.own, at);
+        link(&mut self.links, self.base, p.chain, at);
         let place = Place {
             from: p.from,
-            own: Some(with_last(p.own, at)),
-            seen: p.seen,
+            chain: Some(with_last(p.chain, at)),
+            shared_passed: p.shared_passed,
         };
         put(&mut self.numbers, n, place);
         append(
@@ -87,7 +87,7 @@ impl<T: Drop> Places<T> {
         let at = self.base + self.entries.len() as u64;
         let _ = self.shared.push_back(Shared {
             at,
-            standing: self.caught_up,
+            readers: self.caught_up,
         });
         self.caught_up = 0;
         append(

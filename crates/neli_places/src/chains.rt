@@ -10,17 +10,17 @@ use crate::place::Chain;
 use std::collections::VecDeque;
 
 /// The position of a chain's first entry.
-pub(crate) fn start(own: Option<Chain>) -> Option<u64>
-    ensures { result ≡ start own }
+pub(crate) fn start(chain: Option<Chain>) -> Option<u64>
+    ensures { result ≡ start chain }
 {
-    own.map(|chain| chain.first)
+    chain.map(|chain| chain.first)
 }
 
 /// The chain without its first entry, which has this link.
-pub(crate) fn without_first(own: Option<Chain>, link: Option<u64>) -> Option<Chain>
-    ensures { result ≡ without_first own link }
+pub(crate) fn without_first(chain: Option<Chain>, link: Option<u64>) -> Option<Chain>
+    ensures { result ≡ without_first chain link }
 {
-    match (own, link) {
+    match (chain, link) {
         (Some(chain), Some(first)) => Some(Chain {
             first,
             last: chain.last,
@@ -30,10 +30,10 @@ pub(crate) fn without_first(own: Option<Chain>, link: Option<u64>) -> Option<Cha
 }
 
 /// The chain with one more entry, at this position.
-pub(crate) fn with_last(own: Option<Chain>, last: u64) -> Chain
-    ensures { result ≡ with_last own last }
+pub(crate) fn with_last(chain: Option<Chain>, last: u64) -> Chain
+    ensures { result ≡ with_last chain last }
 {
-    match own {
+    match chain {
         None => Chain { first: last, last },
         Some(chain) => Chain {
             first: chain.first,
@@ -43,14 +43,14 @@ pub(crate) fn with_last(own: Option<Chain>, last: u64) -> Chain
 }
 
 /// Links the last entry of a chain to a new one, at position `at`.
-pub(crate) fn link(links: &mut VecDeque<Option<u64>>, base: u64, own: Option<Chain>, at: u64)
-    requires { (c : Link) → own ≡ Some c
+pub(crate) fn link(links: &mut VecDeque<Option<u64>>, base: u64, chain: Option<Chain>, at: u64)
+    requires { (c : Link) → chain ≡ Some c
         → (base ≤ c.last) × (c.last < base + length links.old.items) }
-    ensures links { links.new.items ≡ links_with base own at links.old.items }
+    ensures links { links.new.items ≡ links_with base chain at links.old.items }
     ensures room { (deque_len links.new ≡ deque_len links.old)
         × (deque_capacity links.new ≡ deque_capacity links.old) }
 {
-    if let Some(chain) = own {
+    if let Some(chain) = chain {
         links[(chain.last - base) as usize] = Some(at);
     }
 }

@@ -3,7 +3,7 @@
 ghost use Rattle.std.specs.Prelude.{◌≡◌, ◌+◌, ◌^◌, ◌<◌, ◌≤◌, ◌==◌, ℕ, true, Some, if◌then◌else◌, is_some, length, map, nat_eq};
 ghost use Rattle.std.specs.HashMap.{get};
 ghost use Rattle.std.specs.Map.{set_value};
-ghost use Rattle.neli_places.specs.Places.{standing_at};
+ghost use Rattle.neli_places.specs.Places.{readers_at};
 
 use crate::place::{Place, Shared};
 use std::collections::{HashMap, VecDeque};
@@ -23,13 +23,13 @@ pub(crate) fn put(numbers: &mut HashMap<u32, Place>, number: u32, place: Place)
 /// One place fewer stands at the entry with this index, or at the next one that has not come.
 pub(crate) fn lower(shared: &mut VecDeque<Shared>, caught_up: &mut usize, i: usize)
     requires within { i ≤ length shared.old.items }
-    requires some { 0 < standing_at shared.old.items caught_up.old i }
-    ensures less { (n : ℕ) → standing_at shared.new.items caught_up.new n
-        + (if n == i then 1 else 0) ≡ standing_at shared.old.items caught_up.old n }
+    requires some { 0 < readers_at shared.old.items caught_up.old i }
+    ensures less { (n : ℕ) → readers_at shared.new.items caught_up.new n
+        + (if n == i then 1 else 0) ≡ readers_at shared.old.items caught_up.old n }
     ensures positions { map (λ s. s.at) shared.new.items ≡ map (λ s. s.at) shared.old.items }
 {
     if i < shared.len() {
-        shared[i].standing -= 1;
+        shared[i].readers -= 1;
     } else {
         *caught_up -= 1;
     }
@@ -38,13 +38,13 @@ pub(crate) fn lower(shared: &mut VecDeque<Shared>, caught_up: &mut usize, i: usi
 /// One place more stands at the entry with this index, or at the next one that has not come.
 pub(crate) fn raise(shared: &mut VecDeque<Shared>, caught_up: &mut usize, i: usize)
     requires within { i ≤ length shared.old.items }
-    requires few { standing_at shared.old.items caught_up.old i < 2 ^ 63 }
-    ensures more { (n : ℕ) → standing_at shared.new.items caught_up.new n
-        ≡ standing_at shared.old.items caught_up.old n + (if n == i then 1 else 0) }
+    requires few { readers_at shared.old.items caught_up.old i < 2 ^ 63 }
+    ensures more { (n : ℕ) → readers_at shared.new.items caught_up.new n
+        ≡ readers_at shared.old.items caught_up.old n + (if n == i then 1 else 0) }
     ensures positions { map (λ s. s.at) shared.new.items ≡ map (λ s. s.at) shared.old.items }
 {
     if i < shared.len() {
-        shared[i].standing += 1;
+        shared[i].readers += 1;
     } else {
         *caught_up += 1;
     }

@@ -1,7 +1,7 @@
 //! The first entry goes, and places go.
 
 ghost use Rattle.std.specs.Prelude.{◌≡◌, ◌≢◌, ◌<◌, ℕ, true, false, Option, None, Some, drop, slice_get};
-ghost use Rattle.neli_places.specs.Places.{ArePast, BeginsWith, IsSound, Stands, entries_of, pending_of, place_of};
+ghost use Rattle.neli_places.specs.Places.{HavePassedFirst, BeginsWith, IsSound, AwaitsFirst, entries_of, pending_of, place_of};
 ghost use Rattle.neli_places.specs.Routes.{is_shared};
 
 use crate::counts::lower;
@@ -13,8 +13,8 @@ impl<T: Drop> Places<T> {
     pub(crate) fn is_awaited(&self, route: Route) -> bool
         requires sound { IsSound self.now }
         requires at { BeginsWith self.now route }
-        ensures yes { result ≡ true → Stands (place_of self.now) self.now.base route }
-        ensures no { result ≡ false → ArePast (place_of self.now) self.now.base route }
+        ensures yes { result ≡ true → AwaitsFirst (place_of self.now) self.now.base route }
+        ensures no { result ≡ false → HavePassedFirst (place_of self.now) self.now.base route }
     {
         match route {
             Route::Multicast => match self.multicast {
@@ -30,7 +30,7 @@ impl<T: Drop> Places<T> {
                 let _ = self.numbers.len();
                 match self.shared.front() {
                     None => false,
-                    Some(s) => s.standing > 0,
+                    Some(s) => s.readers > 0,
                 }
             }
         }
@@ -40,7 +40,7 @@ impl<T: Drop> Places<T> {
     pub(crate) fn forget(&mut self, route: Route) -> Option<Entry<T>>
         requires sound { IsSound self.old }
         requires at { BeginsWith self.old route }
-        requires past { ArePast (place_of self.old) self.old.base route }
+        requires past { HavePassedFirst (place_of self.old) self.old.base route }
         ensures taken { result ≡ slice_get (entries_of self.old) 0 }
         ensures less { entries_of self.new ≡ drop 1 (entries_of self.old) }
         ensures same { (w : Option ℕ) → pending_of self.new w ≡ pending_of self.old w }
@@ -54,9 +54,9 @@ impl<T: Drop> Places<T> {
 
     fn forget_own(&mut self, route: Route) -> Option<Entry<T>>
         requires sound { IsSound self.old }
-        requires own { is_shared route ≡ false }
+        requires alone { is_shared route ≡ false }
         requires at { BeginsWith self.old route }
-        requires past { ArePast (place_of self.old) self.old.base route }
+        requires past { HavePassedFirst (place_of self.old) self.old.base route }
         ensures taken { result ≡ slice_get (entries_of self.old) 0 }
         ensures less { entries_of self.new ≡ drop 1 (entries_of self.old) }
         ensures same { (w : Option ℕ) → pending_of self.new w ≡ pending_of self.old w }
@@ -71,7 +71,7 @@ impl<T: Drop> Places<T> {
     fn forget_shared(&mut self) -> Option<Entry<T>>
         requires sound { IsSound self.old }
         requires at { BeginsWith self.old Route.Numbers }
-        requires past { ArePast (place_of self.old) self.old.base Route.Numbers }
+        requires past { HavePassedFirst (place_of self.old) self.old.base Route.Numbers }
         ensures taken { result ≡ slice_get (entries_of self.old) 0 }
         ensures less { entries_of self.new ≡ drop 1 (entries_of self.old) }
         ensures same { (w : Option ℕ) → pending_of self.new w ≡ pending_of self.old w }
@@ -107,7 +107,7 @@ impl<T: Drop> Places<T> {
         ensures sound { IsSound self.new }
     {
         if let Some(p) = self.numbers.remove(&n) {
-            let i = (p.seen - self.shared_base) as usize;
+            let i = (p.shared_passed - self.shared_base) as usize;
             lower(&mut self.shared, &mut self.caught_up, i);
         }
     }

@@ -1,7 +1,7 @@
 //! A place moves past the first entry that it waits for.
 
 ghost use Rattle.std.specs.Prelude.{◌≡◌, ◌≢◌, ◌+◌, ◌-◌, ◌≤◌, ℕ, true, false, List, ◌∷◌, Option, None, Some, map, slice_get};
-ghost use Rattle.neli_places.specs.Places.{IsPlace, IsSeen, IsSound, RouteAt, entries_of, next_position, pending_of, place_of};
+ghost use Rattle.neli_places.specs.Places.{IsPlace, CountsPassed, IsSound, RouteAt, entries_of, next_position, pending_of, place_of};
 ghost use Rattle.neli_places.specs.Routes.{is_shared, leads_only};
 
 use crate::chains::{lesser_of, start, without_first};
@@ -11,12 +11,12 @@ use crate::places::Places;
 
 impl<T: Drop> Places<T> {
     /// The position of the entry for all numbers with this serial number.
-    fn shared_position(&self, seen: u64) -> Option<u64>
-        requires { self.now.shared_base ≤ seen }
+    fn shared_position(&self, passed: u64) -> Option<u64>
+        requires { self.now.shared_base ≤ passed }
         ensures { result ≡ slice_get (map (λ s. s.at) self.now.shared.items)
-            (seen - self.now.shared_base) }
+            (passed - self.now.shared_base) }
     {
-        match self.shared.get((seen - self.shared_base) as usize) {
+        match self.shared.get((passed - self.shared_base) as usize) {
             None => None,
             Some(s) => Some(s.at),
         }
@@ -28,10 +28,10 @@ impl<T: Drop> Places<T> {
         requires is { place_of self.now whose ≡ Some p.now }
         ensures { result ≡ next_position self.now whose p.now }
     {
-        let own = start(p.own);
+        let first = start(p.chain);
         match whose {
-            None => own,
-            Some(_) => lesser_of(own, self.shared_position(p.seen)),
+            None => first,
+            Some(_) => lesser_of(first, self.shared_position(p.shared_passed)),
         }
     }
 
@@ -82,13 +82,13 @@ impl<T: Drop> Places<T> {
     {
         // The prover learns here that a count of places fits: there are fewer than 2^63 numbers.
         let _ = self.numbers.len();
-        let i = (p.seen - self.shared_base) as usize;
+        let i = (p.shared_passed - self.shared_base) as usize;
         lower(&mut self.shared, &mut self.caught_up, i);
         raise(&mut self.shared, &mut self.caught_up, i + 1);
         let after = Place {
             from: m + 1,
-            own: p.own,
-            seen: p.seen + 1,
+            chain: p.chain,
+            shared_passed: p.shared_passed + 1,
         };
         put(&mut self.numbers, n, after);
     }
@@ -100,17 +100,17 @@ impl<T: Drop> Places<T> {
         requires next { next_position self.now whose p ≡ Some m }
         requires route { RouteAt self.now m (λ r. leads_only whose r ≡ true) }
         ensures from { result.from ≡ m + 1 }
-        ensures seen { result.seen ≡ p.seen }
+        ensures passed { result.shared_passed ≡ p.shared_passed }
         ensures place { IsPlace whose self.now.base self.now.entries.items self.now.links.items
             result }
         ensures counted { (q : ℕ) → whose ≡ Some q
-            → IsSeen self.now.shared_base self.now.base self.now.entries.items result }
+            → CountsPassed self.now.shared_base self.now.base self.now.entries.items result }
     {
         let link = self.links[(m - self.base) as usize];
         Place {
             from: m + 1,
-            own: without_first(p.own, link),
-            seen: p.seen,
+            chain: without_first(p.chain, link),
+            shared_passed: p.shared_passed,
         }
     }
 }

@@ -9,18 +9,18 @@ pub(crate) struct Chain {
 
 /// Where a list stands: it waits for what comes from the position `from` on.
 ///
-/// `own` are the entries there that go to this list alone, and `seen` counts the entries for all numbers before
+/// `chain` are the entries there that go to this list alone, and `shared_passed` counts the entries for all numbers before
 /// it, also those that are gone.
 #[derive(Clone, Copy)]
 pub(crate) struct Place {
     pub(crate) from: u64,
-    pub(crate) own: Option<Chain>,
-    pub(crate) seen: u64,
+    pub(crate) chain: Option<Chain>,
+    pub(crate) shared_passed: u64,
 }
 
 /// An entry for all numbers: its position, and how many places wait for it before any other such entry.
 #[derive(Clone, Copy)]
 pub(crate) struct Shared {
     pub(crate) at: u64,
-    pub(crate) standing: usize,
+    pub(crate) readers: usize,
 }

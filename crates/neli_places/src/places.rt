@@ -43,8 +43,8 @@ impl<T: Drop> Places<T> {
             caught_up: 0,
             multicast: Some(Place {
                 from: 0,
-                own: None,
-                seen: 0,
+                chain: None,
+                shared_passed: 0,
             }),
             numbers: HashMap::new(alloc),
         }
@@ -96,13 +96,13 @@ impl<T: Drop> Places<T> {
         // The prover learns here that the count of places fits: there are fewer than 2^63 numbers.
         let _ = self.numbers.len();
         let from = self.base + self.entries.len() as u64;
-        let seen = self.shared_base + self.shared.len() as u64;
+        let shared_passed = self.shared_base + self.shared.len() as u64;
         self.numbers.insert(
             number,
             Place {
                 from,
-                own: None,
-                seen,
+                chain: None,
+                shared_passed,
             },
         )?;
         self.caught_up += 1;

@@ -9,7 +9,7 @@ use Rattle.std.proofs.lemmas.List.Elements.{All-head, All-tail}
 use Rattle.std.proofs.lemmas.Map.Keys.{IsDistinct-head, IsDistinct-tail}
 use Rattle.neli_deliveries.specs.declared.delivery.Delivery.{Delivery}
 use Rattle.neli_queues.specs.declared.piece.Piece.{Piece}
-use Rattle.neli_queues.specs.Pieces.{HaveRoom, gain_of, share}
+use Rattle.neli_queues.specs.Pieces.{HaveRoom, deliveries_for, share}
 
 -- ---- a delivery for each of these numbers
 
@@ -42,12 +42,12 @@ share-le : (q : ℕ) (p : Piece) → length (share q p) ≤ 1
 share-le q p = elim (p.number == q) as (λ b. length (if b then p.list
     else []) ≤ 1) [ true ↦ p.single | false ↦ omega arith ]
 
-gain_of-le : (q : ℕ) (ps : List Piece) → length (gain_of q ps) ≤ length ps
+gain_of-le : (q : ℕ) (ps : List Piece) → length (deliveries_for q ps) ≤ length ps
 gain_of-le q [] = omega arith
-gain_of-le q (p ∷ ps) = omega (arith, length-append (share q p) (gain_of q ps), share-le q p, gain_of-le q ps)
+gain_of-le q (p ∷ ps) = omega (arith, length-append (share q p) (deliveries_for q ps), share-le q p, gain_of-le q ps)
 
 space_for : (at : ℕ → Option (List Delivery)) (n : ℕ) (ps : List Piece) (q : ℕ) (ds : List Delivery)
-    → All (HasSpace at n) ps → at q ≡ Some ds → 0 < length (gain_of q ps) → length ds + n < 2 ^ 63
+    → All (HasSpace at n) ps → at q ≡ Some ds → 0 < length (deliveries_for q ps) → length ds + n < 2 ^ 63
 space_for at n [] q ds all is some = absurd (omega arith)
 space_for at n (p ∷ ps) q ds all is some = elim (cases_eq p.number q) [
   | inl e ↦ All-head (HasSpace at n) p ps all ds (ap at e ∙ is)
@@ -74,19 +74,19 @@ pub HaveRoom-first : (at : ℕ → Option (List Delivery)) (p : Piece) (ps : Lis
     → (ds : List Delivery) → at p.number ≡ Some ds → 0 < length p.list → length ds + length p.list < 2 ^ 63
 HaveRoom-first at p ps room ds is some =
     let own : share p.number p ≡ p.list = rw (eq-eqb p.number p.number refl) refl in
-    let all : length (gain_of p.number (p ∷ ps)) ≡ length p.list + length (gain_of p.number ps)
-    = length-append (share p.number p) (gain_of p.number ps) ∙ rw own refl in
+    let all : length (deliveries_for p.number (p ∷ ps)) ≡ length p.list + length (deliveries_for p.number ps)
+    = length-append (share p.number p) (deliveries_for p.number ps) ∙ rw own refl in
     omega (arith, room p.number ds is (omega arith))
 
 module _ (at new : ℕ → Option (List Delivery)) (p : Piece) (ps : List Piece) (hung : (q : ℕ)
     → new q ≡ option_map (λ ds. ds ++ share q p) (at q)) where
   room_left : HaveRoom at (p ∷ ps) → (q : ℕ) (o : Option (List Delivery)) → at q ≡ o → (ds : List Delivery)
-      → option_map (λ ds. ds ++ share q p) o ≡ Some ds → 0 < length (gain_of q ps)
-      → length ds + length (gain_of q ps) < 2 ^ 63
+      → option_map (λ ds. ds ++ share q p) o ≡ Some ds → 0 < length (deliveries_for q ps)
+      → length ds + length (deliveries_for q ps) < 2 ^ 63
   room_left room q None e ds is some = cc
   room_left room q (Some old) e ds is some =
       let grown : old ++ share q p ≡ ds = cc in
-      let all = length-append (share q p) (gain_of q ps) in
+      let all = length-append (share q p) (deliveries_for q ps) in
       let longer = length-append old (share q p) in
       let long = ap length grown in
       omega (arith, room q old e (omega (arith, all)), all, longer, long)
@@ -96,14 +96,14 @@ module _ (at new : ℕ → Option (List Delivery)) (p : Piece) (ps : List Piece)
   HaveRoom-left room q ds is some = room_left room q (at q) refl ds (sym (hung q) ∙ is) some
 
   hung_more : (q : ℕ) (o : Option (List Delivery))
-      → option_map (λ ds. ds ++ gain_of q ps) (option_map (λ ds. ds ++ share q p) o)
-      ≡ option_map (λ ds. ds ++ (share q p ++ gain_of q ps)) o
+      → option_map (λ ds. ds ++ deliveries_for q ps) (option_map (λ ds. ds ++ share q p) o)
+      ≡ option_map (λ ds. ds ++ (share q p ++ deliveries_for q ps)) o
   hung_more q None = refl
-  hung_more q (Some ds) = ap Some (append_assoc ds (share q p) (gain_of q ps))
+  hung_more q (Some ds) = ap Some (append_assoc ds (share q p) (deliveries_for q ps))
 
   -- with the others, the lists are as with all
-  pub hung-more : (q : ℕ) → option_map (λ ds. ds ++ gain_of q ps) (new q)
-      ≡ option_map (λ ds. ds ++ gain_of q (p ∷ ps)) (at q)
+  pub hung-more : (q : ℕ) → option_map (λ ds. ds ++ deliveries_for q ps) (new q)
+      ≡ option_map (λ ds. ds ++ deliveries_for q (p ∷ ps)) (at q)
   hung-more q = rw (hung q) (hung_more q (at q))
 
 -- nothing is appended

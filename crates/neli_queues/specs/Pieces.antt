@@ -14,11 +14,11 @@ abbrev pub share : ℕ → Piece → List Delivery
 share q p = if p.number == q then p.list else []
 
 -- what the number q has of pieces, in their order
-abbrev pub gain_of : ℕ → List Piece → List Delivery
-gain_of q ps = flat_map (share q) ps
+abbrev pub deliveries_for : ℕ → List Piece → List Delivery
+deliveries_for q ps = flat_map (share q) ps
 
 -- each list has room for what its number gains; at says what waits for a number
 abbrev pub HaveRoom : (ℕ → Option (List Delivery)) → List Piece → Type 0
 HaveRoom at ps =
-    (q : ℕ) (ds : List Delivery) → at q ≡ Some ds → 0 < length (gain_of q ps)
-    → length ds + length (gain_of q ps) < 2 ^ 63
+    (q : ℕ) (ds : List Delivery) → at q ≡ Some ds → 0 < length (deliveries_for q ps)
+    → length ds + length (deliveries_for q ps) < 2 ^ 63

@@ -4,7 +4,7 @@ use Rattle.std.specs.HashMap.{get}
 use Rattle.neli_deliveries.specs.declared.delivery.Delivery.{Delivery}
 use Rattle.neli_queues.specs.declared.piece.Piece.{Piece}
 use Rattle.neli_queues.specs.declared.queues.Queues.{Queues}
-use Rattle.neli_queues.specs.Pieces.{gain_of}
+use Rattle.neli_queues.specs.Pieces.{deliveries_for}
 
 -- the port of the router
 abbrev pub kept_port : Queues → ℕ
@@ -18,7 +18,7 @@ pending_of s (Some q) = get nat_eq s.numbers q
 -- what a list gets of deliveries for multicast and of pieces
 abbrev pub share_of_both : List Delivery → List Piece → Option ℕ → List Delivery
 share_of_both multicast_deliveries ps None = multicast_deliveries
-share_of_both multicast_deliveries ps (Some q) = gain_of q ps
+share_of_both multicast_deliveries ps (Some q) = deliveries_for q ps
 
 -- each open list gets of them what it is due
 abbrev pub AreDue : Queues → (Option ℕ → List Delivery) → List Delivery → List Piece → Type 0

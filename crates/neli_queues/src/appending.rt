@@ -3,7 +3,7 @@
 ghost use Rattle.std.specs.Prelude.{◌≡◌, ◌+◌, ◌<◌, ◌^◌, ◌++◌, ℕ, List, Some, IsTrue, length, nat_eq, option_map};
 ghost use Rattle.std.specs.HashMap.{get};
 ghost use Rattle.neli_deliveries.specs.declared.delivery.Delivery.{Delivery as Waiting};
-ghost use Rattle.neli_queues.specs.Pieces.{HaveRoom, gain_of, share};
+ghost use Rattle.neli_queues.specs.Pieces.{HaveRoom, deliveries_for, share};
 
 use crate::piece::Piece;
 use neli_deliveries::Delivery;
@@ -46,7 +46,7 @@ fn append_piece(numbers: &mut Numbers, piece: Piece)
 pub(crate) fn append_all(numbers: &mut Numbers, pieces: Vec<Piece>)
     requires { HaveRoom (get nat_eq numbers.old) pieces.items }
     ensures { (q : ℕ) → get nat_eq numbers.new q
-        ≡ option_map (λ ds. ds ++ gain_of q pieces.items) (get nat_eq numbers.old q) }
+        ≡ option_map (λ ds. ds ++ deliveries_for q pieces.items) (get nat_eq numbers.old q) }
 {
     for piece in pieces {
         append_piece(numbers, piece);

@@ -3,7 +3,7 @@
 ghost use Rattle.std.specs.Prelude.{◌≡◌, ◌++◌, ◌==◌, ℕ, true, if◌then◌else◌, [], ◌∷◌, IfOk, OnOk, map};
 ghost use Rattle.neli_reader.specs.Messages.{message_of};
 ghost use Rattle.neli_deliveries.specs.Deliveries.{is_reply, message, message_to, messages_to, reader_fault};
-ghost use Rattle.neli_queues.specs.Pieces.{gain_of, is_open};
+ghost use Rattle.neli_queues.specs.Pieces.{deliveries_for, is_open};
 
 use crate::appending::Numbers;
 use crate::piece::Piece;
@@ -32,8 +32,8 @@ fn stage_one(
     delivery: Delivery,
     pieces: &mut Vec<Piece>,
 ) -> Result<(), NoMemory>
-    ensures { OnOk result ((q : ℕ) → gain_of q pieces.new.items
-        ≡ gain_of q pieces.old.items ++ (if number == q then delivery ∷ [] else [])) }
+    ensures { OnOk result ((q : ℕ) → deliveries_for q pieces.new.items
+        ≡ deliveries_for q pieces.old.items ++ (if number == q then delivery ∷ [] else [])) }
 {
     let mut list = LinkedList::new(alloc);
     list.push_back(delivery)?;
@@ -49,7 +49,7 @@ pub(crate) fn stage_each(
     pieces: &mut Vec<Piece>,
 ) -> Result<(), NoMemory>
     ensures { OnOk result ((q : ℕ) → is_open numbers.now q ≡ true
-        → gain_of q pieces.new.items ≡ gain_of q pieces.old.items ++ delivery.now ∷ []) }
+        → deliveries_for q pieces.new.items ≡ deliveries_for q pieces.old.items ++ delivery.now ∷ []) }
 {
     for number in numbers.keys() {
         stage_one(alloc, *number, copy_of(delivery)?, pieces)?;
@@ -74,7 +74,7 @@ fn stage_message(
     pieces: &mut Vec<Piece>,
 ) -> Result<(), NoMemory>
     ensures { OnOk result ((q : ℕ) → is_open numbers.now q ≡ true
-        → gain_of q pieces.new.items ≡ gain_of q pieces.old.items
+        → deliveries_for q pieces.new.items ≡ deliveries_for q pieces.old.items
         ++ message_to port (is_open numbers.now) q (message_of (λ b. b) message)) }
 {
     if answers(&message, port, numbers) {
@@ -94,7 +94,7 @@ pub(crate) fn stage_messages(
     pieces: &mut Vec<Piece>,
 ) -> Result<(), NoMemory>
     ensures { OnOk result ((q : ℕ) → is_open numbers.now q ≡ true
-        → gain_of q pieces.new.items ≡ gain_of q pieces.old.items
+        → deliveries_for q pieces.new.items ≡ deliveries_for q pieces.old.items
         ++ messages_to port (is_open numbers.now) q (map (message_of (λ b. b)) messages.items)) }
 {
     for message in messages {
@@ -111,7 +111,7 @@ pub(crate) fn stage_fault(
     pieces: &mut Vec<Piece>,
 ) -> Result<(), NoMemory>
     ensures { OnOk result ((q : ℕ) → is_open numbers.now q ≡ true
-        → gain_of q pieces.new.items ≡ gain_of q pieces.old.items ++ reader_fault fault) }
+        → deliveries_for q pieces.new.items ≡ deliveries_for q pieces.old.items ++ reader_fault fault) }
 {
     match fault {
         None => Ok(()),

@@ -66,15 +66,15 @@ module _ {K P : Type 0} (number_of : K → ℕ) (needs numbered : Bool) where
 -- ---- what is given
 
 -- of a message at the last place, by its payload, after a single reply or not
-abbrev pub last_by : {K P : Type 0} → Bool → Bool → Nlmsghdr K P → NlPayload K P → Item K P
-last_by needs after m (payload.Ack e) = if needs then Ok m else Err router.UnexpectedAck
-last_by needs after m (payload.Err e) = if after then Err router.NoAck else Err (router.Nlmsgerr e)
-last_by needs after m (payload.Capped e) = if after then Err router.NoAck else Err (router.Capped e)
-last_by needs after m p = if after then Err router.NoAck else Ok m
+abbrev pub last_item_of_payload : {K P : Type 0} → Bool → Bool → Nlmsghdr K P → NlPayload K P → Item K P
+last_item_of_payload needs after m (payload.Ack e) = if needs then Ok m else Err router.UnexpectedAck
+last_item_of_payload needs after m (payload.Err e) = if after then Err router.NoAck else Err (router.Nlmsgerr e)
+last_item_of_payload needs after m (payload.Capped e) = if after then Err router.NoAck else Err (router.Capped e)
+last_item_of_payload needs after m p = if after then Err router.NoAck else Ok m
 
 -- at the last place
 abbrev pub last_item : {K P : Type 0} → Bool → Bool → Item K P → Item K P
-last_item needs after (Ok m) = last_by needs after m m.payload
+last_item needs after (Ok m) = last_item_of_payload needs after m m.payload
 last_item needs after (Err e) = Err e
 
 module _ {K P : Type 0} (number_of : K → ℕ) (needs numbered : Bool) where

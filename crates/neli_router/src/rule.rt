@@ -19,7 +19,7 @@ pub(crate) fn needs_acknowledgement(flags: NlmF) -> bool
 }
 
 /// Whether nothing follows an item, whatever was asked for.
-fn is_final<T, P>(item: &Result<Nlmsghdr<T, P>, RouterError<T, P>>) -> bool
+fn ends_alone<T, P>(item: &Result<Nlmsghdr<T, P>, RouterError<T, P>>) -> bool
     ensures { result ≡ ends_alone item.now }
 {
     match item {
@@ -32,13 +32,13 @@ fn is_final<T, P>(item: &Result<Nlmsghdr<T, P>, RouterError<T, P>>) -> bool
 }
 
 /// Whether an item is a whole reply to a request, or the last message of one.
-fn is_whole<T: NlType, P>(numbered: bool, item: &Result<Nlmsghdr<T, P>, RouterError<T, P>>) -> bool
+fn is_single<T: NlType, P>(numbered: bool, item: &Result<Nlmsghdr<T, P>, RouterError<T, P>>) -> bool
     ensures { result ≡ is_single T.wire_number numbered item.now }
 {
     match item {
         Ok(message) => {
             numbered
-                && !is_final(item)
+                && !ends_alone(item)
                 && (!message.nl_flags().contains(NlmF::MULTI)
                     || message.nl_type().to_number() == DONE)
         }
@@ -48,7 +48,7 @@ fn is_whole<T: NlType, P>(numbered: bool, item: &Result<Nlmsghdr<T, P>, RouterEr
 
 /// What is given where the answers end: an acknowledgement that was asked for, an error as such, a
 /// single reply, or what came in place of the acknowledgement.
-fn last<T: NlType, P: Drop>(
+fn last_item<T: NlType, P: Drop>(
     handle: &HandleState,
     item: Result<Nlmsghdr<T, P>, RouterError<T, P>>,
 ) -> Result<Nlmsghdr<T, P>, RouterError<T, P>>
@@ -90,14 +90,14 @@ pub(crate) fn answer<T: NlType, P: Drop>(
           handle.needs_ack (has_number handle.number) handle.single_given item;
     } }
 {
-    let single = is_whole(handle.number.is_some(), &item);
-    let ended = is_final(&item)
+    let single = is_single(handle.number.is_some(), &item);
+    let ended = ends_alone(&item)
         || if handle.needs_ack {
             handle.single_given
         } else {
             single
         };
-    let given = if ended { last(&handle, item) } else { item };
+    let given = if ended { last_item(&handle, item) } else { item };
     let after = HandleState {
         number: handle.number,
         needs_ack: handle.needs_ack,

@@ -7,7 +7,7 @@ use Rattle.std.proofs.lemmas.List.{map-append, append-nil}
 use Rattle.neli_spans.specs.declared.span.Span.{Span}
 use Rattle.neli_spans.specs.declared.span.Datagram.{Datagram}
 use Rattle.std.specs.Prelude.{slice_range}
-use Rattle.neli_spans.specs.Spans.{span_bytes_in, copies, serials_by_span, Apart, AreApart, NamesFrom, AreOf}
+use Rattle.neli_spans.specs.Spans.{span_bytes_in, copies, serials_by_span, Apart, AreApart, SpansNameFrom, AreSpansOf}
 
 apart_tail : (s : Span) (ss : List Span) → Apart s ss → AreApart ss
 apart_tail s [] h = tt
@@ -18,7 +18,7 @@ tail_same x y xs ys h = cc
 
 -- the last span of the first datagram goes
 pub released_last : (first : ℕ) (d : Datagram) (ds : List Datagram) (s : Span) (ss : List Span) → d.spans ≡ 1
-    → NamesFrom first (d ∷ ds) (s ∷ ss) → NamesFrom (first + 1) ds ss
+    → SpansNameFrom first (d ∷ ds) (s ∷ ss) → SpansNameFrom (first + 1) ds ss
 released_last first d ds s ss one h = record {
   fits = (let a = h.fits in omega arith);
   serials = (let a = rw one at h.serials in rw add-one
@@ -30,8 +30,8 @@ released_last first d ds s ss one h = record {
 
 -- another span of it goes
 pub released_one : (first n : ℕ) (d d' : Datagram) (ds : List Datagram) (s : Span) (ss : List Span)
-    → d.spans ≡ suc (suc n) → d'.spans ≡ suc n → d'.bytes ≡ d.bytes → NamesFrom first (d ∷ ds) (s ∷ ss)
-    → NamesFrom first (d' ∷ ds) ss
+    → d.spans ≡ suc (suc n) → d'.spans ≡ suc n → d'.bytes ≡ d.bytes → SpansNameFrom first (d ∷ ds) (s ∷ ss)
+    → SpansNameFrom first (d' ∷ ds) ss
 released_one first n d d' ds s ss more less same h = record {
   fits = h.fits;
   serials = (let a = rw more at h.serials in rw less (tail_same s.datagram first (map (λ s. s.datagram) ss)
@@ -94,7 +94,7 @@ get_map (t ∷ ts) zero s h = let f : t ≡ s = cc in ap (λ x. Some x.datagram)
 get_map (t ∷ ts) (suc i) s h = get_map ts i s h
 
 -- the datagram of each span is kept
-pub named_bound : (first : ℕ) (ds : List Datagram) (ss : List Span) (i : ℕ) (s : Span) → NamesFrom first ds ss
+pub named_bound : (first : ℕ) (ds : List Datagram) (ss : List Span) (i : ℕ) (s : Span) → SpansNameFrom first ds ss
     → slice_get ss i ≡ Some s → (first ≤ s.datagram) × (s.datagram < first + length ds)
 named_bound first ds ss i s h at = laid_bound first ds i s.datagram (rw (← h.serials) (get_map ss i s at))
 
@@ -145,7 +145,7 @@ apart_append serial (s ∷ ss) new low of h g = apart_join serial s ss new (low 
 -- a datagram is kept, with the spans of it after all others
 pub kept : (first : ℕ) (ds ds' : List Datagram) (x : Datagram) (old new : List Span) → ds' ≡ ds ++ x ∷ []
     → first + length ds + 1 < 2 ^ 64 → 0 < x.spans → length new ≡ x.spans
-    → AreOf (first + length ds) (length x.bytes.items) new → NamesFrom first ds old → NamesFrom first ds' (old ++ new)
+    → AreSpansOf (first + length ds) (length x.bytes.items) new → SpansNameFrom first ds old → SpansNameFrom first ds' (old ++ new)
 kept first ds ds' x old new is few some long of h = rw is (record {
   fits = (let a = length-append ds (x ∷ []) in omega (arith, a, few));
   serials = map-append (λ s. s.datagram) old new ∙ (rw (
@@ -193,14 +193,14 @@ front_is [] x l h = absurd (omega arith)
 front_is (d ∷ ds) x l h = (ds, ap (λ y. y ∷ ds) (sym h))
 
 pub released_pop : (first : ℕ) (d : Datagram) (es items items' : List Datagram) (s : Span) (ss : List Span)
-    → items ≡ d ∷ es → items' ≡ drop 1 items → d.spans ≡ 1 → NamesFrom first items (s ∷ ss)
-    → NamesFrom (first + 1) items' ss
+    → items ≡ d ∷ es → items' ≡ drop 1 items → d.spans ≡ 1 → SpansNameFrom first items (s ∷ ss)
+    → SpansNameFrom (first + 1) items' ss
 released_pop first d es items items' s ss is rest one h = let f : items' ≡ es = rest ∙ ap (drop 1) is in
     rw f (released_last first d es s ss one (rw is at h))
 
 pub released_set : (first : ℕ) (d x d' : Datagram) (es items : List Datagram) (s : Span) (ss : List Span)
     → items ≡ d ∷ es → x ≡ get_or items 0 x → d'.bytes ≡ x.bytes → d'.spans ≡ x.spans - 1 → d.spans ≢ 1
-    → NamesFrom first items (s ∷ ss) → NamesFrom first (set items 0 d') ss
+    → SpansNameFrom first items (s ∷ ss) → SpansNameFrom first (set items 0 d') ss
 released_set first d x d' es items s ss is read bytes less more h =
     let same : x ≡ d = (let a = rw is at read in a) in
     let g = rw is at h in
@@ -211,7 +211,7 @@ released_set first d x d' es items s ss is read bytes less more h =
     rw is (released_one first (d.spans - 2) d d' es s ss n m (bytes ∙ ap (λ y. y.bytes) same) g)
 
 -- the datagram of a span, and its bounds there
-pub span_in : (first : ℕ) (ds : List Datagram) (ss : List Span) (i : ℕ) (s : Span) → NamesFrom first ds ss
+pub span_in : (first : ℕ) (ds : List Datagram) (ss : List Span) (i : ℕ) (s : Span) → SpansNameFrom first ds ss
     → slice_get ss i ≡ Some s
     → (x : Datagram) × (slice_get ds (s.datagram - first) ≡ Some x) × (first ≤ s.datagram)
     × (s.datagram - first < length ds) × (s.start ≤ s.end) × (s.end ≤ length x.bytes.items)
@@ -234,7 +234,7 @@ text_read s ds i x bytes at is h = rw (at, ← is) h
 
 -- the other spans keep their text
 pub text_popped : (first : ℕ) (d : Datagram) (es items items' : List Datagram) (s : Span) (ss : List Span) (i : ℕ)
-    (t : Span) → items ≡ d ∷ es → items' ≡ drop 1 items → d.spans ≡ 1 → NamesFrom first items (s ∷ ss)
+    (t : Span) → items ≡ d ∷ es → items' ≡ drop 1 items → d.spans ≡ 1 → SpansNameFrom first items (s ∷ ss)
     → slice_get ss i ≡ Some t
     → span_bytes_in t (slice_get items' (t.datagram - (first + 1)))
     ≡ span_bytes_in t (slice_get items (t.datagram - first))
@@ -256,7 +256,7 @@ text_set d x d' es items t j is read bytes =
     rw is (text_head t d d' es j (bytes ∙ ap (λ y. y.bytes) same))
 
 -- where no span is left no datagram is
-pub none_named : (first : ℕ) (ds : List Datagram) → NamesFrom first ds [] → ds ≡ []
+pub none_named : (first : ℕ) (ds : List Datagram) → SpansNameFrom first ds [] → ds ≡ []
 none_named first [] h = refl
 none_named first (d ∷ ds) h = by d.spans (h.some 0 d refl) h.serials
   where
@@ -266,7 +266,7 @@ none_named first (d ∷ ds) h = by d.spans (h.some 0 d refl) h.serials
 
 -- a datagram that is kept leaves the text of each span of before
 pub text_pushed : (first : ℕ) (ds ds' : List Datagram) (x : Datagram) (old : List Span) (i : ℕ) (s : Span)
-    → ds' ≡ ds ++ x ∷ [] → NamesFrom first ds old → slice_get old i ≡ Some s
+    → ds' ≡ ds ++ x ∷ [] → SpansNameFrom first ds old → slice_get old i ≡ Some s
     → span_bytes_in s (slice_get ds' (s.datagram - first)) ≡ span_bytes_in s (slice_get ds (s.datagram - first))
 text_pushed first ds ds' x old i s is h at =
     let b = named_bound first ds old i s h at in

@@ -46,7 +46,7 @@ IsWithin size s = (s.start ≤ s.end) × (s.end ≤ size)
 
 -- the spans name the datagrams from the serial number `first` on, in order and without a gap: the first span the first
 -- datagram, each later one the same or the next, the last one the last; and none is kept without a span
-pub record NamesFrom (first : ℕ) (ds : List Datagram) (ss : List Span) : Type 0 where
+pub record SpansNameFrom (first : ℕ) (ds : List Datagram) (ss : List Span) : Type 0 where
   pub fits : first + length ds < 2 ^ 64
   pub serials : map (λ s. s.datagram) ss ≡ serials_by_span first ds
   pub some : (i : ℕ) (d : Datagram) → slice_get ds i ≡ Some d → 0 < d.spans
@@ -55,16 +55,16 @@ pub record NamesFrom (first : ℕ) (ds : List Datagram) (ss : List Span) : Type 
       → slice_get ds j ≡ Some d → IsWithin (length d.bytes.items) s
 
 -- the same of the kept datagrams
-abbrev pub Names : Datagrams → List Span → Type 0
-Names kept ss = NamesFrom kept.first kept.list.items ss
+abbrev pub SpansName : Datagrams → List Span → Type 0
+SpansName kept ss = SpansNameFrom kept.first kept.list.items ss
 
 -- some spans name them
 abbrev pub AreNamed : Datagrams → Type 0
-AreNamed kept = (ss : List Span) × Names kept ss
+AreNamed kept = (ss : List Span) × SpansName kept ss
 
 -- this span is among those that name them
 abbrev pub IsNamed : Datagrams → Span → Type 0
-IsNamed kept s = (ss : List Span) × (i : ℕ) × Names kept ss × (slice_get ss i ≡ Some s)
+IsNamed kept s = (ss : List Span) × (i : ℕ) × SpansName kept ss × (slice_get ss i ≡ Some s)
 
 -- ---- a datagram that comes
 
@@ -73,7 +73,7 @@ abbrev pub next_serial : Datagrams → ℕ
 next_serial kept = kept.first + length kept.list.items
 
 -- spans of the one with this serial number and so many bytes, one after the other
-pub record AreOf (serial size : ℕ) (ss : List Span) : Type 0 where
+pub record AreSpansOf (serial size : ℕ) (ss : List Span) : Type 0 where
   pub one : (i : ℕ) (s : Span) → slice_get ss i ≡ Some s → (s.datagram ≡ serial) × IsWithin size s
   pub apart : AreApart ss
 

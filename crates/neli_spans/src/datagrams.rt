@@ -18,13 +18,13 @@ pub struct Datagrams {
 }
 
 impl Datagrams {
-    ghost use Rattle.std.specs.Prelude.{◌<◌, ◌+◌, ℕ, List, [], ◌∷◌, ◌++◌, Some, IsOk, OnOk, length, slice_get, slice_range};
-    ghost use Rattle.neli_spans.specs.Spans.{AreNamed, AreOf, HasRoom, IsNamed, IsUnchanged, Names, bytes_of, next_serial, span_bytes};
+    ghost use Rattle.std.specs.Prelude.{◌<◌, ◌≤◌, ◌+◌, ℕ, List, [], ◌∷◌, ◌++◌, Some, IsOk, OnOk, length, slice_get, slice_range};
+    ghost use Rattle.neli_spans.specs.Spans.{AreNamed, AreSpansOf, HasRoom, IsNamed, IsUnchanged, SpansName, bytes_of, next_serial, span_bytes};
     ghost use Rattle.neli_spans.specs.declared.span.Span.{Span as Named};
 
     /// No datagrams. It takes no memory.
     pub fn new(alloc: Global) -> Self
-        ensures names { Names result [] }
+        ensures names { SpansName result [] }
         ensures serial { next_serial result ≡ 0 }
     {
         Datagrams {
@@ -45,7 +45,7 @@ impl Datagrams {
     /// How many bytes the kept datagrams have; none where no span is left.
     pub fn byte_count(&self) -> usize
         ensures bytes { result ≡ bytes_of self.now }
-        ensures none { Names self.now [] → result ≡ 0 }
+        ensures none { SpansName self.now [] → result ≡ 0 }
     {
         self.bytes
     }
@@ -70,10 +70,10 @@ impl Datagrams {
     pub fn keep(&mut self, bytes: Vec<u8>, spans: usize)
         requires some { 0 < spans }
         requires room { HasRoom (length bytes.items) self.old }
-        ensures names { (old new : List Named) → Names self.old old
-            → AreOf (next_serial self.old) (length bytes.items) new → length new ≡ spans
-            → Names self.new (old ++ new) }
-        ensures same_bytes { (old : List Named) (i : ℕ) (s : Named) → Names self.old old
+        ensures names { (old new : List Named) → SpansName self.old old
+            → AreSpansOf (next_serial self.old) (length bytes.items) new → length new ≡ spans
+            → SpansName self.new (old ++ new) }
+        ensures same_bytes { (old : List Named) (i : ℕ) (s : Named) → SpansName self.old old
             → slice_get old i ≡ Some s → span_bytes self.new s ≡ span_bytes self.old s }
         ensures new_span { (s : Named) → s.datagram ≡ next_serial self.old
             → span_bytes self.new s ≡ slice_range bytes.items s.start s.end }
@@ -88,12 +88,13 @@ impl Datagrams {
     /// The first span goes, and its datagram where no other span names it. Every other span means the bytes that it
     /// did.
     pub fn release(&mut self)
-        requires { (s : Named) × (ss : List Named) × Names self.old (s ∷ ss) }
-        ensures names { (s : Named) (ss : List Named) → Names self.old (s ∷ ss)
-            → Names self.new ss }
-        ensures same_bytes { (s t : Named) (ss : List Named) (i : ℕ) → Names self.old (s ∷ ss)
+        requires { (s : Named) × (ss : List Named) × SpansName self.old (s ∷ ss) }
+        ensures names { (s : Named) (ss : List Named) → SpansName self.old (s ∷ ss)
+            → SpansName self.new ss }
+        ensures same_bytes { (s t : Named) (ss : List Named) (i : ℕ) → SpansName self.old (s ∷ ss)
             → slice_get ss i ≡ Some t → span_bytes self.new t ≡ span_bytes self.old t }
         ensures serial { next_serial self.new ≡ next_serial self.old }
+        ensures bytes { bytes_of self.new ≤ bytes_of self.old }
     {
         if let Some(datagram) = self.list.front() {
             let spans = datagram.spans;

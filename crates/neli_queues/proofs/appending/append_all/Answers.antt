@@ -2,7 +2,7 @@ use Rattle.std.proofs.Common.{◌≡◌, ◌++◌, ◌∙◌, [], nat_eq, option
 use Rattle.std.specs.HashMap.{get}
 use Rattle.std.specs.Vec.Iter.{into_iter_items}
 use Rattle.std.proofs.lemmas.List.{nil_from_length}
-use Rattle.neli_queues.specs.Pieces.{HaveRoom, gain_of}
+use Rattle.neli_queues.specs.Pieces.{HaveRoom, deliveries_for}
 use Rattle.neli_queues.proofs.Pieces.{HaveRoom-first, HaveRoom-left, append-none, hung-more}
 use Rattle.neli_queues.proofs.appending.append_all.Goals as goal
 
@@ -22,7 +22,7 @@ loop-piece-preserved c =
       room = HaveRoom-left at new c.in-Some.piece rest c.append_piece.ensures
           (subst (HaveRoom at) c.in-Some.ensures.steps.0 c.loop-piece.invariant.room);
       hung = λ q. hung-more at new c.in-Some.piece rest c.append_piece.ensures q
-          ∙ ap (λ ps. option_map (λ ds. ds ++ gain_of q ps) (at q)) (sym c.in-Some.ensures.steps.0)
+          ∙ ap (λ ps. option_map (λ ds. ds ++ deliveries_for q ps) (at q)) (sym c.in-Some.ensures.steps.0)
           ∙ c.loop-piece.invariant.hung q;
     }
 
@@ -31,5 +31,5 @@ returns c = λ q.
     let none : into_iter_items c.loop-piece.piece-iterator ≡ [] =
     nil_from_length _ (sym c.loop-piece.piece-iterator.rest.ok.0 ∙ c.in-None.ensures.steps.0) in
     sym (append-none (get nat_eq c.loop-piece.numbers q))
-    ∙ ap (λ ps. option_map (λ ds. ds ++ gain_of q ps) (get nat_eq c.loop-piece.numbers q)) (sym none)
+    ∙ ap (λ ps. option_map (λ ds. ds ++ deliveries_for q ps) (get nat_eq c.loop-piece.numbers q)) (sym none)
     ∙ c.loop-piece.invariant.hung q

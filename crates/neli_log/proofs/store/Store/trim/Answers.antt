@@ -1,4 +1,4 @@
-use Rattle.std.proofs.Common.{◌∙◌}
+use Rattle.std.proofs.Common.{◌∙◌, ap, arith, length}
 use Rattle.neli_places.specs.Places.{entries_of}
 use Rattle.neli_log.specs.Contents.{spans_of}
 use Rattle.neli_log.proofs.Stores.{released_backed, released_names, released_pending}
@@ -28,4 +28,8 @@ loop-content-preserved c =
       sound = c.in-Some.ensures.sound;
       backed = released_backed old.places new old.datagrams c.release.new.datagrams c.in-Some.content taken.0 taken.1
           c.in-Some.ensures.same c.loop-content.invariant.backed c.release.ensures.names c.release.ensures.same_bytes;
+      fewer = (
+        (let one = ap length taken.1 in let so_far = c.loop-content.invariant.fewer.0 in omega (arith, one, so_far)),
+        (let now = c.release.ensures.bytes in let so_far = c.loop-content.invariant.fewer.1 in omega (arith, now, so_far)),
+      );
     }

@@ -14,7 +14,7 @@ use Rattle.neli_places.proofs.places.Places.add_to_number.Goals as goal
 pub link-requires : goal.link-requires
 link-requires g c = λ o is.
     let s = c.args.self.now in let h = c.requires.trimmed.sound in
-    let b = last_bounds (Some c.args.n) s.base s.entries.items (c.args.p.from - s.base) c.args.p.own o is
+    let b = last_bounds (Some c.args.n) s.base s.entries.items (c.args.p.from - s.base) c.args.p.chain o is
     (h.places (Some c.args.n) c.args.p c.requires.is).chain in
     rw h.as_long b
 
@@ -22,7 +22,7 @@ pub returns-clause-more : goal.returns-clause-more
 returns-clause-more g c = λ w.
     let s = c.args.self.now in let h = c.requires.trimmed.sound in
     let e : Entry _ = record { item = c.args.item; route = Number c.args.n } in
-    let x : Place = record { from = c.args.p.from; own = Some c.with_last.result; seen = c.args.p.seen } in
+    let x : Place = record { from = c.args.p.from; chain = Some c.with_last.result; shared_passed = c.args.p.shared_passed } in
     pending_added w s.base s.entries.items c.append.new.entries.items e (place_of s w) _ c.append.ensures.entries
     (from_number (place_of s) (place_of (record s { numbers = c.put.new.numbers })) c.args.n c.args.p x
     c.requires.is refl refl c.put.ensures.updates w) (λ p is. (h.places w p is).within)
@@ -31,11 +31,11 @@ pub returns-clause-trimmed : goal.returns-clause-trimmed
 returns-clause-trimmed g c =
     let s = c.args.self.now in let h = c.requires.trimmed.sound in
     let e : Entry _ = record { item = c.args.item; route = Number c.args.n } in
-    let x : Place = record { from = c.args.p.from; own = Some c.with_last.result; seen = c.args.p.seen } in
+    let x : Place = record { from = c.args.p.from; chain = Some c.with_last.result; shared_passed = c.args.p.shared_passed } in
     let len : c.len.result ≡ length s.entries.items = omega (arith, s.entries.ok.0, c.len.ensures) in
-    let owned : Some c.with_last.result ≡ Some (with_last c.args.p.own (s.base + length s.entries.items)) =
+    let owned : Some c.with_last.result ≡ Some (with_last c.args.p.chain (s.base + length s.entries.items)) =
     ap Some (rw len at c.with_last.ensures) in
-    let links : c.append.new.links.items ≡ links_with s.base c.args.p.own
+    let links : c.append.new.links.items ≡ links_with s.base c.args.p.chain
     (s.base + length s.entries.items) s.links.items ++ None ∷ [] = c.append.ensures.links
     ∙ ap (λ l. l ++ None ∷ []) (rw len at c.link.ensures.links) in
     let same : (k : ℕ) → waiting_count k (values c.put.new.numbers) ≡ waiting_count k (values s.numbers) =

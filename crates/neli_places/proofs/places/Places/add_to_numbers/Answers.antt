@@ -20,7 +20,7 @@ returns-clause-trimmed g c =
     let s = c.args.self.now in let h = c.requires.trimmed.sound in
     let e : Entry _ = record { item = c.args.item; route = Numbers } in
     let len : c.len.result ≡ length s.entries.items = omega (arith, s.entries.ok.0, c.len.ensures) in
-    let x : Shared = record { at = s.base + c.len.result; standing = s.caught_up } in
+    let x : Shared = record { at = s.base + c.len.result; readers = s.caught_up } in
     let ok : is_ok c.push_back.result ≡ true = c.push_back.ensures.succeeds (omega (arith, c.requires.room.shared)) in
     let shared : c.push_back.new.self.items ≡ s.shared.items ++ x ∷ [] = rw ok at c.push_back.ensures.items in
     let o = first_open s.numbers.entries c.requires.some in

@@ -9,4 +9,4 @@ returns-clause-sound g c =
     forget_own_sound (place_of c.args.self.now) (values s.numbers) s.base s.shared_base s.caught_up a.0 a.1
     s.entries.items c.pop_front-first.new.self.items s.links.items c.pop_front.new.self.items s.shared.items
     c.args.route
-    a.2 a.3 c.pop_front-first.ensures.rest c.pop_front.ensures.rest c.requires.own c.requires.past c.requires.sound
+    a.2 a.3 c.pop_front-first.ensures.rest c.pop_front.ensures.rest c.requires.alone c.requires.past c.requires.sound

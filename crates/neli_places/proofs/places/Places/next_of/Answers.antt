@@ -8,19 +8,19 @@ shared_position-requires g c =
     let s = c.args.self.now in let h = c.requires.sound in
     let is = rw c.in-Some.is at c.requires.is in
     (seen_bounds s.shared_base s.base s.entries.items s.shared.items c.args.p.now h.positions_are
-    (h.seen _ c.args.p.now is)).0
+    (h.passed _ c.args.p.now is)).0
 
 pub returns-in-Some : goal.returns-in-Some
 returns-in-Some g c =
     let s = c.args.self.now in let h = c.requires.sound in let p = c.args.p.now in
     let is = rw c.in-Some.is at c.requires.is in
-    let mine = own_start (Some _) s.base s.entries.items (p.from - s.base) p.own (h.places (Some _) p is).chain in
-    let spot = spot_of s.shared_base s.base s.entries.items s.shared.items p h.positions_are (h.seen _ p is) in
+    let mine = own_start (Some _) s.base s.entries.items (p.from - s.base) p.chain (h.places (Some _) p is).chain in
+    let spot = spot_of s.shared_base s.base s.entries.items s.shared.items p h.positions_are (h.passed _ p is) in
     rw (
       c.in-Some.is,
       found_earlier _ (s.base + (p.from - s.base)) (drop (p.from - s.base) s.entries.items),
       mine,
       ← spot,
       ← c.shared_position.ensures,
-      ← c.start-own.ensures,
+      ← c.start-first.ensures,
     ) c.lesser_of.ensures

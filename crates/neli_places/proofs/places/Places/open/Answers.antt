@@ -31,7 +31,7 @@ returns-clause-trimmed g c =
     let s = c.args.self.now in let h = c.requires.trimmed in
     let e = c.in_ok-insert.ensures in
     let closed = mapped_none _ (get nat_eq s.numbers c.args.number) c.requires.closed in
-    let x : Place = record { from = s.base + c.len-2.result; own = None; seen = s.shared_base + c.len-3.result } in
+    let x : Place = record { from = s.base + c.len-2.result; chain = None; shared_passed = s.shared_base + c.len-3.result } in
     record {
       sound = sound_opened s.numbers c.insert.new.self
           (place_of s) _ s.base s.shared_base s.caught_up s.entries.items s.links.items s.shared.items h.sound

@@ -30,4 +30,4 @@ returns-clause-sound g c =
     sound_passed s.numbers c.put.new.numbers (place_of s) _ s.base s.shared_base s.caught_up s.entries.items
     s.links.items s.shared.items h c.args.n c.args.p c.after_own-after.result c.requires.is c.put.ensures.entries
     refl c.put.ensures.updates c.after_own-after.ensures.place
-    (c.after_own-after.ensures.counted c.args.n refl) c.after_own-after.ensures.seen
+    (c.after_own-after.ensures.counted c.args.n refl) c.after_own-after.ensures.passed
