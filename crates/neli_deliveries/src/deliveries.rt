@@ -3,6 +3,7 @@
 ghost use Rattle.std.specs.Prelude.{true, ◌≡◌, ◌≢◌, ℕ, List, [], ◌∷◌, ◌++◌, Option, None, Some, IsOk, IfOk, OnOk, OnErr, is_some, option_map};
 ghost use Rattle.neli_reader.specs.Cuts.{cut_of};
 ghost use Rattle.neli_reader.specs.Agreement.{untyped_layout};
+ghost use Rattle.neli_deliveries.specs.Lists.{ListsGain, SameLists, SameListsBut};
 ghost use Rattle.neli_deliveries.specs.declared.delivery.Delivery.{Delivery as Waiting};
 ghost use Rattle.neli_deliveries.specs.Deliveries.{fault_share, head_of, is_would_block, datagram_share};
 ghost use Rattle.neli_deliveries.specs.Readings.{IsFirst};
@@ -45,16 +46,15 @@ pub trait Deliveries: Sized {
         requires { pending self.old (Some number) ≡ None }
         ensures port { port_of self.new ≡ port_of self.old }
         ensures opened { OnOk result (pending self.new (Some number) ≡ Some []) }
-        ensures others { OnOk result ((w : Option ℕ) → w ≢ Some number
-            → pending self.new w ≡ pending self.old w) }
-        ensures err { OnErr result ((w : Option ℕ) → pending self.new w ≡ pending self.old w) };
+        ensures others { OnOk result (SameListsBut (Some number)
+            (pending self.old) (pending self.new)) }
+        ensures err { OnErr result (SameLists (pending self.old) (pending self.new)) };
 
     /// Takes a list away, with what waits there. It takes no memory.
     fn close(&mut self, whose: Option<u32>)
         ensures port { port_of self.new ≡ port_of self.old }
         ensures closed { pending self.new whose ≡ None }
-        ensures others { (w : Option ℕ) → w ≢ whose
-            → pending self.new w ≡ pending self.old w };
+        ensures others { SameListsBut whose (pending self.old) (pending self.new) };
 
     /// Hands over what a datagram holds, that came to these groups.
     ///
@@ -62,11 +62,10 @@ pub trait Deliveries: Sized {
     /// never is.
     fn datagram(&mut self, bytes: &[u8], groups: &Groups) -> Result<(), NoMemory>
         ensures port { port_of self.new ≡ port_of self.old }
-        ensures ok { OnOk result ((w : Option ℕ) → pending self.new w
-            ≡ option_map (λ ds. ds ++ datagram_share (port_of self.old)
-            (λ q. is_some (pending self.old (Some q))) w
-            (cut_of untyped_layout bytes.now) groups.now) (pending self.old w)) }
-        ensures err { OnErr result ((w : Option ℕ) → pending self.new w ≡ pending self.old w) }
+        ensures ok { OnOk result (ListsGain (λ w. datagram_share (port_of self.old)
+            (λ q. is_some (pending self.old (Some q))) w (cut_of untyped_layout bytes.now) groups.now)
+            (pending self.old) (pending self.new)) }
+        ensures err { OnErr result (SameLists (pending self.old) (pending self.new)) }
         ensures empty { bytes.now ≡ [] → IsOk result };
 
     /// Hands a fault of the link to each open number, unless it is that the link would block.
@@ -75,9 +74,9 @@ pub trait Deliveries: Sized {
     /// block never is.
     fn fault(&mut self, error: SocketError) -> Result<(), NoMemory>
         ensures port { port_of self.new ≡ port_of self.old }
-        ensures ok { OnOk result ((w : Option ℕ) → pending self.new w
-            ≡ option_map (λ ds. ds ++ fault_share w error) (pending self.old w)) }
-        ensures err { OnErr result ((w : Option ℕ) → pending self.new w ≡ pending self.old w) }
+        ensures ok { OnOk result (ListsGain (λ w. fault_share w error)
+            (pending self.old) (pending self.new)) }
+        ensures err { OnErr result (SameLists (pending self.old) (pending self.new)) }
         ensures would_block { is_would_block error ≡ true → IsOk result };
 
     /// What waits first, read as the caller's types, or that nothing waits: a message, or why there
@@ -99,6 +98,5 @@ pub trait Deliveries: Sized {
         ensures port { port_of self.new ≡ port_of self.old }
         ensures taken { (d : Waiting) (ds : List Waiting) → pending self.old whose ≡ Some (d ∷ ds)
             → pending self.new whose ≡ Some ds }
-        ensures others { (w : Option ℕ) → w ≢ whose
-            → pending self.new w ≡ pending self.old w };
+        ensures others { SameListsBut whose (pending self.old) (pending self.new) };
 }

@@ -3,6 +3,7 @@
 ghost use Rattle.std.specs.Prelude.{◌≡◌, ◌≢◌, ◌↔◌, ◌≤◌, ◌+◌, ◌++◌, ℕ, List, [], ◌∷◌, Option, None, Some, IsOk, OnErr, OnOk, is_some, option_map, true};
 ghost use Rattle.neli_reader.specs.Agreement.{untyped_layout};
 ghost use Rattle.neli_reader.specs.Cuts.{cut_of};
+ghost use Rattle.neli_deliveries.specs.Lists.{ListsGain, SameLists, SameListsBut};
 ghost use Rattle.neli_deliveries.specs.declared.delivery.Delivery.{Delivery as Waiting};
 ghost use Rattle.neli_deliveries.specs.Deliveries.{datagram_share, fault_share, is_would_block};
 ghost use Rattle.neli_log.specs.Log.{IsAsBefore, KeepsEntries, KeepsNoMore, byte_count, entry_count, pending_of};
@@ -84,10 +85,9 @@ impl Deliveries for Log {
         requires { pending_of self.old (Some number) ≡ None }
         ensures port { self.new.port ≡ self.old.port }
         ensures opened { OnOk result (pending_of self.new (Some number) ≡ Some []) }
-        ensures others { OnOk result ((w : Option ℕ) → w ≢ Some number
-            → pending_of self.new w ≡ pending_of self.old w) }
-        ensures err { OnErr result ((w : Option ℕ)
-            → pending_of self.new w ≡ pending_of self.old w) }
+        ensures others { OnOk result (SameListsBut (Some number)
+            (pending_of self.old) (pending_of self.new)) }
+        ensures err { OnErr result (SameLists (pending_of self.old) (pending_of self.new)) }
         ensures left { IsAsBefore self.old self.new }
     {
         self.store.open(number)
@@ -97,8 +97,7 @@ impl Deliveries for Log {
     fn close(&mut self, whose: Option<u32>)
         ensures port { self.new.port ≡ self.old.port }
         ensures closed { pending_of self.new whose ≡ None }
-        ensures others { (w : Option ℕ) → w ≢ whose
-            → pending_of self.new w ≡ pending_of self.old w }
+        ensures others { SameListsBut whose (pending_of self.old) (pending_of self.new) }
         ensures fewer { KeepsNoMore self.old self.new }
     {
         self.store.close(whose);
@@ -109,12 +108,10 @@ impl Deliveries for Log {
     /// out, entries and bytes are as they were.
     fn datagram(&mut self, bytes: &[u8], groups: &Groups) -> Result<(), NoMemory>
         ensures port { self.new.port ≡ self.old.port }
-        ensures ok { OnOk result ((w : Option ℕ) → pending_of self.new w
-            ≡ option_map (λ ds. ds ++ datagram_share self.old.port
-            (λ q. is_some (pending_of self.old (Some q))) w
-            (cut_of untyped_layout bytes.now) groups.now) (pending_of self.old w)) }
-        ensures err { OnErr result ((w : Option ℕ)
-            → pending_of self.new w ≡ pending_of self.old w) }
+        ensures ok { OnOk result (ListsGain (λ w. datagram_share self.old.port
+            (λ q. is_some (pending_of self.old (Some q))) w (cut_of untyped_layout bytes.now) groups.now)
+            (pending_of self.old) (pending_of self.new)) }
+        ensures err { OnErr result (SameLists (pending_of self.old) (pending_of self.new)) }
         ensures empty { bytes.now ≡ [] → IsOk result }
         ensures kept { OnOk result (KeepsEntries self.old self.new bytes.now) }
         ensures once { entry_count self.new
@@ -128,10 +125,9 @@ impl Deliveries for Log {
     /// runs out, entries and bytes are as they were.
     fn fault(&mut self, error: SocketError) -> Result<(), NoMemory>
         ensures port { self.new.port ≡ self.old.port }
-        ensures ok { OnOk result ((w : Option ℕ) → pending_of self.new w
-            ≡ option_map (λ ds. ds ++ fault_share w error) (pending_of self.old w)) }
-        ensures err { OnErr result ((w : Option ℕ)
-            → pending_of self.new w ≡ pending_of self.old w) }
+        ensures ok { OnOk result (ListsGain (λ w. fault_share w error)
+            (pending_of self.old) (pending_of self.new)) }
+        ensures err { OnErr result (SameLists (pending_of self.old) (pending_of self.new)) }
         ensures would_block { is_would_block error ≡ true → IsOk result }
         ensures unawaited { ((q : ℕ) → pending_of self.old (Some q) ≡ None) → IsOk result }
         ensures kept { OnOk result (KeepsEntries self.old self.new []) }
@@ -155,8 +151,7 @@ impl Deliveries for Log {
         ensures port { self.new.port ≡ self.old.port }
         ensures taken { (d : Waiting) (ds : List Waiting) → pending_of self.old whose ≡ Some (d ∷ ds)
             → pending_of self.new whose ≡ Some ds }
-        ensures others { (w : Option ℕ) → w ≢ whose
-            → pending_of self.new w ≡ pending_of self.old w }
+        ensures others { SameListsBut whose (pending_of self.old) (pending_of self.new) }
         ensures fewer { KeepsNoMore self.old self.new }
     {
         self.store.drop_first(whose);

@@ -3,6 +3,7 @@
 ghost use Rattle.std.specs.Prelude.{◌≡◌, ◌≢◌, ◌↔◌, ◌++◌, ◌+◌, ◌≤◌, ℕ, List, [], ◌∷◌, Option, None, Some, IfOk, IsOk, OnErr, OnOk, is_some, length, option_map, true};
 ghost use Rattle.neli_reader.specs.Agreement.{untyped_layout};
 ghost use Rattle.neli_reader.specs.Cuts.{cut_of};
+ghost use Rattle.neli_deliveries.specs.Lists.{ListsGain, SameLists, SameListsBut};
 ghost use Rattle.neli_deliveries.specs.declared.delivery.Delivery.{Delivery as Waiting};
 ghost use Rattle.neli_deliveries.specs.Deliveries.{fault_share, head_of, is_would_block, datagram_share};
 ghost use Rattle.neli_deliveries.specs.Readings.{IsFirst, IsReading};
@@ -68,7 +69,7 @@ impl Store {
     fn trim(&mut self)
         requires { IsUntrimmed self.old }
         ensures port { self.new.port ≡ self.old.port }
-        ensures same { (w : Option ℕ) → pending_of self.new w ≡ pending_of self.old w }
+        ensures same { SameLists (pending_of self.old) (pending_of self.new) }
         ensures fewer { KeepsNoMore self.old self.new }
         ensures log { IsTrimmedAndBacked self.new }
     {
@@ -83,10 +84,9 @@ impl Store {
         requires log { IsTrimmedAndBacked self.old }
         ensures port { self.new.port ≡ self.old.port }
         ensures opened { OnOk result (pending_of self.new (Some number) ≡ Some []) }
-        ensures others { OnOk result ((w : Option ℕ) → w ≢ Some number
-            → pending_of self.new w ≡ pending_of self.old w) }
-        ensures err { OnErr result ((w : Option ℕ)
-            → pending_of self.new w ≡ pending_of self.old w) }
+        ensures others { OnOk result (SameListsBut (Some number)
+            (pending_of self.old) (pending_of self.new)) }
+        ensures err { OnErr result (SameLists (pending_of self.old) (pending_of self.new)) }
         ensures left { IsAsBefore self.old self.new }
         ensures log { IsTrimmedAndBacked self.new }
     {
@@ -99,8 +99,7 @@ impl Store {
         requires { IsTrimmedAndBacked self.old }
         ensures port { self.new.port ≡ self.old.port }
         ensures closed { pending_of self.new whose ≡ None }
-        ensures others { (w : Option ℕ) → w ≢ whose
-            → pending_of self.new w ≡ pending_of self.old w }
+        ensures others { SameListsBut whose (pending_of self.old) (pending_of self.new) }
         ensures fewer { KeepsNoMore self.old self.new }
         ensures log { IsTrimmedAndBacked self.new }
     {
@@ -114,8 +113,7 @@ impl Store {
         ensures port { self.new.port ≡ self.old.port }
         ensures taken { (d : Waiting) (ds : List Waiting)
             → pending_of self.old whose ≡ Some (d ∷ ds) → pending_of self.new whose ≡ Some ds }
-        ensures others { (w : Option ℕ) → w ≢ whose
-            → pending_of self.new w ≡ pending_of self.old w }
+        ensures others { SameListsBut whose (pending_of self.old) (pending_of self.new) }
         ensures fewer { KeepsNoMore self.old self.new }
         ensures log { IsTrimmedAndBacked self.new }
     {
@@ -131,10 +129,9 @@ impl Store {
         requires messages { AreMessages (part_of bytes.now) (spans_of entries.items) }
         requires readers { HaveReaders (items_of self.old.places) entries.items }
         ensures port { self.new.port ≡ self.old.port }
-        ensures ok { OnOk result ((w : Option ℕ) → pending_of self.new w
-            ≡ option_map (λ ds. ds ++ deliveries_added bytes.now w entries.items) (pending_of self.old w)) }
-        ensures err { OnErr result ((w : Option ℕ)
-            → pending_of self.new w ≡ pending_of self.old w) }
+        ensures ok { OnOk result (ListsGain (λ w. deliveries_added bytes.now w entries.items)
+            (pending_of self.old) (pending_of self.new)) }
+        ensures err { OnErr result (SameLists (pending_of self.old) (pending_of self.new)) }
         ensures kept { OnOk result (Keeps self.old self.new bytes.now entries.items) }
         ensures left { OnErr result (IsAsBefore self.old self.new) }
         ensures log { IsTrimmedAndBacked self.new }
@@ -150,12 +147,10 @@ impl Store {
     pub(crate) fn datagram(&mut self, bytes: &[u8], groups: &Groups) -> Result<(), NoMemory>
         requires { IsTrimmedAndBacked self.old }
         ensures port { self.new.port ≡ self.old.port }
-        ensures ok { OnOk result ((w : Option ℕ) → pending_of self.new w
-            ≡ option_map (λ ds. ds ++ datagram_share self.old.port
-            (λ q. is_some (pending_of self.old (Some q))) w
-            (cut_of untyped_layout bytes.now) groups.now) (pending_of self.old w)) }
-        ensures err { OnErr result ((w : Option ℕ)
-            → pending_of self.new w ≡ pending_of self.old w) }
+        ensures ok { OnOk result (ListsGain (λ w. datagram_share self.old.port
+            (λ q. is_some (pending_of self.old (Some q))) w (cut_of untyped_layout bytes.now) groups.now)
+            (pending_of self.old) (pending_of self.new)) }
+        ensures err { OnErr result (SameLists (pending_of self.old) (pending_of self.new)) }
         ensures empty { bytes.now ≡ [] → IsOk result }
         ensures kept { OnOk result (KeepsEntries self.old self.new bytes.now) }
         ensures once { entry_count self.new
@@ -178,10 +173,9 @@ impl Store {
     pub(crate) fn fault(&mut self, error: SocketError) -> Result<(), NoMemory>
         requires { IsTrimmedAndBacked self.old }
         ensures port { self.new.port ≡ self.old.port }
-        ensures ok { OnOk result ((w : Option ℕ) → pending_of self.new w
-            ≡ option_map (λ ds. ds ++ fault_share w error) (pending_of self.old w)) }
-        ensures err { OnErr result ((w : Option ℕ)
-            → pending_of self.new w ≡ pending_of self.old w) }
+        ensures ok { OnOk result (ListsGain (λ w. fault_share w error)
+            (pending_of self.old) (pending_of self.new)) }
+        ensures err { OnErr result (SameLists (pending_of self.old) (pending_of self.new)) }
         ensures would_block { is_would_block error ≡ true → IsOk result }
         ensures unawaited { ((q : ℕ) → pending_of self.old (Some q) ≡ None) → IsOk result }
         ensures kept { OnOk result (KeepsEntries self.old self.new []) }

@@ -1,6 +1,7 @@
 //! The first entry goes, and places go.
 
 ghost use Rattle.std.specs.Prelude.{◌≡◌, ◌≢◌, ◌<◌, ℕ, true, false, Option, None, Some, drop, slice_get};
+ghost use Rattle.neli_places.specs.Lists.{SameLists, SameListsBut};
 ghost use Rattle.neli_places.specs.Places.{HavePassedFirst, BeginsWith, IsSound, AwaitsFirst, entries_of, pending_of, place_of};
 ghost use Rattle.neli_places.specs.Routes.{is_shared};
 
@@ -43,7 +44,7 @@ impl<T: Drop> Places<T> {
         requires past { HavePassedFirst (place_of self.old) self.old.base route }
         ensures taken { result ≡ slice_get (entries_of self.old) 0 }
         ensures less { entries_of self.new ≡ drop 1 (entries_of self.old) }
-        ensures same { (w : Option ℕ) → pending_of self.new w ≡ pending_of self.old w }
+        ensures same { SameLists (pending_of self.old) (pending_of self.new) }
         ensures sound { IsSound self.new }
     {
         match route {
@@ -59,7 +60,7 @@ impl<T: Drop> Places<T> {
         requires past { HavePassedFirst (place_of self.old) self.old.base route }
         ensures taken { result ≡ slice_get (entries_of self.old) 0 }
         ensures less { entries_of self.new ≡ drop 1 (entries_of self.old) }
-        ensures same { (w : Option ℕ) → pending_of self.new w ≡ pending_of self.old w }
+        ensures same { SameLists (pending_of self.old) (pending_of self.new) }
         ensures sound { IsSound self.new }
     {
         let _ = self.links.pop_front();
@@ -74,7 +75,7 @@ impl<T: Drop> Places<T> {
         requires past { HavePassedFirst (place_of self.old) self.old.base Route.Numbers }
         ensures taken { result ≡ slice_get (entries_of self.old) 0 }
         ensures less { entries_of self.new ≡ drop 1 (entries_of self.old) }
-        ensures same { (w : Option ℕ) → pending_of self.new w ≡ pending_of self.old w }
+        ensures same { SameLists (pending_of self.old) (pending_of self.new) }
         ensures sound { IsSound self.new }
     {
         let _ = self.shared.pop_front();
@@ -90,8 +91,7 @@ impl<T: Drop> Places<T> {
         requires { IsSound self.old }
         ensures entries { entries_of self.new ≡ entries_of self.old }
         ensures closed { pending_of self.new None ≡ None }
-        ensures others { (w : Option ℕ) → w ≢ None
-            → pending_of self.new w ≡ pending_of self.old w }
+        ensures others { SameListsBut None (pending_of self.old) (pending_of self.new) }
         ensures sound { IsSound self.new }
     {
         self.multicast = None;
@@ -102,8 +102,7 @@ impl<T: Drop> Places<T> {
         requires { IsSound self.old }
         ensures entries { entries_of self.new ≡ entries_of self.old }
         ensures closed { pending_of self.new (Some n) ≡ None }
-        ensures others { (w : Option ℕ) → w ≢ Some n
-            → pending_of self.new w ≡ pending_of self.old w }
+        ensures others { SameListsBut (Some n) (pending_of self.old) (pending_of self.new) }
         ensures sound { IsSound self.new }
     {
         if let Some(p) = self.numbers.remove(&n) {

@@ -1,6 +1,7 @@
 //! A place moves past the first entry that it waits for.
 
 ghost use Rattle.std.specs.Prelude.{◌≡◌, ◌≢◌, ◌+◌, ◌-◌, ◌≤◌, ℕ, true, false, List, ◌∷◌, Option, None, Some, map, slice_get};
+ghost use Rattle.neli_places.specs.Lists.{SameListsBut};
 ghost use Rattle.neli_places.specs.Places.{IsPlace, CountsPassed, IsSound, RouteAt, entries_of, next_position, pending_of, place_of};
 ghost use Rattle.neli_places.specs.Routes.{is_shared, leads_only};
 
@@ -43,8 +44,7 @@ impl<T: Drop> Places<T> {
         ensures entries { entries_of self.new ≡ entries_of self.old }
         ensures taken { (x : T) (xs : List T) → pending_of self.old None ≡ Some (x ∷ xs)
             → pending_of self.new None ≡ Some xs }
-        ensures others { (w : Option ℕ) → w ≢ None
-            → pending_of self.new w ≡ pending_of self.old w }
+        ensures others { SameListsBut None (pending_of self.old) (pending_of self.new) }
         ensures sound { IsSound self.new }
     {
         self.multicast = Some(self.after_own(None, p, m));
@@ -59,8 +59,7 @@ impl<T: Drop> Places<T> {
         ensures entries { entries_of self.new ≡ entries_of self.old }
         ensures taken { (x : T) (xs : List T) → pending_of self.old (Some n) ≡ Some (x ∷ xs)
             → pending_of self.new (Some n) ≡ Some xs }
-        ensures others { (w : Option ℕ) → w ≢ Some n
-            → pending_of self.new w ≡ pending_of self.old w }
+        ensures others { SameListsBut (Some n) (pending_of self.old) (pending_of self.new) }
         ensures sound { IsSound self.new }
     {
         let after = self.after_own(Some(n), p, m);
@@ -76,8 +75,7 @@ impl<T: Drop> Places<T> {
         ensures entries { entries_of self.new ≡ entries_of self.old }
         ensures taken { (x : T) (xs : List T) → pending_of self.old (Some n) ≡ Some (x ∷ xs)
             → pending_of self.new (Some n) ≡ Some xs }
-        ensures others { (w : Option ℕ) → w ≢ Some n
-            → pending_of self.new w ≡ pending_of self.old w }
+        ensures others { SameListsBut (Some n) (pending_of self.old) (pending_of self.new) }
         ensures sound { IsSound self.new }
     {
         // The prover learns here that a count of places fits: there are fewer than 2^63 numbers.

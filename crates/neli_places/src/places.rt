@@ -1,6 +1,7 @@
 //! The entries, and who waits for which.
 
 ghost use Rattle.std.specs.Prelude.{◌≡◌, ◌≢◌, ◌↔◌, ◌++◌, ℕ, List, [], ◌∷◌, Option, None, Some, IfSome, IsNone, IsOk, IsTrue, OnErr, OnOk, is_some, length, option_map};
+ghost use Rattle.neli_places.specs.Lists.{SameLists, SameListsBut};
 ghost use Rattle.neli_places.specs.Places.{Gains, HasPlaceRoom, HasReader, HasRoom, IsSound, IsTrimmed, LeavesRoom, entries_of, head_of, pending_of, place_of};
 ghost use Rattle.neli_places.specs.Routes.{entry};
 ghost use Rattle.neli_places.specs.declared.entry.Route.{Route as Way};
@@ -86,10 +87,9 @@ impl<T: Drop> Places<T> {
         requires trimmed { IsTrimmed self.old }
         ensures entries { entries_of self.new ≡ entries_of self.old }
         ensures opened { OnOk result (pending_of self.new (Some number) ≡ Some []) }
-        ensures others { OnOk result ((w : Option ℕ) → w ≢ Some number
-            → pending_of self.new w ≡ pending_of self.old w) }
-        ensures err { OnErr result ((w : Option ℕ)
-            → pending_of self.new w ≡ pending_of self.old w) }
+        ensures others { OnOk result (SameListsBut (Some number)
+            (pending_of self.old) (pending_of self.new)) }
+        ensures err { OnErr result (SameLists (pending_of self.old) (pending_of self.new)) }
         ensures enough { HasPlaceRoom self.old → IsOk result }
         ensures trimmed { IsTrimmed self.new }
     {
@@ -115,8 +115,7 @@ impl<T: Drop> Places<T> {
         requires { IsSound self.old }
         ensures entries { entries_of self.new ≡ entries_of self.old }
         ensures closed { pending_of self.new whose ≡ None }
-        ensures others { (w : Option ℕ) → w ≢ whose
-            → pending_of self.new w ≡ pending_of self.old w }
+        ensures others { SameListsBut whose (pending_of self.old) (pending_of self.new) }
         ensures sound { IsSound self.new }
     {
         match whose {
@@ -148,8 +147,7 @@ impl<T: Drop> Places<T> {
             → pending_of self.new whose ≡ Some xs }
         ensures nothing { head_of (pending_of self.old whose) ≡ None
             → pending_of self.new whose ≡ pending_of self.old whose }
-        ensures others { (w : Option ℕ) → w ≢ whose
-            → pending_of self.new w ≡ pending_of self.old w }
+        ensures others { SameListsBut whose (pending_of self.old) (pending_of self.new) }
         ensures sound { IsSound self.new }
     {
         if let Some(p) = self.place(whose) {
@@ -171,7 +169,7 @@ impl<T: Drop> Places<T> {
         requires { IsSound self.old }
         ensures taken { IfSome result (λ x. (route : Way)
             × (entries_of self.old ≡ entry x route ∷ entries_of self.new)) }
-        ensures same { (w : Option ℕ) → pending_of self.new w ≡ pending_of self.old w }
+        ensures same { SameLists (pending_of self.old) (pending_of self.new) }
         ensures sound { IsSound self.new }
         ensures left { IsNone result → entries_of self.new ≡ entries_of self.old }
         ensures trimmed { IsNone result → IsTrimmed self.new }
@@ -196,7 +194,7 @@ impl<T: Drop> Places<T> {
     pub fn reserve(&mut self, n: usize) -> Result<(), AllocError>
         requires { IsTrimmed self.old }
         ensures entries { entries_of self.new ≡ entries_of self.old }
-        ensures same { (w : Option ℕ) → pending_of self.new w ≡ pending_of self.old w }
+        ensures same { SameLists (pending_of self.old) (pending_of self.new) }
         ensures trimmed { IsTrimmed self.new }
         ensures room { OnOk result (HasRoom n self.new) }
         ensures enough { HasRoom n self.old → IsOk result }

@@ -3,6 +3,7 @@
 ghost use Rattle.std.specs.Prelude.{◌≡◌, ◌++◌, ℕ, Option, IfOk, OnOk, OnErr, option_map};
 ghost use Rattle.neli_reader.specs.Agreement.{untyped_layout};
 ghost use Rattle.neli_reader.specs.Cuts.{cut_of};
+ghost use Rattle.neli_deliveries.specs.Lists.{ListsGain};
 ghost use Rattle.neli_deliveries.specs.Deliveries.{is_would_block, datagram_share};
 ghost use Rattle.neli_queues.specs.Pieces.{is_open};
 ghost use Rattle.neli_queues.specs.Queues.{AreDue, share_of_both, kept_port, pending_of};
@@ -81,8 +82,8 @@ impl Queues {
         pieces: Vec<Piece>,
     ) -> Result<(), NoMemory>
         ensures port { kept_port self.new ≡ kept_port self.old }
-        ensures ok { OnOk result ((w : Option ℕ) → pending_of self.new w
-            ≡ option_map (λ ds. ds ++ share_of_both for_multicast pieces.items w) (pending_of self.old w)) }
+        ensures ok { OnOk result (ListsGain (λ w. share_of_both for_multicast pieces.items w)
+            (pending_of self.old) (pending_of self.new)) }
         ensures err { OnErr result (self.new ≡ self.old) }
     {
         if !have_room(&self.numbers, &pieces) {

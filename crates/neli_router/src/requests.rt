@@ -3,6 +3,7 @@
 ghost use Rattle.std.specs.Prelude.{false, ◌≡◌, ◌≢◌, ◌≤◌, ℕ, [], ◌∷◌, Option, Some, Ok, IfOk, IfErr, OnOk, OnErr, is_some, length};
 ghost use Rattle.neli_router.specs.Requests.{FamilyTakesMemory, families_request, families_sent, family_request, family_sent, getfamily, name_attribute, sent_to_controller};
 ghost use Rattle.neli_router.specs.Sends.{RefusesSend, asks, number_after};
+ghost use Rattle.neli_deliveries.specs.Lists.{SameLists, SameListsBut};
 
 use crate::{Deliveries, NlRouter, NlRouterReceiverHandle};
 use neli_attr::{AttrType, Buffer, BuildError, GenlBuffer, Nlattr, NlattrBuilder};
@@ -58,11 +59,10 @@ impl<D: Deliveries> NlRouter<D> {
         ensures next_seq { OnOk result (self.new.next_seq ≡ number_after self.old.next_seq) }
         ensures opened { OnOk result
             (D.pending self.new.deliveries (Some self.old.next_seq) ≡ Some []) }
-        ensures others { OnOk result ((w : Option ℕ) → w ≢ Some self.old.next_seq
-            → D.pending self.new.deliveries w ≡ D.pending self.old.deliveries w) }
+        ensures others { OnOk result (SameListsBut (Some self.old.next_seq)
+            (D.pending self.old.deliveries) (D.pending self.new.deliveries)) }
         ensures err { OnErr result ((self.new.next_seq ≡ self.old.next_seq)
-            × ((w : Option ℕ)
-            → D.pending self.new.deliveries w ≡ D.pending self.old.deliveries w)) }
+            × (SameLists (D.pending self.old.deliveries) (D.pending self.new.deliveries))) }
     {
         let number = self.next_seq;
         if self.deliveries.is_open(Some(number)) {
@@ -108,11 +108,10 @@ impl<D: Deliveries> NlRouter<D> {
         ensures next_seq { OnOk result (self.new.next_seq ≡ number_after self.old.next_seq) }
         ensures opened { OnOk result
             (D.pending self.new.deliveries (Some self.old.next_seq) ≡ Some []) }
-        ensures others { OnOk result ((w : Option ℕ) → w ≢ Some self.old.next_seq
-            → D.pending self.new.deliveries w ≡ D.pending self.old.deliveries w) }
+        ensures others { OnOk result (SameListsBut (Some self.old.next_seq)
+            (D.pending self.old.deliveries) (D.pending self.new.deliveries)) }
         ensures err { OnErr result ((self.new.next_seq ≡ self.old.next_seq)
-            × ((w : Option ℕ)
-            → D.pending self.new.deliveries w ≡ D.pending self.old.deliveries w)) }
+            × (SameLists (D.pending self.old.deliveries) (D.pending self.new.deliveries))) }
     {
         let body = getfamily(alloc, GenlBuffer::new(alloc));
         self.send(alloc, GenlId::Ctrl, NlmF::DUMP, NlPayload::Payload(body))

@@ -3,6 +3,7 @@
 ghost use Rattle.std.specs.Prelude.{true, false, ◌≡◌, ◌≢◌, ◌||◌, ℕ, List, [], ◌∷◌, ◌++◌, Option, None, Some, Ok, Err, IsOk, IfOk, IfErr, OnOk, OnErr, is_some, option_map};
 ghost use Rattle.neli_reader.specs.Cuts.{cut_of};
 ghost use Rattle.neli_reader.specs.Agreement.{untyped_layout};
+ghost use Rattle.neli_deliveries.specs.Lists.{ListsGain, SameLists, SameListsBut};
 ghost use Rattle.neli_deliveries.specs.declared.delivery.Delivery.{Delivery as Waiting};
 ghost use Rattle.neli_deliveries.specs.Deliveries.{fault_share, is_would_block, datagram_share};
 ghost use Rattle.neli_deliveries.specs.Readings.{IsReading, Item as Given};
@@ -109,11 +110,10 @@ impl<D: Deliveries> NlRouter<D> {
         ensures next_seq { OnOk result (self.new.next_seq ≡ number_after self.old.next_seq) }
         ensures opened { OnOk result
             (D.pending self.new.deliveries (Some self.old.next_seq) ≡ Some []) }
-        ensures others { OnOk result ((w : Option ℕ) → w ≢ Some self.old.next_seq
-            → D.pending self.new.deliveries w ≡ D.pending self.old.deliveries w) }
+        ensures others { OnOk result (SameListsBut (Some self.old.next_seq)
+            (D.pending self.old.deliveries) (D.pending self.new.deliveries)) }
         ensures err { OnErr result ((self.new.next_seq ≡ self.old.next_seq)
-            × ((w : Option ℕ)
-            → D.pending self.new.deliveries w ≡ D.pending self.old.deliveries w)) }
+            × (SameLists (D.pending self.old.deliveries) (D.pending self.new.deliveries))) }
     {
         let number = self.next_seq;
         if self.deliveries.is_open(Some(number)) {
@@ -140,12 +140,11 @@ impl<D: Deliveries> NlRouter<D> {
     pub fn processing_loop(&mut self, bytes: &[u8], groups: &Groups) -> Result<(), NoMemory>
         ensures port { D.port_of self.new.deliveries ≡ D.port_of self.old.deliveries }
         ensures next_seq { self.new.next_seq ≡ self.old.next_seq }
-        ensures ok { OnOk result ((w : Option ℕ) → D.pending self.new.deliveries w
-            ≡ option_map (λ ds. ds ++ datagram_share (D.port_of self.old.deliveries)
-            (λ q. is_some (D.pending self.old.deliveries (Some q))) w
-            (cut_of untyped_layout bytes.now) groups.now) (D.pending self.old.deliveries w)) }
-        ensures err { OnErr result ((w : Option ℕ)
-            → D.pending self.new.deliveries w ≡ D.pending self.old.deliveries w) }
+        ensures ok { OnOk result (ListsGain (λ w. datagram_share (D.port_of self.old.deliveries)
+            (λ q. is_some (D.pending self.old.deliveries (Some q))) w (cut_of untyped_layout bytes.now) groups.now)
+            (D.pending self.old.deliveries) (D.pending self.new.deliveries)) }
+        ensures err { OnErr result (SameLists
+            (D.pending self.old.deliveries) (D.pending self.new.deliveries)) }
         ensures empty { bytes.now ≡ [] → IsOk result }
     {
         self.deliveries.datagram(bytes, groups)
@@ -159,10 +158,10 @@ impl<D: Deliveries> NlRouter<D> {
     pub fn error_handling(&mut self, error: SocketError) -> Result<(), NoMemory>
         ensures port { D.port_of self.new.deliveries ≡ D.port_of self.old.deliveries }
         ensures next_seq { self.new.next_seq ≡ self.old.next_seq }
-        ensures ok { OnOk result ((w : Option ℕ) → D.pending self.new.deliveries w
-            ≡ option_map (λ ds. ds ++ fault_share w error) (D.pending self.old.deliveries w)) }
-        ensures err { OnErr result ((w : Option ℕ)
-            → D.pending self.new.deliveries w ≡ D.pending self.old.deliveries w) }
+        ensures ok { OnOk result (ListsGain (λ w. fault_share w error)
+            (D.pending self.old.deliveries) (D.pending self.new.deliveries)) }
+        ensures err { OnErr result (SameLists
+            (D.pending self.old.deliveries) (D.pending self.new.deliveries)) }
         ensures would_block { is_would_block error ≡ true → IsOk result }
     {
         self.deliveries.fault(error)
@@ -202,8 +201,8 @@ impl<D: Deliveries> NlRouter<D> {
               ended = ends_at T.wire_number handle.old.needs_ack
                   (has_number handle.old.number) handle.old.single_given item;
             })) }
-        ensures others { (w : Option ℕ) → w ≢ handle.old.number
-            → D.pending self.new.deliveries w ≡ D.pending self.old.deliveries w }
+        ensures others { SameListsBut handle.old.number
+            (D.pending self.old.deliveries) (D.pending self.new.deliveries) }
         ensures err { OnErr result ((handle.new ≡ handle.old) × (self.new ≡ self.old)) }
     {
         let state = handle.state();
@@ -237,8 +236,8 @@ impl<D: Deliveries> NlRouter<D> {
         ensures port { D.port_of self.new.deliveries ≡ D.port_of self.old.deliveries }
         ensures next_seq { self.new.next_seq ≡ self.old.next_seq }
         ensures closed { D.pending self.new.deliveries handle.number ≡ None }
-        ensures others { (w : Option ℕ) → w ≢ handle.number
-            → D.pending self.new.deliveries w ≡ D.pending self.old.deliveries w }
+        ensures others { SameListsBut handle.number
+            (D.pending self.old.deliveries) (D.pending self.new.deliveries) }
     {
         self.deliveries.close(handle.state().number);
     }

@@ -97,7 +97,11 @@ pub(crate) fn answer<T: NlType, P: Drop>(
         } else {
             single
         };
-    let given = if ended { last_item(&handle, item) } else { item };
+    let given = if ended {
+        last_item(&handle, item)
+    } else {
+        item
+    };
     let after = HandleState {
         number: handle.number,
         needs_ack: handle.needs_ack,
