@@ -18,8 +18,8 @@ type Trouble = RouterError<Rtm, Ifaddrmsg>;
 /// Reads the answers to the request.
 type Handle = neli::router::synchronous::NlRouterReceiverHandle<Rtm, Ifaddrmsg>;
 
-/// What the kernel is asked for the addresses of a link, and the first of them in its answer. The first lines of the
-/// example stand at the top of this page, the last ones below.
+/// What the kernel is asked for the addresses of a link, and the first of them in its answer, which the function below
+/// reads.
 fn first_address(
     alloc: Global,
     port: u32,
