@@ -104,7 +104,7 @@ static struct cost run(const char *tool, const struct script *s) {
 /* ---- through the calls for C */
 
 /* Hands in a message of type 16 with flag MULTI, for this number. */
-static void hand_in(struct neli_runs *router, bool dropped, uint32_t number) {
+static void hand_in(struct neli_router *router, bool dropped, uint32_t number) {
     static const uint32_t group = 1;
     uint8_t message[16] = {16, 0, 0, 0, 16, 0, 2, 0};
     memcpy(message + 8, &number, sizeof number);
@@ -113,7 +113,7 @@ static void hand_in(struct neli_runs *router, bool dropped, uint32_t number) {
 }
 
 /* Reads a message and its bytes; one that was dropped is not there. */
-static unsigned read_one(struct neli_runs *router, size_t handle) {
+static unsigned read_one(struct neli_router *router, size_t handle) {
     struct neli_item item;
     uint8_t bytes[16];
     size_t length;
@@ -126,7 +126,7 @@ static unsigned read_one(struct neli_runs *router, size_t handle) {
 
 /* Does what a script says, and ends the process. */
 static void play(const struct script *s) {
-    struct neli_runs router = NELI_ROUTER_CLOSED;
+    struct neli_router router = NELI_ROUTER_CLOSED;
     size_t *handles = malloc(s->open * sizeof *handles);
     unsigned items = 0;
     if (!handles || neli_router_new(&router, 0) != NELI_OK) fail("no memory");

@@ -100,7 +100,7 @@ struct neli_writer {
 
 /* A router, which only the library looks into. It begins as NELI_ROUTER_CLOSED, is not copied while it is open, is used
  * by one thread at a time, and is freed by its last owner. */
-struct neli_runs {
+struct neli_router {
     bool is_open;
     void *state;
 };
@@ -154,17 +154,17 @@ int32_t neli_c_put_attribute(uint8_t *out, size_t room, struct neli_writer *writ
 int32_t neli_c_begin_nest(uint8_t *out, size_t room, struct neli_writer *writer, uint16_t type, size_t *nest);
 int32_t neli_c_end_nest(uint8_t *out, size_t room, const struct neli_writer *writer, size_t nest);
 int32_t neli_c_end_message(uint8_t *out, size_t room, const struct neli_writer *writer);
-int32_t neli_c_router_new(struct neli_runs *router, uint32_t port);
-int32_t neli_c_router_free(struct neli_runs *router);
-int32_t neli_c_router_set_number(struct neli_runs *router, uint32_t number);
-int32_t neli_c_router_send(struct neli_runs *router, uint16_t type, uint16_t flags, const uint8_t *body,
+int32_t neli_c_router_new(struct neli_router *router, uint32_t port);
+int32_t neli_c_router_free(struct neli_router *router);
+int32_t neli_c_router_set_number(struct neli_router *router, uint32_t number);
+int32_t neli_c_router_send(struct neli_router *router, uint16_t type, uint16_t flags, const uint8_t *body,
                            size_t body_length, uint8_t *out, size_t room, struct neli_sent *sent);
-int32_t neli_c_router_datagram(struct neli_runs *router, const uint8_t *bytes, size_t length,
+int32_t neli_c_router_datagram(struct neli_router *router, const uint8_t *bytes, size_t length,
                                const uint32_t *groups, size_t group_count);
-int32_t neli_c_router_fault(struct neli_runs *router, int32_t error_number);
-int32_t neli_c_router_read(struct neli_runs *router, size_t handle, struct neli_item *item);
-int32_t neli_c_router_item(struct neli_runs *router, uint8_t *out, size_t room, size_t *length);
-int32_t neli_c_router_close(struct neli_runs *router, size_t handle);
+int32_t neli_c_router_fault(struct neli_router *router, int32_t error_number);
+int32_t neli_c_router_read(struct neli_router *router, size_t handle, struct neli_item *item);
+int32_t neli_c_router_item(struct neli_router *router, uint8_t *out, size_t room, size_t *length);
+int32_t neli_c_router_close(struct neli_router *router, size_t handle);
 
 /* ---- Pointers and lengths ---- */
 
@@ -196,18 +196,19 @@ static inline int32_t neli_error_text(int32_t code, char *text, size_t room) {
 
 /* ---- Reading by slices: no memory is taken ---- */
 
-/* The next message of a walk, which goes past it: NELI_ITEM, or NELI_END where nothing is left. NELI_SHORT where the
- * header or the padding is cut off, NELI_LENGTH where the stated length is below 16 or past the end. */
+/* The next message of a walk, which goes past it and its padding: NELI_ITEM, or NELI_END where nothing is left.
+ * NELI_PLACE where the walk's places are not in order or past the bytes, NELI_SHORT where the header or the padding is
+ * cut off, NELI_LENGTH where the stated length is below 16 or past the end. */
 static inline int32_t neli_next_message(const uint8_t *bytes, size_t length, struct neli_walk *walk,
                                         struct neli_message *message) {
     if (!neli_is_slice(bytes, length) || walk == NULL || message == NULL) return NELI_NULL;
     return neli_c_next_message(neli_read_at(bytes), length, walk, message);
 }
 
-/* The next messages of a walk, which goes past them: as many as there is room for, or as come before the walk's end or a
+/* The next messages of a walk, which goes past them: as many as there is room for, or as come before its end or a
  * fault. NELI_ITEM, and `count` is how many; without a message `count` is 0, and the answer is that of
  * `neli_next_message`, so the end and a fault are answered by the call after the last message. NELI_ROOM where there is
- * room for none. What follows those that are given stays. */
+ * room for none: `room` counts messages. What follows those that are given stays. */
 static inline int32_t neli_next_messages(const uint8_t *bytes, size_t length, struct neli_walk *walk,
                                          struct neli_message *messages, size_t room, size_t *count) {
     static struct neli_message none[1];
@@ -217,7 +218,8 @@ static inline int32_t neli_next_messages(const uint8_t *bytes, size_t length, st
 }
 
 /* A walk over the attributes of a message, after a body's header of this size (16 of a link, 8 of an address, 12 of a
- * route, 4 of generic netlink), rounded up to four. NELI_SHORT where the payload is shorter. */
+ * route, 4 of generic netlink), rounded up to four. NELI_PLACE where the payload ends past PTRDIFF_MAX, NELI_SHORT
+ * where it is shorter than the header. */
 static inline int32_t neli_attributes_of(const struct neli_message *message, size_t header_size,
                                          struct neli_walk *walk) {
     if (message == NULL || walk == NULL) return NELI_NULL;
@@ -241,23 +243,23 @@ static inline int32_t neli_next_attributes(const uint8_t *bytes, size_t length, 
                                   count);
 }
 
-/* The first attribute with this number among those that are left: NELI_ITEM, or NELI_END where there is none. Refused
- * with the fault of what is left where none stands before it. The walk stays where it is. */
+/* The first attribute with this number among those that are left: NELI_ITEM, or NELI_END where there is none. A fault
+ * before one is found is answered as by `neli_next_attribute`. The walk stays where it is. */
 static inline int32_t neli_find_attribute(const uint8_t *bytes, size_t length, const struct neli_walk *walk,
                                           uint16_t number, struct neli_attribute *attribute) {
     if (!neli_is_slice(bytes, length) || walk == NULL || attribute == NULL) return NELI_NULL;
     return neli_c_find_attribute(neli_read_at(bytes), length, walk, number, attribute);
 }
 
-/* A walk over the attributes that an attribute's payload lists. NELI_PLACE where the payload's place and length add to
- * more than a size_t holds. */
+/* A walk over the attributes that an attribute's payload lists. NELI_PLACE where the payload ends past PTRDIFF_MAX. */
 static inline int32_t neli_attributes_in(const struct neli_attribute *attribute, struct neli_walk *walk) {
     if (attribute == NULL || walk == NULL) return NELI_NULL;
     return neli_c_attributes_in(attribute, walk);
 }
 
-/* The number at a place, in the order of the machine, or (`be`) in network order; NELI_SHORT where the bytes end
- * before it does. Of an attribute a: `neli_get_u32(bytes + a.payload, a.payload_length, 0, &value)`. */
+/* The number at a place, its lowest byte first, as kernel and machine have it, or (`be`) its highest first, in network
+ * order; NELI_SHORT where the bytes end before it does. Of an attribute a:
+ * `neli_get_u32(bytes + a.payload, a.payload_length, 0, &value)`. */
 static inline int32_t neli_get_u8(const uint8_t *bytes, size_t length, size_t place, uint8_t *value) {
     if (!neli_is_slice(bytes, length) || value == NULL) return NELI_NULL;
     return neli_c_get_u8(neli_read_at(bytes), length, place, value);
@@ -301,15 +303,19 @@ static inline int32_t neli_text_length(const uint8_t *payload, size_t payload_le
 }
 
 /* What a message of type 2 (an error or an acknowledgement) or of type 3 with the flag MULTI (2) and a payload (the end
- * of a dump) says; NELI_KIND of another message, NELI_SHORT where the payload is too short for it, NELI_LENGTH where
- * the echoed request passes it. Text and offset are found in `attributes`. */
+ * of a dump) says; NELI_PLACE where its payload is past the bytes, NELI_KIND of another message, NELI_SHORT where the
+ * payload is too short for it, NELI_LENGTH where the echoed request has a length below 16 or passes the payload. Text
+ * and offset are found in `attributes`. */
 static inline int32_t neli_get_answer(const uint8_t *bytes, size_t length, const struct neli_message *message,
                                       struct neli_answer *answer) {
     if (!neli_is_slice(bytes, length) || message == NULL || answer == NULL) return NELI_NULL;
     return neli_c_get_answer(neli_read_at(bytes), length, message, answer);
 }
 
-/* ---- Writing into the caller's bytes: NELI_ROOM where they are full, and then nothing is written ---- */
+/* ---- Writing into the caller's bytes ---- */
+
+/* What begins or appends answers NELI_ROOM where its bytes do not fit between the writer's end and that of `out`. A
+ * refusal writes nothing, and leaves the writer. A message ends by `neli_end_message`, the nests in it before. */
 
 /* Begins a message at the writer's end, which goes past the header. Its length is set by `neli_end_message`. */
 static inline int32_t neli_begin_message(uint8_t *out, size_t room, struct neli_writer *writer, uint16_t type,
@@ -341,7 +347,7 @@ static inline int32_t neli_begin_nest(uint8_t *out, size_t room, struct neli_wri
 }
 
 /* Sets the length of a nest to what was written since it was begun; NELI_LENGTH where that passes 65535 bytes,
- * NELI_PLACE where no nest can lie there. */
+ * NELI_PLACE where no nest of the message that was begun last can lie there. */
 static inline int32_t neli_end_nest(uint8_t *out, size_t room, const struct neli_writer *writer, size_t nest) {
     if (!neli_is_slice(out, room) || writer == NULL) return NELI_NULL;
     return neli_c_end_nest(neli_write_at(out), room, writer, nest);
@@ -356,28 +362,31 @@ static inline int32_t neli_end_message(uint8_t *out, size_t room, const struct n
 
 /* ---- The router ---- */
 
-/* Opens a router for the port of the caller's socket; NELI_STATE where it is open. */
-static inline int32_t neli_router_new(struct neli_runs *router, uint32_t port) {
+/* All but the first two answer NELI_STATE where the router is closed. NELI_MEMORY leaves the router as it was, and the
+ * same call can be made again. */
+
+/* Opens a router for the port of the caller's socket; NELI_STATE where it is open, which it stays. */
+static inline int32_t neli_router_new(struct neli_router *router, uint32_t port) {
     if (router == NULL) return NELI_NULL;
     return neli_c_router_new(router, port);
 }
 
 /* Frees what a router has, and closes it. Of a closed one, nothing. */
-static inline int32_t neli_router_free(struct neli_runs *router) {
+static inline int32_t neli_router_free(struct neli_router *router) {
     if (router == NULL) return NELI_NULL;
     return neli_c_router_free(router);
 }
 
 /* Sets the sequence number of the next request. The first is 0, and each request takes the next one. */
-static inline int32_t neli_router_set_number(struct neli_runs *router, uint32_t number) {
+static inline int32_t neli_router_set_number(struct neli_router *router, uint32_t number) {
     if (router == NULL) return NELI_NULL;
     return neli_c_router_set_number(router, number);
 }
 
 /* A request of this type with these flags and NLM_F_REQUEST, whose payload is the body, as bytes to be sent; and the
- * handle that its replies are read by. At NELI_ROOM `sent->length` is what is needed. NELI_LENGTH where the length
- * passes 32 bits, NELI_IN_USE. */
-static inline int32_t neli_router_send(struct neli_runs *router, uint16_t type, uint16_t flags, const void *body,
+ * handle that its replies are read by. NELI_LENGTH where the length passes 32 bits; NELI_ROOM, and then `sent->length`
+ * is what is needed; NELI_IN_USE where the next number belongs to a request that is not closed. */
+static inline int32_t neli_router_send(struct neli_router *router, uint16_t type, uint16_t flags, const void *body,
                                        size_t body_length, uint8_t *out, size_t room, struct neli_sent *sent) {
     if (router == NULL || !neli_is_slice(body, body_length) || !neli_is_slice(out, room) || sent == NULL)
         return NELI_NULL;
@@ -385,8 +394,8 @@ static inline int32_t neli_router_send(struct neli_runs *router, uint16_t type, 
                               neli_write_at(out), room, sent);
 }
 
-/* Takes in a datagram that came to these groups; none where it came to the router's port alone. */
-static inline int32_t neli_router_datagram(struct neli_runs *router, const uint8_t *bytes, size_t length,
+/* Takes in a datagram that came to these groups; none, or 0, where it came to the router's port alone. It is copied. */
+static inline int32_t neli_router_datagram(struct neli_router *router, const uint8_t *bytes, size_t length,
                                            const uint32_t *groups, size_t group_count) {
     static const uint32_t none[1] = {0};
     if (router == NULL || !neli_is_slice(bytes, length)) return NELI_NULL;
@@ -396,29 +405,32 @@ static inline int32_t neli_router_datagram(struct neli_runs *router, const uint8
 
 /* Takes in a fault of the link, by its number in errno.h: each open request is given NELI_LINK. EAGAIN gives nobody
  * anything. */
-static inline int32_t neli_router_fault(struct neli_runs *router, int32_t error_number) {
+static inline int32_t neli_router_fault(struct neli_router *router, int32_t error_number) {
     if (router == NULL) return NELI_NULL;
     return neli_c_router_fault(router, error_number);
 }
 
-/* Reads the next item of a handle: NELI_ITEM, NELI_KERNEL_ERROR, NELI_END, NELI_WAITS; or what came in its place
- * (NELI_STRAY, NELI_LINK, ..). NELI_HANDLE where the handle is not open. */
-static inline int32_t neli_router_read(struct neli_runs *router, size_t handle, struct neli_item *item) {
+/* Reads the next item of a handle, that of a request or NELI_MULTICAST: NELI_ITEM, NELI_KERNEL_ERROR, NELI_WAITS, or
+ * NELI_END after the last. What came in an item's place is answered below 0, and has been read: NELI_STRAY,
+ * NELI_NO_ACK, NELI_UNEXPECTED_ACK, NELI_LINK, or NELI_SHORT, NELI_LENGTH, NELI_BYTES of what cannot be read. It is the
+ * handle's last item, as NELI_KERNEL_ERROR is. `item` is written at NELI_ITEM and NELI_KERNEL_ERROR. NELI_HANDLE where
+ * the handle is not open. */
+static inline int32_t neli_router_read(struct neli_router *router, size_t handle, struct neli_item *item) {
     if (router == NULL || item == NULL) return NELI_NULL;
     return neli_c_router_read(router, handle, item);
 }
 
 /* The bytes of the item that was read last, of whatever handle: at NELI_ITEM the message, at NELI_KERNEL_ERROR an error
- * message, which both can be walked by the calls above. At NELI_ROOM `length` is what is needed; the item stays.
- * NELI_HANDLE where nothing was read, or something without bytes. */
-static inline int32_t neli_router_item(struct neli_runs *router, uint8_t *out, size_t room, size_t *length) {
+ * message, which both can be walked by the calls above. At NELI_ROOM `length` is what is needed. The item stays, also
+ * over NELI_END and NELI_WAITS. NELI_HANDLE where nothing was read, or something without bytes. */
+static inline int32_t neli_router_item(struct neli_router *router, uint8_t *out, size_t room, size_t *length) {
     if (router == NULL || !neli_is_slice(out, room) || length == NULL) return NELI_NULL;
     return neli_c_router_item(router, neli_write_at(out), room, length);
 }
 
-/* Closes a handle: what waits for it is given up. Its number is that of the next handle that is opened, but for that of
- * multicast. */
-static inline int32_t neli_router_close(struct neli_runs *router, size_t handle) {
+/* Closes a handle: what waits for it is given up; NELI_HANDLE where it is not open. Its number is that of the next
+ * handle that is opened, but for NELI_MULTICAST, which is not opened again. */
+static inline int32_t neli_router_close(struct neli_router *router, size_t handle) {
     if (router == NULL) return NELI_NULL;
     return neli_c_router_close(router, handle);
 }

@@ -9,12 +9,12 @@
 struct host {
     int fd;
     uint32_t port;
-    struct neli_runs router;
+    struct neli_router router;
     int fault;      /* of the socket, the last one; 0 at first */
     bool is_untold; /* whether the handle of multicast has not told it yet */
     uint8_t *datagram;
     size_t room;
-    bool is_held; /* whether the datagram is still to be handed in: there was no memory */
+    bool is_held, is_fault_held; /* whether the datagram, the fault is still to be handed in: there was no memory */
     size_t length;
     uint32_t group;
     uint8_t *item; /* the item that was read last, a message; its padding is there */

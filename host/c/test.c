@@ -262,7 +262,7 @@ static void another_sender_is_passed_over(void) {
 }
 
 static void nothing_that_is_wrong_crosses(void) {
-    struct neli_runs router = NELI_ROUTER_CLOSED;
+    struct neli_router router = NELI_ROUTER_CLOSED;
     struct neli_item item;
     struct neli_sent sent;
     uint8_t out[36];

@@ -197,7 +197,7 @@ static void check_refusals(void) {
 }
 
 static void check_router(void) {
-    struct neli_runs router = NELI_ROUTER_CLOSED;
+    struct neli_router router = NELI_ROUTER_CLOSED;
     struct neli_sent sent;
     struct neli_item item;
     uint8_t out[64];
@@ -240,7 +240,7 @@ static void check_router(void) {
 
 /* Handles that were closed are given again, the last one first, and then new ones; the others stay. */
 static void check_handles(void) {
-    struct neli_runs router = NELI_ROUTER_CLOSED;
+    struct neli_router router = NELI_ROUTER_CLOSED;
     struct neli_sent sent;
     struct neli_item item;
     uint8_t out[16];

@@ -1,4 +1,4 @@
-//! A router for C. What C holds is a `struct neli_runs`, which is closed where all its bytes are 0.
+//! A router for C. What C holds is a `struct neli_router`, which is closed where all its bytes are 0.
 //!
 //! Each call but the first answers `STATE` where the router is closed, and changes nothing then.
 

@@ -93,7 +93,7 @@ pub struct Item {
     pub error: i32,
 }
 
-/// `struct neli_runs`.
+/// `struct neli_router`.
 #[repr(C)]
 #[derive(Debug)]
 struct RawRouter {

@@ -38,7 +38,7 @@ fn rust_type(c: &str) -> String {
         "struct neli_writer" => "Writer",
         "struct neli_sent" => "Sent",
         "struct neli_item" => "Item",
-        "struct neli_runs" => "RawRouter",
+        "struct neli_router" => "RawRouter",
         other => panic!("{other}"),
     };
     let pointer = if is_const { "*const " } else { "*mut " };
