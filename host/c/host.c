@@ -11,6 +11,9 @@
 /* The kernel fills the datagrams of a dump up to this many bytes. */
 #define ROOM 32768u
 
+/* The longest request, in bytes. */
+#define REQUEST_ROOM 2048
+
 static int32_t failed(struct host *host) {
     host->fault = errno;
     return NELI_LINK;
@@ -111,7 +114,7 @@ int32_t host_receive(struct host *host, size_t *length, uint32_t *group) {
 }
 
 int32_t host_send(struct host *host, uint16_t type, uint16_t flags, const void *body, size_t length, size_t *handle) {
-    uint8_t out[2048];
+    uint8_t out[REQUEST_ROOM];
     struct neli_sent sent;
     int32_t code = neli_router_send(&host->router, type, flags, body, length, out, sizeof out, &sent);
     if (code != NELI_OK) return code;
@@ -124,17 +127,23 @@ int32_t host_send(struct host *host, uint16_t type, uint16_t flags, const void *
     return NELI_OK;
 }
 
-/* Hands in the next datagram, or the socket's fault. A datagram that the router has no memory for is held. */
+/* Hands in what is held. What the router has no memory for is held on. */
+static int32_t hand_in_held(struct host *host) {
+    int32_t code = host->is_held
+        ? neli_router_datagram(&host->router, host->datagram, host->length, &host->group, host->group != 0)
+        : neli_router_fault(&host->router, host->fault);
+    if (code != NELI_MEMORY) host->is_held = host->is_fault_held = false;
+    return code;
+}
+
+/* Hands in the next datagram, or the socket's fault. */
 static int32_t hand_in(struct host *host) {
-    int32_t code = host->is_held ? NELI_OK : host_receive(host, &host->length, &host->group);
-    if (code == NELI_OK) {
-        code = neli_router_datagram(&host->router, host->datagram, host->length, &host->group, host->group != 0);
-        host->is_held = code == NELI_MEMORY;
-        return code;
-    }
-    if (code != NELI_LINK || host->fault == EAGAIN) return code;
-    host->is_untold = true;
-    return neli_router_fault(&host->router, host->fault);
+    if (host->is_held || host->is_fault_held) return hand_in_held(host);
+    int32_t code = host_receive(host, &host->length, &host->group);
+    if (code != NELI_OK && (code != NELI_LINK || host->fault == EAGAIN)) return code;
+    if (code == NELI_OK) host->is_held = true;
+    else host->is_fault_held = host->is_untold = true;
+    return hand_in_held(host);
 }
 
 /* Copies the item that was read last, and finds its message. */

@@ -32,11 +32,11 @@ void host_close(struct host *host);
  * the group that it came to, or 0. */
 int32_t host_receive(struct host *host, size_t *length, uint32_t *group);
 
-/* Sends a request, whose replies are read by `handle`. */
+/* Sends a request, whose replies are read by `handle`; NELI_ROOM where it has more than 2048 bytes. */
 int32_t host_send(struct host *host, uint16_t type, uint16_t flags, const void *body, size_t length, size_t *handle);
 
 /* The next item of a handle, which may wait for datagrams. At NELI_ITEM and NELI_KERNEL_ERROR `message` is the header
- * of what is in `item`. */
+ * of what is in `item`. At NELI_MEMORY what came is kept, but an item for which `item` could not grow is lost. */
 int32_t host_next(struct host *host, size_t handle, struct neli_message *message);
 
 /* The first attribute with this number among those that are left of a walk over the item. */

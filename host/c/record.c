@@ -28,7 +28,8 @@ int main(int argc, char **argv) {
         if (fwrite(host.datagram, 1, length, file) != length) break;
     }
     host_close(&host);
-    if (fclose(file) != 0) {
+    bool is_written = ferror(file) == 0;
+    if (fclose(file) != 0 || !is_written) {
         fprintf(stderr, "record: %s\n", strerror(errno));
         return 1;
     }

@@ -1,5 +1,5 @@
-//! `make add NAME PEER ADDRESS/BITS NET/BITS` makes a pair of links, sets the first up, and gives it an address and a
-//! route; `make del` with the same words takes route, address and links away. It says why the kernel refuses.
+//! `make add NAME PEER ADDRESS/BITS NET/BITS` makes a pair of links, sets both up, and gives the first an address
+//! and a route; `make del` with the same words takes route, address and links away. It says why the kernel refuses.
 
 use neli::ToBytes;
 use neli::consts::nl::NlmF;

@@ -1,9 +1,10 @@
 //! Netlink on a live link: sockets, and a router that gives each reply to the request that it answers, over the proved
 //! library `libneli_c.a`.
 //!
-//! The names are those of the crate neli 0.7, so that a program of its users moves over; `docs/DIFFERENCES.md` says what
-//! differs, and `docs/CALLING.md` how to build, who owns what, and what threads may do. Reading and writing messages and attributes, and all that the router decides, is done by the library and
-//! proved there; sockets and the types of this crate are tested alone.
+//! The names are those of the crate neli 0.7, so that a program of its users moves over; `docs/DIFFERENCES.md` says
+//! what differs, and `docs/CALLING.md` how to build, who owns what, and what threads may do. Reading and writing
+//! messages and attributes, and all that the router decides, is done by the library and proved there; sockets and the
+//! types of this crate are tested alone.
 //!
 //! ```no_run
 //! use neli::consts::nl::NlmF;
