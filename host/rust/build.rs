@@ -1,8 +1,8 @@
 //! Links the proved library and the heap of the kit, and writes the tables of numbers as Rust.
 //!
 //! `NELI_C` is the folder of `libneli_c.a`, `RATTLE_C` that of `liblibc_c.a`. Without them the library is looked for
-//! where `rt lib` leaves it, and the heap beside the page that `rt doc` names. The numbers are those that the program
-//! `neli_constants` prints, and the gate compares.
+//! where `host/library` leaves it, and the heap beside the page that `rt doc` names. The numbers are those that the
+//! program `neli_constants` prints, and the gate compares.
 
 use std::collections::BTreeMap;
 use std::path::{Path, PathBuf};
