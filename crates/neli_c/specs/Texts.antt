@@ -1,5 +1,5 @@
 -- What codes are called.
-use Rattle.std.specs.Prelude.{◌≡◌, ℕ, ℤ, pos, negsuc, List, codes}
+use Rattle.std.specs.Prelude.{◌≡◌, ℕ, ◌+◌, ℤ, pos, negsuc, List, codes}
 
 -- t is what this code is called
 abbrev pub IsTextOf : ℤ → List ℕ → Type 0
@@ -24,3 +24,6 @@ IsTextOf code t =
     × (code ≡ negsuc 13 → t ≡ codes "a place is past the bytes")
     × (code ≡ negsuc 14 → t ≡ codes "the message is of another kind")
     × (code ≡ negsuc 15 → t ≡ codes "no zero byte ends the text")
+    -- a number that is no code
+    × ((n : ℕ) → code ≡ pos (4 + n) → t ≡ codes "not a code of this library")
+    × ((n : ℕ) → code ≡ negsuc (16 + n) → t ≡ codes "not a code of this library")

@@ -1,6 +1,6 @@
 //! What codes are called.
 
-ghost use Rattle.std.specs.Prelude.{◌≡◌, ◌≢◌, ◌+◌, length, nat_le, slice_index, take, if◌then◌else◌};
+ghost use Rattle.std.specs.Prelude.{◌≡◌, ◌≢◌, ◌+◌, ℕ, List, drop, length, nat_le, slice_index, take, if◌then◌else◌};
 ghost use Rattle.neli_c.specs.Codes.{ok, room};
 ghost use Rattle.neli_c.specs.Texts.{IsTextOf};
 
@@ -41,8 +41,11 @@ fn text_of(code: i32) -> &'static str
 #[unsafe(no_mangle)]
 pub extern "C" fn neli_c_error_text(code: i32, out: &mut [u8], text_length: &mut usize) -> i32
     ensures code { result ≡ (if nat_le (text_length.new + 1) (length out.old) then ok else room) }
+    ensures length { (t : List ℕ) × IsTextOf code t × (text_length.new ≡ length t) }
     ensures text { result ≡ ok → IsTextOf code (take text_length.new out.new) }
     ensures zero { result ≡ ok → slice_index out.new text_length.new ≡ 0 }
+    ensures rest { result ≡ ok
+        → drop (text_length.new + 1) out.new ≡ drop (text_length.new + 1) out.old }
     ensures unchanged { result ≢ ok → out.new ≡ out.old }
 {
     let text = text_of(code).as_bytes();
