@@ -1,0 +1,52 @@
+//! Numbers of today's kernels that the Rust crate's tables do not have, by name.
+//!
+//! Each table is an enum with a variant for each name and `UnrecognizedConst` for every other
+//! number. A number is read as the first variant that has it, so no number is lost: what it is read
+//! as has that same number. Two values are equal where they are the same variant; an
+//! `UnrecognizedConst` that is made by hand with a named number is equal to no named variant.
+//!
+//! `From` goes both ways. By [`neli_wire::Constant`] each table is written as its number, and read
+//! from it. A table of attributes has [`neli_consts_attrs::RtaType`] or [`neli_consts::NlAttrType`],
+//! one of commands [`neli_consts::Cmd`], so attributes are looked up by it.
+//!
+//! The kernel's header and the prefix of its names stand with each table; a variant is spelled like
+//! the rest of the kernel's name. The tables are those of Linux 6.1 with the names that came later;
+//! an older kernel has fewer. [`CtrlCmd`], [`CtrlAttr`] and [`NlmsgerrAttr`] are tables that the
+//! Rust crate has too, with the names that are not in it.
+//!
+//! - `acknowledgements`: errors and acknowledgements
+//! - `bonds`: bonds and the links in them
+//! - `bridges`: bridges and their ports
+//! - `controller`: the controller of generic netlink
+//! - `groups`: multicast groups of routing
+//! - `macvlans`: `macvlan` and `macvtap`
+//! - `metrics`: metrics of routes
+//! - `next_hops`: next hops of routes
+//! - `policies`: what the kernel says of the attributes that it takes
+//! - `vxlans`: VXLAN tunnels
+#![tactic(auto)]
+
+mod acknowledgements;
+mod bonds;
+mod bridges;
+mod controller;
+mod groups;
+pub mod laws;
+mod macvlans;
+mod metrics;
+mod next_hops;
+mod policies;
+mod vxlans;
+
+pub use acknowledgements::NlmsgerrAttr;
+pub use bonds::{IflaBond, IflaBondAdInfo, IflaBondSlave};
+pub use bridges::{IflaBr, IflaBrport};
+pub use controller::{CtrlAttr, CtrlAttrOp, CtrlAttrPolicy, CtrlCmd};
+pub use groups::Rtnlgrp;
+pub use macvlans::IflaMacvlan;
+pub use metrics::Rtax;
+pub use next_hops::{
+    NexthopGrpType, Nha, NhaGroupStats, NhaGroupStatsEntry, NhaResBucket, NhaResGroup,
+};
+pub use policies::{NetlinkAttributeType, NlPolicyTypeAttr};
+pub use vxlans::IflaVxlan;
