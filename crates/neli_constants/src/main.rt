@@ -13,11 +13,12 @@
 //! set, of `From` the named bits of the first and those of the empty set.
 //!
 //! - [`rows`] and [`sets`] write the lines of one table and of one set.
-//! - `messages`, `system`, `routing`, `attributes` and `flags` have the tables.
+//! - `messages`, `system`, `routing`, `attributes`, `linux` and `flags` have the tables.
 #![tactic(auto)]
 
 mod attributes;
 mod flags;
+mod linux;
 mod messages;
 mod routing;
 mod rows;
@@ -32,5 +33,6 @@ fn main(rt: HostRuntime) -> io::Result<()> {
     system::write_tables(&mut out)?;
     routing::write_tables(&mut out)?;
     attributes::write_tables(&mut out)?;
+    linux::write_tables(&mut out)?;
     flags::write_sets(&mut out)
 }
