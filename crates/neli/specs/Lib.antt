@@ -6,6 +6,7 @@ pub use Rattle.neli_consts.specs as consts
 pub use Rattle.neli_consts_routing.specs as consts_rt
 pub use Rattle.neli_consts_attrs.specs as consts_rta
 pub use Rattle.neli_consts_flags.specs as consts_rtf
+pub use Rattle.neli_consts_linux.specs as consts_linux
 pub use Rattle.neli_consts_system.specs as consts_sys
 pub use Rattle.neli_route.specs as route
 pub use Rattle.neli_link.specs as link

@@ -6,6 +6,7 @@
 pub mod connector;
 pub mod genl;
 pub mod laws;
+pub mod linux;
 pub mod netfilter;
 pub mod nl;
 pub mod rtnl;

@@ -1,8 +1,10 @@
 //! Looking attributes up in a handle.
 
 use crate::support::{Handle, assert_is_at, assert_lent, assert_number, assert_refused, read_list};
+use neli::BeU16;
 use neli::attr::AttrHandle;
 use neli::consts::genl::{CtrlAttr, Index};
+use neli::consts::linux::IflaVxlan;
 use neli::consts::rtnl::{Frattr, Ifla, RtaType};
 use neli::err::DeError;
 use neli::genl::{GenlAttrHandle, Nlattr};
@@ -79,6 +81,19 @@ fn lookup_goes_by_equality(rt: HostRuntime) {
     assert!(rt; handle.get_attribute(Frattr::Ifname).is_none());
     assert_whole(&rt, alloc, &handle, &[1, 0, 0, 0]);
     assert_lent(&rt, &handle, Frattr::Iifname, &[1, 0, 0, 0]);
+}
+
+/// Attributes of a tunnel: `IFLA_VXLAN_ID` (1), the network 42; `IFLA_VXLAN_PORT` (15), the port 4789 in network order.
+const TUNNEL: [u8; 16] = [8, 0, 1, 0, 42, 0, 0, 0, 6, 0, 15, 0, 0x12, 0xb5, 0, 0];
+
+#[test]
+fn attributes_of_a_tunnel(rt: HostRuntime) {
+    let alloc = rt.alloc();
+    let list: RtBuffer<IflaVxlan, Buffer> = read_list(&rt, alloc, &TUNNEL);
+    let handle = list.get_attr_handle();
+    assert_number(&rt, alloc, &handle, IflaVxlan::Id, 42u32);
+    assert_number(&rt, alloc, &handle, IflaVxlan::Port, BeU16::new(4789));
+    assert!(rt; handle.get_attribute(IflaVxlan::Gbp).is_none());
 }
 
 /// Attributes of one byte: type 12 with both flags, then 12 without, 3 in network byte order, and 16384.

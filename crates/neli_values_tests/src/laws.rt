@@ -14,5 +14,6 @@ fn laws_are_called() {
     laws::route_attributes::equality();
     laws::route_attributes::ifname_is_never_read();
     laws::routing_flags::equality();
+    laws::linux::equality();
     laws::systems::equality();
 }

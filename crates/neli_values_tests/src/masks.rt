@@ -2,6 +2,7 @@
 
 use crate::groups::{assert_groups, list_of};
 use crate::support::{assert_is, assert_is_at};
+use neli::consts::linux::Rtnlgrp;
 use neli::err::SerError;
 use neli::utils::Groups;
 use std::alloc::Global;
@@ -24,6 +25,20 @@ fn groups_of_masks(rt: HostRuntime) {
         let groups = Groups::new_bitmask(rt.alloc(), mask).expect(&rt, "memory");
         assert_mask(&rt, rt.alloc(), &groups, mask);
         assert_groups(&rt, rt.alloc(), groups, want);
+    }
+}
+
+// `RTMGRP_LINK`, `RTMGRP_IPV4_IFADDR` and `RTMGRP_IPV6_PREFIX` of linux/rtnetlink.h.
+#[test]
+fn masks_of_names(rt: HostRuntime) {
+    let rows: [(Rtnlgrp, u32); 3] = [
+        (Rtnlgrp::Link, 1),
+        (Rtnlgrp::Ipv4Ifaddr, 0x10),
+        (Rtnlgrp::Ipv6Prefix, 0x20000),
+    ];
+    for (name, want) in rows {
+        let groups = list_of(&rt, rt.alloc(), &[u32::from(name)]);
+        assert_mask(&rt, rt.alloc(), &groups, want);
     }
 }
 

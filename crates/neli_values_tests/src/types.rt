@@ -3,6 +3,11 @@
 use crate::support::{assert_is, assert_is_at};
 use neli::consts::MAX_NL_LENGTH;
 use neli::consts::genl::{Cmd, CtrlCmd, Index, NlAttrType};
+use neli::consts::linux::{
+    self, CtrlAttr, CtrlAttrOp, CtrlAttrPolicy, IflaBond, IflaBondAdInfo, IflaBondSlave, IflaBr,
+    IflaBrport, IflaMacvlan, IflaVxlan, Nha, NhaGroupStats, NhaGroupStatsEntry, NhaResBucket,
+    NhaResGroup, NlPolicyTypeAttr, NlmsgerrAttr, Rtax,
+};
 use neli::consts::netfilter::{LogCfgCmd, LogCfgCmdWrapper, LogCmd, NfLogAttr};
 use neli::consts::nl::{GenlId, NlType, NlTypeWrapper};
 use neli::consts::rtnl::{Frattr, Ifla, RtaType, RtaTypeWrapper, Rtm};
@@ -52,7 +57,30 @@ fn types(rt: HostRuntime) {
 }
 
 #[test]
+fn attributes_of_newer_kernels(rt: HostRuntime) {
+    check_routing(&rt, Rtax::Advmss, 8);
+    check_routing(&rt, Nha::ResGroup, 12);
+    check_routing(&rt, NhaResGroup::IdleTimer, 2);
+    check_routing(&rt, NhaResBucket::NhId, 3);
+    check_routing(&rt, NhaGroupStats::Entry, 1);
+    check_routing(&rt, NhaGroupStatsEntry::Packets, 2);
+    check_routing(&rt, IflaBr::VlanFiltering, 7);
+    check_routing(&rt, IflaBrport::Isolated, 33);
+    check_routing(&rt, IflaMacvlan::BcQueueLen, 7);
+    check_routing(&rt, IflaVxlan::Port, 15);
+    check_routing(&rt, IflaBond::ActiveSlave, 2);
+    check_routing(&rt, IflaBondAdInfo::PartnerMac, 5);
+    check_routing(&rt, IflaBondSlave::Prio, 9);
+    check_attribute(&rt, CtrlAttr::OpPolicy, 9);
+    check_attribute(&rt, CtrlAttrOp::Flags, 2);
+    check_attribute(&rt, CtrlAttrPolicy::Dump, 2);
+    check_attribute(&rt, NlPolicyTypeAttr::Mask, 12);
+    check_attribute(&rt, NlmsgerrAttr::MissNest, 6);
+}
+
+#[test]
 fn commands(rt: HostRuntime) {
+    check_command(&rt, linux::CtrlCmd::Getpolicy, 10);
     check_command(&rt, CtrlCmd::Getfamily, 3);
     check_command(&rt, 255u8, 255);
     check_logging(&rt, LogCfgCmdWrapper::LogCmd(LogCmd::PfBind), 3);
