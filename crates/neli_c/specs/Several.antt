@@ -6,13 +6,24 @@ use Rattle.neli_c.specs.declared.lent.NeliAttribute.{NeliAttribute}
 use Rattle.neli_c.specs.Codes.{item, room}
 use Rattle.neli_c.specs.Walks.{GivesAttribute, GivesMessage, attribute_layout, bytes_left, message_layout, walk_code}
 
--- a single call at the first walk answers that there is a message, gives this one, and leaves the second walk
-abbrev pub MessageStep : List ℕ → NeliWalk → NeliWalk → NeliMessage → Type 0
-MessageStep bytes w v m = (walk_code message_layout (bytes_left bytes w) ≡ item) × GivesMessage bytes w v m
+-- a single call at the first walk, which answers `code_at`, answers that there is one, gives it, and leaves the second
+abbrev pub StepOf : {A : Type 0} → (NeliWalk → ℤ) → (NeliWalk → NeliWalk → A → Type 0) → NeliWalk → NeliWalk → A
+    → Type 0
+StepOf code_at Gives w v a = (code_at w ≡ item) × Gives w v a
 
--- the same of an attribute
+-- what a single call answers
+abbrev pub message_code : List ℕ → NeliWalk → ℤ
+message_code bytes w = walk_code message_layout (bytes_left bytes w)
+
+abbrev pub attribute_code : List ℕ → NeliWalk → ℤ
+attribute_code bytes w = walk_code attribute_layout (bytes_left bytes w)
+
+-- and what it gives: a message, an attribute
+abbrev pub MessageStep : List ℕ → NeliWalk → NeliWalk → NeliMessage → Type 0
+MessageStep bytes = StepOf (message_code bytes) (GivesMessage bytes)
+
 abbrev pub AttributeStep : List ℕ → NeliWalk → NeliWalk → NeliAttribute → Type 0
-AttributeStep bytes w v a = (walk_code attribute_layout (bytes_left bytes w) ≡ item) × GivesAttribute bytes w v a
+AttributeStep bytes = StepOf (attribute_code bytes) (GivesAttribute bytes)
 
 -- single calls give these from the first walk on, one after the other, and leave the second walk
 abbrev pub GivesEach : {A : Type 0} → (NeliWalk → NeliWalk → A → Type 0) → NeliWalk → NeliWalk → List A → Type 0

@@ -1,33 +1,95 @@
 //! Walks that give several messages or attributes by one call. They take no memory.
 
-ghost use Rattle.std.specs.Prelude.{◌≡◌, ◌≢◌, ◌≤◌, ◌⊎◌, ◌<◌, drop, length, take};
+ghost use Rattle.std.specs.Prelude.{◌≡◌, ◌≢◌, ◌≤◌, ◌⊎◌, ◌<◌, ℕ, ℤ, List, drop, length, take};
 ghost use Rattle.neli_c.specs.Codes.{item};
-ghost use Rattle.neli_c.specs.Several.{AttributeStep, GivesEach, MessageStep, several_code};
-ghost use Rattle.neli_c.specs.Walks.{attribute_layout, bytes_left, message_layout, walk_code};
+ghost use Rattle.neli_c.specs.Several.{AttributeStep, GivesEach, MessageStep, StepOf, attribute_code, message_code, several_code};
+ghost use Rattle.neli_c.specs.Walks.{GivesAttribute, GivesMessage, attribute_layout, bytes_left, message_layout, walk_code};
 
 use crate::code::{ITEM, ROOM};
 use crate::lent::{
     NeliAttribute, NeliMessage, NeliWalk, neli_c_next_attribute, neli_c_next_message,
 };
 
-/// Gives messages until the room is full or a step gives none: how many, and the code of that step, or `ITEM`.
-fn fill_messages(bytes: &[u8], walk: &mut NeliWalk, messages: &mut [NeliMessage]) -> (usize, i32)
-    ensures given { GivesEach (MessageStep bytes.now) walk.old walk.new (take result.0 messages.new) }
-    ensures rest { drop result.0 messages.new ≡ drop result.0 messages.old }
-    ensures within { result.0 ≤ length messages.old }
-    ensures full { result.1 ≡ item → result.0 ≡ length messages.old }
-    ensures stopped { result.1 ≢ item → (result.0 < length messages.old)
-        × (result.1 ≡ walk_code message_layout (bytes_left bytes.now walk.new)) }
+/// What a walk gives, one after the other.
+trait Walked: Sized {
+    ghost use Rattle.neli_c.specs.declared.lent.NeliWalk.{NeliWalk};
+
+    // What a single call answers at a walk over these bytes.
+    ghost code_at: { List ℕ → NeliWalk → ℤ };
+
+    // What a single call gives there, and the walk that it leaves.
+    ghost Gives: { List ℕ → NeliWalk → NeliWalk → Self → Type 0 };
+
+    /// The next one of a walk.
+    fn next(bytes: &[u8], walk: &mut NeliWalk, place: &mut Self) -> i32
+        ensures code { result ≡ code_at bytes.now walk.old }
+        ensures given { result ≡ item → Gives bytes.now walk.old walk.new place.new }
+        ensures unchanged { result ≢ item → (walk.new ≡ walk.old) × (place.new ≡ place.old) };
+}
+
+impl Walked for NeliMessage {
+    ghost code_at = { message_code };
+
+    ghost Gives = { GivesMessage };
+
+    fn next(bytes: &[u8], walk: &mut NeliWalk, place: &mut NeliMessage) -> i32 {
+        neli_c_next_message(bytes, walk, place)
+    }
+}
+
+impl Walked for NeliAttribute {
+    ghost code_at = { attribute_code };
+
+    ghost Gives = { GivesAttribute };
+
+    fn next(bytes: &[u8], walk: &mut NeliWalk, place: &mut NeliAttribute) -> i32 {
+        neli_c_next_attribute(bytes, walk, place)
+    }
+}
+
+/// Gives items until the room is full or a step gives none: how many, and the code of that step, or `ITEM`.
+fn fill<T: Walked>(bytes: &[u8], walk: &mut NeliWalk, items: &mut [T]) -> (usize, i32)
+    ensures given { GivesEach (StepOf (T.code_at bytes.now) (T.Gives bytes.now)) walk.old walk.new
+        (take result.0 items.new) }
+    ensures rest { drop result.0 items.new ≡ drop result.0 items.old }
+    ensures within { result.0 ≤ length items.old }
+    ensures full { result.1 ≡ item → result.0 ≡ length items.old }
+    ensures stopped { result.1 ≢ item → (result.0 < length items.old)
+        × (result.1 ≡ T.code_at bytes.now walk.new) }
 {
     let mut given = 0;
-    while given < messages.len() {
-        let code = neli_c_next_message(bytes, walk, &mut messages[given]);
+    while given < items.len() {
+        let code = T::next(bytes, walk, &mut items[given]);
         if code != ITEM {
             return (given, code);
         }
         given += 1;
     }
     (given, ITEM)
+}
+
+/// The next items of a walk, and in `count` how many.
+fn several<T: Walked>(bytes: &[u8], walk: &mut NeliWalk, items: &mut [T], count: &mut usize) -> i32
+    ensures code { result ≡ several_code (length items.old) (T.code_at bytes.now walk.old) }
+    ensures items { result ≡ item
+        → GivesEach (StepOf (T.code_at bytes.now) (T.Gives bytes.now)) walk.old walk.new
+        (take count.new items.new) }
+    ensures count { result ≡ item → (1 ≤ count.new) × (count.new ≤ length items.old) }
+    ensures all { result ≡ item
+        → (count.new ≡ length items.old) ⊎ (T.code_at bytes.now walk.new ≢ item) }
+    ensures rest { drop count.new items.new ≡ drop count.new items.old }
+    ensures unchanged { result ≢ item
+        → (walk.new ≡ walk.old) × (items.new ≡ items.old) × (count.new ≡ 0) }
+{
+    let (given, code) = fill(bytes, walk, items);
+    *count = given;
+    if given > 0 {
+        ITEM
+    } else if items.is_empty() {
+        ROOM
+    } else {
+        code
+    }
 }
 
 /// The next messages of a walk, as many as there is room for or as come before its end or a fault; the walk goes past
@@ -54,39 +116,7 @@ pub extern "C" fn neli_c_next_messages(
     ensures unchanged { result ≢ item
         → (walk.new ≡ walk.old) × (messages.new ≡ messages.old) × (count.new ≡ 0) }
 {
-    let (given, code) = fill_messages(bytes, walk, messages);
-    *count = given;
-    if given > 0 {
-        ITEM
-    } else if messages.is_empty() {
-        ROOM
-    } else {
-        code
-    }
-}
-
-/// Gives attributes until the room is full or a step gives none: how many, and the code of that step, or `ITEM`.
-fn fill_attributes(
-    bytes: &[u8],
-    walk: &mut NeliWalk,
-    attributes: &mut [NeliAttribute],
-) -> (usize, i32)
-    ensures given { GivesEach (AttributeStep bytes.now) walk.old walk.new (take result.0 attributes.new) }
-    ensures rest { drop result.0 attributes.new ≡ drop result.0 attributes.old }
-    ensures within { result.0 ≤ length attributes.old }
-    ensures full { result.1 ≡ item → result.0 ≡ length attributes.old }
-    ensures stopped { result.1 ≢ item → (result.0 < length attributes.old)
-        × (result.1 ≡ walk_code attribute_layout (bytes_left bytes.now walk.new)) }
-{
-    let mut given = 0;
-    while given < attributes.len() {
-        let code = neli_c_next_attribute(bytes, walk, &mut attributes[given]);
-        if code != ITEM {
-            return (given, code);
-        }
-        given += 1;
-    }
-    (given, ITEM)
+    several(bytes, walk, messages, count)
 }
 
 /// The next attributes of a walk, as many as there is room for or as come before its end or a fault; the walk goes
@@ -113,13 +143,5 @@ pub extern "C" fn neli_c_next_attributes(
     ensures unchanged { result ≢ item
         → (walk.new ≡ walk.old) × (attributes.new ≡ attributes.old) × (count.new ≡ 0) }
 {
-    let (given, code) = fill_attributes(bytes, walk, attributes);
-    *count = given;
-    if given > 0 {
-        ITEM
-    } else if attributes.is_empty() {
-        ROOM
-    } else {
-        code
-    }
+    several(bytes, walk, attributes, count)
 }

@@ -1,13 +1,14 @@
 use Rattle.std.proofs.Common.{◌≡◌, ◌≤◌, ◌-◌, drop, length, take}
-use Rattle.neli_c.specs.Several.{GivesEach, MessageStep}
-use Rattle.neli_c.proofs.several.fill_messages.Given as goal
+use Rattle.neli_c.specs.Several.{GivesEach, StepOf}
+use Rattle.neli_c.proofs.several.fill.Given as goal
 
 -- those so far are given one after the other, and the others are as they were
 abbrev pub invariant-loop-given : goal.invariant-loop-given
-invariant-loop-given l =
-    (l.given ≤ length l.messages) × GivesEach (MessageStep l.fn.bytes) l.fn.walk l.walk (take l.given l.messages)
-    × (drop l.given l.messages ≡ drop l.given l.fn.messages)
+invariant-loop-given g l =
+    (l.given ≤ length l.items) × GivesEach (StepOf (g.T.Walked.code_at l.fn.bytes)
+    (g.T.Walked.Gives l.fn.bytes)) l.fn.walk l.walk (take l.given l.items)
+    × (drop l.given l.items ≡ drop l.given l.fn.items)
 
 -- the room that is left
 abbrev pub decreases-loop-given : goal.decreases-loop-given
-decreases-loop-given l = length l.initial.messages - l.given
+decreases-loop-given g l = length l.initial.items - l.given
