@@ -1,5 +1,5 @@
-/* Checks include/neli.h against the library: each call once, and its answer; then what each refuses. Compile it with all
- * warnings, and with the address sanitizer. */
+/* Checks include/neli.h against the library: each call once, and its answer; then what each refuses. Compile it with
+ * all warnings, and with the address sanitizer. */
 #include "neli.h"
 
 #include <stdio.h>
@@ -164,6 +164,10 @@ static void check_answer(const uint8_t *bytes, size_t size) {
     CHECK(neli_find_attribute(bytes, size, &answer.attributes, NELI_ANSWER_OFFSET, &attribute) == NELI_END);
     message.type = 16;
     CHECK(neli_get_answer(bytes, size, &message, &answer) == NELI_KIND);
+    message.payload = size;
+    CHECK(neli_get_answer(bytes, size, &message, &answer) == NELI_PLACE && answer.code == -19);
+    message.payload = SIZE_MAX;
+    CHECK(neli_attributes_of(&message, 4, &messages) == NELI_PLACE && messages.place == size);
 }
 
 static void check_refusals(void) {
@@ -209,7 +213,9 @@ static void check_router(void) {
     CHECK(neli_router_set_number(&router, 7) == NELI_STATE);
     CHECK(neli_router_new(&router, 9) == NELI_OK && neli_router_new(&router, 9) == NELI_STATE);
     CHECK(neli_router_set_number(&router, 7) == NELI_OK);
+    sent.handle = 4711;
     CHECK(neli_router_send(&router, 18, 4, body, 17, out, 35, &sent) == NELI_ROOM && sent.length == 36);
+    CHECK(sent.handle == 4711);
     CHECK(neli_router_send(&router, 18, 4, body, 17, out, 36, &sent) == NELI_OK);
     CHECK(sent.length == 36 && sent.handle == 1);
     const uint8_t header[16] = {36, 0, 0, 0, 18, 0, 5, 0, 7, 0, 0, 0, 9, 0, 0, 0};
@@ -227,8 +233,13 @@ static void check_router(void) {
     CHECK(neli_router_datagram(&router, stray, sizeof stray, &group, 1) == NELI_OK);
     CHECK(neli_router_read(&router, NELI_MULTICAST, &item) == NELI_ITEM && item.type == 16 && item.number == 9);
     CHECK(neli_router_item(&router, out, sizeof out, &size) == NELI_OK && size == 16 && memcmp(out, stray, 16) == 0);
-    CHECK(neli_router_read(&router, NELI_MULTICAST, &item) == NELI_WAITS);
+    CHECK(neli_router_read(&router, NELI_MULTICAST, &item) == NELI_WAITS && item.number == 9);
+    CHECK(neli_router_item(&router, out, sizeof out, &size) == NELI_OK && size == 16);
+    CHECK(neli_router_set_number(&router, 8) == NELI_OK);
     CHECK(neli_router_send(&router, 18, 0, NULL, 0, out, sizeof out, &sent) == NELI_OK && sent.handle == 1);
+    CHECK(neli_router_set_number(&router, 8) == NELI_OK);
+    CHECK(neli_router_send(&router, 18, 0, NULL, 0, out, sizeof out, &sent) == NELI_IN_USE && sent.handle == 1);
+    CHECK(neli_router_set_number(&router, 9) == NELI_OK);
     CHECK(neli_router_datagram(&router, stray, sizeof stray, NULL, 0) == NELI_OK);
     CHECK(neli_router_read(&router, 1, &item) == NELI_STRAY);
     CHECK(neli_router_send(&router, 18, 0, NULL, 0, out, sizeof out, &sent) == NELI_OK && sent.handle == 2);
