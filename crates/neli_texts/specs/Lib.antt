@@ -1,0 +1,2 @@
+pub mod ExitStatus
+pub mod FlagNames
