@@ -11,6 +11,7 @@ pub use Rattle.neli_consts_system.specs as consts_sys
 pub use Rattle.neli_route.specs as route
 pub use Rattle.neli_link.specs as link
 pub use Rattle.neli_payloads.specs as payloads
+pub use Rattle.neli_texts.specs as texts
 pub use Rattle.neli_genl.specs as genl
 pub use Rattle.neli_reader.specs as msg
 pub use Rattle.neli_lent.specs as lent

@@ -1,6 +1,7 @@
 //! Messages of the connector, and the process events that they carry.
 
 pub use neli_genl::{CnMsg, CnMsgBuilder, CnMsgBuilderError, ProcEvent, ProcEventHeader};
+pub use neli_texts::ExitStatus;
 
 /// What was built and written is read back.
 pub mod laws {

@@ -14,4 +14,5 @@ pub mod socket;
 
 pub use bitflags::Flags;
 pub use neli_consts::MAX_NL_LENGTH;
+pub use neli_texts::{FlagNames, NamedFlags};
 pub use neli_wire::{Constant, WireNumber, alignto};

@@ -7,6 +7,7 @@
 //! - [`constants`], [`types`], [`wrappers`]: constants on the wire, and the traits and wrappers over the
 //!   tables. [`sets`]: flags as sets. [`equality`]: which constants are equal. What each number is read as,
 //!   what it is written as and what each flag is, `neli_constants` lists.
+//! - [`shown`]: exit codes and sets of flags as texts.
 //! - [`groups`] and [`masks`]: lists of multicast groups, and their masks. [`bit_arrays`]: bit arrays.
 //! - [`own_types`], [`own_enums`]: a user's own types, those of `example_body`, and enums, those of
 //!   `example_enum`.
@@ -65,6 +66,8 @@ mod padding;
 mod printed;
 #[cfg(test)]
 mod sets;
+#[cfg(test)]
+mod shown;
 #[cfg(test)]
 mod support;
 #[cfg(test)]
