@@ -45,40 +45,40 @@ passed_step done all first row rows set left passed so_far =
     ∙ so_far
 
 -- what is left of a list begins with the item at that place
-first_left : {A : Type 0} (items : List A) (i : ℕ) (item : A) → i < length items → item ≡ get_or items i item
+first_left : {A : Type 0} (items : List A) (i : ℕ) (item d : A) → i < length items → item ≡ get_or items i d
     → drop i items ≡ item ∷ drop (i + 1) items
-first_left {A} items i item short is =
-    drop_more items i item short ∙ ap (λ (x : A). x ∷ drop (i + 1) items) (sym is)
+first_left {A} items i item d short is =
+    drop_more items i d short ∙ ap (λ (x : A). x ∷ drop (i + 1) items) (sym is)
 
 -- the step of a flag that is named, by its place in the list
-pub named_at : {A : Type 0} (items : List A) (row_of : A → Row) (i : ℕ) (item : A) → i < length items
-    → item ≡ get_or items i item → (done all : List ℕ) (first after : Bool) (set left left_after : ℕ)
+pub named_at : {A : Type 0} (items : List A) (row_of : A → Row) (i : ℕ) (item d : A) → i < length items
+    → item ≡ get_or items i d → (done all : List ℕ) (first after : Bool) (set left left_after : ℕ)
     → is_next (row_of item).0 (row_of item).1 set left ≡ true → after ≡ false
     → left_after ≡ without 32 left (row_of item).1
     → done ++ from_here first (names_in (map row_of (drop i items)) set left) ≡ all
     → (done ++ (mark first ++ (row_of item).0))
     ++ from_here after (names_in (map row_of (drop (i + 1) items)) set left_after) ≡ all
-named_at {A} items row_of i item short is done all first after set left left_after next a l so_far =
+named_at {A} items row_of i item d short is done all first after set left left_after next a l so_far =
     ap (λ (b : Bool). (done ++ (mark first ++ (row_of item).0))
     ++ from_here b (names_in (map row_of (drop (i + 1) items)) set left_after)) a
     ∙ ap (λ (n : ℕ). (done ++ (mark first ++ (row_of item).0))
     ++ from_here false (names_in (map row_of (drop (i + 1) items)) set n)) l
     ∙ named_step done all first (row_of item) (map row_of (drop (i + 1) items)) set left next
     (ap (λ (fs : List A). done ++ from_here first (names_in (map row_of fs) set left))
-    (sym (first_left items i item short is)) ∙ so_far)
+    (sym (first_left items i item d short is)) ∙ so_far)
 
 -- the step of any other
-pub passed_at : {A : Type 0} (items : List A) (row_of : A → Row) (i : ℕ) (item : A) → i < length items
-    → item ≡ get_or items i item → (done all : List ℕ) (first after : Bool) (set left left_after : ℕ)
+pub passed_at : {A : Type 0} (items : List A) (row_of : A → Row) (i : ℕ) (item d : A) → i < length items
+    → item ≡ get_or items i d → (done all : List ℕ) (first after : Bool) (set left left_after : ℕ)
     → is_next (row_of item).0 (row_of item).1 set left ≡ false → after ≡ first → left_after ≡ left
     → done ++ from_here first (names_in (map row_of (drop i items)) set left) ≡ all
     → done ++ from_here after (names_in (map row_of (drop (i + 1) items)) set left_after) ≡ all
-passed_at {A} items row_of i item short is done all first after set left left_after passed a l so_far =
+passed_at {A} items row_of i item d short is done all first after set left left_after passed a l so_far =
     ap (λ (b : Bool). done ++ from_here b (names_in (map row_of (drop (i + 1) items)) set left_after)) a
     ∙ ap (λ (n : ℕ). done ++ from_here first (names_in (map row_of (drop (i + 1) items)) set n)) l
     ∙ passed_step done all first (row_of item) (map row_of (drop (i + 1) items)) set left passed
     (ap (λ (fs : List A). done ++ from_here first (names_in (map row_of fs) set left))
-    (sym (first_left items i item short is)) ∙ so_far)
+    (sym (first_left items i item d short is)) ∙ so_far)
 
 -- after the last flag only a number is left
 pub at_end : {A : Type 0} (items : List A) (row_of : A → Row) (i : ℕ) → length items ≤ i

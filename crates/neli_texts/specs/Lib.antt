@@ -1,2 +1,5 @@
 pub mod ExitStatus
 pub mod FlagNames
+pub mod MessageFlags
+pub mod MessageLine
+pub mod MessageTypes

@@ -82,7 +82,7 @@ impl NamedFlags for Frf {
 pub struct FlagNames<F>(pub F);
 
 /// What stands before a name: a bar, but before the first.
-fn mark(is_first: bool) -> &'static str
+pub(crate) fn mark(is_first: bool) -> &'static str
     ensures { result.now ≡ mark is_first }
 {
     if is_first { "" } else { "|" }

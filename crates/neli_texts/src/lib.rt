@@ -2,10 +2,15 @@
 //!
 //! - [`ExitStatus`]: how a process ended, as `exited with 3` or `killed by signal 9`.
 //! - [`FlagNames`]: a set of flags by name, as `UP|RUNNING`.
+//! - [`MessageLine`]: a message's header on a line, as `RTM_NEWLINK seq 5 port 1200 REQUEST|ACK`.
 #![tactic(auto)]
 
 mod exit_status;
 mod flag_names;
+mod message_flags;
+mod message_line;
+mod message_types;
 
 pub use exit_status::ExitStatus;
 pub use flag_names::{FlagNames, NamedFlags};
+pub use message_line::MessageLine;

@@ -1,13 +1,16 @@
-//! Exit codes and sets of flags as people read them.
+//! Exit codes, sets of flags and headers of messages as people read them.
 //!
 //! Exit codes are those of wait(2): `W_EXITCODE` of glibc's bits/waitstatus.h puts a status in bits 8 to 15 and a
 //! signal in bits 0 to 6, and `WCOREFLAG` is bit 7. Flags are those of linux/if.h, linux/if_addr.h and
-//! linux/neighbour.h.
+//! linux/neighbour.h, types and flags of messages those of linux/rtnetlink.h and linux/netlink.h.
 
 use crate::support::{assert_is, assert_is_at};
 use neli::connector::ExitStatus;
+use neli::consts::nl::NlmF;
 use neli::consts::rtnl::{IfaF, Iff, Nud};
+use neli::consts::socket::NlFamily;
 use neli::consts::{Constant, FlagNames, NamedFlags};
+use neli::nl::MessageLine;
 use std::alloc::Global;
 use std::fmt::Display;
 use std::process::Abort;
@@ -78,4 +81,66 @@ fn sets_of_flags(rt: HostRuntime) {
     check(&rt, alloc, IfaF::from_wire(0x80), 0x80, "PERMANENT");
     check(&rt, alloc, Nud::from_wire(0x8000), 0x8000, "0x8000");
     check(&rt, alloc, Nud::REACHABLE, 2, "REACHABLE");
+}
+
+/// The protocol of a message, its type and its flags, and the line of a message with the number 5 and the port 1200.
+const LINES: [(NlFamily, u16, u16, &str); 9] = [
+    (
+        NlFamily::Route,
+        16,
+        0x605,
+        "RTM_NEWLINK seq 5 port 1200 REQUEST|ACK|EXCL|CREATE",
+    ),
+    (
+        NlFamily::Route,
+        18,
+        0x301,
+        "RTM_GETLINK seq 5 port 1200 REQUEST|DUMP",
+    ),
+    (
+        NlFamily::Route,
+        25,
+        0x105,
+        "RTM_DELROUTE seq 5 port 1200 REQUEST|ACK|NONREC",
+    ),
+    (
+        NlFamily::Route,
+        2,
+        0x100,
+        "NLMSG_ERROR seq 5 port 1200 CAPPED",
+    ),
+    (NlFamily::Route, 3, 2, "NLMSG_DONE seq 5 port 1200 MULTI"),
+    (NlFamily::Route, 122, 0, "RTM_GETTUNNEL seq 5 port 1200"),
+    (
+        NlFamily::Route,
+        200,
+        0x8000,
+        "type 200 seq 5 port 1200 0x8000",
+    ),
+    (
+        NlFamily::Generic,
+        16,
+        5,
+        "type 16 seq 5 port 1200 REQUEST|ACK",
+    ),
+    (
+        NlFamily::Generic,
+        31,
+        0x301,
+        "type 31 seq 5 port 1200 REQUEST|0x300",
+    ),
+];
+
+#[test]
+fn lines_of_messages(rt: HostRuntime) {
+    for (protocol, message_type, flags, want) in LINES {
+        let line = MessageLine {
+            protocol,
+            message_type,
+            flags: NlmF::from_wire(flags),
+            sequence_number: 5,
+            port: 1200,
+        };
+        assert_prints(&rt, rt.alloc(), &line, want);
+    }
 }

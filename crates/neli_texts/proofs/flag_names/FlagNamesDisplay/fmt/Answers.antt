@@ -27,14 +27,14 @@ loop-flag-preserved g c = λ plain.
             (i.0 ++ (mark c.loop-flag.is_first ++ c.flag-item.result.name.now)) f)
             (sym w.f-is) (has_written_append _ _ _ _ _ _ i.1 (search rules)),
         named_at c.flags-flag-items.result.now (λ f. (f.name.now, g.F.Flags.set_of f.value)) c.loop-flag.flag-index
-            c.flag-item.result c.loop-flag-test.true c.flag-item.is i.0 _ c.loop-flag.is_first c.if-is_next.is_first
+            c.flag-item.result c.flag-item.result c.loop-flag-test.true c.flag-item.is i.0 _ c.loop-flag.is_first c.if-is_next.is_first
             c.number-set.result c.loop-flag.left c.if-is_next.left (search rules) w.is_first-is (search rules) i.2,
       )
       | else-is_next w ↦ (
         i.0,
         subst (λ f. HasWritten g.W.Write.write_str_gives c.args.f.now i.0 f) (sym w.f-is) i.1,
         passed_at c.flags-flag-items.result.now (λ f. (f.name.now, g.F.Flags.set_of f.value)) c.loop-flag.flag-index
-            c.flag-item.result c.loop-flag-test.true c.flag-item.is i.0 _ c.loop-flag.is_first c.if-is_next.is_first
+            c.flag-item.result c.flag-item.result c.loop-flag-test.true c.flag-item.is i.0 _ c.loop-flag.is_first c.if-is_next.is_first
             c.number-set.result c.loop-flag.left c.if-is_next.left (search rules) w.is_first-is w.left-is i.2,
       )
     ]

@@ -1,0 +1,84 @@
+//! A message's header on a line.
+
+ghost use Rattle.std.specs.Prelude.{◌≡◌, Some};
+ghost use Rattle.neli_texts.specs.MessageLine.{flags_text, is_route, line_text, type_text};
+
+use crate::message_flags::{MessageFlags, flag_rows};
+use crate::message_types::route_type;
+use neli_consts::NlmF;
+use neli_consts_system::NlFamily;
+use std::fmt;
+
+/// A message's header on a line, for a log: its type, its sequence number, the port of its socket, and its flags, as
+/// `RTM_NEWLINK seq 5 port 1200 REQUEST|ACK`.
+///
+/// A type is named as in the kernel's headers where the protocol has a name for it: control messages in each, and the
+/// types of `RTM_*` in `NlFamily::Route`. Any other is `type 31`. Flags are named by the type, since the same bit is
+/// `ROOT` in a question and `REPLACE` in an order; without flags the line ends with the port.
+#[derive(Clone, Copy, Debug, PartialEq, Eq)]
+pub struct MessageLine {
+    /// The protocol that the message is of.
+    pub protocol: NlFamily,
+    /// The number of its type.
+    pub message_type: u16,
+    /// Its flags.
+    pub flags: NlmF,
+    /// Its sequence number.
+    pub sequence_number: u32,
+    /// The port of the socket that it belongs to; 0 is the kernel's.
+    pub port: u32,
+}
+
+/// A type of messages by its name, or by its number.
+#[derive(Clone, Copy)]
+struct TypeName {
+    is_route: bool,
+    number: u16,
+}
+
+impl fmt::Display for TypeName {
+    ghost output = { λ name. Some (type_text name.is_route name.number) };
+
+    fn fmt<W: fmt::Write>(&self, f: &mut fmt::Formatter<W>) -> fmt::Result {
+        let number = self.number;
+        match number {
+            1 => return write!(f, "NLMSG_NOOP"),
+            2 => return write!(f, "NLMSG_ERROR"),
+            3 => return write!(f, "NLMSG_DONE"),
+            4 => return write!(f, "NLMSG_OVERRUN"),
+            _ => {}
+        }
+        if self.is_route {
+            if let Some((_, name)) = route_type(number) {
+                return write!(f, "{name}");
+            }
+        }
+        write!(f, "type {number}")
+    }
+}
+
+/// Whether types are those of routing.
+fn is_route(protocol: NlFamily) -> bool
+    ensures { result ≡ is_route protocol }
+{
+    matches!(protocol, NlFamily::Route)
+}
+
+impl fmt::Display for MessageLine {
+    ghost output = { λ line. Some (line_text line) };
+
+    fn fmt<W: fmt::Write>(&self, f: &mut fmt::Formatter<W>) -> fmt::Result {
+        let is_route = is_route(self.protocol);
+        let number = self.message_type;
+        let name = TypeName { is_route, number };
+        let (sequence, port) = (self.sequence_number, self.port);
+        write!(f, "{name} seq {sequence} port {port}")?;
+        let bits = u32::from(u16::from(self.flags));
+        if bits == 0 {
+            return Ok(());
+        }
+        let rows = flag_rows(is_route, number);
+        let flags = MessageFlags { rows, bits };
+        write!(f, " {flags}")
+    }
+}
