@@ -1,14 +1,17 @@
 -- What the calls of a router do to it, for every handle: as neli_router says it of its own calls.
-use Rattle.std.specs.Prelude.{◌≡◌, ◌≢◌, ◌⊎◌, ◌||◌, ⊤, ℕ, ℤ, pos, Bool, List, [], ◌∷◌, ◌++◌, Option, Some, None, IfSome, is_some, option_map, nat_eq, nat_le, unsigned_abs, if◌then◌else◌, length, slice_set, Result, Ok, Err, IfOk, true, false}
+use Rattle.std.specs.Prelude.{◌≡◌, ◌≢◌, ◌⊎◌, ◌||◌, not, ℕ, ◌+◌, ℤ, pos, Bool, List, [], ◌∷◌, ◌++◌, Option, Some, None, IfSome, is_some, option_map, nat_eq, nat_le, nat_lt, unsigned_abs, if◌then◌else◌, length, slice_set, Result, Ok, Err, true, false}
 use Rattle.std.specs.declared.io.ErrorKind.{ErrorKind}
 use Rattle.std.specs.declared.io.ErrorKind.TheVariants as kind
+use Rattle.neli_wire.specs.Sizes.{align}
 use Rattle.neli_wire.specs.Writing.{Wire}
+use Rattle.neli_consts.specs.declared.nlm_f.NlmF.{NlmF}
 use Rattle.neli_reader.specs.Agreement.{untyped_layout}
 use Rattle.neli_reader.specs.Cuts.{cut_of}
 use Rattle.neli_reader.specs.Nlmsghdr.{Nlmsghdr}
 use Rattle.neli_reader.specs.SocketError.{SocketError}
 use Rattle.neli_reader.specs.SocketError.TheVariants as socket
-use Rattle.neli_reader.specs.Wires.{message_wire}
+use Rattle.neli_reader.specs.Builders.{header_with}
+use Rattle.neli_reader.specs.Wires.{message_wire, payload_size}
 use Rattle.neli_util.specs.Groups.{without_zeros}
 use Rattle.neli_deliveries.specs.declared.delivery.Delivery.{Delivery}
 use Rattle.neli_deliveries.specs.Deliveries.{datagram_share, fault_share}
@@ -128,12 +131,30 @@ SendsRequest message_type flags body s t old new sent =
     × ((ks : List ℕ) → HasFree s ks → (sent.handle ≡ next_place s.handles.items ks) × HasFree t (later_places ks))
     × (t.router.next_seq ≡ number_after number) × (pending t (Some number) ≡ Some [])
     × ((w : Option ℕ) → w ≢ Some number → pending t w ≡ pending s w)
+    × (t.router.deliveries.port ≡ s.router.deliveries.port) × (t.held ≡ s.held)
 
--- nothing is sent: the next number, what waits, the handles and what is held are the same
+-- nothing is sent: port, next number, what waits, the handles and what is held are the same
 abbrev pub SendsNothing : Session → Session → Type 0
 SendsNothing s t =
-    (t.router.next_seq ≡ s.router.next_seq) × ((w : Option ℕ) → pending t w ≡ pending s w) × (t.held ≡ s.held)
-    × (t.handles.items ≡ s.handles.items) × (t.freed ≡ s.freed)
+    (t.router.deliveries.port ≡ s.router.deliveries.port) × (t.router.next_seq ≡ s.router.next_seq)
+    × ((w : Option ℕ) → pending t w ≡ pending s w) × (t.held ≡ s.held) × (t.handles.items ≡ s.handles.items)
+    × (t.freed ≡ s.freed)
+
+-- of a request of so many bytes, where there is room for so many: its length passes 32 bits, or there is no room
+abbrev pub size_code : ℕ → ℕ → ℤ
+size_code n most = if nat_lt 4294967295 n then bad_length else (if nat_lt most n then room else ok)
+
+-- why nothing is sent: its size; else the next number is in use, or memory ran out
+abbrev pub RefusesRequest : ℤ → List ℕ → Session → List ℕ → Type 0
+RefusesRequest code body s out =
+    let by_size = size_code (align (16 + length body)) (length out) in
+    (by_size ≢ ok → code ≡ by_size)
+    × (by_size ≡ ok → ((code ≡ in_use) × (is_open s s.router.next_seq ≡ true)) ⊎ (code ≡ memory))
+
+-- what is said then: how many bytes are needed where there is no room, and else nothing
+abbrev pub SaysNeeded : ℤ → List ℕ → NeliSent → NeliSent → Type 0
+SaysNeeded code body sent sent' =
+    (code ≡ room → sent' ≡ record sent { length = align (16 + length body) }) × (code ≢ room → sent' ≡ sent)
 
 -- what a read answers: of a fault of the link or of a datagram, of what came in place of a message, of an item
 abbrev pub socket_code : SocketError → ℤ
@@ -186,20 +207,52 @@ item_shown m =
       error = payload_error m.payload;
     }
 
--- a message is held, and shown; without an item both are as before
+-- the flags of an error: the header alone is echoed (CAPPED, 0x100), attributes follow (ACK_TLVS, 0x200)
+abbrev pub error_flags : Bool → Bool → NlmF
+error_flags capped more = flags_of ((if capped then 256 else 0) + (if more then 512 else 0))
+
+-- an error as the message that it came in: type 2, and number and port of the request; none past 32 bits
+abbrev pub error_message : NlmF → ℕ → ℕ → NlPayload ℕ (List ℕ) → Option (Nlmsghdr ℕ (List ℕ))
+error_message flags number port payload =
+    let size = align (16 + payload_size length payload) in
+    if nat_lt 4294967295 size then None
+    else Some (record { header = header_with size 2 flags number port; payload = payload })
+
+-- the message of an item: itself, or that of an error of the kernel; another error has none
+abbrev pub item_message : Item ℕ (List ℕ) → Option (Nlmsghdr ℕ (List ℕ))
+item_message (Ok m) = Some m
+item_message (Err (router.Nlmsgerr e)) =
+    error_message (error_flags false (not (nat_eq (length e.ext_ack) 0))) e.nlmsg.header.sequence_number
+    e.nlmsg.header.port (payload.Err e)
+item_message (Err (router.Capped e)) =
+    error_message (error_flags true (not (nat_eq (length e.ext_ack) 0))) e.nlmsg.sequence_number e.nlmsg.port
+    (payload.Capped e)
+item_message (Err e) = None
+
+-- what is shown of a message, where there is one; else what was shown before
+abbrev pub shown_of : Option (Nlmsghdr ℕ (List ℕ)) → NeliItem → NeliItem
+shown_of (Some m) shown = item_shown m
+shown_of None shown = shown
+
+-- an item's message is held, and shown; without an item both are as before
 abbrev pub Holds : {E : Type 0} → Result (Reply ℕ (List ℕ)) E → Option (Nlmsghdr ℕ (List ℕ))
     → Option (Nlmsghdr ℕ (List ℕ)) → NeliItem → NeliItem → Type 0
-Holds (Ok (reply.Item (Ok m))) old new a b = (new ≡ Some m) × (b ≡ item_shown m)
-Holds (Ok (reply.Item (Err e))) old new a b = ⊤
+Holds (Ok (reply.Item i)) old new a b = (new ≡ item_message i) × (b ≡ shown_of (item_message i) a)
 Holds r old new a b = (new ≡ old) × (b ≡ a)
 
--- the first delivery of a handle is given by the reply rule, and what waits is `ds`
-abbrev pub GivesDelivery : ℤ → HandleState → HandleState → Session → Delivery → List Delivery → NeliItem → Type 0
-GivesDelivery code h h' t d ds shown =
+-- nothing is given: the router, what is held and what was shown are as before
+abbrev pub GivesNothing : Session → Session → NeliItem → NeliItem → Type 0
+GivesNothing s t shown shown' = (t.router ≡ s.router) × (t.held ≡ s.held) × (shown' ≡ shown)
+
+-- the first delivery of a handle is given by the reply rule, its message is held and shown, and what waits is `ds`
+abbrev pub GivesDelivery : ℤ → HandleState → HandleState → Session → Delivery → List Delivery → NeliItem → NeliItem
+    → Type 0
+GivesDelivery code h h' t d ds shown shown' =
     (given : Item ℕ (List ℕ)) × IsReading (λ n. n) (λ b. b) length (λ b. Ok b) d given
     × (code ≡ item_code (item_of (λ n. n) h.needs_ack (has_number h.number) h.single_given given))
-    × IfOk (item_of (λ n. n) h.needs_ack (has_number h.number) h.single_given given)
-    (λ m. (t.held ≡ Some m) × (shown ≡ item_shown m))
+    × (t.held ≡ item_message (item_of (λ n. n) h.needs_ack (has_number h.number) h.single_given given))
+    × (shown'
+    ≡ shown_of (item_message (item_of (λ n. n) h.needs_ack (has_number h.number) h.single_given given)) shown)
     × (pending t h.number ≡ Some ds)
     × (h' ≡ record h {
       single_given = h.single_given || is_single (λ n. n) (has_number h.number) given;
@@ -208,20 +261,23 @@ GivesDelivery code h h' t d ds shown =
 
 -- of a handle that is there, and is h' then: its end, that it is not open, a wait, or its first delivery; or memory
 -- ran out, and all is as before
-abbrev pub ReadsHandle : ℤ → HandleState → HandleState → Session → Session → NeliItem → Type 0
-ReadsHandle code h h' s t shown =
-    (h.ended ≡ true → (code ≡ ok) × (h' ≡ h))
-    × (h.ended ≡ false → pending s h.number ≡ None → (code ≡ no_handle) × (h' ≡ record h { ended = true }))
-    × (h.ended ≡ false → pending s h.number ≡ Some [] → (code ≡ waits) × (h' ≡ h))
+abbrev pub ReadsHandle : ℤ → HandleState → HandleState → Session → Session → NeliItem → NeliItem → Type 0
+ReadsHandle code h h' s t shown shown' =
+    (h.ended ≡ true → (code ≡ ok) × (h' ≡ h) × GivesNothing s t shown shown')
+    × (h.ended ≡ false → pending s h.number ≡ None
+    → (code ≡ no_handle) × (h' ≡ record h { ended = true }) × (t.router ≡ s.router) × (shown' ≡ shown))
+    × (h.ended ≡ false → pending s h.number ≡ Some []
+    → (code ≡ waits) × (h' ≡ h) × GivesNothing s t shown shown')
     × (h.ended ≡ false → (d : Delivery) (ds : List Delivery) → pending s h.number ≡ Some (d ∷ ds)
-    → ((code ≡ memory) × (h' ≡ h) × (t.router ≡ s.router)) ⊎ GivesDelivery code h h' t d ds shown)
+    → ((code ≡ memory) × (h' ≡ h) × GivesNothing s t shown shown')
+    ⊎ GivesDelivery code h h' t d ds shown shown')
     × ((w : Option ℕ) → w ≢ h.number → pending t w ≡ pending s w)
-    × (t.router.next_seq ≡ s.router.next_seq)
+    × (t.router.deliveries.port ≡ s.router.deliveries.port) × (t.router.next_seq ≡ s.router.next_seq)
 
 -- a read of the handle at a place; where there is none, nothing changes
-abbrev pub ReadsPlace : ℤ → ℕ → Session → Session → NeliItem → Type 0
-ReadsPlace code k s t shown =
-    (handle_at k s.handles.items ≡ None → (code ≡ no_handle) × (t ≡ s))
+abbrev pub ReadsPlace : ℤ → ℕ → Session → Session → NeliItem → NeliItem → Type 0
+ReadsPlace code k s t shown shown' =
+    (handle_at k s.handles.items ≡ None → (code ≡ no_handle) × (t ≡ s) × (shown' ≡ shown))
     × IfSome (handle_at k s.handles.items) (λ h. (after : HandleState)
     × (t.handles.items ≡ slice_set s.handles.items k (slot.Open after)) × (t.freed ≡ s.freed)
-    × ((ks : List ℕ) → HasFree s ks → HasFree t ks) × ReadsHandle code h after s t shown)
+    × ((ks : List ℕ) → HasFree s ks → HasFree t ks) × ReadsHandle code h after s t shown shown')

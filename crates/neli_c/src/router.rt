@@ -2,9 +2,9 @@
 //!
 //! Each call but the first answers `STATE` where the router is closed, and changes nothing then.
 
-ghost use Rattle.std.specs.Prelude.{◌≡◌, ◌≢◌, IfSome, IsSome, None};
-ghost use Rattle.neli_c.specs.Codes.{ok, state};
-ghost use Rattle.neli_c.specs.Sessions.{ClosesHandle, IsNew, ReadsPlace, SendsNothing, SendsRequest, SetsNumber, TakesDatagram, TakesFault, WritesItem};
+ghost use Rattle.std.specs.Prelude.{◌≡◌, ◌≢◌, ◌⊎◌, IfSome, IsSome, None};
+ghost use Rattle.neli_c.specs.Codes.{memory, ok, state};
+ghost use Rattle.neli_c.specs.Sessions.{ClosesHandle, IsNew, ReadsPlace, RefusesRequest, SaysNeeded, SendsNothing, SendsRequest, SetsNumber, TakesDatagram, TakesFault, WritesItem};
 
 use crate::code::{MEMORY, OK, STATE};
 use crate::opaque::NeliRouter;
@@ -16,8 +16,9 @@ use std::alloc::Global;
 /// Answers `OK`; `STATE` where it is open, or `MEMORY`, and then it is as it was.
 #[unsafe(no_mangle)]
 pub extern "C" fn neli_c_router_new(alloc: Global, router: &mut NeliRouter, port: u32) -> i32
-    ensures new { result ≡ ok → IfSome router.new.place.value (IsNew port) }
+    ensures new { result ≡ ok → IsSome router.new.place.value × IfSome router.new.place.value (IsNew port) }
     ensures open { IsSome router.old.place.value → result ≡ state }
+    ensures closed { router.old.place.value ≡ None → (result ≡ ok) ⊎ (result ≡ memory) }
     ensures unchanged { result ≢ ok → router.new.place.value ≡ router.old.place.value }
 {
     if let Some(session) = router.take(alloc) {
@@ -81,9 +82,10 @@ pub extern "C" fn neli_c_router_send(
     sent: &mut NeliSent,
 ) -> i32
     ensures closed { router.old.place.value ≡ None
-        → (result ≡ state) × (router.new.place.value ≡ None) × (out.new ≡ out.old) }
+        → (result ≡ state) × (router.new.place.value ≡ None) × (out.new ≡ out.old) × (sent.new ≡ sent.old) }
     ensures open { IfSome router.old.place.value (λ s. IsSome router.new.place.value
-        × IfSome router.new.place.value (λ t. (result ≢ ok → SendsNothing s t)
+        × IfSome router.new.place.value (λ t. (result ≢ ok → SendsNothing s t
+        × RefusesRequest result body.now s out.old × SaysNeeded result body.now sent.old sent.new)
         × (result ≡ ok → SendsRequest nl_type flags body.now s t out.old out.new sent.new))) }
     ensures unwritten { result ≢ ok → out.new ≡ out.old }
 {
@@ -149,7 +151,7 @@ pub extern "C" fn neli_c_router_read(
     ensures closed { router.old.place.value ≡ None
         → (result ≡ state) × (router.new.place.value ≡ None) × (item.new ≡ item.old) }
     ensures open { IfSome router.old.place.value (λ s. IsSome router.new.place.value
-        × IfSome router.new.place.value (λ t. ReadsPlace result handle s t item.new)) }
+        × IfSome router.new.place.value (λ t. ReadsPlace result handle s t item.old item.new)) }
 {
     let Some(mut session) = router.take(alloc) else {
         return STATE;
@@ -170,7 +172,8 @@ pub extern "C" fn neli_c_router_item(
     out: &mut [u8],
     size: &mut usize,
 ) -> i32
-    ensures closed { router.old.place.value ≡ None → (result ≡ state) × (out.new ≡ out.old) }
+    ensures closed { router.old.place.value ≡ None
+        → (result ≡ state) × (out.new ≡ out.old) × (size.new ≡ size.old) }
     ensures same { router.new.place.value ≡ router.old.place.value }
     ensures open { IfSome router.old.place.value
         (λ s. WritesItem result s out.old out.new size.old size.new) }

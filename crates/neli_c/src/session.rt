@@ -3,7 +3,7 @@
 ghost use Rattle.std.specs.Prelude.{◌≡◌, ◌≢◌, ◌<◌, ℕ, IfOk, IfSome, IsNone, IsSome, List, ◌∷◌, Some, None, length, slice_get, slice_set, nat_le, vec_capacity, vec_len, if◌then◌else◌};
 ghost use Rattle.neli_router.specs.declared.handle.HandleState.{HandleState};
 ghost use Rattle.neli_c.specs.Codes.{no_handle, ok, room};
-ghost use Rattle.neli_c.specs.Sessions.{Holds, SendsNothing, SendsRequest, ReadsHandle, error_code, item_code, item_shown, reply_code, socket_code, ClosesHandle, HasFree, IsNew, fault_kind, SetsNumber, TakesDatagram, TakesFault, WritesItem};
+ghost use Rattle.neli_c.specs.Sessions.{ClosesHandle, HasFree, Holds, IsNew, ReadsHandle, RefusesRequest, SaysNeeded, SendsNothing, SendsRequest, SetsNumber, TakesDatagram, TakesFault, WritesItem, error_code, error_flags, error_message, fault_kind, item_code, item_message, item_shown, reply_code, socket_code};
 ghost use Rattle.neli_c.specs.Slots.{AreFree, handle_at, later_places, next_place, put_at};
 ghost use Rattle.neli_c.specs.declared.session.Slot.TheVariants as slot;
 ghost use Rattle.neli_c.specs.Writes.{put_first};
@@ -189,7 +189,9 @@ fn of_error<T, P>(error: &RouterError<T, P>) -> i32
 }
 
 /// The flags of an error message: whether the header alone is echoed, and whether attributes follow.
-fn error_flags(is_capped: bool, has_attributes: bool) -> NlmF {
+fn error_flags(is_capped: bool, has_attributes: bool) -> NlmF
+    ensures { result ≡ error_flags is_capped has_attributes }
+{
     let capped = if is_capped {
         NlmF::CAPPED
     } else {
@@ -208,7 +210,9 @@ fn error_message(
     number: u32,
     port: u32,
     payload: NlPayload<u16, Buffer>,
-) -> Option<Message> {
+) -> Option<Message>
+    ensures { result ≡ error_message flags number port payload }
+{
     let built = NlmsghdrBuilder::default()
         .nl_type(2)
         .nl_flags(flags)
@@ -225,12 +229,12 @@ fn error_message(
 /// The code of an item, and its message, if it has one.
 fn split(item: Item) -> (i32, Option<Message>)
     ensures code { result.0 ≡ item_code item }
-    ensures message { IfOk item (λ m. result.1 ≡ Some m) }
+    ensures message { result.1 ≡ item_message item }
 {
     match item {
         Ok(message) => (ITEM, Some(message)),
         Err(RouterError::Nlmsgerr(answer)) => {
-            let flags = error_flags(false, !answer.ext_ack().is_empty());
+            let flags = error_flags(false, answer.ext_ack().len() != 0);
             let number = *answer.nlmsg().nl_seq();
             let port = *answer.nlmsg().nl_pid();
             (
@@ -239,7 +243,7 @@ fn split(item: Item) -> (i32, Option<Message>)
             )
         }
         Err(RouterError::Capped(answer)) => {
-            let flags = error_flags(true, !answer.ext_ack().is_empty());
+            let flags = error_flags(true, answer.ext_ack().len() != 0);
             let number = *answer.nlmsg().nl_seq();
             let port = *answer.nlmsg().nl_pid();
             (
@@ -348,6 +352,8 @@ impl Session {
             → SendsRequest nl_type flags body.now self.old self.new out.old out.new sent.new }
         ensures unwritten { result ≢ ok → out.new ≡ out.old }
         ensures refused { result ≢ ok → SendsNothing self.old self.new }
+        ensures why { result ≢ ok → RefusesRequest result body.now self.old out.old }
+        ensures needed { result ≢ ok → SaysNeeded result body.now sent.old sent.new }
     {
         if body.len() > 0xffff_ffff - 19 {
             return LENGTH;
@@ -402,12 +408,13 @@ impl Session {
 
     /// Reads the next item of a handle, whose message is held until the next one is read.
     pub fn read(&mut self, alloc: Global, k: usize, item: &mut NeliItem) -> i32
-        ensures none { handle_at k self.old.handles.items ≡ None → (result ≡ no_handle) × (self.new ≡ self.old) }
+        ensures none { handle_at k self.old.handles.items ≡ None
+            → (result ≡ no_handle) × (self.new ≡ self.old) × (item.new ≡ item.old) }
         ensures some { IfSome (handle_at k self.old.handles.items) (λ h. (after : HandleState)
             × (self.new.handles.items ≡ slice_set self.old.handles.items k (slot.Open after))
             × (self.new.freed ≡ self.old.freed)
             × ((ks : List ℕ) → HasFree self.old ks → HasFree self.new ks)
-            × ReadsHandle result h after self.old self.new item.new) }
+            × ReadsHandle result h after self.old self.new item.old item.new) }
     {
         let Some(mut handle) = take(&mut self.handles, k, 0) else {
             return HANDLE;

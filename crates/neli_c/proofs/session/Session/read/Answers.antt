@@ -30,5 +30,5 @@ returns-clause-some c =
         handles = c.take.new.handles;
         freed = s.freed;
         held = c.hold.new.held;
-      }) _ _ _ _ code c.hold.ensures.held r.next_seq r.ended r.closed r.waits r.gives r.others r.err,
+      }) _ _ _ _ code c.hold.ensures.held r.port r.next_seq r.ended r.closed r.waits r.gives r.others r.err,
     )

@@ -1,15 +1,14 @@
-use Rattle.std.proofs.Common.{◌≡◌, ◌≤◌, ◌+◌, if◌then◌else◌, arith, refl, ap, sym, ◌∙◌, List, Some, length, w32}
+use Rattle.std.proofs.Common.{◌≡◌, ◌⊎◌, ℤ, true, arith, refl, ap, sym, subst, ◌∙◌, List, Some, length, of_z, to_z, w32}
 use Rattle.std.proofs.lemmas.Int.{to_z-of_z}
-use Rattle.std.proofs.lemmas.Bool.{le-leb}
 use Rattle.neli_router.specs.Sends.{asks}
-use Rattle.neli_c.specs.Codes.{ok, room}
-use Rattle.neli_wire.specs.Sizes.{align}
+use Rattle.neli_c.specs.Codes.{in_use, memory, ok}
+use Rattle.neli_c.specs.Sessions.{is_open}
 use Rattle.neli_c.specs.Writes.{put_first}
 use Rattle.neli_router.specs.declared.handle.HandleState.{HandleState}
 use Rattle.neli_c.specs.declared.session.Slot.{Slot}
 use Rattle.neli_c.specs.Slots.{handle_at, put_at}
 use Rattle.neli_c.proofs.FreePlaces.{again}
-use Rattle.neli_c.proofs.Requests.{frame-converted, frame-length}
+use Rattle.neli_c.proofs.Requests.{copied-code, fitting-code, frame-converted, no-matter-of-room, refusal-code, refused-else}
 use Rattle.neli_c.proofs.session.Session.send.Goals as goal
 
 pub returns-in-Ok-send-clause-sent : goal.returns-in-Ok-send-clause-sent
@@ -36,6 +35,8 @@ returns-in-Ok-send-clause-sent c = λ e.
       r.next_seq,
       r.opened,
       r.others,
+      r.port,
+      refl,
     )
 
 pub returns-in-Err-clause-sent : goal.returns-in-Err-clause-sent
@@ -45,17 +46,44 @@ returns-in-Err-clause-sent c = λ e. absurd (c.of_error.ensures.refused
 -- the frame has the bytes for which there was found to be room
 pub returns-in-Ok-send-clause-refused : goal.returns-in-Ok-send-clause-refused
 returns-in-Ok-send-clause-refused c = λ ne.
-    let long : length c.in-Ok-send.bytes.items ≡ align (16 + length c.in-Ok.buffer) =
-    frame-length _ _ _ _ _ _ c.in-Ok-send.bytes.items c.in-Ok-send.ensures.bytes in
-    let body : length c.in-Ok.buffer ≡ length c.args.body.now = ap (λ b. length b) c.in-Ok.ensures in
-    let same : length c.deref.result.now ≡ length c.in-Ok-send.bytes.items = ap (λ b. length b) c.deref.ensures.value in
-    let fits : length c.deref.result.now ≤ length c.args.out.now =
-    omega (arith, long, body, same, c.if-out-wanted.false) in
-    let good : c.copy.result ≡ ok = c.copy.ensures.code ∙ ap (λ b. if b then ok else room) (le-leb _ _ fits) in
-    absurd (ne (to_z-of_z w32 c.copy.result (record { sfits = c.copy.type_inv }) ∙ good))
+    let code = to_z-of_z w32 c.copy.result (record { sfits = c.copy.type_inv }) in
+    absurd (ne (code ∙ copied-code _ _ _ _ _ _ _ _ _ _ _ c.in-Ok-send.ensures.bytes c.in-Ok.ensures
+    c.deref.ensures.value (omega (arith, c.if-out-wanted.false)) c.copy.ensures.code))
+
+pub returns-in-Ok-send-clause-why : goal.returns-in-Ok-send-clause-why
+returns-in-Ok-send-clause-why c = λ ne.
+    let code = to_z-of_z w32 c.copy.result (record { sfits = c.copy.type_inv }) in
+    absurd (ne (code ∙ copied-code _ _ _ _ _ _ _ _ _ _ _ c.in-Ok-send.ensures.bytes c.in-Ok.ensures
+    c.deref.ensures.value (omega (arith, c.if-out-wanted.false)) c.copy.ensures.code))
+
+pub returns-in-Ok-send-clause-needed : goal.returns-in-Ok-send-clause-needed
+returns-in-Ok-send-clause-needed c = λ ne.
+    let code = to_z-of_z w32 c.copy.result (record { sfits = c.copy.type_inv }) in
+    absurd (ne (code ∙ copied-code _ _ _ _ _ _ _ _ _ _ _ c.in-Ok-send.ensures.bytes c.in-Ok.ensures
+    c.deref.ensures.value (omega (arith, c.if-out-wanted.false)) c.copy.ensures.code))
+
+pub returns-in-Err-clause-why : goal.returns-in-Err-clause-why
+returns-in-Err-clause-why c = λ ne.
+    let s = c.args.self.now in
+    let code = to_z-of_z w32 c.of_error.result (record { sfits = c.of_error.type_inv }) ∙ c.of_error.ensures.code in
+    let size : length c.in-Ok.buffer ≡ length c.args.body.now = ap (λ b. length b) c.in-Ok.ensures in
+    let cause = refusal-code _ _ _ _ _ c.in-Ok.buffer _ c.in-Err.error (omega (arith, size, c.if-body.false))
+    c.in-Err.ensures.refused in
+    refused-else c.args.body.now s c.args.out.now (to_z w32 (of_z w32 c.of_error.result))
+    (fitting-code (length c.args.body.now) (length c.args.out.now) (omega (arith, c.if-body.false))
+    (omega (arith, c.if-out-wanted.false)))
+    (subst (λ (z : ℤ). ((z ≡ in_use) × (is_open s s.router.next_seq ≡ true)) ⊎ (z ≡ memory)) (sym code) cause)
+
+pub returns-in-Err-clause-needed : goal.returns-in-Err-clause-needed
+returns-in-Err-clause-needed c = λ ne.
+    let code = to_z-of_z w32 c.of_error.result (record { sfits = c.of_error.type_inv }) ∙ c.of_error.ensures.code in
+    let size : length c.in-Ok.buffer ≡ length c.args.body.now = ap (λ b. length b) c.in-Ok.ensures in
+    let cause = refusal-code _ _ _ _ _ c.in-Ok.buffer _ c.in-Err.error (omega (arith, size, c.if-body.false))
+    c.in-Err.ensures.refused in (λ is. absurd (no-matter-of-room _ _ cause (sym code ∙ is)), λ _. refl)
 
 pub returns-in-Err-clause-refused : goal.returns-in-Err-clause-refused
 returns-in-Err-clause-refused c = λ ne. (
+  c.in-Err.ensures.port,
   c.in-Err.ensures.err.0,
   c.in-Err.ensures.err.1,
   refl,
