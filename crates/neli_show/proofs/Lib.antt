@@ -1,1 +1,6 @@
+mod Addresses
+mod Parts
+mod Pieces
+mod Strings
 mod Texts
+mod Written

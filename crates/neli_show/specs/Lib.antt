@@ -1,2 +1,5 @@
+pub mod Faults
+pub mod Json
 pub mod Quoted
 pub mod Values
+pub mod Written

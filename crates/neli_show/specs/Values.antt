@@ -1,5 +1,5 @@
 -- Values as text.
-use Rattle.std.specs.Prelude.{ℕ, ◌/◌, ◌%◌, false, nat_lt, if◌then◌else◌, List, [], ◌∷◌, ◌++◌, length, codes, Option, Some, None}
+use Rattle.std.specs.Prelude.{ℕ, ◌/◌, ◌%◌, false, nat_lt, if◌then◌else◌, List, [], ◌∷◌, ◌++◌, length, codes, Option, Some}
 use Rattle.std.specs.Fmt.{decimal, digits, signed_decimal}
 use Rattle.std.specs.List.{flat_map}
 use Rattle.std.specs.Net.Text.{ip_text}
@@ -24,14 +24,41 @@ abbrev pub bytes_text : List ℕ → List ℕ
 bytes_text [] = codes "empty"
 bytes_text (b ∷ bytes) = codes "0x" ++ hex_text (b ∷ bytes)
 
--- a value; nothing is said of a hardware address
+-- two a byte, each after a colon
+abbrev pub later_hex_text : List ℕ → List ℕ
+later_hex_text bytes = flat_map (λ b. codes ":" ++ byte_text b) bytes
+
+-- two a byte, with colons between them
+abbrev pub hardware_text : List ℕ → List ℕ
+hardware_text [] = []
+hardware_text (b ∷ bytes) = byte_text b ++ later_hex_text bytes
+
+-- a hardware address, or that there is none
+abbrev pub address_text : List ℕ → List ℕ
+address_text [] = codes "empty"
+address_text (b ∷ bytes) = hardware_text (b ∷ bytes)
+
+-- a value
 abbrev pub value_text : Value → Option (List ℕ)
 value_text (value.Unsigned n) = Some (decimal n)
 value_text (value.Signed z) = Some (signed_decimal z)
 value_text (value.Text text) = Some (quoted text.now)
 value_text (value.Ip address) = Some (ip_text address)
-value_text (value.Hardware bytes) = None
+value_text (value.Hardware bytes) = Some (address_text bytes.now)
 value_text (value.Bytes bytes) = Some (bytes_text bytes.now)
+
+-- a value in JSON
+abbrev pub value_json : Value → List ℕ
+value_json (value.Unsigned n) = decimal n
+value_json (value.Signed z) = signed_decimal z
+value_json (value.Text text) = quoted text.now
+value_json (value.Ip address) = codes "\"" ++ ip_text address ++ codes "\""
+value_json (value.Hardware bytes) = codes "\"" ++ hardware_text bytes.now ++ codes "\""
+value_json (value.Bytes bytes) = codes "{\"bytes\":\"" ++ hex_text bytes.now ++ codes "\"}"
+
+-- bits without a name in JSON
+abbrev pub bits_json : ℕ → List ℕ
+bits_json bits = codes "\"0x" ++ (digits 16 false bits ++ codes "\"")
 
 -- ---- numbers in bytes
 

@@ -1,5 +1,12 @@
 //! The flags of messages by name.
 
+ghost use Rattle.std.specs.Prelude.{◌≡◌, OnOk};
+ghost use Rattle.std.specs.Io.KnownBytes.{Appends};
+ghost use Rattle.neli_show.specs.Json.{IsJson};
+ghost use Rattle.neli_show.specs.Values.{bits_json};
+ghost use Rattle.neli_show.specs.Written.{Extends, FirstElements, Writes, AreFlags, comma};
+
+use crate::quoted::Quoted;
 use std::io;
 use std::io::Write;
 
@@ -53,34 +60,95 @@ fn own_flags(protocol: u16, message_type: u16) -> &'static [Flag] {
 }
 
 /// How flags are written.
-#[derive(Clone, Copy)]
-pub struct FlagForm {
-    /// What stands before and after each.
-    pub quote: &'static str,
-    /// What stands between them.
-    pub between: &'static str,
+#[derive(Clone, Copy, Debug, PartialEq, Eq)]
+pub enum FlagForm {
+    /// As names with bars between them.
+    Bars,
+    /// As strings of JSON with commas between them.
+    Strings,
 }
 
-/// Writes those of these flags that are among the bits that are left of all, and answers the bits that are left then.
+impl FlagForm {
+    /// Writes what stands before a flag.
+    fn write_between<W: Write>(self, out: &mut W, is_first: bool) -> io::Result<()>
+        ensures { self ≡ FlagForm.Strings → OnOk result
+            (Appends (W.contents out.old) (W.contents out.new) (comma is_first)) }
+    {
+        match self {
+            _ if is_first => Ok(()),
+            FlagForm::Bars => write!(out, "|"),
+            FlagForm::Strings => write!(out, ","),
+        }
+    }
+
+    /// Writes the name of a flag.
+    fn write_name<W: Write>(self, out: &mut W, name: &str) -> io::Result<()>
+        ensures { self ≡ FlagForm.Strings → OnOk result
+            (Writes (W.contents out.old) (W.contents out.new) IsJson) }
+    {
+        match self {
+            FlagForm::Bars => write!(out, "{name}"),
+            FlagForm::Strings => {
+                let name = Quoted(name);
+                write!(out, "{name}")
+            }
+        }
+    }
+
+    /// Writes flags that have no name.
+    fn write_bits<W: Write>(self, out: &mut W, bits: u16) -> io::Result<()>
+        ensures { self ≡ FlagForm.Strings → OnOk result
+            (Appends (W.contents out.old) (W.contents out.new) (bits_json bits)) }
+    {
+        match self {
+            FlagForm::Bars => write!(out, "0x{bits:x}"),
+            FlagForm::Strings => write!(out, "\"0x{bits:x}\""),
+        }
+    }
+}
+
+/// Flags of a message that are not written yet.
+#[derive(Drop)]
+struct Left {
+    /// Their bits.
+    bits: u16,
+    /// Whether none is written yet.
+    is_first: bool,
+}
+
+/// Writes a flag, if its bit is left.
+fn write_flag<W: Write>(out: &mut W, form: FlagForm, flag: &Flag, left: &mut Left) -> io::Result<()>
+    ensures { form ≡ FlagForm.Strings → OnOk result
+        (Extends (W.contents out.old) (W.contents out.new)
+        (FirstElements left.old.is_first) (FirstElements left.new.is_first)) }
+{
+    let (bit, name) = flag;
+    let is_left = left.bits & *bit != 0;
+    if is_left {
+        form.write_between(out, left.is_first)?;
+        form.write_name(out, name)?;
+        left.is_first = false;
+        left.bits &= !*bit;
+        return Ok(());
+    }
+    Ok(())
+}
+
+/// Writes those of these flags that are left.
 fn write_set<W: Write>(
     out: &mut W,
     form: FlagForm,
     flags: &[Flag],
-    all: u16,
-    left: u16,
-) -> io::Result<u16> {
-    let FlagForm { quote, between } = form;
-    let mut left = left;
-    for (bit, name) in flags {
-        if left & *bit != 0 {
-            if left != all {
-                write!(out, "{between}")?;
-            }
-            write!(out, "{quote}{name}{quote}")?;
-            left &= !*bit;
-        }
+    left: &mut Left,
+) -> io::Result<()>
+    ensures { form ≡ FlagForm.Strings → OnOk result
+        (Extends (W.contents out.old) (W.contents out.new)
+        (FirstElements left.old.is_first) (FirstElements left.new.is_first)) }
+{
+    for flag in flags {
+        write_flag(out, form, flag, left)?;
     }
-    Ok(left)
+    Ok(())
 }
 
 /// Writes the flags of a message of this protocol and type by their names, and what is left of them as one number.
@@ -90,16 +158,19 @@ pub fn write_flags<W: Write>(
     protocol: u16,
     message_type: u16,
     bits: u16,
-) -> io::Result<()> {
-    let left = write_set(out, form, &COMMON, bits, bits)?;
-    let own = own_flags(protocol, message_type);
-    let left = write_set(out, form, own, bits, left)?;
-    if left == 0 {
+) -> io::Result<()>
+    ensures { form ≡ FlagForm.Strings → OnOk result
+        (Writes (W.contents out.old) (W.contents out.new) AreFlags) }
+{
+    let mut left = Left {
+        bits,
+        is_first: true,
+    };
+    write_set(out, form, &COMMON, &mut left)?;
+    write_set(out, form, own_flags(protocol, message_type), &mut left)?;
+    if left.bits == 0 {
         return Ok(());
     }
-    let FlagForm { quote, between } = form;
-    if left != bits {
-        write!(out, "{between}")?;
-    }
-    write!(out, "{quote}0x{left:x}{quote}")
+    form.write_between(out, left.is_first)?;
+    form.write_bits(out, left.bits)
 }

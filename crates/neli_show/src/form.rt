@@ -1,6 +1,13 @@
 //! What a form of the output does for each part of a message.
 
+ghost use Rattle.std.specs.Prelude.{◌≡◌, ℕ, List, ◌++◌, Bool, true, OnOk, Some};
+ghost use Rattle.neli_show.specs.Faults.{breach_text, fault_text};
+ghost use Rattle.std.specs.List.{list_all};
+ghost use Rattle.neli_show.specs.Json.{AreElements, AreLines, AreMembers, is_plain};
+ghost use Rattle.neli_show.specs.Written.{AreHops, Extends, FirstElements, IsAround, IsBegun, IsHopBegun, Turns, Writes};
+
 use crate::head::Head;
+use neli_inputs::Refusal;
 use neli_schema::{Structure, Table};
 use neli_schema_walk::{Attribute, Broken, Step};
 use neli_wire::DeError;
@@ -20,12 +27,24 @@ pub struct Place {
 ///
 /// The parts of a message come in this order: its head; the code of an answer; the head and the body of the request
 /// that it answers, and their end; a structure and its attributes, or bytes; its end.
+///
+/// Where it is JSON, its clauses say what each part makes of what is written: lines that are the text of one value each.
 pub trait Form: Copy + Drop {
+    // Whether it is JSON.
+    ghost is_json: { Bool };
+
+    // What is written of a message, where lists of attributes are open.
+    ghost is_open: { Self → List ℕ → Type 0 };
+
     /// The head of a message, at level 0, or of the request that an answer is for.
-    fn head<W: Write>(&mut self, out: &mut W, level: usize, head: &Head<'_>) -> io::Result<()>;
+    fn head<W: Write>(&mut self, out: &mut W, level: usize, head: &Head<'_>) -> io::Result<()>
+        ensures { is_json ≡ true → OnOk result
+            (Extends (W.contents out.old) (W.contents out.new) (IsAround level) (IsBegun level)) };
 
     /// The code of an answer: 0, or an error's number below 0.
-    fn code<W: Write>(&mut self, out: &mut W, level: usize, code: i32) -> io::Result<()>;
+    fn code<W: Write>(&mut self, out: &mut W, level: usize, code: i32) -> io::Result<()>
+        ensures { is_json ≡ true → OnOk result
+            (Extends (W.contents out.old) (W.contents out.new) AreMembers AreMembers) };
 
     /// A structure with this name, of which these bytes are as much as there is.
     fn structure<W: Write>(
@@ -35,13 +54,19 @@ pub trait Form: Copy + Drop {
         name: &str,
         structure: &Structure<'_>,
         bytes: &[u8],
-    ) -> io::Result<()>;
+    ) -> io::Result<()>
+        ensures { is_json ≡ true → OnOk result
+            (Extends (W.contents out.old) (W.contents out.new) AreMembers AreMembers) };
 
     /// Bytes of which no more is known.
-    fn bytes<W: Write>(&mut self, out: &mut W, level: usize, bytes: &[u8]) -> io::Result<()>;
+    fn bytes<W: Write>(&mut self, out: &mut W, level: usize, bytes: &[u8]) -> io::Result<()>
+        ensures { is_json ≡ true → OnOk result
+            (Extends (W.contents out.old) (W.contents out.new) AreMembers AreMembers) };
 
     /// Attributes begin.
-    fn list<W: Write>(&mut self, out: &mut W) -> io::Result<()>;
+    fn list<W: Write>(&mut self, out: &mut W) -> io::Result<()>
+        ensures { is_json ≡ true → OnOk result
+            (Extends (W.contents out.old) (W.contents out.new) AreMembers (is_open self.new)) };
 
     /// An attribute, of which nests come after it.
     fn attribute<W: Write>(
@@ -50,13 +75,22 @@ pub trait Form: Copy + Drop {
         place: Place,
         step: &Step<'_>,
         attribute: &Attribute<'_, '_>,
-    ) -> io::Result<()>;
+    ) -> io::Result<()>
+        ensures { is_json ≡ true → OnOk result
+            (Extends (W.contents out.old) (W.contents out.new)
+            (is_open self.old) (is_open self.new)) };
 
     /// What follows the attributes of a list, and is none.
-    fn rest<W: Write>(&mut self, out: &mut W, place: Place, error: &DeError) -> io::Result<()>;
+    fn rest<W: Write>(&mut self, out: &mut W, place: Place, error: &DeError) -> io::Result<()>
+        ensures { is_json ≡ true → OnOk result
+            (Extends (W.contents out.old) (W.contents out.new)
+            (is_open self.old) (is_open self.new)) };
 
     /// An attribute that has structures with attributes each, which come after it.
-    fn hops<W: Write>(&mut self, out: &mut W, place: Place, step: &Step<'_>) -> io::Result<()>;
+    fn hops<W: Write>(&mut self, out: &mut W, place: Place, step: &Step<'_>) -> io::Result<()>
+        ensures { is_json ≡ true → OnOk result (Writes (W.contents out.old) (W.contents out.new)
+            (λ begun. (hops : List ℕ) → AreHops hops
+            → Turns (is_open self.old) (is_open self.new) (begun ++ hops))) };
 
     /// One of these structures, and its attributes come after it.
     fn hop<W: Write>(
@@ -66,34 +100,41 @@ pub trait Form: Copy + Drop {
         is_first: bool,
         table: &Table<'_>,
         bytes: &[u8],
-    ) -> io::Result<()>;
+    ) -> io::Result<()>
+        ensures { is_json ≡ true → OnOk result
+            (Extends (W.contents out.old) (W.contents out.new)
+            (FirstElements is_first) IsHopBegun) };
 
     /// The attributes of such a structure end.
-    fn end_hop<W: Write>(&mut self, out: &mut W) -> io::Result<()>;
+    fn end_hop<W: Write>(&mut self, out: &mut W) -> io::Result<()>
+        ensures { is_json ≡ true → OnOk result
+            (Extends (W.contents out.old) (W.contents out.new) IsHopBegun AreElements) };
 
     /// What follows such structures, and is none.
     fn end_hops<W: Write>(
-        &mut self,
+        &self,
         out: &mut W,
         level: usize,
         is_first: bool,
         rest: &[u8],
-    ) -> io::Result<()>;
+    ) -> io::Result<()>
+        ensures { is_json ≡ true → OnOk result
+            (Extends (W.contents out.old) (W.contents out.new) (FirstElements is_first) AreHops) };
 
     /// Attributes end.
-    fn end_list<W: Write>(&mut self, out: &mut W) -> io::Result<()>;
+    fn end_list<W: Write>(&mut self, out: &mut W) -> io::Result<()>
+        ensures { is_json ≡ true → OnOk result
+            (Extends (W.contents out.old) (W.contents out.new) (is_open self.old) AreMembers) };
 
     /// A message, at level 0, or a request, ends.
-    fn end<W: Write>(&mut self, out: &mut W, level: usize) -> io::Result<()>;
+    fn end<W: Write>(&mut self, out: &mut W, level: usize) -> io::Result<()>
+        ensures { is_json ≡ true → OnOk result
+            (Extends (W.contents out.old) (W.contents out.new) (IsBegun level) (IsAround level)) };
 
-    /// A part of the input, or of a datagram, that is no message, with its place.
-    fn fault<W: Write, D: fmt::Display + Drop>(
-        &mut self,
-        out: &mut W,
-        kind: &str,
-        place: usize,
-        fault: D,
-    ) -> io::Result<()>;
+    /// A fault and its place, where there is no message.
+    fn fault<W: Write>(&mut self, out: &mut W, place: usize, fault: Fault<'_>) -> io::Result<()>
+        ensures { is_json ≡ true → OnOk result
+            (Extends (W.contents out.old) (W.contents out.new) AreLines AreLines) };
 }
 
 /// How a payload breaks its row, in words.
@@ -101,6 +142,8 @@ pub trait Form: Copy + Drop {
 pub struct Breach(pub Broken);
 
 impl fmt::Display for Breach {
+    ghost output = { λ b. Some (breach_text b.0) };
+
     fn fmt<W: fmt::Write>(&self, f: &mut fmt::Formatter<W>) -> fmt::Result {
         match self.0 {
             Broken::Short(size) => write!(f, "shorter than {size} bytes"),
@@ -113,17 +156,37 @@ impl fmt::Display for Breach {
     }
 }
 
-/// A fault of a datagram or of a list of attributes, in words.
+/// A fault, in words.
 #[derive(Clone, Copy)]
-pub struct Fault<'e>(pub &'e DeError);
+pub enum Fault<'e> {
+    /// Of a datagram, or of a list of attributes.
+    Datagram(&'e DeError),
+    /// Of the input.
+    Input(Refusal),
+}
+
+impl Fault<'_> {
+    /// What its place is in.
+    pub fn kind(self) -> &'static str
+        ensures { list_all is_plain result.now ≡ true }
+    {
+        match self {
+            Fault::Datagram(_) => "at",
+            Fault::Input(_) => "input",
+        }
+    }
+}
 
 impl fmt::Display for Fault<'_> {
+    ghost output = { λ f. Some (fault_text f) };
+
     fn fmt<W: fmt::Write>(&self, f: &mut fmt::Formatter<W>) -> fmt::Result {
-        match self.0 {
-            DeError::InvalidInput(length) => write!(f, "a wrong length, {length}"),
-            DeError::Io(_) => write!(f, "the bytes end too early"),
-            DeError::Memory => write!(f, "out of memory"),
-            DeError::Msg(_) | DeError::Utf8(_) => write!(f, "unreadable"),
+        match self {
+            Fault::Datagram(DeError::InvalidInput(length)) => write!(f, "a wrong length, {length}"),
+            Fault::Datagram(DeError::Io(_)) => write!(f, "the bytes end too early"),
+            Fault::Datagram(DeError::Memory) => write!(f, "out of memory"),
+            Fault::Datagram(DeError::Msg(_) | DeError::Utf8(_)) => write!(f, "unreadable"),
+            Fault::Input(refusal) => write!(f, "{refusal}"),
         }
     }
 }

@@ -1,5 +1,12 @@
 //! The output as lines of JSON (RFC 8259), an object each.
 
+ghost use Rattle.std.specs.Prelude.{◌≡◌, ℕ, ◌+◌, ◌≤◌, max, true, false, OnOk};
+ghost use Rattle.std.specs.Io.KnownBytes.{Appends};
+ghost use Rattle.std.specs.List.{list_all};
+ghost use Rattle.neli_show.specs.Json.{AreMembers, IsJson, is_plain};
+ghost use Rattle.neli_show.specs.Values.{value_json};
+ghost use Rattle.neli_show.specs.Written.{Extends, IsElement, IsOpen, IsPlace, Writes, comma};
+
 use crate::content::{Content, content_in};
 use crate::flags::{FlagForm, write_flags};
 use crate::form::{Breach, Fault, Form, Place};
@@ -8,26 +15,23 @@ use crate::quoted::Quoted;
 use crate::value::{Hardware, Hex, Value, field_value, number_value};
 use neli_errno::Errno;
 use neli_schema::{Number, Structure, Table};
-use neli_schema_walk::{Attribute, Shape, Step};
+use neli_schema_walk::{Attribute, Broken, Shape, Step};
 use neli_wire::DeError;
+use std::io;
 use std::io::Write;
-use std::{fmt, io};
 
 /// Objects of JSON, and how many lists of attributes are open in the one that is written.
 #[derive(Clone, Copy)]
 pub struct Json {
-    open: usize,
+    lists: usize,
     is_first: bool,
 }
 
-/// What flags are written by.
-const FLAGS: FlagForm = FlagForm {
-    quote: "\"",
-    between: ",",
-};
-
 /// Writes a value. Bytes, which JSON has no form for, are an object with their hexadecimal digits.
-fn write_value<W: Write>(out: &mut W, value: &Value<'_>) -> io::Result<()> {
+fn write_value<W: Write>(out: &mut W, value: &Value<'_>) -> io::Result<()>
+    ensures { OnOk result
+        (Appends (W.contents out.old) (W.contents out.new) (value_json value.now)) }
+{
     match value {
         Value::Unsigned(number) => write!(out, "{number}"),
         Value::Signed(number) => write!(out, "{number}"),
@@ -48,7 +52,9 @@ fn write_value<W: Write>(out: &mut W, value: &Value<'_>) -> io::Result<()> {
 }
 
 /// Writes a comma, except before the first.
-fn write_comma<W: Write>(out: &mut W, is_first: bool) -> io::Result<()> {
+fn write_comma<W: Write>(out: &mut W, is_first: bool) -> io::Result<()>
+    ensures { OnOk result (Appends (W.contents out.old) (W.contents out.new) (comma is_first)) }
+{
     if is_first {
         return Ok(());
     }
@@ -56,7 +62,9 @@ fn write_comma<W: Write>(out: &mut W, is_first: bool) -> io::Result<()> {
 }
 
 /// Writes the fields of a structure that are there, as an object.
-fn write_fields<W: Write>(out: &mut W, structure: &Structure<'_>, bytes: &[u8]) -> io::Result<()> {
+fn write_fields<W: Write>(out: &mut W, structure: &Structure<'_>, bytes: &[u8]) -> io::Result<()>
+    ensures { OnOk result (Writes (W.contents out.old) (W.contents out.new) IsJson) }
+{
     write!(out, "{{")?;
     let mut is_first = true;
     for field in structure.fields {
@@ -72,7 +80,9 @@ fn write_fields<W: Write>(out: &mut W, structure: &Structure<'_>, bytes: &[u8]) 
 }
 
 /// Writes numbers, as an array.
-fn write_numbers<W: Write>(out: &mut W, number: Number, bytes: &[u8]) -> io::Result<()> {
+fn write_numbers<W: Write>(out: &mut W, number: Number, bytes: &[u8]) -> io::Result<()>
+    ensures { OnOk result (Writes (W.contents out.old) (W.contents out.new) IsJson) }
+{
     write!(out, "[")?;
     let mut is_first = true;
     for part in bytes.chunks(number.size().max(1)) {
@@ -88,7 +98,9 @@ fn write_structures<W: Write>(
     out: &mut W,
     structure: &Structure<'_>,
     bytes: &[u8],
-) -> io::Result<()> {
+) -> io::Result<()>
+    ensures { OnOk result (Writes (W.contents out.old) (W.contents out.new) IsJson) }
+{
     write!(out, "[")?;
     let mut is_first = true;
     for part in bytes.chunks(structure.size.max(1)) {
@@ -100,7 +112,9 @@ fn write_structures<W: Write>(
 }
 
 /// Writes what an attribute has, as one value.
-fn write_content<W: Write>(out: &mut W, content: &Content<'_, '_>) -> io::Result<()> {
+fn write_content<W: Write>(out: &mut W, content: &Content<'_, '_>) -> io::Result<()>
+    ensures { OnOk result (Writes (W.contents out.old) (W.contents out.new) IsJson) }
+{
     match content {
         Content::Flag => write!(out, "true"),
         Content::Value(value) => write_value(out, value),
@@ -113,35 +127,150 @@ fn write_content<W: Write>(out: &mut W, content: &Content<'_, '_>) -> io::Result
 }
 
 /// Writes a member with a name, if there is one.
-fn write_optional<W: Write>(out: &mut W, member: &str, name: Option<&str>) -> io::Result<()> {
-    let Some(name) = name else {
+fn write_optional<W: Write>(out: &mut W, member: &str, name: Option<&str>) -> io::Result<()>
+    requires { list_all is_plain member.now ≡ true }
+    ensures { OnOk result
+        (Extends (W.contents out.old) (W.contents out.new) AreMembers AreMembers) }
+{
+    match name {
+        None => Ok(()),
+        Some(name) => {
+            let name = Quoted(name);
+            write!(out, ",\"{member}\":{name}")
+        }
+    }
+}
+
+/// Writes a member with the fields of a structure.
+fn write_structure<W: Write>(
+    out: &mut W,
+    member: &str,
+    structure: &Structure<'_>,
+    bytes: &[u8],
+) -> io::Result<()>
+    requires { list_all is_plain member.now ≡ true }
+    ensures { OnOk result
+        (Extends (W.contents out.old) (W.contents out.new) AreMembers AreMembers) }
+{
+    write!(out, ",\"{member}\":")?;
+    write_fields(out, structure, bytes)
+}
+
+/// Writes the flags of a message.
+fn write_flag_list<W: Write>(out: &mut W, head: &Head<'_>) -> io::Result<()>
+    ensures { OnOk result
+        (Extends (W.contents out.old) (W.contents out.new) AreMembers AreMembers) }
+{
+    write!(out, ",\"flags\":[")?;
+    write_flags(
+        out,
+        FlagForm::Strings,
+        head.protocol,
+        head.message_type,
+        head.flags,
+    )?;
+    write!(out, "]")
+}
+
+/// Writes what the header of a message says.
+fn write_header<W: Write>(out: &mut W, head: &Head<'_>) -> io::Result<()>
+    ensures { OnOk result (Writes (W.contents out.old) (W.contents out.new) AreMembers) }
+{
+    let (message_type, length) = (head.message_type, head.length);
+    write!(out, "\"type\":{message_type}")?;
+    write_optional(out, "name", head.name)?;
+    write!(out, ",\"length\":{length}")?;
+    write_flag_list(out, head)?;
+    let (number, port) = (head.number, head.port);
+    write!(out, ",\"number\":{number},\"port\":{port}")
+}
+
+/// Writes how an attribute breaks its row, if it does.
+fn write_broken<W: Write>(out: &mut W, shape: &Result<Shape<'_>, Broken>) -> io::Result<()>
+    ensures { OnOk result
+        (Extends (W.contents out.old) (W.contents out.new) AreMembers AreMembers) }
+{
+    match shape {
+        Ok(_) => Ok(()),
+        Err(broken) => {
+            let breach = Breach(*broken);
+            write!(out, ",\"broken\":\"{breach}\"")
+        }
+    }
+}
+
+/// Writes what an attribute has, as a member.
+fn write_content_member<W: Write>(out: &mut W, content: &Content<'_, '_>) -> io::Result<()>
+    ensures { OnOk result
+        (Extends (W.contents out.old) (W.contents out.new) AreMembers AreMembers) }
+{
+    write!(out, ",\"value\":")?;
+    write_content(out, content)
+}
+
+/// Writes what an attribute has, and ends its element.
+fn write_content_end<W: Write>(out: &mut W, content: &Content<'_, '_>) -> io::Result<()>
+    ensures { (n : ℕ) → OnOk result (Extends (W.contents out.old) (W.contents out.new)
+        (IsElement n) (IsOpen n false)) }
+{
+    write_content_member(out, content)?;
+    write!(out, "}}")
+}
+
+/// Writes the name of an error, and what it means.
+fn write_error<W: Write>(out: &mut W, errno: Errno) -> io::Result<()>
+    ensures { OnOk result
+        (Extends (W.contents out.old) (W.contents out.new) AreMembers AreMembers) }
+{
+    write_optional(out, "error", Some(errno.name()))?;
+    write_optional(out, "meaning", Some(errno.meaning()))
+}
+
+/// Writes the structure that a nest begins with, if it has one.
+fn write_nest_header<W: Write>(
+    out: &mut W,
+    structure: &Structure<'_>,
+    bytes: &[u8],
+) -> io::Result<()>
+    ensures { OnOk result
+        (Extends (W.contents out.old) (W.contents out.new) AreMembers AreMembers) }
+{
+    if structure.size == 0 {
         return Ok(());
-    };
-    let name = Quoted(name);
-    write!(out, ",\"{member}\":{name}")
+    }
+    write_structure(out, "value", structure, bytes)
 }
 
 impl Json {
     /// Objects, of which none is begun.
     pub fn new() -> Json {
         Json {
-            open: 0,
+            lists: 0,
             is_first: true,
         }
     }
 
-    /// Ends the lists of attributes past this many, with the attributes that they are in.
-    fn close_to<W: Write>(&mut self, out: &mut W, lists: usize) -> io::Result<()> {
-        for _list in lists..self.open {
+    /// Ends the lists of attributes past this many, with the attributes that they are in. The first stays open.
+    fn close_to<W: Write>(&mut self, out: &mut W, lists: usize) -> io::Result<()>
+        ensures ended { OnOk result (Extends (W.contents out.old) (W.contents out.new)
+            (IsOpen self.old.lists self.old.is_first) (IsOpen self.new.lists self.new.is_first)) }
+        ensures few { OnOk result (self.new.lists ≤ max lists 1) }
+    {
+        let least = lists.max(1);
+        while least < self.lists {
             write!(out, "]}}")?;
+            self.lists -= 1;
             self.is_first = false;
         }
-        self.open = lists.min(self.open);
         Ok(())
     }
 
     /// Begins an element in a list of attributes.
-    fn element<W: Write>(&mut self, out: &mut W, lists: usize) -> io::Result<()> {
+    fn element<W: Write>(&mut self, out: &mut W, lists: usize) -> io::Result<()>
+        ensures begun { OnOk result (Extends (W.contents out.old) (W.contents out.new)
+            (IsOpen self.old.lists self.old.is_first) (IsPlace self.new.lists)) }
+        ensures first { OnOk result (self.new.is_first ≡ false) }
+    {
         self.close_to(out, lists)?;
         write_comma(out, self.is_first)?;
         self.is_first = false;
@@ -149,38 +278,55 @@ impl Json {
     }
 
     /// Begins the element of an attribute.
-    fn step<W: Write>(&mut self, out: &mut W, place: Place, step: &Step<'_>) -> io::Result<()> {
+    fn step<W: Write>(&mut self, out: &mut W, place: Place, step: &Step<'_>) -> io::Result<()>
+        ensures begun { OnOk result (Extends (W.contents out.old) (W.contents out.new)
+            (IsOpen self.old.lists self.old.is_first) (IsElement self.new.lists)) }
+        ensures first { OnOk result (self.new.is_first ≡ false) }
+    {
         self.element(out, place.lists)?;
         let number = step.number;
         write!(out, "{{\"number\":{number}")?;
         write_optional(out, "name", step.name)
     }
+
+    /// Begins the list of a nest, so that so many are open.
+    fn begin_nest<W: Write>(
+        &mut self,
+        out: &mut W,
+        structure: &Structure<'_>,
+        bytes: &[u8],
+        lists: usize,
+    ) -> io::Result<()>
+        requires { lists ≡ self.old.lists + 1 }
+        ensures { OnOk result (Extends (W.contents out.old) (W.contents out.new)
+            (IsElement self.old.lists) (IsOpen self.new.lists self.new.is_first)) }
+    {
+        write_nest_header(out, structure, bytes)?;
+        self.lists = lists;
+        self.is_first = true;
+        write!(out, ",\"attributes\":[")
+    }
 }
 
 impl Form for Json {
+    ghost is_json = { true };
+
+    ghost is_open = { λ j. IsOpen j.lists j.is_first };
+
     fn head<W: Write>(&mut self, out: &mut W, level: usize, head: &Head<'_>) -> io::Result<()> {
         if level == 0 {
             let protocol = head.protocol;
             write!(out, "{{\"family\":{protocol},")?;
-        } else {
-            write!(out, ",\"request\":{{")?;
+            return write_header(out, head);
         }
-        let (message_type, length) = (head.message_type, head.length);
-        write!(out, "\"type\":{message_type}")?;
-        write_optional(out, "name", head.name)?;
-        write!(out, ",\"length\":{length},\"flags\":[")?;
-        write_flags(out, FLAGS, head.protocol, message_type, head.flags)?;
-        let (number, port) = (head.number, head.port);
-        write!(out, "],\"number\":{number},\"port\":{port}")
+        write!(out, ",\"request\":{{")?;
+        write_header(out, head)
     }
 
     fn code<W: Write>(&mut self, out: &mut W, _level: usize, code: i32) -> io::Result<()> {
         write!(out, ",\"code\":{code}")?;
         match Errno::from_number(code.unsigned_abs()) {
-            Some(errno) if code < 0 => {
-                write_optional(out, "error", Some(errno.name()))?;
-                write_optional(out, "meaning", Some(errno.meaning()))
-            }
+            Some(errno) if code < 0 => write_error(out, errno),
             _ => Ok(()),
         }
     }
@@ -194,8 +340,7 @@ impl Form for Json {
         bytes: &[u8],
     ) -> io::Result<()> {
         write_optional(out, "structure", Some(name))?;
-        write!(out, ",\"fields\":")?;
-        write_fields(out, structure, bytes)
+        write_structure(out, "fields", structure, bytes)
     }
 
     fn bytes<W: Write>(&mut self, out: &mut W, _level: usize, bytes: &[u8]) -> io::Result<()> {
@@ -204,7 +349,7 @@ impl Form for Json {
     }
 
     fn list<W: Write>(&mut self, out: &mut W) -> io::Result<()> {
-        self.open = 1;
+        self.lists = 1;
         self.is_first = true;
         write!(out, ",\"attributes\":[")
     }
@@ -217,28 +362,19 @@ impl Form for Json {
         attribute: &Attribute<'_, '_>,
     ) -> io::Result<()> {
         self.step(out, place, step)?;
-        if let Err(broken) = attribute.shape {
-            let breach = Breach(broken);
-            write!(out, ",\"broken\":\"{breach}\"")?;
-        }
+        write_broken(out, &attribute.shape)?;
         let content = content_in(attribute);
-        if let Content::Nest(structure, bytes) = content {
-            if 0 < structure.size {
-                write!(out, ",\"value\":")?;
-                write_fields(out, &structure, bytes)?;
+        match (content, self.lists.checked_add(1)) {
+            (Content::Nest(structure, bytes), Some(lists)) => {
+                self.begin_nest(out, &structure, bytes, lists)
             }
-            self.open = place.lists.saturating_add(1);
-            self.is_first = true;
-            return write!(out, ",\"attributes\":[");
+            _ => write_content_end(out, &content),
         }
-        write!(out, ",\"value\":")?;
-        write_content(out, &content)?;
-        write!(out, "}}")
     }
 
     fn rest<W: Write>(&mut self, out: &mut W, place: Place, error: &DeError) -> io::Result<()> {
         self.element(out, place.lists)?;
-        let fault = Fault(error);
+        let fault = Fault::Datagram(error);
         write!(out, "{{\"fault\":\"{fault}\"}}")
     }
 
@@ -257,8 +393,8 @@ impl Form for Json {
     ) -> io::Result<()> {
         write_comma(out, is_first)?;
         let name = Quoted(table.header.name);
-        write!(out, "{{\"structure\":{name},\"value\":")?;
-        write_fields(out, &table.header, bytes)
+        write!(out, "{{\"structure\":{name}")?;
+        write_structure(out, "value", &table.header, bytes)
     }
 
     fn end_hop<W: Write>(&mut self, out: &mut W) -> io::Result<()> {
@@ -266,19 +402,19 @@ impl Form for Json {
     }
 
     fn end_hops<W: Write>(
-        &mut self,
+        &self,
         out: &mut W,
         _level: usize,
         is_first: bool,
         rest: &[u8],
     ) -> io::Result<()> {
-        if !rest.is_empty() {
-            write_comma(out, is_first)?;
-            write!(out, "{{\"fault\":\"no length of a structure\",\"value\":")?;
-            write_value(out, &Value::Bytes(rest))?;
-            write!(out, "}}")?;
+        if rest.is_empty() {
+            return write!(out, "]}}");
         }
-        write!(out, "]}}")
+        write_comma(out, is_first)?;
+        write!(out, "{{\"fault\":\"no length of a structure\",\"value\":")?;
+        write_value(out, &Value::Bytes(rest))?;
+        write!(out, "}}]}}")
     }
 
     fn end_list<W: Write>(&mut self, out: &mut W) -> io::Result<()> {
@@ -287,20 +423,15 @@ impl Form for Json {
     }
 
     fn end<W: Write>(&mut self, out: &mut W, level: usize) -> io::Result<()> {
-        write!(out, "}}")?;
         if level == 0 {
-            writeln!(out)?;
+            writeln!(out, "}}")
+        } else {
+            write!(out, "}}")
         }
-        Ok(())
     }
 
-    fn fault<W: Write, D: fmt::Display + Drop>(
-        &mut self,
-        out: &mut W,
-        kind: &str,
-        place: usize,
-        fault: D,
-    ) -> io::Result<()> {
+    fn fault<W: Write>(&mut self, out: &mut W, place: usize, fault: Fault<'_>) -> io::Result<()> {
+        let kind = fault.kind();
         writeln!(out, "{{\"fault\":\"{fault}\",\"{kind}\":{place}}}")
     }
 }

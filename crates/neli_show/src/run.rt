@@ -1,12 +1,16 @@
 //! A run of the program.
 
-use crate::form::Form;
+ghost use Rattle.std.specs.Prelude.{◌≡◌, OnOk, true};
+ghost use Rattle.neli_show.specs.Json.{AreLines};
+ghost use Rattle.neli_show.specs.Written.{Extends};
+
+use crate::form::{Fault, Form};
 use crate::head::Names;
 use crate::json::Json;
 use crate::request::{Output, Request, request_of};
 use crate::show::show_datagram;
 use crate::text::Text;
-use neli_inputs::{Input, read_input};
+use neli_inputs::{Input, Item, read_input};
 use neli_kernel_tables::{all_tables, bodies};
 use neli_schema::Schema;
 use neli_schema::tables::process_event;
@@ -56,6 +60,31 @@ impl Status {
     }
 }
 
+/// Prints a part of an input, and answers whether it is messages.
+fn show_part<F: Form, W: Write>(
+    form: &mut F,
+    out: &mut W,
+    names: &Names<'_>,
+    protocol: u16,
+    input: &Input,
+    part: &Item,
+) -> io::Result<bool>
+    ensures { F.is_json ≡ true → OnOk result
+        (Extends (W.contents out.old) (W.contents out.new) AreLines AreLines) }
+{
+    match part.packet {
+        Ok(packet) => {
+            let bytes = input.bytes.get(packet.start..packet.end).unwrap_or(&[]);
+            let protocol = packet.family.unwrap_or(protocol);
+            show_datagram(form, out, names, protocol, bytes)
+        }
+        Err(refusal) => {
+            form.fault(out, part.place, Fault::Input(refusal))?;
+            Ok(false)
+        }
+    }
+}
+
 /// Prints the parts of an input, and answers whether all of them are messages.
 fn show_input<F: Form, W: Write>(
     form: &mut F,
@@ -63,22 +92,13 @@ fn show_input<F: Form, W: Write>(
     names: &Names<'_>,
     protocol: u16,
     input: &Input,
-) -> io::Result<bool> {
+) -> io::Result<bool>
+    ensures { F.is_json ≡ true → OnOk result
+        (Extends (W.contents out.old) (W.contents out.new) AreLines AreLines) }
+{
     let mut is_whole = true;
-    for item in &input.items {
-        match item.packet {
-            Ok(packet) => {
-                let bytes = input.bytes.get(packet.start..packet.end).unwrap_or(&[]);
-                let protocol = packet.family.unwrap_or(protocol);
-                if !show_datagram(form, out, names, protocol, bytes)? {
-                    is_whole = false;
-                }
-            }
-            Err(refusal) => {
-                form.fault(out, "input", item.place, refusal)?;
-                is_whole = false;
-            }
-        }
+    for part in &input.items {
+        is_whole &= show_part(form, out, names, protocol, input, part)?;
     }
     out.flush()?;
     Ok(is_whole)
@@ -90,7 +110,10 @@ fn show_request<W: Write>(
     names: &Names<'_>,
     request: Request,
     input: &Input,
-) -> io::Result<bool> {
+) -> io::Result<bool>
+    ensures { request.output ≡ Output.Json → OnOk result
+        (Extends (W.contents out.old) (W.contents out.new) AreLines AreLines) }
+{
     let protocol = request.protocol;
     match request.output {
         Output::Text => {

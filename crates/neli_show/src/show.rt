@@ -1,6 +1,8 @@
 //! Messages, part by part, whatever the form that they are printed in.
 
-ghost use Rattle.std.specs.Prelude.{◌≤◌, IfSome, length};
+ghost use Rattle.std.specs.Prelude.{◌≡◌, ◌≤◌, IfSome, OnOk, length, true};
+ghost use Rattle.neli_show.specs.Json.{AreElements, AreLines, AreMembers};
+ghost use Rattle.neli_show.specs.Written.{AreHops, Extends, FirstElements, IsBegun, Writes};
 
 use crate::form::{Fault, Form, Place};
 use crate::head::{CONNECTOR, GENERIC, Head, Names, ROUTE};
@@ -65,7 +67,11 @@ fn show_item<F: Form, W: Write>(
     out: &mut W,
     level: usize,
     item: &Item<'_, '_>,
-) -> io::Result<()> {
+) -> io::Result<()>
+    ensures { F.is_json ≡ true → OnOk result
+        (Extends (W.contents out.old) (W.contents out.new)
+        (F.is_open form.old) (F.is_open form.new)) }
+{
     let place = place_of(level, item);
     match &item.content {
         Ok(attribute) => form.attribute(out, place, &step_of(item), attribute),
@@ -81,7 +87,10 @@ fn show_inner<F: Form, W: Write>(
     context: Context<'_>,
     table: Table<'_>,
     bytes: &[u8],
-) -> io::Result<()> {
+) -> io::Result<()>
+    ensures { F.is_json ≡ true → OnOk result
+        (Extends (W.contents out.old) (W.contents out.new) AreMembers AreMembers) }
+{
     form.list(out)?;
     for item in Walk::new(context, table, bytes) {
         show_item(form, out, level, &item)?;
@@ -112,7 +121,10 @@ fn show_hop<F: Form, W: Write>(
     context: Context<'_>,
     table: Table<'_>,
     bytes: &[u8],
-) -> io::Result<()> {
+) -> io::Result<()>
+    ensures { F.is_json ≡ true → OnOk result
+        (Extends (W.contents out.old) (W.contents out.new) (FirstElements is_first) AreElements) }
+{
     let mut inner = *form;
     inner.hop(out, level, is_first, &table, bytes)?;
     let attributes = bytes_from(bytes, padded_length(table.header.size));
@@ -129,13 +141,16 @@ fn show_hop<F: Form, W: Write>(
 
 /// Prints structures that each state their length, and are each followed by attributes.
 fn show_hops<F: Form, W: Write>(
-    form: &mut F,
+    form: &F,
     out: &mut W,
     level: usize,
     context: Context<'_>,
     table: Table<'_>,
     bytes: &[u8],
-) -> io::Result<()> {
+) -> io::Result<()>
+    ensures { F.is_json ≡ true → OnOk result
+        (Writes (W.contents out.old) (W.contents out.new) AreHops) }
+{
     let mut rest = bytes;
     let mut is_first = true;
     // Each has four bytes or more, so there are fewer than bytes.
@@ -150,6 +165,29 @@ fn show_hops<F: Form, W: Write>(
     form.end_hops(out, level, is_first, rest)
 }
 
+/// Prints an item of a walk, and the structures with attributes that it has.
+fn show_whole_item<F: Form, W: Write>(
+    form: &mut F,
+    out: &mut W,
+    level: usize,
+    context: Context<'_>,
+    item: &Item<'_, '_>,
+) -> io::Result<()>
+    ensures { F.is_json ≡ true → OnOk result
+        (Extends (W.contents out.old) (W.contents out.new)
+        (F.is_open form.old) (F.is_open form.new)) }
+{
+    match &item.content {
+        Ok(attribute) if let Ok(Shape::Hops(table)) = attribute.shape => {
+            let place = place_of(level, item);
+            form.hops(out, place, &step_of(item))?;
+            let deeper = place.level.saturating_add(1);
+            show_hops(form, out, deeper, context, table, attribute.payload)
+        }
+        _ => show_item(form, out, level, item),
+    }
+}
+
 /// Prints attributes.
 fn show_list<F: Form, W: Write>(
     form: &mut F,
@@ -158,18 +196,13 @@ fn show_list<F: Form, W: Write>(
     context: Context<'_>,
     table: Table<'_>,
     bytes: &[u8],
-) -> io::Result<()> {
+) -> io::Result<()>
+    ensures { F.is_json ≡ true → OnOk result
+        (Extends (W.contents out.old) (W.contents out.new) AreMembers AreMembers) }
+{
     form.list(out)?;
     for item in Walk::new(context, table, bytes) {
-        let place = place_of(level, &item);
-        match &item.content {
-            Ok(attribute) if let Ok(Shape::Hops(table)) = attribute.shape => {
-                form.hops(out, place, &step_of(&item))?;
-                let deeper = place.level.saturating_add(1);
-                show_hops(form, out, deeper, context, table, attribute.payload)?;
-            }
-            _ => show_item(form, out, level, &item)?,
-        }
+        show_whole_item(form, out, level, context, &item)?;
     }
     form.end_list(out)
 }
@@ -224,7 +257,10 @@ fn show_body<F: Form, W: Write>(
     names: &Names<'_>,
     head: &Head<'_>,
     payload: &[u8],
-) -> io::Result<()> {
+) -> io::Result<()>
+    ensures { F.is_json ≡ true → OnOk result
+        (Extends (W.contents out.old) (W.contents out.new) AreMembers AreMembers) }
+{
     let Some((name, table)) = table_of(names, head.protocol, head.message_type, payload) else {
         if payload.is_empty() {
             return Ok(());
@@ -246,7 +282,10 @@ fn show_extended<F: Form, W: Write>(
     out: &mut W,
     names: &Names<'_>,
     bytes: &[u8],
-) -> io::Result<()> {
+) -> io::Result<()>
+    ensures { F.is_json ≡ true → OnOk result
+        (Extends (W.contents out.old) (W.contents out.new) AreMembers AreMembers) }
+{
     let context = Context {
         schema: names.schema,
         family: 0,
@@ -263,6 +302,49 @@ const CAPPED: u16 = 0x100;
 /// `NLM_F_ACK_TLVS`: attributes follow.
 const ACK_TLVS: u16 = 0x200;
 
+/// Prints the body of a request that is echoed, and answers how long it is.
+fn show_echo<F: Form, W: Write>(
+    form: &mut F,
+    out: &mut W,
+    names: &Names<'_>,
+    request: &Head<'_>,
+    echoed: &[u8],
+) -> io::Result<usize>
+    ensures { F.is_json ≡ true → OnOk result
+        (Extends (W.contents out.old) (W.contents out.new) AreMembers AreMembers) }
+{
+    let length = (request.length as usize)
+        .saturating_sub(16)
+        .min(echoed.len());
+    show_body(form, out, 2, names, request, &echoed[..length])?;
+    Ok(length)
+}
+
+/// Prints the rest of a request that is echoed whole, and answers where it ends in an answer's payload.
+fn show_whole_request<F: Form, W: Write>(
+    form: &mut F,
+    out: &mut W,
+    names: &Names<'_>,
+    request: &Head<'_>,
+    payload: &[u8],
+) -> io::Result<usize>
+    ensures { F.is_json ≡ true → OnOk result
+        (Extends (W.contents out.old) (W.contents out.new) (IsBegun 1) AreMembers) }
+{
+    let length = show_echo(form, out, names, request, bytes_from(payload, 20))?;
+    form.end(out, 1)?;
+    Ok(padded_length(length.saturating_add(20)))
+}
+
+/// Where the attributes of an answer begin in its payload, if it echoes a header alone.
+fn attributes_start(answer: &Head<'_>, payload: &[u8]) -> usize {
+    if answer.flags & ACK_TLVS != 0 {
+        20
+    } else {
+        payload.len()
+    }
+}
+
 /// Prints the request that an answer is for, and answers where the answer's attributes begin in its payload.
 fn show_request<F: Form, W: Write>(
     form: &mut F,
@@ -271,29 +353,20 @@ fn show_request<F: Form, W: Write>(
     answer: &Head<'_>,
     code: i32,
     payload: &[u8],
-) -> io::Result<usize> {
+) -> io::Result<usize>
+    ensures { F.is_json ≡ true → OnOk result
+        (Extends (W.contents out.old) (W.contents out.new) AreMembers AreMembers) }
+{
     let Some(request) = Head::read(names, answer.protocol, bytes_from(payload, 4)) else {
         return Ok(payload.len());
     };
     form.head(out, 1, &request)?;
     let is_whole = code != 0 && answer.flags & CAPPED == 0;
-    let echoed = bytes_from(payload, 20);
-    let mut end = 20;
     if is_whole {
-        let length = (request.length as usize)
-            .saturating_sub(16)
-            .min(echoed.len());
-        show_body(form, out, 2, names, &request, &echoed[..length])?;
-        end = 20 + length;
+        return show_whole_request(form, out, names, &request, payload);
     }
     form.end(out, 1)?;
-    if is_whole {
-        Ok(padded_length(end))
-    } else if answer.flags & ACK_TLVS != 0 {
-        Ok(end)
-    } else {
-        Ok(payload.len())
-    }
+    Ok(attributes_start(answer, payload))
 }
 
 /// Prints an error or an acknowledgement.
@@ -303,7 +376,10 @@ fn show_answer<F: Form, W: Write>(
     names: &Names<'_>,
     head: &Head<'_>,
     payload: &[u8],
-) -> io::Result<()> {
+) -> io::Result<()>
+    ensures { F.is_json ≡ true → OnOk result
+        (Extends (W.contents out.old) (W.contents out.new) AreMembers AreMembers) }
+{
     if payload.len() < 4 {
         return form.bytes(out, 1, payload);
     }
@@ -319,12 +395,33 @@ fn show_done<F: Form, W: Write>(
     out: &mut W,
     names: &Names<'_>,
     payload: &[u8],
-) -> io::Result<()> {
+) -> io::Result<()>
+    ensures { F.is_json ≡ true → OnOk result
+        (Extends (W.contents out.old) (W.contents out.new) AreMembers AreMembers) }
+{
     if payload.len() < 4 {
         return form.bytes(out, 1, payload);
     }
     form.code(out, 1, LittleEndian::read_i32(payload))?;
     show_extended(form, out, names, &payload[4..])
+}
+
+/// Prints what a message carries.
+fn show_payload<F: Form, W: Write>(
+    form: &mut F,
+    out: &mut W,
+    names: &Names<'_>,
+    head: &Head<'_>,
+    payload: &[u8],
+) -> io::Result<()>
+    ensures { F.is_json ≡ true → OnOk result
+        (Extends (W.contents out.old) (W.contents out.new) AreMembers AreMembers) }
+{
+    match head.message_type {
+        2 if head.protocol != CONNECTOR => show_answer(form, out, names, head, payload),
+        3 if head.protocol != CONNECTOR => show_done(form, out, names, payload),
+        _ => show_body(form, out, 1, names, head, payload),
+    }
 }
 
 /// Prints a message.
@@ -334,15 +431,13 @@ fn show_message<F: Form, W: Write>(
     names: &Names<'_>,
     protocol: u16,
     message: &LentMessage<'_, u16>,
-) -> io::Result<()> {
+) -> io::Result<()>
+    ensures { F.is_json ≡ true → OnOk result
+        (Extends (W.contents out.old) (W.contents out.new) AreLines AreLines) }
+{
     let head = Head::of(names, protocol, message);
-    let payload = message.nl_payload();
     form.head(out, 0, &head)?;
-    match head.message_type {
-        2 if protocol != CONNECTOR => show_answer(form, out, names, &head, payload)?,
-        3 if protocol != CONNECTOR => show_done(form, out, names, payload)?,
-        _ => show_body(form, out, 1, names, &head, payload)?,
-    }
+    show_payload(form, out, names, &head, message.nl_payload())?;
     form.end(out, 0)
 }
 
@@ -353,7 +448,10 @@ pub fn show_datagram<F: Form, W: Write>(
     names: &Names<'_>,
     protocol: u16,
     bytes: &[u8],
-) -> io::Result<bool> {
+) -> io::Result<bool>
+    ensures { F.is_json ≡ true → OnOk result
+        (Extends (W.contents out.old) (W.contents out.new) AreLines AreLines) }
+{
     let mut place: usize = 0;
     for message in LentMessages::<u16>::new(bytes) {
         match message {
@@ -363,7 +461,7 @@ pub fn show_datagram<F: Form, W: Write>(
                 place = place.saturating_add(length);
             }
             Err(error) => {
-                form.fault(out, "at", place, Fault(&error))?;
+                form.fault(out, place, Fault::Datagram(&error))?;
                 return Ok(false);
             }
         }

@@ -1,5 +1,7 @@
 //! The output as lines of text.
 
+ghost use Rattle.std.specs.Prelude.{false, ⊤};
+
 use crate::content::{Content, content_in};
 use crate::flags::{FlagForm, write_flags};
 use crate::form::{Breach, Fault, Form, Place};
@@ -9,8 +11,8 @@ use neli_errno::Errno;
 use neli_schema::{Number, Structure, Table};
 use neli_schema_walk::{Attribute, Step};
 use neli_wire::DeError;
+use std::io;
 use std::io::Write;
-use std::{fmt, io};
 
 /// Lines of text, with names in colours or without.
 #[derive(Clone, Copy)]
@@ -18,12 +20,6 @@ pub struct Text {
     /// Whether names are in colours (ANSI escapes).
     pub is_coloured: bool,
 }
-
-/// What flags are written by.
-const FLAGS: FlagForm = FlagForm {
-    quote: "",
-    between: "|",
-};
 
 /// Writes two blanks a level.
 fn indent<W: Write>(out: &mut W, level: usize) -> io::Result<()> {
@@ -115,6 +111,10 @@ impl Text {
 }
 
 impl Form for Text {
+    ghost is_json = { false };
+
+    ghost is_open = { λ _ _. ⊤ };
+
     fn head<W: Write>(&mut self, out: &mut W, level: usize, head: &Head<'_>) -> io::Result<()> {
         indent(out, level)?;
         if 0 < level {
@@ -126,7 +126,13 @@ impl Form for Text {
         if head.flags == 0 {
             write!(out, "0")?;
         }
-        write_flags(out, FLAGS, head.protocol, head.message_type, head.flags)?;
+        write_flags(
+            out,
+            FlagForm::Bars,
+            head.protocol,
+            head.message_type,
+            head.flags,
+        )?;
         writeln!(out, " number {number} port {port}")
     }
 
@@ -186,7 +192,7 @@ impl Form for Text {
 
     fn rest<W: Write>(&mut self, out: &mut W, place: Place, error: &DeError) -> io::Result<()> {
         indent(out, place.level)?;
-        let fault = Fault(error);
+        let fault = Fault::Datagram(error);
         writeln!(out, "fault: {fault}")
     }
 
@@ -211,7 +217,7 @@ impl Form for Text {
     }
 
     fn end_hops<W: Write>(
-        &mut self,
+        &self,
         out: &mut W,
         level: usize,
         _is_first: bool,
@@ -233,14 +239,9 @@ impl Form for Text {
         Ok(())
     }
 
-    fn fault<W: Write, D: fmt::Display + Drop>(
-        &mut self,
-        out: &mut W,
-        kind: &str,
-        place: usize,
-        fault: D,
-    ) -> io::Result<()> {
+    fn fault<W: Write>(&mut self, out: &mut W, place: usize, fault: Fault<'_>) -> io::Result<()> {
         self.write_name(out, "31", "fault")?;
+        let kind = fault.kind();
         writeln!(out, ": {kind} {place}: {fault}")
     }
 }

@@ -1,7 +1,7 @@
 //! Values: what payloads and fields of structures say.
 
 ghost use Rattle.std.specs.Prelude.{◌≡◌, ◌≤◌, Some, length};
-ghost use Rattle.neli_show.specs.Values.{hex_text, number_text, signed_text, value_text};
+ghost use Rattle.neli_show.specs.Values.{byte_text, hardware_text, hex_text, later_hex_text, number_text, signed_text, value_text};
 
 use crate::quoted::Quoted;
 use byteorder::{BigEndian, ByteOrder, LittleEndian};
@@ -123,6 +123,19 @@ pub fn field_value<'b>(field: &Field<'_>, structure: &'b [u8]) -> Option<Value<'
     })
 }
 
+/// A byte as two hexadecimal digits.
+#[derive(Clone, Copy)]
+struct HexByte(u8);
+
+impl fmt::Display for HexByte {
+    ghost output = { λ b. Some (byte_text b.0) };
+
+    fn fmt<W: fmt::Write>(&self, f: &mut fmt::Formatter<W>) -> fmt::Result {
+        let (high, low) = (self.0 / 16, self.0 % 16);
+        write!(f, "{high:x}{low:x}")
+    }
+}
+
 /// Bytes as hexadecimal digits, two each.
 #[derive(Clone, Copy)]
 pub struct Hex<'b>(pub &'b [u8]);
@@ -132,9 +145,24 @@ impl fmt::Display for Hex<'_> {
 
     fn fmt<W: fmt::Write>(&self, f: &mut fmt::Formatter<W>) -> fmt::Result {
         for byte in self.0 {
-            let byte = *byte;
-            let (high, low) = (byte / 16, byte % 16);
-            write!(f, "{high:x}{low:x}")?;
+            let byte = HexByte(*byte);
+            write!(f, "{byte}")?;
+        }
+        Ok(())
+    }
+}
+
+/// Bytes as hexadecimal digits, each after a colon.
+#[derive(Clone, Copy)]
+struct LaterHex<'b>(&'b [u8]);
+
+impl fmt::Display for LaterHex<'_> {
+    ghost output = { λ h. Some (later_hex_text h.0.now) };
+
+    fn fmt<W: fmt::Write>(&self, f: &mut fmt::Formatter<W>) -> fmt::Result {
+        for byte in self.0 {
+            let byte = HexByte(*byte);
+            write!(f, ":{byte}")?;
         }
         Ok(())
     }
@@ -145,13 +173,16 @@ impl fmt::Display for Hex<'_> {
 pub struct Hardware<'b>(pub &'b [u8]);
 
 impl fmt::Display for Hardware<'_> {
+    ghost output = { λ h. Some (hardware_text h.0.now) };
+
     fn fmt<W: fmt::Write>(&self, f: &mut fmt::Formatter<W>) -> fmt::Result {
-        let mut before = "";
-        for byte in self.0 {
-            write!(f, "{before}{byte:02x}")?;
-            before = ":";
+        match self.0 {
+            [] => Ok(()),
+            [first, later @ ..] => {
+                let (first, later) = (HexByte(*first), LaterHex(later));
+                write!(f, "{first}{later}")
+            }
         }
-        Ok(())
     }
 }
 
@@ -167,21 +198,15 @@ impl fmt::Display for Value<'_> {
                 write!(f, "{text}")
             }
             Value::Ip(address) => write!(f, "{address}"),
-            Value::Hardware(bytes) => write_hardware(f, bytes),
-            Value::Bytes([]) => write!(f, "empty"),
+            Value::Hardware([]) | Value::Bytes([]) => write!(f, "empty"),
+            Value::Hardware(bytes) => {
+                let address = Hardware(bytes);
+                write!(f, "{address}")
+            }
             Value::Bytes(bytes) => {
                 let hex = Hex(bytes);
                 write!(f, "0x{hex}")
             }
         }
     }
-}
-
-/// Writes a hardware address.
-fn write_hardware<W: fmt::Write>(f: &mut fmt::Formatter<W>, bytes: &[u8]) -> fmt::Result {
-    if bytes.is_empty() {
-        return write!(f, "empty");
-    }
-    let address = Hardware(bytes);
-    write!(f, "{address}")
 }

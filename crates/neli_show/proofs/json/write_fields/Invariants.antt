@@ -1,0 +1,8 @@
+use Rattle.neli_show.specs.Written.{Writes}
+use Rattle.neli_show.proofs.Parts.{IsObjectBegun}
+use Rattle.neli_show.proofs.json.write_fields.Given as goal
+
+-- the members of the fields passed are written
+abbrev pub invariant-loop-field : goal.invariant-loop-field
+invariant-loop-field g l =
+    Writes (g.W.Write.contents l.fn.out) (g.W.Write.contents l.out) (IsObjectBegun l.is_first)
