@@ -1,12 +1,10 @@
 -- Values, members and elements one after the other.
-use Rattle.std.proofs.Common.{◌≡◌, ℕ, zero, suc, ◌+◌, Bool, true, false, List, [], ◌∷◌, ◌++◌, codes, Option, ℤ, pos, refl, sym, ap, subst, ◌∙◌, append_assoc, append-nil, Result}
-use Rattle.std.specs.Prelude.{OnOk}
-use Rattle.std.specs.Fmt.{decimal, signed_decimal}
-use Rattle.std.specs.Io.KnownBytes.{Appends}
+use Rattle.std.proofs.Common.{◌≡◌, ℕ, zero, suc, ◌+◌, Bool, true, false, List, [], ◌++◌, codes, Option, pos, refl, sym, ap, subst, ◌∙◌, append_assoc, append-nil}
+use Rattle.std.specs.Fmt.{decimal}
 use Rattle.std.specs.List.{list_all}
 use Rattle.std.proofs.KnownBytes.{Appends-nil, Appends-trans}
-use Rattle.neli_show.specs.Json.{AreElements, AreLines, AreMembers, IsChars, IsJson, array, element, elements, empty_array, empty_object, integer, is_plain, lines, member, members, object, plain, string}
-use Rattle.neli_show.specs.Written.{AreHops, Extends, FirstElements, FirstMembers, InArray, InElement, InPlace, IsAround, IsBegun, IsElement, IsHopBegun, IsListBegun, IsOpen, IsPlace, Turns, Writes, comma, opening}
+use Rattle.neli_show.specs.Json.{AreElements, AreLines, AreMembers, IsJson, array, element, elements, empty_array, empty_object, integer, is_plain, lines, member, members, object, plain, string}
+use Rattle.neli_show.specs.Written.{AreHops, Extends, FirstElements, FirstMembers, InArray, InElement, InPlace, IsBegun, IsElement, IsHopBegun, IsListBegun, IsOpen, IsPlace, Turns, Writes, comma, opening}
 
 -- ---- writing
 

@@ -1,7 +1,7 @@
 -- The texts of values and of faults in JSON.
-use Rattle.std.proofs.Common.{◌≡◌, ℕ, ◌/◌, ◌%◌, true, false, List, [], ◌∷◌, ◌++◌, codes, refl, sym, ap, subst, append_assoc}
+use Rattle.std.proofs.Common.{◌≡◌, ℕ, ◌/◌, ◌%◌, true, false, List, [], ◌∷◌, ◌++◌, codes, refl, subst, append_assoc}
 use Rattle.std.specs.Fmt.{decimal, digits}
-use Rattle.std.specs.List.{flat_map, list_all}
+use Rattle.std.specs.List.{list_all}
 use Rattle.std.specs.Net.Text.{ip_text}
 use Rattle.neli_inputs.specs.Refusals.{refusal_text}
 use Rattle.neli_inputs.specs.declared.item.Refusal.{Refusal}
