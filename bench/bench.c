@@ -19,7 +19,7 @@
 #define LARGEST (16 * MEGABYTE)
 #define SIZES 3
 #define READERS 5
-#define ROOM 64 /* messages or attributes that one call gives */
+#define ROOM 16 /* messages or attributes that one call gives: what it fills stays in the nearest cache */
 #ifndef ROUNDS
 #define ROUNDS 40
 #endif
@@ -138,18 +138,17 @@ static inline bool add_attributes(const uint8_t *bytes, size_t length, const str
 	return code == NELI_END;
 }
 
+/* One message at a time, so that its attributes are read while its bytes are at hand. */
 static inline bool call_attributes(const uint8_t *bytes, size_t length, size_t header, uint64_t *total)
 {
 	struct neli_walk walk = { 0, length };
-	struct neli_message messages[ROOM];
+	struct neli_message message;
 	uint64_t sum = 0;
-	size_t count;
 	int32_t code;
 
-	while ((code = neli_next_messages(bytes, length, &walk, messages, ROOM, &count)) == NELI_ITEM)
-		for (size_t i = 0; i < count; i++)
-			if (!add_attributes(bytes, length, &messages[i], header, &sum))
-				return false;
+	while ((code = neli_next_message(bytes, length, &walk, &message)) == NELI_ITEM)
+		if (!add_attributes(bytes, length, &message, header, &sum))
+			return false;
 	*total = sum;
 	return code == NELI_END;
 }
