@@ -14,7 +14,7 @@ pub struct Schema<'t> {
 }
 
 impl<'t> Schema<'t> {
-    /// These tables, as [`crate::tables::TABLES`].
+    /// These tables, as `all_tables` of `neli_kernel_tables` lists the kernel's.
     pub fn new(tables: &'t [Table<'t>]) -> Self
         ensures { result.tables.now ≡ tables.now }
     {
