@@ -51,7 +51,9 @@ fn payload_of<'b>(bytes: &'b [u8], message: &NeliMessage) -> Option<&'b [u8]>
 /// Where the attributes begin of an error without the flag CAPPED: after the echoed request and its padding.
 fn after_echo(payload: &[u8]) -> Option<usize>
     requires { 20 ≤ length payload.now }
-    ensures some { IfSome result (λ n. IsOk (echoed_in payload.now) × (n ≡ min (echo_end payload.now) (length payload.now))) }
+    ensures some { IfSome result
+        (λ n. IsOk (echoed_in payload.now)
+        × (n ≡ min (echo_end payload.now) (length payload.now))) }
     ensures none { IsNone result → IsErr (echoed_in payload.now) }
 {
     let len = LittleEndian::read_u32(&payload[4..]) as usize;
@@ -134,7 +136,8 @@ pub extern "C" fn neli_c_get_answer(
     answer: &mut NeliAnswer,
 ) -> i32
     ensures code { result ≡ payload_code message.now (payload_shown bytes.now message.now) }
-    ensures answer { result ≡ ok → IfSome (payload_shown bytes.now message.now) (IsShown message.now answer.new) }
+    ensures answer { result ≡ ok
+        → IfSome (payload_shown bytes.now message.now) (IsShown message.now answer.new) }
     ensures unchanged { result ≢ ok → answer.new ≡ answer.old }
 {
     let Some(payload) = payload_of(bytes, message) else {

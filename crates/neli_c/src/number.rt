@@ -11,7 +11,8 @@ use byteorder::{BigEndian, ByteOrder, LittleEndian};
 
 /// The bytes from a place on, where there are so many.
 fn at(bytes: &[u8], place: usize, size: usize) -> Option<&[u8]>
-    ensures some { IfSome result (λ field. (place + size ≤ length bytes.now) × (field.now ≡ drop place bytes.now)) }
+    ensures some { IfSome result
+        (λ field. (place + size ≤ length bytes.now) × (field.now ≡ drop place bytes.now)) }
     ensures none { IsNone result → length bytes.now + 1 ≤ place + size }
 {
     if bytes.len() < size || bytes.len() - size < place {
@@ -151,7 +152,8 @@ fn first_zero(bytes: &[u8]) -> Option<usize>
 #[unsafe(no_mangle)]
 pub extern "C" fn neli_c_text_length(payload: &[u8], text_length: &mut usize) -> i32
     ensures length { result ≡ ok → BeginsWithText text_length.new payload.now }
-    ensures no_text { result ≢ ok → (result ≡ text) × All (λ b. b ≢ 0) payload.now × (text_length.new ≡ text_length.old) }
+    ensures no_text { result ≢ ok
+        → (result ≡ text) × All (λ b. b ≢ 0) payload.now × (text_length.new ≡ text_length.old) }
 {
     let Some(length) = first_zero(payload) else {
         return TEXT;

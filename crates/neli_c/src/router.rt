@@ -16,7 +16,8 @@ use std::alloc::Global;
 /// Answers `OK`; `STATE` where it is open, or `MEMORY`, and then it is as it was.
 #[unsafe(no_mangle)]
 pub extern "C" fn neli_c_router_new(alloc: Global, router: &mut NeliRouter, port: u32) -> i32
-    ensures new { result ≡ ok → IsSome router.new.place.value × IfSome router.new.place.value (IsNew port) }
+    ensures new { result ≡ ok
+        → IsSome router.new.place.value × IfSome router.new.place.value (IsNew port) }
     ensures open { IsSome router.old.place.value → result ≡ state }
     ensures closed { router.old.place.value ≡ None → (result ≡ ok) ⊎ (result ≡ memory) }
     ensures unchanged { result ≢ ok → router.new.place.value ≡ router.old.place.value }
@@ -54,7 +55,8 @@ pub extern "C" fn neli_c_router_set_number(
     router: &mut NeliRouter,
     number: u32,
 ) -> i32
-    ensures closed { router.old.place.value ≡ None → (result ≡ state) × (router.new.place.value ≡ None) }
+    ensures closed { router.old.place.value ≡ None
+        → (result ≡ state) × (router.new.place.value ≡ None) }
     ensures open { IfSome router.old.place.value (λ s. (result ≡ ok) × IsSome router.new.place.value
         × IfSome router.new.place.value (SetsNumber number s)) }
 {
@@ -82,7 +84,8 @@ pub extern "C" fn neli_c_router_send(
     sent: &mut NeliSent,
 ) -> i32
     ensures closed { router.old.place.value ≡ None
-        → (result ≡ state) × (router.new.place.value ≡ None) × (out.new ≡ out.old) × (sent.new ≡ sent.old) }
+        → (result ≡ state) × (router.new.place.value ≡ None) × (out.new ≡ out.old)
+        × (sent.new ≡ sent.old) }
     ensures open { IfSome router.old.place.value (λ s. IsSome router.new.place.value
         × IfSome router.new.place.value (λ t. (result ≢ ok → SendsNothing s t
         × RefusesRequest result body.now s out.old × SaysNeeded result body.now sent.old sent.new)
@@ -107,7 +110,8 @@ pub extern "C" fn neli_c_router_datagram(
     bytes: &[u8],
     groups: &[u32],
 ) -> i32
-    ensures closed { router.old.place.value ≡ None → (result ≡ state) × (router.new.place.value ≡ None) }
+    ensures closed { router.old.place.value ≡ None
+        → (result ≡ state) × (router.new.place.value ≡ None) }
     ensures open { IfSome router.old.place.value (λ s. IsSome router.new.place.value
         × IfSome router.new.place.value (TakesDatagram result bytes.now groups.now s)) }
 {
@@ -124,7 +128,8 @@ pub extern "C" fn neli_c_router_datagram(
 /// Answers `OK`, or `MEMORY`, and then nothing is handed to anybody.
 #[unsafe(no_mangle)]
 pub extern "C" fn neli_c_router_fault(alloc: Global, router: &mut NeliRouter, errno: i32) -> i32
-    ensures closed { router.old.place.value ≡ None → (result ≡ state) × (router.new.place.value ≡ None) }
+    ensures closed { router.old.place.value ≡ None
+        → (result ≡ state) × (router.new.place.value ≡ None) }
     ensures open { IfSome router.old.place.value (λ s. IsSome router.new.place.value
         × IfSome router.new.place.value (TakesFault result errno s)) }
 {
@@ -191,7 +196,8 @@ pub extern "C" fn neli_c_router_item(
 /// Answers `OK`, or `HANDLE` where the handle is not open.
 #[unsafe(no_mangle)]
 pub extern "C" fn neli_c_router_close(alloc: Global, router: &mut NeliRouter, handle: usize) -> i32
-    ensures closed { router.old.place.value ≡ None → (result ≡ state) × (router.new.place.value ≡ None) }
+    ensures closed { router.old.place.value ≡ None
+        → (result ≡ state) × (router.new.place.value ≡ None) }
     ensures open { IfSome router.old.place.value (λ s. IsSome router.new.place.value
         × IfSome router.new.place.value (ClosesHandle result handle s)) }
 {

@@ -89,7 +89,8 @@ fn take(handles: &mut Vec<Slot>, k: usize, next: usize) -> Option<Handle>
 /// Takes the handle out of a place, if there is one; the place is then the first that is free, but that of multicast.
 fn free(handles: &mut Vec<Slot>, freed: &mut usize, k: usize) -> Option<Handle>
     ensures taken { result ≡ handle_at k handles.old.items }
-    ensures some { IsSome result → handles.new.items ≡ slice_set handles.old.items k (slot.Free freed.old) }
+    ensures some { IsSome result
+        → handles.new.items ≡ slice_set handles.old.items k (slot.Free freed.old) }
     ensures first { IsSome result → k ≢ 0 → (ks : List ℕ) → AreFree handles.old.items freed.old ks
         → AreFree handles.new.items freed.new (k ∷ ks) }
     ensures none { IsNone result → (handles.new ≡ handles.old) × (freed.new ≡ freed.old) }
@@ -105,8 +106,10 @@ fn free(handles: &mut Vec<Slot>, freed: &mut usize, k: usize) -> Option<Handle>
 
 /// The place that is free after the first one; nothing where none is.
 fn next_free(handles: &[Slot], first: usize) -> Option<usize>
-    ensures some { IfSome result (λ n. (first ≢ 0) × (slice_get handles.now first ≡ Some (slot.Free n))) }
-    ensures none { IsNone result → (n : ℕ) → slice_get handles.now first ≡ Some (slot.Free n) → first ≡ 0 }
+    ensures some { IfSome result
+        (λ n. (first ≢ 0) × (slice_get handles.now first ≡ Some (slot.Free n))) }
+    ensures none { IsNone result → (n : ℕ) → slice_get handles.now first ≡ Some (slot.Free n)
+        → first ≡ 0 }
 {
     if first == 0 {
         return None;

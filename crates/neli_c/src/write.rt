@@ -59,8 +59,10 @@ pub extern "C" fn neli_c_begin_message(
     port: u32,
 ) -> i32
     ensures code { result ≡ (if nat_le (writer.old.end + 16) (length out.old) then ok else room) }
-    ensures written { result ≡ ok → out.new ≡ put writer.old.end (header_bytes 16 nl_type flags number port) out.old }
-    ensures moved { result ≡ ok → writer.new ≡ record { start = writer.old.end; end = writer.old.end + 16 } }
+    ensures written { result ≡ ok
+        → out.new ≡ put writer.old.end (header_bytes 16 nl_type flags number port) out.old }
+    ensures moved { result ≡ ok
+        → writer.new ≡ record { start = writer.old.end; end = writer.old.end + 16 } }
     ensures unchanged { result ≢ ok → (out.new ≡ out.old) × (writer.new ≡ writer.old) }
 {
     let start = writer.end;
@@ -91,8 +93,8 @@ fn write_padded(out: &mut [u8], bytes: &[u8])
 /// Answers `OK`, or `ROOM` where all these bytes are not there; then nothing is written.
 #[unsafe(no_mangle)]
 pub extern "C" fn neli_c_put_bytes(out: &mut [u8], writer: &mut NeliWriter, bytes: &[u8]) -> i32
-    ensures code { result
-        ≡ (if nat_le (writer.old.end + align (length bytes.now)) (length out.old) then ok else room) }
+    ensures code { result ≡ (if nat_le (writer.old.end + align (length bytes.now)) (length out.old)
+        then ok else room) }
     ensures written { result ≡ ok → IfOk (pad_wire (Ok bytes.now))
         (λ written. out.new ≡ put writer.old.end written out.old) }
     ensures moved { result ≡ ok
@@ -133,7 +135,8 @@ fn write_attribute(out: &mut [u8], nl_type: u16, payload: &[u8])
 /// Appends an attribute.
 fn append(out: &mut [u8], writer: &mut NeliWriter, nl_type: u16, payload: &[u8]) -> i32
     ensures code { result ≡ attribute_code (length payload.now) writer.old.end (length out.old) }
-    ensures written { result ≡ ok → IfOk (attribute_wire (4 + length payload.now) nl_type (Ok payload.now))
+    ensures written { result ≡ ok
+        → IfOk (attribute_wire (4 + length payload.now) nl_type (Ok payload.now))
         (λ written. out.new ≡ put writer.old.end written out.old) }
     ensures moved { result ≡ ok
         → writer.new ≡ record writer.old { end = writer.old.end + align (4 + length payload.now) } }
@@ -164,7 +167,8 @@ pub extern "C" fn neli_c_put_attribute(
     payload: &[u8],
 ) -> i32
     ensures code { result ≡ attribute_code (length payload.now) writer.old.end (length out.old) }
-    ensures written { result ≡ ok → IfOk (attribute_wire (4 + length payload.now) nl_type (Ok payload.now))
+    ensures written { result ≡ ok
+        → IfOk (attribute_wire (4 + length payload.now) nl_type (Ok payload.now))
         (λ written. out.new ≡ put writer.old.end written out.old) }
     ensures moved { result ≡ ok
         → writer.new ≡ record writer.old { end = writer.old.end + align (4 + length payload.now) } }
@@ -208,7 +212,8 @@ pub extern "C" fn neli_c_begin_nest(
 #[unsafe(no_mangle)]
 pub extern "C" fn neli_c_end_nest(out: &mut [u8], writer: &NeliWriter, nest: usize) -> i32
     ensures code { result ≡ nest_end_code writer.now.start writer.now.end nest (length out.old) }
-    ensures written { result ≡ ok → out.new ≡ put nest (little_bytes 2 (writer.now.end - nest)) out.old }
+    ensures written { result ≡ ok
+        → out.new ≡ put nest (little_bytes 2 (writer.now.end - nest)) out.old }
     ensures unchanged { result ≢ ok → out.new ≡ out.old }
 {
     let NeliWriter { start, end } = *writer;
@@ -234,7 +239,8 @@ pub extern "C" fn neli_c_end_nest(out: &mut [u8], writer: &NeliWriter, nest: usi
 pub extern "C" fn neli_c_end_message(out: &mut [u8], writer: &NeliWriter) -> i32
     ensures code { result ≡ message_end_code writer.now.start writer.now.end (length out.old) }
     ensures written { result ≡ ok
-        → out.new ≡ put writer.now.start (little_bytes 4 (writer.now.end - writer.now.start)) out.old }
+        → out.new
+        ≡ put writer.now.start (little_bytes 4 (writer.now.end - writer.now.start)) out.old }
     ensures unchanged { result ≢ ok → out.new ≡ out.old }
 {
     let NeliWriter { start, end } = *writer;

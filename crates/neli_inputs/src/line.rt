@@ -127,7 +127,8 @@ fn dump_between(
     before: &[u8],
     after: &[u8],
 ) -> Result<Option<(u64, Vec<u8>)>, AllocError>
-    ensures { IfOk result (λ dump. option_map (λ d. (d.0, d.1.items)) dump ≡ dump_between before.now after.now) }
+    ensures { IfOk result
+        (λ dump. option_map (λ d. (d.0, d.1.items)) dump ≡ dump_between before.now after.now) }
 {
     let words = skip_blanks(after);
     if words.len() == after.len() {

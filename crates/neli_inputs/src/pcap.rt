@@ -114,7 +114,8 @@ fn end_in(order: Order, bytes: &[u8]) -> usize
 
 /// The items of a file that has only this refusal.
 fn refused(alloc: Global, place: usize, refusal: Refusal) -> Result<Vec<Item>, AllocError>
-    ensures { IfOk result (λ items. items.items ≡ record { place = place; packet = Err refusal } ∷ []) }
+    ensures { IfOk result
+        (λ items. items.items ≡ record { place = place; packet = Err refusal } ∷ []) }
 {
     let mut items = Vec::new(alloc);
     items.push(Item {

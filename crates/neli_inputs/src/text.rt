@@ -46,9 +46,12 @@ fn lines_of<'t>(alloc: Global, text: &'t [u8]) -> Result<Vec<&'t [u8]>, AllocErr
 
 /// Reads these lines.
 fn read_lines(alloc: Global, texts: &[&[u8]]) -> Result<Lines, AllocError>
-    ensures lines { IfOk result (λ read. read.lines.items ≡ map (λ t. (line_of t.now).0) texts.now) }
-    ensures bytes { IfOk result (λ read. read.bytes.items ≡ flat_map (λ t. (line_of t.now).1) texts.now) }
-    ensures counted { IfOk result (λ read. sum_by count_in read.lines.items ≡ length read.bytes.items) }
+    ensures lines { IfOk result
+        (λ read. read.lines.items ≡ map (λ t. (line_of t.now).0) texts.now) }
+    ensures bytes { IfOk result
+        (λ read. read.bytes.items ≡ flat_map (λ t. (line_of t.now).1) texts.now) }
+    ensures counted { IfOk result
+        (λ read. sum_by count_in read.lines.items ≡ length read.bytes.items) }
 {
     let mut lines = Vec::new(alloc);
     let mut bytes = Vec::new(alloc);

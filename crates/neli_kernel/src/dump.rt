@@ -53,11 +53,15 @@ impl<'b> Dump<'b> {
     ) -> Result<(), SerError>
         ensures request { self.new.request ≡ self.old.request }
         ensures limit { self.new.limit ≡ self.old.limit }
-        ensures put { OnOk result (put_wire self.old.limit (message_or_refusal T.wire_number P.wire
-            (dump_message P.Size.wire_length self.old.request nl_type nl_flags body)) (packed_in self.old)
-            ≡ Ok (packed_in self.new)) }
-        ensures refused { IfErr result (RefusesPut self.old.limit T.wire_number P.wire
-            (dump_message P.Size.wire_length self.old.request nl_type nl_flags body) (packed_in self.old)) }
+        ensures put { OnOk result
+            (put_wire self.old.limit
+            (message_or_refusal T.wire_number P.wire
+            (dump_message P.Size.wire_length self.old.request nl_type nl_flags body))
+            (packed_in self.old) ≡ Ok (packed_in self.new)) }
+        ensures refused { IfErr result
+            (RefusesPut self.old.limit T.wire_number P.wire
+            (dump_message P.Size.wire_length self.old.request nl_type nl_flags body)
+            (packed_in self.old)) }
         ensures unchanged { OnErr result (packed_in self.new ≡ packed_in self.old) }
     {
         let flags = nl_flags | NlmF::MULTI;
@@ -94,7 +98,9 @@ impl<'b> Dump<'b> {
         code: i32,
         ext_ack: ExtAck,
     ) -> Result<Vec<Vec<u8>>, SerError>
-        ensures datagrams { IfOk result (λ datagrams. finished self.entry.limit (message_or_refusal (λ n. n) (λ b. Ok b)
+        ensures datagrams { IfOk result
+            (λ datagrams. finished self.entry.limit
+            (message_or_refusal (λ n. n) (λ b. Ok b)
             (dump_end self.entry.request nl_flags code ext_ack)) (packed_in self.entry)
             ≡ Ok (map (λ d. d.items) datagrams.items)) }
         ensures refused { IfErr result (RefusesPut self.entry.limit (λ n. n) (λ b. Ok b)

@@ -37,13 +37,16 @@ pub fn message_is_one_frame<T: NlType, P: ToBytes>()
 /// So an acknowledgement and an error are one message, where the request's number and port fit their fields: of type 2,
 /// with the request's number, to its port, with the code, the echo and the attributes as payload.
 pub fn answers_are_one_frame()
-    ensures acknowledgement { (asked : Asked) (attrs : Attributes) (bytes : List ℕ) → IsAddressed asked
+    ensures acknowledgement { (asked : Asked) (attrs : Attributes) (bytes : List ℕ)
+        → IsAddressed asked
         → message_or_refusal (λ n. n) (λ b. Ok b) (acknowledgement asked attrs) ≡ Ok bytes
         → IsWalked (λ n. n) (λ b. Ok b) (acknowledgement asked attrs) bytes }
-    ensures capped_error { (asked : Asked) (code : ℤ) (attrs : Attributes) (bytes : List ℕ) → IsAddressed asked
+    ensures capped_error { (asked : Asked) (code : ℤ) (attrs : Attributes) (bytes : List ℕ)
+        → IsAddressed asked
         → message_or_refusal (λ n. n) (λ b. Ok b) (capped_error asked code attrs) ≡ Ok bytes
         → IsWalked (λ n. n) (λ b. Ok b) (capped_error asked code attrs) bytes }
-    ensures error { (asked : Asked) (code : ℤ) (attrs : Attributes) (bytes : List ℕ) → IsAddressed asked
+    ensures error { (asked : Asked) (code : ℤ) (attrs : Attributes) (bytes : List ℕ)
+        → IsAddressed asked
         → message_or_refusal (λ n. n) (λ b. Ok b) (error asked code attrs) ≡ Ok bytes
         → IsWalked (λ n. n) (λ b. Ok b) (error asked code attrs) bytes }
 {}
@@ -77,14 +80,18 @@ pub fn datagrams_keep_the_limit()
 pub fn reply_is_delivered<T: NlType, P: ToBytes>()
     ensures one_message { (t : T) (flags : Flags) (number port : ℕ) (body : P) (text bytes : List ℕ)
         → IsReply T.wire_number P.wire P.Size.wire_length t flags number port body text bytes
-        → cut_of untyped_layout bytes ≡ (reply_kept (T.wire_number t) flags number port text ∷ [], None) }
-    ensures asker { (t : T) (flags : Flags) (number port : ℕ) (body : P) (text bytes : List ℕ) (is_open : ℕ → Bool)
-        → IsReply T.wire_number P.wire P.Size.wire_length t flags number port body text bytes → is_open number ≡ true
+        → cut_of untyped_layout bytes
+        ≡ (reply_kept (T.wire_number t) flags number port text ∷ [], None) }
+    ensures asker { (t : T) (flags : Flags) (number port : ℕ) (body : P) (text bytes : List ℕ)
+        (is_open : ℕ → Bool)
+        → IsReply T.wire_number P.wire P.Size.wire_length t flags number port body text bytes
+        → is_open number ≡ true
         → datagram_share port is_open (Some number) (cut_of untyped_layout bytes) []
         ≡ message (reply_kept (T.wire_number t) flags number port text) ∷ [] }
-    ensures others { (t : T) (flags : Flags) (number port : ℕ) (body : P) (text bytes : List ℕ) (is_open : ℕ → Bool)
-        → IsReply T.wire_number P.wire P.Size.wire_length t flags number port body text bytes → is_open number ≡ true
-        → (other : Option ℕ) → other ≢ Some number
+    ensures others { (t : T) (flags : Flags) (number port : ℕ) (body : P) (text bytes : List ℕ)
+        (is_open : ℕ → Bool)
+        → IsReply T.wire_number P.wire P.Size.wire_length t flags number port body text bytes
+        → is_open number ≡ true → (other : Option ℕ) → other ≢ Some number
         → datagram_share port is_open other (cut_of untyped_layout bytes) [] ≡ [] }
 {}
 
@@ -94,7 +101,8 @@ pub fn reply_is_delivered<T: NlType, P: ToBytes>()
 /// it is 5 or more, and below 16384.
 pub fn attributes_are_read_back()
     ensures nothing { AreReadBack [] [] }
-    ensures plain { (attrs : Attributes) → All IsPlainAttribute attrs → (text : List ℕ) × AreReadBack attrs text }
+    ensures plain { (attrs : Attributes) → All IsPlainAttribute attrs
+        → (text : List ℕ) × AreReadBack attrs text }
 {}
 
 /// A dump is delivered to the handle that asked, message by message and in order, and to no other one: where its
@@ -103,21 +111,24 @@ pub fn attributes_are_read_back()
 /// other, and each other handle nothing; the datagrams are cut into them, and without a fault. A message whose type is
 /// neither 2 nor 3 is kept with its bytes as body, and an end with its code and with attributes that are read back.
 pub fn dump_is_delivered()
-    ensures asker { (datagrams : List (List ℕ)) (said : List (Lent ℕ)) (ms : List Untyped) (number port : ℕ)
-        (is_open : ℕ → Bool) → AreRead datagrams said → map untyped said ≡ map (λ m. Ok m) ms
-        → All (IsFor number port) ms → is_open number ≡ true
+    ensures asker { (datagrams : List (List ℕ)) (said : List (Lent ℕ)) (ms : List Untyped)
+        (number port : ℕ) (is_open : ℕ → Bool) → AreRead datagrams said
+        → map untyped said ≡ map (λ m. Ok m) ms → All (IsFor number port) ms → is_open number ≡ true
         → shares port is_open (Some number) datagrams ≡ map message ms }
-    ensures others { (datagrams : List (List ℕ)) (said : List (Lent ℕ)) (ms : List Untyped) (number port : ℕ)
-        (is_open : ℕ → Bool) → AreRead datagrams said → map untyped said ≡ map (λ m. Ok m) ms
-        → All (IsFor number port) ms → is_open number ≡ true
+    ensures others { (datagrams : List (List ℕ)) (said : List (Lent ℕ)) (ms : List Untyped)
+        (number port : ℕ) (is_open : ℕ → Bool) → AreRead datagrams said
+        → map untyped said ≡ map (λ m. Ok m) ms → All (IsFor number port) ms → is_open number ≡ true
         → (other : Option ℕ) → other ≢ Some number → shares port is_open other datagrams ≡ [] }
-    ensures cut { (datagrams : List (List ℕ)) (said : List (Lent ℕ)) (ms : List Untyped) → AreRead datagrams said
-        → map untyped said ≡ map (λ m. Ok m) ms → (flat_map (λ d. (cut_of untyped_layout d).0) datagrams ≡ ms)
+    ensures cut { (datagrams : List (List ℕ)) (said : List (Lent ℕ)) (ms : List Untyped)
+        → AreRead datagrams said → map untyped said ≡ map (λ m. Ok m) ms
+        → (flat_map (λ d. (cut_of untyped_layout d).0) datagrams ≡ ms)
         × All (λ d. (cut_of untyped_layout d).1 ≡ None) datagrams }
     ensures plain { (m : Lent ℕ) → IsPlain m.0.message_type → untyped m ≡ Ok (kept m) }
-    ensures end { (h : Header ℕ) (code : ℤ) (attrs : Attributes) (text : List ℕ) → h.message_type ≡ 3
-        → is_multi h.flags ≡ true → FitsSigned w32 code → AreReadBack attrs text
-        → untyped (h, signed_bytes w32 4 code ++ text) ≡ Ok (h, payload.DumpExtAck (answer code tt attrs)) }
+    ensures end { (h : Header ℕ) (code : ℤ) (attrs : Attributes) (text : List ℕ)
+        → h.message_type ≡ 3 → is_multi h.flags ≡ true → FitsSigned w32 code
+        → AreReadBack attrs text
+        → untyped (h, signed_bytes w32 4 code ++ text)
+        ≡ Ok (h, payload.DumpExtAck (answer code tt attrs)) }
 {}
 
 /// A dump that was finished is delivered whole: where what was put in is read as some messages, kept as `ms`, with the
@@ -125,31 +136,37 @@ pub fn dump_is_delivered()
 /// `ms` and then the end with its code and attributes, and each other handle nothing; however they were cut. The
 /// attributes are ones that are read back from their bytes.
 pub fn finished_dump_is_delivered()
-    ensures read { (limit : ℕ) (asked : Asked) (flags : Flags) (code : ℤ) (attrs : Attributes) (text : List ℕ)
-        (p : Packed) (said : List (Lent ℕ)) (datagrams : List (List ℕ)) → IsEnd asked flags code
-        → AreReadBack attrs text → AreRead (datagrams_of p) said
-        → finished limit (message_or_refusal (λ n. n) (λ b. Ok b) (dump_end asked flags code attrs)) p ≡ Ok datagrams
-        → AreRead datagrams (said ++ end_said asked flags code attrs text ∷ []) }
+    ensures read { (limit : ℕ) (asked : Asked) (flags : Flags) (code : ℤ) (attrs : Attributes)
+        (text : List ℕ) (p : Packed) (said : List (Lent ℕ)) (datagrams : List (List ℕ))
+        → IsEnd asked flags code → AreReadBack attrs text → AreRead (datagrams_of p) said
+        → finished limit (message_or_refusal (λ n. n) (λ b. Ok b) (dump_end asked flags code attrs))
+        p ≡ Ok datagrams → AreRead datagrams (said ++ end_said asked flags code attrs text ∷ []) }
     ensures kept { (asked : Asked) (flags : Flags) (code : ℤ) (attrs : Attributes) (text : List ℕ)
         (said : List (Lent ℕ)) (ms : List Untyped) → FitsSigned w32 code → AreReadBack attrs text
         → map untyped said ≡ map (λ m. Ok m) ms
         → map untyped (said ++ end_said asked flags code attrs text ∷ [])
         ≡ map (λ m. Ok m) (ms ++ answer_kept (dump_end asked flags code attrs) ∷ []) }
-    ensures asker { (limit : ℕ) (asked : Asked) (flags : Flags) (code : ℤ) (attrs : Attributes) (text : List ℕ)
-        (p : Packed) (said : List (Lent ℕ)) (ms : List Untyped) (datagrams : List (List ℕ)) (is_open : ℕ → Bool)
-        → IsEnd asked flags code → AreReadBack attrs text
-        → AreRead (datagrams_of p) said → map untyped said ≡ map (λ m. Ok m) ms
-        → All (IsFor asked.header.sequence_number asked.port) ms → is_open asked.header.sequence_number ≡ true
-        → finished limit (message_or_refusal (λ n. n) (λ b. Ok b) (dump_end asked flags code attrs)) p ≡ Ok datagrams
+    ensures asker { (limit : ℕ) (asked : Asked) (flags : Flags) (code : ℤ) (attrs : Attributes)
+        (text : List ℕ) (p : Packed) (said : List (Lent ℕ)) (ms : List Untyped)
+        (datagrams : List (List ℕ)) (is_open : ℕ → Bool) → IsEnd asked flags code
+        → AreReadBack attrs text → AreRead (datagrams_of p) said
+        → map untyped said ≡ map (λ m. Ok m) ms
+        → All (IsFor asked.header.sequence_number asked.port) ms
+        → is_open asked.header.sequence_number ≡ true
+        → finished limit (message_or_refusal (λ n. n) (λ b. Ok b) (dump_end asked flags code attrs))
+        p ≡ Ok datagrams
         → shares asked.port is_open (Some asked.header.sequence_number) datagrams
         ≡ map message (ms ++ answer_kept (dump_end asked flags code attrs) ∷ []) }
-    ensures others { (limit : ℕ) (asked : Asked) (flags : Flags) (code : ℤ) (attrs : Attributes) (text : List ℕ)
-        (p : Packed) (said : List (Lent ℕ)) (ms : List Untyped) (datagrams : List (List ℕ)) (is_open : ℕ → Bool)
-        (other : Option ℕ) → other ≢ Some asked.header.sequence_number → IsEnd asked flags code → AreReadBack attrs text
-        → AreRead (datagrams_of p) said → map untyped said ≡ map (λ m. Ok m) ms
-        → All (IsFor asked.header.sequence_number asked.port) ms → is_open asked.header.sequence_number ≡ true
-        → finished limit (message_or_refusal (λ n. n) (λ b. Ok b) (dump_end asked flags code attrs)) p ≡ Ok datagrams
-        → shares asked.port is_open other datagrams ≡ [] }
+    ensures others { (limit : ℕ) (asked : Asked) (flags : Flags) (code : ℤ) (attrs : Attributes)
+        (text : List ℕ) (p : Packed) (said : List (Lent ℕ)) (ms : List Untyped)
+        (datagrams : List (List ℕ)) (is_open : ℕ → Bool) (other : Option ℕ)
+        → other ≢ Some asked.header.sequence_number → IsEnd asked flags code
+        → AreReadBack attrs text → AreRead (datagrams_of p) said
+        → map untyped said ≡ map (λ m. Ok m) ms
+        → All (IsFor asked.header.sequence_number asked.port) ms
+        → is_open asked.header.sequence_number ≡ true
+        → finished limit (message_or_refusal (λ n. n) (λ b. Ok b) (dump_end asked flags code attrs))
+        p ≡ Ok datagrams → shares asked.port is_open other datagrams ≡ [] }
 {}
 
 /// An acknowledgement is delivered to the handle that asked, once, and to no other one: where a router has the port of
@@ -157,16 +174,17 @@ pub fn finished_dump_is_delivered()
 /// handle, an acknowledgement with code 0 that echoes the request's header and has its attributes, and nothing for each
 /// other handle and for the one for multicast. The attributes are ones that are read back from their bytes.
 pub fn acknowledgement_is_delivered()
-    ensures one_message { (asked : Asked) (attrs : Attributes) (text bytes : List ℕ) → AreReadBack attrs text
-        → IsAnswer asked (acknowledgement asked attrs) bytes
+    ensures one_message { (asked : Asked) (attrs : Attributes) (text bytes : List ℕ)
+        → AreReadBack attrs text → IsAnswer asked (acknowledgement asked attrs) bytes
         → cut_of untyped_layout bytes ≡ (answer_kept (acknowledgement asked attrs) ∷ [], None) }
-    ensures asker { (asked : Asked) (attrs : Attributes) (text bytes : List ℕ) → AreReadBack attrs text
-        → IsAnswer asked (acknowledgement asked attrs) bytes
+    ensures asker { (asked : Asked) (attrs : Attributes) (text bytes : List ℕ)
+        → AreReadBack attrs text → IsAnswer asked (acknowledgement asked attrs) bytes
         → (is_open : ℕ → Bool) → is_open asked.header.sequence_number ≡ true
-        → datagram_share asked.port is_open (Some asked.header.sequence_number) (cut_of untyped_layout bytes) []
+        → datagram_share asked.port is_open (Some asked.header.sequence_number)
+        (cut_of untyped_layout bytes) []
         ≡ message (answer_kept (acknowledgement asked attrs)) ∷ [] }
-    ensures others { (asked : Asked) (attrs : Attributes) (text bytes : List ℕ) → AreReadBack attrs text
-        → IsAnswer asked (acknowledgement asked attrs) bytes
+    ensures others { (asked : Asked) (attrs : Attributes) (text bytes : List ℕ)
+        → AreReadBack attrs text → IsAnswer asked (acknowledgement asked attrs) bytes
         → (is_open : ℕ → Bool) → is_open asked.header.sequence_number ≡ true
         → (other : Option ℕ) → other ≢ Some asked.header.sequence_number
         → datagram_share asked.port is_open other (cut_of untyped_layout bytes) [] ≡ [] }
@@ -176,11 +194,12 @@ pub fn acknowledgement_is_delivered()
 /// a capped one with that code, the request's header and its attributes, and a whole one with the request's payload as
 /// well, where the request states its own length. The attributes are ones that are read back from their bytes.
 pub fn error_is_delivered()
-    ensures capped { (asked : Asked) (code : ℤ) (attrs : Attributes) (text bytes : List ℕ) → code ≢ pos 0
-        → FitsSigned w32 code → AreReadBack attrs text → IsAnswer asked (capped_error asked code attrs) bytes
+    ensures capped { (asked : Asked) (code : ℤ) (attrs : Attributes) (text bytes : List ℕ)
+        → code ≢ pos 0 → FitsSigned w32 code → AreReadBack attrs text
+        → IsAnswer asked (capped_error asked code attrs) bytes
         → IsDelivered asked (capped_error asked code attrs) bytes }
-    ensures whole { (asked : Asked) (code : ℤ) (attrs : Attributes) (text bytes : List ℕ) → code ≢ pos 0
-        → FitsSigned w32 code → asked.header.len ≡ 16 + length asked.payload.now → AreReadBack attrs text
-        → IsAnswer asked (error asked code attrs) bytes
+    ensures whole { (asked : Asked) (code : ℤ) (attrs : Attributes) (text bytes : List ℕ)
+        → code ≢ pos 0 → FitsSigned w32 code → asked.header.len ≡ 16 + length asked.payload.now
+        → AreReadBack attrs text → IsAnswer asked (error asked code attrs) bytes
         → IsDelivered asked (error asked code attrs) bytes }
 {}

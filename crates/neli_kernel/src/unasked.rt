@@ -20,8 +20,10 @@ pub fn notification<T: NlType + Drop, P: ToBytes + Drop>(
     nl_flags: NlmF,
     body: P,
 ) -> Result<Vec<u8>, SerError>
-    ensures bytes { IfOk result (λ bytes. message_or_refusal T.wire_number P.wire
-        (message_with P.Size.wire_length nl_type nl_flags 0 0 (payload.Payload body)) ≡ Ok bytes.items) }
+    ensures bytes { IfOk result
+        (λ bytes. message_or_refusal T.wire_number P.wire
+        (message_with P.Size.wire_length nl_type nl_flags 0 0 (payload.Payload body))
+        ≡ Ok bytes.items) }
     ensures refused { IfErr result (RefusesMessage T.wire_number P.wire
         (message_with P.Size.wire_length nl_type nl_flags 0 0 (payload.Payload body))) }
 {

@@ -50,8 +50,10 @@ pub fn answers_are_given_in_turn<RT, RP>()
 where
     RT: NlType,
     RP: FromBytesWithInput + Size,
-    ensures { (needs : Bool) (us : List Untyped) (given : List (Item RT RP)) (r : Answer RT RP) → IsComplete needs us
-        → IsNextAnswer RT.wire_value RT.wire_number RP.view RP.wire_length RP.read needs true (map message us) given r
+    ensures { (needs : Bool) (us : List Untyped) (given : List (Item RT RP)) (r : Answer RT RP)
+        → IsComplete needs us
+        → IsNextAnswer RT.wire_value RT.wire_number RP.view RP.wire_length RP.read needs true
+        (map message us) given r
         → IsInTurn (IsReadAs RT.wire_value RP.view RP.wire_length RP.read) us given r }
 {}
 
@@ -64,13 +66,16 @@ pub fn answers_are_complete()
         → IsComplete needs (answer_kept (capped_error asked code attrs) ∷ []) }
     ensures error { (needs : Bool) (asked : Asked) (code : ℤ) (attrs : Attributes)
         → IsComplete needs (answer_kept (error asked code attrs) ∷ []) }
-    ensures reply { (message_type number port : ℕ) (flags : Flags) (text : List ℕ) → message_type < 65536
-        → is_multi flags ≡ false → IsComplete false (reply_kept message_type flags number port text ∷ []) }
-    ensures reply_acknowledged { (message_type number port : ℕ) (flags : Flags) (text : List ℕ) (asked : Asked)
-        (attrs : Attributes) → message_type < 65536 → is_multi flags ≡ false → IsComplete true
-        (reply_kept message_type flags number port text ∷ answer_kept (acknowledgement asked attrs) ∷ []) }
-    ensures dump { (parts : List Untyped) (h : Header ℕ) (code : ℤ) (attrs : Attributes) → All IsPart parts
-        → h.message_type ≡ 3
+    ensures reply { (message_type number port : ℕ) (flags : Flags) (text : List ℕ)
+        → message_type < 65536 → is_multi flags ≡ false
+        → IsComplete false (reply_kept message_type flags number port text ∷ []) }
+    ensures reply_acknowledged { (message_type number port : ℕ) (flags : Flags) (text : List ℕ)
+        (asked : Asked) (attrs : Attributes) → message_type < 65536 → is_multi flags ≡ false
+        → IsComplete true
+        (reply_kept message_type flags number port text ∷ answer_kept (acknowledgement asked attrs)
+        ∷ []) }
+    ensures dump { (parts : List Untyped) (h : Header ℕ) (code : ℤ) (attrs : Attributes)
+        → All IsPart parts → h.message_type ≡ 3
         → IsComplete false (parts ++ (h, payload.DumpExtAck (answer code tt attrs)) ∷ []) }
 {}
 
@@ -78,7 +83,8 @@ pub fn answers_are_complete()
 /// nothing to another one; so do several datagrams, as those of a dump. It answers a request where the number is open.
 pub fn datagrams_bring_their_own()
     ensures own { (number port : ℕ) (datagram : List ℕ) (us : List Untyped)
-        → cut_of untyped_layout datagram ≡ (us, None) → All (IsFor number port) us → numbered number datagram ≡ us }
+        → cut_of untyped_layout datagram ≡ (us, None) → All (IsFor number port) us
+        → numbered number datagram ≡ us }
     ensures others { (number port : ℕ) (datagram : List ℕ) (us : List Untyped)
         → cut_of untyped_layout datagram ≡ (us, None) → All (IsFor number port) us
         → (other : ℕ) → other ≢ number → numbered other datagram ≡ [] }
@@ -87,7 +93,8 @@ pub fn datagrams_bring_their_own()
         → (flat_map (numbered number) datagrams ≡ us)
         × All (λ d. All (IsFor number port) (cut_of untyped_layout d).0) datagrams }
     ensures open { (number port : ℕ) (datagram : List ℕ) (us : List Untyped) (is_open : ℕ → Bool)
-        → cut_of untyped_layout datagram ≡ (us, None) → All (IsFor number port) us → is_open number ≡ true
+        → cut_of untyped_layout datagram ≡ (us, None)
+        → All (IsFor number port) us → is_open number ≡ true
         → All (λ u. is_reply port is_open u ≡ true) (cut_of untyped_layout datagram).0 }
 {}
 
@@ -127,8 +134,8 @@ pub fn request_is_answered<ST, SP, RT, RP>()
 where
     RT: NlType,
     RP: FromBytesWithInput + Size,
-    ensures { (x : Exchange ST SP RT RP) (asked : Asked) (datagrams : List (List ℕ)) (us : List Untyped)
-        → flat_map (λ d. (cut_of untyped_layout d).0) datagrams ≡ us
+    ensures { (x : Exchange ST SP RT RP) (asked : Asked) (datagrams : List (List ℕ))
+        (us : List Untyped) → flat_map (λ d. (cut_of untyped_layout d).0) datagrams ≡ us
         → All (λ d. (cut_of untyped_layout d).1 ≡ None) datagrams
         → All (IsFor asked.header.sequence_number asked.port) us → IsComplete (needs_ack x.flags) us
         → IsServed x asked datagrams
@@ -142,8 +149,8 @@ where
     RT: NlType,
     RP: FromBytesWithInput + Size,
     ensures { (x : Exchange ST SP RT RP) (asked : Asked) (attrs : Attributes) (text bytes : List ℕ)
-        → needs_ack x.flags ≡ true → AreReadBack attrs text → IsAnswer asked (acknowledgement asked attrs) bytes
-        → IsServed x asked (bytes ∷ [])
+        → needs_ack x.flags ≡ true → AreReadBack attrs text
+        → IsAnswer asked (acknowledgement asked attrs) bytes → IsServed x asked (bytes ∷ [])
         → ReadsGive RT.wire_value RT.wire_number RP.view RP.wire_length RP.read asked.port
         (answer_kept (acknowledgement asked attrs) ∷ []) x }
 {
@@ -156,14 +163,15 @@ pub fn refused_request_is_answered<ST, SP, RT, RP>()
 where
     RT: NlType,
     RP: FromBytesWithInput + Size,
-    ensures capped { (x : Exchange ST SP RT RP) (asked : Asked) (code : ℤ) (attrs : Attributes) (text bytes : List ℕ)
-        → code ≢ pos 0 → FitsSigned w32 code → AreReadBack attrs text
+    ensures capped { (x : Exchange ST SP RT RP) (asked : Asked) (code : ℤ) (attrs : Attributes)
+        (text bytes : List ℕ) → code ≢ pos 0 → FitsSigned w32 code → AreReadBack attrs text
         → IsAnswer asked (capped_error asked code attrs) bytes → IsServed x asked (bytes ∷ [])
         → ReadsGive RT.wire_value RT.wire_number RP.view RP.wire_length RP.read asked.port
         (answer_kept (capped_error asked code attrs) ∷ []) x }
-    ensures whole { (x : Exchange ST SP RT RP) (asked : Asked) (code : ℤ) (attrs : Attributes) (text bytes : List ℕ)
-        → code ≢ pos 0 → FitsSigned w32 code → asked.header.len ≡ 16 + length asked.payload.now
-        → AreReadBack attrs text → IsAnswer asked (error asked code attrs) bytes → IsServed x asked (bytes ∷ [])
+    ensures whole { (x : Exchange ST SP RT RP) (asked : Asked) (code : ℤ) (attrs : Attributes)
+        (text bytes : List ℕ) → code ≢ pos 0 → FitsSigned w32 code
+        → asked.header.len ≡ 16 + length asked.payload.now → AreReadBack attrs text
+        → IsAnswer asked (error asked code attrs) bytes → IsServed x asked (bytes ∷ [])
         → ReadsGive RT.wire_value RT.wire_number RP.view RP.wire_length RP.read asked.port
         (answer_kept (error asked code attrs) ∷ []) x }
 {
@@ -180,19 +188,18 @@ where
     RP: FromBytesWithInput + Size,
     T: NlType,
     P: ToBytes,
-    ensures alone { (x : Exchange ST SP RT RP) (asked : Asked) (t : T) (flags : Flags) (body : P) (text bytes : List ℕ)
-        → needs_ack x.flags ≡ false → is_multi flags ≡ false
-        → IsReply T.wire_number P.wire P.Size.wire_length t flags asked.header.sequence_number asked.port body
-        text bytes
-        → IsServed x asked (bytes ∷ [])
+    ensures alone { (x : Exchange ST SP RT RP) (asked : Asked) (t : T) (flags : Flags) (body : P)
+        (text bytes : List ℕ) → needs_ack x.flags ≡ false → is_multi flags ≡ false
+        → IsReply T.wire_number P.wire P.Size.wire_length t flags asked.header.sequence_number
+        asked.port body text bytes → IsServed x asked (bytes ∷ [])
         → ReadsGive RT.wire_value RT.wire_number RP.view RP.wire_length RP.read asked.port
         (reply_kept (T.wire_number t) flags asked.header.sequence_number asked.port text ∷ []) x }
-    ensures acknowledged { (x : Exchange ST SP RT RP) (asked : Asked) (t : T) (flags : Flags) (body : P)
-        (text bytes : List ℕ) (attrs : Attributes) (attrs_text ack_bytes : List ℕ)
+    ensures acknowledged { (x : Exchange ST SP RT RP) (asked : Asked) (t : T) (flags : Flags)
+        (body : P) (text bytes : List ℕ) (attrs : Attributes) (attrs_text ack_bytes : List ℕ)
         → needs_ack x.flags ≡ true → is_multi flags ≡ false
-        → IsReply T.wire_number P.wire P.Size.wire_length t flags asked.header.sequence_number asked.port body
-        text bytes
-        → AreReadBack attrs attrs_text → IsAnswer asked (acknowledgement asked attrs) ack_bytes
+        → IsReply T.wire_number P.wire P.Size.wire_length t flags asked.header.sequence_number
+        asked.port body text bytes → AreReadBack attrs attrs_text
+        → IsAnswer asked (acknowledgement asked attrs) ack_bytes
         → IsServed x asked (bytes ∷ ack_bytes ∷ [])
         → ReadsGive RT.wire_value RT.wire_number RP.view RP.wire_length RP.read asked.port
         (reply_kept (T.wire_number t) flags asked.header.sequence_number asked.port text
@@ -211,13 +218,14 @@ pub fn dump_request_is_answered<ST, SP, RT, RP>()
 where
     RT: NlType,
     RP: FromBytesWithInput + Size,
-    ensures { (x : Exchange ST SP RT RP) (limit : ℕ) (asked : Asked) (flags : Flags) (code : ℤ) (attrs : Attributes)
-        (text : List ℕ) (p : Packed) (said : List (Lent ℕ)) (ms : List Untyped) (datagrams : List (List ℕ))
-        → needs_ack x.flags ≡ false → IsEnd asked flags code → AreReadBack attrs text
-        → AreRead (datagrams_of p) said → map untyped said ≡ map (λ m. Ok m) ms
+    ensures { (x : Exchange ST SP RT RP) (limit : ℕ) (asked : Asked) (flags : Flags) (code : ℤ)
+        (attrs : Attributes) (text : List ℕ) (p : Packed) (said : List (Lent ℕ)) (ms : List Untyped)
+        (datagrams : List (List ℕ)) → needs_ack x.flags ≡ false → IsEnd asked flags code
+        → AreReadBack attrs text → AreRead (datagrams_of p) said
+        → map untyped said ≡ map (λ m. Ok m) ms
         → All (IsFor asked.header.sequence_number asked.port) ms → All IsPart ms
-        → finished limit (message_or_refusal (λ n. n) (λ b. Ok b) (dump_end asked flags code attrs)) p ≡ Ok datagrams
-        → IsServed x asked datagrams
+        → finished limit (message_or_refusal (λ n. n) (λ b. Ok b) (dump_end asked flags code attrs))
+        p ≡ Ok datagrams → IsServed x asked datagrams
         → ReadsGive RT.wire_value RT.wire_number RP.view RP.wire_length RP.read asked.port
         (ms ++ answer_kept (dump_end asked flags code attrs) ∷ []) x }
 {

@@ -48,8 +48,10 @@ pub(crate) fn stage_each(
     delivery: &Delivery,
     pieces: &mut Vec<Piece>,
 ) -> Result<(), NoMemory>
-    ensures { OnOk result ((q : ℕ) → is_open numbers.now q ≡ true
-        → deliveries_for q pieces.new.items ≡ deliveries_for q pieces.old.items ++ delivery.now ∷ []) }
+    ensures { OnOk result
+        ((q : ℕ) → is_open numbers.now q ≡ true
+        → deliveries_for q pieces.new.items
+        ≡ deliveries_for q pieces.old.items ++ delivery.now ∷ []) }
 {
     for number in numbers.keys() {
         stage_one(alloc, *number, copy_of(delivery)?, pieces)?;
@@ -110,8 +112,10 @@ pub(crate) fn stage_fault(
     fault: Option<DeError>,
     pieces: &mut Vec<Piece>,
 ) -> Result<(), NoMemory>
-    ensures { OnOk result ((q : ℕ) → is_open numbers.now q ≡ true
-        → deliveries_for q pieces.new.items ≡ deliveries_for q pieces.old.items ++ reader_fault fault) }
+    ensures { OnOk result
+        ((q : ℕ) → is_open numbers.now q ≡ true
+        → deliveries_for q pieces.new.items
+        ≡ deliveries_for q pieces.old.items ++ reader_fault fault) }
 {
     match fault {
         None => Ok(()),

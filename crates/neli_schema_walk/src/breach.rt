@@ -35,7 +35,8 @@ pub fn check<'t>(
     table: Table<'t>,
     attributes: &[u8],
 ) -> Result<(), Breach<'t>>
-    ensures { check_seen result ≡ first_breach (walk_items context.entry table.entry attributes.now) }
+    ensures { check_seen result
+        ≡ first_breach (walk_items context.entry table.entry attributes.now) }
 {
     let mut walk = Walk::new(context, table, attributes);
     while let Some(item) = walk.step() {

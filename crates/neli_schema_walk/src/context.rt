@@ -90,7 +90,8 @@ impl<'t> Context<'t> {
         choice: &Choice<'t>,
         payload: &[u8],
     ) -> Result<Shape<'t>, Broken>
-        ensures { result ≡ chosen_shape self.now (chosen_table self.now list.now choice.now) payload.now }
+        ensures { result ≡ chosen_shape self.now (chosen_table self.now list.now choice.now)
+            payload.now }
     {
         match self.chosen_table(list, choice) {
             Some(id) => nest_shape(self.schema.table(id), payload),

@@ -77,7 +77,8 @@ impl<'b, 't> Levels<'b, 't> {
         rest: &'b [u8],
     ) -> Item<'b, 't>
         requires room { array_vec_len self.old.open < MAX_DEPTH }
-        requires frame { frame_at attribute_layout level.rest.now ≡ Ok (attribute_said attr.now, rest.now) }
+        requires frame { frame_at attribute_layout level.rest.now
+            ≡ Ok (attribute_said attr.now, rest.now) }
         ensures context { self.new.context ≡ self.old.context }
         ensures items { item_seen result ∷ left_items self.old.context [] self.new.open.items
             ≡ left_items self.old.context [] (self.old.open.items ++ level.entry ∷ []) }
@@ -114,12 +115,17 @@ impl<'b, 't> Levels<'b, 't> {
     ) -> Result<Shape<'t>, Broken>
         requires { array_vec_len self.old.open ≤ MAX_DEPTH }
         ensures context { self.new.context ≡ self.old.context }
-        ensures full { array_vec_len self.old.open ≡ MAX_DEPTH → (result ≡ closed shape.entry)
-            × (left_items self.old.context [] self.new.open.items ≡ left_items self.old.context [] self.old.open.items) }
-        ensures entered { array_vec_len self.old.open < MAX_DEPTH → (result ≡ shape.entry)
+        ensures full { array_vec_len self.old.open ≡ MAX_DEPTH
+            → (result ≡ closed shape.entry)
             × (left_items self.old.context [] self.new.open.items
-            ≡ nest_items (walked self.old.context (9 - length self.old.open.items) (map (λ l. l.inside) self.old.open.items))
-            shape.entry payload.now ++ left_items self.old.context [] self.old.open.items) }
+            ≡ left_items self.old.context [] self.old.open.items) }
+        ensures entered { array_vec_len self.old.open < MAX_DEPTH
+            → (result ≡ shape.entry)
+            × (left_items self.old.context [] self.new.open.items
+            ≡ nest_items
+            (walked self.old.context (9 - length self.old.open.items)
+            (map (λ l. l.inside) self.old.open.items)) shape.entry payload.now
+            ++ left_items self.old.context [] self.old.open.items) }
     {
         let Ok(Shape::Nest(table)) = shape else {
             return shape;

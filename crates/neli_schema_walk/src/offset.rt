@@ -74,7 +74,8 @@ fn step_at<'b, 't>(
     context: &Context<'t>,
     place: &Place<'b, 't>,
 ) -> Option<(Step<'t>, Option<Place<'b, 't>>)>
-    ensures { option_map (λ s. (s.0, option_map place_seen s.1)) result ≡ step_at context.now (place_seen place.now) }
+    ensures { option_map (λ s. (s.0, option_map place_seen s.1)) result
+        ≡ step_at context.now (place_seen place.now) }
 {
     let (attr, offset) = attribute_at(place.list, place.offset)?;
     let number = *attr.attr_type().nla_type();
@@ -119,7 +120,8 @@ fn inner_place<'b, 't>(
 
 /// The attribute in which an offset lies, and the offset from its first byte.
 fn attribute_at(list: &[u8], offset: usize) -> Option<(LentNlattr<'_, u16>, usize)>
-    ensures { option_map (λ p. (attribute_said p.0, p.1)) result ≡ containing offset (attributes_of list.now).0 }
+    ensures { option_map (λ p. (attribute_said p.0, p.1)) result
+        ≡ containing offset (attributes_of list.now).0 }
 {
     let mut cursor = Cursor::new(list);
     let mut offset = offset;
