@@ -12,7 +12,7 @@
 mod lines;
 
 ghost use Rattle.std.specs.Prelude.{◌≡◌, ◌+◌, OnOk, length};
-ghost use Rattle.neli.specs.consts_rt.Rtm.{rtm_of};
+ghost use Rattle.neli.specs.consts_routing.Rtm.{rtm_of};
 ghost use Rattle.neli.specs.lent.Messages.{messages_in};
 ghost use Rattle.neli.specs.lent.Walks.{items_of};
 

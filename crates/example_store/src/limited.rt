@@ -3,8 +3,8 @@
 ghost use Rattle.std.specs.Prelude.{◌≡◌, ◌++◌, ℕ, [], Option, Some, IsOk, OnOk, OnErr, is_some, option_map};
 ghost use Rattle.neli.specs.deliveries.Deliveries.{datagram_share};
 ghost use Rattle.neli.specs.log.Log.{byte_count, pending_of};
-ghost use Rattle.neli.specs.msg.Agreement.{untyped_layout};
-ghost use Rattle.neli.specs.msg.Cuts.{cut_of};
+ghost use Rattle.neli.specs.reader.Agreement.{untyped_layout};
+ghost use Rattle.neli.specs.reader.Cuts.{cut_of};
 ghost use Rattle.example_store.specs.Limited.{StaysWithin};
 
 use neli::consts::nl::NlType;

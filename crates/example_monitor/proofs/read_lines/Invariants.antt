@@ -1,5 +1,5 @@
 use Rattle.std.proofs.Common.{◌≡◌, ◌+◌, length}
-use Rattle.neli.specs.consts_rt.Rtm.{rtm_of}
+use Rattle.neli.specs.consts_routing.Rtm.{rtm_of}
 use Rattle.neli.specs.lent.Messages.{messages_in}
 use Rattle.neli.specs.lent.Walks.{items_of}
 use Rattle.example_monitor.proofs.read_lines.Given as goal
