@@ -27,8 +27,9 @@ fn raw(alloc: Global, length: usize) -> Result<Vec<Item>, AllocError>
 /// The datagrams of an input: of a pcap file where it begins with a pcap file's magic number, of raw bytes where a
 /// byte of it is 0, and else of hexadecimal text.
 ///
-/// Raw bytes are one datagram, or several without a gap, whose messages are the same: the length before each message
-/// has a zero byte, which no text has. The bytes of a pcap file and raw ones are kept, and not copied.
+/// Raw bytes are one datagram, or several without a gap, whose messages are the same: the length before a message of
+/// less than 16 MiB has a zero byte, which no such text has. The bytes of a pcap file and raw ones are kept, and not
+/// copied.
 pub fn read_input(alloc: Global, bytes: Vec<u8>) -> Result<Input, AllocError>
     ensures { IfOk result (λ input. IsInput bytes.items input.bytes.items input.items.items) }
 {

@@ -98,10 +98,10 @@ pub fn datagrams_bring_their_own()
         → All (λ u. is_reply port is_open u ≡ true) (cut_of untyped_layout datagram).0 }
 {}
 
-/// Each request of a run is answered by its own messages, in whatever order the datagrams come and whatever is done
-/// meanwhile: where a request was sent and its handle is not closed, the datagrams taken in since then answer requests,
-/// and those messages of them that have its number are a whole answer, each read of its handle is answered by these, in
-/// turn, and then by the end.
+/// Each request of a run is answered by its own messages, in whatever order the datagrams come and whatever is sent,
+/// read or closed meanwhile: where a request was sent and its handle is not closed, the link has not failed since and
+/// the datagrams taken in answer requests, and those messages of them that have its number are a whole answer, each
+/// read of its handle is answered by these, in turn, and then by the end.
 pub fn requests_are_answered_in_turn<ST, SP, RT, RP>()
 where
     RT: NlType,
@@ -127,9 +127,9 @@ where
 
 /// A request is answered by the datagrams that came for it: where its handle is not closed, these datagrams were taken
 /// in since, and their messages have its number and the router's port and are a whole answer, each read of its handle
-/// is answered by these messages, in turn, and then by the end; whatever else is sent, read or closed meanwhile, and
-/// whatever comes for other requests. Each datagram came to no group, and one that is not for this request has no
-/// fault.
+/// is answered by these messages, in turn, and then by the end; whatever else is sent, read or closed meanwhile. The
+/// link has not failed since, each datagram came to no group, and one that has no message of this number answers other
+/// requests: it has no fault, and each of its messages has the router's port and a number that is open.
 pub fn request_is_answered<ST, SP, RT, RP>()
 where
     RT: NlType,

@@ -1,4 +1,5 @@
-//! Every table of the kernel's in one list, as [`Schema::new`](neli_schema::Schema::new) takes them.
+//! Every table of the kernel's but those of process events in one list, as
+//! [`Schema::new`](neli_schema::Schema::new) takes them.
 #![tactic(auto)]
 
 ghost use Rattle.std.specs.Prelude.{◌≡◌, [], ◌∷◌, ◌++◌, map, IfOk, OnOk};
@@ -340,7 +341,7 @@ fn append_others(all: &mut Vec<Table<'static>>) -> Result<(), AllocError>
     append(all, controller_tables())
 }
 
-/// Every table of the kernel's.
+/// Every table of the kernel's but those of process events, which are [`neli_schema::tables::process_event::TABLES`].
 pub fn all_tables(alloc: Global) -> Result<Vec<Table<'static>>, AllocError>
     ensures { IfOk result (λ all. numbers all.items ≡ table_numbers) }
 {

@@ -4,8 +4,7 @@
 //!
 //! A datagram is read and cut into pieces before any list changes, and what is refused is refused
 //! there. A piece is a delivery in a list of its own, with the number that it goes to. It is then
-//! appended to the list of that number, which takes no memory and a time that does not grow with what
-//! waits.
+//! appended to the list of that number, which takes no memory.
 //!
 //! `specs/Queues.antt` says what the fields hold, `specs/Pieces.antt` what a number gains of
 //! pieces.

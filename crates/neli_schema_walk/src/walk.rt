@@ -14,8 +14,7 @@ use std::marker::Model;
 /// The attributes of a body, each with its path and its row, and after each nest those in it.
 ///
 /// An iterator. After the attributes of a list comes the fault of what is left of it, if it has one, and then what
-/// follows the nest that this list is in. It takes no memory, and each step costs the same but for nests that a
-/// neighbour picks a table for. Contracts see it as the items that are left.
+/// follows the nest that this list is in. It takes no memory. Contracts see it as the items that are left.
 #[derive(Drop)]
 pub struct Walk<'b, 't> {
     levels: Levels<'b, 't>,
