@@ -2,14 +2,19 @@
 use Rattle.std.specs.Prelude.{ℕ, ◌==◌, Bool, true, false, List, [], ◌∷◌, ◌++◌, codes, if◌then◌else◌}
 use Rattle.std.specs.Fmt.{digits}
 use Rattle.std.specs.List.{flat_map}
+use Rattle.bitflags.specs.declared.traits.Flag.{Flag}
 use Rattle.bitflags.specs.Sets.{Row, is_next, without}
+
+-- what a flag of a set's table says: its name, and its bits as a number
+abbrev pub flag_row : {F : Type 0} → (F → ℕ) → Flag F → Row
+flag_row set_of flag = (flag.name.now, set_of flag.value)
 
 -- bits without a name, as a number
 abbrev pub left_over : ℕ → List (List ℕ)
 left_over left = if left == 0 then [] else (codes "0x" ++ digits 16 false left) ∷ []
 
--- the names of a set, in the order of the table: a flag is named where the set has all of its bits, and some of them are
--- left by the flags before it. What is left at the end is a number
+-- the names of a set, in the order of the table: a flag is named where the set has all of its bits, and some of them
+-- are left by the flags before it. What is left at the end is a number
 unfoldable pub names_in : List Row → ℕ → ℕ → List (List ℕ)
 names_in [] set left = left_over left
 names_in (row ∷ rows) set left =

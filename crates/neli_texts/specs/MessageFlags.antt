@@ -15,7 +15,9 @@ common =
 
 -- and those of a message that makes something, that deletes something, that asks for something, that answers
 abbrev pub making : List Row
-making = common ++ (codes "REPLACE", 0x100) ∷ (codes "EXCL", 0x200) ∷ (codes "CREATE", 0x400) ∷ (codes "APPEND", 0x800) ∷ []
+making =
+    common ++ (codes "REPLACE", 0x100) ∷ (codes "EXCL", 0x200) ∷ (codes "CREATE", 0x400) ∷
+    (codes "APPEND", 0x800) ∷ []
 
 abbrev pub deleting : List Row
 deleting = common ++ (codes "NONREC", 0x100) ∷ (codes "BULK", 0x200) ∷ []

@@ -1,9 +1,9 @@
 //! Sets of flags by their names.
 
 ghost use Rattle.std.specs.Prelude.{◌≡◌, Some};
-ghost use Rattle.bitflags.specs.Sets.{is_next};
-ghost use Rattle.neli_texts.specs.FlagNames.{mark, names_text};
+ghost use Rattle.neli_texts.specs.FlagNames.{flag_row, names_text};
 
+use crate::bit_names::{NamedBits, write_names};
 use bitflags::{Flag, Flags};
 use neli_consts_flags::{Frf, IfaF, Iff, Ntf, Nud, RtmF, VlanFlags};
 use std::fmt;
@@ -81,41 +81,22 @@ impl NamedFlags for Frf {
 #[derive(Clone, Copy, Debug)]
 pub struct FlagNames<F>(pub F);
 
-/// What stands before a name: a bar, but before the first.
-pub(crate) fn mark(is_first: bool) -> &'static str
-    ensures { result.now ≡ mark is_first }
-{
-    if is_first { "" } else { "|" }
-}
+impl<F: NamedFlags> NamedBits for Flag<F> {
+    ghost row_of = { flag_row F.Flags.set_of };
 
-/// Whether a flag is named: it has a name, the set has all of its bits, and some of them are left.
-fn is_next<F: NamedFlags>(flag: &Flag<F>, set: u32, left: u32) -> bool
-    ensures { result ≡ is_next flag.now.name.now (F.Flags.set_of flag.now.value) set left }
-{
-    let bits = flag.value().number();
-    flag.is_named() && set & bits == bits && left & bits != 0
+    fn bits_named(&self) -> u32 {
+        self.value().number()
+    }
+
+    fn name_of_bits(&self) -> &str {
+        self.name()
+    }
 }
 
 impl<F: NamedFlags> fmt::Display for FlagNames<F> {
     ghost output = { λ names. Some (names_text F.Flags.table (F.Flags.set_of names.0)) };
 
     fn fmt<W: fmt::Write>(&self, f: &mut fmt::Formatter<W>) -> fmt::Result {
-        let set = self.0.number();
-        let mut left = set;
-        let mut is_first = true;
-        for flag in F::flags() {
-            if is_next(flag, set, left) {
-                let mark = mark(is_first);
-                let name = flag.name();
-                write!(f, "{mark}{name}")?;
-                is_first = false;
-                left &= !flag.value().number();
-            }
-        }
-        if left != 0 || is_first {
-            let mark = mark(is_first);
-            write!(f, "{mark}0x{left:x}")?;
-        }
-        Ok(())
+        write_names(F::flags(), self.0.number(), f)
     }
 }

@@ -5,6 +5,7 @@
 //! - [`MessageLine`]: a message's header on a line, as `RTM_NEWLINK seq 5 port 1200 REQUEST|ACK`.
 #![tactic(auto)]
 
+mod bit_names;
 mod exit_status;
 mod flag_names;
 mod message_flags;

@@ -1,12 +1,7 @@
 //! The flags of a message by name: what a bit means depends on the type of the message.
 
-ghost use Rattle.std.specs.Prelude.{◌≡◌, Some, map};
-ghost use Rattle.bitflags.specs.Sets.{is_next};
-ghost use Rattle.neli_texts.specs.FlagNames.{barred, mark, names_in};
+ghost use Rattle.std.specs.Prelude.{◌≡◌, map};
 ghost use Rattle.neli_texts.specs.MessageFlags.{flag_rows, flag_seen};
-
-use crate::flag_names::mark;
-use std::fmt;
 
 /// A flag: its bits, and its name.
 pub(crate) type Row = (u32, &'static str);
@@ -88,45 +83,5 @@ pub(crate) fn flag_rows(is_route: bool, number: u16) -> &'static [Row]
         1 => &DELETING,
         2 => &ASKING,
         _ => &COMMON,
-    }
-}
-
-/// Whether a flag is named: it has a name, the set has all of its bits, and some of them are left.
-fn is_next(row: &Row, set: u32, left: u32) -> bool
-    ensures { result ≡ is_next row.now.1.now row.now.0 set left }
-{
-    let (bits, name) = *row;
-    !name.is_empty() && set & bits == bits && left & bits != 0
-}
-
-/// The bits of a message's flags, by these names.
-#[derive(Clone, Copy)]
-pub(crate) struct MessageFlags {
-    pub(crate) rows: &'static [Row],
-    pub(crate) bits: u32,
-}
-
-impl fmt::Display for MessageFlags {
-    ghost output = { λ flags. Some
-        (barred (names_in (map flag_seen flags.rows.now) flags.bits flags.bits)) };
-
-    fn fmt<W: fmt::Write>(&self, f: &mut fmt::Formatter<W>) -> fmt::Result {
-        let set = self.bits;
-        let mut left = set;
-        let mut is_first = true;
-        for row in self.rows {
-            if is_next(row, set, left) {
-                let mark = mark(is_first);
-                let name = row.1;
-                write!(f, "{mark}{name}")?;
-                is_first = false;
-                left &= !row.0;
-            }
-        }
-        if left != 0 || is_first {
-            let mark = mark(is_first);
-            write!(f, "{mark}0x{left:x}")?;
-        }
-        Ok(())
     }
 }

@@ -3,10 +3,13 @@
 ghost use Rattle.std.specs.Prelude.{◌≡◌, Some};
 ghost use Rattle.neli_texts.specs.MessageLine.{flags_text, is_route, line_text, type_text};
 
-use crate::message_flags::{MessageFlags, flag_rows};
+use crate::bit_names::write_names;
+use crate::message_flags::flag_rows;
 use crate::message_types::route_type;
-use neli_consts::NlmF;
+use neli_consts::{NlType, NlmF};
 use neli_consts_system::NlFamily;
+use neli_lent::LentMessage;
+use neli_reader::Nlmsghdr;
 use std::fmt;
 
 /// A message's header on a line, for a log: its type, its sequence number, the port of its socket, and its flags, as
@@ -15,6 +18,8 @@ use std::fmt;
 /// A type is named as in the kernel's headers where the protocol has a name for it: control messages in each, and the
 /// types of `RTM_*` in `NlFamily::Route`. Any other is `type 31`. Flags are named by the type, since the same bit is
 /// `ROOT` in a question and `REPLACE` in an order; without flags the line ends with the port.
+///
+/// [`MessageLine::of`] and [`MessageLine::of_lent`] make it of a message.
 #[derive(Clone, Copy, Debug, PartialEq, Eq)]
 pub struct MessageLine {
     /// The protocol that the message is of.
@@ -27,6 +32,42 @@ pub struct MessageLine {
     pub sequence_number: u32,
     /// The port of the socket that it belongs to; 0 is the kernel's.
     pub port: u32,
+}
+
+impl MessageLine {
+    /// The line of a message. The protocol is that of the socket that it came by: its header does not say it.
+    pub fn of<T: NlType, P>(protocol: NlFamily, message: &Nlmsghdr<T, P>) -> MessageLine
+        ensures protocol { result.protocol ≡ protocol }
+        ensures message_type { result.message_type ≡ T.wire_number message.now.header.message_type }
+        ensures flags { result.flags ≡ message.now.header.flags }
+        ensures sequence_number { result.sequence_number ≡ message.now.header.sequence_number }
+        ensures port { result.port ≡ message.now.header.port }
+    {
+        MessageLine {
+            protocol,
+            message_type: message.nl_type().to_wire(),
+            flags: *message.nl_flags(),
+            sequence_number: *message.nl_seq(),
+            port: *message.nl_pid(),
+        }
+    }
+
+    /// The same of a message that is lent.
+    pub fn of_lent<T: NlType>(protocol: NlFamily, lent: &LentMessage<'_, T>) -> MessageLine
+        ensures protocol { result.protocol ≡ protocol }
+        ensures message_type { result.message_type ≡ T.wire_number lent.now.header.message_type }
+        ensures flags { result.flags ≡ lent.now.header.flags }
+        ensures sequence_number { result.sequence_number ≡ lent.now.header.sequence_number }
+        ensures port { result.port ≡ lent.now.header.port }
+    {
+        MessageLine {
+            protocol,
+            message_type: lent.nl_type().to_wire(),
+            flags: *lent.nl_flags(),
+            sequence_number: *lent.nl_seq(),
+            port: *lent.nl_pid(),
+        }
+    }
 }
 
 /// A type of messages by its name, or by its number.
@@ -73,12 +114,11 @@ impl fmt::Display for MessageLine {
         let name = TypeName { is_route, number };
         let (sequence, port) = (self.sequence_number, self.port);
         write!(f, "{name} seq {sequence} port {port}")?;
-        let bits = u32::from(u16::from(self.flags));
-        if bits == 0 {
+        let set = u32::from(u16::from(self.flags));
+        if set == 0 {
             return Ok(());
         }
-        let rows = flag_rows(is_route, number);
-        let flags = MessageFlags { rows, bits };
-        write!(f, " {flags}")
+        write!(f, " ")?;
+        write_names(flag_rows(is_route, number), set, f)
     }
 }
