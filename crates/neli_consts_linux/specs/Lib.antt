@@ -8,6 +8,7 @@ pub mod IflaBondSlave
 pub mod IflaBr
 pub mod IflaBrport
 pub mod IflaMacvlan
+pub mod IflaVf
 pub mod IflaVxlan
 pub mod NetlinkAttributeType
 pub mod NexthopGrpType

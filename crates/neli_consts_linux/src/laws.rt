@@ -4,8 +4,9 @@ ghost use Rattle.neli_wire.specs.Constants.{IsEquality};
 
 use crate::{
     CtrlAttr, CtrlAttrOp, CtrlAttrPolicy, CtrlCmd, IflaBond, IflaBondAdInfo, IflaBondSlave, IflaBr,
-    IflaBrport, IflaMacvlan, IflaVxlan, NetlinkAttributeType, NexthopGrpType, Nha, NhaGroupStats,
-    NhaGroupStatsEntry, NhaResBucket, NhaResGroup, NlPolicyTypeAttr, NlmsgerrAttr, Rtax, Rtnlgrp,
+    IflaBrport, IflaMacvlan, IflaVf, IflaVxlan, NetlinkAttributeType, NexthopGrpType, Nha,
+    NhaGroupStats, NhaGroupStatsEntry, NhaResBucket, NhaResGroup, NlPolicyTypeAttr, NlmsgerrAttr,
+    Rtax, Rtnlgrp,
 };
 
 /// `==` is true exactly where the two values are the same: the same variant, with the same number
@@ -23,6 +24,7 @@ pub fn equality()
     ensures ifla_brport { IsEquality ⟦<IflaBrport as PartialEq>⟧.eq }
     ensures ifla_macvlan { IsEquality ⟦<IflaMacvlan as PartialEq>⟧.eq }
     ensures ifla_vxlan { IsEquality ⟦<IflaVxlan as PartialEq>⟧.eq }
+    ensures ifla_vf { IsEquality ⟦<IflaVf as PartialEq>⟧.eq }
     ensures ifla_bond { IsEquality ⟦<IflaBond as PartialEq>⟧.eq }
     ensures ifla_bond_ad_info { IsEquality ⟦<IflaBondAdInfo as PartialEq>⟧.eq }
     ensures ifla_bond_slave { IsEquality ⟦<IflaBondSlave as PartialEq>⟧.eq }

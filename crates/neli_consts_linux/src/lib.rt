@@ -23,6 +23,7 @@
 //! - `metrics`: metrics of routes
 //! - `next_hops`: next hops of routes
 //! - `policies`: what the kernel says of the attributes that it takes
+//! - `virtual_functions`: virtual functions of a link
 //! - `vxlans`: VXLAN tunnels
 #![tactic(auto)]
 
@@ -36,6 +37,7 @@ mod macvlans;
 mod metrics;
 mod next_hops;
 mod policies;
+mod virtual_functions;
 mod vxlans;
 
 pub use acknowledgements::NlmsgerrAttr;
@@ -49,4 +51,5 @@ pub use next_hops::{
     NexthopGrpType, Nha, NhaGroupStats, NhaGroupStatsEntry, NhaResBucket, NhaResGroup,
 };
 pub use policies::{NetlinkAttributeType, NlPolicyTypeAttr};
+pub use virtual_functions::IflaVf;
 pub use vxlans::IflaVxlan;

@@ -24,6 +24,8 @@ use Rattle.neli_consts_linux.specs.contracts.macvlans.IflaMacvlan.{enum as ifla_
 use Rattle.neli_consts_linux.specs.contracts.macvlans.IflaMacvlanEq.TheImpl.Laws.{laws-law as ifla_macvlan-laws}
 use Rattle.neli_consts_linux.specs.contracts.vxlans.IflaVxlan.{enum as ifla_vxlan}
 use Rattle.neli_consts_linux.specs.contracts.vxlans.IflaVxlanEq.TheImpl.Laws.{laws-law as ifla_vxlan-laws}
+use Rattle.neli_consts_linux.specs.contracts.virtual_functions.IflaVf.{enum as ifla_vf}
+use Rattle.neli_consts_linux.specs.contracts.virtual_functions.IflaVfEq.TheImpl.Laws.{laws-law as ifla_vf-laws}
 use Rattle.neli_consts_linux.specs.contracts.bonds.IflaBond.{enum as ifla_bond}
 use Rattle.neli_consts_linux.specs.contracts.bonds.IflaBondEq.TheImpl.Laws.{laws-law as ifla_bond-laws}
 use Rattle.neli_consts_linux.specs.contracts.bonds.IflaBondAdInfo.{enum as ifla_bond_ad_info}
@@ -88,6 +90,9 @@ returns-clause-ifla_macvlan c = derived-equality ifla_macvlan _ ifla_macvlan-law
 
 pub returns-clause-ifla_vxlan : goal.returns-clause-ifla_vxlan
 returns-clause-ifla_vxlan c = derived-equality ifla_vxlan _ ifla_vxlan-laws (λ x y e i. (eqb-true x.0 y.0 e i, tt), tt)
+
+pub returns-clause-ifla_vf : goal.returns-clause-ifla_vf
+returns-clause-ifla_vf c = derived-equality ifla_vf _ ifla_vf-laws (λ x y e i. (eqb-true x.0 y.0 e i, tt), tt)
 
 pub returns-clause-ifla_bond : goal.returns-clause-ifla_bond
 returns-clause-ifla_bond c = derived-equality ifla_bond _ ifla_bond-laws (λ x y e i. (eqb-true x.0 y.0 e i, tt), tt)
