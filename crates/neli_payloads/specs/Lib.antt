@@ -4,4 +4,10 @@ pub mod IfaCacheinfo
 pub mod LinkStats64
 pub mod NextHops
 pub mod RtaCacheinfo
+pub mod VfGuid
+pub mod VfMac
+pub mod VfRate
+pub mod VfSetting
+pub mod VfVlan
+pub mod VfVlanInfo
 pub mod laws

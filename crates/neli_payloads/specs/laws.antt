@@ -4,3 +4,9 @@ pub mod IfaCacheinfo
 pub mod Inline
 pub mod LinkStats64
 pub mod RtaCacheinfo
+pub mod VfGuid
+pub mod VfMac
+pub mod VfRate
+pub mod VfSetting
+pub mod VfVlan
+pub mod VfVlanInfo

@@ -1,11 +1,13 @@
-//! Payloads that attributes of links, addresses and routes carry: hardware addresses, counters, cache entries and
-//! next hops.
+//! Payloads that attributes of links, addresses and routes carry: hardware addresses, counters, cache entries, next
+//! hops and what is set for virtual functions.
 //!
 //! - [`HardwareAddress`]: the payload of `Ifla::Address`, `Ifla::Broadcast` and `Nda::Lladdr`, which is printed
 //!   and read as text too.
 //! - [`LinkStats64`]: the counters of a link, the payload of `Ifla::Stats64`.
 //! - [`IfaCacheinfo`] and [`RtaCacheinfo`]: how long an address lasts, and what is cached of a route.
 //! - [`NextHops`]: a walk over the next hops of a route that has several, the payload of `Rta::Multipath`.
+//! - [`VfSetting`], [`VfRate`], [`VfVlan`], [`VfVlanInfo`], [`VfMac`] and [`VfGuid`]: what is set for a virtual
+//!   function of a link, the payloads of `IflaVf`. That of `IflaVf::Broadcast` is a [`HardwareAddress`].
 //! - [`laws`]: what is written is read again, and when two values are equal.
 //!
 //! A page of `specs/` for each type has what its bytes are.
@@ -18,6 +20,12 @@ pub mod laws;
 mod link_stats64;
 mod next_hops;
 mod rta_cacheinfo;
+mod vf_guid;
+mod vf_mac;
+mod vf_rate;
+mod vf_setting;
+mod vf_vlan;
+mod vf_vlan_info;
 
 pub use hardware_address::HardwareAddress;
 pub use hardware_text::HardwareAddressError;
@@ -25,3 +33,9 @@ pub use ifa_cacheinfo::IfaCacheinfo;
 pub use link_stats64::LinkStats64;
 pub use next_hops::{NextHop, NextHops};
 pub use rta_cacheinfo::RtaCacheinfo;
+pub use vf_guid::VfGuid;
+pub use vf_mac::VfMac;
+pub use vf_rate::VfRate;
+pub use vf_setting::VfSetting;
+pub use vf_vlan::VfVlan;
+pub use vf_vlan_info::VfVlanInfo;

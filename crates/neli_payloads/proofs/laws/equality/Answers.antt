@@ -2,10 +2,16 @@ use Rattle.std.specs.Prelude.{refl}
 use Rattle.std.specs.Ordering.{int_eq}
 use Rattle.std.specs.Cmp.{signed_Decides}
 use Rattle.neli_wire.specs.Constants.{IsEquality}
-use Rattle.neli_attr.specs.laws.Equality.{bytes-equality, pair-equality, parts-equality}
+use Rattle.neli_attr.specs.laws.Equality.{bytes-equality, lists-equality, pair-equality, parts-equality}
 use Rattle.neli_payloads.specs.declared.ifa_cacheinfo.IfaCacheinfo.{IfaCacheinfo}
 use Rattle.neli_payloads.specs.declared.rta_cacheinfo.RtaCacheinfo.{RtaCacheinfo}
 use Rattle.neli_payloads.specs.declared.link_stats64.LinkStats64.{LinkStats64}
+use Rattle.neli_payloads.specs.declared.vf_guid.VfGuid.{VfGuid}
+use Rattle.neli_payloads.specs.declared.vf_mac.VfMac.{VfMac}
+use Rattle.neli_payloads.specs.declared.vf_rate.VfRate.{VfRate}
+use Rattle.neli_payloads.specs.declared.vf_setting.VfSetting.{VfSetting}
+use Rattle.neli_payloads.specs.declared.vf_vlan.VfVlan.{VfVlan}
+use Rattle.neli_payloads.specs.declared.vf_vlan_info.VfVlanInfo.{VfVlanInfo}
 use Rattle.neli_payloads.proofs.laws.equality.Goals as goal
 
 signed : IsEquality int_eq
@@ -147,3 +153,64 @@ returns-clause-link_stats64 c =
     (pair-equality bytes-equality (pair-equality bytes-equality
     (pair-equality bytes-equality (pair-equality bytes-equality
     (pair-equality bytes-equality (pair-equality bytes-equality bytes-equality))))))))))))))))))))))))
+
+pub returns-clause-vf_setting : goal.returns-clause-vf_setting
+returns-clause-vf_setting c =
+    parts-equality (λ (v : VfSetting). (v.vf, v.setting))
+    (λ t. record {
+      vf = t.0;
+      setting = t.1;
+    }) (λ v. refl)
+    (pair-equality bytes-equality bytes-equality)
+
+pub returns-clause-vf_rate : goal.returns-clause-vf_rate
+returns-clause-vf_rate c =
+    parts-equality (λ (v : VfRate). (v.vf, (v.min_tx_rate, v.max_tx_rate)))
+    (λ t. record {
+      vf = t.0;
+      min_tx_rate = t.1.0;
+      max_tx_rate = t.1.1;
+    }) (λ v. refl)
+    (pair-equality bytes-equality (pair-equality bytes-equality bytes-equality))
+
+pub returns-clause-vf_vlan : goal.returns-clause-vf_vlan
+returns-clause-vf_vlan c =
+    parts-equality (λ (v : VfVlan). (v.vf, (v.vlan, v.qos)))
+    (λ t. record {
+      vf = t.0;
+      vlan = t.1.0;
+      qos = t.1.1;
+    }) (λ v. refl)
+    (pair-equality bytes-equality (pair-equality bytes-equality bytes-equality))
+
+pub returns-clause-vf_vlan_info : goal.returns-clause-vf_vlan_info
+returns-clause-vf_vlan_info c =
+    parts-equality (λ (v : VfVlanInfo). (v.vf, (v.vlan, (v.qos, (v.vlan_proto, v.padding)))))
+    (λ t. record {
+      vf = t.0;
+      vlan = t.1.0;
+      qos = t.1.1.0;
+      vlan_proto = t.1.1.1.0;
+      padding = t.1.1.1.1;
+    }) (λ v. refl)
+    (pair-equality bytes-equality (pair-equality bytes-equality
+    (pair-equality bytes-equality (pair-equality bytes-equality bytes-equality))))
+
+pub returns-clause-vf_mac : goal.returns-clause-vf_mac
+returns-clause-vf_mac c =
+    parts-equality (λ (v : VfMac). (v.vf, v.mac))
+    (λ t. record {
+      vf = t.0;
+      mac = t.1;
+    }) (λ v. refl)
+    (pair-equality bytes-equality (lists-equality bytes-equality))
+
+pub returns-clause-vf_guid : goal.returns-clause-vf_guid
+returns-clause-vf_guid c =
+    parts-equality (λ (v : VfGuid). (v.vf, (v.padding, v.guid)))
+    (λ t. record {
+      vf = t.0;
+      padding = t.1.0;
+      guid = t.1.1;
+    }) (λ v. refl)
+    (pair-equality bytes-equality (pair-equality bytes-equality bytes-equality))
