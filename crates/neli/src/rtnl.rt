@@ -1,5 +1,5 @@
 //! Routing netlink: the bodies of links, addresses, neighbours, routes, queues and rules, their attributes, and what
-//! these carry as payloads: hardware addresses, counters, cache entries and next hops.
+//! these carry as payloads: hardware addresses, counters, cache entries, next hops and settings of virtual functions.
 
 pub use neli_attr::{RtAttrHandle, Rtattr, RtattrBuilder, RtattrBuilderError};
 pub use neli_link::{
@@ -10,7 +10,7 @@ pub use neli_link::{
 };
 pub use neli_payloads::{
     HardwareAddress, HardwareAddressError, IfaCacheinfo, LinkStats64, NextHop, NextHops,
-    RtaCacheinfo,
+    RtaCacheinfo, VfGuid, VfMac, VfRate, VfSetting, VfVlan, VfVlanInfo,
 };
 pub use neli_route::{
     Fibmsg, FibmsgBuilder, FibmsgBuilderError, Rtgenmsg, RtgenmsgBuilder, RtgenmsgBuilderError,
@@ -26,7 +26,7 @@ pub mod laws {
     };
     pub use neli_payloads::laws::{
         equality as equality_of_payloads, hardware_text_is_read_back, ifa_cacheinfo_is_read_back,
-        rta_cacheinfo_is_read_back,
+        rta_cacheinfo_is_read_back, virtual_functions_are_read_back,
     };
     pub use neli_route::laws::{
         equality as equality_of_routes, fibmsg_is_read_back, rtgenmsg_is_read_back,

@@ -3,8 +3,9 @@
 use crate::rows::write_rows;
 use neli_consts_linux::{
     CtrlAttr, CtrlAttrOp, CtrlAttrPolicy, CtrlCmd, IflaBond, IflaBondAdInfo, IflaBondSlave, IflaBr,
-    IflaBrport, IflaMacvlan, IflaVxlan, NetlinkAttributeType, NexthopGrpType, Nha, NhaGroupStats,
-    NhaGroupStatsEntry, NhaResBucket, NhaResGroup, NlPolicyTypeAttr, NlmsgerrAttr, Rtax, Rtnlgrp,
+    IflaBrport, IflaMacvlan, IflaVf, IflaVxlan, NetlinkAttributeType, NexthopGrpType, Nha,
+    NhaGroupStats, NhaGroupStatsEntry, NhaResBucket, NhaResGroup, NlPolicyTypeAttr, NlmsgerrAttr,
+    Rtax, Rtnlgrp,
 };
 use std::io::{self, Write};
 
@@ -13,6 +14,7 @@ pub fn write_tables(out: &mut impl Write) -> io::Result<()> {
     write_routing(out)?;
     write_next_hops(out)?;
     write_links(out)?;
+    write_virtual_functions(out)?;
     write_controller(out)?;
     write_policies(out)
 }
@@ -97,6 +99,11 @@ fn write_links(out: &mut impl Write) -> io::Result<()> {
         0..=u16::MAX,
         IflaBondSlave::is_unrecognized,
     )
+}
+
+/// Virtual functions.
+fn write_virtual_functions(out: &mut impl Write) -> io::Result<()> {
+    write_rows(out, "linux::IflaVf", 0..=u16::MAX, IflaVf::is_unrecognized)
 }
 
 /// The controller.

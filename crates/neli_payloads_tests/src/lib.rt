@@ -1,4 +1,4 @@
-//! Tests of `neli_payloads`: hardware addresses, counters, cache entries and next hops.
+//! Tests of `neli_payloads`: hardware addresses, counters, cache entries, next hops and virtual functions.
 //!
 //! The bytes are payloads of recorded datagrams, named by their numbers (docs/RECORDINGS.md), or were made by hand.
 //! What is wanted of them was counted by hand from the structs of linux/if_link.h, linux/if_addr.h and
@@ -17,3 +17,5 @@ mod next_hops;
 mod support;
 #[cfg(test)]
 mod texts;
+#[cfg(test)]
+mod virtual_functions;

@@ -5,12 +5,15 @@
 //! linux/neighbour.h, types and flags of messages those of linux/rtnetlink.h and linux/netlink.h.
 
 use crate::support::{assert_is, assert_is_at};
+use neli::Cursor;
 use neli::connector::ExitStatus;
 use neli::consts::nl::NlmF;
-use neli::consts::rtnl::{IfaF, Iff, Nud};
+use neli::consts::rtnl::{IfaF, Iff, Nud, Rtm};
 use neli::consts::socket::NlFamily;
 use neli::consts::{Constant, FlagNames, NamedFlags};
+use neli::lent::LentMessage;
 use neli::nl::MessageLine;
+use neli::types::Buffer;
 use std::alloc::Global;
 use std::fmt::Display;
 use std::process::Abort;
@@ -143,4 +146,19 @@ fn lines_of_messages(rt: HostRuntime) {
         };
         assert_prints(&rt, rt.alloc(), &line, want);
     }
+}
+
+// The line of a message is that of its header, whether it is owned or lent: an acknowledged RTM_GETLINK.
+#[test]
+fn lines_of_owned_and_lent_messages(rt: HostRuntime) {
+    let bytes = b"\x10\x00\x00\x00\x12\x00\x05\x00\x05\x00\x00\x00\xb0\x04\x00\x00";
+    let want = "RTM_GETLINK seq 5 port 1200 REQUEST|ACK";
+    let lent = LentMessage::<Rtm>::lend(&mut Cursor::new(bytes)).expect(&rt, "a message");
+    let line = MessageLine::of_lent(NlFamily::Route, &lent);
+    assert_prints(&rt, rt.alloc(), &line, want);
+    let owned = lent
+        .to_nlmsghdr::<Buffer>(rt.alloc())
+        .expect(&rt, "an owned message");
+    let line = MessageLine::of(NlFamily::Route, &owned);
+    assert_prints(&rt, rt.alloc(), &line, want);
 }

@@ -5,8 +5,8 @@ use neli::consts::MAX_NL_LENGTH;
 use neli::consts::genl::{Cmd, CtrlCmd, Index, NlAttrType};
 use neli::consts::linux::{
     self, CtrlAttr, CtrlAttrOp, CtrlAttrPolicy, IflaBond, IflaBondAdInfo, IflaBondSlave, IflaBr,
-    IflaBrport, IflaMacvlan, IflaVxlan, Nha, NhaGroupStats, NhaGroupStatsEntry, NhaResBucket,
-    NhaResGroup, NlPolicyTypeAttr, NlmsgerrAttr, Rtax,
+    IflaBrport, IflaMacvlan, IflaVf, IflaVxlan, Nha, NhaGroupStats, NhaGroupStatsEntry,
+    NhaResBucket, NhaResGroup, NlPolicyTypeAttr, NlmsgerrAttr, Rtax,
 };
 use neli::consts::netfilter::{LogCfgCmd, LogCfgCmdWrapper, LogCmd, NfLogAttr};
 use neli::consts::nl::{GenlId, NlType, NlTypeWrapper};
@@ -67,6 +67,7 @@ fn attributes_of_newer_kernels(rt: HostRuntime) {
     check_routing(&rt, IflaBr::VlanFiltering, 7);
     check_routing(&rt, IflaBrport::Isolated, 33);
     check_routing(&rt, IflaMacvlan::BcQueueLen, 7);
+    check_routing(&rt, IflaVf::RssQueryEn, 7);
     check_routing(&rt, IflaVxlan::Port, 15);
     check_routing(&rt, IflaBond::ActiveSlave, 2);
     check_routing(&rt, IflaBondAdInfo::PartnerMac, 5);
