@@ -1,7 +1,8 @@
 //! The flags of the fields in routing bodies, by name.
 //!
 //! Each set is a number whose bits have names; the names are constants of the type. Some names
-//! share their bits, and one may have none or several.
+//! share their bits, and one may have none or several. The sets are instances of one type,
+//! [`FlagSet`], so what they can do is written and proved once.
 //!
 //! The calls of a set are those of `bitflags::Flags`. `|`, `&`, `-` and `^` are the union, the
 //! intersection, the difference and the symmetric difference, and `!` gives the named bits that are
@@ -19,7 +20,7 @@
 //! - `frf`: routing rules
 #![tactic(auto)]
 
-// The named flags of a set, as `Flags::flags` lists them.
+// The named flags of a set, as `Kind::flags` lists them.
 macro_rules! flag_list {
     ($set:ident: $($name:ident),*) => {
         &[$(Flag { name: stringify!($name), value: $set::$name },)*]
@@ -33,6 +34,7 @@ pub mod laws;
 mod ntf;
 mod nud;
 mod rtm_f;
+mod set;
 mod vlan_flags;
 
 pub use frf::Frf;
@@ -41,4 +43,5 @@ pub use iff::Iff;
 pub use ntf::Ntf;
 pub use nud::Nud;
 pub use rtm_f::RtmF;
+pub use set::{FlagSet, Kind, Of};
 pub use vlan_flags::VlanFlags;

@@ -10,7 +10,7 @@ use Rattle.neli_consts_routing.specs.RtAddrFamily.{rt_addr_family_number, rt_add
 use Rattle.std.specs.Int.RustNames.{bit_and, bit_or}
 use Rattle.bitflags.specs.Sets.{known_bits}
 use Rattle.neli_consts_flags.specs.Iff.{iff_names}
-use Rattle.neli_consts_flags.specs.declared.iff.Iff.{Iff}
+use Rattle.neli_consts_flags.specs.declared.set.FlagSet.{FlagSet}
 use Rattle.neli_consts_routing.specs.declared.links.Arphrd.TheVariants.{Netrom}
 use Rattle.neli_link.specs.declared.ifinfomsg.Ifinfomsg.{Ifinfomsg}
 use Rattle.neli_link.specs.declared.ifinfomsg.IfinfomsgBuilder.{IfinfomsgBuilder}
@@ -60,7 +60,7 @@ ifinfomsg_built b =
     }))
 
 -- the flags of a builder: those that were given, else none
-abbrev pub flags_or_none : Option Iff → ℕ
+abbrev pub flags_or_none : Option (FlagSet ℕ 3) → ℕ
 flags_or_none flags = (unwrap_or flags (record { 0 = 0 })).0
 
 -- the bits that have names, but UP
