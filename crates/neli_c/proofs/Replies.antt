@@ -67,12 +67,13 @@ module _ {E : Type 0} (h after : HandleState) (s t : Session) (code : ℤ) (a b 
       (ended e).1,
       ((ended e).2, kept.0, kept.1),
     )),
-    λ e p. (
+    λ e p. (let kept = held-of r (Ok (reply.Item (Err router.ClosedChannel))) (closed e p).0 held in (
       is ∙ ap reply_code (closed e p).0,
       (closed e p).1,
       (closed e p).2,
-      (held-of r (Ok (reply.Item (Err router.ClosedChannel))) (closed e p).0 held).1,
-    ),
+      kept.0,
+      kept.1,
+    )),
     λ e p. (let kept = held-of r (Ok reply.Waits) (waiting e p).0 held in (
       is ∙ ap reply_code (waiting e p).0,
       (waiting e p).1,

@@ -54,11 +54,16 @@ KeepsRest s t =
     (t.router.deliveries.port ≡ s.router.deliveries.port) × (t.router.next_seq ≡ s.router.next_seq)
     × (t.handles.items ≡ s.handles.items) × (t.freed ≡ s.freed) × (t.held ≡ s.held)
 
--- a new router of this port: nothing waits for multicast, and no number is open
+-- the handle of multicast, which was given nothing yet
+abbrev pub multicast : HandleState
+multicast = record { number = None; needs_ack = false; single_given = false; ended = false }
+
+-- a new router of this port: nothing waits for multicast, of which the one handle is, and no number is open
 abbrev pub IsNew : ℕ → Session → Type 0
 IsNew port s =
     (s.router.deliveries.port ≡ port) × (s.router.next_seq ≡ 0) × (pending s None ≡ Some [])
-    × ((q : ℕ) → pending s (Some q) ≡ None) × HasFree s [] × (s.held ≡ None)
+    × ((q : ℕ) → pending s (Some q) ≡ None) × (s.handles.items ≡ slot.Open multicast ∷ []) × HasFree s []
+    × (s.held ≡ None)
 
 -- the next request has this number; all else is the same
 abbrev pub SetsNumber : ℕ → Session → Session → Type 0
@@ -106,7 +111,8 @@ WritesItem code s old new size size' =
     × (code ≢ ok → new ≡ old)
     × IfSome s.held (λ m. code ≢ memory → WritesMessage code (message_wire (λ n. n) (λ b. Ok b) m) old new size')
 
--- what waits for the handle at a place is given up, and the place is free; or there is none, and nothing changes
+-- what waits for the handle at a place is given up, and the place is free, but that of multicast is not given again; or
+-- there is none, and nothing changes
 abbrev pub ClosesHandle : ℤ → ℕ → Session → Session → Type 0
 ClosesHandle code k s t =
     (handle_at k s.handles.items ≡ None → (code ≡ no_handle) × (t ≡ s))
@@ -114,6 +120,7 @@ ClosesHandle code k s t =
     → (code ≡ ok) × (pending t h.number ≡ None) × ((w : Option ℕ) → w ≢ h.number → pending t w ≡ pending s w)
     × (t.handles.items ≡ slice_set s.handles.items k (slot.Free s.freed))
     × (k ≢ 0 → (ks : List ℕ) → HasFree s ks → HasFree t (k ∷ ks))
+    × (k ≡ 0 → (ks : List ℕ) → HasFree s ks → HasFree t ks)
     × (t.router.deliveries.port ≡ s.router.deliveries.port) × (t.router.next_seq ≡ s.router.next_seq)
     × (t.held ≡ s.held))
 
@@ -265,7 +272,8 @@ abbrev pub ReadsHandle : ℤ → HandleState → HandleState → Session → Ses
 ReadsHandle code h h' s t shown shown' =
     (h.ended ≡ true → (code ≡ ok) × (h' ≡ h) × GivesNothing s t shown shown')
     × (h.ended ≡ false → pending s h.number ≡ None
-    → (code ≡ no_handle) × (h' ≡ record h { ended = true }) × (t.router ≡ s.router) × (shown' ≡ shown))
+    → (code ≡ no_handle) × (h' ≡ record h { ended = true }) × (t.router ≡ s.router) × (t.held ≡ None)
+    × (shown' ≡ shown))
     × (h.ended ≡ false → pending s h.number ≡ Some []
     → (code ≡ waits) × (h' ≡ h) × GivesNothing s t shown shown')
     × (h.ended ≡ false → (d : Delivery) (ds : List Delivery) → pending s h.number ≡ Some (d ∷ ds)

@@ -93,6 +93,8 @@ fn free(handles: &mut Vec<Slot>, freed: &mut usize, k: usize) -> Option<Handle>
         → handles.new.items ≡ slice_set handles.old.items k (slot.Free freed.old) }
     ensures first { IsSome result → k ≢ 0 → (ks : List ℕ) → AreFree handles.old.items freed.old ks
         → AreFree handles.new.items freed.new (k ∷ ks) }
+    ensures multicast { IsSome result → k ≡ 0 → (ks : List ℕ)
+        → AreFree handles.old.items freed.old ks → AreFree handles.new.items freed.new ks }
     ensures none { IsNone result → (handles.new ≡ handles.old) × (freed.new ≡ freed.old) }
 {
     let Some(handle) = take(handles, k, *freed) else {
