@@ -82,7 +82,7 @@ pub enum DeError {
 }
 
 impl SerError {
-    /// The refusal in the words that `message` prints.
+    /// The refusal in the words that `message` prints, where its type states them.
     ///
     /// Refused only where memory runs out.
     pub fn new<D: fmt::Display + Drop>(alloc: Global, message: D) -> Result<SerError, NoMemory>
@@ -178,7 +178,7 @@ impl<T: Drop> From<AllocFailed<T>> for SerError {
 }
 
 impl DeError {
-    /// The refusal in the words that `message` prints.
+    /// The refusal in the words that `message` prints, where its type states them.
     ///
     /// Refused only where memory runs out.
     pub fn new<D: fmt::Display + Drop>(alloc: Global, message: D) -> Result<DeError, NoMemory>

@@ -40,7 +40,7 @@ impl Model for MsgError {
 }
 
 impl MsgError {
-    /// The message that prints what `message` prints.
+    /// The message that prints what `message` prints, where its type states that.
     ///
     /// Refused only where memory runs out.
     pub fn new<D: fmt::Display + Drop>(alloc: Global, message: D) -> Result<MsgError, NoMemory>

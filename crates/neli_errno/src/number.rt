@@ -24,7 +24,7 @@ impl Errno {
         table::errno_of(number)
     }
 
-    /// The number, from 1 to 133.
+    /// The number, as 22 for `EINVAL`.
     pub fn number(&self) -> u32
         ensures { result ≡ self.now.number }
     {

@@ -46,7 +46,7 @@ pub enum RouterError<T, P> {
 }
 
 impl<T, P> RouterError<T, P> {
-    /// The error in the words that `message` prints.
+    /// The error in the words that `message` prints, where its type states them.
     ///
     /// Refused only where memory runs out.
     pub fn new<D: fmt::Display + Drop>(

@@ -29,7 +29,7 @@ pub enum SocketError {
 }
 
 impl SocketError {
-    /// The error in the words that `message` prints.
+    /// The error in the words that `message` prints, where its type states them.
     ///
     /// Refused only where memory runs out.
     pub fn new<D: fmt::Display + Drop>(alloc: Global, message: D) -> Result<SocketError, NoMemory>

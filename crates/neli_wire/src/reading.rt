@@ -67,7 +67,7 @@ pub trait FromBytesWithInput: Sized + Debug + Drop {
     ghost takes_memory: { List ℕ → Type 0 };
 
     /// Reads the next `n` bytes as one value and moves past them. `InvalidInput(n)` where there are
-    /// fewer, or where a part of the value would need more. A refusal leaves the cursor where it was.
+    /// fewer; what else is refused, each type says. A refusal leaves the cursor where it was.
     fn from_bytes_with_input(
         alloc: Global,
         cursor: &mut Cursor<'_>,
@@ -93,7 +93,7 @@ pub trait FromBytesWithInput: Sized + Debug + Drop {
     // No byte list is refused because memory ran out by itself.
     ghost no_memory: { (s : List ℕ) → read s ≡ Err de.Memory → ⊥ };
 
-    // Bytes that are missing inside are an invalid input, and never `Io(UnexpectedEof)`.
+    // Bytes that are missing inside are never refused as `Io(UnexpectedEof)`.
     ghost never_short: { (s : List ℕ) → read s ≡ Err short → ⊥ };
 }
 
@@ -125,7 +125,7 @@ pub trait FromBytesWithInputBorrowed<'a>: Sized + Debug {
         ensures short { IfErr result (LacksPadding cursor.old) }
         ensures kept { OnErr result (cursor.new ≡ cursor.old) };
 
-    // Bytes that are missing inside are an invalid input, and never `Io(UnexpectedEof)`.
+    // Bytes that are missing inside are never refused as `Io(UnexpectedEof)`.
     ghost never_short: { (s : List ℕ) → read s ≡ Err short → ⊥ };
 }
 
