@@ -26,7 +26,7 @@ use neli_list::{
     AttrHandle, FrameList, Retyped, ToTyped, TryClone, TypedPayload, handle_of_payload,
     read_borrowed,
 };
-use neli_wire::implementing::padded_length;
+use neli_wire::implementing::{length_refusal, padded_length};
 use neli_wire::{
     Cursor, DeError, FromBytes, FromBytesWithInput, FromBytesWithInputBorrowed, Header, NoMemory,
     SerError, Size, ToBytes, UninitializedFieldError,
@@ -326,7 +326,7 @@ impl<T: NlAttrType, P: ToBytes + Drop> NlattrBuilder<T, P> {
             .ok_or(UninitializedFieldError::new("nla_payload"))?;
         let nla_payload = written(alloc, &payload)?;
         let nla_len = frame_length(&nla_payload).ok_or(BuildError::ValidationError(
-            "Length does not fit its field",
+            length_refusal(),
         ))?;
         Ok(Nlattr {
             nla_len,

@@ -23,7 +23,7 @@ use neli_consts_attrs::RtaType;
 use neli_list::{
     AttrHandle, FrameList, Retyped, TryClone, TypedPayload, handle_of_payload, read_borrowed,
 };
-use neli_wire::implementing::padded_length;
+use neli_wire::implementing::{length_refusal, padded_length};
 use neli_wire::{
     Cursor, DeError, FromBytes, FromBytesWithInput, FromBytesWithInputBorrowed, Header, NoMemory,
     SerError, Size, ToBytes, UninitializedFieldError,
@@ -289,7 +289,7 @@ impl<T: RtaType, P: ToBytes + Drop> RtattrBuilder<T, P> {
             .ok_or(UninitializedFieldError::new("rta_payload"))?;
         let rta_payload = written(alloc, &payload)?;
         let rta_len = frame_length(&rta_payload).ok_or(BuildError::ValidationError(
-            "Length does not fit its field",
+            length_refusal(),
         ))?;
         Ok(Rtattr {
             rta_len,

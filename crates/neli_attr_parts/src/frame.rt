@@ -9,7 +9,7 @@ ghost use Rattle.neli_attr_parts.specs.Attributes.{attr, attribute, attribute_pa
 ghost use Rattle.neli_attr_parts.specs.laws.Steps.{attribute_at, attribute_takes_memory};
 
 use crate::Buffer;
-use neli_wire::implementing::{pad_from, read_padded_payload, undo_on_refusal};
+use neli_wire::implementing::{length_refusal, pad_from, read_padded_payload, undo_on_refusal};
 use neli_wire::{
     Constant, Cursor, DeError, FromBytes, FromBytesWithInput, MsgError, SerError, Size, ToBytes,
 };
@@ -68,11 +68,10 @@ fn write_fields<K: Constant<Number = u16>, P: ToBytes>(
     payload: &P,
     buffer: &mut Vec<u8>,
 ) -> Result<(), SerError>
-    ensures appended { let wire = attribute_wire len (K.wire_number kind.now)
-        (P.wire payload.now) in
-        OnOk result (append_wire buffer.old.items wire ≡ Ok buffer.new.items) }
-    ensures refused { let wire = attribute_wire len (K.wire_number kind.now) (P.wire payload.now) in
-        IfErr result (RefusesWrite wire) }
+    ensures appended { OnOk result (append_wire buffer.old.items
+        (attribute_wire len (K.wire_number kind.now) (P.wire payload.now)) ≡ Ok buffer.new.items) }
+    ensures refused { IfErr result
+        (RefusesWrite (attribute_wire len (K.wire_number kind.now) (P.wire payload.now))) }
     ensures front { OnErr result
         (take (length buffer.old.items) buffer.new.items ≡ buffer.old.items) }
 {
@@ -91,11 +90,10 @@ pub fn write_attribute<K: Constant<Number = u16>, P: ToBytes>(
     payload: &P,
     buffer: &mut Vec<u8>,
 ) -> Result<(), SerError>
-    ensures appended { let wire = attribute_wire len (K.wire_number kind.now)
-        (P.wire payload.now) in
-        OnOk result (append_wire buffer.old.items wire ≡ Ok buffer.new.items) }
-    ensures refused { let wire = attribute_wire len (K.wire_number kind.now) (P.wire payload.now) in
-        IfErr result (RefusesWrite wire) }
+    ensures appended { OnOk result (append_wire buffer.old.items
+        (attribute_wire len (K.wire_number kind.now) (P.wire payload.now)) ≡ Ok buffer.new.items) }
+    ensures refused { IfErr result
+        (RefusesWrite (attribute_wire len (K.wire_number kind.now) (P.wire payload.now))) }
     ensures unchanged { OnErr result (buffer.new.items ≡ buffer.old.items) }
 {
     let start = buffer.len();
@@ -128,7 +126,7 @@ pub fn frame_length(payload: &Buffer) -> Option<u16>
 fn too_long() -> SerError
     ensures { result ≡ SerError.Msg (codes "Length does not fit its field") }
 {
-    SerError::Msg(MsgError::from_static("Length does not fit its field"))
+    SerError::Msg(MsgError::from_static(length_refusal()))
 }
 
 /// The wire bytes of a payload and the length of an attribute with it.

@@ -12,6 +12,7 @@ use neli_attr::{BuildError, TryClone, of};
 use neli_body::numbers::{u16_in, u32_in};
 use neli_body::{FixedHeader, HeaderBytes, read_body, size_of_body, write_body};
 use neli_consts_system::{CnMsgIdx, CnMsgVal};
+use neli_wire::implementing::length_refusal;
 use neli_wire::{
     Constant, Cursor, DeError, FromBytesWithInput, Header, NoMemory, SerError, Size, ToBytes,
     UninitializedFieldError,
@@ -313,9 +314,9 @@ impl<P: Size + Drop> CnMsgBuilder<P> {
         let idx = self.idx.ok_or(UninitializedFieldError::new("idx"))?;
         let val = self.val.ok_or(UninitializedFieldError::new("val"))?;
         let payload = self.payload.ok_or(UninitializedFieldError::new("payload"))?;
-        let len = u16::try_from(payload.written_size()).ok().ok_or(BuildError::ValidationError(
-            "Length does not fit its field",
-        ))?;
+        let len = u16::try_from(payload.written_size())
+            .ok()
+            .ok_or(BuildError::ValidationError(length_refusal()))?;
         let header = CnMsgHeader {
             idx,
             val,

@@ -5,6 +5,7 @@ ghost use Rattle.neli_kernel.specs.Answers.{RefusesMessage, message_or_refusal, 
 
 use neli_consts::{NlType, NlmF};
 use neli_reader::{NlPayload, NlmsghdrBuilder};
+use neli_wire::implementing::length_refusal;
 use neli_wire::{MsgError, SerError, ToBytes};
 use std::alloc::Global;
 
@@ -32,7 +33,7 @@ pub(crate) fn message<T: NlType + Drop, P: ToBytes + Drop>(
         .nl_payload(payload)
         .build();
     let Ok(message) = built else {
-        return Err(SerError::Msg(MsgError::from_static("Length does not fit its field")));
+        return Err(SerError::Msg(MsgError::from_static(length_refusal())));
     };
     let mut bytes = Vec::new(alloc);
     message.to_bytes(&mut bytes)?;

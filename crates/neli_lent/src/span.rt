@@ -13,6 +13,7 @@ use neli_attr::Buffer;
 use neli_consts::NlType;
 use neli_list::read_whole;
 use neli_reader::{NlPayload, Nlmsghdr, NlmsghdrAck, RouterError};
+use neli_wire::implementing::length_refusal;
 use neli_wire::{Cursor, FromBytesWithInput, MsgError, Size};
 use std::alloc::Global;
 
@@ -36,7 +37,7 @@ fn with_body<T: NlType, P: FromBytesWithInput + Size>(
     let mut message = Nlmsghdr::from_header(header.to_typed(), NlPayload::Empty);
     match message.set_payload(NlPayload::Payload(body)) {
         Ok(()) => Ok(message),
-        Err(_) => Err(RouterError::Msg(MsgError::from_static("Length does not fit its field"))),
+        Err(_) => Err(RouterError::Msg(MsgError::from_static(length_refusal()))),
     }
 }
 

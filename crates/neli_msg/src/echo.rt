@@ -20,7 +20,7 @@ use crate::{NlmsghdrAck, RouterError};
 use neli_attr::{Buffer, BuildError, of};
 use neli_consts::{NlType, NlmF};
 use neli_list::{TryClone, read_whole};
-use neli_wire::implementing::padded_length;
+use neli_wire::implementing::{length_refusal, padded_length};
 use neli_wire::{
     Cursor, DeError, FromBytes, FromBytesWithInput, Header, MsgError, NoMemory, SerError, Size,
     ToBytes, UninitializedFieldError, alignto,
@@ -248,9 +248,7 @@ impl<T: NlType + Drop, P: Size + Drop> NlmsghdrErrBuilder<T, P> {
         let payload = self
             .nl_payload
             .ok_or(UninitializedFieldError::new("nl_payload"))?;
-        let len = frame_length(&payload).ok_or(BuildError::ValidationError(
-            "Length does not fit its field",
-        ))?;
+        let len = frame_length(&payload).ok_or(BuildError::ValidationError(length_refusal()))?;
         let header = NlmsghdrAck {
             len,
             message_type,
@@ -302,7 +300,7 @@ impl NlmsghdrErr<u16, Buffer> {
     {
         let payload: P = read_whole(alloc, self.payload.as_ref())?;
         let Some(len) = frame_length(&payload) else {
-            return Err(RouterError::Msg(MsgError::from_static("Length does not fit its field")));
+            return Err(RouterError::Msg(MsgError::from_static(length_refusal())));
         };
         let header = self.header.to_typed().with_len(len);
         Ok(NlmsghdrErr { header, payload })

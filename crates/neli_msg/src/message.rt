@@ -22,7 +22,7 @@ use crate::{NlPayload, Nlmsgerr, NlmsghdrAck, NlmsghdrErr, RouterError};
 use neli_attr::{Buffer, BuildError, of};
 use neli_consts::{NlType, NlmF};
 use neli_list::TryClone;
-use neli_wire::implementing::padded_length;
+use neli_wire::implementing::{length_refusal, padded_length};
 use neli_wire::{
     Cursor, DeError, FromBytes, FromBytesWithInput, Header, MsgError, NoMemory, SerError, Size,
     ToBytes, UninitializedFieldError, alignto,
@@ -261,9 +261,7 @@ impl<T: NlType + Drop, P: Size + Drop> NlmsghdrBuilder<T, P> {
         let payload = self
             .nl_payload
             .ok_or(UninitializedFieldError::new("nl_payload"))?;
-        let len = frame_length(&payload).ok_or(BuildError::ValidationError(
-            "Length does not fit its field",
-        ))?;
+        let len = frame_length(&payload).ok_or(BuildError::ValidationError(length_refusal()))?;
         let header = NlmsghdrAck {
             len,
             message_type,
@@ -346,7 +344,7 @@ impl<T: NlType, P: Size + Drop> Nlmsghdr<T, P> {
         ensures unchanged { OnErr result (self.new ≡ self.old) }
     {
         let Some(len) = frame_length(&payload) else {
-            return Err(SerError::Msg(MsgError::from_static("Length does not fit its field")));
+            return Err(SerError::Msg(MsgError::from_static(length_refusal())));
         };
         self.header = self.header.with_len(len);
         self.payload = payload;
@@ -395,7 +393,7 @@ impl Nlmsghdr<u16, Buffer> {
     {
         let payload: NlPayload<T, P> = self.payload.to_typed(alloc, self.payload.body_len())?;
         let Some(len) = frame_length(&payload) else {
-            return Err(RouterError::Msg(MsgError::from_static("Length does not fit its field")));
+            return Err(RouterError::Msg(MsgError::from_static(length_refusal())));
         };
         let header = self.header.to_typed().with_len(len);
         Ok(Nlmsghdr { header, payload })

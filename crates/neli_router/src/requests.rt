@@ -10,6 +10,7 @@ use neli_attr::{AttrType, Buffer, BuildError, GenlBuffer, Nlattr, NlattrBuilder}
 use neli_consts::{CtrlAttr, CtrlCmd, GenlId, NlmF};
 use neli_genl::{Genlmsghdr, GenlmsghdrBuilder};
 use neli_reader::{NlPayload, RouterError};
+use neli_wire::implementing::length_refusal;
 use neli_wire::{MsgError, NoMemory};
 use std::alloc::Global;
 
@@ -69,7 +70,7 @@ impl<D: Deliveries> NlRouter<D> {
             return Err(RouterError::SeqInUse(number));
         }
         if MAX_NAME_LENGTH < name.len() {
-            return Err(RouterError::Msg(MsgError::from_static("Length does not fit its field")));
+            return Err(RouterError::Msg(MsgError::from_static(length_refusal())));
         }
         let body = family_request(alloc, name)?;
         self.send(alloc, GenlId::Ctrl, NlmF::ACK, NlPayload::Payload(body))

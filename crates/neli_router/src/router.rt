@@ -18,6 +18,7 @@ use neli_genl::Genlmsghdr;
 use neli_log::Log;
 use neli_reader::{NlPayload, NlmsghdrBuilder, RouterError, SocketError};
 use neli_util::Groups;
+use neli_wire::implementing::length_refusal;
 use neli_wire::{FromBytesWithInput, MsgError, NoMemory, Size, ToBytes};
 use std::alloc::Global;
 
@@ -266,7 +267,7 @@ fn frame<ST: NlType, SP: ToBytes + Drop>(
         .nl_payload(nl_payload)
         .build();
     let Ok(message) = request else {
-        return Err(RouterError::Msg(MsgError::from_static("Length does not fit its field")));
+        return Err(RouterError::Msg(MsgError::from_static(length_refusal())));
     };
     let mut bytes = Vec::new(alloc);
     match message.to_bytes(&mut bytes) {

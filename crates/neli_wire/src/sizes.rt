@@ -1,6 +1,6 @@
 //! Sizes of values, and lengths rounded up to four.
 
-ghost use Rattle.std.specs.Prelude.{◌≡◌, ◌≤◌, ℕ, min};
+ghost use Rattle.std.specs.Prelude.{◌≡◌, ◌≤◌, ℕ, codes, min};
 ghost use Rattle.neli_wire.specs.Sizes.{align, IsRounded};
 
 /// A length rounded up to four, as the kernel's `NLMSG_ALIGN`, `NLA_ALIGN` and `RTA_ALIGN` do
@@ -27,6 +27,13 @@ pub fn padded_length(size: usize) -> usize
     }
 }
 
+/// What a refusal prints where a length does not fit the field that is to state it.
+pub fn length_refusal() -> &'static str
+    ensures { result.now ≡ codes "Length does not fit its field" }
+{
+    "Length does not fit its field"
+}
+
 /// How many bytes a value takes; `usize::MAX` where that is larger.
 pub trait Size {
     // The length of a value's wire bytes without padding at its end.
@@ -46,8 +53,8 @@ pub trait Size {
         padded_length(self.unpadded_size())
     }
 
-    /// How many bytes `ToBytes::to_bytes` appends: the padded size of attributes and messages, the
-    /// unpadded size of all other values.
+    /// How many bytes `ToBytes::to_bytes` appends: the unpadded size or the padded one, by type.
+    /// Attributes and messages of this library are padded, its other values are not.
     fn written_size(&self) -> usize
         ensures { result ≡ min (wire_length self.now) usize.MAX };
 
