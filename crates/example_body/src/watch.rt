@@ -4,8 +4,10 @@ ghost use Rattle.std.specs.Prelude.{◌≡◌, ◌+◌, ◌<◌, ℕ, List, Ok, 
 ghost use Rattle.neli.specs.wire.Place.{whole};
 ghost use Rattle.neli.specs.wire.Refusals.{Refuses};
 ghost use Rattle.neli.specs.wire.Writing.{RefusesWrite, append_wire};
-ghost use Rattle.example_body.specs.Watch.{Seen, seen, watch_wire, watch_size, watch_fields, watch_takes_memory, watch_of};
-ghost use Rattle.example_body.specs.laws.Watch.{watch_wire-length, watch_wire-no_memory, watch_of-no_memory, watch_of-never_short};
+ghost use Rattle.example_body.specs.Watch.{Seen, seen, watch_wire, watch_size};
+ghost use Rattle.example_body.specs.Watch.{watch_fields, watch_takes_memory, watch_of};
+ghost use Rattle.example_body.specs.laws.Watch.{watch_wire-length, watch_wire-no_memory};
+ghost use Rattle.example_body.specs.laws.Watch.{watch_of-no_memory, watch_of-never_short};
 
 use neli::err::{DeError, SerError};
 use neli::implementing::{read_all, undo_on_refusal, within_input};
@@ -76,7 +78,8 @@ impl ToBytes for Watch {
 #[tactic(auto, using(neli::specs::laws::Reading::refused_first), unfolding(crate::specs::Watch::watch_fields, crate::specs::Watch::watch_takes_memory))]
 fn read_fields(alloc: Global, bytes: &[u8]) -> Result<Watch, DeError>
     ensures value { IfOk result (λ w. watch_fields bytes.now ≡ Ok (seen w)) }
-    ensures refused { IfErr result (Refuses (watch_fields bytes.now) (watch_takes_memory bytes.now)) }
+    ensures refused { IfErr result
+        (Refuses (watch_fields bytes.now) (watch_takes_memory bytes.now)) }
 {
     let mut cursor = Cursor::new(bytes);
     let port = u16::from_bytes(alloc, &mut cursor)?;

@@ -2,7 +2,8 @@
 use Rattle.std.specs.Prelude.{ℕ, List, [], ◌∷◌}
 use Rattle.neli.specs.wire.Constants.{first_with}
 use Rattle.example_enum.specs.declared.command.WirelessCommand.{WirelessCommand}
-use Rattle.example_enum.specs.declared.command.WirelessCommand.TheVariants.{GetInterface, NewInterface, GetScan, TriggerScan, UnrecognizedConst}
+use Rattle.example_enum.specs.declared.command.WirelessCommand.TheVariants.{GetInterface, NewInterface, GetScan}
+use Rattle.example_enum.specs.declared.command.WirelessCommand.TheVariants.{TriggerScan, UnrecognizedConst}
 
 -- the number of each variant
 abbrev pub wireless_command_number : WirelessCommand → ℕ

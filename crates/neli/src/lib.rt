@@ -47,8 +47,8 @@
 //!
 //! # A client of generic netlink
 //!
-//! [`genl`] has the body and its attributes, [`consts::genl`] the controller's numbers. A family's number is told by its
-//! name; commands and attributes of the family are numbers, or enums of your own. A request to a family:
+//! [`genl`] has the body and its attributes, [`consts::genl`] the controller's numbers. A family's number is told by
+//! its name; commands and attributes of the family are numbers, or enums of your own. A request to a family:
 //!
 //! ```
 //! use neli::consts::nl::NlmF;
@@ -81,8 +81,8 @@
 //!
 //! # Process events
 //!
-//! [`connector`] has the message and the events. The request is the payload of a message of type `Nlmsg::Done`; events come
-//! to a group, so a router gives them to multicast. Here a datagram is read without one:
+//! [`connector`] has the message and the events. The request is the payload of a message of type `Nlmsg::Done`; events
+//! come to a group, so a router gives them to multicast. Here a datagram is read without one:
 //!
 //! ```
 //! use neli::connector::{CnMsg, CnMsgBuilder, ProcEvent, ProcEventHeader};
@@ -112,8 +112,8 @@
 //! # A simulator
 //!
 //! What a kernel would say is built and written as a request is, by hand as here, or by [`simulator`], which makes its
-//! acknowledgements, errors, replies, dumps and notifications. [`router::synchronous::run`] does a whole list of commands
-//! with one router, and answers what came of each. A link is told to who asked for it:
+//! acknowledgements, errors, replies, dumps and notifications. [`router::synchronous::run`] does a whole list of
+//! commands with one router, and answers what came of each. A link is told to who asked for it:
 //!
 //! ```
 //! use neli::consts::nl::NlmF;

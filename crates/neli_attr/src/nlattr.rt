@@ -13,8 +13,10 @@ ghost use Rattle.neli_attr.specs.AttrType.{AttrType as Field};
 ghost use Rattle.neli_attr.specs.Attributes.{Attr, attr, attribute, attributes_in, nested_payload};
 ghost use Rattle.neli_attr.specs.Builders.{IsWhyNot};
 ghost use Rattle.neli_attr.specs.laws.Attributes.{attribute-local, attribute-no_memory};
-ghost use Rattle.neli_attr.specs.Nlattr.{built_nlattr, nlattr_says, nlattr_wire, with_bytes, nested_with, nlattr_eq, typed_attribute};
-ghost use Rattle.neli_attr.specs.laws.Nlattr.{nlattr_wire-length, nlattr_wire-no_memory, nlattr_wire-zeros, nlattr_equiv, nlattr_per};
+ghost use Rattle.neli_attr.specs.Nlattr.{built_nlattr, nlattr_says, nlattr_wire, with_bytes};
+ghost use Rattle.neli_attr.specs.Nlattr.{nested_with, nlattr_eq, typed_attribute};
+ghost use Rattle.neli_attr.specs.laws.Nlattr.{nlattr_wire-length, nlattr_wire-no_memory, nlattr_wire-zeros};
+ghost use Rattle.neli_attr.specs.laws.Nlattr.{nlattr_equiv, nlattr_per};
 
 use crate::{AttrType, Attribute, Buffer, BuildError, of};
 use neli_attr_parts::frame::{

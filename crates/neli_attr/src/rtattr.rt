@@ -211,7 +211,8 @@ impl<T: RtaType, P: FromBytesWithInput> FromBytes for Rtattr<T, P> {
 
     ghost read = { frame_at (attribute T.wire_value P.read) };
 
-    ghost takes_memory = { frame_takes_memory (attribute T.wire_value P.read) (λ _. P.takes_memory) };
+    ghost takes_memory = { frame_takes_memory (attribute T.wire_value P.read)
+        (λ _. P.takes_memory) };
 
     ghost local = { attribute-local T.wire_value P.read };
 

@@ -1,4 +1,5 @@
--- Attributes: a header of four bytes, which are the length of the whole and the type, then a payload, and padding to four bytes.
+-- Attributes: a header of four bytes, which are the length of the whole and the type, then a payload, and padding to
+-- four bytes.
 use Rattle.std.specs.Prelude.{ℕ, ◌+◌, List, codes, length, Result, Ok, Err, nat_lt, if◌then◌else◌}
 use Rattle.byteorder.specs.Endian.{little_bytes}
 use Rattle.neli_wire.specs.DeError.{DeError}

@@ -1,5 +1,6 @@
 -- Builders: what they make of the fields that they were given, or why they make nothing.
-use Rattle.std.specs.Prelude.{◌≡◌, ℕ, ◌+◌, List, codes, length, Option, Some, None, Result, Ok, Err, nat_lt, if◌then◌else◌}
+use Rattle.std.specs.Prelude.{◌≡◌, ℕ, ◌+◌, List, codes, length, Option}
+use Rattle.std.specs.Prelude.{Some, None, Result, Ok, Err, nat_lt, if◌then◌else◌}
 use Rattle.neli_wire.specs.Messages.{uninitialized}
 use Rattle.neli_wire.specs.Writing.{Wire}
 use Rattle.neli_wire.specs.SerError.{SerError}

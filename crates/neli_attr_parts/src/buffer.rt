@@ -1,6 +1,7 @@
 //! Bytes that a value owns.
 
-ghost use Rattle.std.specs.Prelude.{◌≡◌, ◌<◌, ◌++◌, ◌↔◌, ℕ, List, [], Ok, Err, Some, IfOk, OnOk, OnErr, IsTrue, codes, length, nat_eq, refl};
+ghost use Rattle.std.specs.Prelude.{◌≡◌, ◌<◌, ◌++◌, ◌↔◌, ℕ, List, [], Ok, Err};
+ghost use Rattle.std.specs.Prelude.{Some, IfOk, OnOk, OnErr, IsTrue, codes, length, nat_eq, refl};
 ghost use Rattle.std.specs.Borrow.{sem};
 ghost use Rattle.std.specs.Cmp.{partial_equiv_from_equiv};
 ghost use Rattle.std.specs.Cmp.Lexicographic.{pointwise};

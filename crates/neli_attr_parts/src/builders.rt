@@ -87,8 +87,8 @@ pub enum BuildError<const OF: u8> {
 impl<const OF: u8> BuildError<OF> {
     ghost use Rattle.neli_attr_parts.specs.Builders.{message_in};
 
-    /// The words that it prints, as the message of an error that is told in words; none where memory ran out. It takes no
-    /// memory.
+    /// The words that it prints, as the message of an error that is told in words; none where memory ran out. It takes
+    /// no memory.
     pub fn into_message(self) -> Option<MsgError>
         ensures { result ≡ message_in self.entry }
     {

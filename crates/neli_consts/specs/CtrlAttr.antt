@@ -2,7 +2,8 @@
 use Rattle.std.specs.Prelude.{ℕ, Bool, true, false, List, [], ◌∷◌}
 use Rattle.neli_wire.specs.Constants.{first_with}
 use Rattle.neli_consts.specs.declared.genl.CtrlAttr.{CtrlAttr}
-use Rattle.neli_consts.specs.declared.genl.CtrlAttr.TheVariants.{Unspec, FamilyId, FamilyName, Version, Hdrsize, Maxattr, Ops, McastGroups, UnrecognizedConst}
+use Rattle.neli_consts.specs.declared.genl.CtrlAttr.TheVariants.{Unspec, FamilyId, FamilyName, Version, Hdrsize}
+use Rattle.neli_consts.specs.declared.genl.CtrlAttr.TheVariants.{Maxattr, Ops, McastGroups, UnrecognizedConst}
 
 -- the number of each variant
 abbrev pub ctrl_attr_number : CtrlAttr → ℕ

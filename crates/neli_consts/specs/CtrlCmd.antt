@@ -2,7 +2,9 @@
 use Rattle.std.specs.Prelude.{ℕ, Bool, true, false, List, [], ◌∷◌}
 use Rattle.neli_wire.specs.Constants.{first_with}
 use Rattle.neli_consts.specs.declared.genl.CtrlCmd.{CtrlCmd}
-use Rattle.neli_consts.specs.declared.genl.CtrlCmd.TheVariants.{Unspec, Newfamily, Delfamily, Getfamily, Newops, Delops, Getops, NewmcastGrp, DelmcastGrp, GetmcastGrp, UnrecognizedConst}
+use Rattle.neli_consts.specs.declared.genl.CtrlCmd.TheVariants.{Unspec, Newfamily, Delfamily, Getfamily}
+use Rattle.neli_consts.specs.declared.genl.CtrlCmd.TheVariants.{Newops, Delops, Getops, NewmcastGrp}
+use Rattle.neli_consts.specs.declared.genl.CtrlCmd.TheVariants.{DelmcastGrp, GetmcastGrp, UnrecognizedConst}
 
 -- the number of each variant
 abbrev pub ctrl_cmd_number : CtrlCmd → ℕ

@@ -2,13 +2,16 @@
 use Rattle.std.specs.Prelude.{ℕ, Bool, List, [], ◌∷◌}
 use Rattle.neli_wire.specs.Constants.{reading, first_recognized}
 use Rattle.neli_consts.specs.CtrlAttr.{ctrl_attr_number, ctrl_attr_of, ctrl_attr_is_unrecognized}
-use Rattle.neli_consts.specs.CtrlAttrMcastGrp.{ctrl_attr_mcast_grp_number, ctrl_attr_mcast_grp_of, ctrl_attr_mcast_grp_is_unrecognized}
+use Rattle.neli_consts.specs.CtrlAttrMcastGrp.{ctrl_attr_mcast_grp_number, ctrl_attr_mcast_grp_of}
+use Rattle.neli_consts.specs.CtrlAttrMcastGrp.{ctrl_attr_mcast_grp_is_unrecognized}
 use Rattle.neli_consts_system.specs.NfLogAttr.{nf_log_attr_number, nf_log_attr_of, nf_log_attr_is_unrecognized}
 use Rattle.neli_consts_system.specs.NfLogCfg.{nf_log_cfg_number, nf_log_cfg_of, nf_log_cfg_is_unrecognized}
 use Rattle.neli_consts.specs.Index.{index_number, index_of, index_is_unrecognized}
 use Rattle.neli_consts.specs.NlmsgerrAttr.{nlmsgerr_attr_number, nlmsgerr_attr_of, nlmsgerr_attr_is_unrecognized}
 use Rattle.neli_consts.specs.declared.nl_attr_type.NlAttrTypeWrapper.{NlAttrTypeWrapper}
-use Rattle.neli_consts.specs.declared.nl_attr_type.NlAttrTypeWrapper.TheVariants.{CtrlAttr, CtrlAttrMcastGrp, NfLogAttr, NfLogCfg, Index, NlmsgerrAttr, UnrecognizedConst}
+use Rattle.neli_consts.specs.declared.nl_attr_type.NlAttrTypeWrapper.TheVariants.{CtrlAttr, CtrlAttrMcastGrp, NfLogAttr}
+use Rattle.neli_consts.specs.declared.nl_attr_type.NlAttrTypeWrapper.TheVariants.{NfLogCfg, Index, NlmsgerrAttr}
+use Rattle.neli_consts.specs.declared.nl_attr_type.NlAttrTypeWrapper.TheVariants.{UnrecognizedConst}
 
 -- the number of each value
 abbrev pub nl_attr_type_wrapper_number : NlAttrTypeWrapper → ℕ

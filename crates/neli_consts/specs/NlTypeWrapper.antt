@@ -6,7 +6,8 @@ use Rattle.neli_consts.specs.GenlId.{genl_id_number, genl_id_of, genl_id_is_unre
 use Rattle.neli_consts_routing.specs.Rtm.{rtm_number, rtm_of, rtm_is_unrecognized}
 use Rattle.neli_consts_system.specs.NetfilterMsg.{netfilter_msg_number, netfilter_msg_of, netfilter_msg_is_unrecognized}
 use Rattle.neli_consts.specs.declared.nl_type.NlTypeWrapper.{NlTypeWrapper}
-use Rattle.neli_consts.specs.declared.nl_type.NlTypeWrapper.TheVariants.{Nlmsg, GenlId, Rtm, NetfilterMsg, UnrecognizedConst}
+use Rattle.neli_consts.specs.declared.nl_type.NlTypeWrapper.TheVariants.{Nlmsg, GenlId, Rtm}
+use Rattle.neli_consts.specs.declared.nl_type.NlTypeWrapper.TheVariants.{NetfilterMsg, UnrecognizedConst}
 
 -- the number of each value
 abbrev pub nl_type_wrapper_number : NlTypeWrapper → ℕ

@@ -2,7 +2,8 @@
 use Rattle.std.specs.Prelude.{ℕ, Bool, true, false, List, [], ◌∷◌}
 use Rattle.neli_wire.specs.Constants.{first_with}
 use Rattle.neli_consts.specs.declared.nlmsg.NlmsgerrAttr.{NlmsgerrAttr}
-use Rattle.neli_consts.specs.declared.nlmsg.NlmsgerrAttr.TheVariants.{Unused, Msg, Offset, Cookie, Policy, UnrecognizedConst}
+use Rattle.neli_consts.specs.declared.nlmsg.NlmsgerrAttr.TheVariants.{Unused, Msg, Offset}
+use Rattle.neli_consts.specs.declared.nlmsg.NlmsgerrAttr.TheVariants.{Cookie, Policy, UnrecognizedConst}
 
 -- the number of each variant
 abbrev pub nlmsgerr_attr_number : NlmsgerrAttr → ℕ

@@ -5,7 +5,8 @@ ghost use Rattle.std.specs.Prelude.{◌≡◌};
 ghost use Rattle.neli_consts.specs.GenlId.{genl_id_number, genl_id_of, genl_id_is_unrecognized};
 ghost use Rattle.neli_consts.specs.CtrlCmd.{ctrl_cmd_number, ctrl_cmd_of, ctrl_cmd_is_unrecognized};
 ghost use Rattle.neli_consts.specs.CtrlAttr.{ctrl_attr_number, ctrl_attr_of, ctrl_attr_is_unrecognized};
-ghost use Rattle.neli_consts.specs.CtrlAttrMcastGrp.{ctrl_attr_mcast_grp_number, ctrl_attr_mcast_grp_of, ctrl_attr_mcast_grp_is_unrecognized};
+ghost use Rattle.neli_consts.specs.CtrlAttrMcastGrp.{ctrl_attr_mcast_grp_number, ctrl_attr_mcast_grp_of};
+ghost use Rattle.neli_consts.specs.CtrlAttrMcastGrp.{ctrl_attr_mcast_grp_is_unrecognized};
 ghost use Rattle.neli_wire.specs.laws.Constants.{first_with-number};
 
 use neli_wire::Constant;

@@ -2,7 +2,13 @@
 use Rattle.std.specs.Prelude.{ℕ, Bool, true, false, List, [], ◌∷◌}
 use Rattle.neli_wire.specs.Constants.{first_with}
 use Rattle.neli_consts_attrs.specs.declared.rules.Frattr.{Frattr}
-use Rattle.neli_consts_attrs.specs.declared.rules.Frattr.TheVariants.{Unspec, Dst, Src, Iifname, Ifname, Goto, Unused2, Priority, Unused3, Unused4, Unused5, Fwmark, Flow, TunId, SuppressIfgroup, SuppressPrefixlen, Table, Fwmask, Oifname, Pad, L3mdev, UidRange, Protocol, IpProto, SportRange, DportRange, Dscp, Flowlabel, FlowlabelMask, SportMask, DportMask, DscpMask, Max, UnrecognizedConst}
+use Rattle.neli_consts_attrs.specs.declared.rules.Frattr.TheVariants.{Unspec, Dst, Src, Iifname, Ifname, Goto, Unused2}
+use Rattle.neli_consts_attrs.specs.declared.rules.Frattr.TheVariants.{Priority, Unused3, Unused4, Unused5, Fwmark, Flow}
+use Rattle.neli_consts_attrs.specs.declared.rules.Frattr.TheVariants.{TunId, SuppressIfgroup, SuppressPrefixlen, Table}
+use Rattle.neli_consts_attrs.specs.declared.rules.Frattr.TheVariants.{Fwmask, Oifname, Pad, L3mdev, UidRange, Protocol}
+use Rattle.neli_consts_attrs.specs.declared.rules.Frattr.TheVariants.{IpProto, SportRange, DportRange, Dscp, Flowlabel}
+use Rattle.neli_consts_attrs.specs.declared.rules.Frattr.TheVariants.{FlowlabelMask, SportMask, DportMask, DscpMask}
+use Rattle.neli_consts_attrs.specs.declared.rules.Frattr.TheVariants.{Max, UnrecognizedConst}
 
 -- the number of each variant
 abbrev pub frattr_number : Frattr → ℕ

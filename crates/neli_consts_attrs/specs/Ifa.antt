@@ -2,7 +2,9 @@
 use Rattle.std.specs.Prelude.{ℕ, Bool, true, false, List, [], ◌∷◌}
 use Rattle.neli_wire.specs.Constants.{first_with}
 use Rattle.neli_consts_attrs.specs.declared.addresses.Ifa.{Ifa}
-use Rattle.neli_consts_attrs.specs.declared.addresses.Ifa.TheVariants.{Unspec, Address, Local, Label, Broadcast, Anycast, Cacheinfo, Multicast, Flags, UnrecognizedConst}
+use Rattle.neli_consts_attrs.specs.declared.addresses.Ifa.TheVariants.{Unspec, Address, Local, Label}
+use Rattle.neli_consts_attrs.specs.declared.addresses.Ifa.TheVariants.{Broadcast, Anycast, Cacheinfo, Multicast}
+use Rattle.neli_consts_attrs.specs.declared.addresses.Ifa.TheVariants.{Flags, UnrecognizedConst}
 
 -- the number of each variant
 abbrev pub ifa_number : Ifa → ℕ

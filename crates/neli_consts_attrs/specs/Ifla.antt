@@ -2,7 +2,18 @@
 use Rattle.std.specs.Prelude.{ℕ, Bool, true, false, List, [], ◌∷◌}
 use Rattle.neli_wire.specs.Constants.{first_with}
 use Rattle.neli_consts_attrs.specs.declared.links.Ifla.{Ifla}
-use Rattle.neli_consts_attrs.specs.declared.links.Ifla.TheVariants.{Unspec, Address, Broadcast, Ifname, Mtu, Link, Qdisc, Stats, Cost, Priority, Master, Wireless, Protinfo, Txqlen, Map, Weight, Operstate, Linkmode, Linkinfo, NetNsPid, Ifalias, NumVf, VfinfoList, Stats64, VfPorts, PortSelf, AfSpec, Group, NetNsFd, ExtMask, Promiscuity, NumTxQueues, NumRxQueues, Carrier, PhysPortId, CarrierChanges, PhysSwitchId, LinkNetnsid, PhysPortName, ProtoDown, GsoMaxSegs, GsoMaxSize, Pad, Xdp, Event, NewNetnsid, IfNetnsid, CarrierUpCount, CarrierDownCount, NewIfindex, MinMtu, MaxMtu, PropList, AltIfname, PermAddress, ProtoDownReason, UnrecognizedConst}
+use Rattle.neli_consts_attrs.specs.declared.links.Ifla.TheVariants.{Unspec, Address, Broadcast, Ifname, Mtu, Link}
+use Rattle.neli_consts_attrs.specs.declared.links.Ifla.TheVariants.{Qdisc, Stats, Cost, Priority, Master, Wireless}
+use Rattle.neli_consts_attrs.specs.declared.links.Ifla.TheVariants.{Protinfo, Txqlen, Map, Weight, Operstate, Linkmode}
+use Rattle.neli_consts_attrs.specs.declared.links.Ifla.TheVariants.{Linkinfo, NetNsPid, Ifalias, NumVf, VfinfoList}
+use Rattle.neli_consts_attrs.specs.declared.links.Ifla.TheVariants.{Stats64, VfPorts, PortSelf, AfSpec, Group, NetNsFd}
+use Rattle.neli_consts_attrs.specs.declared.links.Ifla.TheVariants.{ExtMask, Promiscuity, NumTxQueues, NumRxQueues}
+use Rattle.neli_consts_attrs.specs.declared.links.Ifla.TheVariants.{Carrier, PhysPortId, CarrierChanges, PhysSwitchId}
+use Rattle.neli_consts_attrs.specs.declared.links.Ifla.TheVariants.{LinkNetnsid, PhysPortName, ProtoDown, GsoMaxSegs}
+use Rattle.neli_consts_attrs.specs.declared.links.Ifla.TheVariants.{GsoMaxSize, Pad, Xdp, Event, NewNetnsid, IfNetnsid}
+use Rattle.neli_consts_attrs.specs.declared.links.Ifla.TheVariants.{CarrierUpCount, CarrierDownCount, NewIfindex}
+use Rattle.neli_consts_attrs.specs.declared.links.Ifla.TheVariants.{MinMtu, MaxMtu, PropList, AltIfname, PermAddress}
+use Rattle.neli_consts_attrs.specs.declared.links.Ifla.TheVariants.{ProtoDownReason, UnrecognizedConst}
 
 -- the number of each variant
 abbrev pub ifla_number : Ifla → ℕ

@@ -2,7 +2,8 @@
 use Rattle.std.specs.Prelude.{ℕ, Bool, true, false, List, [], ◌∷◌}
 use Rattle.neli_wire.specs.Constants.{first_with}
 use Rattle.neli_consts_attrs.specs.declared.link_kinds.IflaInfo.{IflaInfo}
-use Rattle.neli_consts_attrs.specs.declared.link_kinds.IflaInfo.TheVariants.{Unspec, Kind, Data, Xstats, SlaveKind, SlaveData, UnrecognizedConst}
+use Rattle.neli_consts_attrs.specs.declared.link_kinds.IflaInfo.TheVariants.{Unspec, Kind, Data, Xstats}
+use Rattle.neli_consts_attrs.specs.declared.link_kinds.IflaInfo.TheVariants.{SlaveKind, SlaveData, UnrecognizedConst}
 
 -- the number of each variant
 abbrev pub ifla_info_number : IflaInfo → ℕ

@@ -2,7 +2,8 @@
 use Rattle.std.specs.Prelude.{ℕ, Bool, true, false, List, [], ◌∷◌}
 use Rattle.neli_wire.specs.Constants.{first_with}
 use Rattle.neli_consts_attrs.specs.declared.link_kinds.IflaVlan.{IflaVlan}
-use Rattle.neli_consts_attrs.specs.declared.link_kinds.IflaVlan.TheVariants.{Unspec, Id, Flags, EgressQos, IngressQos, Protocol, UnrecognizedConst}
+use Rattle.neli_consts_attrs.specs.declared.link_kinds.IflaVlan.TheVariants.{Unspec, Id, Flags, EgressQos}
+use Rattle.neli_consts_attrs.specs.declared.link_kinds.IflaVlan.TheVariants.{IngressQos, Protocol, UnrecognizedConst}
 
 -- the number of each variant
 abbrev pub ifla_vlan_number : IflaVlan → ℕ

@@ -2,7 +2,9 @@
 use Rattle.std.specs.Prelude.{ℕ, Bool, true, false, List, [], ◌∷◌}
 use Rattle.neli_wire.specs.Constants.{first_with}
 use Rattle.neli_consts_attrs.specs.declared.neighbours.Nda.{Nda}
-use Rattle.neli_consts_attrs.specs.declared.neighbours.Nda.TheVariants.{Unspec, Dst, Lladdr, Cacheinfo, Probes, Vlan, Port, Vni, Ifindex, Master, LinkNetnsid, SrcVni, UnrecognizedConst}
+use Rattle.neli_consts_attrs.specs.declared.neighbours.Nda.TheVariants.{Unspec, Dst, Lladdr, Cacheinfo, Probes}
+use Rattle.neli_consts_attrs.specs.declared.neighbours.Nda.TheVariants.{Vlan, Port, Vni, Ifindex, Master}
+use Rattle.neli_consts_attrs.specs.declared.neighbours.Nda.TheVariants.{LinkNetnsid, SrcVni, UnrecognizedConst}
 
 -- the number of each variant
 abbrev pub nda_number : Nda → ℕ

@@ -2,7 +2,11 @@
 use Rattle.std.specs.Prelude.{ℕ, Bool, true, false, List, [], ◌∷◌}
 use Rattle.neli_wire.specs.Constants.{first_with}
 use Rattle.neli_consts_attrs.specs.declared.routes.Rta.{Rta}
-use Rattle.neli_consts_attrs.specs.declared.routes.Rta.TheVariants.{Unspec, Dst, Src, Iif, Oif, Gateway, Priority, Prefsrc, Metrics, Multipath, Protoinfo, Flow, Cacheinfo, Session, MpAlgo, Table, Mark, MfcStats, Via, Newdst, Pref, EncapType, Encap, Expires, Pad, Uid, TtlPropagate, UnrecognizedConst}
+use Rattle.neli_consts_attrs.specs.declared.routes.Rta.TheVariants.{Unspec, Dst, Src, Iif, Oif, Gateway, Priority}
+use Rattle.neli_consts_attrs.specs.declared.routes.Rta.TheVariants.{Prefsrc, Metrics, Multipath, Protoinfo, Flow}
+use Rattle.neli_consts_attrs.specs.declared.routes.Rta.TheVariants.{Cacheinfo, Session, MpAlgo, Table, Mark, MfcStats}
+use Rattle.neli_consts_attrs.specs.declared.routes.Rta.TheVariants.{Via, Newdst, Pref, EncapType, Encap, Expires, Pad}
+use Rattle.neli_consts_attrs.specs.declared.routes.Rta.TheVariants.{Uid, TtlPropagate, UnrecognizedConst}
 
 -- the number of each variant
 abbrev pub rta_number : Rta → ℕ

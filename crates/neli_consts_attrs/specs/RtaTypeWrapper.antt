@@ -11,7 +11,9 @@ use Rattle.neli_consts_attrs.specs.IflaVlan.{ifla_vlan_number, ifla_vlan_of, ifl
 use Rattle.neli_consts_attrs.specs.IflaVlanQos.{ifla_vlan_qos_number, ifla_vlan_qos_of, ifla_vlan_qos_is_unrecognized}
 use Rattle.neli_consts_attrs.specs.Frattr.{frattr_number, frattr_of, frattr_is_unrecognized}
 use Rattle.neli_consts_attrs.specs.declared.rta_type.RtaTypeWrapper.{RtaTypeWrapper}
-use Rattle.neli_consts_attrs.specs.declared.rta_type.RtaTypeWrapper.TheVariants.{Ifla, Ifa, Rta, Tca, Nda, IflaInfo, IflaVlan, IflaVlanQos, Frattr, UnrecognizedConst}
+use Rattle.neli_consts_attrs.specs.declared.rta_type.RtaTypeWrapper.TheVariants.{Ifla, Ifa, Rta, Tca}
+use Rattle.neli_consts_attrs.specs.declared.rta_type.RtaTypeWrapper.TheVariants.{Nda, IflaInfo, IflaVlan, IflaVlanQos}
+use Rattle.neli_consts_attrs.specs.declared.rta_type.RtaTypeWrapper.TheVariants.{Frattr, UnrecognizedConst}
 
 -- the number of each value
 abbrev pub rta_type_wrapper_number : RtaTypeWrapper → ℕ

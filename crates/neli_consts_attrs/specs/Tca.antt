@@ -2,7 +2,8 @@
 use Rattle.std.specs.Prelude.{ℕ, Bool, true, false, List, [], ◌∷◌}
 use Rattle.neli_wire.specs.Constants.{first_with}
 use Rattle.neli_consts_attrs.specs.declared.queues.Tca.{Tca}
-use Rattle.neli_consts_attrs.specs.declared.queues.Tca.TheVariants.{Unspec, Kind, Options, Stats, Xstats, Rate, Fcnt, Stats2, Stab, UnrecognizedConst}
+use Rattle.neli_consts_attrs.specs.declared.queues.Tca.TheVariants.{Unspec, Kind, Options, Stats, Xstats}
+use Rattle.neli_consts_attrs.specs.declared.queues.Tca.TheVariants.{Rate, Fcnt, Stats2, Stab, UnrecognizedConst}
 
 -- the number of each variant
 abbrev pub tca_number : Tca → ℕ

@@ -4,7 +4,8 @@ ghost use Rattle.std.proofs.Common.{rules};
 ghost use Rattle.std.specs.Prelude.{◌≡◌};
 ghost use Rattle.neli_consts_attrs.specs.IflaInfo.{ifla_info_number, ifla_info_of, ifla_info_is_unrecognized};
 ghost use Rattle.neli_consts_attrs.specs.IflaVlan.{ifla_vlan_number, ifla_vlan_of, ifla_vlan_is_unrecognized};
-ghost use Rattle.neli_consts_attrs.specs.IflaVlanQos.{ifla_vlan_qos_number, ifla_vlan_qos_of, ifla_vlan_qos_is_unrecognized};
+ghost use Rattle.neli_consts_attrs.specs.IflaVlanQos.{ifla_vlan_qos_number, ifla_vlan_qos_of};
+ghost use Rattle.neli_consts_attrs.specs.IflaVlanQos.{ifla_vlan_qos_is_unrecognized};
 ghost use Rattle.neli_wire.specs.laws.Constants.{first_with-number};
 
 use neli_wire::Constant;

@@ -180,7 +180,8 @@ where
     type Output = FlagSet<N, KIND>;
 
     ghost not_gives = { λ a flags. N.pattern flags.0
-        ≡ bit_and (2 ^ N.size - 1 - N.pattern a.0) (known_bits ⟦<Of<KIND> as Kind<N, KIND>>⟧.names) };
+        ≡ bit_and (2 ^ N.size - 1 - N.pattern a.0)
+        (known_bits ⟦<Of<KIND> as Kind<N, KIND>>⟧.names) };
 
     fn not(self) -> FlagSet<N, KIND> {
         self.complement()

@@ -2,7 +2,9 @@
 use Rattle.std.specs.Prelude.{ℕ, Bool, true, false, List, [], ◌∷◌}
 use Rattle.neli_wire.specs.Constants.{first_with}
 use Rattle.neli_consts_linux.specs.declared.controller.CtrlAttr.{CtrlAttr}
-use Rattle.neli_consts_linux.specs.declared.controller.CtrlAttr.TheVariants.{Unspec, FamilyId, FamilyName, Version, Hdrsize, Maxattr, Ops, McastGroups, Policy, OpPolicy, Op, UnrecognizedConst}
+use Rattle.neli_consts_linux.specs.declared.controller.CtrlAttr.TheVariants.{Unspec, FamilyId, FamilyName, Version}
+use Rattle.neli_consts_linux.specs.declared.controller.CtrlAttr.TheVariants.{Hdrsize, Maxattr, Ops, McastGroups}
+use Rattle.neli_consts_linux.specs.declared.controller.CtrlAttr.TheVariants.{Policy, OpPolicy, Op, UnrecognizedConst}
 
 -- the number of each variant
 abbrev pub ctrl_attr_number : CtrlAttr → ℕ

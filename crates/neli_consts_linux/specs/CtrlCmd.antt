@@ -2,7 +2,10 @@
 use Rattle.std.specs.Prelude.{ℕ, Bool, true, false, List, [], ◌∷◌}
 use Rattle.neli_wire.specs.Constants.{first_with}
 use Rattle.neli_consts_linux.specs.declared.controller.CtrlCmd.{CtrlCmd}
-use Rattle.neli_consts_linux.specs.declared.controller.CtrlCmd.TheVariants.{Unspec, Newfamily, Delfamily, Getfamily, Newops, Delops, Getops, NewmcastGrp, DelmcastGrp, GetmcastGrp, Getpolicy, UnrecognizedConst}
+use Rattle.neli_consts_linux.specs.declared.controller.CtrlCmd.TheVariants.{Unspec, Newfamily, Delfamily}
+use Rattle.neli_consts_linux.specs.declared.controller.CtrlCmd.TheVariants.{Getfamily, Newops, Delops}
+use Rattle.neli_consts_linux.specs.declared.controller.CtrlCmd.TheVariants.{Getops, NewmcastGrp, DelmcastGrp}
+use Rattle.neli_consts_linux.specs.declared.controller.CtrlCmd.TheVariants.{GetmcastGrp, Getpolicy, UnrecognizedConst}
 
 -- the number of each variant
 abbrev pub ctrl_cmd_number : CtrlCmd → ℕ

@@ -2,7 +2,17 @@
 use Rattle.std.specs.Prelude.{ℕ, Bool, true, false, List, [], ◌∷◌}
 use Rattle.neli_wire.specs.Constants.{first_with}
 use Rattle.neli_consts_linux.specs.declared.bonds.IflaBond.{IflaBond}
-use Rattle.neli_consts_linux.specs.declared.bonds.IflaBond.TheVariants.{Unspec, Mode, ActiveSlave, Miimon, Updelay, Downdelay, UseCarrier, ArpInterval, ArpIpTarget, ArpValidate, ArpAllTargets, Primary, PrimaryReselect, FailOverMac, XmitHashPolicy, ResendIgmp, NumPeerNotif, AllSlavesActive, MinLinks, LpInterval, PacketsPerSlave, AdLacpRate, AdSelect, AdInfo, AdActorSysPrio, AdUserPortKey, AdActorSystem, TlbDynamicLb, PeerNotifDelay, AdLacpActive, MissedMax, NsIp6Target, CoupledControl, BroadcastNeigh, UnrecognizedConst}
+use Rattle.neli_consts_linux.specs.declared.bonds.IflaBond.TheVariants.{Unspec, Mode, ActiveSlave, Miimon, Updelay}
+use Rattle.neli_consts_linux.specs.declared.bonds.IflaBond.TheVariants.{Downdelay, UseCarrier, ArpInterval, ArpIpTarget}
+use Rattle.neli_consts_linux.specs.declared.bonds.IflaBond.TheVariants.{ArpValidate, ArpAllTargets, Primary}
+use Rattle.neli_consts_linux.specs.declared.bonds.IflaBond.TheVariants.{PrimaryReselect, FailOverMac, XmitHashPolicy}
+use Rattle.neli_consts_linux.specs.declared.bonds.IflaBond.TheVariants.{ResendIgmp, NumPeerNotif, AllSlavesActive}
+use Rattle.neli_consts_linux.specs.declared.bonds.IflaBond.TheVariants.{MinLinks, LpInterval, PacketsPerSlave}
+use Rattle.neli_consts_linux.specs.declared.bonds.IflaBond.TheVariants.{AdLacpRate, AdSelect, AdInfo, AdActorSysPrio}
+use Rattle.neli_consts_linux.specs.declared.bonds.IflaBond.TheVariants.{AdUserPortKey, AdActorSystem, TlbDynamicLb}
+use Rattle.neli_consts_linux.specs.declared.bonds.IflaBond.TheVariants.{PeerNotifDelay, AdLacpActive, MissedMax}
+use Rattle.neli_consts_linux.specs.declared.bonds.IflaBond.TheVariants.{NsIp6Target, CoupledControl, BroadcastNeigh}
+use Rattle.neli_consts_linux.specs.declared.bonds.IflaBond.TheVariants.{UnrecognizedConst}
 
 -- the number of each variant
 abbrev pub ifla_bond_number : IflaBond → ℕ

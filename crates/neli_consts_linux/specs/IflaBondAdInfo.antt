@@ -2,7 +2,8 @@
 use Rattle.std.specs.Prelude.{ℕ, Bool, true, false, List, [], ◌∷◌}
 use Rattle.neli_wire.specs.Constants.{first_with}
 use Rattle.neli_consts_linux.specs.declared.bonds.IflaBondAdInfo.{IflaBondAdInfo}
-use Rattle.neli_consts_linux.specs.declared.bonds.IflaBondAdInfo.TheVariants.{Unspec, Aggregator, NumPorts, ActorKey, PartnerKey, PartnerMac, UnrecognizedConst}
+use Rattle.neli_consts_linux.specs.declared.bonds.IflaBondAdInfo.TheVariants.{Unspec, Aggregator, NumPorts, ActorKey}
+use Rattle.neli_consts_linux.specs.declared.bonds.IflaBondAdInfo.TheVariants.{PartnerKey, PartnerMac, UnrecognizedConst}
 
 -- the number of each variant
 abbrev pub ifla_bond_ad_info_number : IflaBondAdInfo → ℕ

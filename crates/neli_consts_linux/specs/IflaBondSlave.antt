@@ -2,7 +2,12 @@
 use Rattle.std.specs.Prelude.{ℕ, Bool, true, false, List, [], ◌∷◌}
 use Rattle.neli_wire.specs.Constants.{first_with}
 use Rattle.neli_consts_linux.specs.declared.bonds.IflaBondSlave.{IflaBondSlave}
-use Rattle.neli_consts_linux.specs.declared.bonds.IflaBondSlave.TheVariants.{Unspec, State, MiiStatus, LinkFailureCount, PermHwaddr, QueueId, AdAggregatorId, AdActorOperPortState, AdPartnerOperPortState, Prio, ActorPortPrio, AdChurnActorState, AdChurnPartnerState, UnrecognizedConst}
+use Rattle.neli_consts_linux.specs.declared.bonds.IflaBondSlave.TheVariants.{Unspec, State, MiiStatus, LinkFailureCount}
+use Rattle.neli_consts_linux.specs.declared.bonds.IflaBondSlave.TheVariants.{PermHwaddr, QueueId, AdAggregatorId}
+use Rattle.neli_consts_linux.specs.declared.bonds.IflaBondSlave.TheVariants.{AdActorOperPortState}
+use Rattle.neli_consts_linux.specs.declared.bonds.IflaBondSlave.TheVariants.{AdPartnerOperPortState, Prio}
+use Rattle.neli_consts_linux.specs.declared.bonds.IflaBondSlave.TheVariants.{ActorPortPrio, AdChurnActorState}
+use Rattle.neli_consts_linux.specs.declared.bonds.IflaBondSlave.TheVariants.{AdChurnPartnerState, UnrecognizedConst}
 
 -- the number of each variant
 abbrev pub ifla_bond_slave_number : IflaBondSlave → ℕ

@@ -2,7 +2,26 @@
 use Rattle.std.specs.Prelude.{ℕ, Bool, true, false, List, [], ◌∷◌}
 use Rattle.neli_wire.specs.Constants.{first_with}
 use Rattle.neli_consts_linux.specs.declared.bridges.IflaBr.{IflaBr}
-use Rattle.neli_consts_linux.specs.declared.bridges.IflaBr.TheVariants.{Unspec, ForwardDelay, HelloTime, MaxAge, AgeingTime, StpState, Priority, VlanFiltering, VlanProtocol, GroupFwdMask, RootId, BridgeId, RootPort, RootPathCost, TopologyChange, TopologyChangeDetected, HelloTimer, TcnTimer, TopologyChangeTimer, GcTimer, GroupAddr, FdbFlush, McastRouter, McastSnooping, McastQueryUseIfaddr, McastQuerier, McastHashElasticity, McastHashMax, McastLastMemberCnt, McastStartupQueryCnt, McastLastMemberIntvl, McastMembershipIntvl, McastQuerierIntvl, McastQueryIntvl, McastQueryResponseIntvl, McastStartupQueryIntvl, NfCallIptables, NfCallIp6tables, NfCallArptables, VlanDefaultPvid, Pad, VlanStatsEnabled, McastStatsEnabled, McastIgmpVersion, McastMldVersion, VlanStatsPerPort, MultiBoolopt, McastQuerierState, FdbNLearned, FdbMaxLearned, UnrecognizedConst}
+use Rattle.neli_consts_linux.specs.declared.bridges.IflaBr.TheVariants.{Unspec, ForwardDelay, HelloTime, MaxAge}
+use Rattle.neli_consts_linux.specs.declared.bridges.IflaBr.TheVariants.{AgeingTime, StpState, Priority, VlanFiltering}
+use Rattle.neli_consts_linux.specs.declared.bridges.IflaBr.TheVariants.{VlanProtocol, GroupFwdMask, RootId, BridgeId}
+use Rattle.neli_consts_linux.specs.declared.bridges.IflaBr.TheVariants.{RootPort, RootPathCost, TopologyChange}
+use Rattle.neli_consts_linux.specs.declared.bridges.IflaBr.TheVariants.{TopologyChangeDetected, HelloTimer, TcnTimer}
+use Rattle.neli_consts_linux.specs.declared.bridges.IflaBr.TheVariants.{TopologyChangeTimer, GcTimer, GroupAddr}
+use Rattle.neli_consts_linux.specs.declared.bridges.IflaBr.TheVariants.{FdbFlush, McastRouter, McastSnooping}
+use Rattle.neli_consts_linux.specs.declared.bridges.IflaBr.TheVariants.{McastQueryUseIfaddr, McastQuerier}
+use Rattle.neli_consts_linux.specs.declared.bridges.IflaBr.TheVariants.{McastHashElasticity, McastHashMax}
+use Rattle.neli_consts_linux.specs.declared.bridges.IflaBr.TheVariants.{McastLastMemberCnt, McastStartupQueryCnt}
+use Rattle.neli_consts_linux.specs.declared.bridges.IflaBr.TheVariants.{McastLastMemberIntvl, McastMembershipIntvl}
+use Rattle.neli_consts_linux.specs.declared.bridges.IflaBr.TheVariants.{McastQuerierIntvl, McastQueryIntvl}
+use Rattle.neli_consts_linux.specs.declared.bridges.IflaBr.TheVariants.{McastQueryResponseIntvl, McastStartupQueryIntvl}
+use Rattle.neli_consts_linux.specs.declared.bridges.IflaBr.TheVariants.{NfCallIptables, NfCallIp6tables}
+use Rattle.neli_consts_linux.specs.declared.bridges.IflaBr.TheVariants.{NfCallArptables, VlanDefaultPvid, Pad}
+use Rattle.neli_consts_linux.specs.declared.bridges.IflaBr.TheVariants.{VlanStatsEnabled, McastStatsEnabled}
+use Rattle.neli_consts_linux.specs.declared.bridges.IflaBr.TheVariants.{McastIgmpVersion, McastMldVersion}
+use Rattle.neli_consts_linux.specs.declared.bridges.IflaBr.TheVariants.{VlanStatsPerPort, MultiBoolopt}
+use Rattle.neli_consts_linux.specs.declared.bridges.IflaBr.TheVariants.{McastQuerierState, FdbNLearned, FdbMaxLearned}
+use Rattle.neli_consts_linux.specs.declared.bridges.IflaBr.TheVariants.{UnrecognizedConst}
 
 -- the number of each variant
 abbrev pub ifla_br_number : IflaBr → ℕ

@@ -2,7 +2,21 @@
 use Rattle.std.specs.Prelude.{ℕ, Bool, true, false, List, [], ◌∷◌}
 use Rattle.neli_wire.specs.Constants.{first_with}
 use Rattle.neli_consts_linux.specs.declared.bridges.IflaBrport.{IflaBrport}
-use Rattle.neli_consts_linux.specs.declared.bridges.IflaBrport.TheVariants.{Unspec, State, Priority, Cost, Mode, Guard, Protect, FastLeave, Learning, UnicastFlood, Proxyarp, LearningSync, ProxyarpWifi, RootId, BridgeId, DesignatedPort, DesignatedCost, Id, No, TopologyChangeAck, ConfigPending, MessageAgeTimer, ForwardDelayTimer, HoldTimer, Flush, MulticastRouter, Pad, McastFlood, McastToUcast, VlanTunnel, BcastFlood, GroupFwdMask, NeighSuppress, Isolated, BackupPort, MrpRingOpen, MrpInOpen, McastEhtHostsLimit, McastEhtHostsCnt, Locked, Mab, McastNGroups, McastMaxGroups, NeighVlanSuppress, BackupNhid, UnrecognizedConst}
+use Rattle.neli_consts_linux.specs.declared.bridges.IflaBrport.TheVariants.{Unspec, State, Priority, Cost, Mode, Guard}
+use Rattle.neli_consts_linux.specs.declared.bridges.IflaBrport.TheVariants.{Protect, FastLeave, Learning, UnicastFlood}
+use Rattle.neli_consts_linux.specs.declared.bridges.IflaBrport.TheVariants.{Proxyarp, LearningSync, ProxyarpWifi}
+use Rattle.neli_consts_linux.specs.declared.bridges.IflaBrport.TheVariants.{RootId, BridgeId, DesignatedPort}
+use Rattle.neli_consts_linux.specs.declared.bridges.IflaBrport.TheVariants.{DesignatedCost, Id, No, TopologyChangeAck}
+use Rattle.neli_consts_linux.specs.declared.bridges.IflaBrport.TheVariants.{ConfigPending, MessageAgeTimer}
+use Rattle.neli_consts_linux.specs.declared.bridges.IflaBrport.TheVariants.{ForwardDelayTimer, HoldTimer, Flush}
+use Rattle.neli_consts_linux.specs.declared.bridges.IflaBrport.TheVariants.{MulticastRouter, Pad, McastFlood}
+use Rattle.neli_consts_linux.specs.declared.bridges.IflaBrport.TheVariants.{McastToUcast, VlanTunnel, BcastFlood}
+use Rattle.neli_consts_linux.specs.declared.bridges.IflaBrport.TheVariants.{GroupFwdMask, NeighSuppress, Isolated}
+use Rattle.neli_consts_linux.specs.declared.bridges.IflaBrport.TheVariants.{BackupPort, MrpRingOpen, MrpInOpen}
+use Rattle.neli_consts_linux.specs.declared.bridges.IflaBrport.TheVariants.{McastEhtHostsLimit, McastEhtHostsCnt}
+use Rattle.neli_consts_linux.specs.declared.bridges.IflaBrport.TheVariants.{Locked, Mab, McastNGroups, McastMaxGroups}
+use Rattle.neli_consts_linux.specs.declared.bridges.IflaBrport.TheVariants.{NeighVlanSuppress, BackupNhid}
+use Rattle.neli_consts_linux.specs.declared.bridges.IflaBrport.TheVariants.{UnrecognizedConst}
 
 -- the number of each variant
 abbrev pub ifla_brport_number : IflaBrport → ℕ

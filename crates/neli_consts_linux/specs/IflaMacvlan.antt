@@ -2,7 +2,10 @@
 use Rattle.std.specs.Prelude.{ℕ, Bool, true, false, List, [], ◌∷◌}
 use Rattle.neli_wire.specs.Constants.{first_with}
 use Rattle.neli_consts_linux.specs.declared.macvlans.IflaMacvlan.{IflaMacvlan}
-use Rattle.neli_consts_linux.specs.declared.macvlans.IflaMacvlan.TheVariants.{Unspec, Mode, Flags, MacaddrMode, Macaddr, MacaddrData, MacaddrCount, BcQueueLen, BcQueueLenUsed, BcCutoff, UnrecognizedConst}
+use Rattle.neli_consts_linux.specs.declared.macvlans.IflaMacvlan.TheVariants.{Unspec, Mode, Flags}
+use Rattle.neli_consts_linux.specs.declared.macvlans.IflaMacvlan.TheVariants.{MacaddrMode, Macaddr, MacaddrData}
+use Rattle.neli_consts_linux.specs.declared.macvlans.IflaMacvlan.TheVariants.{MacaddrCount, BcQueueLen, BcQueueLenUsed}
+use Rattle.neli_consts_linux.specs.declared.macvlans.IflaMacvlan.TheVariants.{BcCutoff, UnrecognizedConst}
 
 -- the number of each variant
 abbrev pub ifla_macvlan_number : IflaMacvlan → ℕ

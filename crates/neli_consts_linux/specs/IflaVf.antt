@@ -2,7 +2,11 @@
 use Rattle.std.specs.Prelude.{ℕ, Bool, true, false, List, [], ◌∷◌}
 use Rattle.neli_wire.specs.Constants.{first_with}
 use Rattle.neli_consts_linux.specs.declared.virtual_functions.IflaVf.{IflaVf}
-use Rattle.neli_consts_linux.specs.declared.virtual_functions.IflaVf.TheVariants.{Unspec, Mac, Vlan, TxRate, Spoofchk, LinkState, Rate, RssQueryEn, Stats, Trust, IbNodeGuid, IbPortGuid, VlanList, Broadcast, UnrecognizedConst}
+use Rattle.neli_consts_linux.specs.declared.virtual_functions.IflaVf.TheVariants.{Unspec, Mac, Vlan, TxRate, Spoofchk}
+use Rattle.neli_consts_linux.specs.declared.virtual_functions.IflaVf.TheVariants.{LinkState, Rate, RssQueryEn, Stats}
+use Rattle.neli_consts_linux.specs.declared.virtual_functions.IflaVf.TheVariants.{Trust, IbNodeGuid, IbPortGuid}
+use Rattle.neli_consts_linux.specs.declared.virtual_functions.IflaVf.TheVariants.{VlanList, Broadcast}
+use Rattle.neli_consts_linux.specs.declared.virtual_functions.IflaVf.TheVariants.{UnrecognizedConst}
 
 -- the number of each variant
 abbrev pub ifla_vf_number : IflaVf → ℕ

@@ -2,7 +2,14 @@
 use Rattle.std.specs.Prelude.{ℕ, Bool, true, false, List, [], ◌∷◌}
 use Rattle.neli_wire.specs.Constants.{first_with}
 use Rattle.neli_consts_linux.specs.declared.vxlans.IflaVxlan.{IflaVxlan}
-use Rattle.neli_consts_linux.specs.declared.vxlans.IflaVxlan.TheVariants.{Unspec, Id, Group, Link, Local, Ttl, Tos, Learning, Ageing, Limit, PortRange, Proxy, Rsc, L2miss, L3miss, Port, Group6, Local6, UdpCsum, UdpZeroCsum6Tx, UdpZeroCsum6Rx, RemcsumTx, RemcsumRx, Gbp, RemcsumNopartial, CollectMetadata, Label, Gpe, TtlInherit, Df, Vnifilter, Localbypass, LabelPolicy, ReservedBits, McRoute, UnrecognizedConst}
+use Rattle.neli_consts_linux.specs.declared.vxlans.IflaVxlan.TheVariants.{Unspec, Id, Group, Link, Local, Ttl, Tos}
+use Rattle.neli_consts_linux.specs.declared.vxlans.IflaVxlan.TheVariants.{Learning, Ageing, Limit, PortRange, Proxy}
+use Rattle.neli_consts_linux.specs.declared.vxlans.IflaVxlan.TheVariants.{Rsc, L2miss, L3miss, Port, Group6, Local6}
+use Rattle.neli_consts_linux.specs.declared.vxlans.IflaVxlan.TheVariants.{UdpCsum, UdpZeroCsum6Tx, UdpZeroCsum6Rx}
+use Rattle.neli_consts_linux.specs.declared.vxlans.IflaVxlan.TheVariants.{RemcsumTx, RemcsumRx, Gbp, RemcsumNopartial}
+use Rattle.neli_consts_linux.specs.declared.vxlans.IflaVxlan.TheVariants.{CollectMetadata, Label, Gpe, TtlInherit, Df}
+use Rattle.neli_consts_linux.specs.declared.vxlans.IflaVxlan.TheVariants.{Vnifilter, Localbypass, LabelPolicy}
+use Rattle.neli_consts_linux.specs.declared.vxlans.IflaVxlan.TheVariants.{ReservedBits, McRoute, UnrecognizedConst}
 
 -- the number of each variant
 abbrev pub ifla_vxlan_number : IflaVxlan → ℕ

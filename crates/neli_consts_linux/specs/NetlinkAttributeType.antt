@@ -2,7 +2,11 @@
 use Rattle.std.specs.Prelude.{ℕ, Bool, true, false, List, [], ◌∷◌}
 use Rattle.neli_wire.specs.Constants.{first_with}
 use Rattle.neli_consts_linux.specs.declared.policies.NetlinkAttributeType.{NetlinkAttributeType}
-use Rattle.neli_consts_linux.specs.declared.policies.NetlinkAttributeType.TheVariants.{Invalid, Flag, U8, U16, U32, U64, S8, S16, S32, S64, Binary, String, NulString, Nested, NestedArray, Bitfield32, Sint, Uint, UnrecognizedConst}
+use Rattle.neli_consts_linux.specs.declared.policies.NetlinkAttributeType.TheVariants.{Invalid, Flag, U8, U16, U32, U64}
+use Rattle.neli_consts_linux.specs.declared.policies.NetlinkAttributeType.TheVariants.{S8, S16, S32, S64, Binary}
+use Rattle.neli_consts_linux.specs.declared.policies.NetlinkAttributeType.TheVariants.{String, NulString, Nested}
+use Rattle.neli_consts_linux.specs.declared.policies.NetlinkAttributeType.TheVariants.{NestedArray, Bitfield32, Sint}
+use Rattle.neli_consts_linux.specs.declared.policies.NetlinkAttributeType.TheVariants.{Uint, UnrecognizedConst}
 
 -- the number of each variant
 abbrev pub netlink_attribute_type_number : NetlinkAttributeType → ℕ

@@ -2,7 +2,10 @@
 use Rattle.std.specs.Prelude.{ℕ, Bool, true, false, List, [], ◌∷◌}
 use Rattle.neli_wire.specs.Constants.{first_with}
 use Rattle.neli_consts_linux.specs.declared.next_hops.Nha.{Nha}
-use Rattle.neli_consts_linux.specs.declared.next_hops.Nha.TheVariants.{Unspec, Id, Group, GroupType, Blackhole, Oif, Gateway, EncapType, Encap, Groups, Master, Fdb, ResGroup, ResBucket, OpFlags, GroupStats, HwStatsEnable, HwStatsUsed, UnrecognizedConst}
+use Rattle.neli_consts_linux.specs.declared.next_hops.Nha.TheVariants.{Unspec, Id, Group, GroupType, Blackhole, Oif}
+use Rattle.neli_consts_linux.specs.declared.next_hops.Nha.TheVariants.{Gateway, EncapType, Encap, Groups, Master, Fdb}
+use Rattle.neli_consts_linux.specs.declared.next_hops.Nha.TheVariants.{ResGroup, ResBucket, OpFlags, GroupStats}
+use Rattle.neli_consts_linux.specs.declared.next_hops.Nha.TheVariants.{HwStatsEnable, HwStatsUsed, UnrecognizedConst}
 
 -- the number of each variant
 abbrev pub nha_number : Nha → ℕ

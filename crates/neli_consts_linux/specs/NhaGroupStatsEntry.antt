@@ -2,7 +2,8 @@
 use Rattle.std.specs.Prelude.{ℕ, Bool, true, false, List, [], ◌∷◌}
 use Rattle.neli_wire.specs.Constants.{first_with}
 use Rattle.neli_consts_linux.specs.declared.next_hops.NhaGroupStatsEntry.{NhaGroupStatsEntry}
-use Rattle.neli_consts_linux.specs.declared.next_hops.NhaGroupStatsEntry.TheVariants.{Unspec, Id, Packets, PacketsHw, UnrecognizedConst}
+use Rattle.neli_consts_linux.specs.declared.next_hops.NhaGroupStatsEntry.TheVariants.{Unspec, Id, Packets}
+use Rattle.neli_consts_linux.specs.declared.next_hops.NhaGroupStatsEntry.TheVariants.{PacketsHw, UnrecognizedConst}
 
 -- the number of each variant
 abbrev pub nha_group_stats_entry_number : NhaGroupStatsEntry → ℕ

@@ -2,7 +2,8 @@
 use Rattle.std.specs.Prelude.{ℕ, Bool, true, false, List, [], ◌∷◌}
 use Rattle.neli_wire.specs.Constants.{first_with}
 use Rattle.neli_consts_linux.specs.declared.next_hops.NhaResBucket.{NhaResBucket}
-use Rattle.neli_consts_linux.specs.declared.next_hops.NhaResBucket.TheVariants.{Unspec, Index, IdleTime, NhId, UnrecognizedConst}
+use Rattle.neli_consts_linux.specs.declared.next_hops.NhaResBucket.TheVariants.{Unspec, Index, IdleTime}
+use Rattle.neli_consts_linux.specs.declared.next_hops.NhaResBucket.TheVariants.{NhId, UnrecognizedConst}
 
 -- the number of each variant
 abbrev pub nha_res_bucket_number : NhaResBucket → ℕ

@@ -2,7 +2,9 @@
 use Rattle.std.specs.Prelude.{ℕ, Bool, true, false, List, [], ◌∷◌}
 use Rattle.neli_wire.specs.Constants.{first_with}
 use Rattle.neli_consts_linux.specs.declared.next_hops.NhaResGroup.{NhaResGroup}
-use Rattle.neli_consts_linux.specs.declared.next_hops.NhaResGroup.TheVariants.{Unspec, Buckets, IdleTimer, UnbalancedTimer, UnbalancedTime, UnrecognizedConst}
+use Rattle.neli_consts_linux.specs.declared.next_hops.NhaResGroup.TheVariants.{Unspec, Buckets}
+use Rattle.neli_consts_linux.specs.declared.next_hops.NhaResGroup.TheVariants.{IdleTimer, UnbalancedTimer}
+use Rattle.neli_consts_linux.specs.declared.next_hops.NhaResGroup.TheVariants.{UnbalancedTime, UnrecognizedConst}
 
 -- the number of each variant
 abbrev pub nha_res_group_number : NhaResGroup → ℕ

@@ -2,7 +2,11 @@
 use Rattle.std.specs.Prelude.{ℕ, Bool, true, false, List, [], ◌∷◌}
 use Rattle.neli_wire.specs.Constants.{first_with}
 use Rattle.neli_consts_linux.specs.declared.policies.NlPolicyTypeAttr.{NlPolicyTypeAttr}
-use Rattle.neli_consts_linux.specs.declared.policies.NlPolicyTypeAttr.TheVariants.{Unspec, «Type», MinValueS, MaxValueS, MinValueU, MaxValueU, MinLength, MaxLength, PolicyIdx, PolicyMaxtype, Bitfield32Mask, Pad, Mask, UnrecognizedConst}
+use Rattle.neli_consts_linux.specs.declared.policies.NlPolicyTypeAttr.TheVariants.{Unspec, «Type», MinValueS}
+use Rattle.neli_consts_linux.specs.declared.policies.NlPolicyTypeAttr.TheVariants.{MaxValueS, MinValueU, MaxValueU}
+use Rattle.neli_consts_linux.specs.declared.policies.NlPolicyTypeAttr.TheVariants.{MinLength, MaxLength, PolicyIdx}
+use Rattle.neli_consts_linux.specs.declared.policies.NlPolicyTypeAttr.TheVariants.{PolicyMaxtype, Bitfield32Mask, Pad}
+use Rattle.neli_consts_linux.specs.declared.policies.NlPolicyTypeAttr.TheVariants.{Mask, UnrecognizedConst}
 
 -- the number of each variant
 abbrev pub nl_policy_type_attr_number : NlPolicyTypeAttr → ℕ

@@ -2,7 +2,9 @@
 use Rattle.std.specs.Prelude.{ℕ, Bool, true, false, List, [], ◌∷◌}
 use Rattle.neli_wire.specs.Constants.{first_with}
 use Rattle.neli_consts_linux.specs.declared.acknowledgements.NlmsgerrAttr.{NlmsgerrAttr}
-use Rattle.neli_consts_linux.specs.declared.acknowledgements.NlmsgerrAttr.TheVariants.{Unused, Msg, Offs, Cookie, Policy, MissType, MissNest, UnrecognizedConst}
+use Rattle.neli_consts_linux.specs.declared.acknowledgements.NlmsgerrAttr.TheVariants.{Unused, Msg, Offs}
+use Rattle.neli_consts_linux.specs.declared.acknowledgements.NlmsgerrAttr.TheVariants.{Cookie, Policy, MissType}
+use Rattle.neli_consts_linux.specs.declared.acknowledgements.NlmsgerrAttr.TheVariants.{MissNest, UnrecognizedConst}
 
 -- the number of each variant
 abbrev pub nlmsgerr_attr_number : NlmsgerrAttr → ℕ

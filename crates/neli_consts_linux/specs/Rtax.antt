@@ -2,7 +2,10 @@
 use Rattle.std.specs.Prelude.{ℕ, Bool, true, false, List, [], ◌∷◌}
 use Rattle.neli_wire.specs.Constants.{first_with}
 use Rattle.neli_consts_linux.specs.declared.metrics.Rtax.{Rtax}
-use Rattle.neli_consts_linux.specs.declared.metrics.Rtax.TheVariants.{Unspec, Lock, Mtu, Window, Rtt, Rttvar, Ssthresh, Cwnd, Advmss, Reordering, Hoplimit, Initcwnd, Features, RtoMin, Initrwnd, Quickack, CcAlgo, FastopenNoCookie, UnrecognizedConst}
+use Rattle.neli_consts_linux.specs.declared.metrics.Rtax.TheVariants.{Unspec, Lock, Mtu, Window, Rtt, Rttvar, Ssthresh}
+use Rattle.neli_consts_linux.specs.declared.metrics.Rtax.TheVariants.{Cwnd, Advmss, Reordering, Hoplimit, Initcwnd}
+use Rattle.neli_consts_linux.specs.declared.metrics.Rtax.TheVariants.{Features, RtoMin, Initrwnd, Quickack, CcAlgo}
+use Rattle.neli_consts_linux.specs.declared.metrics.Rtax.TheVariants.{FastopenNoCookie, UnrecognizedConst}
 
 -- the number of each variant
 abbrev pub rtax_number : Rtax → ℕ

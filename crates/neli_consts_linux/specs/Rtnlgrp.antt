@@ -2,7 +2,16 @@
 use Rattle.std.specs.Prelude.{ℕ, Bool, true, false, List, [], ◌∷◌}
 use Rattle.neli_wire.specs.Constants.{first_with}
 use Rattle.neli_consts_linux.specs.declared.groups.Rtnlgrp.{Rtnlgrp}
-use Rattle.neli_consts_linux.specs.declared.groups.Rtnlgrp.TheVariants.{None, Link, Notify, Neigh, Tc, Ipv4Ifaddr, Ipv4Mroute, Ipv4Route, Ipv4Rule, Ipv6Ifaddr, Ipv6Mroute, Ipv6Route, Ipv6Ifinfo, DecnetIfaddr, Nop2, DecnetRoute, DecnetRule, Nop4, Ipv6Prefix, Ipv6Rule, NdUseropt, PhonetIfaddr, PhonetRoute, Dcb, Ipv4Netconf, Ipv6Netconf, Mdb, MplsRoute, Nsid, MplsNetconf, Ipv4MrouteR, Ipv6MrouteR, Nexthop, Brvlan, MctpIfaddr, Tunnel, Stats, Ipv4Mcaddr, Ipv6Mcaddr, Ipv6Acaddr, UnrecognizedConst}
+use Rattle.neli_consts_linux.specs.declared.groups.Rtnlgrp.TheVariants.{None, Link, Notify, Neigh, Tc, Ipv4Ifaddr}
+use Rattle.neli_consts_linux.specs.declared.groups.Rtnlgrp.TheVariants.{Ipv4Mroute, Ipv4Route, Ipv4Rule, Ipv6Ifaddr}
+use Rattle.neli_consts_linux.specs.declared.groups.Rtnlgrp.TheVariants.{Ipv6Mroute, Ipv6Route, Ipv6Ifinfo, DecnetIfaddr}
+use Rattle.neli_consts_linux.specs.declared.groups.Rtnlgrp.TheVariants.{Nop2, DecnetRoute, DecnetRule, Nop4, Ipv6Prefix}
+use Rattle.neli_consts_linux.specs.declared.groups.Rtnlgrp.TheVariants.{Ipv6Rule, NdUseropt, PhonetIfaddr, PhonetRoute}
+use Rattle.neli_consts_linux.specs.declared.groups.Rtnlgrp.TheVariants.{Dcb, Ipv4Netconf, Ipv6Netconf, Mdb, MplsRoute}
+use Rattle.neli_consts_linux.specs.declared.groups.Rtnlgrp.TheVariants.{Nsid, MplsNetconf, Ipv4MrouteR, Ipv6MrouteR}
+use Rattle.neli_consts_linux.specs.declared.groups.Rtnlgrp.TheVariants.{Nexthop, Brvlan, MctpIfaddr, Tunnel, Stats}
+use Rattle.neli_consts_linux.specs.declared.groups.Rtnlgrp.TheVariants.{Ipv4Mcaddr, Ipv6Mcaddr, Ipv6Acaddr}
+use Rattle.neli_consts_linux.specs.declared.groups.Rtnlgrp.TheVariants.{UnrecognizedConst}
 
 -- the number of each variant
 abbrev pub rtnlgrp_number : Rtnlgrp → ℕ

@@ -2,7 +2,8 @@
 
 ghost use Rattle.std.proofs.Common.{rules};
 ghost use Rattle.std.specs.Prelude.{◌≡◌};
-ghost use Rattle.neli_consts_linux.specs.NlmsgerrAttr.{nlmsgerr_attr_number, nlmsgerr_attr_of, nlmsgerr_attr_is_unrecognized};
+ghost use Rattle.neli_consts_linux.specs.NlmsgerrAttr.{nlmsgerr_attr_number, nlmsgerr_attr_of};
+ghost use Rattle.neli_consts_linux.specs.NlmsgerrAttr.{nlmsgerr_attr_is_unrecognized};
 ghost use Rattle.neli_wire.specs.laws.Constants.{first_with-number};
 
 use neli_consts::NlAttrType;

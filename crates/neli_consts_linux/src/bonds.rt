@@ -3,8 +3,10 @@
 ghost use Rattle.std.proofs.Common.{rules};
 ghost use Rattle.std.specs.Prelude.{◌≡◌};
 ghost use Rattle.neli_consts_linux.specs.IflaBond.{ifla_bond_number, ifla_bond_of, ifla_bond_is_unrecognized};
-ghost use Rattle.neli_consts_linux.specs.IflaBondAdInfo.{ifla_bond_ad_info_number, ifla_bond_ad_info_of, ifla_bond_ad_info_is_unrecognized};
-ghost use Rattle.neli_consts_linux.specs.IflaBondSlave.{ifla_bond_slave_number, ifla_bond_slave_of, ifla_bond_slave_is_unrecognized};
+ghost use Rattle.neli_consts_linux.specs.IflaBondAdInfo.{ifla_bond_ad_info_number, ifla_bond_ad_info_of};
+ghost use Rattle.neli_consts_linux.specs.IflaBondAdInfo.{ifla_bond_ad_info_is_unrecognized};
+ghost use Rattle.neli_consts_linux.specs.IflaBondSlave.{ifla_bond_slave_number, ifla_bond_slave_of};
+ghost use Rattle.neli_consts_linux.specs.IflaBondSlave.{ifla_bond_slave_is_unrecognized};
 ghost use Rattle.neli_wire.specs.laws.Constants.{first_with-number};
 
 use neli_consts_attrs::RtaType;

@@ -4,8 +4,10 @@ ghost use Rattle.std.proofs.Common.{rules};
 ghost use Rattle.std.specs.Prelude.{◌≡◌};
 ghost use Rattle.neli_consts_linux.specs.CtrlCmd.{ctrl_cmd_number, ctrl_cmd_of, ctrl_cmd_is_unrecognized};
 ghost use Rattle.neli_consts_linux.specs.CtrlAttr.{ctrl_attr_number, ctrl_attr_of, ctrl_attr_is_unrecognized};
-ghost use Rattle.neli_consts_linux.specs.CtrlAttrOp.{ctrl_attr_op_number, ctrl_attr_op_of, ctrl_attr_op_is_unrecognized};
-ghost use Rattle.neli_consts_linux.specs.CtrlAttrPolicy.{ctrl_attr_policy_number, ctrl_attr_policy_of, ctrl_attr_policy_is_unrecognized};
+ghost use Rattle.neli_consts_linux.specs.CtrlAttrOp.{ctrl_attr_op_number, ctrl_attr_op_of};
+ghost use Rattle.neli_consts_linux.specs.CtrlAttrOp.{ctrl_attr_op_is_unrecognized};
+ghost use Rattle.neli_consts_linux.specs.CtrlAttrPolicy.{ctrl_attr_policy_number, ctrl_attr_policy_of};
+ghost use Rattle.neli_consts_linux.specs.CtrlAttrPolicy.{ctrl_attr_policy_is_unrecognized};
 ghost use Rattle.neli_wire.specs.laws.Constants.{first_with-number};
 
 use neli_consts::{Cmd, NlAttrType};

@@ -2,7 +2,8 @@
 
 ghost use Rattle.std.proofs.Common.{rules};
 ghost use Rattle.std.specs.Prelude.{◌≡◌};
-ghost use Rattle.neli_consts_linux.specs.IflaMacvlan.{ifla_macvlan_number, ifla_macvlan_of, ifla_macvlan_is_unrecognized};
+ghost use Rattle.neli_consts_linux.specs.IflaMacvlan.{ifla_macvlan_number, ifla_macvlan_of};
+ghost use Rattle.neli_consts_linux.specs.IflaMacvlan.{ifla_macvlan_is_unrecognized};
 ghost use Rattle.neli_wire.specs.laws.Constants.{first_with-number};
 
 use neli_consts_attrs::RtaType;

@@ -3,11 +3,16 @@
 ghost use Rattle.std.proofs.Common.{rules};
 ghost use Rattle.std.specs.Prelude.{◌≡◌};
 ghost use Rattle.neli_consts_linux.specs.Nha.{nha_number, nha_of, nha_is_unrecognized};
-ghost use Rattle.neli_consts_linux.specs.NhaResGroup.{nha_res_group_number, nha_res_group_of, nha_res_group_is_unrecognized};
-ghost use Rattle.neli_consts_linux.specs.NhaResBucket.{nha_res_bucket_number, nha_res_bucket_of, nha_res_bucket_is_unrecognized};
-ghost use Rattle.neli_consts_linux.specs.NhaGroupStats.{nha_group_stats_number, nha_group_stats_of, nha_group_stats_is_unrecognized};
-ghost use Rattle.neli_consts_linux.specs.NhaGroupStatsEntry.{nha_group_stats_entry_number, nha_group_stats_entry_of, nha_group_stats_entry_is_unrecognized};
-ghost use Rattle.neli_consts_linux.specs.NexthopGrpType.{nexthop_grp_type_number, nexthop_grp_type_of, nexthop_grp_type_is_unrecognized};
+ghost use Rattle.neli_consts_linux.specs.NhaResGroup.{nha_res_group_number, nha_res_group_of};
+ghost use Rattle.neli_consts_linux.specs.NhaResGroup.{nha_res_group_is_unrecognized};
+ghost use Rattle.neli_consts_linux.specs.NhaResBucket.{nha_res_bucket_number, nha_res_bucket_of};
+ghost use Rattle.neli_consts_linux.specs.NhaResBucket.{nha_res_bucket_is_unrecognized};
+ghost use Rattle.neli_consts_linux.specs.NhaGroupStats.{nha_group_stats_number, nha_group_stats_of};
+ghost use Rattle.neli_consts_linux.specs.NhaGroupStats.{nha_group_stats_is_unrecognized};
+ghost use Rattle.neli_consts_linux.specs.NhaGroupStatsEntry.{nha_group_stats_entry_number, nha_group_stats_entry_of};
+ghost use Rattle.neli_consts_linux.specs.NhaGroupStatsEntry.{nha_group_stats_entry_is_unrecognized};
+ghost use Rattle.neli_consts_linux.specs.NexthopGrpType.{nexthop_grp_type_number, nexthop_grp_type_of};
+ghost use Rattle.neli_consts_linux.specs.NexthopGrpType.{nexthop_grp_type_is_unrecognized};
 ghost use Rattle.neli_wire.specs.laws.Constants.{first_with-number};
 
 use neli_consts_attrs::RtaType;

@@ -2,8 +2,11 @@
 
 ghost use Rattle.std.proofs.Common.{rules};
 ghost use Rattle.std.specs.Prelude.{◌≡◌};
-ghost use Rattle.neli_consts_linux.specs.NlPolicyTypeAttr.{nl_policy_type_attr_number, nl_policy_type_attr_of, nl_policy_type_attr_is_unrecognized};
-ghost use Rattle.neli_consts_linux.specs.NetlinkAttributeType.{netlink_attribute_type_number, netlink_attribute_type_of, netlink_attribute_type_is_unrecognized};
+ghost use Rattle.neli_consts_linux.specs.NlPolicyTypeAttr.{nl_policy_type_attr_number, nl_policy_type_attr_of};
+ghost use Rattle.neli_consts_linux.specs.NlPolicyTypeAttr.{nl_policy_type_attr_is_unrecognized};
+ghost use Rattle.neli_consts_linux.specs.NetlinkAttributeType.{netlink_attribute_type_number};
+ghost use Rattle.neli_consts_linux.specs.NetlinkAttributeType.{netlink_attribute_type_of};
+ghost use Rattle.neli_consts_linux.specs.NetlinkAttributeType.{netlink_attribute_type_is_unrecognized};
 ghost use Rattle.neli_wire.specs.laws.Constants.{first_with-number};
 
 use neli_consts::NlAttrType;

@@ -2,7 +2,10 @@
 use Rattle.std.specs.Prelude.{ℕ, Bool, true, false, List, [], ◌∷◌}
 use Rattle.neli_wire.specs.Constants.{first_with}
 use Rattle.neli_consts_routing.specs.declared.links.Arphrd.{Arphrd}
-use Rattle.neli_consts_routing.specs.declared.links.Arphrd.TheVariants.{Netrom, Ether, Eether, AX25, Pronet, Chaos, Ieee802, Arcnet, Appletlk, Dlci, Atm, Metricom, Ieee1394, Eui64, Infiniband, Loopback, Void, None, UnrecognizedConst}
+use Rattle.neli_consts_routing.specs.declared.links.Arphrd.TheVariants.{Netrom, Ether, Eether, AX25, Pronet}
+use Rattle.neli_consts_routing.specs.declared.links.Arphrd.TheVariants.{Chaos, Ieee802, Arcnet, Appletlk, Dlci}
+use Rattle.neli_consts_routing.specs.declared.links.Arphrd.TheVariants.{Atm, Metricom, Ieee1394, Eui64, Infiniband}
+use Rattle.neli_consts_routing.specs.declared.links.Arphrd.TheVariants.{Loopback, Void, None, UnrecognizedConst}
 
 -- the number of each variant
 abbrev pub arphrd_number : Arphrd → ℕ

@@ -2,7 +2,10 @@
 use Rattle.std.specs.Prelude.{ℕ, Bool, true, false, List, [], ◌∷◌}
 use Rattle.neli_wire.specs.Constants.{first_with}
 use Rattle.neli_consts_routing.specs.declared.rules.FrAct.{FrAct}
-use Rattle.neli_consts_routing.specs.declared.rules.FrAct.TheVariants.{Unspec, FrActToTbl, FrActGoto, FrActNop, FrActRes3, FrActRes4, FrActBlackhole, FrActUnreachable, FrActProhibit, FrActMax, UnrecognizedConst}
+use Rattle.neli_consts_routing.specs.declared.rules.FrAct.TheVariants.{Unspec, FrActToTbl, FrActGoto}
+use Rattle.neli_consts_routing.specs.declared.rules.FrAct.TheVariants.{FrActNop, FrActRes3, FrActRes4}
+use Rattle.neli_consts_routing.specs.declared.rules.FrAct.TheVariants.{FrActBlackhole, FrActUnreachable, FrActProhibit}
+use Rattle.neli_consts_routing.specs.declared.rules.FrAct.TheVariants.{FrActMax, UnrecognizedConst}
 
 -- the number of each variant
 abbrev pub fr_act_number : FrAct → ℕ

@@ -2,7 +2,10 @@
 use Rattle.std.specs.Prelude.{ℕ, Bool, true, false, List, [], ◌∷◌}
 use Rattle.neli_wire.specs.Constants.{first_with}
 use Rattle.neli_consts_routing.specs.declared.addresses.RtAddrFamily.{RtAddrFamily}
-use Rattle.neli_consts_routing.specs.declared.addresses.RtAddrFamily.TheVariants.{Unspecified, UnixOrLocal, Inet, Inet6, Ipx, Netlink, X25, Ax25, Atmpvc, Appletalk, Packet, Alg, UnrecognizedConst}
+use Rattle.neli_consts_routing.specs.declared.addresses.RtAddrFamily.TheVariants.{Unspecified, UnixOrLocal, Inet, Inet6}
+use Rattle.neli_consts_routing.specs.declared.addresses.RtAddrFamily.TheVariants.{Ipx, Netlink, X25, Ax25}
+use Rattle.neli_consts_routing.specs.declared.addresses.RtAddrFamily.TheVariants.{Atmpvc, Appletalk, Packet, Alg}
+use Rattle.neli_consts_routing.specs.declared.addresses.RtAddrFamily.TheVariants.{UnrecognizedConst}
 
 -- the number of each variant
 abbrev pub rt_addr_family_number : RtAddrFamily → ℕ

@@ -2,7 +2,8 @@
 use Rattle.std.specs.Prelude.{ℕ, Bool, true, false, List, [], ◌∷◌}
 use Rattle.neli_wire.specs.Constants.{first_with}
 use Rattle.neli_consts_routing.specs.declared.routes.RtScope.{RtScope}
-use Rattle.neli_consts_routing.specs.declared.routes.RtScope.TheVariants.{Universe, Site, Link, Host, Nowhere, UnrecognizedConst}
+use Rattle.neli_consts_routing.specs.declared.routes.RtScope.TheVariants.{Universe, Site, Link}
+use Rattle.neli_consts_routing.specs.declared.routes.RtScope.TheVariants.{Host, Nowhere, UnrecognizedConst}
 
 -- the number of each variant
 abbrev pub rt_scope_number : RtScope → ℕ

@@ -2,7 +2,8 @@
 use Rattle.std.specs.Prelude.{ℕ, Bool, true, false, List, [], ◌∷◌}
 use Rattle.neli_wire.specs.Constants.{first_with}
 use Rattle.neli_consts_routing.specs.declared.routes.RtTable.{RtTable}
-use Rattle.neli_consts_routing.specs.declared.routes.RtTable.TheVariants.{Unspec, Compat, Default, Main, Local, UnrecognizedConst}
+use Rattle.neli_consts_routing.specs.declared.routes.RtTable.TheVariants.{Unspec, Compat, Default}
+use Rattle.neli_consts_routing.specs.declared.routes.RtTable.TheVariants.{Main, Local, UnrecognizedConst}
 
 -- the number of each variant
 abbrev pub rt_table_number : RtTable → ℕ

@@ -2,7 +2,18 @@
 use Rattle.std.specs.Prelude.{ℕ, Bool, true, false, List, [], ◌∷◌}
 use Rattle.neli_wire.specs.Constants.{first_with}
 use Rattle.neli_consts_routing.specs.declared.messages.Rtm.{Rtm}
-use Rattle.neli_consts_routing.specs.declared.messages.Rtm.TheVariants.{Newlink, Dellink, Getlink, Setlink, Newaddr, Deladdr, Getaddr, Newroute, Delroute, Getroute, Newneigh, Delneigh, Getneigh, Newrule, Delrule, Getrule, Newqdisc, Delqdisc, Getqdisc, Newtclass, Deltclass, Gettclass, Newtfilter, Deltfilter, Gettfilter, Newaction, Delaction, Getaction, Newprefix, Getmulticast, Getanycast, Newneightbl, Getneightbl, Setneightbl, Newnduseropt, Newaddrlabel, Deladdrlabel, Getaddrlabel, Getdcb, Setdcb, Newnetconf, Getnetconf, Newmdb, Delmdb, Getmdb, Newnsid, Delnsid, Getnsid, UnrecognizedConst}
+use Rattle.neli_consts_routing.specs.declared.messages.Rtm.TheVariants.{Newlink, Dellink, Getlink, Setlink, Newaddr}
+use Rattle.neli_consts_routing.specs.declared.messages.Rtm.TheVariants.{Deladdr, Getaddr, Newroute, Delroute, Getroute}
+use Rattle.neli_consts_routing.specs.declared.messages.Rtm.TheVariants.{Newneigh, Delneigh, Getneigh, Newrule, Delrule}
+use Rattle.neli_consts_routing.specs.declared.messages.Rtm.TheVariants.{Getrule, Newqdisc, Delqdisc, Getqdisc}
+use Rattle.neli_consts_routing.specs.declared.messages.Rtm.TheVariants.{Newtclass, Deltclass, Gettclass, Newtfilter}
+use Rattle.neli_consts_routing.specs.declared.messages.Rtm.TheVariants.{Deltfilter, Gettfilter, Newaction, Delaction}
+use Rattle.neli_consts_routing.specs.declared.messages.Rtm.TheVariants.{Getaction, Newprefix, Getmulticast, Getanycast}
+use Rattle.neli_consts_routing.specs.declared.messages.Rtm.TheVariants.{Newneightbl, Getneightbl, Setneightbl}
+use Rattle.neli_consts_routing.specs.declared.messages.Rtm.TheVariants.{Newnduseropt, Newaddrlabel, Deladdrlabel}
+use Rattle.neli_consts_routing.specs.declared.messages.Rtm.TheVariants.{Getaddrlabel, Getdcb, Setdcb, Newnetconf}
+use Rattle.neli_consts_routing.specs.declared.messages.Rtm.TheVariants.{Getnetconf, Newmdb, Delmdb, Getmdb, Newnsid}
+use Rattle.neli_consts_routing.specs.declared.messages.Rtm.TheVariants.{Delnsid, Getnsid, UnrecognizedConst}
 
 -- the number of each variant
 abbrev pub rtm_number : Rtm → ℕ

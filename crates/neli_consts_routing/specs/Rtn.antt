@@ -2,7 +2,9 @@
 use Rattle.std.specs.Prelude.{ℕ, Bool, true, false, List, [], ◌∷◌}
 use Rattle.neli_wire.specs.Constants.{first_with}
 use Rattle.neli_consts_routing.specs.declared.routes.Rtn.{Rtn}
-use Rattle.neli_consts_routing.specs.declared.routes.Rtn.TheVariants.{Unspec, Unicast, Local, Broadcast, Anycast, Multicast, Blackhole, Unreachable, Prohibit, Throw, Nat, Xresolve, UnrecognizedConst}
+use Rattle.neli_consts_routing.specs.declared.routes.Rtn.TheVariants.{Unspec, Unicast, Local, Broadcast, Anycast}
+use Rattle.neli_consts_routing.specs.declared.routes.Rtn.TheVariants.{Multicast, Blackhole, Unreachable, Prohibit}
+use Rattle.neli_consts_routing.specs.declared.routes.Rtn.TheVariants.{Throw, Nat, Xresolve, UnrecognizedConst}
 
 -- the number of each variant
 abbrev pub rtn_number : Rtn → ℕ

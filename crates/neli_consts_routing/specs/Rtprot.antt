@@ -2,7 +2,8 @@
 use Rattle.std.specs.Prelude.{ℕ, Bool, true, false, List, [], ◌∷◌}
 use Rattle.neli_wire.specs.Constants.{first_with}
 use Rattle.neli_consts_routing.specs.declared.routes.Rtprot.{Rtprot}
-use Rattle.neli_consts_routing.specs.declared.routes.Rtprot.TheVariants.{Unspec, Redirect, Kernel, Boot, Static, UnrecognizedConst}
+use Rattle.neli_consts_routing.specs.declared.routes.Rtprot.TheVariants.{Unspec, Redirect, Kernel}
+use Rattle.neli_consts_routing.specs.declared.routes.Rtprot.TheVariants.{Boot, Static, UnrecognizedConst}
 
 -- the number of each variant
 abbrev pub rtprot_number : Rtprot → ℕ

@@ -3,7 +3,8 @@
 ghost use Rattle.std.proofs.Common.{rules};
 ghost use Rattle.std.specs.Prelude.{◌≡◌};
 ghost use Rattle.neli_consts_routing.specs.Af.{af_number, af_of, af_is_unrecognized};
-ghost use Rattle.neli_consts_routing.specs.RtAddrFamily.{rt_addr_family_number, rt_addr_family_of, rt_addr_family_is_unrecognized};
+ghost use Rattle.neli_consts_routing.specs.RtAddrFamily.{rt_addr_family_number, rt_addr_family_of};
+ghost use Rattle.neli_consts_routing.specs.RtAddrFamily.{rt_addr_family_is_unrecognized};
 ghost use Rattle.neli_wire.specs.laws.Constants.{first_with-number};
 
 use neli_wire::Constant;

@@ -2,7 +2,9 @@
 use Rattle.std.specs.Prelude.{ℤ, pos, Bool, true, false, List, [], ◌∷◌}
 use Rattle.neli_wire.specs.Constants.{first_with_int}
 use Rattle.neli_consts_system.specs.declared.socket.AddrFamily.{AddrFamily}
-use Rattle.neli_consts_system.specs.declared.socket.AddrFamily.TheVariants.{UnixOrLocal, Inet, Inet6, Ipx, Netlink, X25, Ax25, Atmpvc, Appletalk, Packet, Alg, UnrecognizedConst}
+use Rattle.neli_consts_system.specs.declared.socket.AddrFamily.TheVariants.{UnixOrLocal, Inet, Inet6, Ipx}
+use Rattle.neli_consts_system.specs.declared.socket.AddrFamily.TheVariants.{Netlink, X25, Ax25, Atmpvc}
+use Rattle.neli_consts_system.specs.declared.socket.AddrFamily.TheVariants.{Appletalk, Packet, Alg, UnrecognizedConst}
 
 -- the number of each variant
 abbrev pub addr_family_number : AddrFamily → ℤ

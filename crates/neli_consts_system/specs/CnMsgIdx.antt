@@ -2,7 +2,8 @@
 use Rattle.std.specs.Prelude.{ℕ, Bool, true, false, List, [], ◌∷◌}
 use Rattle.neli_wire.specs.Constants.{first_with}
 use Rattle.neli_consts_system.specs.declared.connector.CnMsgIdx.{CnMsgIdx}
-use Rattle.neli_consts_system.specs.declared.connector.CnMsgIdx.TheVariants.{Proc, Cifs, W1, V86d, Bb, Dst, Dm, Drbd, Kvp, Vss, UnrecognizedConst}
+use Rattle.neli_consts_system.specs.declared.connector.CnMsgIdx.TheVariants.{Proc, Cifs, W1, V86d, Bb, Dst}
+use Rattle.neli_consts_system.specs.declared.connector.CnMsgIdx.TheVariants.{Dm, Drbd, Kvp, Vss, UnrecognizedConst}
 
 -- the number of each variant
 abbrev pub cn_msg_idx_number : CnMsgIdx → ℕ

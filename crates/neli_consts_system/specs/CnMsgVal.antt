@@ -2,7 +2,9 @@
 use Rattle.std.specs.Prelude.{ℕ, Bool, true, false, List, [], ◌∷◌}
 use Rattle.neli_wire.specs.Constants.{first_with}
 use Rattle.neli_consts_system.specs.declared.connector.CnMsgVal.{CnMsgVal}
-use Rattle.neli_consts_system.specs.declared.connector.CnMsgVal.TheVariants.{Proc, Cifs, W1, V86dUvesafb, Dst, DmUserspaceLog, Drbd, Kvp, Vss, UnrecognizedConst}
+use Rattle.neli_consts_system.specs.declared.connector.CnMsgVal.TheVariants.{Proc, Cifs, W1, V86dUvesafb}
+use Rattle.neli_consts_system.specs.declared.connector.CnMsgVal.TheVariants.{Dst, DmUserspaceLog, Drbd, Kvp}
+use Rattle.neli_consts_system.specs.declared.connector.CnMsgVal.TheVariants.{Vss, UnrecognizedConst}
 
 -- the number of each variant
 abbrev pub cn_msg_val_number : CnMsgVal → ℕ

@@ -2,7 +2,8 @@
 use Rattle.std.specs.Prelude.{ℕ, Bool, true, false, List, [], ◌∷◌}
 use Rattle.neli_wire.specs.Constants.{first_with}
 use Rattle.neli_consts_system.specs.declared.netfilter.LogCmd.{LogCmd}
-use Rattle.neli_consts_system.specs.declared.netfilter.LogCmd.TheVariants.{Bind, Unbind, PfBind, PfUnbind, UnrecognizedConst}
+use Rattle.neli_consts_system.specs.declared.netfilter.LogCmd.TheVariants.{Bind, Unbind, PfBind}
+use Rattle.neli_consts_system.specs.declared.netfilter.LogCmd.TheVariants.{PfUnbind, UnrecognizedConst}
 
 -- the number of each variant
 abbrev pub log_cmd_number : LogCmd → ℕ

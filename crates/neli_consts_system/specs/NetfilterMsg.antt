@@ -2,7 +2,8 @@
 use Rattle.std.specs.Prelude.{ℕ, Bool, true, false, List, [], ◌∷◌}
 use Rattle.neli_wire.specs.Constants.{first_with}
 use Rattle.neli_consts_system.specs.declared.netfilter.NetfilterMsg.{NetfilterMsg}
-use Rattle.neli_consts_system.specs.declared.netfilter.NetfilterMsg.TheVariants.{LogPacket, LogConfig, UnrecognizedConst}
+use Rattle.neli_consts_system.specs.declared.netfilter.NetfilterMsg.TheVariants.{LogPacket, LogConfig}
+use Rattle.neli_consts_system.specs.declared.netfilter.NetfilterMsg.TheVariants.{UnrecognizedConst}
 
 -- the number of each variant
 abbrev pub netfilter_msg_number : NetfilterMsg → ℕ

@@ -2,7 +2,12 @@
 use Rattle.std.specs.Prelude.{ℕ, Bool, true, false, List, [], ◌∷◌}
 use Rattle.neli_wire.specs.Constants.{first_with}
 use Rattle.neli_consts_system.specs.declared.netfilter.NfLogAttr.{NfLogAttr}
-use Rattle.neli_consts_system.specs.declared.netfilter.NfLogAttr.TheVariants.{PacketHdr, Mark, Timestamp, IfindexIndev, IfindexOutdev, IfindexPhyindev, IfindexPhyoutdev, Hwaddr, Payload, Prefix, Uid, Seq, SeqGlobal, Gid, Hwtype, Hwheader, Hwlen, Ct, CtInfo, UnrecognizedConst}
+use Rattle.neli_consts_system.specs.declared.netfilter.NfLogAttr.TheVariants.{PacketHdr, Mark, Timestamp, IfindexIndev}
+use Rattle.neli_consts_system.specs.declared.netfilter.NfLogAttr.TheVariants.{IfindexOutdev, IfindexPhyindev}
+use Rattle.neli_consts_system.specs.declared.netfilter.NfLogAttr.TheVariants.{IfindexPhyoutdev, Hwaddr, Payload, Prefix}
+use Rattle.neli_consts_system.specs.declared.netfilter.NfLogAttr.TheVariants.{Uid, Seq, SeqGlobal, Gid, Hwtype}
+use Rattle.neli_consts_system.specs.declared.netfilter.NfLogAttr.TheVariants.{Hwheader, Hwlen, Ct, CtInfo}
+use Rattle.neli_consts_system.specs.declared.netfilter.NfLogAttr.TheVariants.{UnrecognizedConst}
 
 -- the number of each variant
 abbrev pub nf_log_attr_number : NfLogAttr → ℕ

@@ -2,7 +2,8 @@
 use Rattle.std.specs.Prelude.{ℕ, Bool, true, false, List, [], ◌∷◌}
 use Rattle.neli_wire.specs.Constants.{first_with}
 use Rattle.neli_consts_system.specs.declared.netfilter.NfLogCfg.{NfLogCfg}
-use Rattle.neli_consts_system.specs.declared.netfilter.NfLogCfg.TheVariants.{Cmd, Mode, NlBufSize, Timeout, QThresh, Flags, UnrecognizedConst}
+use Rattle.neli_consts_system.specs.declared.netfilter.NfLogCfg.TheVariants.{Cmd, Mode, NlBufSize, Timeout}
+use Rattle.neli_consts_system.specs.declared.netfilter.NfLogCfg.TheVariants.{QThresh, Flags, UnrecognizedConst}
 
 -- the number of each variant
 abbrev pub nf_log_cfg_number : NfLogCfg → ℕ

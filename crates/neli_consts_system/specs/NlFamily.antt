@@ -2,7 +2,12 @@
 use Rattle.std.specs.Prelude.{ℤ, pos, Bool, true, false, List, [], ◌∷◌}
 use Rattle.neli_wire.specs.Constants.{first_with_int}
 use Rattle.neli_consts_system.specs.declared.socket.NlFamily.{NlFamily}
-use Rattle.neli_consts_system.specs.declared.socket.NlFamily.TheVariants.{Route, Unused, Usersock, Firewall, SockOrInetDiag, Nflog, Xfrm, Selinux, Iscsi, Audit, FibLookup, Connector, Netfilter, Ip6Fw, Dnrtmsg, KobjectUevent, Generic, Scsitransport, Ecryptfs, Rdma, Crypto, UnrecognizedConst}
+use Rattle.neli_consts_system.specs.declared.socket.NlFamily.TheVariants.{Route, Unused, Usersock, Firewall}
+use Rattle.neli_consts_system.specs.declared.socket.NlFamily.TheVariants.{SockOrInetDiag, Nflog, Xfrm, Selinux}
+use Rattle.neli_consts_system.specs.declared.socket.NlFamily.TheVariants.{Iscsi, Audit, FibLookup, Connector}
+use Rattle.neli_consts_system.specs.declared.socket.NlFamily.TheVariants.{Netfilter, Ip6Fw, Dnrtmsg, KobjectUevent}
+use Rattle.neli_consts_system.specs.declared.socket.NlFamily.TheVariants.{Generic, Scsitransport, Ecryptfs, Rdma}
+use Rattle.neli_consts_system.specs.declared.socket.NlFamily.TheVariants.{Crypto, UnrecognizedConst}
 
 -- the number of each variant
 abbrev pub nl_family_number : NlFamily → ℤ

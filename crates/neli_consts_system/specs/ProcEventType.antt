@@ -2,7 +2,9 @@
 use Rattle.std.specs.Prelude.{ℕ, Bool, true, false, List, [], ◌∷◌}
 use Rattle.neli_wire.specs.Constants.{first_with}
 use Rattle.neli_consts_system.specs.declared.connector.ProcEventType.{ProcEventType}
-use Rattle.neli_consts_system.specs.declared.connector.ProcEventType.TheVariants.{None, Fork, Exec, Uid, Gid, Sid, Ptrace, Comm, NonzeroExit, Coredump, Exit, UnrecognizedConst}
+use Rattle.neli_consts_system.specs.declared.connector.ProcEventType.TheVariants.{None, Fork, Exec, Uid, Gid, Sid}
+use Rattle.neli_consts_system.specs.declared.connector.ProcEventType.TheVariants.{Ptrace, Comm, NonzeroExit, Coredump}
+use Rattle.neli_consts_system.specs.declared.connector.ProcEventType.TheVariants.{Exit, UnrecognizedConst}
 
 -- the number of each variant
 abbrev pub proc_event_type_number : ProcEventType → ℕ

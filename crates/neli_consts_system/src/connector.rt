@@ -4,8 +4,10 @@ ghost use Rattle.std.proofs.Common.{rules};
 ghost use Rattle.std.specs.Prelude.{◌≡◌};
 ghost use Rattle.neli_consts_system.specs.CnMsgIdx.{cn_msg_idx_number, cn_msg_idx_of, cn_msg_idx_is_unrecognized};
 ghost use Rattle.neli_consts_system.specs.CnMsgVal.{cn_msg_val_number, cn_msg_val_of, cn_msg_val_is_unrecognized};
-ghost use Rattle.neli_consts_system.specs.ProcEventType.{proc_event_type_number, proc_event_type_of, proc_event_type_is_unrecognized};
-ghost use Rattle.neli_consts_system.specs.ProcCnMcastOp.{proc_cn_mcast_op_number, proc_cn_mcast_op_of, proc_cn_mcast_op_is_unrecognized};
+ghost use Rattle.neli_consts_system.specs.ProcEventType.{proc_event_type_number, proc_event_type_of};
+ghost use Rattle.neli_consts_system.specs.ProcEventType.{proc_event_type_is_unrecognized};
+ghost use Rattle.neli_consts_system.specs.ProcCnMcastOp.{proc_cn_mcast_op_number, proc_cn_mcast_op_of};
+ghost use Rattle.neli_consts_system.specs.ProcCnMcastOp.{proc_cn_mcast_op_is_unrecognized};
 ghost use Rattle.neli_wire.specs.laws.Constants.{first_with-number};
 
 use neli_wire::Constant;

@@ -4,9 +4,11 @@ ghost use Rattle.std.proofs.Common.{rules};
 ghost use Rattle.std.specs.Prelude.{◌≡◌};
 ghost use Rattle.neli_consts_system.specs.NfLogAttr.{nf_log_attr_number, nf_log_attr_of, nf_log_attr_is_unrecognized};
 ghost use Rattle.neli_consts_system.specs.NfLogCfg.{nf_log_cfg_number, nf_log_cfg_of, nf_log_cfg_is_unrecognized};
-ghost use Rattle.neli_consts_system.specs.NetfilterMsg.{netfilter_msg_number, netfilter_msg_of, netfilter_msg_is_unrecognized};
+ghost use Rattle.neli_consts_system.specs.NetfilterMsg.{netfilter_msg_number, netfilter_msg_of};
+ghost use Rattle.neli_consts_system.specs.NetfilterMsg.{netfilter_msg_is_unrecognized};
 ghost use Rattle.neli_consts_system.specs.LogCmd.{log_cmd_number, log_cmd_of, log_cmd_is_unrecognized};
-ghost use Rattle.neli_consts_system.specs.LogCopyMode.{log_copy_mode_number, log_copy_mode_of, log_copy_mode_is_unrecognized};
+ghost use Rattle.neli_consts_system.specs.LogCopyMode.{log_copy_mode_number, log_copy_mode_of};
+ghost use Rattle.neli_consts_system.specs.LogCopyMode.{log_copy_mode_is_unrecognized};
 ghost use Rattle.neli_wire.specs.laws.Constants.{first_with-number};
 
 use neli_wire::Constant;

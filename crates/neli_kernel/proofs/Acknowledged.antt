@@ -1,5 +1,6 @@
 -- Acknowledgements and errors, as a router keeps and delivers them.
-use Rattle.std.proofs.Common.{◌≡◌, ◌≢◌, ℕ, ◌+◌, ◌-◌, ◌<◌, All, Bool, true, false, ltb, List, [], ◌∷◌, ◌++◌, length, take, drop, None, Result, Ok, refl, sym, ap, ◌∙◌, append_assoc, arith, length-append}
+use Rattle.std.proofs.Common.{◌≡◌, ◌≢◌, ℕ, ◌+◌, ◌-◌, ◌<◌, All, Bool, true, false, ltb, List, [], ◌∷◌, ◌++◌, length}
+use Rattle.std.proofs.Common.{take, drop, None, Result, Ok, refl, sym, ap, ◌∙◌, append_assoc, arith, length-append}
 use Rattle.std.specs.Prelude.{◌&&◌, ℤ, pos, FitsSigned, nat_eq, nat_le, replicate}
 use Rattle.std.specs.Int.{w32, cast_signed, cast_unsigned}
 use Rattle.std.proofs.Math.Facts.{Fits-of_z}
@@ -17,7 +18,8 @@ use Rattle.neli_wire.specs.Writing.{Wire, ◌+++◌, zeros_for}
 use Rattle.neli_wire.specs.laws.Numbers.{count-signed, count-unsigned}
 use Rattle.neli_consts.specs.declared.nlm_f.NlmF.{NlmF}
 use Rattle.neli_reader.specs.Agreement.{untyped_layout}
-use Rattle.neli_reader.specs.Answers.{Attributes, after, after_echo, answer, code_in, echo_with, echoed_count, echoed_in, echoed_length, ext_ack_in, failure_in, headed_in, tail_in}
+use Rattle.neli_reader.specs.Answers.{Attributes, after, after_echo, answer, code_in, echo_with, echoed_count}
+use Rattle.neli_reader.specs.Answers.{echoed_in, echoed_length, ext_ack_in, failure_in, headed_in, tail_in}
 use Rattle.neli_reader.specs.Cuts.{cut_of}
 use Rattle.neli_reader.specs.Headers.{Header, flags_of, header_in, header_wire}
 use Rattle.neli_reader.specs.Kinds.{is_acknowledged, payload_in, tail_of}
@@ -128,7 +130,8 @@ zero-fits = fits_signed_from_abs w32 (pos 0) (omega arith)
 some-code : (code : ℤ) → FitsSigned w32 code → code ≢ pos 0 → nat_eq (cast_unsigned w32 code) 0 ≡ false
 some-code code fits not = ne_eqb _ _ (λ e. not (sym (to_z-of_z w32 code fits) ∙ ap (cast_signed w32) e))
 
--- the attributes behind a header that is echoed alone are read where there are some, and there are none where they are not read
+-- the attributes behind a header that is echoed alone are read where there are some, and there are none where they are
+-- not read
 tail-read : (attrs : Attributes) (extra : List ℕ) → AreReadBack attrs extra
     → tail_in (tail_of (answer_flags (flags_of 256) attrs)) extra ≡ Ok attrs
 tail-read [] extra back = refl

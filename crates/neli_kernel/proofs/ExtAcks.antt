@@ -1,5 +1,6 @@
 -- Attributes of an extended acknowledgement that are read back from their bytes.
-use Rattle.std.proofs.Common.{◌≡◌, ℕ, ◌+◌, ◌%◌, ◌<◌, All, List, [], ◌∷◌, ◌++◌, length, map, Result, Ok, refl, ap, ◌∙◌, arith, length-append}
+use Rattle.std.proofs.Common.{◌≡◌, ℕ, ◌+◌, ◌%◌, ◌<◌, All, List, [], ◌∷◌, ◌++◌}
+use Rattle.std.proofs.Common.{length, map, Result, Ok, refl, ap, ◌∙◌, arith, length-append}
 use Rattle.std.proofs.lemmas.List.Elements.{All-weaker}
 use Rattle.neli_wire.specs.DeError.{DeError}
 use Rattle.neli_wire.specs.Reading.{◌>>=◌}
@@ -16,7 +17,8 @@ use Rattle.neli_attr.specs.Nlattr.{nlattr_says, nlattr_wire}
 use Rattle.neli_attr.specs.TypeField.{number_of, type_of}
 use Rattle.neli_attr.specs.declared.nlattr.Nlattr.{Nlattr}
 use Rattle.neli_attr.specs.laws.Nlattr.{nlattr_wire-length}
-use Rattle.neli_attr.specs.laws.RoundTrips.{IsWrittenAs, attribute-written, list-reads_back, number_of-small, type_of-named}
+use Rattle.neli_attr.specs.laws.RoundTrips.{IsWrittenAs, attribute-written, list-reads_back}
+use Rattle.neli_attr.specs.laws.RoundTrips.{number_of-small, type_of-named}
 use Rattle.neli_reader.specs.Answers.{Attributes, attribute_of, ext_ack_in}
 use Rattle.neli_reader.specs.Wires.{attributes_wire}
 use Rattle.neli_kernel.specs.Delivered.{AreReadBack, IsPlainAttribute}

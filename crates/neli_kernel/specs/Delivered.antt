@@ -1,5 +1,6 @@
 -- Messages as a router keeps and delivers them.
-use Rattle.std.specs.Prelude.{◌≡◌, ◌≢◌, ◌<◌, ℕ, ◌+◌, ℤ, FitsSigned, List, [], ◌∷◌, ◌++◌, Bool, true, Option, None, Some, Result, Ok, flat_map, length}
+use Rattle.std.specs.Prelude.{◌≡◌, ◌≢◌, ◌<◌, ℕ, ◌+◌, ℤ, FitsSigned, List, [], ◌∷◌}
+use Rattle.std.specs.Prelude.{◌++◌, Bool, true, Option, None, Some, Result, Ok, flat_map, length}
 use Rattle.std.specs.Int.{w32}
 use Rattle.neli_wire.specs.DeError.{DeError}
 use Rattle.neli_wire.specs.Numbers.{signed_bytes}

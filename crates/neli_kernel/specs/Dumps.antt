@@ -1,5 +1,7 @@
--- A dump: messages with the flag MULTI, the end after them, and how they lie in datagrams (the kernel's `netlink_dump`).
-use Rattle.std.specs.Prelude.{ℕ, ◌+◌, ◌<◌, ℤ, bit_or, List, [], ◌∷◌, ◌++◌, codes, length, map, nat_lt, if◌then◌else◌, Result, Ok, Err}
+-- A dump: messages with the flag MULTI, the end after them, and how they lie in datagrams (the kernel's
+-- `netlink_dump`).
+use Rattle.std.specs.Prelude.{ℕ, ◌+◌, ◌<◌, ℤ, bit_or, List, [], ◌∷◌, ◌++◌}
+use Rattle.std.specs.Prelude.{codes, length, map, nat_lt, if◌then◌else◌, Result, Ok, Err}
 use Rattle.neli_wire.specs.Refusals.{IsRefusal, ser_ran_out}
 use Rattle.neli_wire.specs.SerError.{SerError}
 use Rattle.neli_wire.specs.SerError.TheVariants as ser

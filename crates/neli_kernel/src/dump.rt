@@ -3,7 +3,8 @@
 ghost use Rattle.std.specs.Prelude.{⊤, ◌≡◌, ◌≢◌, [], Ok, IfOk, IfErr, OnOk, OnErr, map};
 ghost use Rattle.neli_wire.specs.Refusals.{IsRefusal, ser_ran_out};
 ghost use Rattle.neli_kernel.specs.Answers.{message_or_refusal};
-ghost use Rattle.neli_kernel.specs.Dumps.{RefusesPut, begun, datagrams_of, dump_end, dump_message, finished, packed_in, put_wire};
+ghost use Rattle.neli_kernel.specs.Dumps.{RefusesPut, begun, datagrams_of, dump_end};
+ghost use Rattle.neli_kernel.specs.Dumps.{dump_message, finished, packed_in, put_wire};
 
 use crate::{ExtAck, Request};
 use neli_consts::{NlType, NlmF};

@@ -1,6 +1,7 @@
 //! Laws of answers, over the definitions alone. The calls do nothing: their contracts are the laws.
 
-ghost use Rattle.std.specs.Prelude.{◌≡◌, ◌≢◌, ◌<◌, ◌+◌, ◌++◌, ◌∷◌, [], ℕ, ℤ, true, All, Bool, FitsSigned, List, Option, Ok, None, Some, flat_map, length, map, pos};
+ghost use Rattle.std.specs.Prelude.{◌≡◌, ◌≢◌, ◌<◌, ◌+◌, ◌++◌, ◌∷◌, [], ℕ, ℤ, true, All};
+ghost use Rattle.std.specs.Prelude.{Bool, FitsSigned, List, Option, Ok, None, Some, flat_map, length, map, pos};
 ghost use Rattle.std.specs.Int.{w32};
 ghost use Rattle.neli_wire.specs.Numbers.{signed_bytes};
 ghost use Rattle.neli_consts.specs.declared.nlm_f.NlmF.{NlmF as Flags};
@@ -14,10 +15,13 @@ ghost use Rattle.neli_reader.specs.NlPayload.{NlPayload as Payload};
 ghost use Rattle.neli_lent.specs.Messages.{Lent, messages_in};
 ghost use Rattle.neli_lent.specs.Written.{IsWalked};
 ghost use Rattle.neli_deliveries.specs.Deliveries.{Untyped, datagram_share, message};
-ghost use Rattle.neli_kernel.specs.Answers.{IsAddressed, acknowledgement, capped_error, error, message_or_refusal, message_with};
+ghost use Rattle.neli_kernel.specs.Answers.{IsAddressed, acknowledgement, capped_error};
+ghost use Rattle.neli_kernel.specs.Answers.{error, message_or_refusal, message_with};
 ghost use Rattle.neli_kernel.specs.declared.request.Request.{Request as Asked};
 ghost use Rattle.neli_kernel.specs.Datagrams.{AreRead, AreWithin};
-ghost use Rattle.neli_kernel.specs.Delivered.{AreReadBack, IsAnswer, IsDelivered, IsEnd, IsFor, IsPlain, IsPlainAttribute, IsReply, answer_kept, end_said, kept, reply_kept, shares, untyped};
+ghost use Rattle.neli_kernel.specs.Delivered.{AreReadBack, IsAnswer, IsDelivered, IsEnd, IsFor};
+ghost use Rattle.neli_kernel.specs.Delivered.{IsPlain, IsPlainAttribute, IsReply, answer_kept, end_said};
+ghost use Rattle.neli_kernel.specs.Delivered.{kept, reply_kept, shares, untyped};
 ghost use Rattle.neli_kernel.specs.Dumps.{Packed, begun, datagrams_of, dump_end, finished, put_wire};
 
 use neli_consts::NlType;

@@ -1,7 +1,8 @@
-//! What a kernel answers to a netlink request, as the bytes that it puts on the link: for whoever tests a client without
-//! a kernel.
+//! What a kernel answers to a netlink request, as the bytes that it puts on the link: for whoever tests a client
+//! without a kernel.
 //!
-//! - [`Request`] is a request as the kernel takes it, and makes each answer to it: an acknowledgement, an error, a reply.
+//! - [`Request`] is a request as the kernel takes it, and makes each answer to it: an acknowledgement, an error, a
+//!   reply.
 //! - [`Dump`] is an answer in several messages, which are cut into datagrams.
 //! - [`notification`] is what the kernel sends to groups, unasked.
 //! - [`ExtAck`] are the attributes of an extended acknowledgement.
@@ -14,8 +15,8 @@
 //!  +-------+-------+-------+-------+-------+-------+-----------------+----- - - -+- - -+----- - - - -+
 //! ```
 //!
-//! That is an error which echoes a request of L bytes whole. An acknowledgement and a capped error echo the header alone,
-//! and their attributes begin at 36. The number and the port are those of the request.
+//! That is an error which echoes a request of L bytes whole. An acknowledgement and a capped error echo the header
+//! alone, and their attributes begin at 36. The number and the port are those of the request.
 //!
 //! `specs/Answers.antt` says which message each answer is. It is written as every message is: what its bytes are stands
 //! in `specs/Wires.antt` of `neli_msg`.

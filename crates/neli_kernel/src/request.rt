@@ -2,7 +2,8 @@
 
 ghost use Rattle.std.specs.Prelude.{◌≡◌, [], Ok, IfOk, IfErr};
 ghost use Rattle.neli_reader.specs.NlPayload.TheVariants as payload;
-ghost use Rattle.neli_kernel.specs.Answers.{RefusesMessage, acknowledgement, answer_flags, capped_error, error, message_or_refusal, reply};
+ghost use Rattle.neli_kernel.specs.Answers.{RefusesMessage, acknowledgement, answer_flags, capped_error};
+ghost use Rattle.neli_kernel.specs.Answers.{error, message_or_refusal, reply};
 ghost use Rattle.neli_kernel.specs.Dumps.{dump_end, packed_in};
 ghost use Rattle.neli_kernel.specs.Requests.{has_flags, is_handled};
 
@@ -110,8 +111,8 @@ impl<'b> Request<'b> {
         self.payload
     }
 
-    /// Whether the kernel acts on it: it has the flag REQUEST, and its type is none of control messages, which are below
-    /// 16 (`NLMSG_MIN_TYPE`). The kernel passes over another message, but acknowledges it where that is wanted.
+    /// Whether the kernel acts on it: it has the flag REQUEST, and its type is none of control messages, which are
+    /// below 16 (`NLMSG_MIN_TYPE`). The kernel passes over another message, but acknowledges it where that is wanted.
     pub fn is_handled(&self) -> bool
         ensures { result ≡ is_handled self.now }
     {
@@ -125,7 +126,8 @@ impl<'b> Request<'b> {
         self.header.nl_flags().contains(NlmF::ACK)
     }
 
-    /// Whether it wants a dump: both bits of `NLM_F_DUMP` are set. Only in requests that get something do they mean this.
+    /// Whether it wants a dump: both bits of `NLM_F_DUMP` are set. Only in requests that get something do they mean
+    /// this.
     pub fn wants_dump(&self) -> bool
         ensures { result ≡ has_flags self.now 768 }
     {

@@ -1,5 +1,6 @@
 -- What came for a handle since its request was sent.
-use Rattle.std.proofs.Common.{◌≡◌, ◌<◌, ◌≤◌, ℕ, suc, ◌++◌, All, Bool, true, false, ◌||◌, ◌&&◌, not, List, [], ◌∷◌, map, Some, None, Result, refl, sym, ap, subst, ◌∙◌, append_assoc, arith}
+use Rattle.std.proofs.Common.{◌≡◌, ◌<◌, ◌≤◌, ℕ, suc, ◌++◌, All, Bool, true, false, ◌||◌, ◌&&◌, not, List}
+use Rattle.std.proofs.Common.{[], ◌∷◌, map, Some, None, Result, refl, sym, ap, subst, ◌∙◌, append_assoc, arith}
 use Rattle.std.specs.Prelude.{nat_le, ◌==◌, if◌then◌else◌}
 use Rattle.std.specs.List.{filter}
 use Rattle.std.proofs.lemmas.Bool.Decides.{nat_tests}
@@ -10,7 +11,8 @@ use Rattle.neli_consts.specs.declared.nlm_f.NlmF.{NlmF}
 use Rattle.neli_reader.specs.Agreement.{untyped_layout}
 use Rattle.neli_reader.specs.Cuts.{Cut, cut_of}
 use Rattle.neli_reader.specs.NlPayload.{NlPayload}
-use Rattle.neli_deliveries.specs.Deliveries.{Untyped, datagram_share, is_reply, message, messages_to, reader_fault, stray}
+use Rattle.neli_deliveries.specs.Deliveries.{Untyped, datagram_share, is_reply, message}
+use Rattle.neli_deliveries.specs.Deliveries.{messages_to, reader_fault, stray}
 use Rattle.neli_deliveries.specs.declared.delivery.Delivery.{Delivery}
 use Rattle.neli_deliveries.specs.Readings.{Item}
 use Rattle.neli_runs.specs.declared.command.Command.{Command}
@@ -18,7 +20,8 @@ use Rattle.neli_runs.specs.declared.command.Command.TheVariants as command
 use Rattle.neli_runs.specs.declared.command.Outcome.{Outcome}
 use Rattle.neli_runs.specs.declared.command.Outcome.TheVariants as outcome
 use Rattle.neli_runs.specs.Deliveries.{deliveries, handed_over}
-use Rattle.neli_runs.specs.History.{Event, History, is_closed, is_handle_open, is_open, is_sent, items_of, needs_of, next_number, number_of, requests_sent}
+use Rattle.neli_runs.specs.History.{Event, History, is_closed, is_handle_open, is_open, is_sent}
+use Rattle.neli_runs.specs.History.{items_of, needs_of, next_number, number_of, requests_sent}
 use Rattle.neli_runs.specs.Outcomes.{IsAnswered, IsNextAnswer, IsReadOf, outcome_of}
 use Rattle.neli_runs.specs.Regrouping.{Bytes}
 use Rattle.neli_runs.specs.Reply.{Reply}

@@ -1,5 +1,6 @@
 -- Requests and the datagrams that came for them.
-use Rattle.std.proofs.Common.{◌≡◌, ◌<◌, ◌≤◌, ℕ, zero, suc, ◌++◌, All, Bool, true, false, ◌&&◌, ◌||◌, List, [], ◌∷◌, None, Result, refl, sym, ap, subst, ◌∙◌, inl, inr, arith}
+use Rattle.std.proofs.Common.{◌≡◌, ◌<◌, ◌≤◌, ℕ, zero, suc, ◌++◌, All, Bool, true, false, ◌&&◌, ◌||◌}
+use Rattle.std.proofs.Common.{List, [], ◌∷◌, None, Result, refl, sym, ap, subst, ◌∙◌, inl, inr, arith}
 use Rattle.std.specs.Prelude.{◌==◌, ◌⊎◌, flat_map}
 use Rattle.std.proofs.lemmas.Bool.{eq-eqb}
 use Rattle.std.proofs.lemmas.Bool.Decides.{leb_tells, nat_tests}
@@ -17,7 +18,8 @@ use Rattle.neli_runs.specs.Rule.{needs_ack}
 use Rattle.neli_kernel.specs.Delivered.{IsFor}
 use Rattle.neli_kernel.specs.declared.request.Request.{Request}
 use Rattle.neli_kernel_laws.specs.Complete.{IsComplete}
-use Rattle.neli_kernel_laws.specs.Exchanges.{AllOthersAnswer, Exchange, IsReadInTurn, IsServed, OthersAnswer, ReadsGive, datagram_with, datagrams_with, history_with, own_number, taken_with}
+use Rattle.neli_kernel_laws.specs.Exchanges.{AllOthersAnswer, Exchange, IsReadInTurn, IsServed, OthersAnswer, ReadsGive}
+use Rattle.neli_kernel_laws.specs.Exchanges.{datagram_with, datagrams_with, history_with, own_number, taken_with}
 use Rattle.neli_kernel_laws.specs.Served.{AllAnswer, Answers, brought, came, numbered}
 use Rattle.neli_kernel_laws.specs.Turns.{IsReadAs}
 use Rattle.neli_kernel_laws.proofs.Came.{Keeps, is-given, keeps-more, open-by, or-later, read-in-turn, start-keeps}

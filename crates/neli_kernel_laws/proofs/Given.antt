@@ -1,5 +1,6 @@
 -- A whole answer is given in turn.
-use Rattle.std.proofs.Common.{◌≡◌, ◌<◌, ℕ, ◌++◌, All, Bool, true, false, List, [], ◌∷◌, map, Result, Ok, Err, refl, sym, subst, ◌∙◌, inl, inr}
+use Rattle.std.proofs.Common.{◌≡◌, ◌<◌, ℕ, ◌++◌, All, Bool, true, false, List, [], ◌∷◌}
+use Rattle.std.proofs.Common.{map, Result, Ok, Err, refl, sym, subst, ◌∙◌, inl, inr}
 use Rattle.std.proofs.lemmas.List.{length-map}
 use Rattle.std.proofs.lemmas.List.Elements.{All-head, All-tail}
 use Rattle.neli_wire.specs.DeError.{DeError}

@@ -1,5 +1,6 @@
 -- Items of a handle, one after the other, and where they end.
-use Rattle.std.proofs.Common.{ℕ, suc, ◌≡◌, Bool, true, false, min, List, [], ◌∷◌, length, Option, Some, None, Ok, Err, refl, sym, ap, subst, ◌∙◌, arith}
+use Rattle.std.proofs.Common.{ℕ, suc, ◌≡◌, Bool, true, false, min, List, [], ◌∷◌, length}
+use Rattle.std.proofs.Common.{Option, Some, None, Ok, Err, refl, sym, ap, subst, ◌∙◌, arith}
 use Rattle.std.specs.Prelude.{⊤, nat_lt, ◌==◌}
 use Rattle.std.specs.List.{list_any, slice_get}
 use Rattle.std.proofs.lemmas.Bool.Decides.{nat_tests}
@@ -9,7 +10,8 @@ use Rattle.neli_reader.specs.NlPayload.TheVariants as payload
 use Rattle.neli_runs.specs.Reply.{Reply}
 use Rattle.neli_runs.specs.Reply.TheVariants as reply
 use Rattle.neli_deliveries.specs.Readings.{Item}
-use Rattle.neli_runs.specs.Rule.{answer, answer_at, ends_alone, first_place, is_answer, is_single, last_item_of_payload, last_item, last_place, single_place}
+use Rattle.neli_runs.specs.Rule.{answer, answer_at, ends_alone, first_place, is_answer}
+use Rattle.neli_runs.specs.Rule.{is_single, last_item_of_payload, last_item, last_place, single_place}
 use Rattle.neli_runs.specs.Outcomes.{WereAnswers}
 use Rattle.neli_kernel_laws.specs.Turns.{IsInTurn, IsReplyOrEnd, is_err}
 

@@ -29,8 +29,8 @@ pub record IsWhole (u : Untyped) : Type 0 where
   pub whole : is_whole_reply (λ n. n) (message_from u) ≡ true
   pub type_fits : u.0.message_type < 65536
 
--- what stands last in the answer to a request that needs an acknowledgement, or needs none: an error; the acknowledgement,
--- after a whole reply or not; or the whole reply
+-- what stands last in the answer to a request that needs an acknowledgement, or needs none: an error; the
+-- acknowledgement, after a whole reply or not; or the whole reply
 abbrev pub IsEnding : Bool → List Untyped → Type 0
 IsEnding true [] = ⊥
 IsEnding true (u ∷ []) = is_answer u.1 ≡ true

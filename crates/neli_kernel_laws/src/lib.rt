@@ -7,7 +7,8 @@
 //! [`refused_request_is_answered`], [`replied_request_is_answered`] and [`dump_request_is_answered`] put both together.
 #![tactic(auto)]
 
-ghost use Rattle.std.specs.Prelude.{◌≡◌, ◌≢◌, ◌<◌, ◌+◌, ◌++◌, ◌∷◌, [], ℕ, ℤ, Bool, true, false, All, FitsSigned, List, Ok, None, flat_map, length, map, pos};
+ghost use Rattle.std.specs.Prelude.{◌≡◌, ◌≢◌, ◌<◌, ◌+◌, ◌++◌, ◌∷◌, [], ℕ, ℤ, Bool, true};
+ghost use Rattle.std.specs.Prelude.{false, All, FitsSigned, List, Ok, None, flat_map, length, map, pos};
 ghost use Rattle.std.specs.Int.{w32};
 ghost use Rattle.neli_consts.specs.declared.nlm_f.NlmF.{NlmF as Flags};
 ghost use Rattle.neli_reader.specs.Agreement.{untyped_layout};
@@ -21,7 +22,8 @@ ghost use Rattle.neli_lent.specs.Messages.{Lent};
 ghost use Rattle.neli_deliveries.specs.Deliveries.{Untyped, is_reply, message};
 ghost use Rattle.neli_deliveries.specs.Readings.{Item};
 ghost use Rattle.neli_kernel.specs.Answers.{acknowledgement, capped_error, error, message_or_refusal};
-ghost use Rattle.neli_kernel.specs.Delivered.{AreReadBack, IsAnswer, IsEnd, IsFor, IsReply, answer_kept, reply_kept, untyped};
+ghost use Rattle.neli_kernel.specs.Delivered.{AreReadBack, IsAnswer, IsEnd, IsFor};
+ghost use Rattle.neli_kernel.specs.Delivered.{IsReply, answer_kept, reply_kept, untyped};
 ghost use Rattle.neli_kernel.specs.Datagrams.{AreRead};
 ghost use Rattle.neli_kernel.specs.Dumps.{Packed, datagrams_of, dump_end, finished};
 ghost use Rattle.neli_kernel.specs.declared.request.Request.{Request as Asked};

@@ -3,7 +3,8 @@
 #![tactic(auto)]
 
 ghost use Rattle.std.specs.Prelude.{◌≡◌, [], ◌∷◌, ◌++◌, map, IfOk, OnOk};
-ghost use Rattle.neli_kernel_tables.specs.Numbers.{addresses_numbers, body_numbers, links_numbers, numbers, others_numbers, routes_numbers, table_numbers};
+ghost use Rattle.neli_kernel_tables.specs.Numbers.{addresses_numbers, body_numbers, links_numbers, numbers};
+ghost use Rattle.neli_kernel_tables.specs.Numbers.{others_numbers, routes_numbers, table_numbers};
 
 use neli_schema::tables::{
     BODIES, action, address, address_label, bond, bridge, controller, encapsulation,

@@ -1,5 +1,6 @@
 -- Walks, one item after the other.
-use Rattle.std.proofs.Common.{◌≡◌, ◌≢◌, ◌+◌, ◌≤◌, ℕ, List, [], ◌∷◌, length, Option, Some, None, Ok, Err, refl, sym, ap, ◌∙◌, arith}
+use Rattle.std.proofs.Common.{◌≡◌, ◌≢◌, ◌+◌, ◌≤◌, ℕ, List, [], ◌∷◌, length, Option}
+use Rattle.std.proofs.Common.{Some, None, Ok, Err, refl, sym, ap, ◌∙◌, arith}
 use Rattle.std.specs.Prelude.{◌<◌, Result, IfSome, IsNone, MatchOption, OnErr, OnSome, option_map}
 use Rattle.neli_wire.specs.DeError.{DeError}
 use Rattle.neli_wire.specs.Frames.{frame_at}

@@ -24,8 +24,8 @@ pub record HeaderFits (h : Header ℕ) : Type 0 where
   pub sequence_number : h.sequence_number < 4294967296
   pub port : h.port < 4294967296
 
--- the bytes are one message of a datagram: this one's header, and its payload's bytes and zeros up to a multiple of four;
--- and no fault
+-- the bytes are one message of a datagram: this one's header, and its payload's bytes and zeros up to a multiple of
+-- four; and no fault
 abbrev pub IsWalked : {K P : Type 0} → (K → ℕ) → (P → Wire) → Nlmsghdr K P → List ℕ → Type 0
 IsWalked number_of wire m bytes =
     (body : List ℕ) × (payload_wire number_of wire m.payload ≡ Ok body)

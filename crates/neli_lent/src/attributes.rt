@@ -133,7 +133,8 @@ impl<'b, T: RtaType> LentAttrs<'b, T> {
     /// attribute stands before it.
     pub fn get_attribute_masked(&self, t: T) -> Result<Option<LentAttr<'b, T>>, DeError>
         ensures { map_found attribute_said result
-            ≡ find_in (λ a. is_masked T.wire_number t a.0.kind) (attributes_at T.wire_value self.now) }
+            ≡ find_in (λ a. is_masked T.wire_number t a.0.kind)
+            (attributes_at T.wire_value self.now) }
     {
         self.get_attribute(Masked(t))
     }

@@ -59,8 +59,8 @@ impl<'b, T: NlType> LentMessages<'b, T> {
         }
     }
 
-    /// The bytes that it still has to read. What is asked of before [`next`](Iterator::next) tells where a message, or the
-    /// fault, begins: as many bytes before the datagram's end as there are here.
+    /// The bytes that it still has to read. What is asked of before [`next`](Iterator::next) tells where a message, or
+    /// the fault, begins: as many bytes before the datagram's end as there are here.
     pub fn rest(&self) -> &'b [u8]
         ensures { result.now ≡ self.now }
     {

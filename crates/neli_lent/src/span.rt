@@ -4,7 +4,8 @@ ghost use Rattle.std.specs.Prelude.{◌≡◌, ℕ, List, Ok, IfOk, IfErr};
 ghost use Rattle.neli_wire.specs.Sizes.{align};
 ghost use Rattle.neli_reader.specs.Messages.{Message};
 ghost use Rattle.neli_reader.specs.NlPayload.TheVariants as payload;
-ghost use Rattle.neli_reader.specs.Retyping.{HasOwnEcho, IsMessageTooLong, RefusesTyping, payload_stating, stated_echo, typed_header, typed_payload, with_len};
+ghost use Rattle.neli_reader.specs.Retyping.{HasOwnEcho, IsMessageTooLong, RefusesTyping, payload_stating};
+ghost use Rattle.neli_reader.specs.Retyping.{stated_echo, typed_header, typed_payload, with_len};
 ghost use Rattle.neli_reader.specs.Wires.{message_size};
 ghost use Rattle.neli_lent.specs.Spans.{IsSpan, Spells};
 

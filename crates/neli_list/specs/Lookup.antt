@@ -1,5 +1,6 @@
 -- Looking attributes up by their type, and reading what was found.
-use Rattle.std.specs.Prelude.{ℕ, ◌<◌, List, Bool, Option, Some, None, Result, Err, IsSomeAnd, bit_and, codes, find, length, nat_eq, option_map}
+use Rattle.std.specs.Prelude.{ℕ, ◌<◌, List, Bool, Option, Some, None, Result}
+use Rattle.std.specs.Prelude.{Err, IsSomeAnd, bit_and, codes, find, length, nat_eq, option_map}
 use Rattle.neli_wire.specs.DeError.{DeError}
 use Rattle.neli_wire.specs.DeError.TheVariants.{Msg}
 use Rattle.neli_wire.specs.Bytes.{Reading}

@@ -1,10 +1,12 @@
 //! Lists that are written and read one value after the other.
 
-ghost use Rattle.std.specs.Prelude.{◌≡◌, ◌++◌, ◌∷◌, ◌↔◌, ◌<◌, List, [], IfErr, IfOk, OnOk, OnErr, IsTrue, IsSome, length, map, option_to_list, sum_by, take};
+ghost use Rattle.std.specs.Prelude.{◌≡◌, ◌++◌, ◌∷◌, ◌↔◌, ◌<◌, List, [], IfErr, IfOk};
+ghost use Rattle.std.specs.Prelude.{OnOk, OnErr, IsTrue, IsSome, length, map, option_to_list, sum_by, take};
 ghost use Rattle.std.specs.Borrow.{sem};
 ghost use Rattle.std.specs.Cmp.Lexicographic.{lists_equiv, lists_per, pointwise};
 ghost use Rattle.std.specs.Slice.Iter.{iter_rest, iter_mut_rest};
-ghost use Rattle.neli_wire.specs.laws.Lists.{elements-no_memory, elements-never_short, wire_all-length, wire_all-no_memory};
+ghost use Rattle.neli_wire.specs.laws.Lists.{elements-no_memory, elements-never_short};
+ghost use Rattle.neli_wire.specs.laws.Lists.{wire_all-length, wire_all-no_memory};
 ghost use Rattle.neli_wire.specs.laws.Elements.{elements};
 ghost use Rattle.neli_wire.specs.laws.Sizes.{unpadded-rounded, unpadded-zeros};
 ghost use Rattle.neli_wire.specs.Writing.{wire_all};

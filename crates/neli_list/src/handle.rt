@@ -7,7 +7,8 @@ ghost use Rattle.neli_wire.specs.Refusals.{Refuses};
 ghost use Rattle.neli_wire.specs.DeError.TheVariants.{Memory};
 ghost use Rattle.neli_wire.specs.laws.Elements.{elements};
 ghost use Rattle.neli_list.specs.Payloads.{ReadsFirst, RefusesAs};
-ghost use Rattle.neli_list.specs.Lookup.{first_masked, first_of_type, list_found, list_found_takes_memory, payload_of_type, read_found, read_found_takes_memory};
+ghost use Rattle.neli_list.specs.Lookup.{first_masked, first_of_type, list_found, list_found_takes_memory};
+ghost use Rattle.neli_list.specs.Lookup.{payload_of_type, read_found, read_found_takes_memory};
 
 use crate::{FrameList, handle_of_payload, read_borrowed, read_first, read_whole};
 use neli_wire::{
@@ -17,8 +18,8 @@ use neli_wire::{
 use std::alloc::Global;
 use std::slice::Iter;
 
-/// The bits of a type field that are the type itself (`NLA_TYPE_MASK` of `linux/netlink.h`). The other two are the flags
-/// `NLA_F_NESTED` and `NLA_F_NET_BYTEORDER`.
+/// The bits of a type field that are the type itself (`NLA_TYPE_MASK` of `linux/netlink.h`). The other two are the
+/// flags `NLA_F_NESTED` and `NLA_F_NET_BYTEORDER`.
 const TYPE_MASK: u16 = 0x3fff;
 
 /// An attribute as handles see it: a type, by which it is found, and a payload of bytes.

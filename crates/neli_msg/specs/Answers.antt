@@ -1,5 +1,6 @@
 -- Answers: a code, what is answered, and attributes that say more (`struct nlmsgerr` of linux/netlink.h).
-use Rattle.std.specs.Prelude.{ℕ, ◌+◌, ◌-◌, ◌<◌, ◌⊎◌, ℤ, List, [], ◌++◌, codes, length, take, drop, map, Result, Ok, Err, IsOkAnd, nat_lt, if◌then◌else◌}
+use Rattle.std.specs.Prelude.{ℕ, ◌+◌, ◌-◌, ◌<◌, ◌⊎◌, ℤ, List, [], ◌++◌, codes}
+use Rattle.std.specs.Prelude.{length, take, drop, map, Result, Ok, Err, IsOkAnd, nat_lt, if◌then◌else◌}
 use Rattle.std.specs.Fmt.{signed_decimal}
 use Rattle.std.specs.Int.{w32}
 use Rattle.neli_wire.specs.DeError.{DeError}

@@ -1,5 +1,6 @@
 -- An answer as a person reads it: its code, the error's name and meaning, and what the attributes say more.
-use Rattle.std.specs.Prelude.{ℕ, ℤ, pos, List, [], ◌++◌, codes, length, Option, Some, None, find, nat_eq, int_lt, unsigned_abs, if◌then◌else◌}
+use Rattle.std.specs.Prelude.{ℕ, ℤ, pos, List, [], ◌++◌, codes, length}
+use Rattle.std.specs.Prelude.{Option, Some, None, find, nat_eq, int_lt, unsigned_abs, if◌then◌else◌}
 use Rattle.std.specs.Fmt.{decimal, signed_decimal}
 use Rattle.std.specs.Option.{option_and_then, option_map}
 use Rattle.std.specs.Result.{result_ok}

@@ -1,5 +1,7 @@
--- What a message carries, told by its type, flags, length and code (RFC 3549 section 2.3.2.2; the kernel's `netlink_ack`).
-use Rattle.std.specs.Prelude.{ℕ, ◌==◌, ◌<◌, ◌&&◌, Bool, List, length, drop, Result, Ok, bit_and, nat_eq, nat_le, if◌then◌else◌}
+-- What a message carries, told by its type, flags, length and code (RFC 3549 section 2.3.2.2; the kernel's
+-- `netlink_ack`).
+use Rattle.std.specs.Prelude.{ℕ, ◌==◌, ◌<◌, ◌&&◌, Bool, List, length}
+use Rattle.std.specs.Prelude.{drop, Result, Ok, bit_and, nat_eq, nat_le, if◌then◌else◌}
 use Rattle.neli_wire.specs.DeError.{DeError}
 use Rattle.neli_wire.specs.Frames.{number_in}
 use Rattle.neli_wire.specs.Reading.{◌>>=◌}
@@ -10,7 +12,8 @@ use Rattle.neli_msg.specs.declared.answer.Tail.{Tail}
 use Rattle.neli_msg.specs.declared.answer.Tail.TheVariants.{Unread, Attributes as Listed}
 use Rattle.neli_msg.specs.declared.payload.NlPayload.{NlPayload}
 use Rattle.neli_msg.specs.declared.payload.NlPayload.TheVariants as payload
-use Rattle.neli_msg.specs.Answers.{dump_end_in, failure_in, failure_takes_memory, failure_view, headed_in, tail_takes_memory}
+use Rattle.neli_msg.specs.Answers.{dump_end_in, failure_in, failure_takes_memory}
+use Rattle.neli_msg.specs.Answers.{failure_view, headed_in, tail_takes_memory}
 
 -- NLM_F_MULTI, the bit of value 2, is set
 abbrev pub is_multi : NlmF → Bool

@@ -7,7 +7,9 @@ use Rattle.neli_wire.specs.ErrorTexts.{de_text}
 use Rattle.neli_msg.specs.declared.socket_error.SocketError.{SocketError}
 use Rattle.neli_msg.specs.declared.socket_error.SocketError.TheVariants as socket
 use Rattle.neli_msg.specs.declared.router_error.RouterError.{RouterError}
-use Rattle.neli_msg.specs.declared.router_error.RouterError.TheVariants.{Msg, Io, De, Socket, Nlmsgerr as Answer, Capped, BadSeqOrPid, NoAck, UnexpectedAck, ClosedChannel, SeqInUse, Memory}
+use Rattle.neli_msg.specs.declared.router_error.RouterError.TheVariants.{Msg, Io, De, Socket}
+use Rattle.neli_msg.specs.declared.router_error.RouterError.TheVariants.{Nlmsgerr as Answer, Capped, BadSeqOrPid, NoAck}
+use Rattle.neli_msg.specs.declared.router_error.RouterError.TheVariants.{UnexpectedAck, ClosedChannel, SeqInUse, Memory}
 use Rattle.neli_msg.specs.SocketErrors.{socket_text}
 use Rattle.neli_msg.specs.Answers.{answer_text}
 

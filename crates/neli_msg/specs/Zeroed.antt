@@ -96,8 +96,8 @@ untyped_wire m = message_wire (λ n. n) (λ bytes. Ok bytes) (message_from m)
 abbrev pub untyped_wires : List (Message ℕ (List ℕ)) → Wire
 untyped_wires = wire_all untyped_wire
 
--- in a message of this length no byte is left unread after a header that is echoed alone, which is 20 bytes after the 16
--- of its own header
+-- in a message of this length no byte is left unread after a header that is echoed alone, which is 20 bytes after the
+-- 16 of its own header
 abbrev pub IsAllRead : Tail → ℕ → Type 0
 IsAllRead Unread len = len ≤ 36
 IsAllRead Listed len = ⊤

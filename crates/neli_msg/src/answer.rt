@@ -1,16 +1,22 @@
 //! Answers: errors, acknowledgements and ends of dumps.
 
-ghost use Rattle.std.specs.Prelude.{◌≡◌, ◌<◌, ◌≤◌, ◌+◌, ◌^◌, ℕ, Ok, Some, None, IfOk, IfErr, OnOk, OnErr, length, drop, min};
+ghost use Rattle.std.specs.Prelude.{◌≡◌, ◌<◌, ◌≤◌, ◌+◌, ◌^◌, ℕ, Ok, Some};
+ghost use Rattle.std.specs.Prelude.{None, IfOk, IfErr, OnOk, OnErr, length, drop, min};
 ghost use Rattle.neli_attr.specs.Builders.{IsWhyNot};
 ghost use Rattle.neli_wire.specs.laws.Sizes.{unpadded-rounded};
 ghost use Rattle.neli_wire.specs.Refusals.{Refuses};
 ghost use Rattle.neli_msg.specs.Headers.{Header};
-ghost use Rattle.neli_msg.specs.Answers.{acknowledgement_in, after, after_echo, answer, answer_text, code_in, dump_end_in, echoed_count, echoed_in, failure_in, failure_takes_memory, failure_view, headed_in, tail_in, tail_takes_memory};
+ghost use Rattle.neli_msg.specs.Answers.{acknowledgement_in, after, after_echo, answer, answer_text};
+ghost use Rattle.neli_msg.specs.Answers.{code_in, dump_end_in, echoed_count, echoed_in, failure_in};
+ghost use Rattle.neli_msg.specs.Answers.{failure_takes_memory, failure_view, headed_in, tail_in, tail_takes_memory};
 ghost use Rattle.neli_msg.specs.Builders.{built_answer};
-ghost use Rattle.neli_msg.specs.Retyping.{HasOwnLength, IsTooLong, RefusesTyping, failure_stating, typed_acknowledgement, typed_failure};
+ghost use Rattle.neli_msg.specs.Retyping.{HasOwnLength, IsTooLong, RefusesTyping};
+ghost use Rattle.neli_msg.specs.Retyping.{failure_stating, typed_acknowledgement, typed_failure};
 ghost use Rattle.neli_msg.specs.Wires.{answer_size, answer_wire};
 ghost use Rattle.neli_msg.specs.laws.Wires.{answer_wire-length, answer_wire-no_memory, answer_wire-zeros};
-ghost use Rattle.neli_msg.specs.laws.Answers.{acknowledgement_in-never_short, acknowledgement_in-no_memory, dump_end_in-never_short, dump_end_in-no_memory, failure_in-never_short, failure_in-no_memory};
+ghost use Rattle.neli_msg.specs.laws.Answers.{acknowledgement_in-never_short, acknowledgement_in-no_memory};
+ghost use Rattle.neli_msg.specs.laws.Answers.{dump_end_in-never_short, dump_end_in-no_memory};
+ghost use Rattle.neli_msg.specs.laws.Answers.{failure_in-never_short, failure_in-no_memory};
 
 use crate::frame::{from_place, read_attributes, write_three};
 use crate::header::{HEADER_SIZE, header_of};
@@ -116,7 +122,8 @@ fn read_tail(
     bytes: &[u8],
 ) -> Result<GenlBuffer<NlmsgerrAttr, Buffer>, DeError>
     ensures value { IfOk result (λ list. tail_in tail bytes.now ≡ Ok list) }
-    ensures refused { IfErr result (Refuses (tail_in tail bytes.now) (tail_takes_memory tail bytes.now)) }
+    ensures refused { IfErr result (Refuses (tail_in tail bytes.now)
+        (tail_takes_memory tail bytes.now)) }
 {
     match tail {
         Tail::Unread => Ok(GenlBuffer::new(alloc)),

@@ -125,7 +125,8 @@ impl<T: NlType, P: FromBytesWithInput> FromBytes for NlmsghdrErr<T, P> {
 
     ghost read = { frame_at (echo_layout T.wire_value P.read) };
 
-    ghost takes_memory = { frame_takes_memory (echo_layout T.wire_value P.read) (λ _. P.takes_memory) };
+    ghost takes_memory = { frame_takes_memory (echo_layout T.wire_value P.read)
+        (λ _. P.takes_memory) };
 
     ghost local = { layout_with-local T.wire_value (λ _. P.read) };
 

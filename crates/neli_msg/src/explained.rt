@@ -6,7 +6,8 @@ ghost use Rattle.neli_consts.specs.NlmsgerrAttr.{nlmsgerr_attr_number};
 ghost use Rattle.neli_consts.specs.declared.nlmsg.NlmsgerrAttr.TheVariants as kind;
 ghost use Rattle.neli_errno.specs.Errnos.{errno_seen};
 ghost use Rattle.neli_wire.specs.Strings.{owned_text};
-ghost use Rattle.neli_msg.specs.Explained.{errno_in, explained_text, explanation, named_text, payload_in, place_in, place_text, words_in, words_text};
+ghost use Rattle.neli_msg.specs.Explained.{errno_in, explained_text, explanation, named_text, payload_in};
+ghost use Rattle.neli_msg.specs.Explained.{place_in, place_text, words_in, words_text};
 
 use crate::Nlmsgerr;
 use byteorder::{ByteOrder, LittleEndian};

@@ -3,9 +3,12 @@
 ghost use Rattle.neli_attr.specs.Builders.{IsWhyNot};
 ghost use Rattle.neli_msg.specs.Builders.{built_message, own_length};
 ghost use Rattle.neli_attr.specs.Builders.Fault.{Invalid};
-ghost use Rattle.neli_msg.specs.Retyping.{HasOwnEcho, IsMessageTooLong, RefusesTyping, body_of, capped_of, failure_of, payload_stating, stated_echo, typed_header, typed_payload, with_len, with_payload, without_capped, without_failure};
+ghost use Rattle.neli_msg.specs.Retyping.{HasOwnEcho, IsMessageTooLong, RefusesTyping, body_of, capped_of};
+ghost use Rattle.neli_msg.specs.Retyping.{failure_of, payload_stating, stated_echo, typed_header, typed_payload};
+ghost use Rattle.neli_msg.specs.Retyping.{with_len, with_payload, without_capped, without_failure};
 ghost use Rattle.neli_msg.specs.Wires.{payload_size};
-ghost use Rattle.std.specs.Prelude.{Err, ℕ, List, IsOk, codes, option_map, Some, None, ◌≡◌, ◌+◌, ◌≤◌, Ok, IfOk, IfErr, OnOk, OnErr, length, min};
+ghost use Rattle.std.specs.Prelude.{Err, ℕ, List, IsOk, codes, option_map, Some, None, ◌≡◌};
+ghost use Rattle.std.specs.Prelude.{◌+◌, ◌≤◌, Ok, IfOk, IfErr, OnOk, OnErr, length, min};
 ghost use Rattle.neli_wire.specs.Frames.{frame_at, frame_takes_memory};
 ghost use Rattle.neli_wire.specs.laws.Sizes.{padded-rounded};
 ghost use Rattle.neli_wire.specs.Sizes.{align};

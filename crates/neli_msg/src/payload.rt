@@ -4,9 +4,11 @@ ghost use Rattle.std.specs.Prelude.{◌≡◌, ℕ, List, Ok, Err, IsOk, IfOk, I
 ghost use Rattle.neli_wire.specs.Place.{whole};
 ghost use Rattle.neli_wire.specs.Refusals.{Refuses};
 ghost use Rattle.neli_wire.specs.Reading.{exact_reading, exact_takes_memory};
-ghost use Rattle.neli_msg.specs.Kinds.{is_acknowledged, kind_of, kind_takes_memory, payload_as, payload_in, payload_takes_memory, payload_view, tail_of};
+ghost use Rattle.neli_msg.specs.Kinds.{is_acknowledged, kind_of, kind_takes_memory, payload_as};
+ghost use Rattle.neli_msg.specs.Kinds.{payload_in, payload_takes_memory, payload_view, tail_of};
 ghost use Rattle.neli_wire.specs.laws.Sizes.{unpadded-rounded};
-ghost use Rattle.neli_msg.specs.Retyping.{HasOwnEcho, IsEchoTooLong, RefusesTyping, body_count, first_as, payload_stating, stated_echo, typed_first};
+ghost use Rattle.neli_msg.specs.Retyping.{HasOwnEcho, IsEchoTooLong, RefusesTyping, body_count};
+ghost use Rattle.neli_msg.specs.Retyping.{first_as, payload_stating, stated_echo, typed_first};
 ghost use Rattle.neli_msg.specs.Wires.{payload_size, payload_wire};
 ghost use Rattle.neli_msg.specs.laws.Wires.{payload_wire-length, payload_wire-no_memory, payload_wire-zeros};
 

@@ -4,7 +4,11 @@ use Rattle.neli_wire.specs.DeError.{DeError}
 use Rattle.neli_wire.specs.DeError.TheVariants as de
 use Rattle.neli_attr.specs.Builders.{error_text, message_in}
 use Rattle.neli_reader.specs.declared.builder_error.BuilderError.{BuilderError}
-use Rattle.neli_reader.specs.declared.builder_error.BuilderError.TheVariants.{Nlmsghdr, Nlmsgerr, NlmsghdrErr, NlmsghdrAck, AttrType, Nlattr, Rtattr, Genlmsghdr, Ifinfomsg, Ifaddrmsg, Rtgenmsg, Rtmsg, Ndmsg, NdaCacheinfo, Tcmsg}
+use Rattle.neli_reader.specs.declared.builder_error.BuilderError.TheVariants.{Nlmsghdr, Nlmsgerr, NlmsghdrErr}
+use Rattle.neli_reader.specs.declared.builder_error.BuilderError.TheVariants.{NlmsghdrAck, AttrType, Nlattr}
+use Rattle.neli_reader.specs.declared.builder_error.BuilderError.TheVariants.{Rtattr, Genlmsghdr, Ifinfomsg}
+use Rattle.neli_reader.specs.declared.builder_error.BuilderError.TheVariants.{Ifaddrmsg, Rtgenmsg, Rtmsg}
+use Rattle.neli_reader.specs.declared.builder_error.BuilderError.TheVariants.{Ndmsg, NdaCacheinfo, Tcmsg}
 
 -- the words of an error; none where memory ran out
 abbrev pub message_of : BuilderError → Option (List ℕ)

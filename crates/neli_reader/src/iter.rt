@@ -58,8 +58,8 @@ impl<'b, T: NlType, P: FromBytesWithInput> NlBufferIter<'b, T, P> {
         self.next_typed(alloc)
     }
 
-    /// The bytes that it still has to read. What is asked of before `next` tells where a message, or the fault, begins: as
-    /// many bytes before the datagram's end as there are here.
+    /// The bytes that it still has to read. What is asked of before `next` tells where a message, or the fault, begins:
+    /// as many bytes before the datagram's end as there are here.
     pub fn rest(&self) -> &'b [u8]
         ensures { result.now ≡ self.now }
     {
@@ -106,7 +106,8 @@ pub fn cut<T: NlType, P: FromBytesWithInput>(
     alloc: Global,
     bytes: &[u8],
 ) -> Result<(Vec<Nlmsghdr<T, P>>, Option<DeError>), NoMemory>
-    ensures cut { IfOk result (λ c. cut_of (message_layout T.wire_value T.wire_number P.read) bytes.now
+    ensures cut { IfOk result (λ c. cut_of
+        (message_layout T.wire_value T.wire_number P.read) bytes.now
         ≡ (map (message_of P.view) c.0.items, c.1)) }
     ensures memory { OnErr result (bytes.now ≢ []) }
 {

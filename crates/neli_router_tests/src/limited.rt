@@ -8,8 +8,8 @@ use crate::steps::Asker;
 use crate::support::assert_is_at;
 use example_store::Limited;
 
-/// Steps over a store that keeps 64 bytes, what each of them answers (`None`: it is refused), and how many bytes are kept
-/// then. A datagram goes with the last of its messages that somebody waits for.
+/// Steps over a store that keeps 64 bytes, what each of them answers (`None`: it is refused), and how many bytes are
+/// kept then. A datagram goes with the last of its messages that somebody waits for.
 const STEPS: [(Step, Option<Told>, usize); 14] = [
     (Send(16, 0, ""), Some(Sent(0, 0)), 0),
     (Send(16, 0, ""), Some(Sent(1, 0)), 0),

@@ -60,8 +60,8 @@ fn thousands_of_requests_have_their_replies(rt: HostRuntime) {
     }
 }
 
-/// So many datagrams of so many messages, each with so many bytes in its body, that come to the groups of a mask; and the
-/// handle that gets them.
+/// So many datagrams of so many messages, each with so many bytes in its body, that come to the groups of a mask; and
+/// the handle that gets them.
 #[derive(Clone, Copy, Debug)]
 struct Load {
     datagrams: u16,

@@ -1,6 +1,6 @@
-//! Any one allocation may be refused in these tests: `bench/run-memory` refuses each in turn. A call that was refused has
-//! changed nothing: made once more, it answers what it answers without a refusal, and so does each call after it. What
-//! the log keeps where a call is refused is told in [`crate::entries`].
+//! Any one allocation may be refused in these tests: `bench/run-memory` refuses each in turn. A call that was refused
+//! has changed nothing: made once more, it answers what it answers without a refusal, and so does each call after it.
+//! What the log keeps where a call is refused is told in [`crate::entries`].
 
 use crate::script::{Script, assert_told, kind_once, outcomes};
 use crate::steps::Asker;

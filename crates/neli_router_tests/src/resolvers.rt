@@ -326,8 +326,8 @@ fn look_up_again(rt: &impl Abort, alloc: Global, row: &Row) {
     assert_is_at(rt, row.0, (cause, text.as_str()), row.3);
 }
 
-// Any one allocation may be refused in the following tests: memory that runs out is never taken for an attribute that is
-// not there.
+// Any one allocation may be refused in the following tests: memory that runs out is never taken for an attribute that
+// is not there.
 #[test]
 fn lookups_or_out_of_memory(rt: HostRuntime) {
     for row in &LOOKUPS {

@@ -72,8 +72,8 @@ fn attributes_of_a_port(attrs: &LentRtattrs<'_, Ifla>) -> Result<Option<usize>, 
     Ok(None)
 }
 
-/// A link's fields, 16 bytes, and the front of the list that a port of a bridge has as `IFLA_PROTINFO`, marked as nested:
-/// its state, 3, and its priority, 32.
+/// A link's fields, 16 bytes, and the front of the list that a port of a bridge has as `IFLA_PROTINFO`, marked as
+/// nested: its state, 3, and its priority, 32.
 const PORT: &str = "0700000005000000000000000000000014000c8005000100030000000600020020000000";
 
 #[test]

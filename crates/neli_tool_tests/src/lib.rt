@@ -8,8 +8,8 @@
 //!   [`lengths`]: each datagram of these tests cut at each place, and with each length in it set wrong, against
 //!   [`rules`], which says what comes of any bytes.
 //! - [`answers`], [`conversations`], [`bad_lines`], [`scripts_output`]: scripts, what is answered, and where that
-//!   fails. [`scripts`]: how a script is played. [`large`]: a datagram above 64 KB, and a script of more than a thousand
-//!   commands. [`laws`]: the laws, called.
+//!   fails. [`scripts`]: how a script is played. [`large`]: a datagram above 64 KB, and a script of more than a
+//!   thousand commands. [`laws`]: the laws, called.
 //! - [`out_of_memory`], [`scripts_out_of_memory`]: where an allocation is refused. [`support`]: what the tests share.
 //!
 //! The recorded datagrams are of Linux 6.18 on x86-64; their numbers are those of docs/RECORDINGS.md.

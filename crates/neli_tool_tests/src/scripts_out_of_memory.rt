@@ -1,5 +1,6 @@
-//! Any one allocation may be refused in these tests: `bench/run-memory` refuses each in turn. What is printed of a script
-//! is then the whole report, or that memory ran out, and the status says which; played once more, it is answered whole.
+//! Any one allocation may be refused in these tests: `bench/run-memory` refuses each in turn. What is printed of a
+//! script is then the whole report, or that memory ran out, and the status says which; played once more, it is answered
+//! whole.
 
 use crate::answers::{ONE_REQUEST, WORKED};
 use crate::conversations::{ENDS, RECEIVERS};

@@ -139,8 +139,8 @@ fn same_typed<P: ToBytes>(
     agree(is_same, "a typed message is another one")
 }
 
-/// Reading as messages with a `P` gives what comes of retyping, up to the first that is refused. Where reading ends in a
-/// fault, so does this; by which one is open, since a body may be refused before.
+/// Reading as messages with a `P` gives what comes of retyping, up to the first that is refused. Where reading ends in
+/// a fault, so does this; by which one is open, since a body may be refused before.
 fn typed<P: FromBytesWithInput + ToBytes>(
     alloc: Global,
     bytes: &[u8],

@@ -1,7 +1,7 @@
-//! `neli_trial SEED DATAGRAMS SCRIPTS`: takes recorded datagrams from standard input, a line of hexadecimal digits each,
-//! changes them at random so many times, and makes so many scripts of what came of that. It asks of each what is proved
-//! of all, and prints what differs: there is nothing to be printed but the last line, which counts. How many messages
-//! and faults were read stands on standard error.
+//! `neli_trial SEED DATAGRAMS SCRIPTS`: takes recorded datagrams from standard input, a line of hexadecimal digits
+//! each, changes them at random so many times, and makes so many scripts of what came of that. It asks of each what is
+//! proved of all, and prints what differs: there is nothing to be printed but the last line, which counts. How many
+//! messages and faults were read stands on standard error.
 //!
 //! - [`agree`]: a datagram read lent, untyped and typed is the same, and written again it is itself, with zeros for its
 //!   padding, as [`zeroed`] walks over it.

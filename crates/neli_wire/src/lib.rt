@@ -10,8 +10,8 @@
 //! - [`implementing`]: what an implementer of these traits calls. [`laws`]: what holds of the definitions.
 //!
 //! What is implemented here: the integer types, lowest byte first, [`BeU16`], [`BeU32`] and [`BeU64`], `bool`,
-//! `Ipv4Addr`, `Ipv6Addr`, `Vec<T>`, texts, byte slices and arrays, `()` and `PhantomData`. What a read or a write means
-//! is stated in `specs/`: `Sizes`, `Writing`, `Reading`, `Numbers`, `Constants`, `Strings` and `Frames`.
+//! `Ipv4Addr`, `Ipv6Addr`, `Vec<T>`, texts, byte slices and arrays, `()` and `PhantomData`. What a read or a write
+//! means is stated in `specs/`: `Sizes`, `Writing`, `Reading`, `Numbers`, `Constants`, `Strings` and `Frames`.
 #![tactic(auto)]
 
 mod addresses;

@@ -1,7 +1,9 @@
 //! Lists of values, one after the other.
 
-ghost use Rattle.std.specs.Prelude.{◌≡◌, ◌≤◌, ◌<◌, ◌+◌, ℕ, List, Ok, Err, IfOk, IfErr, OnOk, OnErr, length, min, map, take, drop, sum_by};
-ghost use Rattle.neli_wire.specs.laws.Lists.{wire_all-length, wire_all-no_memory, elements-no_memory, elements-never_short};
+ghost use Rattle.std.specs.Prelude.{◌≡◌, ◌≤◌, ◌<◌, ◌+◌, ℕ, List, Ok, Err, IfOk};
+ghost use Rattle.std.specs.Prelude.{IfErr, OnOk, OnErr, length, min, map, take, drop, sum_by};
+ghost use Rattle.neli_wire.specs.laws.Lists.{wire_all-length, wire_all-no_memory};
+ghost use Rattle.neli_wire.specs.laws.Lists.{elements-no_memory, elements-never_short};
 ghost use Rattle.neli_wire.specs.Refusals.{Refuses};
 ghost use Rattle.neli_wire.specs.laws.Elements.{elements};
 ghost use Rattle.neli_wire.specs.Reading.{refusal_within};

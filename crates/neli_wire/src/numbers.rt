@@ -6,7 +6,9 @@ ghost use Rattle.std.specs.Prelude.{refl, FitsSigned};
 ghost use Rattle.std.specs.Int.{w8, w16, w32, w64, w128};
 ghost use Rattle.byteorder.specs.Endian.{little_bytes, little_number};
 ghost use Rattle.neli_wire.specs.Numbers.{FitsBytes, signed_bytes, signed_number};
-ghost use Rattle.neli_wire.specs.laws.Numbers.{count-unsigned, reads_back-unsigned, writes_back-unsigned, in_range-unsigned, count-signed, reads_back-signed, writes_back-signed, in_range-signed};
+ghost use Rattle.neli_wire.specs.laws.Numbers.{count-unsigned, reads_back-unsigned, writes_back-unsigned};
+ghost use Rattle.neli_wire.specs.laws.Numbers.{in_range-unsigned, count-signed, reads_back-signed};
+ghost use Rattle.neli_wire.specs.laws.Numbers.{writes_back-signed, in_range-signed};
 
 use crate::{Constant, WireNumber};
 use byteorder::{ByteOrder, LittleEndian};

@@ -1,10 +1,12 @@
 //! Values that are read from bytes.
 
-ghost use Rattle.std.specs.Prelude.{◌≡◌, ℕ, ◌+◌, ◌-◌, ◌≤◌, ◌<◌, List, Result, Ok, Err, IfOk, IfErr, OnOk, OnErr, length, drop};
+ghost use Rattle.std.specs.Prelude.{◌≡◌, ℕ, ◌+◌, ◌-◌, ◌≤◌, ◌<◌, List, Result};
+ghost use Rattle.std.specs.Prelude.{Ok, Err, IfOk, IfErr, OnOk, OnErr, length, drop};
 ghost use Rattle.neli_wire.specs.Place.{whole, place_after};
 ghost use Rattle.neli_wire.specs.Bytes.{Reading, short};
 ghost use Rattle.neli_wire.specs.Refusals.{Refuses};
-ghost use Rattle.neli_wire.specs.Reading.{IsLocal, LacksPadding, StripsTo, exact_reading, exact_takes_memory, refusal_within};
+ghost use Rattle.neli_wire.specs.Reading.{IsLocal, LacksPadding, StripsTo};
+ghost use Rattle.neli_wire.specs.Reading.{exact_reading, exact_takes_memory, refusal_within};
 ghost use Rattle.neli_wire.specs.Sizes.{gap};
 ghost use Rattle.neli_wire.specs.DeError.{DeError as Refusal};
 ghost use Rattle.neli_wire.specs.DeError.TheVariants as de;

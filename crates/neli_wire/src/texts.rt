@@ -1,9 +1,11 @@
 //! Text: written as its UTF-8 bytes and a zero.
 
-ghost use Rattle.std.specs.Prelude.{◌≡◌, ◌+◌, ◌<◌, ◌++◌, ◌∷◌, [], ℕ, List, Ok, Err, OnOk, OnErr, IfOk, IfErr, length, string_bytes};
+ghost use Rattle.std.specs.Prelude.{◌≡◌, ◌+◌, ◌<◌, ◌++◌, ◌∷◌, [], ℕ, List};
+ghost use Rattle.std.specs.Prelude.{Ok, Err, OnOk, OnErr, IfOk, IfErr, length, string_bytes};
 ghost use Rattle.neli_wire.specs.Refusals.{Refuses};
 ghost use Rattle.neli_wire.specs.laws.Sizes.{unpadded-rounded, unpadded-zeros};
-ghost use Rattle.neli_wire.specs.laws.Strings.{text_and_zero-length, borrowed_text-never_short, owned_text-never_short, owned_text-no_memory};
+ghost use Rattle.neli_wire.specs.laws.Strings.{text_and_zero-length, borrowed_text-never_short};
+ghost use Rattle.neli_wire.specs.laws.Strings.{owned_text-never_short, owned_text-no_memory};
 ghost use Rattle.neli_wire.specs.Strings.{text_and_zero, borrowed_text, owned_text};
 ghost use Rattle.neli_wire.specs.laws.Writing.{written-no_memory};
 

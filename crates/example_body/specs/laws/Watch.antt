@@ -1,7 +1,8 @@
 -- Laws of a watch, from those of its fields.
 use Rattle.std.proofs.Common.{◌≡◌, ◌≢◌, ℕ, List, length, Ok, Err, ap, arith, length-append}
 use Rattle.neli.specs.wire.Numbers.{little_bytes}
-use Rattle.neli.specs.wire.laws.Lists.{both_written, both-no_memory, wire_all-length, wire_all-no_memory, elements-no_memory, map_refusal-no_memory, map_refusal-never_short}
+use Rattle.neli.specs.wire.laws.Lists.{both_written, both-no_memory, wire_all-length, wire_all-no_memory}
+use Rattle.neli.specs.wire.laws.Lists.{elements-no_memory, map_refusal-no_memory, map_refusal-never_short}
 use Rattle.neli.specs.wire.laws.Numbers.{count-unsigned}
 use Rattle.neli.specs.wire.Bytes.{short}
 use Rattle.neli.specs.wire.Reading.{number_at}

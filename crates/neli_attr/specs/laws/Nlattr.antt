@@ -4,7 +4,8 @@ use Rattle.neli_wire.specs.SerError.TheVariants as ser
 use Rattle.neli_wire.specs.Sizes.{EndsInZeros, align}
 use Rattle.neli_wire.specs.Writing.{Wire}
 use Rattle.neli_attr.specs.laws.Attributes.{attribute_wire-length, attribute_wire-no_memory, attribute_wire-zeros}
-use Rattle.std.specs.Cmp.{IsEquivalence, IsPartialEquivalence, and_equiv, and_per, nat_eq_equiv, on_equiv, on_per, partial_equiv_from_equiv}
+use Rattle.std.specs.Cmp.{IsEquivalence, IsPartialEquivalence, and_equiv, and_per}
+use Rattle.std.specs.Cmp.{nat_eq_equiv, on_equiv, on_per, partial_equiv_from_equiv}
 use Rattle.neli_attr.specs.TypeField.{number_of}
 use Rattle.neli_attr.specs.laws.TypeField.{attr_type_equiv, attr_type_per}
 use Rattle.neli_attr.specs.Nlattr.{nlattr_eq, nlattr_wire}

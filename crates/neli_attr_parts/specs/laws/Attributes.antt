@@ -1,5 +1,6 @@
 -- Laws of attributes.
-use Rattle.std.proofs.Common.{◌≡◌, ◌≢◌, ℕ, ◌+◌, ◌-◌, ◌≤◌, Bool, true, false, cond, List, [], ◌++◌, length, Result, Ok, Err, refl, ap, ◌∙◌, arith, length-append}
+use Rattle.std.proofs.Common.{◌≡◌, ◌≢◌, ℕ, ◌+◌, ◌-◌, ◌≤◌, Bool, true, false, cond, List}
+use Rattle.std.proofs.Common.{[], ◌++◌, length, Result, Ok, Err, refl, ap, ◌∙◌, arith, length-append}
 use Rattle.std.specs.Prelude.{codes, nat_lt}
 use Rattle.std.proofs.lemmas.List.{length-replicate}
 use Rattle.byteorder.specs.Endian.{little_bytes, little_number}
@@ -11,7 +12,9 @@ use Rattle.neli_wire.specs.Sizes.{align, EndsInZeros}
 use Rattle.neli_wire.specs.laws.Sizes.{padded-zeros}
 use Rattle.neli_wire.specs.Reading.{IsLocal, number_at, number_as}
 use Rattle.neli_wire.specs.Frames.{frame_at, frame_takes_memory, number_in}
-use Rattle.neli_wire.specs.laws.Frames.{IsWide, IsPlaced, number_at-wide_by, value_at-wide_by, then-wide, done-wide, header_then-is, header_then_takes_memory-is, frame_at-local, frame_at-no_memory, number_in-take}
+use Rattle.neli_wire.specs.laws.Frames.{IsWide, IsPlaced, number_at-wide_by, value_at-wide_by}
+use Rattle.neli_wire.specs.laws.Frames.{then-wide, done-wide, header_then-is, header_then_takes_memory-is}
+use Rattle.neli_wire.specs.laws.Frames.{frame_at-local, frame_at-no_memory, number_in-take}
 use Rattle.neli_wire.specs.laws.Numbers.{count-unsigned}
 use Rattle.neli_wire.specs.laws.Lists.{both_written, both-no_memory}
 use Rattle.neli_wire.specs.Writing.{RefusesWrite, TakesRoom, Wire, ◌+++◌, append_wire, pad_wire, zeros_for}

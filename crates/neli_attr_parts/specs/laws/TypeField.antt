@@ -1,9 +1,11 @@
 -- Laws of the type field of generic attributes.
-use Rattle.std.proofs.Common.{◌≡◌, ℕ, zero, suc, ◌+◌, ◌*◌, ◌/◌, ◌%◌, ◌^◌, ◌<◌, Bool, true, false, inl, inr, bit_and, bit_or, refl, ◌∙◌, arith}
+use Rattle.std.proofs.Common.{◌≡◌, ℕ, zero, suc, ◌+◌, ◌*◌, ◌/◌, ◌%◌, ◌^◌, ◌<◌}
+use Rattle.std.proofs.Common.{Bool, true, false, inl, inr, bit_and, bit_or, refl, ◌∙◌, arith}
 use Rattle.std.specs.Prelude.{◌⊎◌, nat_eq, not}
 use Rattle.std.proofs.lemmas.Nat.{and_le_r, and_mask, or_disjoint}
 use Rattle.std.proofs.lemmas.Nat.Bits.{and_pow}
-use Rattle.std.specs.Cmp.{IsEquivalence, IsPartialEquivalence, and_equiv, and_per, bool_eq_equiv, on_equiv, on_per, partial_equiv_from_equiv}
+use Rattle.std.specs.Cmp.{IsEquivalence, IsPartialEquivalence, and_equiv, and_per}
+use Rattle.std.specs.Cmp.{bool_eq_equiv, on_equiv, on_per, partial_equiv_from_equiv}
 use Rattle.neli_attr_parts.specs.TypeField.{attr_type_eq, has, bit_where, field_of, type_of, number_of}
 
 -- a bit that is taken from a number is 0 or whole

@@ -1,5 +1,6 @@
 -- Laws of bodies, from those of their headers and of what follows.
-use Rattle.std.proofs.Common.{◌≡◌, ◌≢◌, ℕ, ◌+◌, ◌≤◌, false, ltb, List, ◌++◌, length, take, drop, Result, Ok, Err, refl, ap, arith, length-append}
+use Rattle.std.proofs.Common.{◌≡◌, ◌≢◌, ℕ, ◌+◌, ◌≤◌, false, ltb, List, ◌++◌, length}
+use Rattle.std.proofs.Common.{take, drop, Result, Ok, Err, refl, ap, arith, length-append}
 use Rattle.std.proofs.lemmas.Bool.{le-ltb}
 use Rattle.std.proofs.lemmas.List.{take_at, drop_at}
 use Rattle.neli_wire.specs.Bytes.{short}

@@ -1,4 +1,5 @@
-use Rattle.neli_kernel_laws.proofs.Complete.{acknowledged-complete, acknowledgement-complete, capped-complete, dump-complete, error-complete, reply-complete}
+use Rattle.neli_kernel_laws.proofs.Complete.{acknowledged-complete, acknowledgement-complete, capped-complete}
+use Rattle.neli_kernel_laws.proofs.Complete.{dump-complete, error-complete, reply-complete}
 use Rattle.neli_kernel_laws.proofs.answers_are_complete.Goals as goal
 
 pub returns-clause-acknowledgement : goal.returns-clause-acknowledgement

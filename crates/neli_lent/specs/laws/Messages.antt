@@ -1,5 +1,6 @@
 -- Laws of lent messages: reading one is what the lent one becomes.
-use Rattle.std.proofs.Common.{rules, ◌≡◌, ◌-◌, ℕ, Bool, true, false, ltb, List, length, take, drop, Result, Ok, Err, refl, ap, ◌∙◌}
+use Rattle.std.proofs.Common.{rules, ◌≡◌, ◌-◌, ℕ, Bool, true, false, ltb, List}
+use Rattle.std.proofs.Common.{length, take, drop, Result, Ok, Err, refl, ap, ◌∙◌}
 use Rattle.std.specs.Prelude.{IsErr, if◌then◌else◌}
 use Rattle.neli_wire.specs.Bytes.{short}
 use Rattle.neli_wire.specs.DeError.{DeError}

@@ -1,5 +1,6 @@
 -- Messages with payloads of plain bytes are refused for a length, or for bytes that are missing, and for nothing else.
-use Rattle.std.proofs.Common.{◌≡◌, ℕ, zero, suc, ◌-◌, Bool, true, false, cond, ltb, List, [], ◌∷◌, length, take, drop, Result, Ok, Err, refl, subst}
+use Rattle.std.proofs.Common.{◌≡◌, ℕ, zero, suc, ◌-◌, Bool, true, false, cond, ltb, List}
+use Rattle.std.proofs.Common.{[], ◌∷◌, length, take, drop, Result, Ok, Err, refl, subst}
 use Rattle.neli_wire.specs.Bytes.{Reading, short}
 use Rattle.neli_wire.specs.DeError.{DeError}
 use Rattle.neli_wire.specs.DeError.TheVariants.{InvalidInput}
@@ -12,7 +13,8 @@ use Rattle.neli_attr.specs.Attributes.{attribute, attributes_in}
 use Rattle.neli_attr.specs.TypeField.{type_of}
 use Rattle.neli_msg.specs.declared.payload.Kind.{Kind}
 use Rattle.neli_msg.specs.declared.payload.Kind.TheVariants.{Body, Nothing, DumpEnd, Acknowledgement, Capped, Failure}
-use Rattle.neli_msg.specs.Answers.{after, after_echo, dump_end_in, echoed_count, echoed_in, echoed_length, ext_ack_in, failure_in, headed_in, tail_in}
+use Rattle.neli_msg.specs.Answers.{after, after_echo, dump_end_in, echoed_count, echoed_in}
+use Rattle.neli_msg.specs.Answers.{echoed_length, ext_ack_in, failure_in, headed_in, tail_in}
 use Rattle.neli_msg.specs.declared.answer.Tail.{Tail}
 use Rattle.neli_msg.specs.declared.answer.Tail.TheVariants.{Unread, Attributes as Listed}
 use Rattle.neli_msg.specs.Kinds.{kind_of, payload_as}

@@ -1,5 +1,6 @@
 -- Laws of retyping: a message that is read untyped, and one that is read as other types.
-use Rattle.std.proofs.Common.{◌≡◌, ℕ, ◌+◌, ◌-◌, ◌^◌, ◌<◌, Bool, true, false, cond, ltb, List, length, take, drop, Result, Ok, Err, refl, sym, ap, subst, ◌∙◌}
+use Rattle.std.proofs.Common.{◌≡◌, ℕ, ◌+◌, ◌-◌, ◌^◌, ◌<◌, Bool, true, false, cond, ltb, List}
+use Rattle.std.proofs.Common.{length, take, drop, Result, Ok, Err, refl, sym, ap, subst, ◌∙◌}
 use Rattle.std.specs.Prelude.{IsErr, IsOk, ◌↔◌}
 use Rattle.std.proofs.lemmas.List.{get_or-drop}
 use Rattle.byteorder.specs.Numbers.{little_from-lt}
@@ -19,11 +20,13 @@ use Rattle.neli_msg.specs.declared.payload.NlPayload.{NlPayload}
 use Rattle.neli_msg.specs.declared.payload.NlPayload.TheVariants as payload
 use Rattle.neli_msg.specs.declared.answer.Nlmsgerr.{Nlmsgerr}
 use Rattle.neli_msg.specs.declared.echo.NlmsghdrErr.{NlmsghdrErr}
-use Rattle.neli_msg.specs.Answers.{Attributes, after, after_echo, answer, ext_ack_in, code_in, dump_end_in, echo_with, echoed_in, failure_in, headed_in, tail_in}
+use Rattle.neli_msg.specs.Answers.{Attributes, after, after_echo, answer, ext_ack_in, code_in}
+use Rattle.neli_msg.specs.Answers.{dump_end_in, echo_with, echoed_in, failure_in, headed_in, tail_in}
 use Rattle.neli_msg.specs.Headers.{Header, header_in, flags_of}
 use Rattle.neli_msg.specs.Kinds.{kind_of, payload_as, payload_in}
 use Rattle.neli_msg.specs.Messages.{Message, message_layout}
-use Rattle.neli_msg.specs.Retyping.{IsRead, typed_acknowledgement, typed_echo, typed_failure, typed_header, typed_message, typed_payload}
+use Rattle.neli_msg.specs.Retyping.{IsRead, typed_acknowledgement, typed_echo, typed_failure}
+use Rattle.neli_msg.specs.Retyping.{typed_header, typed_message, typed_payload}
 
 -- what untyped messages are read as: their type is its number, their body its bytes
 abbrev same : ℕ → ℕ

@@ -1,5 +1,6 @@
 -- Laws of messages as they are written: how long their bytes are, and that memory does not run out by itself.
-use Rattle.std.proofs.Common.{◌≡◌, ◌≢◌, ℕ, ◌+◌, ◌-◌, ◌≤◌, List, [], ◌++◌, length, Ok, Err, refl, ap, ◌∙◌, arith, length-append}
+use Rattle.std.proofs.Common.{◌≡◌, ◌≢◌, ℕ, ◌+◌, ◌-◌, ◌≤◌, List, [], ◌++◌}
+use Rattle.std.proofs.Common.{length, Ok, Err, refl, ap, ◌∙◌, arith, length-append}
 use Rattle.std.specs.Int.{w32}
 use Rattle.neli_wire.specs.SerError.TheVariants as ser
 use Rattle.std.proofs.lemmas.List.{length-replicate}
@@ -20,7 +21,8 @@ use Rattle.neli_msg.specs.declared.payload.NlPayload.TheVariants as payload
 use Rattle.neli_msg.specs.Answers.{Attributes}
 use Rattle.neli_msg.specs.Headers.{header_wire}
 use Rattle.neli_msg.specs.laws.Headers.{header_wire-length, header_wire-no_memory}
-use Rattle.neli_msg.specs.Wires.{attributes_size, attributes_wire, answer_wire, answer_size, echo_wire, echo_size, payload_wire, payload_size, message_wire, message_size}
+use Rattle.neli_msg.specs.Wires.{attributes_size, attributes_wire, answer_wire, answer_size, echo_wire}
+use Rattle.neli_msg.specs.Wires.{echo_size, payload_wire, payload_size, message_wire, message_size}
 
 -- ---- two parts, and their padding
 

@@ -1,10 +1,13 @@
 -- A datagram that is read and written again is itself, with zeros for its padding.
-use Rattle.std.proofs.Common.{◌≡◌, ℕ, ◌+◌, ◌-◌, ◌<◌, ◌≤◌, Bool, true, false, cond, ltb, List, [], ◌∷◌, ◌++◌, length, map, take, drop, Result, Ok, inl, inr, refl, sym, ap, subst, ◌∙◌, append_assoc, arith, length-append, length-drop}
+use Rattle.std.proofs.Common.{◌≡◌, ℕ, ◌+◌, ◌-◌, ◌<◌, ◌≤◌, Bool, true, false, cond, ltb}
+use Rattle.std.proofs.Common.{List, [], ◌∷◌, ◌++◌, length, map, take, drop, Result, Ok, inl}
+use Rattle.std.proofs.Common.{inr, refl, sym, ap, subst, ◌∙◌, append_assoc, arith, length-append, length-drop}
 use Rattle.std.specs.Prelude.{◌^◌, ⊤, nat_eq, replicate}
 use Rattle.std.specs.Int.{cast_signed, w32}
 use Rattle.std.specs.List.{All}
 use Rattle.std.proofs.lemmas.Bool.{cases_lt, eqb-true, ltb-false}
-use Rattle.std.proofs.lemmas.List.{append-nil, drop_all, length-replicate, length-take-le, nil_from_length, replicate-append-replicate, take-take, take_all}
+use Rattle.std.proofs.lemmas.List.{append-nil, drop_all, length-replicate, length-take-le}
+use Rattle.std.proofs.lemmas.List.{nil_from_length, replicate-append-replicate, take-take, take_all}
 use Rattle.std.proofs.Math.Seq.{take-add}
 use Rattle.byteorder.specs.Numbers.{little_from-append, little_from-lt}
 use Rattle.neli_wire.specs.DeError.{DeError}
@@ -35,13 +38,17 @@ use Rattle.neli_msg.specs.declared.answer.Tail.{Tail}
 use Rattle.neli_msg.specs.declared.answer.Tail.TheVariants.{Unread, Attributes as Listed}
 use Rattle.neli_msg.specs.declared.payload.NlPayload.{NlPayload}
 use Rattle.neli_msg.specs.declared.payload.NlPayload.TheVariants as payload
-use Rattle.neli_msg.specs.Answers.{Attributes, after, after_echo, answer, attribute_of, code_in, dump_end_in, echo_end, echo_with, echoed_count, echoed_in, echoed_length, ext_ack_in, failure_in, headed_in}
+use Rattle.neli_msg.specs.Answers.{Attributes, after, after_echo, answer, attribute_of, code_in, dump_end_in, echo_end}
+use Rattle.neli_msg.specs.Answers.{echo_with, echoed_count, echoed_in, echoed_length, ext_ack_in, failure_in, headed_in}
 use Rattle.neli_msg.specs.Headers.{Header, flags_of, header_in, header_wire}
 use Rattle.neli_msg.specs.Kinds.{is_acknowledged, is_capped, is_multi, kind_of, payload_as, payload_in, tail_of}
 use Rattle.neli_msg.specs.Wires.{answer_wire, attributes_wire, payload_wire}
 use Rattle.neli_msg.specs.Messages.{Message, message_layout}
-use Rattle.neli_msg.specs.Zeroed.{HasNoTail, IsAllRead, attribute_length, attribute_zeroed, attributes_zeroed, message_length, message_zeroed, HasNoTailIn, payload_zeroed, untyped_wire, untyped_wires, datagram_zeroed, zeros_from}
-use Rattle.neli_msg.specs.laws.ZeroedFrames.{States, all-true, bytes-drop, bytes-take, frames-aligned, frames-length, frames-wire, frames_by-nil, last_place, place, wire_all-map}
+use Rattle.neli_msg.specs.Zeroed.{HasNoTail, IsAllRead, attribute_length, attribute_zeroed, attributes_zeroed}
+use Rattle.neli_msg.specs.Zeroed.{message_length, message_zeroed, HasNoTailIn, payload_zeroed, untyped_wire}
+use Rattle.neli_msg.specs.Zeroed.{untyped_wires, datagram_zeroed, zeros_from}
+use Rattle.neli_msg.specs.laws.ZeroedFrames.{States, all-true, bytes-drop, bytes-take, frames-aligned, frames-length}
+use Rattle.neli_msg.specs.laws.ZeroedFrames.{frames-wire, frames_by-nil, last_place, place, wire_all-map}
 
 -- ---- untyped
 

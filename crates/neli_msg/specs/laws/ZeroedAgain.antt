@@ -1,9 +1,12 @@
 -- A datagram with zeros for its padding is read as the same messages.
-use Rattle.std.proofs.Common.{◌≡◌, ℕ, ◌+◌, ◌-◌, ◌≤◌, ltb, List, ◌++◌, length, map, take, drop, Result, Ok, inl, inr, refl, sym, ap, subst, ◌∙◌, append_assoc, arith, length-append, length-drop}
+use Rattle.std.proofs.Common.{◌≡◌, ℕ, ◌+◌, ◌-◌, ◌≤◌, ltb, List, ◌++◌, length, map, take, drop, Result}
+use Rattle.std.proofs.Common.{Ok, inl, inr, refl, sym, ap, subst, ◌∙◌, append_assoc, arith, length-append, length-drop}
 use Rattle.std.specs.Prelude.{ℤ, replicate}
 use Rattle.std.specs.Int.{cast_signed, w32}
 use Rattle.std.proofs.lemmas.Bool.{cases_lt, le-ltb, ltb-false}
-use Rattle.std.proofs.lemmas.List.{append-nil, drop-append-le, drop-take, drop_all, drop_at, length-replicate, length-take-le, nil_from_length, take-append-drop, take-append-le, take-take, take_at}
+use Rattle.std.proofs.lemmas.List.{append-nil, drop-append-le, drop-take, drop_all}
+use Rattle.std.proofs.lemmas.List.{drop_at, length-replicate, length-take-le, nil_from_length}
+use Rattle.std.proofs.lemmas.List.{take-append-drop, take-append-le, take-take, take_at}
 use Rattle.byteorder.specs.Endian.{little_number}
 use Rattle.neli_wire.specs.DeError.{DeError}
 use Rattle.neli_wire.specs.DeError.TheVariants.{InvalidInput}
@@ -26,11 +29,13 @@ use Rattle.neli_msg.specs.declared.payload.Kind.TheVariants.{Body, Nothing, Dump
 use Rattle.neli_msg.specs.declared.answer.Tail.{Tail}
 use Rattle.neli_msg.specs.declared.answer.Tail.TheVariants.{Unread, Attributes as Listed}
 use Rattle.neli_msg.specs.declared.payload.NlPayload.{NlPayload}
-use Rattle.neli_msg.specs.Answers.{Attributes, after, after_echo, answer, attribute_of, code_in, dump_end_in, echo_end, echo_with, echoed_count, echoed_in, echoed_length, ext_ack_in, failure_in, headed_in}
+use Rattle.neli_msg.specs.Answers.{Attributes, after, after_echo, answer, attribute_of, code_in, dump_end_in, echo_end}
+use Rattle.neli_msg.specs.Answers.{echo_with, echoed_count, echoed_in, echoed_length, ext_ack_in, failure_in, headed_in}
 use Rattle.neli_msg.specs.Headers.{Header, flags_of, header_in}
 use Rattle.neli_msg.specs.Kinds.{kind_of, payload_as, payload_in}
 use Rattle.neli_msg.specs.Messages.{Message, message_layout}
-use Rattle.neli_msg.specs.Zeroed.{attribute_length, attribute_zeroed, attributes_zeroed, message_length, message_zeroed, payload_zeroed, datagram_zeroed, zeros_from}
+use Rattle.neli_msg.specs.Zeroed.{attribute_length, attribute_zeroed, attributes_zeroed, message_length}
+use Rattle.neli_msg.specs.Zeroed.{message_zeroed, payload_zeroed, datagram_zeroed, zeros_from}
 use Rattle.neli_msg.specs.laws.Messages.{layout_with-placed}
 use Rattle.neli_msg.specs.laws.Zeroed.{attribute-length, attribute-states, message-states, whole-zeroed}
 use Rattle.neli_msg.specs.laws.ZeroedFrames.{frames-again, frames-length}

@@ -1,5 +1,6 @@
 -- Laws of tables of named numbers, which each table cites for its own.
-use Rattle.std.specs.Prelude.{◌≡◌, ℕ, ℤ, nat_eq, Bool, true, false, List, [], ◌∷◌, find, unwrap_or, if◌then◌else◌, Some, refl}
+use Rattle.std.specs.Prelude.{◌≡◌, ℕ, ℤ, nat_eq, Bool, true, false, List}
+use Rattle.std.specs.Prelude.{[], ◌∷◌, find, unwrap_or, if◌then◌else◌, Some, refl}
 use Rattle.std.specs.Ordering.{int_eq}
 use Rattle.std.proofs.lemmas.Bool.{eqb-true}
 use Rattle.std.proofs.lemmas.Bool.Decides.{Decides-int_eq}

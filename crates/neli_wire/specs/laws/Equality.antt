@@ -1,4 +1,5 @@
--- When the comparison that an enum derives is true exactly where two values are equal: its variants' fields are told apart.
+-- When the comparison that an enum derives is true exactly where two values are equal: its variants' fields are told
+-- apart.
 use Rattle.std.specs.Prelude.{◌≡◌, Bool, true, false, List, [], ◌∷◌, refl}
 use Rattle.std.specs.Cmp.{IsEquivalence}
 use Rattle.std.specs.Cmp.Derive.{of_values}

@@ -1,5 +1,6 @@
 -- Laws of fixed headers and of frames.
-use Rattle.std.proofs.Common.{◌≡◌, ◌≢◌, ℕ, ◌+◌, ◌-◌, ◌<◌, ◌≤◌, true, false, cond, ltb, List, ◌++◌, length, take, drop, Result, Ok, Err, inl, inr, refl, sym, ap, subst, ◌∙◌, arith, length-append, length-drop}
+use Rattle.std.proofs.Common.{◌≡◌, ◌≢◌, ℕ, ◌+◌, ◌-◌, ◌<◌, ◌≤◌, true, false, cond, ltb, List, ◌++◌, length, take, drop}
+use Rattle.std.proofs.Common.{Result, Ok, Err, inl, inr, refl, sym, ap, subst, ◌∙◌, arith, length-append, length-drop}
 use Rattle.std.proofs.lemmas.Bool.{cases_lt, ltb-false, le-ltb, lt-ltb}
 use Rattle.std.proofs.lemmas.List.{take-append-drop, take-append-le, drop-append-le, drop-drop, drop_at, length-take-le}
 use Rattle.byteorder.specs.Endian.{little_number}
@@ -11,7 +12,8 @@ use Rattle.neli_wire.specs.Bytes.{Reading, bytes_at, short}
 use Rattle.neli_wire.specs.Reading.{◌>>=◌, IsLocal, and_then, value_at, number_at}
 use Rattle.neli_wire.specs.laws.Reading.{bind_ok, guard_ok, ok_is, guard-not, bind-not}
 use Rattle.neli_wire.specs.Frames.{Layout, IsFrame, frame_at, frame_after, frame_takes_memory, number_in}
-use Rattle.neli_wire.specs.laws.Steps.{padded_payload_at, padded_payload_takes_memory, header_then, header_then_takes_memory}
+use Rattle.neli_wire.specs.laws.Steps.{padded_payload_at, padded_payload_takes_memory}
+use Rattle.neli_wire.specs.laws.Steps.{header_then, header_then_takes_memory}
 
 abbrev done : {A : Type 0} → A → Result A DeError
 done x = Ok x

@@ -1,6 +1,8 @@
 -- Laws of numbers on the wire.
-use Rattle.std.proofs.Common.{◌≡◌, ℕ, zero, suc, ◌+◌, ◌*◌, ◌/◌, ◌%◌, ◌^◌, ◌<◌, ◌≤◌, List, [], ◌∷◌, length, take, slice_index, refl, sym, ap, ◌∙◌, arith}
-use Rattle.std.proofs.Math.Nat.{div-div-eq-div-mul, div-one, mod-eq_of_lt, mul-add-div, mul-add-mod_self_right, mul_assoc, mul_comm, one-le-pow, pow-suc, pow-succ'}
+use Rattle.std.proofs.Common.{◌≡◌, ℕ, zero, suc, ◌+◌, ◌*◌, ◌/◌, ◌%◌, ◌^◌, ◌<◌, ◌≤◌}
+use Rattle.std.proofs.Common.{List, [], ◌∷◌, length, take, slice_index, refl, sym, ap, ◌∙◌, arith}
+use Rattle.std.proofs.Math.Nat.{div-div-eq-div-mul, div-one, mod-eq_of_lt, mul-add-div, mul-add-mod_self_right}
+use Rattle.std.proofs.Math.Nat.{mul_assoc, mul_comm, one-le-pow, pow-suc, pow-succ'}
 use Rattle.std.proofs.lemmas.Nat.{div-mul-add, pow-add}
 use mir.Val.{bits}
 use Rattle.std.specs.Prelude.{ℤ, FitsSigned}
@@ -9,7 +11,8 @@ use Rattle.std.proofs.lemmas.Int.{of_z-to_z, to_z-of_z}
 use Rattle.std.proofs.Math.Facts.{Fits-of_z, Fits-of_lt, sfits_to_z}
 use Rattle.std.proofs.lemmas.List.{take_all, append-nil}
 use Rattle.byteorder.specs.Endian.{big_from, big_number, big_bytes, little_from, little_number, little_bytes}
-use Rattle.byteorder.specs.Numbers.{big_from-cons, big_from-lt, big_number-reads_back, little_from-cons, little_from-lt, little_number-reads_back, length-bytes_low_first}
+use Rattle.byteorder.specs.Numbers.{big_from-cons, big_from-lt, big_number-reads_back, little_from-cons}
+use Rattle.byteorder.specs.Numbers.{little_from-lt, little_number-reads_back, length-bytes_low_first}
 use Rattle.neli_wire.specs.Numbers.{AreBytes, FitsBytes, signed_bytes, signed_number}
 
 byte_is : (k x : ℕ) → byte_at k x ≡ x / 256 ^ k % 256

@@ -1,5 +1,6 @@
 -- Laws of wire bytes of several parts.
-use Rattle.std.proofs.Common.{◌≡◌, ◌≢◌, ℕ, ◌-◌, ◌≤◌, List, ◌++◌, length, take, Ok, Err, refl, sym, ap, ◌∙◌, append_assoc, arith, length-append, Result, subst}
+use Rattle.std.proofs.Common.{◌≡◌, ◌≢◌, ℕ, ◌-◌, ◌≤◌, List, ◌++◌, length, take, Ok}
+use Rattle.std.proofs.Common.{Err, refl, sym, ap, ◌∙◌, append_assoc, arith, length-append, Result, subst}
 use Rattle.std.specs.Prelude.{IfErr, IsErrAnd}
 use Rattle.std.proofs.lemmas.List.{take_at, length-take, take-take}
 use Rattle.neli_wire.specs.SerError.{SerError}

@@ -1,4 +1,5 @@
-use Rattle.neli_attr.specs.laws.Equality.{attribute-equality, bytes-equality, field-equality, lists-equality, routing-equality}
+use Rattle.neli_attr.specs.laws.Equality.{attribute-equality, bytes-equality, field-equality}
+use Rattle.neli_attr.specs.laws.Equality.{lists-equality, routing-equality}
 use Rattle.neli_attr.proofs.laws.equality.Goals as goal
 
 pub returns-clause-buffer : goal.returns-clause-buffer

@@ -3,7 +3,8 @@ use Rattle.std.specs.Ordering.{int_eq}
 use Rattle.std.specs.Cmp.Lexicographic.{pointwise}
 use Rattle.neli_msg.specs.contracts.payload.NlPayload.{enum}
 use Rattle.neli_attr.specs.laws.Equality.{attribute-equality, bytes-equality, lists-equality}
-use Rattle.neli_reader.proofs.Equality.{answer-equality, echo-equality, enum-equality, header-equality, message-equality, no-field, one-field}
+use Rattle.neli_reader.proofs.Equality.{answer-equality, echo-equality, enum-equality, header-equality}
+use Rattle.neli_reader.proofs.Equality.{message-equality, no-field, one-field}
 use Rattle.neli_reader.proofs.laws.equality.Goals as goal
 
 pub returns-clause-answer : goal.returns-clause-answer

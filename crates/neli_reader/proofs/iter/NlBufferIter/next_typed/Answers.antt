@@ -3,7 +3,8 @@ use Rattle.std.proofs.lemmas.Bool.{eqb-true}
 use Rattle.neli_wire.specs.Frames.{frame_at}
 use Rattle.neli_msg.specs.Messages.{message_layout}
 use Rattle.neli_msg.specs.laws.Messages.{layout_with-placed}
-use Rattle.neli_reader.specs.laws.Cuts.{cut_of-end, cut_of-message, cut_of-fault, refused_is, drop_whole, empty_is, frame_at-longer}
+use Rattle.neli_reader.specs.laws.Cuts.{cut_of-end, cut_of-message, cut_of-fault, refused_is}
+use Rattle.neli_reader.specs.laws.Cuts.{drop_whole, empty_is, frame_at-longer}
 use Rattle.neli_reader.proofs.iter.NlBufferIter.next_typed.Goals as goal
 
 pub returns-then-is_empty : goal.returns-then-is_empty
