@@ -1,7 +1,7 @@
 -- Walks, one item after the other.
-use Rattle.std.proofs.Common.{◌≡◌, ◌≢◌, ◌+◌, ◌≤◌, ℕ, List, [], ◌∷◌, length, Option}
-use Rattle.std.proofs.Common.{Some, None, Ok, Err, refl, sym, ap, ◌∙◌, arith}
-use Rattle.std.specs.Prelude.{◌<◌, Result, IfSome, IsNone, MatchOption, OnErr, OnSome, option_map}
+use Rattle.std.proofs.Common.{◌≡◌, ◌≢◌, ◌+◌, ◌≤◌, ℕ, List, [], length}
+use Rattle.std.proofs.Common.{Some, None, Ok, Err, ap, arith}
+use Rattle.std.specs.Prelude.{Result, option_map}
 use Rattle.neli_wire.specs.DeError.{DeError}
 use Rattle.neli_wire.specs.Frames.{frame_at}
 use Rattle.neli_wire.specs.Place.{Place, whole}
@@ -12,26 +12,7 @@ use Rattle.neli_reader.specs.Cuts.{Cut, cut_of, message_before}
 use Rattle.neli_reader.specs.laws.Cuts.{cut_of-end, cut_of-message, cut_of-fault, frame_at-longer}
 use Rattle.neli_reader.specs.laws.Messages.{layout_with-placed}
 use Rattle.neli_lent.specs.Attributes.{attributes_at, lent_attribute}
-use Rattle.neli_lent.specs.Walks.{cut_with, items_of, map_item, map_ok}
 use Rattle.neli_lent.specs.Messages.{Lent, lent_message, messages_in}
-
--- ---- items
-
-module _ {A B : Type 0} (f : A → B) where
-  -- the first item of what was left, and the items of what is left
-  pub yields-first : (r : Option (Result A DeError)) (old new : Cut B) → old ≡ cut_with (map_item f r) new
-      → (IsNone r → new ≡ ([], None)) → IfSome r (λ item. OnErr item (new ≡ ([], None)))
-      → MatchOption r ((items_of old ≡ []) × (items_of new ≡ [])) (λ x. items_of old ≡ map_ok f x ∷ items_of new)
-  yields-first None old new is end fault = (ap items_of is, ap items_of (end refl))
-  yields-first (Some (Ok a)) old new is end fault = ap items_of is
-  yields-first (Some (Err e)) old new is end fault = ap items_of is ∙ sym (ap (λ (c : Cut B). Err e ∷ items_of c) fault)
-
-  -- and so an item makes them fewer
-  pub makes-progress : (r : Option (Result A DeError)) (old new : Cut B)
-      → MatchOption r ((items_of old ≡ []) × (items_of new ≡ [])) (λ x. items_of old ≡ map_ok f x ∷ items_of new)
-      → OnSome r (length (items_of new) < length (items_of old))
-  makes-progress None old new is = tt
-  makes-progress (Some x) old new is = omega (arith, ap length is)
 
 -- so many values before others
 abbrev pub counted_after : ℕ → Result ℕ DeError → Result ℕ DeError

@@ -1,6 +1,6 @@
 -- Walks over next hops, one after the other.
-use Rattle.std.proofs.Common.{◌≡◌, ◌≢◌, ◌+◌, ◌≤◌, ℕ, List, [], ◌∷◌, length, Option, Some, None, Ok, Err, refl, sym, ap, ◌∙◌, arith}
-use Rattle.std.specs.Prelude.{◌<◌, Result, IfSome, IsNone, MatchOption, OnErr, OnSome, option_map}
+use Rattle.std.proofs.Common.{◌≡◌, ◌≢◌, ◌+◌, ◌≤◌, ℕ, List, [], length, Some, None, Ok, Err, refl, ap, arith}
+use Rattle.std.specs.Prelude.{option_map}
 use Rattle.neli_wire.specs.DeError.{DeError}
 use Rattle.neli_wire.specs.Frames.{frame_at}
 use Rattle.neli_wire.specs.laws.Frames.{IsPlaced, number_in-take}
@@ -8,24 +8,7 @@ use Rattle.neli_wire.specs.Place.{Place, whole}
 use Rattle.neli_wire.specs.Reading.{refusal_within}
 use Rattle.neli_reader.specs.Cuts.{Cut, cut_of, message_before}
 use Rattle.neli_reader.specs.laws.Cuts.{cut_of-end, cut_of-message, cut_of-fault, frame_at-longer}
-use Rattle.neli_lent.specs.Walks.{cut_with, items_of, map_item, map_ok}
 use Rattle.neli_payloads.specs.NextHops.{HopHead, next_hop, next_hops_at}
-
-module _ {A B : Type 0} (f : A → B) where
-  -- the first item of what was left, and the items of what is left
-  pub yields-first : (r : Option (Result A DeError)) (old new : Cut B) → old ≡ cut_with (map_item f r) new
-      → (IsNone r → new ≡ ([], None)) → IfSome r (λ item. OnErr item (new ≡ ([], None)))
-      → MatchOption r ((items_of old ≡ []) × (items_of new ≡ [])) (λ x. items_of old ≡ map_ok f x ∷ items_of new)
-  yields-first None old new is end fault = (ap items_of is, ap items_of (end refl))
-  yields-first (Some (Ok a)) old new is end fault = ap items_of is
-  yields-first (Some (Err e)) old new is end fault = ap items_of is ∙ sym (ap (λ (c : Cut B). Err e ∷ items_of c) fault)
-
-  -- and so an item makes them fewer
-  pub makes-progress : (r : Option (Result A DeError)) (old new : Cut B)
-      → MatchOption r ((items_of old ≡ []) × (items_of new ≡ [])) (λ x. items_of old ≡ map_ok f x ∷ items_of new)
-      → OnSome r (length (items_of new) < length (items_of old))
-  makes-progress None old new is = tt
-  makes-progress (Some x) old new is = omega (arith, ap length is)
 
 -- the header is in the first eight bytes
 next_hop-placed : IsPlaced next_hop

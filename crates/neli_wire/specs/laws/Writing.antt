@@ -1,8 +1,7 @@
 -- Laws of wire bytes of several parts.
-use Rattle.std.proofs.Common.{◌≡◌, ◌≢◌, ℕ, ◌-◌, ◌≤◌, List, ◌++◌, length, take, Ok}
-use Rattle.std.proofs.Common.{Err, refl, sym, ap, ◌∙◌, append_assoc, arith, length-append, Result, subst}
+use Rattle.std.proofs.Common.{◌≡◌, ◌≢◌, ℕ, ◌-◌, List, ◌++◌, length, Ok}
+use Rattle.std.proofs.Common.{Err, refl, sym, ap, append_assoc, arith, length-append, Result, subst}
 use Rattle.std.specs.Prelude.{IfErr, IsErrAnd}
-use Rattle.std.proofs.lemmas.List.{take_at, length-take, take-take}
 use Rattle.neli_wire.specs.SerError.{SerError}
 use Rattle.neli_wire.specs.SerError.TheVariants.{Msg, Io, Utf8, Memory}
 use Rattle.neli_wire.specs.Writing.{Wire, ◌+++◌, append_wire, pad_wire, zeros_for, RefusesWrite, TakesRoom}
@@ -30,29 +29,9 @@ own-length known bytes e = written-length known bytes (length known) refl e
 pub written-no_memory : (known : List ℕ) → written known ≢ Err Memory
 written-no_memory known e = cc
 
-ok_is : (a b : List ℕ) → written a ≡ written b → a ≡ b
-ok_is a b e = cc
-
--- the second part goes after the first
-pub append_wire_then : (old mid : List ℕ) (a b : Wire) → append_wire old a ≡ Ok mid
-    → append_wire old (a +++ b) ≡ append_wire mid b
-append_wire_then old mid (Ok x) (Ok y) e = rw (← ok_is (old ++ x) mid e) (ap written (sym (append_assoc old x y)))
-append_wire_then old mid (Ok x) (Err d) e = refl
-append_wire_then old mid (Err d) b e = absurd cc
-
 pub append_wire-err : (old : List ℕ) (w : Wire) (e : SerError) → append_wire old w ≡ Err e → w ≡ Err e
 append_wire-err old (Ok x) e h = absurd cc
 append_wire-err old (Err d) e h = h
-
--- what stood there stands there still
-pub append_wire_front : (old new : List ℕ) (w : Wire) → append_wire old w ≡ Ok new → take (length old) new ≡ old
-append_wire_front old new (Ok x) e = rw (← ok_is (old ++ x) new e) (take_at old x (length old) refl)
-append_wire_front old new (Err d) e = absurd cc
-
-pub front_trans : (a b c : List ℕ) → take (length a) b ≡ a → take (length b) c ≡ b → take (length a) c ≡ a
-front_trans a b c p q =
-    let shorter : length a ≤ length b = omega (arith, length-take (length a) b, ap length p) in
-    sym (take-take (length a) (length b) c shorter) ∙ (rw q p)
 
 -- what the first part takes, the whole takes
 room_first : (a b : Wire) → TakesRoom a → TakesRoom (a +++ b)
