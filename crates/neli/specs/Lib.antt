@@ -9,8 +9,7 @@ pub use Rattle.neli_consts_attrs.specs as consts_attrs
 pub use Rattle.neli_consts_flags.specs as consts_flags
 pub use Rattle.neli_consts_linux.specs as consts_linux
 pub use Rattle.neli_consts_system.specs as consts_system
-pub use Rattle.neli_route.specs as route
-pub use Rattle.neli_link.specs as link
+pub use Rattle.neli_rtnl.specs as rtnl
 pub use Rattle.neli_payloads.specs as payloads
 pub use Rattle.neli_texts.specs as texts
 pub use Rattle.neli_genl.specs as genl

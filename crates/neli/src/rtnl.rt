@@ -2,34 +2,29 @@
 //! these carry as payloads: hardware addresses, counters, cache entries, next hops and settings of virtual functions.
 
 pub use neli_attr::{RtAttrHandle, Rtattr, RtattrBuilder, RtattrBuilderError};
-pub use neli_link::{
-    Ifaddrmsg, IfaddrmsgBuilder, IfaddrmsgBuilderError, Ifinfomsg, IfinfomsgBuilder,
-    IfinfomsgBuilderError, IflaVlanFlags, IflaVlanFlagsBuilder, IflaVlanFlagsBuilderError,
-    IflaVlanQosMapping, IflaVlanQosMappingBuilder, IflaVlanQosMappingBuilderError, NdaCacheinfo,
-    NdaCacheinfoBuilder, NdaCacheinfoBuilderError, Ndmsg, NdmsgBuilder, NdmsgBuilderError,
-};
 pub use neli_payloads::{
     HardwareAddress, HardwareAddressError, IfaCacheinfo, LinkStats64, NextHop, NextHops,
     RtaCacheinfo, VfGuid, VfMac, VfRate, VfSetting, VfVlan, VfVlanInfo,
 };
-pub use neli_route::{
-    Fibmsg, FibmsgBuilder, FibmsgBuilderError, Rtgenmsg, RtgenmsgBuilder, RtgenmsgBuilderError,
-    Rtmsg, RtmsgBuilder, RtmsgBuilderError, Tcmsg, TcmsgBuilder, TcmsgBuilderError,
+pub use neli_rtnl::{
+    Fibmsg, FibmsgBuilder, FibmsgBuilderError, Ifaddrmsg, IfaddrmsgBuilder, IfaddrmsgBuilderError,
+    Ifinfomsg, IfinfomsgBuilder, IfinfomsgBuilderError, IflaVlanFlags, IflaVlanFlagsBuilder,
+    IflaVlanFlagsBuilderError, IflaVlanQosMapping, IflaVlanQosMappingBuilder,
+    IflaVlanQosMappingBuilderError, NdaCacheinfo, NdaCacheinfoBuilder, NdaCacheinfoBuilderError,
+    Ndmsg, NdmsgBuilder, NdmsgBuilderError, Rtgenmsg, RtgenmsgBuilder, RtgenmsgBuilderError, Rtmsg,
+    RtmsgBuilder, RtmsgBuilderError, Tcmsg, TcmsgBuilder, TcmsgBuilderError,
 };
 
 /// What was built and written is read back, and `==` is equality.
 pub mod laws {
-    pub use neli_link::laws::{
-        equality as equality_of_links, ifaddrmsg_is_read_back, ifinfomsg_is_read_back,
-        ifla_vlan_flags_is_read_back, ifla_vlan_qos_mapping_is_read_back,
-        nda_cacheinfo_is_read_back, ndmsg_is_read_back,
-    };
     pub use neli_payloads::laws::{
         equality as equality_of_payloads, hardware_text_is_read_back, ifa_cacheinfo_is_read_back,
         rta_cacheinfo_is_read_back, virtual_functions_are_read_back,
     };
-    pub use neli_route::laws::{
-        equality as equality_of_routes, fibmsg_is_read_back, rtgenmsg_is_read_back,
-        rtmsg_is_read_back, tcmsg_is_read_back,
+    pub use neli_rtnl::laws::{
+        equality_of_links, equality_of_routes, fibmsg_is_read_back, ifaddrmsg_is_read_back,
+        ifinfomsg_is_read_back, ifla_vlan_flags_is_read_back, ifla_vlan_qos_mapping_is_read_back,
+        nda_cacheinfo_is_read_back, ndmsg_is_read_back, rtgenmsg_is_read_back, rtmsg_is_read_back,
+        tcmsg_is_read_back,
     };
 }

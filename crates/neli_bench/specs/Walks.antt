@@ -8,14 +8,14 @@ use Rattle.neli_consts_attrs.specs.declared.links.Ifla.{Ifla}
 use Rattle.neli_consts_attrs.specs.declared.routes.Rta.{Rta}
 use Rattle.neli_lent.specs.Attributes.{attributes_at}
 use Rattle.neli_lent.specs.Messages.{Lent, messages_in}
-use Rattle.neli_link.specs.Ifinfomsg.{ifinfomsg_header}
-use Rattle.neli_link.specs.declared.ifinfomsg.IfinfomsgHeader.{IfinfomsgHeader}
 use Rattle.neli_reader.specs.Agreement.{untyped_layout}
 use Rattle.neli_reader.specs.Cuts.{Cut, cut_of}
 use Rattle.neli_reader.specs.Messages.{Message, message_layout}
 use Rattle.neli_reader.specs.Retyping.{body_of}
-use Rattle.neli_route.specs.Rtmsg.{rtmsg_header}
-use Rattle.neli_route.specs.declared.rtmsg.RtmsgHeader.{RtmsgHeader}
+use Rattle.neli_rtnl.specs.Ifinfomsg.{ifinfomsg_header}
+use Rattle.neli_rtnl.specs.Rtmsg.{rtmsg_header}
+use Rattle.neli_rtnl.specs.declared.ifinfomsg.IfinfomsgHeader.{IfinfomsgHeader}
+use Rattle.neli_rtnl.specs.declared.rtmsg.RtmsgHeader.{RtmsgHeader}
 
 -- a sum as the walks answer it: the largest number of 64 bits stands for those above it
 abbrev pub as_u64 : ℕ → ℕ

@@ -9,8 +9,7 @@ ghost use Rattle.neli_bench.specs.Walks.{IsSum, as_u64, lent_adds, lent_cut, len
 
 use crate::plus;
 use neli_lent::{LentAttrs, LentMessage, LentMessages};
-use neli_link::Ifinfomsg;
-use neli_route::Rtmsg;
+use neli_rtnl::{Ifinfomsg, Rtmsg};
 use neli_wire::Header;
 
 /// What the attributes add together; none where they have a fault.

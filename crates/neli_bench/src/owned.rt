@@ -10,9 +10,8 @@ ghost use Rattle.neli_bench.specs.Walks.{IsSum, as_u64, link_adds, link_cut, raw
 use crate::plus;
 use neli_attr::{Buffer, RtBuffer};
 use neli_consts_attrs::RtaType;
-use neli_link::Ifinfomsg;
 use neli_reader::{NlBufferIter, Nlmsghdr};
-use neli_route::Rtmsg;
+use neli_rtnl::{Ifinfomsg, Rtmsg};
 use std::alloc::Global;
 
 /// What the attributes add together.

@@ -1,5 +1,0 @@
-pub mod Fibmsg
-pub mod Rtgenmsg
-pub mod Rtmsg
-pub mod Tcmsg
-pub mod laws

@@ -1,0 +1,11 @@
+pub mod Fibmsg
+pub mod Ifaddrmsg
+pub mod Ifinfomsg
+pub mod IflaVlanFlags
+pub mod IflaVlanQosMapping
+pub mod NdaCacheinfo
+pub mod Ndmsg
+pub mod Rtgenmsg
+pub mod Rtmsg
+pub mod Tcmsg
+pub mod laws

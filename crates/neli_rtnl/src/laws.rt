@@ -1,0 +1,225 @@
+//! Laws over the definitions alone: what is written of a body is read again as what is equal to it, and when two
+//! bodies are equal. The functions do nothing: their contracts are the laws.
+
+ghost use Rattle.std.specs.Prelude.{◌≡◌, List, ℕ, length};
+ghost use Rattle.neli_wire.specs.Constants.{IsEquality};
+ghost use Rattle.neli_wire.specs.Numbers.{AreBytes};
+ghost use Rattle.neli_body.specs.Attributes.{attrs_of, attrs_wire};
+ghost use Rattle.neli_body.specs.RoundTrips.{ArePlainAttrs, ReadsBack, ReadsBackWhole};
+ghost use Rattle.neli_consts_attrs.specs.Frattr.{frattr_number, frattr_of};
+ghost use Rattle.neli_consts_attrs.specs.Ifa.{ifa_number, ifa_of};
+ghost use Rattle.neli_consts_attrs.specs.Ifla.{ifla_number, ifla_of};
+ghost use Rattle.neli_consts_attrs.specs.Nda.{nda_number, nda_of};
+ghost use Rattle.neli_consts_attrs.specs.Rta.{rta_number, rta_of};
+ghost use Rattle.neli_consts_attrs.specs.Tca.{tca_number, tca_of};
+ghost use Rattle.neli_rtnl.specs.declared.ifla_vlan_flags.IflaVlanFlags.{IflaVlanFlags};
+ghost use Rattle.neli_rtnl.specs.declared.ifla_vlan_qos_mapping.IflaVlanQosMapping.{IflaVlanQosMapping};
+ghost use Rattle.neli_rtnl.specs.declared.nda_cacheinfo.NdaCacheinfo.{NdaCacheinfo};
+ghost use Rattle.neli_rtnl.specs.Fibmsg.{IsPlainFibmsg, Fibmsg, fibmsg_bytes, fibmsg_header};
+ghost use Rattle.neli_rtnl.specs.Ifaddrmsg.{IsPlainIfaddrmsg, Ifaddrmsg, ifaddrmsg_bytes, ifaddrmsg_header};
+ghost use Rattle.neli_rtnl.specs.Ifinfomsg.{IsPlainIfinfomsg, Ifinfomsg, ifinfomsg_bytes, ifinfomsg_header};
+ghost use Rattle.neli_rtnl.specs.IflaVlanFlags.{IsPlainIflaVlanFlags, ifla_vlan_flags_bytes, ifla_vlan_flags_header};
+ghost use Rattle.neli_rtnl.specs.IflaVlanQosMapping.{IsPlainIflaVlanQosMapping, ifla_vlan_qos_mapping_bytes, ifla_vlan_qos_mapping_header};
+ghost use Rattle.neli_rtnl.specs.NdaCacheinfo.{IsPlainNdaCacheinfo, nda_cacheinfo_bytes, nda_cacheinfo_header};
+ghost use Rattle.neli_rtnl.specs.Ndmsg.{IsPlainNdmsg, Ndmsg, ndmsg_bytes, ndmsg_header};
+ghost use Rattle.neli_rtnl.specs.Rtgenmsg.{IsPlainRtgenmsg, Rtgenmsg, rtgenmsg_bytes, rtgenmsg_header};
+ghost use Rattle.neli_rtnl.specs.Rtmsg.{IsPlainRtmsg, Rtmsg, rtmsg_bytes, rtmsg_header};
+ghost use Rattle.neli_rtnl.specs.Tcmsg.{IsPlainTcmsg, Tcmsg, tcmsg_bytes, tcmsg_header};
+
+use crate::fibmsg::FibmsgHeader;
+use crate::ifaddrmsg::IfaddrmsgHeader;
+use crate::ifinfomsg::IfinfomsgHeader;
+use crate::ndmsg::NdmsgHeader;
+use crate::rtgenmsg::RtgenmsgHeader;
+use crate::rtmsg::RtmsgHeader;
+use crate::tcmsg::TcmsgHeader;
+use neli_attr::{Buffer, RtBuffer};
+use neli_body::laws::{attributes_are_read_back, body_is_read_back};
+use neli_consts_attrs::{Frattr, Ifa, Ifla, Nda, Rta, Tca};
+
+/// A route is written as bytes that are read as its fields, and as what the attributes' own
+/// bytes are read as, where each field is what its number is read as. And bytes that are read
+/// as the fields are those that they are written as. Where each attribute's length is that of its
+/// header and payload, and its type is what its number is read as, the whole is read as it was.
+pub fn rtmsg_is_read_back()
+    ensures back { (m : Rtmsg) → IsPlainRtmsg m.header
+        → ReadsBack 12 rtmsg_bytes rtmsg_header (attrs_of rta_of) m.header
+        (attrs_wire rta_number m.rtattrs) }
+    ensures whole { (m : Rtmsg) → IsPlainRtmsg m.header
+        → ArePlainAttrs rta_number rta_of m.rtattrs
+        → ReadsBackWhole 12 rtmsg_bytes rtmsg_header rta_number rta_of
+        m.header m.rtattrs }
+    ensures bytes { (s : List ℕ) → length s ≡ 12 → AreBytes s → rtmsg_bytes (rtmsg_header s) ≡ s }
+{
+    body_is_read_back::<RtmsgHeader, RtBuffer<Rta, Buffer>>();
+    attributes_are_read_back::<RtmsgHeader, Rta>();
+}
+
+/// A queueing discipline is written as bytes that are read as its fields, and as what the
+/// attributes' own bytes are read as, where each field is what its number is read as. And bytes
+/// that are read as the fields are those that they are written as. Where each attribute's length is
+/// that of its header and payload, and its type is what its number is read as, the whole is read as
+/// it was.
+pub fn tcmsg_is_read_back()
+    ensures back { (m : Tcmsg) → IsPlainTcmsg m.header
+        → ReadsBack 20 tcmsg_bytes tcmsg_header (attrs_of tca_of) m.header
+        (attrs_wire tca_number m.rtattrs) }
+    ensures whole { (m : Tcmsg) → IsPlainTcmsg m.header
+        → ArePlainAttrs tca_number tca_of m.rtattrs
+        → ReadsBackWhole 20 tcmsg_bytes tcmsg_header tca_number tca_of
+        m.header m.rtattrs }
+    ensures bytes { (s : List ℕ) → length s ≡ 20 → AreBytes s → tcmsg_bytes (tcmsg_header s) ≡ s }
+{
+    body_is_read_back::<TcmsgHeader, RtBuffer<Tca, Buffer>>();
+    attributes_are_read_back::<TcmsgHeader, Tca>();
+}
+
+/// A rule is written as bytes that are read as its fields, and as what the attributes' own
+/// bytes are read as, where each field is what its number is read as. And bytes that are read
+/// as the fields are those that they are written as. Where each attribute's length is that of its
+/// header and payload, and its type is what its number is read as, the whole is read as it was.
+pub fn fibmsg_is_read_back()
+    ensures back { (m : Fibmsg) → IsPlainFibmsg m.header
+        → ReadsBack 12 fibmsg_bytes fibmsg_header (attrs_of frattr_of) m.header
+        (attrs_wire frattr_number m.rtattrs) }
+    ensures whole { (m : Fibmsg) → IsPlainFibmsg m.header
+        → ArePlainAttrs frattr_number frattr_of m.rtattrs
+        → ReadsBackWhole 12 fibmsg_bytes fibmsg_header frattr_number frattr_of
+        m.header m.rtattrs }
+    ensures bytes { (s : List ℕ) → length s ≡ 12 → AreBytes s → fibmsg_bytes (fibmsg_header s) ≡ s }
+{
+    body_is_read_back::<FibmsgHeader, RtBuffer<Frattr, Buffer>>();
+    attributes_are_read_back::<FibmsgHeader, Frattr>();
+}
+
+/// A request by family is written as bytes that are read as its fields, and as what the
+/// attributes' own bytes are read as, where each field is what its number is read as. And bytes
+/// that are read as the fields are those that they are written as. Where each attribute's length is
+/// that of its header and payload, and its type is what its number is read as, the whole is read as
+/// it was.
+pub fn rtgenmsg_is_read_back()
+    ensures back { (m : Rtgenmsg) → IsPlainRtgenmsg m.header
+        → ReadsBack 4 rtgenmsg_bytes rtgenmsg_header (attrs_of ifa_of) m.header
+        (attrs_wire ifa_number m.rtattrs) }
+    ensures whole { (m : Rtgenmsg) → IsPlainRtgenmsg m.header
+        → ArePlainAttrs ifa_number ifa_of m.rtattrs
+        → ReadsBackWhole 4 rtgenmsg_bytes rtgenmsg_header ifa_number ifa_of
+        m.header m.rtattrs }
+    ensures bytes { (s : List ℕ) → length s ≡ 4 → AreBytes s
+        → rtgenmsg_bytes (rtgenmsg_header s) ≡ s }
+{
+    body_is_read_back::<RtgenmsgHeader, RtBuffer<Ifa, Buffer>>();
+    attributes_are_read_back::<RtgenmsgHeader, Ifa>();
+}
+
+/// A link is written as bytes that are read as its fields, and as what the attributes' own
+/// bytes are read as, where each field is what its number is read as. And bytes that are read
+/// as the fields are those that they are written as. Where each attribute's length is that of its
+/// header and payload, and its type is what its number is read as, the whole is read as it was.
+pub fn ifinfomsg_is_read_back()
+    ensures back { (m : Ifinfomsg) → IsPlainIfinfomsg m.header
+        → ReadsBack 16 ifinfomsg_bytes ifinfomsg_header (attrs_of ifla_of) m.header
+        (attrs_wire ifla_number m.rtattrs) }
+    ensures whole { (m : Ifinfomsg) → IsPlainIfinfomsg m.header
+        → ArePlainAttrs ifla_number ifla_of m.rtattrs
+        → ReadsBackWhole 16 ifinfomsg_bytes ifinfomsg_header ifla_number ifla_of
+        m.header m.rtattrs }
+    ensures bytes { (s : List ℕ) → length s ≡ 16 → AreBytes s
+        → ifinfomsg_bytes (ifinfomsg_header s) ≡ s }
+{
+    body_is_read_back::<IfinfomsgHeader, RtBuffer<Ifla, Buffer>>();
+    attributes_are_read_back::<IfinfomsgHeader, Ifla>();
+}
+
+/// An address is written as bytes that are read as its fields, and as what the attributes' own
+/// bytes are read as, where each field is what its number is read as. And bytes that are read
+/// as the fields are those that they are written as. Where each attribute's length is that of its
+/// header and payload, and its type is what its number is read as, the whole is read as it was.
+pub fn ifaddrmsg_is_read_back()
+    ensures back { (m : Ifaddrmsg) → IsPlainIfaddrmsg m.header
+        → ReadsBack 8 ifaddrmsg_bytes ifaddrmsg_header (attrs_of ifa_of) m.header
+        (attrs_wire ifa_number m.rtattrs) }
+    ensures whole { (m : Ifaddrmsg) → IsPlainIfaddrmsg m.header
+        → ArePlainAttrs ifa_number ifa_of m.rtattrs
+        → ReadsBackWhole 8 ifaddrmsg_bytes ifaddrmsg_header ifa_number ifa_of
+        m.header m.rtattrs }
+    ensures bytes { (s : List ℕ) → length s ≡ 8 → AreBytes s
+        → ifaddrmsg_bytes (ifaddrmsg_header s) ≡ s }
+{
+    body_is_read_back::<IfaddrmsgHeader, RtBuffer<Ifa, Buffer>>();
+    attributes_are_read_back::<IfaddrmsgHeader, Ifa>();
+}
+
+/// A neighbour is written as bytes that are read as its fields, and as what the attributes' own
+/// bytes are read as, where each field is what its number is read as. And bytes that are read
+/// as the fields are those that they are written as. Where each attribute's length is that of its
+/// header and payload, and its type is what its number is read as, the whole is read as it was.
+pub fn ndmsg_is_read_back()
+    ensures back { (m : Ndmsg) → IsPlainNdmsg m.header
+        → ReadsBack 12 ndmsg_bytes ndmsg_header (attrs_of nda_of) m.header
+        (attrs_wire nda_number m.rtattrs) }
+    ensures whole { (m : Ndmsg) → IsPlainNdmsg m.header
+        → ArePlainAttrs nda_number nda_of m.rtattrs
+        → ReadsBackWhole 12 ndmsg_bytes ndmsg_header nda_number nda_of
+        m.header m.rtattrs }
+    ensures bytes { (s : List ℕ) → length s ≡ 12 → AreBytes s → ndmsg_bytes (ndmsg_header s) ≡ s }
+{
+    body_is_read_back::<NdmsgHeader, RtBuffer<Nda, Buffer>>();
+    attributes_are_read_back::<NdmsgHeader, Nda>();
+}
+
+/// A neighbour's cache entry is written as bytes that are read as the same, where each field is
+/// what its number is read as. And bytes that are read as one are those that it is written as.
+pub fn nda_cacheinfo_is_read_back()
+    ensures back { (v : NdaCacheinfo) → IsPlainNdaCacheinfo v
+        → nda_cacheinfo_header (nda_cacheinfo_bytes v) ≡ v }
+    ensures bytes { (s : List ℕ) → length s ≡ 16 → AreBytes s
+        → nda_cacheinfo_bytes (nda_cacheinfo_header s) ≡ s }
+{}
+
+/// A virtual network's pair of flags is written as bytes that are read as the same, where each
+/// field is what its number is read as. And bytes that are read as one are those that it is
+/// written as.
+pub fn ifla_vlan_flags_is_read_back()
+    ensures back { (v : IflaVlanFlags) → IsPlainIflaVlanFlags v
+        → ifla_vlan_flags_header (ifla_vlan_flags_bytes v) ≡ v }
+    ensures bytes { (s : List ℕ) → length s ≡ 2 → AreBytes s
+        → ifla_vlan_flags_bytes (ifla_vlan_flags_header s) ≡ s }
+{}
+
+/// A mapping of priorities is written as bytes that are read as the same, where each field is
+/// what its number is read as. And bytes that are read as one are those that it is written as.
+pub fn ifla_vlan_qos_mapping_is_read_back()
+    ensures back { (v : IflaVlanQosMapping) → IsPlainIflaVlanQosMapping v
+        → ifla_vlan_qos_mapping_header (ifla_vlan_qos_mapping_bytes v) ≡ v }
+    ensures bytes { (s : List ℕ) → length s ≡ 8 → AreBytes s
+        → ifla_vlan_qos_mapping_bytes (ifla_vlan_qos_mapping_header s) ≡ s }
+{}
+
+/// `==` of routes, queueing disciplines, rules and requests by family is true exactly where the two values are equal,
+/// field by field.
+pub fn equality_of_routes()
+    ensures rtmsg { IsEquality ⟦<crate::Rtmsg as PartialEq>⟧.eq }
+    ensures tcmsg { IsEquality ⟦<crate::Tcmsg as PartialEq>⟧.eq }
+    ensures fibmsg { IsEquality ⟦<crate::Fibmsg as PartialEq>⟧.eq }
+    ensures rtgenmsg { IsEquality ⟦<crate::Rtgenmsg as PartialEq>⟧.eq }
+{
+    neli_consts_routing::laws::equality();
+    neli_consts_attrs::laws::equality();
+    neli_consts_flags::laws::equality();
+}
+
+/// `==` of links, addresses and neighbours, and of the values that their attributes carry, is true exactly where the
+/// two values are equal, field by field.
+pub fn equality_of_links()
+    ensures ifinfomsg { IsEquality ⟦<crate::Ifinfomsg as PartialEq>⟧.eq }
+    ensures ifaddrmsg { IsEquality ⟦<crate::Ifaddrmsg as PartialEq>⟧.eq }
+    ensures ndmsg { IsEquality ⟦<crate::Ndmsg as PartialEq>⟧.eq }
+    ensures nda_cacheinfo { IsEquality ⟦<crate::NdaCacheinfo as PartialEq>⟧.eq }
+    ensures ifla_vlan_flags { IsEquality ⟦<crate::IflaVlanFlags as PartialEq>⟧.eq }
+    ensures ifla_vlan_qos_mapping { IsEquality ⟦<crate::IflaVlanQosMapping as PartialEq>⟧.eq }
+{
+    neli_consts_routing::laws::equality();
+    neli_consts_attrs::laws::equality();
+    neli_consts_flags::laws::equality();
+}
