@@ -6,6 +6,7 @@ use Rattle.neli_wire.specs.DeError.{DeError}
 use Rattle.neli_wire.specs.DeError.TheVariants as de
 use Rattle.neli_wire.specs.Frames.{frame_at}
 use Rattle.std.specs.declared.io.ErrorKind.TheVariants.{UnexpectedEof}
+use Rattle.neli_lent.specs.Messages.{Lent, lent_message}
 use Rattle.neli_reader.specs.NlPayload.{NlPayload}
 use Rattle.neli_reader.specs.NlPayload.TheVariants as payload
 use Rattle.neli_reader.specs.Agreement.{untyped_layout}
@@ -101,6 +102,11 @@ IsLineOf reading line = (m : Raw) × (reading ≡ Ok m) × (line ≡ line_in m)
 -- the bytes begin with a message of this line, and then stand those
 abbrev pub BeginsWith : List ℕ → Line → List ℕ → Type 0
 BeginsWith bytes line later = (m : Raw) × (frame_at untyped_layout bytes ≡ Ok (m, later)) × (line ≡ line_in m)
+
+-- they begin with a message that has its padding, and whose payload is a body by its type alone
+abbrev pub BeginsWithBody : List ℕ → Type 0
+BeginsWithBody bytes = (m : Lent ℕ) × (rest : List ℕ) × (frame_at (lent_message (λ n. n)) bytes ≡ Ok (m, rest))
+    × (m.0.message_type ≢ 2) × (m.0.message_type ≢ 3)
 
 -- after the first k messages of a cut stands another, or a fault
 abbrev pub GoesOnAfter : ℕ → Cut Raw → Type 0

@@ -1,6 +1,6 @@
 //! The listing of a datagram.
 
-ghost use Rattle.std.specs.Prelude.{⊤, ◌≡◌, ◌≢◌, ◌++◌, List, ℕ, Ok, Some, IfOk, IfErr, OnOk, OnErr};
+ghost use Rattle.std.specs.Prelude.{⊤, ◌≡◌, ◌≢◌, ◌++◌, List, ℕ, Ok, Some, IfOk, IfErr, OnOk, OnErr, IsOk};
 ghost use Rattle.std.specs.Io.KnownBytes.{Appends};
 ghost use Rattle.neli_wire.specs.Frames.{frame_at};
 ghost use Rattle.neli_wire.specs.Place.{whole};
@@ -10,7 +10,7 @@ ghost use Rattle.neli_lent.specs.Messages.{as_owned, message_said};
 ghost use Rattle.neli_listing.specs.declared.line.Ending.TheVariants as line;
 ghost use Rattle.neli_listing.specs.declared.status.Status.TheVariants as status;
 ghost use Rattle.neli_listing.specs.Lines.{ending as ending_text};
-ghost use Rattle.neli_listing.specs.Listing.{BeginsWith, IsLineOf, Lists, ending_by, ending_of};
+ghost use Rattle.neli_listing.specs.Listing.{BeginsWith, BeginsWithBody, IsLineOf, Lists, ending_by, ending_of};
 ghost use Rattle.neli_listing.specs.Runs.{Prints, PrintsMemory, status_by};
 
 use crate::input::{InputError, read_whole};
@@ -53,12 +53,14 @@ fn ending_at(error: &DeError) -> Ending
 /// The line of a message that is lent. A body is not looked at; an error, an acknowledgement or the end of a
 /// dump is read, since its attributes are counted.
 ///
-/// Refused as that payload is refused.
+/// Refused as that payload is refused. A body takes no memory.
 fn line_of(alloc: Global, message: &LentMessage<'_, u16>) -> Result<Line, DeError>
     ensures value { IfOk result
         (IsLineOf (as_owned (λ n. n) (λ n. n) (λ b. Ok b) (message_said message.now))) }
     ensures refused { IfErr result
         (Refuses (as_owned (λ n. n) (λ n. n) (λ b. Ok b) (message_said message.now)) ⊤) }
+    ensures body { message.now.header.message_type ≢ 2 → message.now.header.message_type ≢ 3
+        → IsOk result }
 {
     let number = *message.nl_type();
     if number == ERROR || number == DONE {
@@ -81,10 +83,12 @@ fn read_owned_line(alloc: Global, cursor: &mut Cursor<'_>) -> Result<Line, DeErr
 
 /// Reads the message that the cursor's rest begins with, and gives its line.
 ///
-/// Refused as reading it as an untyped message is.
+/// Refused as reading it as an untyped message is. It takes no memory where the payload is a body by the message's type
+/// alone, and the padding is there.
 pub fn read_line(alloc: Global, cursor: &mut Cursor<'_>) -> Result<Line, DeError>
     ensures value { IfOk result (λ l. BeginsWith cursor.old.rest l cursor.new.rest) }
     ensures refused { IfErr result (Refuses (frame_at untyped_layout cursor.old.rest) ⊤) }
+    ensures body { BeginsWithBody cursor.old.rest → IsOk result }
     ensures moved { OnOk result (whole cursor.new ≡ whole cursor.old) }
     ensures unchanged { OnErr result (cursor.new ≡ cursor.old) }
 {
