@@ -4,6 +4,7 @@
 //! - [`links`], [`routes`], [`generic`]: recorded bodies, a file a family.
 //! - [`cuts`]: bodies at each length, and lengths of attributes that lie.
 //! - [`laws`]: that each law can be called.
+//! - [`printed`]: what `Debug` prints of the bodies of routing.
 //! - [`support`]: what the tests share.
 //!
 //! The bodies were recorded from Linux 6.18 on x86-64; their numbers are those of docs/RECORDINGS.md. Their fields were
@@ -20,6 +21,8 @@ mod generic;
 mod laws;
 #[cfg(test)]
 mod links;
+#[cfg(test)]
+mod printed;
 #[cfg(test)]
 mod routes;
 #[cfg(test)]
