@@ -1,5 +1,6 @@
 -- An entry is added.
-use Rattle.std.proofs.Common.{ℕ, zero, suc, ◌≡◌, ◌≢◌, ◌+◌, ◌-◌, ◌≤◌, ◌<◌, ◌^◌, Bool, true, false, cond, List, [], ◌∷◌, ◌++◌, length, drop, map, Option, Some, None, refl, sym, ap, ◌∙◌, inl, inr, ◌⊎◌, arith}
+use Rattle.std.proofs.Common.{ℕ, zero, suc, ◌≡◌, ◌≢◌, ◌+◌, ◌-◌, ◌≤◌, ◌<◌, ◌^◌, Bool, true, false, cond, List, [], ◌∷◌}
+use Rattle.std.proofs.Common.{◌++◌, length, drop, map, Option, Some, None, refl, sym, ap, ◌∙◌, inl, inr, ◌⊎◌, arith}
 use Rattle.std.specs.Prelude.{nat_eq}
 use Rattle.std.specs.List.{slice_get}
 use Rattle.std.specs.Option.{option_map}
@@ -13,7 +14,8 @@ use Rattle.neli_places.specs.declared.place.Chain.{Chain}
 use Rattle.neli_places.specs.declared.place.Place.{Place}
 use Rattle.neli_places.specs.declared.place.Shared.{Shared}
 use Rattle.neli_places.specs.Routes.{leads, leads_only, is_shared, items_for, first_position, shared_positions}
-use Rattle.neli_places.specs.Places.{IsChain, IsLinked, IsPlace, CountsPassed, AreSound, BeginsAwaited, rest, readers_at, waiting_count}
+use Rattle.neli_places.specs.Places.{IsChain, IsLinked, IsPlace, CountsPassed, AreSound, BeginsAwaited, rest}
+use Rattle.neli_places.specs.Places.{readers_at, waiting_count}
 use Rattle.neli_places.proofs.Pops.{true_or_false, found_from}
 use Rattle.neli_places.proofs.Waits.{eqb_refl, eqb_same}
 use Rattle.std.specs.Map.{lookup}
@@ -272,7 +274,8 @@ module _ {T : Type 0} (base : ℕ) (es : List (Entry T)) (links : List (Option �
         at_index (y ∷ l) zero h = (y, refl)
         at_index (y ∷ l) (suc j) h = at_index l j (omega arith)
 
-        last_entry : (c : Chain) → IsChain w base es k (Some c) → (y : Entry T) × (slice_get es (c.last - base) ≡ Some y)
+        last_entry : (c : Chain) → IsChain w base es k (Some c)
+            → (y : Entry T) × (slice_get es (c.last - base) ≡ Some y)
         last_entry c h = (let low = found_from (leads_only w) (base + k) (drop k es) c.first h.0 in let a1 = h.1 in
             let a2 = h.2 in at_index es (c.last - base) (omega arith))
 
@@ -414,7 +417,8 @@ seen_add shared_base base es e p le h =
     let k : p.from - base ≤ length es = omega arith in
     rw (take-append-le (p.from - base) es (e ∷ []) k) h
 
-seen_from : {T : Type 0} (shared_base base : ℕ) (es : List (Entry T)) (p x : Place) → x.from ≡ p.from → x.shared_passed ≡ p.shared_passed
+seen_from : {T : Type 0} (shared_base base : ℕ) (es : List (Entry T)) (p x : Place) → x.from ≡ p.from
+    → x.shared_passed ≡ p.shared_passed
     → CountsPassed shared_base base es p → CountsPassed shared_base base es x
 seen_from shared_base base es p x from seen h = rw (from, seen) h
 

@@ -1,5 +1,6 @@
 -- A place is put, moved or removed.
-use Rattle.std.proofs.Common.{ℕ, zero, suc, ◌≡◌, ◌≢◌, ◌+◌, ◌-◌, ◌≤◌, ◌<◌, false, cond, List, [], ◌∷◌, length, drop, take, map, get_or, Option, Some, None, refl, sym, ap, ◌∙◌, inl, inr, ◌⊎◌, arith}
+use Rattle.std.proofs.Common.{ℕ, zero, suc, ◌≡◌, ◌≢◌, ◌+◌, ◌-◌, ◌≤◌, ◌<◌, false, cond, List, [], ◌∷◌, length, drop}
+use Rattle.std.proofs.Common.{take, map, get_or, Option, Some, None, refl, sym, ap, ◌∙◌, inl, inr, ◌⊎◌, arith}
 use Rattle.std.specs.Prelude.{◌==◌, if◌then◌else◌, nat_eq}
 use Rattle.std.specs.Option.{option_map}
 use Rattle.std.proofs.Math.ListN.{set}
@@ -17,7 +18,8 @@ use Rattle.neli_places.proofs.Nexts.{slice_get_end}
 use Rattle.std.specs.HashMap.{HashMap, PutsEntry, get, values}
 use Rattle.std.specs.List.Sorted.{IsPermutation}
 use Rattle.std.specs.Map.{remove_entry}
-use Rattle.std.proofs.lemmas.Map.Entries.{length-values_of, sum_by_puts_entry, sum_by_values_permutation, sum_by-remove_entry}
+use Rattle.std.proofs.lemmas.Map.Entries.{length-values_of, sum_by_puts_entry, sum_by_values_permutation}
+use Rattle.std.proofs.lemmas.Map.Entries.{sum_by-remove_entry}
 use Rattle.std.proofs.lemmas.List.Sums.{count_by-le-length}
 
 pub standing_end : (ss : List Shared) (c : ℕ) → readers_at ss c (length ss) ≡ c
@@ -249,7 +251,8 @@ module _ {S T : Type 0} (m : HashMap ℕ Place S) (place : Option ℕ → Option
       → (shared_base ≤ p.shared_passed) × (p.shared_passed - shared_base ≤ length shared)
   place_bounds q p is = seen_bounds shared_base base es shared p h.positions_are (h.passed q p (place_is q ∙ is))
 
-  pub place_standing : (q : ℕ) (p : Place) → get nat_eq m q ≡ Some p → 0 < readers_at shared c (p.shared_passed - shared_base)
+  pub place_standing : (q : ℕ) (p : Place) → get nat_eq m q ≡ Some p
+      → 0 < readers_at shared c (p.shared_passed - shared_base)
   place_standing q p is =
       let b = place_bounds q p is in
       let n : shared_base + (p.shared_passed - shared_base) ≡ p.shared_passed = omega (arith, b.0) in
@@ -262,7 +265,8 @@ module _ {S T : Type 0} (m : HashMap ℕ Place S) (place : Option ℕ → Option
       → Option Place) (q c' : ℕ) (p : Place) (shared' : List Shared) → get nat_eq m q ≡ Some p
       → IsPermutation (remove_entry (nat_eq q) m.entries) n.entries
       → place' None ≡ place None → ((r : ℕ) → place' (Some r) ≡ cond (nat_eq q r) None (place (Some r)))
-      → ((k : ℕ) → readers_at shared' c' k + (if k == (p.shared_passed - shared_base) then 1 else 0) ≡ readers_at shared c k)
+      → ((k : ℕ) → readers_at shared' c' k + (if k == (p.shared_passed - shared_base) then 1 else 0)
+      ≡ readers_at shared c k)
       → map (λ s. s.at) shared' ≡ map (λ s. s.at) shared
       → AreSound place' (values n) base shared_base c' es links shared'
   sound_closed n place' q c' p shared' is perm none some less same =
@@ -278,7 +282,8 @@ module _ {S T : Type 0} (m : HashMap ℕ Place S) (place : Option ℕ → Option
             let a1 = rw (s, eqb_refl (shared_base + k)) at a in let d1 = rw (← at, eqb_refl k) at d in
             omega (arith, a1, d1, g))
         | inr away ↦ (let s : (p.shared_passed == (shared_base + k))
-            ≡ false = eqb_other p.shared_passed (shared_base + k) (λ e. away (omega (arith, e))) in let a1 = rw s at a in
+            ≡ false = eqb_other p.shared_passed (shared_base + k) (λ e. away (omega (arith, e))) in
+            let a1 = rw s at a in
             let d1 = rw (eqb_other k (p.shared_passed - shared_base) away) at d in omega (arith, a1, d1, g))
       ]) h
 
@@ -341,6 +346,7 @@ module _ {S T : Type 0} (m n : HashMap ℕ Place S) (place place' : Option ℕ
             let a1 = rw (s, eqb_refl (shared_base + k)) at a in let d1 = rw (← at, eqb_refl k) at d in
             omega (arith, a1, d1, g))
         | inr away ↦ (let s : (x.shared_passed == (shared_base + k))
-            ≡ false = eqb_other x.shared_passed (shared_base + k) (λ e. away (omega (arith, e, seen))) in let a1 = rw s at a in
+            ≡ false = eqb_other x.shared_passed (shared_base + k) (λ e. away (omega (arith, e, seen))) in
+            let a1 = rw s at a in
             let d1 = rw (eqb_other k (length shared) away) at d in omega (arith, a1, d1, g))
       ]) h

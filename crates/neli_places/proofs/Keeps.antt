@@ -1,5 +1,6 @@
 -- How many entries are kept.
-use Rattle.std.proofs.Common.{ℕ, zero, suc, ◌≡◌, ◌-◌, List, [], ◌∷◌, length, drop, get_or, ◌<◌, Option, Some, None, refl, arith, ap, sym}
+use Rattle.std.proofs.Common.{ℕ, zero, suc, ◌≡◌, ◌-◌, List, [], ◌∷◌, length, drop, get_or, ◌<◌, Option, Some, None}
+use Rattle.std.proofs.Common.{refl, arith, ap, sym}
 use Rattle.std.specs.Option.{option_map}
 use Rattle.neli_places.specs.declared.entry.Entry.{Entry}
 use Rattle.neli_places.specs.declared.place.Place.{Place}

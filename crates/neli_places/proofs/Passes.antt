@@ -1,5 +1,6 @@
 -- A place moves past the first entry that it waits for.
-use Rattle.std.proofs.Common.{ℕ, zero, suc, ◌≡◌, ◌≢◌, ◌+◌, ◌-◌, ◌≤◌, ◌<◌, Bool, true, false, cond, List, [], ◌∷◌, drop, take, map, Option, Some, None, refl, sym, ap, ◌∙◌, inl, inr, arith}
+use Rattle.std.proofs.Common.{ℕ, zero, suc, ◌≡◌, ◌≢◌, ◌+◌, ◌-◌, ◌≤◌, ◌<◌, Bool, true, false, cond, List, [], ◌∷◌, drop}
+use Rattle.std.proofs.Common.{take, map, Option, Some, None, refl, sym, ap, ◌∙◌, inl, inr, arith}
 use Rattle.std.specs.Prelude.{◌==◌, if◌then◌else◌, nat_eq}
 use Rattle.std.specs.List.{slice_get}
 use Rattle.std.specs.Option.{option_map}
@@ -12,14 +13,16 @@ use Rattle.neli_places.specs.declared.place.Chain.{Chain}
 use Rattle.neli_places.specs.declared.place.Place.{Place}
 use Rattle.neli_places.specs.declared.place.Shared.{Shared}
 use Rattle.neli_places.specs.Routes.{leads, leads_only, is_shared, items_for, first_position, shared_count}
-use Rattle.neli_places.specs.Places.{IsChain, IsLinked, IsPlace, CountsPassed, AreSound, rest, without_first, readers_at, waiting_count}
+use Rattle.neli_places.specs.Places.{IsChain, IsLinked, IsPlace, CountsPassed, AreSound, rest, without_first}
+use Rattle.neli_places.specs.Places.{readers_at, waiting_count}
 use Rattle.neli_places.proofs.Pops.{true_or_false, not_own}
 use Rattle.neli_places.proofs.Waits.{eqb_refl}
 use Rattle.std.specs.Map.{lookup, set_value, values_of}
 use Rattle.std.specs.HashMap.{HashMap, get, values}
 use Rattle.std.proofs.lemmas.Map.Entries.{sum_by-set_value}
 use Rattle.neli_places.proofs.Changes.{changed_number, sound_put, eqb_other}
-use Rattle.neli_places.proofs.Nexts.{IsFirst, IsNext, next_is, found_some, found_none, found_is, skip_found, items_first, slice_get_drop, to_neither, own_unshared, not_shared}
+use Rattle.neli_places.proofs.Nexts.{IsFirst, IsNext, next_is, found_some, found_none, found_is, skip_found}
+use Rattle.neli_places.proofs.Nexts.{items_first, slice_get_drop, to_neither, own_unshared, not_shared}
 
 takes : {T : Type 0} (b : ℕ) (es : List (Entry T)) → es ≡ [] → 0 ≡ 0 + shared_count (take b es)
 takes zero es h = omega arith
@@ -155,8 +158,8 @@ module _ {T : Type 0} (w : Option ℕ) (base : ℕ) (es : List (Entry T)) (links
     linked = rw from (linked_on h.linked);
   }
 
-  pub place_shared : (x : Place) → is_shared e.route ≡ true → x.from ≡ m + 1 → x.chain ≡ p.chain → IsPlace w base es links p
-      → IsPlace w base es links x
+  pub place_shared : (x : Place) → is_shared e.route ≡ true → x.from ≡ m + 1 → x.chain ≡ p.chain
+      → IsPlace w base es links p → IsPlace w base es links x
   place_shared x it from owned h = record {
     within = (let a = n.within in let b = n.from_base in omega arith);
     chain = rw (from, owned) (chain_shared p.chain (own_unshared w e.route it) h.chain);

@@ -1,5 +1,6 @@
 -- The first entry is dropped.
-use Rattle.std.proofs.Common.{ℕ, suc, ◌≡◌, ◌+◌, ◌-◌, ◌≤◌, ◌<◌, Bool, true, false, List, [], ◌∷◌, length, drop, map, Option, Some, None, refl, ap, ◌∙◌, inl, inr, ◌⊎◌, arith, add-one}
+use Rattle.std.proofs.Common.{ℕ, suc, ◌≡◌, ◌+◌, ◌-◌, ◌≤◌, ◌<◌, Bool, true, false, List, [], ◌∷◌, length, drop, map}
+use Rattle.std.proofs.Common.{Option, Some, None, refl, ap, ◌∙◌, inl, inr, ◌⊎◌, arith, add-one}
 use Rattle.std.specs.Option.{option_map}
 use Rattle.std.proofs.lemmas.Bool.{cases_lt}
 use Rattle.neli_places.specs.declared.entry.Entry.{Entry}
@@ -9,7 +10,8 @@ use Rattle.neli_places.specs.declared.place.Chain.{Chain}
 use Rattle.neli_places.specs.declared.place.Place.{Place}
 use Rattle.neli_places.specs.declared.place.Shared.{Shared}
 use Rattle.neli_places.specs.Routes.{leads, leads_only, is_shared, items_for, first_position, shared_positions}
-use Rattle.neli_places.specs.Places.{IsChain, IsLinked, IsPlace, CountsPassed, AreSound, rest, readers_at, waiting_count}
+use Rattle.neli_places.specs.Places.{IsChain, IsLinked, IsPlace, CountsPassed, AreSound, rest, readers_at}
+use Rattle.neli_places.specs.Places.{waiting_count}
 
 pub true_or_false : (b : Bool) → (b ≡ true) ⊎ (b ≡ false)
 true_or_false true = inl refl

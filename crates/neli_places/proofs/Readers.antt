@@ -1,5 +1,6 @@
 -- Who gets an entry.
-use Rattle.std.proofs.Common.{ap, ℕ, ◌≡◌, ◌<◌, ◌∙◌, true, List, [], ◌∷◌, length, Option, Some, None, refl, sym, arith, nat_eq, is_some, option_map}
+use Rattle.std.proofs.Common.{ap, ℕ, ◌≡◌, ◌<◌, ◌∙◌, true, List, [], ◌∷◌, length, Option, Some, None, refl, sym, arith}
+use Rattle.std.proofs.Common.{nat_eq, is_some, option_map}
 use Rattle.std.specs.HashMap.{HashMap, get}
 use Rattle.std.specs.Map.{lookup}
 use Rattle.neli_places.specs.declared.entry.Route.TheVariants.{Number, Numbers}

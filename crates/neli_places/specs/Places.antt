@@ -1,5 +1,6 @@
 -- Entries and the places among them: what a list waits for, and how the fields say it.
-use Rattle.std.specs.Prelude.{ℕ, zero, suc, ◌≡◌, ◌≤◌, ◌<◌, ◌+◌, ◌-◌, ◌^◌, true, ◌==◌, List, [], ◌∷◌, ◌++◌, Option, Some, None, length, drop, take, map, count_by, nat_eq, slice_set}
+use Rattle.std.specs.Prelude.{ℕ, zero, suc, ◌≡◌, ◌≤◌, ◌<◌, ◌+◌, ◌-◌, ◌^◌, true, ◌==◌, List, [], ◌∷◌, ◌++◌, Option, Some}
+use Rattle.std.specs.Prelude.{None, length, drop, take, map, count_by, nat_eq, slice_set}
 use Rattle.std.specs.Option.{is_some, option_map}
 use Rattle.std.specs.List.{slice_get}
 use Rattle.std.specs.HashMap.{get, spare, values}
@@ -136,7 +137,8 @@ IsSound s = AreSound (place_of s) (values s.numbers) s.base s.shared_base s.caug
 
 -- a place stands at the first entry, which has this route and so goes there
 abbrev pub AwaitsFirst : (Option ℕ → Option Place) → ℕ → Route → Type 0
-AwaitsFirst place base route = (w : Option ℕ) × (p : Place) × (place w ≡ Some p) × (p.from ≤ base) × (leads w route ≡ true)
+AwaitsFirst place base route =
+    (w : Option ℕ) × (p : Place) × (place w ≡ Some p) × (p.from ≤ base) × (leads w route ≡ true)
 
 -- each place to which the first entry goes, with this route, is past it
 abbrev pub HavePassedFirst : (Option ℕ → Option Place) → ℕ → Route → Type 0

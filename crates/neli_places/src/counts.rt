@@ -1,6 +1,7 @@
 //! How many places stand at each entry for all numbers, and the places by number.
 
-ghost use Rattle.std.specs.Prelude.{◌≡◌, ◌+◌, ◌^◌, ◌<◌, ◌≤◌, ◌==◌, ℕ, true, Some, if◌then◌else◌, is_some, length, map, nat_eq};
+ghost use Rattle.std.specs.Prelude.{◌≡◌, ◌+◌, ◌^◌, ◌<◌, ◌≤◌, ◌==◌, ℕ, true, Some, if◌then◌else◌, is_some, length, map};
+ghost use Rattle.std.specs.Prelude.{nat_eq};
 ghost use Rattle.std.specs.HashMap.{get};
 ghost use Rattle.std.specs.Map.{set_value};
 ghost use Rattle.neli_places.specs.Places.{readers_at};

@@ -2,7 +2,8 @@
 
 ghost use Rattle.std.specs.Prelude.{◌≡◌, ◌≢◌, ◌<◌, ℕ, true, false, Option, None, Some, drop, slice_get};
 ghost use Rattle.neli_places.specs.Lists.{SameLists, SameListsBut};
-ghost use Rattle.neli_places.specs.Places.{HavePassedFirst, BeginsWith, IsSound, AwaitsFirst, entries_of, pending_of, place_of};
+ghost use Rattle.neli_places.specs.Places.{HavePassedFirst, BeginsWith, IsSound, AwaitsFirst, entries_of, pending_of};
+ghost use Rattle.neli_places.specs.Places.{place_of};
 ghost use Rattle.neli_places.specs.Routes.{is_shared};
 
 use crate::counts::lower;

@@ -17,7 +17,8 @@
 //!
 //! What a list waits for is, by definition, read off the entries. So that it takes no search, an entry links to the
 //! next one of its number, a place knows the first and the last of its own, and each entry for all numbers knows how
-//! many places stand at it. Each step then takes a time that does not grow with the places, nor with what waits.
+//! many places stand at it. No clause speaks of time; as the code is written, that of a step does not grow with the
+//! places, nor with what waits.
 //!
 //! - [`Route`]: to whom an entry goes.
 //! - [`Places`]: the entries and the places.

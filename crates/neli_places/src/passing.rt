@@ -1,8 +1,10 @@
 //! A place moves past the first entry that it waits for.
 
-ghost use Rattle.std.specs.Prelude.{◌≡◌, ◌≢◌, ◌+◌, ◌-◌, ◌≤◌, ℕ, true, false, List, ◌∷◌, Option, None, Some, map, slice_get};
+ghost use Rattle.std.specs.Prelude.{◌≡◌, ◌≢◌, ◌+◌, ◌-◌, ◌≤◌, ℕ, true, false, List, ◌∷◌, Option, None, Some, map};
+ghost use Rattle.std.specs.Prelude.{slice_get};
 ghost use Rattle.neli_places.specs.Lists.{SameListsBut};
-ghost use Rattle.neli_places.specs.Places.{IsPlace, CountsPassed, IsSound, RouteAt, entries_of, next_position, pending_of, place_of};
+ghost use Rattle.neli_places.specs.Places.{IsPlace, CountsPassed, IsSound, RouteAt, entries_of, next_position};
+ghost use Rattle.neli_places.specs.Places.{pending_of, place_of};
 ghost use Rattle.neli_places.specs.Routes.{is_shared, leads_only};
 
 use crate::chains::{lesser_of, start, without_first};

@@ -9,8 +9,8 @@ pub(crate) struct Chain {
 
 /// Where a list stands: it waits for what comes from the position `from` on.
 ///
-/// `chain` are the entries there that go to this list alone, and `shared_passed` counts the entries for all numbers before
-/// it, also those that are gone.
+/// `chain` are the entries there that go to this list alone, and `shared_passed` counts the entries for all numbers
+/// before it, also those that are gone.
 #[derive(Clone, Copy)]
 pub(crate) struct Place {
     pub(crate) from: u64,

@@ -1,8 +1,10 @@
 //! The entries, and who waits for which.
 
-ghost use Rattle.std.specs.Prelude.{◌≡◌, ◌≢◌, ◌↔◌, ◌++◌, ℕ, List, [], ◌∷◌, Option, None, Some, IfSome, IsNone, IsOk, IsTrue, OnErr, OnOk, is_some, length, option_map};
+ghost use Rattle.std.specs.Prelude.{◌≡◌, ◌≢◌, ◌↔◌, ◌++◌, ℕ, List, [], ◌∷◌, Option, None, Some, IfSome, IsNone, IsOk};
+ghost use Rattle.std.specs.Prelude.{IsTrue, OnErr, OnOk, is_some, length, option_map};
 ghost use Rattle.neli_places.specs.Lists.{SameLists, SameListsBut};
-ghost use Rattle.neli_places.specs.Places.{Gains, HasPlaceRoom, HasReader, HasRoom, IsSound, IsTrimmed, LeavesRoom, entries_of, head_of, pending_of, place_of};
+ghost use Rattle.neli_places.specs.Places.{Gains, HasPlaceRoom, HasReader, HasRoom, IsSound, IsTrimmed, LeavesRoom};
+ghost use Rattle.neli_places.specs.Places.{entries_of, head_of, pending_of, place_of};
 ghost use Rattle.neli_places.specs.Routes.{entry};
 ghost use Rattle.neli_places.specs.declared.entry.Route.{Route as Way};
 

@@ -1,5 +1,7 @@
 -- Spans and their datagrams.
-use Rattle.std.proofs.Common.{ℕ, zero, suc, ◌≡◌, ◌≢◌, ◌+◌, ◌-◌, ◌≤◌, ◌<◌, ◌^◌, List, [], ◌∷◌, ◌++◌, length, drop, map, get_or, Some, refl, sym, ap, ◌∙◌, inl, inr, ◌⊎◌, arith, add-one, append_assoc, length-append}
+use Rattle.std.proofs.Common.{ℕ, zero, suc, ◌≡◌, ◌≢◌, ◌+◌, ◌-◌, ◌≤◌, ◌<◌, ◌^◌, List, [], ◌∷◌, ◌++◌, length, drop, map}
+use Rattle.std.proofs.Common.{get_or, Some, refl, sym, ap, ◌∙◌, inl, inr, ◌⊎◌, arith, add-one, append_assoc}
+use Rattle.std.proofs.Common.{length-append}
 use Rattle.std.specs.List.{slice_get}
 use Rattle.std.proofs.Math.ListN.{set}
 use Rattle.std.proofs.lemmas.Bool.{cases_lt}
@@ -145,7 +147,8 @@ apart_append serial (s ∷ ss) new low of h g = apart_join serial s ss new (low 
 -- a datagram is kept, with the spans of it after all others
 pub kept : (first : ℕ) (ds ds' : List Datagram) (x : Datagram) (old new : List Span) → ds' ≡ ds ++ x ∷ []
     → first + length ds + 1 < 2 ^ 64 → 0 < x.spans → length new ≡ x.spans
-    → AreSpansOf (first + length ds) (length x.bytes.items) new → SpansNameFrom first ds old → SpansNameFrom first ds' (old ++ new)
+    → AreSpansOf (first + length ds) (length x.bytes.items) new → SpansNameFrom first ds old
+    → SpansNameFrom first ds' (old ++ new)
 kept first ds ds' x old new is few some long of h = rw is (record {
   fits = (let a = length-append ds (x ∷ []) in omega (arith, a, few));
   serials = map-append (λ s. s.datagram) old new ∙ (rw (

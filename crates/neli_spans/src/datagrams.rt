@@ -18,8 +18,10 @@ pub struct Datagrams {
 }
 
 impl Datagrams {
-    ghost use Rattle.std.specs.Prelude.{◌<◌, ◌≤◌, ◌+◌, ℕ, List, [], ◌∷◌, ◌++◌, Some, IsOk, OnOk, length, slice_get, slice_range};
-    ghost use Rattle.neli_spans.specs.Spans.{AreNamed, AreSpansOf, HasRoom, IsNamed, IsUnchanged, SpansName, bytes_of, next_serial, span_bytes};
+    ghost use Rattle.std.specs.Prelude.{◌<◌, ◌≤◌, ◌+◌, ℕ, List, [], ◌∷◌, ◌++◌, Some, IsOk, OnOk, length, slice_get};
+    ghost use Rattle.std.specs.Prelude.{slice_range};
+    ghost use Rattle.neli_spans.specs.Spans.{AreNamed, AreSpansOf, HasRoom, IsNamed, IsUnchanged, SpansName, bytes_of};
+    ghost use Rattle.neli_spans.specs.Spans.{next_serial, span_bytes};
     ghost use Rattle.neli_spans.specs.declared.span.Span.{Span as Named};
 
     /// No datagrams. It takes no memory.

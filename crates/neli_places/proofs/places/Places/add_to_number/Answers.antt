@@ -5,7 +5,8 @@ use Rattle.neli_places.proofs.Waits.{eqb_refl}
 use Rattle.neli_places.specs.declared.place.Place.{Place}
 use Rattle.neli_places.specs.declared.entry.Entry.{Entry}
 use Rattle.neli_places.specs.declared.entry.Route.TheVariants.{Number}
-use Rattle.neli_places.proofs.Adds.{pending_added, sound_add_own, trimmed_added, sound_added, from_number, altered_number, last_bounds}
+use Rattle.neli_places.proofs.Adds.{pending_added, sound_add_own, trimmed_added, sound_added, from_number}
+use Rattle.neli_places.proofs.Adds.{altered_number, last_bounds}
 use Rattle.std.specs.Map.{values_of}
 use Rattle.neli_places.specs.Places.{waiting_count}
 use Rattle.neli_places.proofs.Passes.{waiting_same}
@@ -22,7 +23,11 @@ pub returns-clause-more : goal.returns-clause-more
 returns-clause-more g c = λ w.
     let s = c.args.self.now in let h = c.requires.trimmed.sound in
     let e : Entry _ = record { item = c.args.item; route = Number c.args.n } in
-    let x : Place = record { from = c.args.p.from; chain = Some c.with_last.result; shared_passed = c.args.p.shared_passed } in
+    let x : Place = record {
+      from = c.args.p.from;
+      chain = Some c.with_last.result;
+      shared_passed = c.args.p.shared_passed;
+    } in
     pending_added w s.base s.entries.items c.append.new.entries.items e (place_of s w) _ c.append.ensures.entries
     (from_number (place_of s) (place_of (record s { numbers = c.put.new.numbers })) c.args.n c.args.p x
     c.requires.is refl refl c.put.ensures.updates w) (λ p is. (h.places w p is).within)
@@ -31,7 +36,11 @@ pub returns-clause-trimmed : goal.returns-clause-trimmed
 returns-clause-trimmed g c =
     let s = c.args.self.now in let h = c.requires.trimmed.sound in
     let e : Entry _ = record { item = c.args.item; route = Number c.args.n } in
-    let x : Place = record { from = c.args.p.from; chain = Some c.with_last.result; shared_passed = c.args.p.shared_passed } in
+    let x : Place = record {
+      from = c.args.p.from;
+      chain = Some c.with_last.result;
+      shared_passed = c.args.p.shared_passed;
+    } in
     let len : c.len.result ≡ length s.entries.items = omega (arith, s.entries.ok.0, c.len.ensures) in
     let owned : Some c.with_last.result ≡ Some (with_last c.args.p.chain (s.base + length s.entries.items)) =
     ap Some (rw len at c.with_last.ensures) in

@@ -37,7 +37,11 @@ pub returns-clause-counted : goal.returns-clause-counted
 returns-clause-counted g c = λ q is.
     let s = c.args.self.now in let h = c.requires.sound in
     let n = next_is c.args.whose s.base s.entries.items c.args.p c.args.m c.requires.next in
-    let x : Place = record { from = c.args.m + 1; chain = c.without_first.result; shared_passed = c.args.p.shared_passed } in
+    let x : Place = record {
+      from = c.args.m + 1;
+      chain = c.without_first.result;
+      shared_passed = c.args.p.shared_passed;
+    } in
     seen_own c.args.whose s.base s.entries.items s.links.items c.args.p c.args.m n.0 n.1 n.2 q s.shared_base x is
     (unshared_own c.args.whose n.1.route (c.requires.route n.1 n.2.at)) refl refl
     (h.passed q c.args.p (rw is at c.requires.is))

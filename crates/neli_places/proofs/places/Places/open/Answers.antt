@@ -4,7 +4,8 @@ use Rattle.std.specs.Map.{lookup}
 use Rattle.std.specs.Prelude.{nat_eq}
 use Rattle.neli_places.specs.Places.{place_of}
 use Rattle.neli_places.specs.declared.place.Place.{Place}
-use Rattle.neli_places.proofs.Changes.{sound_unchanged, sound_opened, few_caught, unchanged, kept_trimmed, put_keeps, mapped_none}
+use Rattle.neli_places.proofs.Changes.{sound_unchanged, sound_opened, few_caught, unchanged, kept_trimmed, put_keeps}
+use Rattle.neli_places.proofs.Changes.{mapped_none}
 use Rattle.neli_places.proofs.places.Places.open.Goals as goal
 
 pub returns-in_err-insert-clause-trimmed : goal.returns-in_err-insert-clause-trimmed
@@ -31,7 +32,11 @@ returns-clause-trimmed g c =
     let s = c.args.self.now in let h = c.requires.trimmed in
     let e = c.in_ok-insert.ensures in
     let closed = mapped_none _ (get nat_eq s.numbers c.args.number) c.requires.closed in
-    let x : Place = record { from = s.base + c.len-2.result; chain = None; shared_passed = s.shared_base + c.len-3.result } in
+    let x : Place = record {
+      from = s.base + c.len-2.result;
+      chain = None;
+      shared_passed = s.shared_base + c.len-3.result;
+    } in
     record {
       sound = sound_opened s.numbers c.insert.new.self
           (place_of s) _ s.base s.shared_base s.caught_up s.entries.items s.links.items s.shared.items h.sound

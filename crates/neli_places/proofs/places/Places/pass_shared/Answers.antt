@@ -72,7 +72,11 @@ overflow_add-after-2 g c =
 pub returns-clause-taken : goal.returns-clause-taken
 returns-clause-taken g c = λ d ds old.
     let s = c.args.self.now in
-    let x : Place = record { from = c.args.m + 1; chain = c.args.p.chain; shared_passed = c.args.p.shared_passed + 1 } in
+    let x : Place = record {
+      from = c.args.m + 1;
+      chain = c.args.p.chain;
+      shared_passed = c.args.p.shared_passed + 1;
+    } in
     let now = rw (eqb_refl c.args.n) at (c.put.ensures.updates c.args.n) in
     passed_pending (Some c.args.n) s.base s.entries.items c.args.p x (get nat_eq s.numbers c.args.n)
     (get nat_eq c.put.new.numbers c.args.n) c.args.m d ds c.requires.is now refl c.requires.next old
@@ -80,7 +84,11 @@ returns-clause-taken g c = λ d ds old.
 pub returns-clause-sound : goal.returns-clause-sound
 returns-clause-sound g c =
     let s = c.args.self.now in let h = c.requires.sound in let p = c.args.p in
-    let x : Place = record { from = c.args.m + 1; chain = c.args.p.chain; shared_passed = c.args.p.shared_passed + 1 } in
+    let x : Place = record {
+      from = c.args.m + 1;
+      chain = c.args.p.chain;
+      shared_passed = c.args.p.shared_passed + 1;
+    } in
     let n = next_is (Some c.args.n) s.base s.entries.items p c.args.m c.requires.next in
     let it = c.requires.route n.1 n.2.at in
     let good = place_shared (Some c.args.n) s.base s.entries.items s.links.items p c.args.m n.0 n.1 n.2 x it refl refl
