@@ -14,7 +14,7 @@ use Rattle.neli_places.specs.Routes.{leads, leads_only, is_shared, items_for, fi
 use Rattle.neli_places.specs.Routes.{shared_count, lesser_of}
 use Rattle.neli_places.specs.Places.{IsChain, CountsPassed, rest, start}
 use Rattle.neli_places.proofs.Pops.{true_or_false, found_from}
-use Rattle.std.specs.Prelude.{nat_le}
+use Rattle.std.specs.Prelude.{IfSome, nat_le}
 use Rattle.neli_places.specs.Places.{head_of}
 
 to_own : (w : Option ℕ) (r : Route) → leads_only w r ≡ true → leads w r ≡ true
@@ -61,6 +61,12 @@ earlier_first n (Some m) h = let le = h m refl in let t : nat_le n m ≡ true = 
 earlier_second : (n : ℕ) (x : Option ℕ) → ((m : ℕ) → x ≡ Some m → suc n ≤ m) → lesser_of x (Some n) ≡ Some n
 earlier_second n None h = refl
 earlier_second n (Some m) h = let le = h m refl in let t : nat_le m n ≡ false = grind (arith, nat_tests) in rw t refl
+
+-- what goes to multicast goes to it alone
+pub found_own : {T : Type 0} (n : ℕ) (es : List (Entry T))
+    → first_position (leads_only None) n es ≡ first_position (leads None) n es
+found_own n [] = refl
+found_own n (e ∷ es) = rw (own_none e.route, found_own (suc n) es) refl
 
 pub found_earlier : {T : Type 0} (q n : ℕ) (es : List (Entry T))
     → first_position (leads (Some q)) n es ≡ lesser_of (first_position (leads_only (Some q)) n es)
@@ -239,6 +245,13 @@ next_is w base es p m h =
         from_base = (let g = f.2 in omega arith);
       },
     )
+
+-- it is the position of an entry
+pub next_within : {T : Type 0} (w : Option ℕ) (base : ℕ) (es : List (Entry T)) (p : Place) (next : Option ℕ)
+    → next ≡ first_position (leads w) (base + (p.from - base)) (rest base es p)
+    → IfSome next (λ m. (base ≤ m) × (m - base < length es))
+next_within w base es p None is = tt
+next_within w base es p (Some m) is = let n = next_is w base es p m (sym is) in (n.2.from_base, n.2.within)
 
 pub first_delivery : {T : Type 0} (w : Option ℕ) (base : ℕ) (es : List (Entry T)) (p : Place) (o : Option Place) (m : ℕ)
     (x : Entry T) → o ≡ Some p → first_position (leads w) (base + (p.from - base)) (rest base es p) ≡ Some m

@@ -1,7 +1,7 @@
 //! A place moves past the first entry that it waits for.
 
-ghost use Rattle.std.specs.Prelude.{◌≡◌, ◌≢◌, ◌+◌, ◌-◌, ◌≤◌, ℕ, true, false, List, ◌∷◌, Option, None, Some, map};
-ghost use Rattle.std.specs.Prelude.{slice_get};
+ghost use Rattle.std.specs.Prelude.{◌≡◌, ◌≢◌, ◌+◌, ◌-◌, ◌≤◌, ◌<◌, ℕ, true, false, List, ◌∷◌, Option, None, Some, IfSome};
+ghost use Rattle.std.specs.Prelude.{length, map, slice_get};
 ghost use Rattle.neli_places.specs.Lists.{SameListsBut};
 ghost use Rattle.neli_places.specs.Places.{IsPlace, CountsPassed, IsSound, RouteAt, entries_of, next_position};
 ghost use Rattle.neli_places.specs.Places.{pending_of, place_of};
@@ -25,11 +25,13 @@ impl<T: Drop> Places<T> {
         }
     }
 
-    /// The position of the first entry that a place waits for.
+    /// The position of the first entry that a place waits for, if it waits for one.
     pub(crate) fn next_of(&self, whose: Option<u32>, p: &Place) -> Option<u64>
         requires sound { IsSound self.now }
         requires is { place_of self.now whose ≡ Some p.now }
-        ensures { result ≡ next_position self.now whose p.now }
+        ensures next { result ≡ next_position self.now whose p.now }
+        ensures within { IfSome result (λ m. (self.now.base ≤ m)
+            × (m - self.now.base < length (entries_of self.now))) }
     {
         let first = start(p.chain);
         match whose {

@@ -1,4 +1,4 @@
-use Rattle.std.proofs.Common.{refl, ◌≡◌, ◌+◌, ◌-◌, sym, ◌∙◌, arith, ap, length, false}
+use Rattle.std.proofs.Common.{refl, ◌≡◌, ◌+◌, ◌-◌, sym, ◌∙◌, ap, length, false}
 use Rattle.std.proofs.lemmas.Option.{slice_get_read}
 use Rattle.neli_places.specs.declared.entry.Route.{Route}
 use Rattle.neli_places.specs.declared.entry.Route.TheVariants.{Multicast, Number, Numbers}
@@ -13,23 +13,10 @@ unshared Multicast h = refl
 unshared (Number n) h = refl
 unshared Numbers h = absurd (h refl)
 
-pub overflow_sub-m : goal.overflow_sub-m
-overflow_sub-m g c =
-    let s = c.args.self.now in
-    (next_is c.args.whose s.base s.entries.items c.in-Some.p c.in-Some-next_of.m (sym c.next_of.ensures
-    ∙ c.in-Some-next_of.is)).2.from_base
-
-pub index-requires : goal.index-requires
-index-requires g c =
-    let s = c.args.self.now in
-    let n = (next_is c.args.whose s.base s.entries.items c.in-Some.p c.in-Some-next_of.m (sym c.next_of.ensures
-    ∙ c.in-Some-next_of.is)).2.within in
-    omega (arith, s.entries.ok.0, n)
-
 pub pass_shared-requires-clause-route : goal.pass_shared-requires-clause-route
 pass_shared-requires-clause-route g c = λ e at.
     let s = c.args.self.now in
-    let n = next_is c.args.whose s.base s.entries.items c.in-Some.p c.in-Some-next_of.m (sym c.next_of.ensures
+    let n = next_is c.args.whose s.base s.entries.items c.in-Some.p c.in-Some-next_of.m (sym c.next_of.ensures.next
     ∙ c.in-Some-next_of.is) in
     let here = slice_get_read s.entries.items (length s.entries.items)
     (c.in-Some-next_of.m - s.base) c.index.result.now refl n.2.within c.index.ensures in
@@ -39,7 +26,7 @@ pass_shared-requires-clause-route g c = λ e at.
 pub pass_number-requires-clause-route : goal.pass_number-requires-clause-route
 pass_number-requires-clause-route g c = λ e at.
     let s = c.args.self.now in
-    let n = next_is c.args.whose s.base s.entries.items c.in-Some.p c.in-Some-next_of.m (sym c.next_of.ensures
+    let n = next_is c.args.whose s.base s.entries.items c.in-Some.p c.in-Some-next_of.m (sym c.next_of.ensures.next
     ∙ c.in-Some-next_of.is) in
     let here = slice_get_read s.entries.items (length s.entries.items)
     (c.in-Some-next_of.m - s.base) c.index.result.now refl n.2.within c.index.ensures in
@@ -52,25 +39,25 @@ returns-in_default-next_of-clause-taken g c = λ d ds old.
     absurd (nothing_pending c.args.whose s.base s.entries.items c.in-Some.p (place_of s c.args.whose) d ds
     (sym c.place.ensures ∙ c.in-Some.is)
     (items_none c.args.whose (s.base + (c.in-Some.p.from - s.base)) (rest s.base s.entries.items c.in-Some.p)
-    (sym c.next_of.ensures ∙ c.in_default-next_of.is)) old)
+    (sym c.next_of.ensures.next ∙ c.in_default-next_of.is)) old)
 
 pub returns-in-None-clause-nothing : goal.returns-in-None-clause-nothing
 returns-in-None-clause-nothing g c = λ none.
     let s = c.args.self.now in
     absurd (something_waits c.args.whose s.base s.entries.items c.in-Some.p
-    (place_of s c.args.whose) c.in-Some-next_of.m (sym c.place.ensures ∙ c.in-Some.is) (sym c.next_of.ensures
+    (place_of s c.args.whose) c.in-Some-next_of.m (sym c.place.ensures ∙ c.in-Some.is) (sym c.next_of.ensures.next
     ∙ c.in-Some-next_of.is) none)
 
 pub returns-in-Numbers-clause-nothing : goal.returns-in-Numbers-clause-nothing
 returns-in-Numbers-clause-nothing g c = λ none.
     let s = c.args.self.now in
     absurd (something_waits c.args.whose s.base s.entries.items c.in-Some.p
-    (place_of s c.args.whose) c.in-Some-next_of.m (sym c.place.ensures ∙ c.in-Some.is) (sym c.next_of.ensures
+    (place_of s c.args.whose) c.in-Some-next_of.m (sym c.place.ensures ∙ c.in-Some.is) (sym c.next_of.ensures.next
     ∙ c.in-Some-next_of.is) none)
 
 pub returns-in_default-route-clause-nothing : goal.returns-in_default-route-clause-nothing
 returns-in_default-route-clause-nothing g c = λ none.
     let s = c.args.self.now in
     absurd (something_waits c.args.whose s.base s.entries.items c.in-Some.p
-    (place_of s c.args.whose) c.in-Some-next_of.m (sym c.place.ensures ∙ c.in-Some.is) (sym c.next_of.ensures
+    (place_of s c.args.whose) c.in-Some-next_of.m (sym c.place.ensures ∙ c.in-Some.is) (sym c.next_of.ensures.next
     ∙ c.in-Some-next_of.is) none)
