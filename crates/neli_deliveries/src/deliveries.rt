@@ -1,6 +1,7 @@
 //! What a store of deliveries has to keep.
 
-ghost use Rattle.std.specs.Prelude.{true, ◌≡◌, ◌≢◌, ℕ, List, [], ◌∷◌, ◌++◌, Option, None, Some, IsOk, IfOk, OnOk, OnErr, is_some, option_map};
+ghost use Rattle.std.specs.Prelude.{true, ◌≡◌, ◌≢◌, ℕ, List, [], ◌∷◌, ◌++◌, Option, None, Some, IsOk, IfOk, OnOk};
+ghost use Rattle.std.specs.Prelude.{OnErr, is_some, option_map};
 ghost use Rattle.neli_reader.specs.Cuts.{cut_of};
 ghost use Rattle.neli_reader.specs.Agreement.{untyped_layout};
 ghost use Rattle.neli_deliveries.specs.Lists.{ListsGain, SameLists, SameListsBut};
@@ -19,7 +20,7 @@ use std::alloc::Global;
 /// Contracts see a store as its port and, for each number and for multicast (`None`), the list of
 /// what waits there, or that it is not open. How it is kept is the store's own matter.
 pub trait Deliveries: Sized {
-    /// The port of the router: a message with another port is a stray.
+    /// The port of the router: a message that came to no group and has another one is a stray.
     ghost port_of: { Self → ℕ };
 
     /// What waits for a number, or for multicast; `None` where it is not open.
@@ -63,7 +64,8 @@ pub trait Deliveries: Sized {
     fn datagram(&mut self, bytes: &[u8], groups: &Groups) -> Result<(), NoMemory>
         ensures port { port_of self.new ≡ port_of self.old }
         ensures ok { OnOk result (ListsGain (λ w. datagram_share (port_of self.old)
-            (λ q. is_some (pending self.old (Some q))) w (cut_of untyped_layout bytes.now) groups.now)
+            (λ q. is_some (pending self.old (Some q))) w
+            (cut_of untyped_layout bytes.now) groups.now)
             (pending self.old) (pending self.new)) }
         ensures err { OnErr result (SameLists (pending self.old) (pending self.new)) }
         ensures empty { bytes.now ≡ [] → IsOk result };

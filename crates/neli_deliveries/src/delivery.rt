@@ -8,9 +8,9 @@ use neli_reader::{Nlmsghdr, SocketError};
 pub enum Delivery {
     /// A message for this handle alone.
     Message(Nlmsghdr<u16, Buffer>),
-    /// A message with a sequence number that no request has, or with another port; each open handle
-    /// gets it.
+    /// A message that came to no group, and has another port than the router's or a sequence number
+    /// that is not open. Each open number gets it.
     Stray(Nlmsghdr<u16, Buffer>),
-    /// A datagram could not be read to its end, or the link failed.
+    /// A datagram could not be read to its end, or the link failed. Each open number gets it.
     Fault(SocketError),
 }
