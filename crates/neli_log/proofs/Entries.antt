@@ -1,5 +1,7 @@
 -- Entries: their items and their spans.
-use Rattle.std.proofs.Common.{◌≡◌, ℕ, zero, suc, ◌+◌, ◌-◌, ◌≤◌, ◌<◌, Bool, true, false, List, [], ◌∷◌, ◌++◌, length, map, drop, get_or, Option, Some, None, refl, sym, ap, subst, ◌∙◌, arith, inl, inr, ◌⊎◌, append_assoc, length-append, is_some, option_map}
+use Rattle.std.proofs.Common.{◌≡◌, ℕ, zero, suc, ◌+◌, ◌-◌, ◌≤◌, ◌<◌, Bool, true, false, List, [], ◌∷◌, ◌++◌, length}
+use Rattle.std.proofs.Common.{map, drop, get_or, Option, Some, None, refl, sym, ap, subst, ◌∙◌, arith, inl, inr, ◌⊎◌}
+use Rattle.std.proofs.Common.{append_assoc, length-append, is_some, option_map}
 use Rattle.std.specs.List.{slice_get}
 use Rattle.std.proofs.lemmas.Bool.{cases_lt}
 use Rattle.std.proofs.lemmas.List.{append-nil}
@@ -7,11 +9,11 @@ use Rattle.neli_deliveries.specs.declared.delivery.Delivery.{Delivery}
 use Rattle.neli_places.specs.declared.entry.Entry.{Entry}
 use Rattle.neli_places.specs.declared.places.Places.{Places}
 use Rattle.neli_places.specs.Places.{Gains, HasReader, HasRoom}
-use Rattle.neli_places.specs.Routes.{items_for, leads}
+use Rattle.neli_places.specs.Routes.{entry, items_for, leads}
 use Rattle.neli_spans.specs.declared.span.Span.{Span}
 use Rattle.neli_log.specs.declared.content.Content.{Content}
 use Rattle.neli_log.specs.declared.content.Content.TheVariants as content
-use Rattle.neli_log.specs.Contents.{delivery_of, span_of, spans_of}
+use Rattle.neli_log.specs.Contents.{delivery_of, entry_read, span_of, spans_of}
 use Rattle.neli_log.specs.Staged.{HaveReaders}
 
 pub true_or_false : (b : Bool) → (b ≡ true) ⊎ (b ≡ false)
@@ -89,18 +91,15 @@ spans_at (e ∷ es) (suc i) x lt is = spans_at es i x (omega arith) is
 -- ---- deliveries
 
 -- where two readings of spans agree on the entries' spans, the entries are the same deliveries
-pub items_same : (f g : Span → List ℕ) (w : Option ℕ) (es : List (Entry Content))
+pub read_same : (f g : Span → List ℕ) (es : List (Entry Content))
     → ((i : ℕ) (s : Span) → slice_get (spans_of es) i ≡ Some s → g s ≡ f s)
-    → map (delivery_of g) (items_for w es) ≡ map (delivery_of f) (items_for w es)
-items_same f g w [] same = refl
-items_same f g w (e ∷ es) same = elim (true_or_false (leads w e.route)) [
-  | inl it ↦ rw it (ap2 (one e.item (λ i s at. same i s (left i s at))) (items_same f g w es (later same)))
-  | inr it ↦ rw it (items_same f g w es (later same))
-]
+    → map (entry_read g) es ≡ map (entry_read f) es
+read_same f g [] same = refl
+read_same f g (e ∷ es) same =
+    ap2 (ap (λ d. entry d e.route) (one e.item (λ i s at. same i s (left i s at)))) (read_same f g es later)
   where
-    later : ((i : ℕ) (s : Span) → slice_get (span_of e.item ++ spans_of es) i ≡ Some s → g s ≡ f s) → (i : ℕ) (s : Span)
-        → slice_get (spans_of es) i ≡ Some s → g s ≡ f s
-    later same i s at = same (length (span_of e.item) + i) s
+    later : (i : ℕ) (s : Span) → slice_get (spans_of es) i ≡ Some s → g s ≡ f s
+    later i s at = same (length (span_of e.item) + i) s
         (let j : length (span_of e.item) + i - length (span_of e.item) ≡ i = omega arith in
         get_right (span_of e.item) (spans_of es) (length (span_of e.item) + i) (omega arith) ∙ rw j at)
 
@@ -114,8 +113,22 @@ items_same f g w (e ∷ es) same = elim (true_or_false (leads w e.route)) [
     one (content.Stray s) h = rw (h 0 s refl) refl
     one (content.Fault e) h = refl
 
-    ap2 : {a b : Delivery} {xs ys : List Delivery} → a ≡ b → xs ≡ ys → a ∷ xs ≡ b ∷ ys
+    ap2 : {a b : Entry Delivery} {xs ys : List (Entry Delivery)} → a ≡ b → xs ≡ ys → a ∷ xs ≡ b ∷ ys
     ap2 {b = b} {xs = xs} h k = ap (λ x. x ∷ xs) h ∙ ap (λ zs. b ∷ zs) k
+
+-- a list's items as deliveries are those of the entries as deliveries
+pub items_read : (f : Span → List ℕ) (w : Option ℕ) (es : List (Entry Content))
+    → items_for w (map (entry_read f) es) ≡ map (delivery_of f) (items_for w es)
+items_read f w [] = refl
+items_read f w (e ∷ es) = elim (true_or_false (leads w e.route)) [
+  | inl it ↦ rw it (ap (λ ds. delivery_of f e.item ∷ ds) (items_read f w es))
+  | inr it ↦ rw it (items_read f w es)
+]
+
+pub items_same : (f g : Span → List ℕ) (w : Option ℕ) (es : List (Entry Content))
+    → ((i : ℕ) (s : Span) → slice_get (spans_of es) i ≡ Some s → g s ≡ f s)
+    → map (delivery_of g) (items_for w es) ≡ map (delivery_of f) (items_for w es)
+items_same f g w es same = sym (items_read g w es) ∙ ap (items_for w) (read_same f g es same) ∙ items_read f w es
 
 -- ---- entries that are pushed one by one
 

@@ -1,4 +1,5 @@
 pub mod Read
 pub mod Entries
+pub mod Routed
 pub mod Stages
 pub mod Stores

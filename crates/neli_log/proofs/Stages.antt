@@ -1,5 +1,7 @@
 -- What a datagram brings, message by message.
-use Rattle.std.proofs.Common.{◌≡◌, ℕ, zero, suc, ◌+◌, ◌-◌, ◌≤◌, ◌<◌, Bool, true, List, [], ◌∷◌, ◌++◌, length, map, take, drop, Option, Some, None, Ok, Err, refl, sym, ap, subst, ◌∙◌, arith, inl, inr, append_assoc, length-append, is_some}
+use Rattle.std.proofs.Common.{◌≡◌, ℕ, zero, suc, ◌+◌, ◌-◌, ◌≤◌, ◌<◌, true, List, [], ◌∷◌, ◌++◌, length, map, take, drop}
+use Rattle.std.proofs.Common.{Option, Some, None, Ok, Err, refl, sym, ap, subst, ◌∙◌, arith, append_assoc}
+use Rattle.std.proofs.Common.{length-append, is_some}
 use Rattle.std.specs.List.{slice_get}
 use Rattle.std.specs.Prelude.{slice_range}
 use Rattle.std.proofs.lemmas.List.{append-nil, map-append}
@@ -11,10 +13,12 @@ use Rattle.neli_reader.specs.Cuts.{Cut, cut_of, message_before}
 use Rattle.neli_reader.specs.laws.Cuts.{cut_of-end, cut_of-fault, cut_of-message, empty_is}
 use Rattle.neli_reader.specs.laws.Messages.{layout_with-placed}
 use Rattle.neli_lent.specs.Spans.{IsSpan, Spells}
-use Rattle.neli_deliveries.specs.Deliveries.{Untyped, message_to, messages_to, reader_fault, datagram_share}
+use Rattle.neli_deliveries.specs.declared.delivery.Delivery.{Delivery}
+use Rattle.neli_deliveries.specs.declared.delivery.Delivery.TheVariants as delivery
+use Rattle.neli_deliveries.specs.Deliveries.{Untyped, datagram_share}
 use Rattle.neli_places.specs.declared.entry.Entry.{Entry}
 use Rattle.neli_places.specs.Places.{HasReader}
-use Rattle.neli_places.specs.Routes.{items_for, leads}
+use Rattle.neli_places.specs.Routes.{entry}
 use Rattle.neli_spans.specs.declared.span.Span.{Span}
 use Rattle.neli_spans.specs.Spans.{AreApart, AreSpansOf, Apart, IsWithin}
 use Rattle.neli_reader.specs.SocketError.TheVariants as socket
@@ -22,29 +26,11 @@ use Rattle.neli_places.specs.declared.entry.Route.TheVariants as route
 use Rattle.neli_log.specs.declared.content.Content.{Content}
 use Rattle.neli_log.specs.declared.content.Content.TheVariants as content
 use Rattle.neli_log.specs.declared.next.Address.{Address}
-use Rattle.neli_log.specs.Contents.{AreMessages, delivery_of, part_of, span_of, spans_of}
-use Rattle.neli_log.specs.Staged.{AreStaged, HaveReaders, IsFound, deliveries_due, deliveries_added, is_open}
-use Rattle.neli_log.proofs.Entries.{each_joined, each_one, true_or_false, items_append, spans_append}
-
--- ---- what is due of a message, and then of the rest
-
-received_message : (port : ℕ) (opened : ℕ → Bool) (w : Option ℕ) (u : Untyped) (rest : Cut Untyped) (groups : List ℕ)
-    → datagram_share port opened w (message_before u rest) groups
-    ≡ datagram_share port opened w (u ∷ [], None) groups ++ datagram_share port opened w rest groups
-received_message port opened None u rest [] = refl
-received_message port opened None u rest (g ∷ gs) = refl
-received_message port opened (Some q) u rest [] =
-    let first = message_to port opened q u in
-    let one : (first ++ []) ++ [] ≡ first = append-nil (first ++ []) ∙ append-nil first in
-    rw one (append_assoc first (messages_to port opened q rest.0) (reader_fault rest.1))
-received_message port opened (Some q) u rest (g ∷ gs) = refl
-
-received_end : (port : ℕ) (opened : ℕ → Bool) (w : Option ℕ) (groups : List ℕ)
-    → datagram_share port opened w ([], None) groups ≡ []
-received_end port opened None [] = refl
-received_end port opened None (g ∷ gs) = refl
-received_end port opened (Some q) [] = refl
-received_end port opened (Some q) (g ∷ gs) = refl
+use Rattle.neli_log.specs.Contents.{AreMessages, entry_read, part_of, span_of, spans_of}
+use Rattle.neli_log.specs.Routed.{AreAwaited, message_routed}
+use Rattle.neli_log.specs.Staged.{AreDueBefore, AreStaged, HaveReaders, IsFound, deliveries_added, entries_due, is_open}
+use Rattle.neli_log.proofs.Entries.{each_joined, each_one, items_read, spans_append}
+use Rattle.neli_log.proofs.Routed.{awaited_items, awaited_more, awaited_skipped, items_routed}
 
 -- ---- a span after others
 
@@ -81,43 +67,6 @@ of_push serial at ss t same from le h = record {
 -- ---- stages
 
 module _ (P : Option ℕ → Option (List Content)) (port serial : ℕ) (bytes groups : List ℕ) (cut : Cut Untyped) where
-  gained_push : (w : Option ℕ) (es : List (Entry Content)) (e : Entry Content)
-      → deliveries_added bytes w (es ++ e ∷ []) ≡ deliveries_added bytes w es ++ deliveries_added bytes w (e ∷ [])
-  gained_push w es e = ap (map (delivery_of (part_of bytes))) (items_append w es (e ∷ []))
-      ∙ map-append (delivery_of (part_of bytes)) (items_for w es) (items_for w (e ∷ []))
-
-  -- nobody gets it
-  gained_unread : (w : Option ℕ) (e : Entry Content) → (HasReader P e.route → ⊥) → is_some (P w) ≡ true
-      → deliveries_added bytes w (e ∷ []) ≡ []
-  gained_unread w e none opened = elim (true_or_false (leads w e.route)) [
-    | inl it ↦ absurd (none (w, opened, it))
-    | inr it ↦ rw it refl
-  ]
-
-  -- the entry e is what `step` brings, before `rest`
-  lists_pushed : (es : List (Entry Content)) (e : Entry Content) (whole step rest : Cut Untyped) (w : Option ℕ)
-      → deliveries_due port P groups w whole ≡ deliveries_due port P groups w step
-      ++ deliveries_due port P groups w rest → deliveries_added bytes w (e ∷ []) ≡ deliveries_due port P groups w step
-      → deliveries_added bytes w es ++ deliveries_due port P groups w whole ≡ deliveries_due port P groups w cut
-      → deliveries_added bytes w (es ++ e ∷ []) ++ deliveries_due port P groups w rest
-      ≡ deliveries_due port P groups w cut
-  lists_pushed es e whole step rest w parts gains is =
-      ap (λ ds. ds ++ deliveries_due port P groups w rest) (gained_push w es e)
-      ∙ append_assoc (deliveries_added bytes w es) (deliveries_added bytes w (e ∷ []))
-      (deliveries_due port P groups w rest)
-      ∙ ap (λ ds. deliveries_added bytes w es ++ (ds ++ deliveries_due port P groups w rest)) gains
-      ∙ ap (λ ds. deliveries_added bytes w es ++ ds) (sym parts) ∙ is
-
-  lists_skipped : (es : List (Entry Content)) (e : Entry Content) (whole step rest : Cut Untyped) (w : Option ℕ)
-      → deliveries_due port P groups w whole ≡ deliveries_due port P groups w step
-      ++ deliveries_due port P groups w rest → deliveries_added bytes w (e ∷ []) ≡ deliveries_due port P groups w step
-      → deliveries_added bytes w (e ∷ []) ≡ []
-      → deliveries_added bytes w es ++ deliveries_due port P groups w whole ≡ deliveries_due port P groups w cut
-      → deliveries_added bytes w es ++ deliveries_due port P groups w rest ≡ deliveries_due port P groups w cut
-  lists_skipped es e whole step rest w parts gains none is =
-      ap (λ ds. deliveries_added bytes w es ++ (ds ++ deliveries_due port P groups w rest)) (sym none ∙ gains)
-      ∙ ap (λ ds. deliveries_added bytes w es ++ ds) (sym parts) ∙ is
-
   readers_push : (es : List (Entry Content)) (e : Entry Content) → HasReader P e.route → HaveReaders P es
       → HaveReaders P (es ++ e ∷ [])
   readers_push es e r h = each_joined (λ x. HasReader P x.route) es (e ∷ []) h (each_one (λ x. HasReader P x.route) e r)
@@ -125,111 +74,116 @@ module _ (P : Option ℕ → Option (List Content)) (port serial : ℕ) (bytes g
   spans_push : (es : List (Entry Content)) (e : Entry Content) → spans_of (es ++ e ∷ []) ≡ spans_of es ++ span_of e.item
   spans_push es e = spans_append es (e ∷ []) ∙ ap (λ ss. spans_of es ++ ss) (append-nil (span_of e.item))
 
+  -- the entry e is that of `d`, which is due before `rest`
+  each_push : (es : List (Entry Content)) (e : Entry Content) (d : Entry Delivery) (whole rest : Cut Untyped)
+      → AreDueBefore P port bytes groups cut es whole
+      → entries_due port P groups whole ≡ d ∷ entries_due port P groups rest
+      → entry_read (part_of bytes) e ≡ d → HasReader P e.route
+      → AreDueBefore P port bytes groups cut (es ++ e ∷ []) rest
+  each_push es e d whole rest h parts is r = (
+    h.0 ++ d ∷ [],
+    append_assoc h.0 (d ∷ []) (entries_due port P groups rest) ∙ ap (λ ds. h.0 ++ ds) (sym parts) ∙ h.1,
+    subst (AreAwaited P (h.0 ++ d ∷ []))
+        (ap (λ x. map (entry_read (part_of bytes)) es ++ x ∷ []) (sym is)
+        ∙ sym (map-append (entry_read (part_of bytes)) es (e ∷ [])))
+        (awaited_more P h.0 (map (entry_read (part_of bytes)) es) d
+        (subst (λ x. HasReader P x.route) is r) h.2),
+  )
+
+  -- nobody gets it
+  each_skip : (es : List (Entry Content)) (d : Entry Delivery) (whole rest : Cut Untyped)
+      → AreDueBefore P port bytes groups cut es whole
+      → entries_due port P groups whole ≡ d ∷ entries_due port P groups rest
+      → (HasReader P d.route → ⊥) → AreDueBefore P port bytes groups cut es rest
+  each_skip es d whole rest h parts none = (
+    h.0 ++ d ∷ [],
+    append_assoc h.0 (d ∷ []) (entries_due port P groups rest) ∙ ap (λ ds. h.0 ++ ds) (sym parts) ∙ h.1,
+    awaited_skipped P h.0 (map (entry_read (part_of bytes)) es) d none h.2,
+  )
+
   -- the entry of a message is added
   pub staged_kept : (es : List (Entry Content)) (at : ℕ) (u : Untyped) (rest : Cut Untyped) (e : Entry Content)
       (s : Span) (a : Address) → AreStaged P port serial bytes groups cut es at (message_before u rest)
-      → IsFound serial at bytes s u a
-      → ((w : Option ℕ) → deliveries_added bytes w (e ∷ []) ≡ deliveries_due port P groups w (u ∷ [], None))
+      → IsFound serial at bytes s u a → entry_read (part_of bytes) e ≡ message_routed port (is_open P) groups u
       → span_of e.item ≡ s ∷ [] → HasReader P e.route
       → AreStaged P port serial bytes groups cut (es ++ e ∷ []) s.end rest
-  staged_kept es at u rest e s a h f gains has r =
+  staged_kept es at u rest e s a h f is has r =
       let spans : spans_of (es ++ e ∷ []) ≡ spans_of es ++ s ∷ [] = spans_push es e
       ∙ ap (λ ss. spans_of es ++ ss) has in
       record {
-        lists = λ w opened. lists_pushed es e (message_before u rest) (u ∷ [], None) rest w
-            (received_message port (is_open P) w u rest groups) (gains w) (h.lists w opened);
+        each = each_push es e (message_routed port (is_open P) groups u) (message_before u rest) rest h.each refl is r;
         spans = subst (AreSpansOf serial s.end) (sym spans)
             (of_push serial at (spans_of es) s f.datagram f.after f.ordered h.spans);
         messages = subst (AreMessages (part_of bytes)) (sym spans)
             (each_joined (λ x. IsSpan (part_of bytes x)) (spans_of es) (s ∷ []) h.messages
             (each_one (λ x. IsSpan (part_of bytes x)) s (u, f.spells)));
         readers = readers_push es e r h.readers;
-        few = (let before = h.few in omega (arith, length-append es (e ∷ [])));
       }
 
   -- the message goes to nobody
   pub staged_skipped : (es : List (Entry Content)) (at : ℕ) (u : Untyped) (rest : Cut Untyped) (e : Entry Content)
       (s : Span) (a : Address) → AreStaged P port serial bytes groups cut es at (message_before u rest)
-      → IsFound serial at bytes s u a
-      → ((w : Option ℕ) → deliveries_added bytes w (e ∷ []) ≡ deliveries_due port P groups w (u ∷ [], None))
-      → (HasReader P e.route → ⊥)
-      → AreStaged P port serial bytes groups cut es s.end rest
-  staged_skipped es at u rest e s a h f gains none = record {
-    lists = λ w opened. lists_skipped es e (message_before u rest) (u ∷ [], None) rest w
-        (received_message port (is_open P) w u rest groups) (gains w) (gained_unread w e none opened)
-        (h.lists w opened);
+      → IsFound serial at bytes s u a → entry_read (part_of bytes) e ≡ message_routed port (is_open P) groups u
+      → (HasReader P e.route → ⊥) → AreStaged P port serial bytes groups cut es s.end rest
+  staged_skipped es at u rest e s a h f is none = record {
+    each = each_skip es (message_routed port (is_open P) groups u) (message_before u rest) rest h.each refl
+        (subst (λ x. HasReader P x.route → ⊥) is none);
     spans = of_further serial at s.end (spans_of es) (let x = f.after in let y = f.ordered in omega arith) h.spans;
     messages = h.messages;
     readers = h.readers;
-    few = (let before = h.few in omega arith);
   }
 
   -- ---- the fault at the end
 
-  pub staged_fault : (es : List (Entry Content)) (at : ℕ) (fault : DeError) (e : Entry Content)
-      → AreStaged P port serial bytes groups cut es at ([], Some fault)
-      → ((w : Option ℕ) → deliveries_added bytes w (e ∷ []) ≡ deliveries_due port P groups w ([], Some fault))
-      → span_of e.item ≡ [] → HasReader P e.route
-      → AreStaged P port serial bytes groups cut (es ++ e ∷ []) at ([], None)
-  staged_fault es at fault e h gains has r =
-      let spans : spans_of (es ++ e ∷ []) ≡ spans_of es = spans_push es e ∙ ap (λ ss. spans_of es ++ ss) has
-      ∙ append-nil (spans_of es) in
+  pub staged_fault : (es : List (Entry Content)) (at : ℕ) (fault : DeError)
+      → AreStaged P port serial bytes groups cut es at ([], Some fault) → HasReader P route.Numbers
+      → AreStaged P port serial bytes groups cut (es ++ entry (content.Fault (socket.De fault)) route.Numbers ∷ []) at
+      ([], None)
+  staged_fault es at fault h r =
+      let e : Entry Content = entry (content.Fault (socket.De fault)) route.Numbers in
+      let spans : spans_of (es ++ e ∷ []) ≡ spans_of es = spans_push es e ∙ append-nil (spans_of es) in
       record {
-        lists = λ w opened. lists_pushed es e ([], Some fault) ([], Some fault) ([], None) w
-            (sym (ap (λ ds. deliveries_due port P groups w ([], Some fault) ++ ds)
-            (received_end port (is_open P) w groups) ∙ append-nil _)) (gains w) (h.lists w opened);
+        each = each_push es e (entry (delivery.Fault (socket.De fault)) route.Numbers) ([], Some fault) ([], None)
+            h.each refl refl r;
         spans = subst (AreSpansOf serial at) (sym spans) h.spans;
         messages = subst (AreMessages (part_of bytes)) (sym spans) h.messages;
         readers = readers_push es e r h.readers;
-        few = (let before = h.few in omega (arith, length-append es (e ∷ [])));
       }
 
-  pub staged_unread_fault : (es : List (Entry Content)) (at : ℕ) (fault : DeError) (e : Entry Content)
-      → AreStaged P port serial bytes groups cut es at ([], Some fault)
-      → ((w : Option ℕ) → deliveries_added bytes w (e ∷ []) ≡ deliveries_due port P groups w ([], Some fault))
-      → (HasReader P e.route → ⊥)
+  pub staged_unread_fault : (es : List (Entry Content)) (at : ℕ) (fault : DeError)
+      → AreStaged P port serial bytes groups cut es at ([], Some fault) → (HasReader P route.Numbers → ⊥)
       → AreStaged P port serial bytes groups cut es at ([], None)
-  staged_unread_fault es at fault e h gains none = record {
-    lists = λ w opened. lists_skipped es e ([], Some fault) ([], Some fault) ([], None) w
-        (sym (ap (λ ds. deliveries_due port P groups w ([], Some fault) ++ ds) (received_end port (is_open P) w groups)
-        ∙ append-nil _)) (gains w) (gained_unread w e none opened) (h.lists w opened);
+  staged_unread_fault es at fault h none = record {
+    each = each_skip es (entry (delivery.Fault (socket.De fault)) route.Numbers) ([], Some fault) ([], None) h.each refl
+        none;
     spans = h.spans;
     messages = h.messages;
     readers = h.readers;
-    few = (let before = h.few in omega arith);
   }
 
   -- what is staged before a place is staged before a later one
   pub staged_further : (es : List (Entry Content)) (at at' : ℕ) (rest : Cut Untyped) → at ≤ at'
       → AreStaged P port serial bytes groups cut es at rest → AreStaged P port serial bytes groups cut es at' rest
   staged_further es at at' rest le h = record {
-    lists = h.lists;
+    each = h.each;
     spans = of_further serial at at' (spans_of es) le h.spans;
     messages = h.messages;
     readers = h.readers;
-    few =
-        h.few;
   }
 
-  -- in the end each opened list gains what it is due
-  pub staged_gains : (es : List (Entry Content)) (at : ℕ) → AreStaged P port serial bytes groups cut es at ([], None)
-      → (w : Option ℕ) → is_some (P w) ≡ true → deliveries_added bytes w es ≡ deliveries_due port P groups w cut
-  staged_gains es at h w opened = sym (append-nil (deliveries_added bytes w es))
-      ∙ ap (λ ds. deliveries_added bytes w es ++ ds) (sym (received_end port (is_open P) w groups)) ∙ h.lists w opened
+  -- in the end the entries are those that somebody gets of all that is due
+  pub staged_each : (es : List (Entry Content)) (at : ℕ) → AreStaged P port serial bytes groups cut es at ([], None)
+      → AreAwaited P (entries_due port P groups cut) (map (entry_read (part_of bytes)) es)
+  staged_each es at h = subst (λ ds. AreAwaited P ds (map (entry_read (part_of bytes)) es))
+      (sym (append-nil h.each.0) ∙ h.each.1) h.each.2
 
--- what a fault brings is the entry of it
-pub fault_gains : (port : ℕ) (P : Option ℕ → Option (List Content)) (bytes groups : List ℕ) (fault : DeError)
-    (e : Entry Content) (w : Option ℕ) → e ≡ record { item = content.Fault (socket.De fault); route = route.Numbers }
-    → deliveries_added bytes w (e ∷ []) ≡ deliveries_due port P groups w ([], Some fault)
-fault_gains port P bytes groups fault e w is = rw is (by w groups)
-  where
-    by : (w : Option ℕ) (groups : List ℕ) → deliveries_added bytes w
-        (record { item = content.Fault (socket.De fault); route = route.Numbers } ∷ [])
-        ≡ deliveries_due port P groups w ([], Some fault)
-    by None [] = refl
-    by None (g ∷ gs) = refl
-    by (Some q) [] = refl
-    by (Some q) (g ∷ gs) = refl
+  -- so each opened list gains its share
+  pub staged_gains : (es : List (Entry Content)) (at : ℕ) → AreStaged P port serial bytes groups cut es at ([], None)
+      → (w : Option ℕ) → is_some (P w) ≡ true
+      → deliveries_added bytes w es ≡ datagram_share port (is_open P) w cut groups
+  staged_gains es at h w opened = sym (items_read (part_of bytes) w es)
+      ∙ awaited_items P w opened (entries_due port P groups cut) (map (entry_read (part_of bytes)) es)
+      (staged_each es at h) ∙ items_routed port (is_open P) w groups cut
 
 -- ---- the bytes of a message
 

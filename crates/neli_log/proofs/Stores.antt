@@ -1,16 +1,16 @@
 -- Entries and the datagrams that they name, together.
-use Rattle.std.proofs.Common.{◌≡◌, ℕ, zero, suc, ◌+◌, ◌-◌, ◌≤◌, ◌<◌, ◌↔◌, Bool, true, false, List, [], ◌∷◌, ◌++◌, length, map, drop, Option, Some, None, refl, sym, ap, subst, ◌∙◌, arith, inl, inr, length-append, is_some, option_map}
+use Rattle.std.proofs.Common.{◌≡◌, ℕ, zero, suc, ◌+◌, ◌-◌, ◌<◌, ◌↔◌, Bool, true, false, List, [], ◌∷◌, ◌++◌}
+use Rattle.std.proofs.Common.{length, map, drop, Option, Some, None, refl, sym, ap, subst, ◌∙◌, arith, inl, inr}
+use Rattle.std.proofs.Common.{is_some, option_map}
 use Rattle.std.specs.List.{slice_get}
-use Rattle.std.specs.Prelude.{slice_range, Result, Ok, Err, OnErr, OnOk}
+use Rattle.std.specs.Prelude.{slice_range, Result, Ok, Err, OnOk}
 use Rattle.std.proofs.lemmas.List.{append-nil, map-append}
 use Rattle.neli_reader.specs.Agreement.{untyped_layout}
 use Rattle.neli_reader.specs.Cuts.{Cut, cut_of}
 use Rattle.neli_reader.specs.SocketError.{SocketError}
-use Rattle.neli_reader.specs.laws.Cuts.{cut_of-end}
-use Rattle.neli_reader.specs.laws.Messages.{layout_with-placed}
 use Rattle.neli_lent.specs.Spans.{IsSpan}
 use Rattle.neli_deliveries.specs.declared.delivery.Delivery.{Delivery}
-use Rattle.neli_deliveries.specs.Deliveries.{Untyped, fault_share, is_would_block, messages_to, reader_fault, datagram_share}
+use Rattle.neli_deliveries.specs.Deliveries.{Untyped, datagram_share, fault_share, is_would_block}
 use Rattle.neli_places.specs.declared.entry.Entry.{Entry}
 use Rattle.neli_places.specs.declared.entry.Route.{Route}
 use Rattle.neli_places.specs.declared.entry.Route.TheVariants as route
@@ -24,11 +24,14 @@ use Rattle.neli_spans.specs.declared.datagrams.Datagrams.{Datagrams}
 use Rattle.neli_spans.specs.Spans.{AreSpansOf, SpansName, next_serial, span_bytes}
 use Rattle.neli_log.specs.declared.content.Content.{Content}
 use Rattle.neli_log.specs.declared.content.Content.TheVariants as content
-use Rattle.neli_log.specs.Contents.{AreBacked, AreMessages, IsReadable, delivery_of, part_of, span_of, spans_of}
+use Rattle.neli_log.specs.Contents.{AreBacked, AreMessages, IsReadable, delivery_of, entry_read, part_of, span_of}
+use Rattle.neli_log.specs.Contents.{spans_of}
 use Rattle.neli_log.specs.declared.store.Store.{Store}
-use Rattle.neli_log.specs.Log.{IsAsBefore, Keeps, entry_count}
-use Rattle.neli_log.specs.Staged.{deliveries_added}
-use Rattle.neli_log.proofs.Entries.{each_joined, true_or_false, get_end, get_right, items_same, spans_append}
+use Rattle.neli_log.specs.Log.{Keeps, KeepsEachOnce, entries_read, pending_of}
+use Rattle.neli_log.specs.Routed.{AreAwaited, datagram_routed}
+use Rattle.neli_log.specs.Staged.{deliveries_added, entries_due, is_open}
+use Rattle.neli_log.proofs.Entries.{each_joined, true_or_false, get_end, get_right, items_same, read_same, spans_append}
+use Rattle.neli_log.proofs.Routed.{awaited_same, items_routed, routed_nothing, routed_same}
 
 -- ---- lists that are mapped, where there are any
 
@@ -150,8 +153,8 @@ module _ (s s' : Places Content) (d d' : Datagrams) (c : Content) (r : Route)
       all (length (span_of c) + i) x (get_right (span_of c) (spans_of (entries_of s')) (length (span_of c) + i)
       (omega arith) ∙ (rw j at))
 
-  module _ (names : (ss : List Span) → SpansName d (span_of c ++ ss)
-      → SpansName d' ss) (texts : (ss : List Span) (i : ℕ) (x : Span) → SpansName d (span_of c ++ ss) → slice_get ss i ≡ Some x
+  module _ (names : (ss : List Span) → SpansName d (span_of c ++ ss) → SpansName d' ss)
+      (texts : (ss : List Span) (i : ℕ) (x : Span) → SpansName d (span_of c ++ ss) → slice_get ss i ≡ Some x
       → span_bytes d' x ≡ span_bytes d x) where
     pub released_backed : AreBacked d' (entries_of s')
     released_backed = record {
@@ -178,7 +181,8 @@ module _ (s s' : Places Content) (d d' : Datagrams) (c : Content) (r : Route)
 module _ (s s' : Places Content) (d d' : Datagrams) (bytes : List ℕ) (es : List (Entry Content))
     (entries : entries_of s' ≡ entries_of s ++ es) (more : (w : Option ℕ)
     → items_of s' w ≡ option_map (λ xs. xs ++ items_for w es) (items_of s w))
-    (spans : AreSpansOf (next_serial d) (length bytes) (spans_of es)) (messages : AreMessages (part_of bytes) (spans_of es))
+    (spans : AreSpansOf (next_serial d) (length bytes) (spans_of es))
+    (messages : AreMessages (part_of bytes) (spans_of es))
     (backed : AreBacked d (entries_of s))
     (names : (old new : List Span) → SpansName d old → AreSpansOf (next_serial d) (length bytes) new
     → length new ≡ length (spans_of es) → SpansName d' (old ++ new))
@@ -200,6 +204,15 @@ module _ (s s' : Places Content) (d d' : Datagrams) (bytes : List ℕ) (es : Lis
         (λ i x at. subst IsSpan (sym (kept_text i x at)) (backed.messages i x at))
         (λ i x at. subst IsSpan (sym (added_text i x at)) (messages i x at)));
   })
+
+  pub handed_read : map (entry_read (span_bytes d')) (entries_of s')
+      ≡ map (entry_read (span_bytes d)) (entries_of s) ++ map (entry_read (part_of bytes)) es
+  handed_read = ap (map (entry_read (span_bytes d'))) entries
+      ∙ map-append (entry_read (span_bytes d')) (entries_of s) es
+      ∙ ap (λ xs. xs ++ map (entry_read (span_bytes d')) es)
+      (read_same (span_bytes d) (span_bytes d') (entries_of s) kept_text)
+      ∙ ap (λ xs. map (entry_read (span_bytes d)) (entries_of s) ++ xs)
+      (read_same (part_of bytes) (span_bytes d') es added_text)
 
   pub handed_pending : (w : Option ℕ) → option_map (map (delivery_of (span_bytes d'))) (items_of s' w)
       ≡ option_map (λ ds. ds ++ deliveries_added bytes w es)
@@ -226,30 +239,25 @@ module _ (s s' : Places Content) (d d' : Datagrams) (bytes : List ℕ) (es : Lis
 
 -- ---- what is due
 
--- it depends on which numbers are open, however that is told
-pub received_same : (port : ℕ) (o o' : ℕ → Bool) → ((q : ℕ) → o q ≡ o' q)
-    → (w : Option ℕ) (cut : Cut Untyped) (groups : List ℕ)
-    → datagram_share port o w cut groups ≡ datagram_share port o' w cut groups
-received_same port o o' same None cut [] = refl
-received_same port o o' same None cut (g ∷ gs) = refl
-received_same port o o' same (Some q) cut [] = ap (λ ds. ds ++ reader_fault cut.1) (each cut.0)
-  where
-    each : (ms : List Untyped) → messages_to port o q ms ≡ messages_to port o' q ms
-    each [] = refl
-    each (m ∷ ms) = rw (same m.0.sequence_number, each ms) refl
-received_same port o o' same (Some q) cut (g ∷ gs) = refl
+-- which numbers are open is said by the lists of deliveries as by those of entries
+pub due_same : (s : Store) (groups : List ℕ) (cut : Cut Untyped) → entries_due s.port (items_of s.places) groups cut
+    ≡ datagram_routed s.port (λ q. is_some (pending_of s (Some q))) groups cut
+due_same s groups cut = routed_same s.port (is_open (items_of s.places)) (λ q. is_some (pending_of s (Some q)))
+    (λ q. sym (mapped_is_some (map (delivery_of (span_bytes s.datagrams))) (items_of s.places (Some q)))) groups cut
+
+-- so is what each list is due
+pub share_same : (s : Store) (w : Option ℕ) (groups : List ℕ) (cut : Cut Untyped)
+    → datagram_share s.port (is_open (items_of s.places)) w cut groups
+    ≡ datagram_share s.port (λ q. is_some (pending_of s (Some q))) w cut groups
+share_same s w groups cut = sym (items_routed s.port (is_open (items_of s.places)) w groups cut)
+    ∙ ap (items_for w) (due_same s groups cut)
+    ∙ items_routed s.port (λ q. is_some (pending_of s (Some q))) w groups cut
 
 -- an empty datagram brings nothing
 pub received_nothing : (port : ℕ) (o : ℕ → Bool) (w : Option ℕ) (groups : List ℕ)
     → [] ≡ datagram_share port o w (cut_of untyped_layout []) groups
-received_nothing port o w groups = rw (cut_of-end untyped_layout (layout_with-placed (λ n. n) _) (omega arith))
-    (by w groups)
-  where
-    by : (w : Option ℕ) (groups : List ℕ) → [] ≡ datagram_share port o w ([], None) groups
-    by None [] = refl
-    by None (g ∷ gs) = refl
-    by (Some q) [] = refl
-    by (Some q) (g ∷ gs) = refl
+received_nothing port o w groups = sym (ap (items_for w) (routed_nothing port o groups))
+    ∙ items_routed port o w groups (cut_of untyped_layout [])
 
 -- ---- a fault of the link
 
@@ -310,10 +318,12 @@ keeps_none s bytes = record {
   counted = omega arith;
 }
 
--- no more entries come than are kept
-pub added_few : {A E : Type 0} (r : Result A E) (before after : Store) (bytes : List ℕ) (es : List (Entry Content))
-    (n : ℕ) → OnOk r (Keeps before after bytes es) → OnErr r (IsAsBefore before after) → length es ≤ n
-    → entry_count after ≤ entry_count before + n
-added_few (Ok a) before after bytes es n kept left few =
-    omega (arith, few, ap length kept.entries, length-append (entries_of before.places) es)
-added_few (Err e) before after bytes es n kept left few = (let same = ap length left.0 in omega (arith, same))
+-- what somebody gets of these is what some list of the log gets
+pub awaited_open : (s : Store) (ds es : List (Entry Delivery)) → AreAwaited (items_of s.places) ds es
+    → AreAwaited (pending_of s) ds es
+awaited_open s ds es h = awaited_same (items_of s.places) (pending_of s)
+    (λ w. mapped_is_some (map (delivery_of (span_bytes s.datagrams))) (items_of s.places w)) ds es h
+
+pub keeps_once_none : (s : Store) (ds : List (Entry Delivery)) → AreAwaited (items_of s.places) ds []
+    → KeepsEachOnce s s ds
+keeps_once_none s ds h = ([], awaited_open s ds [] h, sym (append-nil (entries_read s)))

@@ -10,6 +10,7 @@ use Rattle.neli_deliveries.specs.declared.delivery.Delivery.{Delivery}
 use Rattle.neli_deliveries.specs.declared.delivery.Delivery.TheVariants as delivery
 use Rattle.neli_deliveries.specs.Deliveries.{Untyped, message, stray}
 use Rattle.neli_places.specs.declared.entry.Entry.{Entry}
+use Rattle.neli_places.specs.Routes.{entry}
 use Rattle.neli_spans.specs.declared.span.Span.{Span}
 use Rattle.neli_spans.specs.declared.datagrams.Datagrams.{Datagrams}
 use Rattle.neli_spans.specs.Spans.{IsNamed, SpansName, span_bytes}
@@ -26,6 +27,10 @@ abbrev pub delivery_of : (Span → List ℕ) → Content → Delivery
 delivery_of part (content.Message s) = delivery_read message (frame_at untyped_layout (part s))
 delivery_of part (content.Stray s) = delivery_read stray (frame_at untyped_layout (part s))
 delivery_of part (content.Fault e) = delivery.Fault e
+
+-- an entry as the delivery that it is, with whom it goes to
+abbrev pub entry_read : (Span → List ℕ) → Entry Content → Entry Delivery
+entry_read part e = entry (delivery_of part e.item) e.route
 
 -- the span of an entry that has one
 abbrev pub span_of : Content → List Span

@@ -1,4 +1,5 @@
 pub mod Contents
+pub mod Routed
 pub mod Next
 pub mod Staged
 pub mod Log

@@ -8,7 +8,8 @@ use Rattle.neli_places.specs.Places.{pending_of as items_of}
 use Rattle.neli_spans.specs.Spans.{bytes_of, span_bytes}
 use Rattle.neli_log.specs.declared.content.Content.{Content}
 use Rattle.neli_log.specs.declared.store.Store.{Store}
-use Rattle.neli_log.specs.Contents.{AreBacked, delivery_of, spans_of}
+use Rattle.neli_log.specs.Contents.{AreBacked, delivery_of, entry_read, spans_of}
+use Rattle.neli_log.specs.Routed.{AreAwaited}
 use Rattle.neli_log.specs.Staged.{HaveReaders}
 
 -- what waits for a number, or for multicast (None), where it is open
@@ -24,6 +25,10 @@ pub record IsUntrimmed (s : Store) : Type 0 where
 pub record IsTrimmedAndBacked (s : Store) : Type 0 where
   pub trimmed : IsTrimmed s.places
   pub backed : AreBacked s.datagrams (entries_of s.places)
+
+-- the entries that are kept, each as the delivery that it is, with whom it goes to
+abbrev pub entries_read : Store → List (Entry Delivery)
+entries_read s = map (entry_read (span_bytes s.datagrams)) (entries_of s.places)
 
 -- how many entries are kept
 abbrev pub entry_count : Store → ℕ
@@ -49,6 +54,11 @@ pub record Keeps (before after : Store) (bytes : List ℕ) (es : List (Entry Con
 -- entries come after the others, as `Keeps` says
 abbrev pub KeepsEntries : Store → Store → List ℕ → Type 0
 KeepsEntries before after bytes = (es : List (Entry Content)) × Keeps before after bytes es
+
+-- those of `ds` that somebody gets come after the other entries: each once, in the same order, and nothing else
+abbrev pub KeepsEachOnce : Store → Store → List (Entry Delivery) → Type 0
+KeepsEachOnce before after ds = (added : List (Entry Delivery)) × AreAwaited (pending_of before) ds added
+    × (entries_read after ≡ entries_read before ++ added)
 
 -- no entry more is kept than before, and no byte
 abbrev pub KeepsNoMore : Store → Store → Type 0

@@ -1,11 +1,11 @@
 -- What a datagram brings, before any list changes.
-use Rattle.std.specs.Prelude.{◌≡◌, ◌≤◌, ◌+◌, ℕ, Bool, true, List, [], ◌++◌, length, map, Option, Some, None, is_some, if◌then◌else◌}
+use Rattle.std.specs.Prelude.{◌≡◌, ◌≤◌, ℕ, Bool, List, [], ◌++◌, map, Option, Some, None, is_some}
 use Rattle.std.specs.List.{slice_get}
 use Rattle.neli_wire.specs.DeError.{DeError}
 use Rattle.neli_reader.specs.Agreement.{untyped_layout}
 use Rattle.neli_reader.specs.Cuts.{Cut, cut_of}
 use Rattle.neli_deliveries.specs.declared.delivery.Delivery.{Delivery}
-use Rattle.neli_deliveries.specs.Deliveries.{Untyped, datagram_share}
+use Rattle.neli_deliveries.specs.Deliveries.{Untyped}
 use Rattle.neli_places.specs.declared.entry.Entry.{Entry}
 use Rattle.neli_places.specs.Places.{HasReader}
 use Rattle.neli_places.specs.Routes.{items_for}
@@ -14,7 +14,8 @@ use Rattle.neli_spans.specs.declared.span.Span.{Span}
 use Rattle.neli_spans.specs.Spans.{AreSpansOf}
 use Rattle.neli_log.specs.declared.content.Content.{Content}
 use Rattle.neli_log.specs.declared.next.Address.{Address}
-use Rattle.neli_log.specs.Contents.{AreMessages, delivery_of, part_of, spans_of}
+use Rattle.neli_log.specs.Contents.{AreMessages, delivery_of, entry_read, part_of, spans_of}
+use Rattle.neli_log.specs.Routed.{AreAwaited, datagram_routed}
 
 -- what a list gains of entries, whose spans are of these bytes
 abbrev pub deliveries_added : List ℕ → Option ℕ → List (Entry Content) → List Delivery
@@ -29,29 +30,30 @@ cut_left rest (Some e) = ([], Some e)
 abbrev pub is_open : (Option ℕ → Option (List Content)) → ℕ → Bool
 is_open pending q = is_some (pending (Some q))
 
--- what a list is due of a cut that came to these groups
-abbrev pub deliveries_due : ℕ → (Option ℕ → Option (List Content)) → List ℕ → Option ℕ → Cut Untyped → List Delivery
-deliveries_due port pending groups w cut = datagram_share port (is_open pending) w cut groups
-
--- how many deliveries a cut brings at most: its messages, and its fault
-abbrev pub delivery_count : Cut Untyped → ℕ
-delivery_count cut = length cut.0 + (if is_some cut.1 then 1 else 0)
+-- what a cut that came to these groups brings, with whom it goes to, where these lists are open
+abbrev pub entries_due : ℕ → (Option ℕ → Option (List Content)) → List ℕ → Cut Untyped → List (Entry Delivery)
+entries_due port pending groups cut = datagram_routed port (is_open pending) groups cut
 
 -- each entry is for somebody
 abbrev pub HaveReaders : (Option ℕ → Option (List Content)) → List (Entry Content) → Type 0
 HaveReaders pending es = (i : ℕ) (e : Entry Content) → slice_get es i ≡ Some e → HasReader pending e.route
 
--- the entries, with what `rest` still brings, are what `cut` brings to each open list; their spans are messages of
--- the first `at` bytes, in their order; each goes to somebody; and none comes of no message and no fault
+-- the entries, whose spans are of these bytes, are those that somebody gets of what `cut` brings before `rest`: each
+-- once, in the same order
+abbrev pub AreDueBefore : (Option ℕ → Option (List Content)) → ℕ → List ℕ → List ℕ → Cut Untyped
+    → List (Entry Content) → Cut Untyped → Type 0
+AreDueBefore pending port bytes groups cut es rest = (before : List (Entry Delivery))
+    × (before ++ entries_due port pending groups rest ≡ entries_due port pending groups cut)
+    × AreAwaited pending before (map (entry_read (part_of bytes)) es)
+
+-- the entries are what is due before `rest`; their spans are messages of the first `at` bytes, in their order; and each
+-- goes to somebody
 pub record AreStaged (pending : Option ℕ → Option (List Content)) (port serial : ℕ) (bytes groups : List ℕ)
     (cut : Cut Untyped) (es : List (Entry Content)) (at : ℕ) (rest : Cut Untyped) : Type 0 where
-  pub lists : (w : Option ℕ) → is_some (pending w) ≡ true
-      → deliveries_added bytes w es ++ deliveries_due port pending groups w rest
-      ≡ deliveries_due port pending groups w cut
+  pub each : AreDueBefore pending port bytes groups cut es rest
   pub spans : AreSpansOf serial at (spans_of es)
   pub messages : AreMessages (part_of bytes) (spans_of es)
   pub readers : HaveReaders pending es
-  pub few : length es + delivery_count rest ≤ delivery_count cut
 
 -- the span is this message, after the first `at` bytes of the datagram with this serial number, and has this address
 pub record IsFound (serial at : ℕ) (bytes : List ℕ) (s : Span) (u : Untyped) (a : Address) : Type 0 where

@@ -8,7 +8,7 @@ use neli_spans::Span;
 pub(crate) enum Content {
     /// A message for the handle that it goes to.
     Message(Span),
-    /// A message with a sequence number that no request has, or with another port.
+    /// A message that came to no group, and has another port than the router's or a number that is not open.
     Stray(Span),
     /// A datagram could not be read to its end, or the link failed.
     Fault(SocketError),

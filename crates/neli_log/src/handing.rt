@@ -1,9 +1,11 @@
 //! How entries and datagrams come to be kept, once there is nothing left to refuse.
 
-ghost use Rattle.std.specs.Prelude.{◌≡◌, ◌++◌, ◌+◌, ◌<◌, ◌≤◌, ℕ, List, Option, Some, OnErr, OnOk, length, option_map, slice_get, slice_range};
+ghost use Rattle.std.specs.Prelude.{◌≡◌, ◌++◌, ◌+◌, ◌<◌, ◌≤◌, ℕ, List, Option, Some, OnErr, OnOk, length, option_map};
+ghost use Rattle.std.specs.Prelude.{slice_get, slice_range};
 ghost use Rattle.neli_places.specs.Places.{HasRoom, IsTrimmed, entries_of, pending_of};
 ghost use Rattle.neli_places.specs.Routes.{items_for};
-ghost use Rattle.neli_spans.specs.Spans.{AreNamed, AreSpansOf, IsUnchanged, SpansName, bytes_of, next_serial, span_bytes};
+ghost use Rattle.neli_spans.specs.Spans.{AreNamed, AreSpansOf, IsUnchanged, SpansName, bytes_of, next_serial};
+ghost use Rattle.neli_spans.specs.Spans.{span_bytes};
 ghost use Rattle.neli_spans.specs.declared.span.Span.{Span as Part};
 ghost use Rattle.neli_log.specs.Contents.{span_of, spans_of};
 ghost use Rattle.neli_log.specs.Log.{kept_with};
@@ -66,8 +68,9 @@ pub(crate) fn keep_copy(
     ensures names { OnOk result ((old new : List Part) → SpansName datagrams.old old
         → AreSpansOf (next_serial datagrams.old) (length bytes.now) new → length new ≡ spans
         → SpansName datagrams.new (old ++ new)) }
-    ensures same_bytes { OnOk result ((old : List Part) (i : ℕ) (s : Part) → SpansName datagrams.old old
-        → slice_get old i ≡ Some s → span_bytes datagrams.new s ≡ span_bytes datagrams.old s) }
+    ensures same_bytes { OnOk result ((old : List Part) (i : ℕ) (s : Part)
+        → SpansName datagrams.old old → slice_get old i ≡ Some s
+        → span_bytes datagrams.new s ≡ span_bytes datagrams.old s) }
     ensures new_span { OnOk result ((s : Part) → 0 < spans
         → s.datagram ≡ next_serial datagrams.old
         → span_bytes datagrams.new s ≡ slice_range bytes.now s.start s.end) }

@@ -17,8 +17,9 @@
 //! When 4 reads its first message, the entry before 6's place goes, and the bytes of datagram 0 stay for the
 //! other two. What is refused is refused before anything changes.
 //!
-//! `specs/Contents.antt` says which delivery an entry is, `specs/Log.antt` what the fields hold, `specs/Next.antt` and
-//! `specs/Staged.antt` what a datagram brings, step by step.
+//! `specs/Contents.antt` says which delivery an entry is, `specs/Routed.antt` with whom what a datagram holds goes,
+//! `specs/Log.antt` what the fields hold, `specs/Next.antt` and `specs/Staged.antt` what a datagram brings, step by
+//! step.
 #![tactic(auto)]
 
 mod content;

@@ -1,13 +1,15 @@
 //! The log as a store of deliveries.
 
-ghost use Rattle.std.specs.Prelude.{◌≡◌, ◌≢◌, ◌↔◌, ◌≤◌, ◌+◌, ◌++◌, ℕ, List, [], ◌∷◌, Option, None, Some, IsOk, OnErr, OnOk, is_some, option_map, true};
+ghost use Rattle.std.specs.Prelude.{◌≡◌, ◌↔◌, ◌≤◌, ◌+◌, ℕ, List, [], ◌∷◌, Option, None, Some, IsOk, OnErr};
+ghost use Rattle.std.specs.Prelude.{OnOk, is_some, true};
 ghost use Rattle.neli_reader.specs.Agreement.{untyped_layout};
 ghost use Rattle.neli_reader.specs.Cuts.{cut_of};
 ghost use Rattle.neli_deliveries.specs.Lists.{ListsGain, SameLists, SameListsBut};
 ghost use Rattle.neli_deliveries.specs.declared.delivery.Delivery.{Delivery as Waiting};
 ghost use Rattle.neli_deliveries.specs.Deliveries.{datagram_share, fault_share, is_would_block};
-ghost use Rattle.neli_log.specs.Log.{IsAsBefore, KeepsEntries, KeepsNoMore, byte_count, entry_count, pending_of};
-ghost use Rattle.neli_log.specs.Staged.{delivery_count};
+ghost use Rattle.neli_log.specs.Log.{IsAsBefore, KeepsEachOnce, KeepsEntries, KeepsNoMore, byte_count, entry_count};
+ghost use Rattle.neli_log.specs.Log.{pending_of};
+ghost use Rattle.neli_log.specs.Routed.{datagram_routed};
 
 use crate::store::Store;
 use neli_consts::NlType;
@@ -21,8 +23,9 @@ use std::marker::Model;
 /// One list of entries, of which each open number and multicast have a place; their messages are spans of the
 /// datagrams that came.
 ///
-/// A routed message, a read and a close take a time that does not grow with the open numbers, nor with what waits;
-/// a stray or a fault is one entry, however many numbers are open.
+/// A stray or a fault is one entry, however many numbers are open. No clause speaks of time: as the code is written,
+/// a message for one handle costs a look-up by its number, and a read or a close that and what it lets go of, however
+/// many numbers are open and however much waits.
 #[derive(Drop)]
 pub struct Log {
     store: Store,
@@ -103,19 +106,21 @@ impl Deliveries for Log {
         self.store.close(whose);
     }
 
-    /// Each entry that comes is for somebody, and of a message or of the fault at the end comes one at most, however
-    /// many wait for it. The bytes are kept whole where a message of them is, and else not at all. Where memory runs
-    /// out, entries and bytes are as they were.
+    /// Each message that somebody gets comes as one entry, however many wait for it, and so does the fault at the
+    /// end; in the datagram's order, and nothing else comes. The bytes are kept whole where a message of them is, and
+    /// else not at all. Where memory runs out, entries and bytes are as they were.
     fn datagram(&mut self, bytes: &[u8], groups: &Groups) -> Result<(), NoMemory>
         ensures port { self.new.port ≡ self.old.port }
         ensures ok { OnOk result (ListsGain (λ w. datagram_share self.old.port
-            (λ q. is_some (pending_of self.old (Some q))) w (cut_of untyped_layout bytes.now) groups.now)
+            (λ q. is_some (pending_of self.old (Some q))) w
+            (cut_of untyped_layout bytes.now) groups.now)
             (pending_of self.old) (pending_of self.new)) }
         ensures err { OnErr result (SameLists (pending_of self.old) (pending_of self.new)) }
         ensures empty { bytes.now ≡ [] → IsOk result }
         ensures kept { OnOk result (KeepsEntries self.old self.new bytes.now) }
-        ensures once { entry_count self.new
-            ≤ entry_count self.old + delivery_count (cut_of untyped_layout bytes.now) }
+        ensures once { OnOk result (KeepsEachOnce self.old self.new (datagram_routed self.old.port
+            (λ q. is_some (pending_of self.old (Some q))) groups.now
+            (cut_of untyped_layout bytes.now))) }
         ensures left { OnErr result (IsAsBefore self.old self.new) }
     {
         self.store.datagram(bytes, groups)
@@ -147,10 +152,11 @@ impl Deliveries for Log {
 
     /// No entry and no byte more is kept than before.
     fn drop_first(&mut self, whose: Option<u32>)
-        requires { (d : Waiting) × (ds : List Waiting) × (pending_of self.old whose ≡ Some (d ∷ ds)) }
+        requires { (d : Waiting) × (ds : List Waiting)
+            × (pending_of self.old whose ≡ Some (d ∷ ds)) }
         ensures port { self.new.port ≡ self.old.port }
-        ensures taken { (d : Waiting) (ds : List Waiting) → pending_of self.old whose ≡ Some (d ∷ ds)
-            → pending_of self.new whose ≡ Some ds }
+        ensures taken { (d : Waiting) (ds : List Waiting)
+            → pending_of self.old whose ≡ Some (d ∷ ds) → pending_of self.new whose ≡ Some ds }
         ensures others { SameListsBut whose (pending_of self.old) (pending_of self.new) }
         ensures fewer { KeepsNoMore self.old self.new }
     {

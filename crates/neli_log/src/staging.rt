@@ -8,8 +8,9 @@ ghost use Rattle.neli_reader.specs.Cuts.{cut_of, message_before};
 ghost use Rattle.neli_deliveries.specs.Deliveries.{Untyped};
 ghost use Rattle.neli_lent.specs.Spans.{Spells};
 ghost use Rattle.neli_places.specs.Places.{pending_of};
-ghost use Rattle.neli_log.specs.Contents.{part_of, span_of};
-ghost use Rattle.neli_log.specs.Staged.{AreStaged, IsFound, cut_left, deliveries_due, deliveries_added};
+ghost use Rattle.neli_log.specs.Contents.{entry_read, part_of, span_of};
+ghost use Rattle.neli_log.specs.Routed.{message_routed};
+ghost use Rattle.neli_log.specs.Staged.{AreStaged, IsFound, cut_left, is_open};
 
 use crate::content::Content;
 use crate::next::{Address, next_message};
@@ -29,10 +30,10 @@ fn entry_of(
     address: Address,
     span: Span,
 ) -> Entry<Content>
-    ensures gains { (bytes : List ℕ) (u : Untyped) (w : Option ℕ) → Spells (part_of bytes span) u
+    ensures read { (bytes : List ℕ) (u : Untyped) → Spells (part_of bytes span) u
         → address.number ≡ u.0.sequence_number → address.port ≡ u.0.port
-        → deliveries_added bytes w (result ∷ [])
-        ≡ deliveries_due port (pending_of places.now) groups.now w (u ∷ [], None) }
+        → entry_read (part_of bytes) result
+        ≡ message_routed port (is_open (pending_of places.now)) groups.now u }
     ensures span { span_of result.item ≡ span ∷ [] }
 {
     if !groups.is_empty() {

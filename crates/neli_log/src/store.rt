@@ -1,6 +1,7 @@
 //! The parts of a log, and what is done to them.
 
-ghost use Rattle.std.specs.Prelude.{◌≡◌, ◌≢◌, ◌↔◌, ◌++◌, ◌+◌, ◌≤◌, ℕ, List, [], ◌∷◌, Option, None, Some, IfOk, IsOk, OnErr, OnOk, is_some, length, option_map, true};
+ghost use Rattle.std.specs.Prelude.{◌≡◌, ◌↔◌, ◌++◌, ◌+◌, ◌≤◌, ℕ, List, [], ◌∷◌, Option, None, Some, IfOk, IsOk};
+ghost use Rattle.std.specs.Prelude.{OnErr, OnOk, is_some, length, map, true};
 ghost use Rattle.neli_reader.specs.Agreement.{untyped_layout};
 ghost use Rattle.neli_reader.specs.Cuts.{cut_of};
 ghost use Rattle.neli_deliveries.specs.Lists.{ListsGain, SameLists, SameListsBut};
@@ -9,9 +10,11 @@ ghost use Rattle.neli_deliveries.specs.Deliveries.{fault_share, head_of, is_woul
 ghost use Rattle.neli_deliveries.specs.Readings.{IsFirst, IsReading};
 ghost use Rattle.neli_places.specs.Places.{pending_of as items_of};
 ghost use Rattle.neli_spans.specs.Spans.{AreSpansOf, next_serial, span_bytes};
-ghost use Rattle.neli_log.specs.Contents.{AreMessages, IsReadable, delivery_of, part_of, spans_of};
-ghost use Rattle.neli_log.specs.Log.{IsAsBefore, IsTrimmedAndBacked, IsUntrimmed, Keeps, KeepsEntries, KeepsNoMore, byte_count, entry_count, pending_of};
-ghost use Rattle.neli_log.specs.Staged.{HaveReaders, delivery_count, deliveries_added};
+ghost use Rattle.neli_log.specs.Contents.{AreMessages, IsReadable, delivery_of, entry_read, part_of, spans_of};
+ghost use Rattle.neli_log.specs.Log.{IsAsBefore, IsTrimmedAndBacked, IsUntrimmed, Keeps, KeepsEachOnce, KeepsEntries};
+ghost use Rattle.neli_log.specs.Log.{KeepsNoMore, byte_count, entries_read, entry_count, pending_of};
+ghost use Rattle.neli_log.specs.Routed.{datagram_routed};
+ghost use Rattle.neli_log.specs.Staged.{HaveReaders, deliveries_added};
 
 use crate::content::Content;
 use crate::handing::{keep_copy, push_all, release, span_count};
@@ -133,6 +136,8 @@ impl Store {
             (pending_of self.old) (pending_of self.new)) }
         ensures err { OnErr result (SameLists (pending_of self.old) (pending_of self.new)) }
         ensures kept { OnOk result (Keeps self.old self.new bytes.now entries.items) }
+        ensures read { OnOk result (entries_read self.new
+            ≡ entries_read self.old ++ map (entry_read (part_of bytes.now)) entries.items) }
         ensures left { OnErr result (IsAsBefore self.old self.new) }
         ensures log { IsTrimmedAndBacked self.new }
     {
@@ -148,13 +153,15 @@ impl Store {
         requires { IsTrimmedAndBacked self.old }
         ensures port { self.new.port ≡ self.old.port }
         ensures ok { OnOk result (ListsGain (λ w. datagram_share self.old.port
-            (λ q. is_some (pending_of self.old (Some q))) w (cut_of untyped_layout bytes.now) groups.now)
+            (λ q. is_some (pending_of self.old (Some q))) w
+            (cut_of untyped_layout bytes.now) groups.now)
             (pending_of self.old) (pending_of self.new)) }
         ensures err { OnErr result (SameLists (pending_of self.old) (pending_of self.new)) }
         ensures empty { bytes.now ≡ [] → IsOk result }
         ensures kept { OnOk result (KeepsEntries self.old self.new bytes.now) }
-        ensures once { entry_count self.new
-            ≤ entry_count self.old + delivery_count (cut_of untyped_layout bytes.now) }
+        ensures once { OnOk result (KeepsEachOnce self.old self.new (datagram_routed self.old.port
+            (λ q. is_some (pending_of self.old (Some q))) groups.now
+            (cut_of untyped_layout bytes.now))) }
         ensures left { OnErr result (IsAsBefore self.old self.new) }
         ensures log { IsTrimmedAndBacked self.new }
     {

@@ -7,12 +7,12 @@ returns-in_ok-push c = λ serial at bytes u cut rest h f.
     rw c.in_ok-push.ensures.items
     (staged_kept (pending_of c.args.places.now) c.args.port serial bytes c.args.groups.now cut c.args.entries.now.items
     at u rest c.entry_of-entry.result c.args.span c.args.address h f
-    (λ w. c.entry_of-entry.ensures.gains bytes u w f.spells f.number f.port) c.entry_of-entry.ensures.span
+    (c.entry_of-entry.ensures.read bytes u f.spells f.number f.port) c.entry_of-entry.ensures.span
     (c.has_reader.ensures.0 c.if-has_reader.true))
 
 pub returns-else-has_reader : goal.returns-else-has_reader
 returns-else-has_reader c = λ serial at bytes u cut rest h f.
     staged_skipped (pending_of c.args.places.now) c.args.port serial bytes c.args.groups.now cut
     c.args.entries.now.items at u rest c.entry_of-entry.result c.args.span c.args.address h f
-    (λ w. c.entry_of-entry.ensures.gains bytes u w f.spells f.number f.port)
+    (c.entry_of-entry.ensures.read bytes u f.spells f.number f.port)
     (λ r. (let yes = c.has_reader.ensures.1 r in let no = c.if-has_reader.false in cc))

@@ -3,46 +3,29 @@ use Rattle.std.proofs.lemmas.Bool.{eqb-true}
 use Rattle.neli_reader.specs.Agreement.{untyped_layout}
 use Rattle.neli_reader.specs.Cuts.{cut_of}
 use Rattle.neli_places.specs.Places.{pending_of}
-use Rattle.neli_log.specs.Staged.{AreStaged, cut_left}
+use Rattle.neli_log.specs.Staged.{AreStaged}
 use Rattle.neli_log.proofs.Stages.{before_within, cut_done, staged_further}
 use Rattle.neli_log.proofs.staging.stage_messages.Goals as goal
 
 pub returns-in-Some : goal.returns-in-Some
 returns-in-Some c =
     let bytes = c.args.bytes.now in
-    let old = c.loop-cursor.cursor in
     let new = c.stage_next.new.cursor in
-    let P = pending_of c.args.places.now in
     let cut = cut_of untyped_layout bytes in
     let inv = c.loop-cursor.invariant in
-    let start = subst (λ b. AreStaged P c.args.port c.args.serial b c.args.groups.now cut c.loop-cursor.entries.items
-    (length old.before) (cut_left old.rest None)) (sym inv.whole) inv.staged in
-    let after = c.in_ok-fault.ensures.staged cut start in
-    let stated = subst (λ b. AreStaged P c.args.port c.args.serial b c.args.groups.now cut
-    c.stage_next.new.entries.items (length new.before) (cut_left new.rest c.in_ok-fault.fault)) inv.whole after in
-    let fault = subst (λ f. AreStaged P c.args.port c.args.serial bytes c.args.groups.now cut
-    c.stage_next.new.entries.items (length new.before) (cut_left new.rest f)) c.in-Some.is stated in
-    staged_further P c.args.port c.args.serial bytes c.args.groups.now cut c.stage_next.new.entries.items
-    (length new.before) (length bytes) ([], Some c.in-Some.fault)
-    (before_within new.before new.rest bytes (c.in_ok-fault.ensures.moved ∙ inv.whole)) fault
+    let step = rw inv.whole at c.in_ok-fault.ensures.staged in
+    let staged = rw c.in-Some.is at (step cut inv.staged) in
+    staged_further (pending_of c.args.places.now) c.args.port c.args.serial bytes c.args.groups.now cut
+    c.stage_next.new.entries.items (length new.before) (length bytes) ([], Some c.in-Some.fault)
+    (before_within new.before new.rest bytes (c.in_ok-fault.ensures.moved ∙ inv.whole)) staged
 
 pub loop-cursor-preserved : goal.loop-cursor-preserved
 loop-cursor-preserved c =
-    let bytes = c.args.bytes.now in
-    let old = c.loop-cursor.cursor in
-    let new = c.stage_next.new.cursor in
-    let P = pending_of c.args.places.now in
-    let cut = cut_of untyped_layout bytes in
     let inv = c.loop-cursor.invariant in
-    let start = subst (λ b. AreStaged P c.args.port c.args.serial b c.args.groups.now cut c.loop-cursor.entries.items
-    (length old.before) (cut_left old.rest None)) (sym inv.whole) inv.staged in
-    let after = c.in_ok-fault.ensures.staged cut start in
-    let stated = subst (λ b. AreStaged P c.args.port c.args.serial b c.args.groups.now cut
-    c.stage_next.new.entries.items (length new.before) (cut_left new.rest c.in_ok-fault.fault)) inv.whole after in
+    let step = rw inv.whole at c.in_ok-fault.ensures.staged in
     record {
       whole = c.in_ok-fault.ensures.moved ∙ inv.whole;
-      staged = subst (λ f. AreStaged P c.args.port c.args.serial bytes c.args.groups.now cut
-          c.stage_next.new.entries.items (length new.before) (cut_left new.rest f)) c.in_default.is stated;
+      staged = rw c.in_default.is at (step (cut_of untyped_layout c.args.bytes.now) inv.staged);
     }
 
 pub returns : goal.returns

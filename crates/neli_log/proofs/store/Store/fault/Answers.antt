@@ -8,7 +8,8 @@ use Rattle.neli_places.specs.Routes.{items_for}
 use Rattle.neli_spans.specs.Spans.{span_bytes}
 use Rattle.neli_log.specs.Contents.{delivery_of}
 use Rattle.neli_log.proofs.Entries.{each_one}
-use Rattle.neli_log.proofs.Stores.{blocked_brings, fault_backed, fault_pending, keeps_none, mapped_nothing, unread_brings}
+use Rattle.neli_log.proofs.Stores.{blocked_brings, fault_backed, fault_pending, keeps_none, mapped_nothing}
+use Rattle.neli_log.proofs.Stores.{unread_brings}
 use Rattle.neli_log.proofs.store.Store.fault.Goals as goal
 
 pub returns-then-would_block-clause-ok : goal.returns-then-would_block-clause-ok

@@ -30,6 +30,7 @@ loop-content-preserved c =
           c.in-Some.ensures.same c.loop-content.invariant.backed c.release.ensures.names c.release.ensures.same_bytes;
       fewer = (
         (let one = ap length taken.1 in let so_far = c.loop-content.invariant.fewer.0 in omega (arith, one, so_far)),
-        (let now = c.release.ensures.bytes in let so_far = c.loop-content.invariant.fewer.1 in omega (arith, now, so_far)),
+        (let now = c.release.ensures.bytes in let so_far = c.loop-content.invariant.fewer.1 in
+            omega (arith, now, so_far)),
       );
     }
