@@ -1,5 +1,6 @@
 -- Pieces: deliveries on their way to the lists of their numbers.
-use Rattle.std.specs.Prelude.{◌≡◌, ◌+◌, ◌<◌, ◌^◌, ◌==◌, ℕ, Bool, if◌then◌else◌, List, [], length, is_some, Option, Some, nat_eq}
+use Rattle.std.specs.Prelude.{◌≡◌, ◌+◌, ◌<◌, ◌^◌, ◌==◌, ℕ, Bool, if◌then◌else◌, List, [], length, is_some, Option, Some}
+use Rattle.std.specs.Prelude.{nat_eq}
 use Rattle.std.specs.List.{flat_map}
 use Rattle.std.specs.HashMap.{HashMap, get}
 use Rattle.neli_deliveries.specs.declared.delivery.Delivery.{Delivery}

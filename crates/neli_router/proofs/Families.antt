@@ -1,5 +1,6 @@
 -- The request for a family is the frame that is said outright.
-use Rattle.std.proofs.Common.{◌≡◌, ℕ, ◌+◌, ◌*◌, ◌/◌, ◌≤◌, Bool, true, false, List, [], ◌∷◌, ◌++◌, length, Ok, refl, ap, arith, length-append}
+use Rattle.std.proofs.Common.{◌≡◌, ℕ, ◌+◌, ◌*◌, ◌/◌, ◌≤◌, Bool, true, false, List, [], ◌∷◌, ◌++◌, length, Ok, refl, ap}
+use Rattle.std.proofs.Common.{arith, length-append}
 use Rattle.std.specs.Prelude.{nat_lt, replicate}
 use Rattle.std.proofs.lemmas.Bool.{le-ltb}
 use Rattle.std.proofs.lemmas.List.{append-nil, length-replicate}
@@ -10,7 +11,8 @@ use Rattle.neli_consts.specs.declared.genl.CtrlAttr.{CtrlAttr}
 use Rattle.neli_consts.specs.declared.nlm_f.NlmF.{NlmF}
 use Rattle.neli_genl.specs.Genlmsghdr.{Attrs, attrs_size, attrs_wire}
 use Rattle.neli_reader.specs.Headers.{flags_of}
-use Rattle.neli_router.specs.Requests.{family_frame, family_request, family_sent, getfamily, getfamily_frame, name_attribute, name_bytes, name_text, sent_to_controller}
+use Rattle.neli_router.specs.Requests.{family_frame, family_request, family_sent, getfamily, getfamily_frame}
+use Rattle.neli_router.specs.Requests.{name_attribute, name_bytes, name_text, sent_to_controller}
 use Rattle.neli_router.specs.Sends.{with_request}
 
 -- a multiple of four wants no zeros

@@ -16,7 +16,8 @@ use Rattle.neli_reader.specs.RouterError.TheVariants as router
 use Rattle.neli_reader.specs.RouterErrors.{socket_of}
 use Rattle.neli_reader.specs.SocketErrors.{of_ser}
 use Rattle.neli_reader.specs.Wires.{message_wire}
-use Rattle.neli_router.specs.Sends.{RefusesSend, TakesMemory, as_request, request, request_length, frame_or_refusal, with_request}
+use Rattle.neli_router.specs.Sends.{RefusesSend, TakesMemory, as_request, request, request_length, frame_or_refusal}
+use Rattle.neli_router.specs.Sends.{with_request}
 
 module _ {T P : Type 0} (number_of : T → ℕ) (wire : P → Wire) (size : P → ℕ) where
   -- a refusal to write is that of the request

@@ -1,5 +1,6 @@
 -- Requests to the controller of generic netlink: for the family of a name, and for all families.
-use Rattle.std.specs.Prelude.{◌≡◌, ℕ, ◌+◌, ◌≤◌, Bool, false, List, [], ◌∷◌, ◌++◌, codes, length, nat_lt, if◌then◌else◌, Result, Ok, Err}
+use Rattle.std.specs.Prelude.{◌≡◌, ℕ, ◌+◌, ◌≤◌, Bool, false, List, [], ◌∷◌, ◌++◌, codes, length, nat_lt, if◌then◌else◌}
+use Rattle.std.specs.Prelude.{Result, Ok, Err}
 use Rattle.neli_wire.specs.Numbers.{little_bytes}
 use Rattle.neli_wire.specs.Writing.{zeros_for}
 use Rattle.neli_consts.specs.CtrlAttr.{ctrl_attr_number}

@@ -1,5 +1,6 @@
 -- Requests: their bytes, and why one is not sent.
-use Rattle.std.specs.Prelude.{◌≡◌, ℕ, ◌+◌, ◌%◌, ◌^◌, Bool, false, bit_or, List, codes, nat_lt, if◌then◌else◌, Result, Ok, Err, Some}
+use Rattle.std.specs.Prelude.{◌≡◌, ℕ, ◌+◌, ◌%◌, ◌^◌, Bool, false, bit_or, List, codes, nat_lt, if◌then◌else◌, Result}
+use Rattle.std.specs.Prelude.{Ok, Err, Some}
 use Rattle.neli_wire.specs.Sizes.{align}
 use Rattle.neli_wire.specs.Writing.{Wire}
 use Rattle.neli_consts.specs.declared.nlm_f.NlmF.{NlmF}

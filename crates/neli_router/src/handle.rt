@@ -1,4 +1,4 @@
-//! Who asked.
+//! The handle by which the answers to a request are read.
 
 ghost use Rattle.std.specs.Prelude.{◌≡◌};
 
@@ -9,15 +9,17 @@ use std::marker::{Model, PhantomData};
 pub struct HandleState {
     /// The sequence number of the request; none for multicast.
     pub number: Option<u32>,
-    /// An acknowledgement was asked for.
+    /// An acknowledgement was asked for: the request had the flag ACK, and not those of a dump.
     pub needs_ack: bool,
-    /// A reply was given after which nothing but an acknowledgement comes.
+    /// A whole reply was given, or the last message of one: the rule looks for nothing but an
+    /// acknowledgement after it.
     pub single_given: bool,
-    /// The last item was given.
+    /// The last item was given: a read gives the end.
     pub ended: bool,
 }
 
-/// The one who asked: gets the replies to a request, or the messages of multicast groups.
+/// The one who asked: it gets the replies to a request, or, of multicast, the messages that came to
+/// groups.
 ///
 /// `T` and `P` are the types that its messages are meant to be read as. A handle is known by its
 /// sequence number, so it belongs to the router that made it.

@@ -1,5 +1,5 @@
-//! The router, call by call: requests go out with a sequence number each, and each reply comes to
-//! the handle that asked for it.
+//! The router, call by call: requests go out with a sequence number each, and a reply that came to
+//! no group comes to the handle that asked for it.
 //!
 //! - [`NlRouter`]: sends, takes datagrams and faults of the link in, gives a handle its next item.
 //! - [`NlRouterReceiverHandle`]: who asked; by its sequence number, or none for multicast.

@@ -1,7 +1,9 @@
 //! Requests to the controller of generic netlink, which knows the number of each family.
 
-ghost use Rattle.std.specs.Prelude.{false, ◌≡◌, ◌≢◌, ◌≤◌, ℕ, [], ◌∷◌, Option, Some, Ok, IfOk, IfErr, OnOk, OnErr, is_some, length};
-ghost use Rattle.neli_router.specs.Requests.{FamilyTakesMemory, families_request, families_sent, family_request, family_sent, getfamily, name_attribute, sent_to_controller};
+ghost use Rattle.std.specs.Prelude.{false, ◌≡◌, ◌≢◌, ◌≤◌, ℕ, [], ◌∷◌, Option, Some, Ok, IfOk, IfErr, OnOk, OnErr};
+ghost use Rattle.std.specs.Prelude.{is_some, length};
+ghost use Rattle.neli_router.specs.Requests.{FamilyTakesMemory, families_request, families_sent, family_request};
+ghost use Rattle.neli_router.specs.Requests.{family_sent, getfamily, name_attribute, sent_to_controller};
 ghost use Rattle.neli_router.specs.Sends.{RefusesSend, asks, number_after};
 ghost use Rattle.neli_deliveries.specs.Lists.{SameLists, SameListsBut};
 

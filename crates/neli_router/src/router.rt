@@ -1,6 +1,7 @@
 //! The router's calls.
 
-ghost use Rattle.std.specs.Prelude.{true, false, ◌≡◌, ◌≢◌, ◌||◌, ℕ, List, [], ◌∷◌, ◌++◌, Option, None, Some, Ok, Err, IsOk, IfOk, IfErr, OnOk, OnErr, is_some, option_map};
+ghost use Rattle.std.specs.Prelude.{true, false, ◌≡◌, ◌≢◌, ◌||◌, ℕ, List, [], ◌∷◌, ◌++◌, Option, None, Some, Ok, Err};
+ghost use Rattle.std.specs.Prelude.{IsOk, IfOk, IfErr, OnOk, OnErr, is_some, option_map};
 ghost use Rattle.neli_reader.specs.Cuts.{cut_of};
 ghost use Rattle.neli_reader.specs.Agreement.{untyped_layout};
 ghost use Rattle.neli_deliveries.specs.Lists.{ListsGain, SameLists, SameListsBut};
@@ -22,7 +23,8 @@ use neli_wire::implementing::length_refusal;
 use neli_wire::{FromBytesWithInput, MsgError, NoMemory, Size, ToBytes};
 use std::alloc::Global;
 
-/// A router: gives each request a sequence number, and each reply to the handle that asked.
+/// A router: it gives each request a sequence number, and a reply that came to no group to the
+/// handle that asked.
 ///
 /// It has no link: requests come out as bytes, and the caller hands in the datagrams that arrive
 /// and the faults of the link. What waits for a handle is kept in a `D`; where nothing else is said
@@ -59,7 +61,7 @@ impl<D: Deliveries> NlRouter<D> {
         (router, handle)
     }
 
-    /// The port: requests carry it, and a message with another one is a stray.
+    /// The port: requests carry it, and a message that came to no group and has another one is a stray.
     pub fn pid(&self) -> u32
         ensures { result ≡ D.port_of self.now.deliveries }
     {
@@ -97,11 +99,13 @@ impl<D: Deliveries> NlRouter<D> {
         nl_payload: NlPayload<ST, SP>,
     ) -> Result<(Vec<u8>, NlRouterReceiverHandle<RT, RP>), RouterError<ST, SP>>
         ensures port { D.port_of self.new.deliveries ≡ D.port_of self.old.deliveries }
-        ensures bytes { IfOk result (λ r. frame_or_refusal ST.wire_number SP.wire SP.Size.wire_length
+        ensures bytes { IfOk result (λ r. frame_or_refusal
+            ST.wire_number SP.wire SP.Size.wire_length
             (D.port_of self.old.deliveries) self.old.next_seq
             (is_some (D.pending self.old.deliveries (Some self.old.next_seq)))
             nl_type nl_flags nl_payload ≡ Ok r.0.items) }
-        ensures refused { IfErr result (RefusesSend (frame_or_refusal ST.wire_number SP.wire SP.Size.wire_length
+        ensures refused { IfErr result (RefusesSend (frame_or_refusal
+            ST.wire_number SP.wire SP.Size.wire_length
             (D.port_of self.old.deliveries) self.old.next_seq
             (is_some (D.pending self.old.deliveries (Some self.old.next_seq)))
             nl_type nl_flags nl_payload)
@@ -132,17 +136,18 @@ impl<D: Deliveries> NlRouter<D> {
         Ok((bytes, handle))
     }
 
-    /// Takes in a datagram that came to these groups. Where these are none, each message goes to the handle
-    /// of its sequence number; a stray, which has another port than the router's or a number that is not
-    /// open, goes to the handle of every open number. Where there are groups, each message goes to multicast.
-    /// The fault at which a datagram ends goes to the handle of every open number in any case.
+    /// Takes in a datagram that came to these groups. Where these are none, a message with the router's
+    /// port and a number that is open goes to the handle of that number, and any other is a stray: it goes
+    /// to the handle of every open number. Where there are groups, each message goes to multicast, if that is
+    /// open. The fault at which a datagram ends goes to the handle of every open number in any case.
     ///
     /// Refused only where memory runs out, and then nothing is handed to anybody.
     pub fn processing_loop(&mut self, bytes: &[u8], groups: &Groups) -> Result<(), NoMemory>
         ensures port { D.port_of self.new.deliveries ≡ D.port_of self.old.deliveries }
         ensures next_seq { self.new.next_seq ≡ self.old.next_seq }
         ensures ok { OnOk result (ListsGain (λ w. datagram_share (D.port_of self.old.deliveries)
-            (λ q. is_some (D.pending self.old.deliveries (Some q))) w (cut_of untyped_layout bytes.now) groups.now)
+            (λ q. is_some (D.pending self.old.deliveries (Some q))) w
+            (cut_of untyped_layout bytes.now) groups.now)
             (D.pending self.old.deliveries) (D.pending self.new.deliveries)) }
         ensures err { OnErr result (SameLists
             (D.pending self.old.deliveries) (D.pending self.new.deliveries)) }
@@ -253,10 +258,11 @@ fn frame<ST: NlType, SP: ToBytes + Drop>(
     port: u32,
     nl_payload: NlPayload<ST, SP>,
 ) -> Result<Vec<u8>, RouterError<ST, SP>>
-    ensures bytes { IfOk result (λ bytes. frame_or_refusal ST.wire_number SP.wire SP.Size.wire_length
-        port number false nl_type nl_flags nl_payload ≡ Ok bytes.items) }
-    ensures refused { IfErr result (RefusesSend (frame_or_refusal ST.wire_number SP.wire SP.Size.wire_length
-        port number false nl_type nl_flags nl_payload)
+    ensures bytes { IfOk result (λ bytes. frame_or_refusal
+        ST.wire_number SP.wire SP.Size.wire_length port number false nl_type nl_flags nl_payload
+        ≡ Ok bytes.items) }
+    ensures refused { IfErr result (RefusesSend (frame_or_refusal
+        ST.wire_number SP.wire SP.Size.wire_length port number false nl_type nl_flags nl_payload)
         (TakesMemory ST.wire_number SP.wire SP.Size.wire_length false nl_payload)) }
 {
     let request = NlmsghdrBuilder::default()
