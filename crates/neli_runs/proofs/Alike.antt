@@ -1,5 +1,6 @@
 -- Histories in which the same requests were sent and the same handles closed, and what is right after them.
-use Rattle.std.proofs.Common.{ℕ, zero, suc, ◌≡◌, Bool, true, false, ◌&&◌, All, List, [], ◌∷◌, ◌++◌, Option, Some, None, Result, refl, sym, ap, subst, ◌∙◌, arith}
+use Rattle.std.proofs.Common.{ℕ, zero, suc, ◌≡◌, Bool, true, false, ◌&&◌, All, List, [], ◌∷◌, ◌++◌, Option, Some, None}
+use Rattle.std.proofs.Common.{Result, refl, sym, ap, subst, ◌∙◌, arith}
 use Rattle.std.specs.Prelude.{◌==◌}
 use Rattle.std.proofs.lemmas.Bool.Decides.{nat_tests}
 use Rattle.std.proofs.lemmas.List.Elements.{All-head, All-tail}
@@ -13,8 +14,11 @@ use Rattle.neli_runs.specs.declared.command.Command.{Command}
 use Rattle.neli_runs.specs.declared.command.Command.TheVariants as command
 use Rattle.neli_runs.specs.declared.command.Outcome.{Outcome}
 use Rattle.neli_runs.specs.Deliveries.{deliveries, handed_over}
-use Rattle.neli_runs.specs.History.{Event, History, any_upto, last_set_number, is_closed, is_handle_open, is_open, items_of, needs_of, next_number, number_of, reads, requests_sent, requests_since_set, list_of_handle, with_item}
-use Rattle.neli_runs.specs.Outcomes.{EachAfter, IsAnswered, IsNextAnswer, IsReadOf, IsSending, IsSent, closed_or_not, is_numbered}
+use Rattle.neli_runs.specs.History.{Event, History, any_upto, last_set_number, is_closed, is_handle_open, is_open}
+use Rattle.neli_runs.specs.History.{items_of, needs_of, next_number, number_of, reads, requests_sent}
+use Rattle.neli_runs.specs.History.{requests_since_set, list_of_handle, with_item}
+use Rattle.neli_runs.specs.Outcomes.{EachAfter, IsAnswered, IsNextAnswer, IsReadOf, IsSending, IsSent, closed_or_not}
+use Rattle.neli_runs.specs.Outcomes.{is_numbered}
 use Rattle.neli_runs.specs.laws.Deliveries.{deliveries-more}
 
 -- the same where the same numbers are open

@@ -1,12 +1,14 @@
 -- The one place at which answers end, step by step.
-use Rattle.std.proofs.Common.{ℕ, zero, suc, ◌≡◌, ◌≤◌, Bool, true, false, not, ◌||◌, min, List, [], ◌∷◌, ◌++◌, length, Option, Some, None, refl, sym, ap, ◌∙◌, inl, inr, ◌⊎◌, arith}
+use Rattle.std.proofs.Common.{ℕ, zero, suc, ◌≡◌, ◌≤◌, Bool, true, false, not, ◌||◌, min, List, [], ◌∷◌, ◌++◌, length}
+use Rattle.std.proofs.Common.{Option, Some, None, refl, sym, ap, ◌∙◌, inl, inr, ◌⊎◌, arith}
 use Rattle.std.specs.Prelude.{nat_lt, ◌==◌, if◌then◌else◌}
 use Rattle.std.specs.List.{slice_get}
 use Rattle.std.proofs.lemmas.Grind.{common_steps}
 use Rattle.std.proofs.lemmas.Bool.Decides.{nat_tests}
 use Rattle.neli_deliveries.specs.Readings.{Item}
 use Rattle.neli_router.specs.declared.reply.Reply.TheVariants as reply
-use Rattle.neli_router.specs.Rule.{answer, answer_at, ends_alone, ends_at, first_place, is_single, item_of, last_item, last_place, single_place}
+use Rattle.neli_router.specs.Rule.{answer, answer_at, ends_alone, ends_at, first_place, is_single, item_of, last_item}
+use Rattle.neli_router.specs.Rule.{last_place, single_place}
 
 pub lt_suc : (m n : ℕ) → nat_lt (suc m) (suc n) ≡ nat_lt m n
 lt_suc m n = grind (arith, nat_tests)

@@ -1,5 +1,6 @@
 -- Datagrams that come one after the other hand over what their bytes say together.
-use Rattle.std.proofs.Common.{ℕ, ◌≡◌, ◌<◌, Bool, true, false, List, [], ◌∷◌, ◌++◌, Option, Some, None, refl, sym, ap, subst, ◌∙◌, append_assoc, arith}
+use Rattle.std.proofs.Common.{ℕ, ◌≡◌, ◌<◌, Bool, true, false, List, [], ◌∷◌, ◌++◌, Option, Some, None, refl, sym, ap}
+use Rattle.std.proofs.Common.{subst, ◌∙◌, append_assoc, arith}
 use Rattle.std.specs.Prelude.{⊤, if◌then◌else◌}
 use Rattle.std.proofs.lemmas.List.{append-nil, map-append}
 use Rattle.std.proofs.lemmas.List.Concat.{flat_map-append}
@@ -19,7 +20,8 @@ use Rattle.neli_runs.specs.History.{History, is_handle_open, is_open, items_of, 
 use Rattle.neli_runs.specs.Outcomes.{EachAfter}
 use Rattle.neli_runs.specs.Regrouping.{AreWholeBeforeLast, Bytes, IsRegrouped, IsWhole, history_with, concatenation}
 use Rattle.neli_runs.specs.laws.Deliveries.{deliveries-more}
-use Rattle.neli_runs.proofs.Alike.{IsAlike, IsSameFor, alike-after, alike-back, alike-both, alike-self, alike_live, alike_open, alike_whose, deliveries-after, each-same, received_same}
+use Rattle.neli_runs.proofs.Alike.{IsAlike, IsSameFor, alike-after, alike-back, alike-both, alike-self, alike_live}
+use Rattle.neli_runs.proofs.Alike.{alike_open, alike_whose, deliveries-after, each-same, received_same}
 
 -- ---- the cut of bytes that are joined
 

@@ -1,5 +1,7 @@
 -- What a session keeps of a history, one command further.
-use Rattle.std.proofs.Common.{ℕ, zero, suc, ◌≡◌, ◌≢◌, ◌+◌, ◌%◌, ◌^◌, ◌≤◌, ◌<◌, Bool, true, false, ◌&&◌, ◌||◌, List, [], ◌∷◌, ◌++◌, length, drop, Option, Some, None, Result, refl, sym, ap, ◌∙◌, inl, inr, ◌⊎◌, arith}
+use Rattle.std.proofs.Common.{ℕ, zero, suc, ◌≡◌, ◌≢◌, ◌+◌, ◌%◌, ◌^◌, ◌≤◌, ◌<◌, Bool, true, false, ◌&&◌, ◌||◌, List, []}
+use Rattle.std.proofs.Common.{◌∷◌, ◌++◌, length, drop, Option, Some, None, Result, refl, sym, ap, ◌∙◌, inl, inr, ◌⊎◌}
+use Rattle.std.proofs.Common.{arith}
 use Rattle.std.specs.Prelude.{nat_lt, nat_le, ◌==◌, if◌then◌else◌}
 use Rattle.std.specs.Option.{is_some, option_map}
 use Rattle.std.proofs.lemmas.Grind.{common_steps}
@@ -20,13 +22,16 @@ use Rattle.neli_runs.specs.declared.command.Command.{Command}
 use Rattle.neli_runs.specs.declared.command.Command.TheVariants as command
 use Rattle.neli_runs.specs.declared.command.Outcome.{Outcome}
 use Rattle.neli_runs.specs.declared.command.Outcome.TheVariants as outcome
-use Rattle.neli_runs.specs.History.{History, any_upto, last_set_number, is_closed, is_handle_open, is_open, is_sent, items_of, needs_of, next_number, number_of, requests_sent, requests_since_set, list_of_handle}
+use Rattle.neli_runs.specs.History.{History, any_upto, last_set_number, is_closed, is_handle_open, is_open, is_sent}
+use Rattle.neli_runs.specs.History.{items_of, needs_of, next_number, number_of, requests_sent, requests_since_set}
+use Rattle.neli_runs.specs.History.{list_of_handle}
 use Rattle.neli_runs.specs.Outcomes.{is_numbered}
 use Rattle.neli_runs.specs.laws.Deliveries.{delivered}
 use Rattle.neli_runs.specs.laws.Kept.{Agrees, IsFresh, IsKept, IsOwned, IsSlot, Pending, multicast}
 use Rattle.neli_runs.proofs.Alike.{received_same}
 use Rattle.neli_runs.proofs.Places.{lt_zero}
-use Rattle.neli_runs.proofs.Readings.{answer_push, drop_append, drop_rest, drop_within, last_push, length_push, readings_append, readings_push, single_push, were_grow, were_push}
+use Rattle.neli_runs.proofs.Readings.{answer_push, drop_append, drop_rest, drop_within, last_push, length_push}
+use Rattle.neli_runs.proofs.Readings.{readings_append, readings_push, single_push, were_grow, were_push}
 
 -- ---- numbers and options
 
@@ -646,7 +651,8 @@ module _ {ST SP K P V : Type 0} (type_of : ℕ → K) (number : K → ℕ) (view
     }
     more_slot k (Some None) x = more_live k ∙ x
     more_slot k (Some (Some handle)) x =
-        let all : delivered port k h' ≡ delivered port k h ++ more (list_of_handle k h) = handed k ∙ rw x.1.live refl in (
+        let all : delivered port k h' ≡ delivered port k h ++ more (list_of_handle k h) =
+        handed k ∙ rw x.1.live refl in (
           x.0,
           record {
             live = more_live k ∙ x.1.live;

@@ -1,5 +1,7 @@
 -- The steps of a session, with their outcomes.
-use Rattle.std.proofs.Common.{ℕ, zero, suc, ◌≡◌, ◌≢◌, ◌+◌, ◌%◌, ◌^◌, Bool, true, false, ◌||◌, List, [], ◌∷◌, ◌++◌, length, drop, Option, Some, None, Result, Ok, Err, refl, sym, ap, subst, ◌∙◌, inl, inr, arith}
+use Rattle.std.proofs.Common.{ℕ, zero, suc, ◌≡◌, ◌≢◌, ◌+◌, ◌%◌, ◌^◌, Bool, true, false, ◌||◌, List, [], ◌∷◌, ◌++◌}
+use Rattle.std.proofs.Common.{length, drop, Option, Some, None, Result, Ok, Err, refl, sym, ap, subst, ◌∙◌, inl, inr}
+use Rattle.std.proofs.Common.{arith}
 use Rattle.std.specs.Prelude.{nat_lt, if◌then◌else◌}
 use Rattle.std.specs.List.{slice_get}
 use Rattle.std.specs.Option.{is_some, option_map}
@@ -22,13 +24,16 @@ use Rattle.neli_runs.specs.declared.command.Command.{Command}
 use Rattle.neli_runs.specs.declared.command.Command.TheVariants as command
 use Rattle.neli_runs.specs.declared.command.Outcome.{Outcome}
 use Rattle.neli_runs.specs.declared.command.Outcome.TheVariants as outcome
-use Rattle.neli_runs.specs.History.{History, is_handle_open, is_open, is_sent, items_of, needs_of, next_number, list_of_handle}
+use Rattle.neli_runs.specs.History.{History, is_handle_open, is_open, is_sent, items_of, needs_of, next_number}
+use Rattle.neli_runs.specs.History.{list_of_handle}
 use Rattle.neli_runs.specs.Outcomes.{IsNextAnswer, IsSending, is_numbered, outcome_of}
 use Rattle.neli_runs.specs.laws.Deliveries.{delivered, deliveries-delivered}
 use Rattle.neli_runs.specs.laws.Kept.{Agrees, StepKeeps, Handles, Holds, IsKept, IsSlot, Pending, StepIsRight}
 use Rattle.neli_runs.proofs.Lists.{list_or, none_of, set_again, set_at, set_other, set_set}
 use Rattle.neli_runs.proofs.Readings.{drop_none, length_push, next_end, next_item, next_waits, push_at, push_other}
-use Rattle.neli_runs.proofs.Steps.{agrees_close, agrees_close_none, agrees_handed, agrees_pending, agrees_read, agrees_read_end, agrees_read_none, agrees_read_waits, agrees_sent, agrees_unsent, handed_by, hands_over, open_test}
+use Rattle.neli_runs.proofs.Steps.{agrees_close, agrees_close_none, agrees_handed, agrees_pending, agrees_read}
+use Rattle.neli_runs.proofs.Steps.{agrees_read_end, agrees_read_none, agrees_read_waits, agrees_sent, agrees_unsent}
+use Rattle.neli_runs.proofs.Steps.{handed_by, hands_over, open_test}
 use Rattle.neli_runs.proofs.Places.{true_or_false}
 
 -- a refusal of a request that is not for memory is its outcome

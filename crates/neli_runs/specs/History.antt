@@ -1,5 +1,7 @@
--- A history: commands with what came of them, the latest first. What follows an event in the list is the history before it.
-use Rattle.std.specs.Prelude.{ℕ, zero, suc, ◌+◌, ◌%◌, ◌^◌, Bool, true, false, not, ◌&&◌, ◌||◌, ◌==◌, nat_le, if◌then◌else◌, List, [], ◌∷◌, ◌++◌, Option, Some, None}
+-- A history: commands with what came of them, the latest first. What follows an event in the list is the history before
+-- it.
+use Rattle.std.specs.Prelude.{ℕ, zero, suc, ◌+◌, ◌%◌, ◌^◌, Bool, true, false, not, ◌&&◌, ◌||◌, ◌==◌, nat_le}
+use Rattle.std.specs.Prelude.{if◌then◌else◌, List, [], ◌∷◌, ◌++◌, Option, Some, None}
 use Rattle.neli_deliveries.specs.Readings.{Item}
 use Rattle.neli_router.specs.Rule.{needs_ack}
 use Rattle.neli_runs.specs.declared.command.Command.{Command}

@@ -14,7 +14,8 @@ ghost use Rattle.neli_router.specs.declared.reply.Reply.TheVariants as reply;
 ghost use Rattle.neli_router.specs.Rule.{answer};
 ghost use Rattle.neli_router.specs.Sends.{frame_or_refusal, request};
 ghost use Rattle.neli_runs.specs.Deliveries.{deliveries};
-ghost use Rattle.neli_runs.specs.History.{History, is_handle_open, is_open, is_sent, items_of, needs_of, list_of_handle};
+ghost use Rattle.neli_runs.specs.History.{History, is_handle_open, is_open, is_sent, items_of, needs_of};
+ghost use Rattle.neli_runs.specs.History.{list_of_handle};
 ghost use Rattle.neli_runs.specs.OtherReads.{NoneReads};
 ghost use Rattle.neli_runs.specs.Outcomes.{EachAfter, IsAnswered, IsNextAnswer, IsSent, outcome_of};
 ghost use Rattle.neli_runs.specs.Regrouping.{Bytes, IsRegrouped, IsWhole, history_with};
@@ -23,8 +24,9 @@ use crate::{Command, Outcome};
 use neli_consts::NlType;
 use neli_wire::{FromBytesWithInput, Size, ToBytes};
 
-/// The bytes that are sent are one frame: read as a datagram they are one message, with the type, the flags and REQUEST,
-/// the sequence number and the port, and with the payload's bytes and zeros up to a multiple of four; and no fault.
+/// The bytes that are sent are one frame: read as a datagram they are one message, with the type, the flags and
+/// REQUEST, the sequence number and the port, and with the payload's bytes and zeros up to a multiple of four; and no
+/// fault.
 pub fn request_is_one_frame<ST: NlType, SP: ToBytes>()
     ensures { (port number : ℕ) (in_use : Bool) (t : ST) (flags : Flags) (payload : Payload ST SP)
         (bytes : List ℕ) → port < 4294967296 → number < 4294967296 → ST.wire_number t < 65536

@@ -4,7 +4,7 @@ ghost use Rattle.std.specs.Prelude.{◌≡◌, ◌≢◌, ◌<◌, ℕ, ◌∷�
 ghost use Rattle.std.specs.List.{slice_get};
 ghost use Rattle.std.proofs.Math.ListN.{set};
 ghost use Rattle.neli_runs.specs.Outcomes.{outcome_of};
-ghost use Rattle.neli_runs.specs.laws.Kept.{StepKeeps, StepIsRight, multicast};
+ghost use Rattle.neli_runs.specs.laws.Kept.{IsStep, multicast};
 
 use crate::{Command, Deliveries, NlRouter, NlRouterReceiverHandle, Outcome, Reply};
 use neli_consts::{NlType, NlmF};
@@ -67,12 +67,10 @@ impl<D: Deliveries + Drop, RT: NlType, RP: FromBytesWithInput + Size + Drop> Ses
     ) -> Result<Outcome<ST, SP, RT, RP>, NoMemory>
         ensures port { OnOk result
             (D.port_of self.new.router.deliveries ≡ D.port_of self.old.router.deliveries) }
-        ensures goes { IfOk result (λ o. StepKeeps
+        ensures goes { IfOk result (λ o. IsStep
             RT.wire_value RT.wire_number RP.view RP.wire_length RP.read
-            (StepIsRight RT.wire_value RT.wire_number RP.view RP.wire_length RP.read
-            ST.wire_number SP.wire SP.Size.wire_length (D.port_of self.old.router.deliveries))
-            (D.port_of self.old.router.deliveries) self.old.router.next_seq
-            (D.pending self.old.router.deliveries) self.old.handles.items
+            ST.wire_number SP.wire SP.Size.wire_length (D.port_of self.old.router.deliveries)
+            self.old.router.next_seq (D.pending self.old.router.deliveries) self.old.handles.items
             self.new.router.next_seq (D.pending self.new.router.deliveries) self.new.handles.items
             (Command.Send nl_type nl_flags nl_payload) o) }
     {
@@ -95,12 +93,10 @@ impl<D: Deliveries + Drop, RT: NlType, RP: FromBytesWithInput + Size + Drop> Ses
     ) -> Result<Outcome<ST, SP, RT, RP>, NoMemory>
         ensures port { OnOk result
             (D.port_of self.new.router.deliveries ≡ D.port_of self.old.router.deliveries) }
-        ensures goes { IfOk result (λ o. StepKeeps
+        ensures goes { IfOk result (λ o. IsStep
             RT.wire_value RT.wire_number RP.view RP.wire_length RP.read
-            (StepIsRight RT.wire_value RT.wire_number RP.view RP.wire_length RP.read
-            ST.wire_number SP.wire SP.Size.wire_length (D.port_of self.old.router.deliveries))
-            (D.port_of self.old.router.deliveries) self.old.router.next_seq
-            (D.pending self.old.router.deliveries) self.old.handles.items
+            ST.wire_number SP.wire SP.Size.wire_length (D.port_of self.old.router.deliveries)
+            self.old.router.next_seq (D.pending self.old.router.deliveries) self.old.handles.items
             self.new.router.next_seq (D.pending self.new.router.deliveries) self.new.handles.items
             (Command.Read k) o) }
     {
@@ -117,12 +113,10 @@ impl<D: Deliveries + Drop, RT: NlType, RP: FromBytesWithInput + Size + Drop> Ses
 
     fn close<ST: NlType, SP: ToBytes + Drop>(&mut self, k: usize) -> Outcome<ST, SP, RT, RP>
         ensures port { D.port_of self.new.router.deliveries ≡ D.port_of self.old.router.deliveries }
-        ensures goes { StepKeeps
+        ensures goes { IsStep
             RT.wire_value RT.wire_number RP.view RP.wire_length RP.read
-            (StepIsRight RT.wire_value RT.wire_number RP.view RP.wire_length RP.read
-            ST.wire_number SP.wire SP.Size.wire_length (D.port_of self.old.router.deliveries))
-            (D.port_of self.old.router.deliveries) self.old.router.next_seq
-            (D.pending self.old.router.deliveries) self.old.handles.items
+            ST.wire_number SP.wire SP.Size.wire_length (D.port_of self.old.router.deliveries)
+            self.old.router.next_seq (D.pending self.old.router.deliveries) self.old.handles.items
             self.new.router.next_seq (D.pending self.new.router.deliveries) self.new.handles.items
             (Command.Close k) result }
     {
@@ -143,12 +137,10 @@ impl<D: Deliveries + Drop, RT: NlType, RP: FromBytesWithInput + Size + Drop> Ses
     ) -> Result<Outcome<ST, SP, RT, RP>, NoMemory>
         ensures port { OnOk result
             (D.port_of self.new.router.deliveries ≡ D.port_of self.old.router.deliveries) }
-        ensures goes { IfOk result (λ o. StepKeeps
+        ensures goes { IfOk result (λ o. IsStep
             RT.wire_value RT.wire_number RP.view RP.wire_length RP.read
-            (StepIsRight RT.wire_value RT.wire_number RP.view RP.wire_length RP.read
-            ST.wire_number SP.wire SP.Size.wire_length (D.port_of self.old.router.deliveries))
-            (D.port_of self.old.router.deliveries) self.old.router.next_seq
-            (D.pending self.old.router.deliveries) self.old.handles.items
+            ST.wire_number SP.wire SP.Size.wire_length (D.port_of self.old.router.deliveries)
+            self.old.router.next_seq (D.pending self.old.router.deliveries) self.old.handles.items
             self.new.router.next_seq (D.pending self.new.router.deliveries) self.new.handles.items
             command o) }
     {

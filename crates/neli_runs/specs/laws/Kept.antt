@@ -1,5 +1,6 @@
 -- What a session keeps of a history: the router's lists, and of each handle what its reads need.
-use Rattle.std.specs.Prelude.{ℕ, suc, ◌≡◌, ◌≤◌, true, false, nat_lt, nat_le, List, [], ◌∷◌, drop, length, Option, Some, None, Result}
+use Rattle.std.specs.Prelude.{ℕ, suc, ◌≡◌, ◌≤◌, true, false, nat_lt, nat_le, List, [], ◌∷◌, drop, length, Option, Some}
+use Rattle.std.specs.Prelude.{None, Result}
 use Rattle.std.specs.List.{slice_get}
 use Rattle.neli_wire.specs.DeError.{DeError}
 use Rattle.neli_wire.specs.Writing.{Wire}
@@ -9,7 +10,8 @@ use Rattle.neli_router.specs.declared.handle.HandleState.{HandleState}
 use Rattle.neli_router.specs.Rule.{last_place, single_place}
 use Rattle.neli_runs.specs.declared.command.Command.{Command}
 use Rattle.neli_runs.specs.declared.command.Outcome.{Outcome}
-use Rattle.neli_runs.specs.History.{History, is_closed, is_handle_open, items_of, needs_of, next_number, requests_sent, list_of_handle}
+use Rattle.neli_runs.specs.History.{History, is_closed, is_handle_open, items_of, needs_of, next_number, requests_sent}
+use Rattle.neli_runs.specs.History.{list_of_handle}
 use Rattle.neli_runs.specs.Outcomes.{AreReadings, IsAnswered, IsSent, WereAnswers, is_numbered}
 use Rattle.neli_runs.specs.laws.Deliveries.{delivered}
 
@@ -89,3 +91,13 @@ abbrev pub StepIsRight : {ST SP K P V : Type 0} → (ℕ → K) → (K → ℕ) 
     → (ST → ℕ) → (SP → Wire) → (SP → ℕ) → ℕ → History ST SP K P → Command ST SP → Outcome ST SP K P → Type 0
 StepIsRight type_of number view size read number_of wire wire_size port h c o =
     IsSent number_of wire wire_size port h c o × IsAnswered type_of number view size read port h c o
+
+-- a step of a session: its command with this outcome leads from what is kept of any history to what is kept of it and
+-- the command, and the outcome is right
+abbrev pub IsStep : {ST SP K P V : Type 0} → (ℕ → K) → (K → ℕ) → (P → V) → (P → ℕ) → (List ℕ → Result V DeError)
+    → (ST → ℕ) → (SP → Wire) → (SP → ℕ) → ℕ → ℕ → Pending → Handles → ℕ → Pending → Handles → Command ST SP
+    → Outcome ST SP K P → Type 0
+IsStep type_of number view size read number_of wire wire_size port next pending handles next' pending' handles' c o =
+    StepKeeps type_of number view size read
+    (StepIsRight type_of number view size read number_of wire wire_size port)
+    port next pending handles next' pending' handles' c o

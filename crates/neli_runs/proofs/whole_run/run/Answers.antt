@@ -33,8 +33,17 @@ loop-command-preserved g c =
       port = c.in_ok-outcome.ensures.port ∙ inv.port;
       all = append_assoc c.loop-command.yielded (c.in-Some.command ∷ []) c.next.new.self.rest.items
           ∙ (ap (λ xs. c.loop-command.yielded ++ xs) (sym c.in-Some.ensures.steps.0) ∙ inv.all);
-      says = rw c.in_ok-push.ensures.items (each_push (StepIsRight g.RT.Constant.wire_value g.RT.Constant.wire_number g.RP.FromBytesWithInput.view g.RP.Size.wire_length g.RP.FromBytesWithInput.read g.ST.Constant.wire_number g.SP.ToBytes.wire g.SP.Size.wire_length c.args.pid) [] c.loop-command.yielded c.loop-command.outcomes.items c.in-Some.command c.in_ok-outcome.outcome inv.says one.0);
-      holds = rw (c.in_ok-push.ensures.items, past_push (StepIsRight g.RT.Constant.wire_value g.RT.Constant.wire_number g.RP.FromBytesWithInput.view g.RP.Size.wire_length g.RP.FromBytesWithInput.read g.ST.Constant.wire_number g.SP.ToBytes.wire g.SP.Size.wire_length c.args.pid) [] c.loop-command.yielded c.loop-command.outcomes.items c.in-Some.command c.in_ok-outcome.outcome inv.says) one.1;
+      says = rw c.in_ok-push.ensures.items (each_push (StepIsRight g.RT.Constant.wire_value g.RT.Constant.wire_number
+          g.RP.FromBytesWithInput.view g.RP.Size.wire_length g.RP.FromBytesWithInput.read g.ST.Constant.wire_number
+          g.SP.ToBytes.wire g.SP.Size.wire_length c.args.pid) [] c.loop-command.yielded c.loop-command.outcomes.items
+          c.in-Some.command c.in_ok-outcome.outcome inv.says one.0);
+      holds = rw (
+        c.in_ok-push.ensures.items,
+        past_push (StepIsRight g.RT.Constant.wire_value g.RT.Constant.wire_number
+            g.RP.FromBytesWithInput.view g.RP.Size.wire_length g.RP.FromBytesWithInput.read g.ST.Constant.wire_number
+            g.SP.ToBytes.wire g.SP.Size.wire_length c.args.pid) [] c.loop-command.yielded c.loop-command.outcomes.items
+            c.in-Some.command c.in_ok-outcome.outcome inv.says,
+      ) one.1;
     }
 
 pub returns-clause-sent : goal.returns-clause-sent

@@ -13,7 +13,10 @@ returns-in_ok-push-in-Ok-clause-goes g c =
     c.args.nl_type c.args.nl_flags c.args.nl_payload (outcome.Sent c.in-Ok.bytes) c.in-Ok.bytes.items
     (g.D.Deliveries.pending c.args.self.now.router.deliveries)
     (g.D.Deliveries.pending c.send.new.self.deliveries) c.args.self.now.handles.items c.in-Ok.handle
-    refl (λ h k. refl) (λ result is. is) c.in-Ok.ensures.bytes (sent-free (is_some (g.D.Deliveries.pending c.args.self.now.router.deliveries (Some c.args.self.now.router.next_seq))) _ _ _ c.in-Ok.ensures.bytes) c.in-Ok.ensures.next_seq c.in-Ok.ensures.opened c.in-Ok.ensures.others c.in-Ok.ensures.handle)
+    refl (λ h k. refl) (λ result is. is) c.in-Ok.ensures.bytes
+    (sent-free (is_some (g.D.Deliveries.pending c.args.self.now.router.deliveries
+    (Some c.args.self.now.router.next_seq))) _ _ _ c.in-Ok.ensures.bytes)
+    c.in-Ok.ensures.next_seq c.in-Ok.ensures.opened c.in-Ok.ensures.others c.in-Ok.ensures.handle)
 
 pub returns-in_default : goal.returns-in_default
 returns-in_default g c = record {
