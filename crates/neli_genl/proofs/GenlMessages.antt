@@ -8,10 +8,12 @@ use Rattle.neli_attr.specs.Attributes.{attribute, attributes_in}
 use Rattle.neli_attr.specs.Nlattr.{nlattr_says, nlattr_wire}
 use Rattle.neli_attr.specs.TypeField.{number_of, type_of}
 use Rattle.neli_attr.specs.declared.nlattr.Nlattr.{Nlattr}
-use Rattle.neli_attr.specs.laws.RoundTrips.{IsWrittenAs, attribute-written, list-reads_back, number_of-small, type_of-named}
+use Rattle.neli_attr.specs.laws.RoundTrips.{IsWrittenAs, attribute-written, list-reads_back, number_of-small}
+use Rattle.neli_attr.specs.laws.RoundTrips.{type_of-named}
 use Rattle.neli_body.specs.laws.Headers.{number-back, value-back}
 use Rattle.neli_genl.specs.Genlmsghdr.{Attrs, AttributesRead, attrs_wire, genlmsghdr_bytes, parts_of}
-use Rattle.neli_genl.specs.RoundTrips.{ArePlainNlattrs, GenlReadsBack, GenlReadsBackWhole, IsPlainGenlmsghdr, IsPlainNlattr}
+use Rattle.neli_genl.specs.RoundTrips.{ArePlainNlattrs, GenlReadsBack, GenlReadsBackWhole, IsPlainGenlmsghdr}
+use Rattle.neli_genl.specs.RoundTrips.{IsPlainNlattr}
 use Rattle.neli_genl.specs.declared.genlmsghdr.Genlmsghdr.{Genlmsghdr}
 use Rattle.neli_wire.specs.Bytes.{Reading}
 use Rattle.neli_wire.specs.Frames.{number_in}

@@ -1,5 +1,6 @@
 -- Process events that are written and read again.
-use Rattle.std.proofs.Common.{◌≡◌, ℕ, ◌≤◌, Bool, true, false, cond, ltb, List, [], ◌++◌, length, Ok, refl, sym, ap, ◌∙◌, arith, length-append}
+use Rattle.std.proofs.Common.{◌≡◌, ℕ, ◌≤◌, Bool, true, false, cond, ltb, List, [], ◌++◌, length, Ok, refl, sym, ap, ◌∙◌}
+use Rattle.std.proofs.Common.{arith, length-append}
 use Rattle.std.specs.Prelude.{nat_eq}
 use Rattle.std.proofs.lemmas.Bool.{le-ltb}
 use Rattle.std.proofs.lemmas.List.{append-nil, take_at}
@@ -13,7 +14,8 @@ use Rattle.neli_wire.specs.Numbers.{little_bytes}
 use Rattle.neli_genl.specs.ProcEventHeader.{IsPlainProcEvent, proc_event_bytes, proc_event_of}
 use Rattle.neli_genl.specs.ProcEvents.{IsPlainEvent, event_bytes, event_kind, event_of, exit_of}
 use Rattle.neli_genl.specs.declared.proc_event.ProcEvent.{ProcEvent}
-use Rattle.neli_genl.specs.declared.proc_event.ProcEvent.TheVariants.{Ack, Fork, Exec, Uid, Gid, Sid, Ptrace, Comm, Coredump, Exit}
+use Rattle.neli_genl.specs.declared.proc_event.ProcEvent.TheVariants.{Ack, Fork, Exec, Uid, Gid, Sid, Ptrace, Comm}
+use Rattle.neli_genl.specs.declared.proc_event.ProcEvent.TheVariants.{Coredump, Exit}
 use Rattle.neli_genl.specs.declared.proc_event_header.ProcEventHeader.{ProcEventHeader}
 
 -- ---- types

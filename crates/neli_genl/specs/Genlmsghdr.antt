@@ -1,5 +1,6 @@
 -- Messages of generic netlink: `struct genlmsghdr` of linux/genetlink.h, a family's own header, and the attributes.
-use Rattle.std.specs.Prelude.{◌≡◌, ℕ, ◌+◌, ◌%◌, ◌<◌, ◌≤◌, ◌⊎◌, List, [], ◌++◌, codes, drop, length, nat_eq, nat_lt, not, sum_by, unwrap_or, Result, Ok, Err, if◌then◌else◌}
+use Rattle.std.specs.Prelude.{◌≡◌, ℕ, ◌+◌, ◌%◌, ◌<◌, ◌≤◌, ◌⊎◌, List, [], ◌++◌, codes, drop, length, nat_eq, nat_lt, not}
+use Rattle.std.specs.Prelude.{sum_by, unwrap_or, Result, Ok, Err, if◌then◌else◌}
 use Rattle.neli_attr.specs.AttrType.{AttrType}
 use Rattle.neli_attr.specs.Attributes.{Attr, attributes_in}
 use Rattle.neli_attr.specs.Builders.{Outcome, require_field}

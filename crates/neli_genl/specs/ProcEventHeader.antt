@@ -9,7 +9,8 @@ use Rattle.neli_wire.specs.Frames.{number_in}
 use Rattle.neli_wire.specs.Numbers.{FitsBytes, little_bytes}
 use Rattle.neli_wire.specs.Reading.{◌>>=◌}
 
--- what bytes say: the type at place 0, the processor at 4, the time at 8, and the event from 16 on; what follows is skipped
+-- what bytes say: the type at place 0, the processor at 4, the time at 8, and the event from 16 on; what follows is
+-- skipped
 abbrev pub proc_event_of : List ℕ → Result ProcEventHeader DeError
 proc_event_of s =
     if nat_lt (length s) 16 then Err (InvalidInput (length s))

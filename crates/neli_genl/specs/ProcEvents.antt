@@ -1,11 +1,13 @@
 -- Process events: `struct proc_event` of linux/cn_proc.h, whose union follows a header of 16 bytes.
-use Rattle.std.specs.Prelude.{◌≡◌, ℕ, ℤ, ◌+◌, List, ◌++◌, codes, drop, length, nat_eq, nat_lt, take, FitsSigned, Result, Ok, Err, if◌then◌else◌}
+use Rattle.std.specs.Prelude.{◌≡◌, ℕ, ℤ, ◌+◌, List, ◌++◌, codes, drop, length, nat_eq, nat_lt, take, FitsSigned, Result}
+use Rattle.std.specs.Prelude.{Ok, Err, if◌then◌else◌}
 use Rattle.std.specs.Fmt.{decimal}
 use Rattle.std.specs.Int.{w32}
 use Rattle.neli_consts_system.specs.declared.connector.ProcEventType.{ProcEventType}
 use Rattle.neli_consts_system.specs.declared.connector.ProcEventType.TheVariants as kind
 use Rattle.neli_genl.specs.declared.proc_event.ProcEvent.{ProcEvent}
-use Rattle.neli_genl.specs.declared.proc_event.ProcEvent.TheVariants.{Ack, Fork, Exec, Uid, Gid, Sid, Ptrace, Comm, Coredump, Exit}
+use Rattle.neli_genl.specs.declared.proc_event.ProcEvent.TheVariants.{Ack, Fork, Exec, Uid, Gid, Sid, Ptrace, Comm}
+use Rattle.neli_genl.specs.declared.proc_event.ProcEvent.TheVariants.{Coredump, Exit}
 use Rattle.neli_wire.specs.DeError.{DeError}
 use Rattle.neli_wire.specs.DeError.TheVariants.{InvalidInput, Msg}
 use Rattle.neli_wire.specs.Frames.{number_in}

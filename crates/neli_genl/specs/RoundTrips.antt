@@ -5,14 +5,16 @@ use Rattle.neli_attr.specs.Attributes.{attributes_in}
 use Rattle.neli_attr.specs.TypeField.{type_of}
 use Rattle.neli_attr.specs.declared.nlattr.Nlattr.{Nlattr}
 use Rattle.neli_body.specs.Headers.{IsNamed}
-use Rattle.neli_genl.specs.Genlmsghdr.{Attrs, GenlFields, AttributesRead, attrs_wire, genlmsghdr_bytes, genlmsghdr_of, genlmsghdr_wire}
+use Rattle.neli_genl.specs.Genlmsghdr.{Attrs, GenlFields, AttributesRead, attrs_wire, genlmsghdr_bytes, genlmsghdr_of}
+use Rattle.neli_genl.specs.Genlmsghdr.{genlmsghdr_wire}
 use Rattle.neli_genl.specs.View.{says}
 use Rattle.neli_genl.specs.declared.genlmsghdr.Genlmsghdr.{Genlmsghdr}
 use Rattle.neli_wire.specs.Bytes.{Reading}
 use Rattle.neli_wire.specs.Numbers.{FitsBytes}
 use Rattle.neli_wire.specs.Writing.{Wire}
 
--- the family's header has a multiple of four bytes, the command is what its number is read as, and the others fit their fields
+-- the family's header has a multiple of four bytes, the command is what its number is read as, and the others fit their
+-- fields
 pub record IsPlainGenlmsghdr {C T H : Type 0} (width : ℕ) (cmd_number : C → ℕ) (cmd_of : ℕ
     → C) (m : Genlmsghdr C T H) : Type 0 where
   pub aligned : width % 4 ≡ 0
@@ -26,8 +28,8 @@ abbrev pub fields_with : {C T H V : Type 0} → Genlmsghdr C T H → V → Attri
 fields_with m header attrs =
     record { cmd = m.cmd; version = m.version; reserved = m.reserved; header = header; attrs = attrs }
 
--- a message has bytes, which are read as its fields, and as what its family's header's own bytes and its attributes' own
--- bytes are read as
+-- a message has bytes, which are read as its fields, and as what its family's header's own bytes and its attributes'
+-- own bytes are read as
 abbrev pub GenlReadsBack : {C T H V : Type 0} → ℕ → (C → ℕ) → (ℕ → C) → (T → ℕ) → (ℕ → T) → (H → Wire)
     → (List ℕ → Reading V) → Genlmsghdr C T H → Type 0
 GenlReadsBack {T = T} {V = V} width cmd_number cmd_of type_number value_of header_wire header_at m =

@@ -4,7 +4,8 @@ ghost use Rattle.std.specs.Prelude.{◌≡◌, ◌+◌, Some, None, Ok, IfOk, If
 ghost use Rattle.neli_wire.specs.laws.Sizes.{unpadded-rounded};
 ghost use Rattle.neli_attr.specs.Builders.{IsWhyNot};
 ghost use Rattle.neli_body.specs.Bodies.{body_of, body_takes_memory, body_wire};
-ghost use Rattle.neli_body.specs.laws.Bodies.{body_of-never_short, body_of-no_memory, body_wire-length, body_wire-no_memory, body_wire-zeros};
+ghost use Rattle.neli_body.specs.laws.Bodies.{body_of-never_short, body_of-no_memory, body_wire-length};
+ghost use Rattle.neli_body.specs.laws.Bodies.{body_wire-no_memory, body_wire-zeros};
 ghost use Rattle.neli_genl.specs.CnMsg.{IsPlainCnMsg, cn_msg_built, cn_msg_bytes, cn_msg_header};
 ghost use Rattle.neli_genl.specs.laws.CnMsg.{cn_msg-reads_back, cn_msg-width, cn_msg-writes_back};
 

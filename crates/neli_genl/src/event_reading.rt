@@ -2,7 +2,9 @@
 
 ghost use Rattle.std.specs.Prelude.{◌≡◌, ◌+◌, ◌≤◌, ◌<◌, Some, IfOk, IfErr, OnOk, length};
 ghost use Rattle.neli_wire.specs.Refusals.{Refuses};
-ghost use Rattle.neli_genl.specs.ProcEvents.{IsUnknown, ack_of, comm_of, coredump_of, event_of, exec_of, exit_of, fork_of, gid_of, ptrace_of, sid_of, uid_of, unknown_event, unknown_text};
+ghost use Rattle.neli_genl.specs.ProcEvents.{IsUnknown, ack_of, comm_of, coredump_of, event_of, exec_of, exit_of};
+ghost use Rattle.neli_genl.specs.ProcEvents.{fork_of, gid_of, ptrace_of, sid_of, signed_in, uid_of, unknown_event};
+ghost use Rattle.neli_genl.specs.ProcEvents.{unknown_text};
 
 use crate::ProcEvent;
 use neli_body::numbers::{i32_in, u32_in};
@@ -50,6 +52,22 @@ fn has_event(bytes: &[u8], size: usize) -> Result<(), DeError>
     Ok(())
 }
 
+/// The four signed numbers after a header.
+fn four_in(bytes: &[u8]) -> (i32, i32, i32, i32)
+    requires { 32 ≤ length bytes.now }
+    ensures first { result.0 ≡ signed_in 16 bytes.now }
+    ensures second { result.1 ≡ signed_in 20 bytes.now }
+    ensures third { result.2 ≡ signed_in 24 bytes.now }
+    ensures fourth { result.3 ≡ signed_in 28 bytes.now }
+{
+    (
+        i32_in(bytes, 16),
+        i32_in(bytes, 20),
+        i32_in(bytes, 24),
+        i32_in(bytes, 28),
+    )
+}
+
 /// The event of a type, in bytes that begin with its header.
 ///
 /// `InvalidInput` of the number of bytes where the event is not there, and a message where the type has
@@ -92,11 +110,12 @@ fn fork_in(bytes: &[u8]) -> Result<ProcEvent, DeError>
     ensures refused { IfErr result (Refuses (fork_of bytes.now) ⊥) }
 {
     has_event(bytes, 16)?;
+    let (parent_pid, parent_tgid, child_pid, child_tgid) = four_in(bytes);
     Ok(ProcEvent::Fork {
-        parent_pid: i32_in(bytes, 16),
-        parent_tgid: i32_in(bytes, 20),
-        child_pid: i32_in(bytes, 24),
-        child_tgid: i32_in(bytes, 28),
+        parent_pid,
+        parent_tgid,
+        child_pid,
+        child_tgid,
     })
 }
 
@@ -153,11 +172,12 @@ fn ptrace_in(bytes: &[u8]) -> Result<ProcEvent, DeError>
     ensures refused { IfErr result (Refuses (ptrace_of bytes.now) ⊥) }
 {
     has_event(bytes, 16)?;
+    let (process_pid, process_tgid, tracer_pid, tracer_tgid) = four_in(bytes);
     Ok(ProcEvent::Ptrace {
-        process_pid: i32_in(bytes, 16),
-        process_tgid: i32_in(bytes, 20),
-        tracer_pid: i32_in(bytes, 24),
-        tracer_tgid: i32_in(bytes, 28),
+        process_pid,
+        process_tgid,
+        tracer_pid,
+        tracer_tgid,
     })
 }
 
@@ -180,11 +200,12 @@ fn coredump_in(bytes: &[u8]) -> Result<ProcEvent, DeError>
     ensures refused { IfErr result (Refuses (coredump_of bytes.now) ⊥) }
 {
     has_event(bytes, 16)?;
+    let (process_pid, process_tgid, parent_pid, parent_tgid) = four_in(bytes);
     Ok(ProcEvent::Coredump {
-        process_pid: i32_in(bytes, 16),
-        process_tgid: i32_in(bytes, 20),
-        parent_pid: i32_in(bytes, 24),
-        parent_tgid: i32_in(bytes, 28),
+        process_pid,
+        process_tgid,
+        parent_pid,
+        parent_tgid,
     })
 }
 

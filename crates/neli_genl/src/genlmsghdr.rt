@@ -1,6 +1,7 @@
 //! Messages of generic netlink.
 
-ghost use Rattle.std.specs.Prelude.{◌≡◌, ◌+◌, ◌++◌, ◌≤◌, Some, None, Ok, IfOk, IfErr, OnOk, OnErr, drop, length, min, take};
+ghost use Rattle.std.specs.Prelude.{◌≡◌, ◌+◌, ◌++◌, ◌≤◌, Some, None, Ok, IfOk, IfErr, OnOk, OnErr, drop, length, min};
+ghost use Rattle.std.specs.Prelude.{take};
 ghost use Rattle.neli_wire.specs.Refusals.{Refuses};
 ghost use Rattle.neli_wire.specs.Place.{whole};
 ghost use Rattle.neli_wire.specs.Reading.{map_refusal, refusal_within};
@@ -8,9 +9,13 @@ ghost use Rattle.neli_wire.specs.laws.Sizes.{unpadded-rounded};
 ghost use Rattle.neli_wire.specs.Writing.{RefusesWrite, append_wire};
 ghost use Rattle.neli_attr.specs.Nlattr.{nlattr_says};
 ghost use Rattle.neli_attr.specs.Builders.{IsWhyNot};
-ghost use Rattle.neli_genl.specs.Genlmsghdr.{GenlFields, AttributesRead, fields_of, genlmsghdr_built, genlmsghdr_bytes, genlmsghdr_of, genlmsghdr_plain, genlmsghdr_size, genlmsghdr_takes_memory, genlmsghdr_wire, parts_of, parts_take_memory};
+ghost use Rattle.neli_genl.specs.Genlmsghdr.{GenlFields, AttributesRead, fields_of, genlmsghdr_built, genlmsghdr_bytes};
+ghost use Rattle.neli_genl.specs.Genlmsghdr.{genlmsghdr_of, genlmsghdr_plain, genlmsghdr_size, genlmsghdr_takes_memory};
+ghost use Rattle.neli_genl.specs.Genlmsghdr.{genlmsghdr_wire, parts_of, parts_take_memory};
 ghost use Rattle.neli_genl.specs.View.{says};
-ghost use Rattle.neli_genl.specs.laws.Genlmsghdr.{genlmsghdr_of-never_short, genlmsghdr_of-no_memory, genlmsghdr_wire-length, genlmsghdr_wire-zeros, genlmsghdr_wire-no_memory};
+ghost use Rattle.neli_genl.specs.laws.Genlmsghdr.{genlmsghdr_of-never_short, genlmsghdr_of-no_memory};
+ghost use Rattle.neli_genl.specs.laws.Genlmsghdr.{genlmsghdr_wire-length, genlmsghdr_wire-zeros};
+ghost use Rattle.neli_genl.specs.laws.Genlmsghdr.{genlmsghdr_wire-no_memory};
 
 use crate::NoUserHeader;
 use neli_attr::{Buffer, BuildError, GenlBuffer, TryClone, of};
@@ -286,7 +291,8 @@ impl<C: Cmd, T: NlAttrType, H: TypeSize> FromBytesWithInput for Genlmsghdr<C, T,
 
     ghost read = { genlmsghdr_of H.width C.wire_value T.wire_value H.FromBytes.read };
 
-    ghost takes_memory = { genlmsghdr_takes_memory H.width H.FromBytes.read H.FromBytes.takes_memory };
+    ghost takes_memory = { genlmsghdr_takes_memory H.width H.FromBytes.read
+        H.FromBytes.takes_memory };
 
     ghost no_memory = { genlmsghdr_of-no_memory H.width C.wire_value T.wire_value
         H.FromBytes.read H.FromBytes.no_memory };

@@ -4,8 +4,10 @@ ghost use Rattle.std.specs.Prelude.{◌≡◌, ◌+◌, Ok, IfOk, IfErr, min};
 ghost use Rattle.neli_wire.specs.Refusals.{Refuses};
 ghost use Rattle.neli_wire.specs.laws.Sizes.{unpadded-rounded, unpadded-zeros};
 ghost use Rattle.neli_wire.specs.laws.Writing.{written-no_memory};
-ghost use Rattle.neli_genl.specs.ProcEventHeader.{proc_event_bytes, proc_event_of, proc_event_size, proc_event_takes_memory};
-ghost use Rattle.neli_genl.specs.laws.ProcEvents.{proc_event_bytes-length, proc_event_of-never_short, proc_event_of-no_memory};
+ghost use Rattle.neli_genl.specs.ProcEventHeader.{proc_event_bytes, proc_event_of, proc_event_size};
+ghost use Rattle.neli_genl.specs.ProcEventHeader.{proc_event_takes_memory};
+ghost use Rattle.neli_genl.specs.laws.ProcEvents.{proc_event_bytes-length, proc_event_of-never_short};
+ghost use Rattle.neli_genl.specs.laws.ProcEvents.{proc_event_of-no_memory};
 
 use crate::ProcEvent;
 use crate::event_reading::read_event;

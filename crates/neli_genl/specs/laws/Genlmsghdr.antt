@@ -1,19 +1,23 @@
 -- Laws of messages of generic netlink.
-use Rattle.std.proofs.Common.{◌≡◌, ◌≢◌, ℕ, ◌+◌, ◌%◌, ltb, List, drop, length, Result, Ok, Err, refl, ap, arith, length-append}
+use Rattle.std.proofs.Common.{◌≡◌, ◌≢◌, ℕ, ◌+◌, ◌%◌, ltb, List, drop, length, Result, Ok, Err, refl, ap, arith}
+use Rattle.std.proofs.Common.{length-append}
 use Rattle.std.specs.Prelude.{nat_eq, not}
 use Rattle.neli_attr.specs.Attributes.{attribute, attributes_in}
 use Rattle.neli_attr.specs.Nlattr.{nlattr_wire}
 use Rattle.neli_attr.specs.TypeField.{type_of}
 use Rattle.neli_attr.specs.laws.Attributes.{attribute-no_memory}
 use Rattle.neli_attr.specs.laws.Nlattr.{nlattr_wire-length, nlattr_wire-no_memory}
-use Rattle.neli_genl.specs.Genlmsghdr.{Attrs, attrs_size, attrs_wire, genlmsghdr_bytes, genlmsghdr_of, genlmsghdr_size, genlmsghdr_wire, parts_of}
+use Rattle.neli_genl.specs.Genlmsghdr.{Attrs, attrs_size, attrs_wire, genlmsghdr_bytes, genlmsghdr_of, genlmsghdr_size}
+use Rattle.neli_genl.specs.Genlmsghdr.{genlmsghdr_wire, parts_of}
 use Rattle.neli_genl.specs.declared.genlmsghdr.Genlmsghdr.{Genlmsghdr}
 use Rattle.neli_wire.specs.Bytes.{Reading, short}
 use Rattle.neli_wire.specs.DeError.{DeError}
 use Rattle.neli_wire.specs.DeError.TheVariants.{InvalidInput, Memory}
 use Rattle.neli_wire.specs.SerError.TheVariants as ser
 use Rattle.neli_wire.specs.Frames.{frame_at}
-use Rattle.neli_wire.specs.laws.Lists.{both_written, both-no_memory, elements-no_memory, elements-never_short, map_refusal-never_short, map_refusal-no_memory, wire_all-length, wire_all-no_memory}
+use Rattle.neli_wire.specs.laws.Lists.{both_written, both-no_memory, elements-no_memory, elements-never_short}
+use Rattle.neli_wire.specs.laws.Lists.{map_refusal-never_short, map_refusal-no_memory, wire_all-length}
+use Rattle.neli_wire.specs.laws.Lists.{wire_all-no_memory}
 use Rattle.neli_wire.specs.Reading.{map_refusal, refusal_within}
 use Rattle.neli_wire.specs.laws.Reading.{bind-not, guard-not}
 use Rattle.neli_wire.specs.Sizes.{align, EndsInZeros}

@@ -6,7 +6,8 @@ use Rattle.neli_consts_system.specs.declared.connector.ProcEventType.TheVariants
 use Rattle.neli_genl.specs.ProcEventHeader.{proc_event_bytes, proc_event_of, proc_event_size}
 use Rattle.neli_genl.specs.ProcEvents.{event_bytes, event_of, event_size, unknown_text}
 use Rattle.neli_genl.specs.declared.proc_event.ProcEvent.{ProcEvent}
-use Rattle.neli_genl.specs.declared.proc_event.ProcEvent.TheVariants.{Ack, Fork, Exec, Uid, Gid, Sid, Ptrace, Comm, Coredump, Exit}
+use Rattle.neli_genl.specs.declared.proc_event.ProcEvent.TheVariants.{Ack, Fork, Exec, Uid, Gid, Sid, Ptrace, Comm}
+use Rattle.neli_genl.specs.declared.proc_event.ProcEvent.TheVariants.{Coredump, Exit}
 use Rattle.neli_genl.specs.declared.proc_event_header.ProcEventHeader.{ProcEventHeader}
 use Rattle.neli_wire.specs.Bytes.{short}
 use Rattle.neli_wire.specs.DeError.{DeError}

@@ -1,7 +1,9 @@
 use Rattle.std.specs.Prelude.{refl}
 use Rattle.neli_wire.specs.laws.Equality.{derived-equality}
-use Rattle.neli_attr.specs.laws.Equality.{attribute-equality, bytes-equality, from-parts, lists-equality, pair-equality, parts-equality}
-use Rattle.neli_genl.proofs.Equality.{connector-equality, generic-equality, header-equality, last-field, pair-of-numbers, pair-of-processes, processes}
+use Rattle.neli_attr.specs.laws.Equality.{attribute-equality, bytes-equality, from-parts, lists-equality, pair-equality}
+use Rattle.neli_attr.specs.laws.Equality.{parts-equality}
+use Rattle.neli_genl.proofs.Equality.{connector-equality, generic-equality, header-equality, last-field}
+use Rattle.neli_genl.proofs.Equality.{pair-of-numbers, pair-of-processes, processes}
 use Rattle.neli_genl.specs.contracts.proc_event.ProcEvent.{enum as event}
 use Rattle.neli_genl.specs.contracts.proc_event.ProcEventEq.TheImpl.Laws.{laws-law as event-laws}
 use Rattle.neli_genl.specs.declared.proc_event_header.ProcEventHeader.{ProcEventHeader}
