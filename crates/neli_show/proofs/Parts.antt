@@ -1,10 +1,13 @@
 -- Values, members and elements one after the other.
-use Rattle.std.proofs.Common.{◌≡◌, ℕ, zero, suc, ◌+◌, Bool, true, false, List, [], ◌++◌, codes, Option, pos, refl, sym, ap, subst, ◌∙◌, append_assoc, append-nil}
+use Rattle.std.proofs.Common.{◌≡◌, ℕ, zero, suc, ◌+◌, Bool, true, false, List, [], ◌++◌, codes, Option, pos, refl, sym}
+use Rattle.std.proofs.Common.{ap, subst, ◌∙◌, append_assoc, append-nil}
 use Rattle.std.specs.Fmt.{decimal}
 use Rattle.std.specs.List.{list_all}
 use Rattle.std.proofs.KnownBytes.{Appends-nil, Appends-trans}
-use Rattle.neli_show.specs.Json.{AreElements, AreLines, AreMembers, IsJson, array, element, elements, empty_array, empty_object, integer, is_plain, lines, member, members, object, plain, string}
-use Rattle.neli_show.specs.Written.{AreHops, Extends, FirstElements, FirstMembers, InArray, InElement, InPlace, IsBegun, IsElement, IsHopBegun, IsListBegun, IsOpen, IsPlace, Turns, Writes, comma, opening}
+use Rattle.neli_show.specs.Json.{AreElements, AreLines, AreMembers, IsJson, array, element, elements, empty_array}
+use Rattle.neli_show.specs.Json.{empty_object, integer, is_plain, lines, member, members, object, plain, string}
+use Rattle.neli_show.specs.Written.{AreHops, Extends, FirstElements, FirstMembers, InArray, InElement, InPlace, IsBegun}
+use Rattle.neli_show.specs.Written.{IsElement, IsHopBegun, IsListBegun, IsOpen, IsPlace, Turns, Writes, comma, opening}
 
 -- ---- writing
 

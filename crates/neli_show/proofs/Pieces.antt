@@ -1,5 +1,6 @@
 -- What the program writes as JSON, piece by piece.
-use Rattle.std.proofs.Common.{◌≡◌, ℕ, zero, suc, ◌+◌, ◌-◌, ◌<◌, ◌≤◌, Bool, true, false, List, [], ◌++◌, codes, Option, refl, sym, ap, subst, ◌∙◌, append_assoc, Result, arith}
+use Rattle.std.proofs.Common.{◌≡◌, ℕ, zero, suc, ◌+◌, ◌-◌, ◌<◌, ◌≤◌, Bool, true, false, List, [], ◌++◌, codes, Option}
+use Rattle.std.proofs.Common.{refl, sym, ap, subst, ◌∙◌, append_assoc, Result, arith}
 use Rattle.std.specs.Prelude.{OnOk}
 use Rattle.std.specs.Fmt.{decimal, digits}
 use Rattle.std.specs.Io.KnownBytes.{Appends}
@@ -7,11 +8,15 @@ use Rattle.std.specs.List.{list_all}
 use Rattle.std.proofs.KnownBytes.{Appends-trans}
 use Rattle.std.proofs.lemmas.Result.{on_ok_weaker}
 use Rattle.neli_show.specs.Json.{AreLines, AreMembers, IsJson, is_plain, lines, member, members, object}
-use Rattle.neli_show.specs.Written.{AreFlags, AreHops, Extends, FirstElements, IsAround, IsBegun, IsElement, IsHopBegun, IsOpen, Turns, Writes, comma}
+use Rattle.neli_show.specs.Written.{AreFlags, AreHops, Extends, FirstElements, IsAround, IsBegun, IsElement, IsHopBegun}
+use Rattle.neli_show.specs.Written.{IsOpen, Turns, Writes, comma}
 use Rattle.neli_show.specs.Quoted.{escaped, quoted}
 use Rattle.neli_show.specs.Values.{bits_json}
 use Rattle.neli_show.proofs.Strings.{digits-plain, escaped-chars}
-use Rattle.neli_show.proofs.Parts.{IsArrayBegun, IsObjectBegun, array_begun_more, array_of, begun_end-line, begun_end-request, extends_then, first_elements_more, begun_more, hop_more, hops_end, list_end, named, natural, nest_end, object_begun_more, object_more, part, plain_string, turns_then}
+use Rattle.neli_show.proofs.Parts.{IsArrayBegun, IsObjectBegun, array_begun_more, array_of, begun_end-line}
+use Rattle.neli_show.proofs.Parts.{begun_end-request, extends_then, first_elements_more, begun_more, hop_more, hops_end}
+use Rattle.neli_show.proofs.Parts.{list_end, named, natural, nest_end, object_begun_more, object_more, part}
+use Rattle.neli_show.proofs.Parts.{plain_string, turns_then}
 
 pub then_ok : {T E P Q : Type 0} (r : Result T E) → OnOk r P → (P → Q) → OnOk r Q
 then_ok r ok f = on_ok_weaker r f ok

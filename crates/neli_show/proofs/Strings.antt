@@ -1,11 +1,13 @@
 -- Texts that are strings of JSON.
-use Rattle.std.proofs.Common.{◌≡◌, ℕ, zero, suc, ◌+◌, ◌-◌, ◌/◌, ◌%◌, ◌<◌, ◌≤◌, true, false, ◌&&◌, not, List, [], ◌∷◌, ◌++◌, refl, ◌∙◌, arith, inl, inr}
+use Rattle.std.proofs.Common.{◌≡◌, ℕ, zero, suc, ◌+◌, ◌-◌, ◌/◌, ◌%◌, ◌<◌, ◌≤◌, true, false, ◌&&◌, not, List, [], ◌∷◌}
+use Rattle.std.proofs.Common.{◌++◌, refl, ◌∙◌, arith, inl, inr}
 use Rattle.std.specs.Prelude.{◌==◌, ◌||◌, nat_le, nat_lt}
 use Rattle.std.specs.Char.{encode_utf8}
 use Rattle.std.specs.Fmt.{digit_glyph, digits, digits_onto}
 use Rattle.std.specs.List.{flat_map, list_all}
 use Rattle.std.specs.Str.{chars}
-use Rattle.std.proofs.lemmas.Bool.{agree_below_at, and_from, cond_both, eqb-true, le-leb, ltb-true, ltb-false, ne_eqb, not_from_false, or_cases, or_from, or_parts, and_parts}
+use Rattle.std.proofs.lemmas.Bool.{agree_below_at, and_from, cond_both, eqb-true, le-leb, ltb-true, ltb-false, ne_eqb}
+use Rattle.std.proofs.lemmas.Bool.{not_from_false, or_cases, or_from, or_parts, and_parts}
 use Rattle.std.proofs.lemmas.Fmt.{hex_one_digit}
 use Rattle.std.proofs.lemmas.List.Folds.{list_all-append}
 use Rattle.neli_show.specs.declared.quoted.Escape.{Escape}

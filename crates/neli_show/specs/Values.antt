@@ -1,5 +1,6 @@
 -- Values as text.
-use Rattle.std.specs.Prelude.{ℕ, ◌/◌, ◌%◌, false, nat_lt, if◌then◌else◌, List, [], ◌∷◌, ◌++◌, length, codes, Option, Some}
+use Rattle.std.specs.Prelude.{◌≡◌, ◌≢◌, ◌⊎◌, ℕ, ◌/◌, ◌%◌, false, nat_lt, if◌then◌else◌, List, [], ◌∷◌, ◌++◌, length}
+use Rattle.std.specs.Prelude.{codes, Option, Some}
 use Rattle.std.specs.Fmt.{decimal, digits, signed_decimal}
 use Rattle.std.specs.List.{flat_map}
 use Rattle.std.specs.Net.Text.{ip_text}
@@ -59,6 +60,10 @@ value_json (value.Bytes bytes) = codes "{\"bytes\":\"" ++ hex_text bytes.now ++ 
 -- bits without a name in JSON
 abbrev pub bits_json : ℕ → List ℕ
 bits_json bits = codes "\"0x" ++ (digits 16 false bits ++ codes "\"")
+
+-- a zero at the end is left out
+abbrev pub IsWithoutZero : List ℕ → List ℕ → Type 0
+IsWithoutZero bytes rest = (bytes ≡ rest ++ 0 ∷ []) ⊎ ((rest ≡ bytes) × ((before : List ℕ) → bytes ≢ before ++ 0 ∷ []))
 
 -- ---- numbers in bytes
 

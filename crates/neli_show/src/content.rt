@@ -1,5 +1,8 @@
 //! What an attribute has, whatever the form that it is printed in.
 
+ghost use Rattle.std.specs.Prelude.{◌≡◌, IfErr};
+ghost use Rattle.neli_show.specs.declared.value.Value.TheVariants as value;
+
 use crate::value::{Value, ipv4_value, ipv6_value, number_value, text_value, without_zero};
 use neli_schema::{Number, Structure};
 use neli_schema_walk::{Attribute, Shape};
@@ -39,7 +42,10 @@ fn content_of<'b, 't>(shape: &Shape<'t>, payload: &'b [u8]) -> Content<'b, 't> {
 }
 
 /// What an attribute has; the bytes of one that breaks its row.
-pub fn content_in<'b, 't>(attribute: &Attribute<'b, 't>) -> Content<'b, 't> {
+pub fn content_in<'b, 't>(attribute: &Attribute<'b, 't>) -> Content<'b, 't>
+    ensures { IfErr attribute.now.shape
+        (λ _. result ≡ Content.Value (value.Bytes attribute.now.payload)) }
+{
     match &attribute.shape {
         Ok(shape) => content_of(shape, attribute.payload),
         Err(_) => Content::Value(Value::Bytes(attribute.payload)),

@@ -4,7 +4,8 @@ ghost use Rattle.std.specs.Prelude.{◌≡◌, ℕ, List, ◌++◌, Bool, true, 
 ghost use Rattle.neli_show.specs.Faults.{breach_text, fault_text};
 ghost use Rattle.std.specs.List.{list_all};
 ghost use Rattle.neli_show.specs.Json.{AreElements, AreLines, AreMembers, is_plain};
-ghost use Rattle.neli_show.specs.Written.{AreHops, Extends, FirstElements, IsAround, IsBegun, IsHopBegun, Turns, Writes};
+ghost use Rattle.neli_show.specs.Written.{AreHops, Extends, FirstElements, IsAround, IsBegun, IsHopBegun, Turns};
+ghost use Rattle.neli_show.specs.Written.{Writes};
 
 use crate::head::Head;
 use neli_inputs::Refusal;
@@ -28,7 +29,8 @@ pub struct Place {
 /// The parts of a message come in this order: its head; the code of an answer; the head and the body of the request
 /// that it answers, and their end; a structure and its attributes, or bytes; its end.
 ///
-/// Where it is JSON, its clauses say what each part makes of what is written: lines that are the text of one value each.
+/// Where it is JSON, its clauses say what each part makes of what is written: lines that are the text of one value
+/// each.
 pub trait Form: Copy + Drop {
     // Whether it is JSON.
     ghost is_json: { Bool };

@@ -1,5 +1,10 @@
 //! The header of a message, and the names of what it says.
 
+ghost use Rattle.std.specs.Prelude.{◌≡◌, ◌&&◌, ◌≤◌, ◌↔◌, IfSome, IsSome, find, length, nat_eq};
+ghost use Rattle.std.specs.Option.{option_copied};
+ghost use Rattle.neli_schema.specs.Tables.{table_in};
+ghost use Rattle.neli_show.specs.Heads.{IsHead};
+
 use byteorder::{ByteOrder, LittleEndian};
 use neli_lent::LentMessage;
 use neli_schema::{Body, Schema, Table};
@@ -24,14 +29,20 @@ pub struct Names<'t> {
 
 impl<'t> Names<'t> {
     /// The body of a protocol with this number.
-    pub fn body(&self, protocol: u16, number: u32) -> Option<&'t Body<'t>> {
+    pub fn body(&self, protocol: u16, number: u32) -> Option<&'t Body<'t>>
+        ensures { option_copied result ≡ find
+            (λ body. nat_eq body.protocol protocol && nat_eq body.number number)
+            self.now.bodies.now }
+    {
         self.bodies
             .iter()
             .find(|body| body.protocol == protocol && body.number == number)
     }
 
     /// The table of a body.
-    pub fn table(&self, body: &Body<'_>) -> Option<Table<'t>> {
+    pub fn table(&self, body: &Body<'_>) -> Option<Table<'t>>
+        ensures { result ≡ table_in self.now.schema body.now.table }
+    {
         self.schema.table(body.table)
     }
 
@@ -85,7 +96,10 @@ impl<'t> Head<'t> {
     }
 
     /// The header that these bytes begin with, if they are as many as it has: 16 (`struct nlmsghdr`).
-    pub fn read(names: &Names<'t>, protocol: u16, bytes: &[u8]) -> Option<Head<'t>> {
+    pub fn read(names: &Names<'t>, protocol: u16, bytes: &[u8]) -> Option<Head<'t>>
+        ensures there { IsSome result ↔ (16 ≤ length bytes.now) }
+        ensures read { IfSome result (λ head. IsHead protocol bytes.now head) }
+    {
         if bytes.len() < 16 {
             return None;
         }

@@ -243,7 +243,9 @@ fn write_nest_header<W: Write>(
 
 impl Json {
     /// Objects, of which none is begun.
-    pub fn new() -> Json {
+    pub fn new() -> Json
+        ensures { result ≡ record { lists = 0; is_first = true } }
+    {
         Json {
             lists: 0,
             is_first: true,

@@ -1,5 +1,8 @@
 //! What the words of the command line ask for.
 
+ghost use Rattle.std.specs.Prelude.{◌≡◌, ◌<◌, None, IfSome, [], Some, codes, length};
+ghost use Rattle.neli_show.specs.Requests.{named_output, named_protocol};
+
 use crate::head::{CONNECTOR, GENERIC, ROUTE};
 
 /// How messages are printed.
@@ -23,7 +26,9 @@ pub struct Request {
 }
 
 /// The output that a word asks for.
-fn output_of(word: &str) -> Option<Output> {
+fn output_of(word: &str) -> Option<Output>
+    ensures { result ≡ named_output word.now }
+{
     match word {
         "json" => Some(Output::Json),
         "color" => Some(Output::Colour),
@@ -32,7 +37,9 @@ fn output_of(word: &str) -> Option<Output> {
 }
 
 /// The protocol that a word names, by its name or by its number.
-fn protocol_of(word: &str) -> Option<u16> {
+fn protocol_of(word: &str) -> Option<u16>
+    ensures { IfSome (named_protocol word.now) (λ protocol. result ≡ Some protocol) }
+{
     match word {
         "route" => Some(ROUTE),
         "connector" => Some(CONNECTOR),
@@ -42,7 +49,10 @@ fn protocol_of(word: &str) -> Option<u16> {
 }
 
 /// What these words ask for: first an output, then a protocol, each of which may be left out.
-pub fn request_of(words: &[String]) -> Option<Request> {
+pub fn request_of(words: &[String]) -> Option<Request>
+    ensures none { words.now ≡ [] → result ≡ Some (record { output = Output.Text; protocol = 0 }) }
+    ensures many { 2 < length words.now → result ≡ None }
+{
     let (output, protocol) = match words {
         [] => return Some(asking(Output::Text, ROUTE)),
         [word] => match output_of(word.as_str()) {
@@ -56,6 +66,8 @@ pub fn request_of(words: &[String]) -> Option<Request> {
 }
 
 /// A request for this output and this protocol.
-fn asking(output: Output, protocol: u16) -> Request {
+fn asking(output: Output, protocol: u16) -> Request
+    ensures { result ≡ record { output = output; protocol = protocol } }
+{
     Request { output, protocol }
 }

@@ -1,7 +1,10 @@
 //! A run of the program.
 
-ghost use Rattle.std.specs.Prelude.{◌≡◌, OnOk, true};
+ghost use Rattle.std.specs.Prelude.{◌≡◌, ◌≢◌, Err, IfErr, IfOk, OnOk, true};
+ghost use Rattle.std.specs.IoError.{error_kind};
+ghost use Rattle.std.specs.Option.{option_map};
 ghost use Rattle.neli_show.specs.Json.{AreLines};
+ghost use Rattle.neli_show.specs.Runs.{complaint_text, shown_status, status_code, unread_status};
 ghost use Rattle.neli_show.specs.Written.{Extends};
 
 use crate::form::{Fault, Form};
@@ -12,8 +15,8 @@ use crate::show::show_datagram;
 use crate::text::Text;
 use neli_inputs::{Input, Item, read_input};
 use neli_kernel_tables::{all_tables, bodies};
-use neli_schema::Schema;
 use neli_schema::tables::process_event;
+use neli_schema::{Schema, Table};
 use std::alloc::{AllocError, Global};
 use std::io;
 use std::io::{ErrorKind, Read, Write};
@@ -37,7 +40,9 @@ pub enum Status {
 
 impl Status {
     /// The exit status.
-    pub fn code(self) -> u8 {
+    pub fn code(self) -> u8
+        ensures { result ≡ status_code self }
+    {
         match self {
             Status::Whole => 0,
             Status::Fault | Status::NoInput | Status::NoOutput => 1,
@@ -47,7 +52,9 @@ impl Status {
     }
 
     /// What is said of it on standard error.
-    fn complaint(self) -> Option<&'static str> {
+    fn complaint(self) -> Option<&'static str>
+        ensures { option_map (λ text. text.now) result ≡ complaint_text self }
+    {
         match self {
             Status::Whole | Status::Fault => None,
             Status::NoInput => Some("neli_show: the input cannot be read"),
@@ -128,24 +135,42 @@ fn show_request<W: Write>(
     }
 }
 
+/// How a run ends that printed its input so.
+fn status_of(shown: &io::Result<bool>) -> Status
+    ensures { result ≡ shown_status shown.now }
+{
+    match shown {
+        Ok(true) => Status::Whole,
+        Ok(false) => Status::Fault,
+        Err(_) => Status::NoOutput,
+    }
+}
+
+/// Prints an input by these tables, in the form that is asked for.
+fn show_by<W: Write>(out: &mut W, tables: &[Table<'_>], request: Request, input: &Input) -> Status
+    ensures { request.output ≡ Output.Json → result ≢ Status.NoOutput
+        → Extends (W.contents out.old) (W.contents out.new) AreLines AreLines }
+{
+    let names = Names {
+        schema: Schema::new(tables).with(&process_event::TABLES),
+        bodies: bodies(),
+    };
+    status_of(&show_request(out, &names, request, input))
+}
+
 /// Prints bytes in the form that is asked for.
 fn show_bytes<W: Write>(
     alloc: Global,
     request: Request,
     bytes: Vec<u8>,
     out: &mut W,
-) -> Result<Status, AllocError> {
+) -> Result<Status, AllocError>
+    ensures { request.output ≡ Output.Json → IfOk result (λ status. status ≢ Status.NoOutput
+        → Extends (W.contents out.old) (W.contents out.new) AreLines AreLines) }
+{
     let input = read_input(alloc, bytes)?;
     let tables = all_tables(alloc)?;
-    let names = Names {
-        schema: Schema::new(&tables).with(&process_event::TABLES),
-        bodies: bodies(),
-    };
-    Ok(match show_request(out, &names, request, &input) {
-        Ok(true) => Status::Whole,
-        Ok(false) => Status::Fault,
-        Err(_) => Status::NoOutput,
-    })
+    Ok(show_by(out, tables.as_slice(), request, &input))
 }
 
 /// Reads the input, and prints it in the form that is asked for.
@@ -162,7 +187,9 @@ fn show<R: Read, W: Write>(alloc: Global, request: Request, input: &mut R, out: 
 }
 
 /// What these words ask for; where they were not read, how the run ends.
-fn asked(words: &io::Result<Vec<String>>) -> Result<Request, Status> {
+fn asked(words: &io::Result<Vec<String>>) -> Result<Request, Status>
+    ensures { IfErr words.now (λ error. result ≡ Err (unread_status (error_kind error))) }
+{
     match words {
         Ok(words) => request_of(words.as_slice()).ok_or(Status::Usage),
         Err(error) if error.kind() == ErrorKind::OutOfMemory => Err(Status::Memory),

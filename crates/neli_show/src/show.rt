@@ -1,6 +1,7 @@
 //! Messages, part by part, whatever the form that they are printed in.
 
-ghost use Rattle.std.specs.Prelude.{◌≡◌, ◌≤◌, IfSome, OnOk, length, true};
+ghost use Rattle.std.specs.Prelude.{◌≡◌, ◌≤◌, IfSome, OnOk, bit_and, drop, length, nat_eq, true, if◌then◌else◌};
+ghost use Rattle.neli_show.specs.Heads.{body_family};
 ghost use Rattle.neli_show.specs.Json.{AreElements, AreLines, AreMembers};
 ghost use Rattle.neli_show.specs.Written.{AreHops, Extends, FirstElements, IsBegun, Writes};
 
@@ -33,7 +34,9 @@ const ANY_GENERIC: Table<'static> = Table {
 };
 
 /// The bytes from this place on.
-fn bytes_from(bytes: &[u8], start: usize) -> &[u8] {
+fn bytes_from(bytes: &[u8], start: usize) -> &[u8]
+    ensures { result.now ≡ drop start bytes.now }
+{
     match bytes.get(start..) {
         Some(rest) => rest,
         None => &[],
@@ -242,7 +245,9 @@ fn event_table<'t>(names: &Names<'t>, payload: &[u8]) -> Option<(&'t str, Table<
 }
 
 /// The address family of a body: its first byte in messages of routing.
-fn family_of(protocol: u16, payload: &[u8]) -> u8 {
+fn family_of(protocol: u16, payload: &[u8]) -> u8
+    ensures { result ≡ body_family protocol payload.now }
+{
     match payload.first() {
         Some(family) if protocol == ROUTE => *family,
         _ => 0,
@@ -337,7 +342,10 @@ fn show_whole_request<F: Form, W: Write>(
 }
 
 /// Where the attributes of an answer begin in its payload, if it echoes a header alone.
-fn attributes_start(answer: &Head<'_>, payload: &[u8]) -> usize {
+fn attributes_start(answer: &Head<'_>, payload: &[u8]) -> usize
+    ensures { result ≡ (if nat_eq (bit_and answer.now.flags 0x200) 0
+        then length payload.now else 20) }
+{
     if answer.flags & ACK_TLVS != 0 {
         20
     } else {

@@ -1,7 +1,12 @@
 //! Values: what payloads and fields of structures say.
 
-ghost use Rattle.std.specs.Prelude.{◌≡◌, ◌≤◌, Some, length};
-ghost use Rattle.neli_show.specs.Values.{byte_text, hardware_text, hex_text, later_hex_text, number_text, signed_text, value_text};
+ghost use Rattle.std.specs.Prelude.{◌≡◌, ◌≢◌, ◌≤◌, Some, IsSomeAnd, length, slice_range, take};
+ghost use Rattle.std.specs.Net.Addr.{segments_of};
+ghost use Rattle.std.specs.Net.Text.{ipv4_text, ipv6_text};
+ghost use Rattle.std.specs.Str.{IsUtf8};
+ghost use Rattle.neli_show.specs.Quoted.{quoted};
+ghost use Rattle.neli_show.specs.Values.{IsWithoutZero, byte_text, bytes_text, hardware_text, hex_text, later_hex_text, number_text, signed_text};
+ghost use Rattle.neli_show.specs.Values.{value_text};
 
 use crate::quoted::Quoted;
 use byteorder::{BigEndian, ByteOrder, LittleEndian};
@@ -60,7 +65,10 @@ pub fn number_value(number: Number, bytes: &[u8]) -> Value<'_>
 }
 
 /// The text that these bytes are; bytes where they are not UTF-8.
-pub fn text_value(bytes: &[u8]) -> Value<'_> {
+pub fn text_value(bytes: &[u8]) -> Value<'_>
+    ensures text { IsUtf8 bytes.now → value_text result ≡ Some (quoted bytes.now) }
+    ensures other { ¬ (IsUtf8 bytes.now) → value_text result ≡ Some (bytes_text bytes.now) }
+{
     match str::from_utf8(bytes) {
         Ok(text) => Value::Text(text),
         Err(_) => Value::Bytes(bytes),
@@ -68,7 +76,9 @@ pub fn text_value(bytes: &[u8]) -> Value<'_> {
 }
 
 /// The bytes before the first zero.
-fn before_zero(bytes: &[u8]) -> &[u8] {
+fn before_zero(bytes: &[u8]) -> &[u8]
+    ensures { result.now ≡ take (length result.now) bytes.now }
+{
     match bytes.iter().position(|byte| *byte == 0) {
         Some(end) if end <= bytes.len() => &bytes[..end],
         _ => bytes,
@@ -76,7 +86,9 @@ fn before_zero(bytes: &[u8]) -> &[u8] {
 }
 
 /// The bytes before a zero at the end.
-pub fn without_zero(bytes: &[u8]) -> &[u8] {
+pub fn without_zero(bytes: &[u8]) -> &[u8]
+    ensures { IsWithoutZero bytes.now result.now }
+{
     match bytes.split_last() {
         Some((last, before)) if *last == 0 => before,
         _ => bytes,
@@ -84,7 +96,10 @@ pub fn without_zero(bytes: &[u8]) -> &[u8] {
 }
 
 /// The IPv4 address that these four bytes are; bytes where they are not four.
-pub fn ipv4_value(bytes: &[u8]) -> Value<'_> {
+pub fn ipv4_value(bytes: &[u8]) -> Value<'_>
+    ensures four { length bytes.now ≡ 4 → value_text result ≡ Some (ipv4_text bytes.now) }
+    ensures other { length bytes.now ≢ 4 → value_text result ≡ Some (bytes_text bytes.now) }
+{
     match <[u8; 4]>::try_from(bytes) {
         Ok(address) => Value::Ip(IpAddr::from(address)),
         Err(_) => Value::Bytes(bytes),
@@ -92,7 +107,11 @@ pub fn ipv4_value(bytes: &[u8]) -> Value<'_> {
 }
 
 /// The IPv6 address that these sixteen bytes are; bytes where they are not sixteen.
-pub fn ipv6_value(bytes: &[u8]) -> Value<'_> {
+pub fn ipv6_value(bytes: &[u8]) -> Value<'_>
+    ensures sixteen { length bytes.now ≡ 16
+        → value_text result ≡ Some (ipv6_text (segments_of bytes.now)) }
+    ensures other { length bytes.now ≢ 16 → value_text result ≡ Some (bytes_text bytes.now) }
+{
     match <[u8; 16]>::try_from(bytes) {
         Ok(address) => Value::Ip(IpAddr::from(address)),
         Err(_) => Value::Bytes(bytes),
@@ -100,7 +119,11 @@ pub fn ipv6_value(bytes: &[u8]) -> Value<'_> {
 }
 
 /// The bytes of a field in a structure that may end early: as many as are there of bytes, and else all or none.
-fn field_bytes<'b>(field: &Field<'_>, structure: &'b [u8]) -> Option<&'b [u8]> {
+fn field_bytes<'b>(field: &Field<'_>, structure: &'b [u8]) -> Option<&'b [u8]>
+    ensures { field.now.start ≤ field.now.«end» → field.now.«end» ≤ length structure.now
+        → IsSomeAnd result (λ bytes. bytes.now
+        ≡ slice_range structure.now field.now.start field.now.«end») }
+{
     let whole = structure.get(field.start..field.end);
     match field.kind {
         FieldKind::Bytes if whole.is_none() && field.start < structure.len() => {

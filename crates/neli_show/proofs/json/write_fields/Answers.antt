@@ -4,7 +4,8 @@ use Rattle.neli_show.proofs.Pieces.{member_written, then_ok}
 use Rattle.neli_show.proofs.Written.{value-is_json}
 use Rattle.neli_show.specs.Json.{IsJson}
 use Rattle.neli_show.specs.Values.{value_json}
-use Rattle.neli_show.proofs.json.write_fields.Goals.{in-Some+in_ok-write_comma+in_ok-write-2+in_ok-write_value, in_default}
+use Rattle.neli_show.proofs.json.write_fields.Goals.{in-Some+in_ok-write_comma+in_ok-write-2+in_ok-write_value}
+use Rattle.neli_show.proofs.json.write_fields.Goals.{in_default}
 use Rattle.neli_show.proofs.json.write_fields.Goals as goal
 
 pub loop-field-init : goal.loop-field-init

@@ -1,0 +1,37 @@
+-- How a run ends.
+use Rattle.std.specs.Prelude.{ℕ, Bool, true, false, List, codes, Option, Some, None, Result, Ok, Err}
+use Rattle.std.specs.declared.io.Error.{Error}
+use Rattle.std.specs.declared.io.ErrorKind.{ErrorKind}
+use Rattle.std.specs.declared.io.ErrorKind.TheVariants.{OutOfMemory}
+use Rattle.neli_show.specs.declared.run.Status.{Status}
+use Rattle.neli_show.specs.declared.run.Status.TheVariants as status
+
+-- the exit status
+abbrev pub status_code : Status → ℕ
+status_code status.Whole = 0
+status_code status.Fault = 1
+status_code status.NoInput = 1
+status_code status.NoOutput = 1
+status_code status.Usage = 2
+status_code status.Memory = 3
+
+-- what is said of it on standard error
+abbrev pub complaint_text : Status → Option (List ℕ)
+complaint_text status.Whole = None
+complaint_text status.Fault = None
+complaint_text status.NoInput = Some (codes "neli_show: the input cannot be read")
+complaint_text status.NoOutput = Some (codes "neli_show: the output cannot be written")
+complaint_text status.Usage =
+    Some (codes "usage: neli_show [json | color] [route | connector | generic | NUMBER] < FILE")
+complaint_text status.Memory = Some (codes "neli_show: out of memory")
+
+-- how a run ends whose words were not read: memory ran out, or they are not what the program takes
+abbrev pub unread_status : ErrorKind → Status
+unread_status OutOfMemory = status.Memory
+unread_status kind = status.Usage
+
+-- how a run ends that printed its input: all of it is messages, or a part is not, or the output failed
+abbrev pub shown_status : Result Bool Error → Status
+shown_status (Ok true) = status.Whole
+shown_status (Ok false) = status.Fault
+shown_status (Err error) = status.NoOutput
