@@ -5,7 +5,8 @@
 ghost use Rattle.std.specs.Prelude.{◌≡◌, IsTrue, false, sum_by};
 ghost use Rattle.neli_body.specs.Attributes.{attrs_view};
 ghost use Rattle.neli_reader.specs.Messages.{message_of};
-ghost use Rattle.neli_bench.specs.Walks.{IsSum, as_u64, link_adds, link_cut, raw_cut, route_adds, route_cut, stated_length, type_and_length};
+ghost use Rattle.neli_bench.specs.Walks.{IsSum, as_u64, link_adds, link_cut, raw_cut, route_adds, route_cut};
+ghost use Rattle.neli_bench.specs.Walks.{stated_length, type_and_length};
 
 use crate::plus;
 use neli_attr::{Buffer, RtBuffer};

@@ -1,5 +1,6 @@
 -- Frames that begin what is left of a walk.
-use Rattle.std.proofs.Common.{◌≡◌, ℕ, ◌+◌, ◌-◌, ◌≤◌, List, length, take, drop, Ok, sym, ap, subst, ◌∙◌, arith, ltb, length-drop}
+use Rattle.std.proofs.Common.{◌≡◌, ℕ, ◌+◌, ◌-◌, ◌≤◌, List, length, take, drop, Ok, sym, ap, subst, ◌∙◌, arith, ltb}
+use Rattle.std.proofs.Common.{length-drop}
 use Rattle.std.proofs.lemmas.Bool.{ltb-false}
 use Rattle.std.proofs.lemmas.List.{length-take-le, drop-take, drop-drop, take-take}
 use Rattle.neli_wire.specs.Bytes.{Reading, short}
@@ -13,7 +14,8 @@ use Rattle.neli_wire.specs.Frames.{number_in}
 use Rattle.neli_c.specs.declared.lent.NeliWalk.{NeliWalk}
 use Rattle.neli_c.specs.declared.lent.NeliMessage.{NeliMessage}
 use Rattle.neli_c.specs.declared.lent.NeliAttribute.{NeliAttribute}
-use Rattle.neli_c.specs.Walks.{GivesAttribute, GivesMessage, IsInParts, attribute_layout, bytes_from, head_shown, header_shown, message_layout}
+use Rattle.neli_c.specs.Walks.{GivesAttribute, GivesMessage, IsInParts, attribute_layout, bytes_from, head_shown}
+use Rattle.neli_c.specs.Walks.{header_shown, message_layout}
 
 align-le : (n : ℕ) → n ≤ align n
 align-le n = omega arith
@@ -74,7 +76,8 @@ module _ {H : Type 0} (size : ℕ) (header_of : List ℕ → H) (length_of : H �
       ∙ take-take (n - size) m body short-of ∙ ap (λ (k : ℕ). take k body) (sym len-v) in
       let first : frame_at layout (bytes_from p (e - p) bytes) ≡ Ok ((h, v), r) =
       subst (λ (x : List ℕ). frame_at layout x ≡ Ok ((h, v), r)) is eq in
-      let rest : r ≡ drop (align n) (bytes_from p (e - p) bytes) = parts.1 ∙ ap (λ (x : List ℕ). drop (align n) x) is in (
+      let rest : r ≡ drop (align n) (bytes_from p (e - p) bytes)
+      = parts.1 ∙ ap (λ (x : List ℕ). drop (align n) x) is in (
         first ∙ ap (λ (x : List ℕ). read ((h, x), r)) v-is
             ∙ ap (λ (x : List ℕ). read ((h, bytes_from (p + size) (length v) bytes), x)) rest,
         len-v,

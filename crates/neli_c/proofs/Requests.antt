@@ -1,5 +1,6 @@
 -- Requests: the frame where flags and body were converted, and why nothing is sent.
-use Rattle.std.proofs.Common.{◌≡◌, ◌≢◌, ◌⊎◌, ◌≤◌, ℕ, ◌+◌, ℤ, Bool, true, false, List, Result, length, Ok, Err, if◌then◌else◌, nat_le, nat_lt, ap, arith, inl, inr, refl, subst, sym, ◌∙◌}
+use Rattle.std.proofs.Common.{◌≡◌, ◌≢◌, ◌⊎◌, ◌≤◌, ℕ, ◌+◌, ℤ, Bool, true, false, List, Result, length, Ok, Err}
+use Rattle.std.proofs.Common.{if◌then◌else◌, nat_le, nat_lt, ap, arith, inl, inr, refl, subst, sym, ◌∙◌}
 use Rattle.std.proofs.lemmas.Bool.{le-leb, le-ltb}
 use Rattle.neli_consts.specs.declared.nlm_f.NlmF.{NlmF}
 use Rattle.neli_reader.specs.NlPayload.TheVariants as payload

@@ -1,5 +1,6 @@
 -- The places of handles: what stands at one, and which are free.
-use Rattle.std.specs.Prelude.{◌≡◌, ◌≢◌, ⊤, ℕ, List, [], ◌∷◌, ◌++◌, Option, Some, None, length, nat_lt, slice_get, slice_set, if◌then◌else◌}
+use Rattle.std.specs.Prelude.{◌≡◌, ◌≢◌, ⊤, ℕ, List, [], ◌∷◌, ◌++◌, Option, Some, None, length, nat_lt, slice_get}
+use Rattle.std.specs.Prelude.{slice_set, if◌then◌else◌}
 use Rattle.neli_router.specs.declared.handle.HandleState.{HandleState}
 use Rattle.neli_c.specs.declared.session.Slot.{Slot}
 use Rattle.neli_c.specs.declared.session.Slot.TheVariants as slot

@@ -1,10 +1,12 @@
 //! What an error, an acknowledgement or the end of a dump says. It takes no memory.
 
-ghost use Rattle.std.specs.Prelude.{◌≡◌, ◌≢◌, ◌≤◌, true, false, Some, None, IfErr, IfOk, IfSome, IsErr, IsNone, IsOk, drop, length, min};
+ghost use Rattle.std.specs.Prelude.{◌≡◌, ◌≢◌, ◌≤◌, true, false, Some, None, IfErr, IfOk, IfSome, IsErr, IsNone, IsOk};
+ghost use Rattle.std.specs.Prelude.{drop, length, min};
 ghost use Rattle.neli_reader.specs.Answers.{code_in, echo_end, echoed_in};
 ghost use Rattle.neli_reader.specs.Headers.{header_in};
 ghost use Rattle.neli_c.specs.Codes.{ok};
-ghost use Rattle.neli_c.specs.AnswersShown.{IsShown, answer_code, attributes_begin, echo_shown, no_header, payload_code, payload_shown};
+ghost use Rattle.neli_c.specs.AnswersShown.{IsShown, answer_code, attributes_begin, echo_shown, no_header};
+ghost use Rattle.neli_c.specs.AnswersShown.{payload_code, payload_shown};
 
 use crate::code::{KIND, LENGTH, OK, PLACE, SHORT};
 use crate::lent::{NeliMessage, NeliWalk};

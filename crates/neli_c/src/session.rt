@@ -1,9 +1,13 @@
 //! A router with the handles that it gave, and the item that was read last.
 
-ghost use Rattle.std.specs.Prelude.{◌≡◌, ◌≢◌, ◌<◌, ℕ, IfOk, IfSome, IsNone, IsSome, List, ◌∷◌, Some, None, length, slice_get, slice_set, nat_le, vec_capacity, vec_len, if◌then◌else◌};
+ghost use Rattle.std.specs.Prelude.{◌≡◌, ◌≢◌, ◌<◌, ℕ, IfOk, IfSome, IsNone, IsSome, List, ◌∷◌, Some, None, length};
+ghost use Rattle.std.specs.Prelude.{slice_get, slice_set, nat_le, vec_capacity, vec_len, if◌then◌else◌};
 ghost use Rattle.neli_router.specs.declared.handle.HandleState.{HandleState};
 ghost use Rattle.neli_c.specs.Codes.{no_handle, ok, room};
-ghost use Rattle.neli_c.specs.Sessions.{ClosesHandle, HasFree, Holds, IsNew, ReadsHandle, RefusesRequest, SaysNeeded, SendsNothing, SendsRequest, SetsNumber, TakesDatagram, TakesFault, WritesItem, error_code, error_flags, error_message, fault_kind, item_code, item_message, item_shown, reply_code, socket_code};
+ghost use Rattle.neli_c.specs.Sessions.{ClosesHandle, HasFree, Holds, IsNew, ReadsHandle, RefusesRequest, SaysNeeded};
+ghost use Rattle.neli_c.specs.Sessions.{SendsNothing, SendsRequest, SetsNumber, TakesDatagram, TakesFault, WritesItem};
+ghost use Rattle.neli_c.specs.Sessions.{error_code, error_flags, error_message, fault_kind, item_code, item_message};
+ghost use Rattle.neli_c.specs.Sessions.{item_shown, reply_code, socket_code};
 ghost use Rattle.neli_c.specs.Slots.{AreFree, handle_at, later_places, next_place, put_at};
 ghost use Rattle.neli_c.specs.declared.session.Slot.TheVariants as slot;
 ghost use Rattle.neli_c.specs.Writes.{put_first};

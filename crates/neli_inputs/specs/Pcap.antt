@@ -1,10 +1,12 @@
 -- Pcap files of nlmon: a header of 24 bytes, and then records, one after the other.
-use Rattle.std.specs.Prelude.{◌≡◌, ℕ, ◌+◌, ◌-◌, ◌<◌, ◌==◌, ◌||◌, nat_lt, if◌then◌else◌, List, [], ◌∷◌, length, drop, slice_range, Option, Some, None, Result, Ok, Err}
+use Rattle.std.specs.Prelude.{◌≡◌, ℕ, ◌+◌, ◌-◌, ◌<◌, ◌==◌, ◌||◌, nat_lt, if◌then◌else◌, List, [], ◌∷◌, length, drop}
+use Rattle.std.specs.Prelude.{slice_range, Option, Some, None, Result, Ok, Err}
 use Rattle.byteorder.specs.Endian.{big_number, little_number}
 use Rattle.neli_inputs.specs.declared.item.Item.{Item}
 use Rattle.neli_inputs.specs.declared.item.Packet.{Packet}
 use Rattle.neli_inputs.specs.declared.item.Refusal.{Refusal}
-use Rattle.neli_inputs.specs.declared.item.Refusal.TheVariants.{FileHeader, LinkType, RecordHeader, RecordBytes, Snapped, NotNetlink}
+use Rattle.neli_inputs.specs.declared.item.Refusal.TheVariants.{FileHeader, LinkType, RecordHeader, RecordBytes}
+use Rattle.neli_inputs.specs.declared.item.Refusal.TheVariants.{Snapped, NotNetlink}
 use Rattle.neli_inputs.specs.declared.pcap.Order.{Order}
 use Rattle.neli_inputs.specs.declared.pcap.Order.TheVariants.{Little, Big}
 use Rattle.neli_inputs.specs.Cooked.{cooked_family}

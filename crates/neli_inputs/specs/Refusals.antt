@@ -2,7 +2,8 @@
 use Rattle.std.specs.Prelude.{ℕ, List, ◌++◌, codes}
 use Rattle.std.specs.Fmt.{decimal}
 use Rattle.neli_inputs.specs.declared.item.Refusal.{Refusal}
-use Rattle.neli_inputs.specs.declared.item.Refusal.TheVariants.{FileHeader, LinkType, RecordHeader, RecordBytes, Snapped, NotNetlink, Gap, NotHex}
+use Rattle.neli_inputs.specs.declared.item.Refusal.TheVariants.{FileHeader, LinkType, RecordHeader, RecordBytes}
+use Rattle.neli_inputs.specs.declared.item.Refusal.TheVariants.{Snapped, NotNetlink, Gap, NotHex}
 
 abbrev pub refusal_text : Refusal → List ℕ
 refusal_text FileHeader = codes "the input ends inside a file's header"

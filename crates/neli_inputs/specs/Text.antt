@@ -1,5 +1,6 @@
 -- Hexadecimal text: its lines, and the datagrams that they are.
-use Rattle.std.specs.Prelude.{◌≡◌, ℕ, ◌+◌, ◌-◌, Bool, true, false, ◌&&◌, not, ◌==◌, nat_lt, nat_le, if◌then◌else◌, List, [], ◌∷◌, ◌++◌, length, slice_range, map, Option, Some, None, Result, Ok, Err}
+use Rattle.std.specs.Prelude.{◌≡◌, ℕ, ◌+◌, ◌-◌, Bool, true, false, ◌&&◌, not, ◌==◌, nat_lt, nat_le, if◌then◌else◌, List}
+use Rattle.std.specs.Prelude.{[], ◌∷◌, ◌++◌, length, slice_range, map, Option, Some, None, Result, Ok, Err}
 use Rattle.std.specs.List.{flat_map, list_any, slice_split}
 use Rattle.neli_inputs.specs.declared.item.Item.{Item}
 use Rattle.neli_inputs.specs.declared.item.Packet.{Packet}

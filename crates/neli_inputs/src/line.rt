@@ -3,7 +3,8 @@
 ghost use Rattle.std.specs.Prelude.{◌≡◌, ◌==◌, ◌<◌, length, false, IfOk, IfSome};
 ghost use Rattle.std.specs.List.{position};
 ghost use Rattle.std.specs.Option.{option_map};
-ghost use Rattle.neli_inputs.specs.Lines.{ReadsLine, bytes_of_digits, count_in, digits_of, dump_between, dump_of, first_words, is_blank, offset_in, skip_blanks, with_offset, without_prefix};
+ghost use Rattle.neli_inputs.specs.Lines.{ReadsLine, bytes_of_digits, count_in, digits_of, dump_between, dump_of};
+ghost use Rattle.neli_inputs.specs.Lines.{first_words, is_blank, offset_in, skip_blanks, with_offset, without_prefix};
 
 use byteorder::{BigEndian, ByteOrder};
 use hex::FromHexError;

@@ -16,7 +16,8 @@
 ghost use Rattle.std.specs.Prelude.{◌≡◌, ◌<◌, ◌^◌, ◌++◌, length, map, sum_by, IfOk, OnOk};
 ghost use Rattle.std.specs.List.{flat_map, list_any};
 ghost use Rattle.neli_inputs.specs.Lines.{count_in, line_of};
-ghost use Rattle.neli_inputs.specs.Text.{IsText, closed, continues, ends, family_in, is_dump, items_in, lines_in, begun_after, refusal_of, refused, uncooked};
+ghost use Rattle.neli_inputs.specs.Text.{IsText, closed, continues, ends, family_in, is_dump, items_in, lines_in};
+ghost use Rattle.neli_inputs.specs.Text.{begun_after, refusal_of, refused, uncooked};
 
 use crate::cooked::{COOKED_HEADER, cooked_family};
 use crate::item::{Input, Item, Packet, Refusal};

@@ -1,5 +1,7 @@
 -- A listing that is made message by message.
-use Rattle.std.proofs.Common.{◌≡◌, ◌≢◌, inl, inr, ℕ, List, [], ◌∷◌, ◌++◌, length, take, codes, false, nat_eq, ◌<◌, Option, Some, None, Result, Ok, Err, IfErr, IsErrAnd, refl, sym, ap, subst, ◌∙◌, append_assoc, arith, length-append}
+use Rattle.std.proofs.Common.{◌≡◌, ◌≢◌, inl, inr, ℕ, List, [], ◌∷◌, ◌++◌, length, take, codes, false, nat_eq, ◌<◌}
+use Rattle.std.proofs.Common.{Option, Some, None, Result, Ok, Err, IfErr, IsErrAnd, refl, sym, ap, subst, ◌∙◌}
+use Rattle.std.proofs.Common.{append_assoc, arith, length-append}
 use Rattle.std.proofs.lemmas.List.{take_at, append-nil}
 use Rattle.std.proofs.lemmas.List.Concat.{flat_map-append}
 use Rattle.std.specs.Prelude.{⊤}
@@ -24,7 +26,8 @@ use Rattle.neli_reader.specs.laws.Messages.{layout_with-placed}
 use Rattle.neli_reader.specs.laws.Cuts.{cut_of-Cuts, cut_of-end, cut_of-fault, cut_of-message, frame_at-longer}
 use Rattle.neli_listing.specs.declared.line.Ending.{Ending}
 use Rattle.neli_listing.specs.declared.line.Ending.TheVariants.{Whole, Input, Short, Other, Tail, Memory}
-use Rattle.neli_listing.specs.Listing.{BeginsWith, GoesOnAfter, IsLineOf, Lists, Raw, ending_by, ending_of, line_of, line_text, lines_of, raw_cut}
+use Rattle.neli_listing.specs.Listing.{BeginsWith, GoesOnAfter, IsLineOf, Lists, Raw, ending_by, ending_of, line_of}
+use Rattle.neli_listing.specs.Listing.{line_text, lines_of, raw_cut}
 
 -- ---- what is left of a datagram
 

@@ -1,5 +1,6 @@
 -- The bytes of a text, one after the other, where some stand before them already.
-use Rattle.std.proofs.Common.{◌≡◌, ℕ, suc, ◌<◌, false, nat_eq, List, [], ◌∷◌, ◌++◌, drop, length, get_or, Option, Some, None, refl, sym, ap, append_assoc, arith}
+use Rattle.std.proofs.Common.{◌≡◌, ℕ, suc, ◌<◌, false, nat_eq, List, [], ◌∷◌, ◌++◌, drop, length, get_or, Option, Some}
+use Rattle.std.proofs.Common.{None, refl, sym, ap, append_assoc, arith}
 use Rattle.std.specs.Prelude.{option_map}
 use Rattle.neli_payloads.specs.HardwareText.{byte_before, bytes_of_text, with_later}
 

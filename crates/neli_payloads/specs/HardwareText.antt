@@ -1,5 +1,6 @@
 -- The text of a hardware address, as it is read: in either case, and as `Display` prints it but for that.
-use Rattle.std.specs.Prelude.{ℕ, zero, suc, ◌+◌, ◌-◌, ◌*◌, ◌==◌, ◌&&◌, List, [], ◌∷◌, drop, Option, Some, None, nat_le, option_map, if◌then◌else◌}
+use Rattle.std.specs.Prelude.{ℕ, zero, suc, ◌+◌, ◌-◌, ◌*◌, ◌==◌, ◌&&◌, List, [], ◌∷◌, drop, Option, Some, None, nat_le}
+use Rattle.std.specs.Prelude.{option_map, if◌then◌else◌}
 
 -- the value of a hexadecimal digit, in either case: `0` to `9` are 48 to 57, `a` to `f` 97 to 102, `A` to `F` 65 to 70
 abbrev pub digit_value : ℕ → Option ℕ

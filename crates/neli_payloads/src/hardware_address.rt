@@ -41,7 +41,8 @@ impl Model for HardwareAddress {
     ghost invariant = { λ a. (a.count ≤ 32) × (length a.bytes ≡ 32)
         × (a.bytes ≡ take a.count a.bytes ++ replicate (32 - a.count) 0) };
 
-    ghost inverse = { λ xs. record { bytes = xs ++ replicate (32 - length xs) 0; count = length xs } };
+    ghost inverse = { λ xs.
+        record { bytes = xs ++ replicate (32 - length xs) 0; count = length xs } };
 
     ghost inverse_ok = { λ a h. fields-back (λ bytes count. record { bytes = bytes; count = count })
         a.count a.bytes h.0 h.1 h.2 };

@@ -6,7 +6,8 @@ ghost use Rattle.neli_wire.specs.laws.Reading.{value_at-local, value_at-no_memor
 ghost use Rattle.neli_wire.specs.laws.Sizes.{unpadded-rounded, unpadded-zeros};
 ghost use Rattle.neli_wire.specs.laws.Writing.{written-length, written-no_memory};
 ghost use Rattle.neli_payloads.specs.IfaCacheinfo.{IsPlainIfaCacheinfo, ifa_cacheinfo_bytes, ifa_cacheinfo_header};
-ghost use Rattle.neli_payloads.specs.laws.IfaCacheinfo.{ifa_cacheinfo-reads_back, ifa_cacheinfo-width, ifa_cacheinfo-writes_back};
+ghost use Rattle.neli_payloads.specs.laws.IfaCacheinfo.{ifa_cacheinfo-reads_back, ifa_cacheinfo-width};
+ghost use Rattle.neli_payloads.specs.laws.IfaCacheinfo.{ifa_cacheinfo-writes_back};
 
 use neli_body::numbers::u32_in;
 use neli_body::{FixedHeader, HeaderBytes, read_fixed, write_fixed};

@@ -50,19 +50,26 @@ pub fn rta_cacheinfo_is_read_back()
 /// What is set for a virtual function is written as bytes that are read as the same, where each field has a number of
 /// its size. And bytes that are read as such a structure are those that it is written as.
 pub fn virtual_functions_are_read_back()
-    ensures setting_back { (v : VfSetting) → IsPlainVfSetting v → vf_setting_header (vf_setting_bytes v) ≡ v }
-    ensures setting_bytes { (s : List ℕ) → length s ≡ 8 → AreBytes s → vf_setting_bytes (vf_setting_header s) ≡ s }
+    ensures setting_back { (v : VfSetting) → IsPlainVfSetting v
+        → vf_setting_header (vf_setting_bytes v) ≡ v }
+    ensures setting_bytes { (s : List ℕ) → length s ≡ 8 → AreBytes s
+        → vf_setting_bytes (vf_setting_header s) ≡ s }
     ensures rate_back { (v : VfRate) → IsPlainVfRate v → vf_rate_header (vf_rate_bytes v) ≡ v }
-    ensures rate_bytes { (s : List ℕ) → length s ≡ 12 → AreBytes s → vf_rate_bytes (vf_rate_header s) ≡ s }
+    ensures rate_bytes { (s : List ℕ) → length s ≡ 12 → AreBytes s
+        → vf_rate_bytes (vf_rate_header s) ≡ s }
     ensures vlan_back { (v : VfVlan) → IsPlainVfVlan v → vf_vlan_header (vf_vlan_bytes v) ≡ v }
-    ensures vlan_bytes { (s : List ℕ) → length s ≡ 12 → AreBytes s → vf_vlan_bytes (vf_vlan_header s) ≡ s }
-    ensures vlan_info_back { (v : VfVlanInfo) → IsPlainVfVlanInfo v → vf_vlan_info_header (vf_vlan_info_bytes v) ≡ v }
+    ensures vlan_bytes { (s : List ℕ) → length s ≡ 12 → AreBytes s
+        → vf_vlan_bytes (vf_vlan_header s) ≡ s }
+    ensures vlan_info_back { (v : VfVlanInfo) → IsPlainVfVlanInfo v
+        → vf_vlan_info_header (vf_vlan_info_bytes v) ≡ v }
     ensures vlan_info_bytes { (s : List ℕ) → length s ≡ 16 → AreBytes s
         → vf_vlan_info_bytes (vf_vlan_info_header s) ≡ s }
     ensures mac_back { (v : VfMac) → IsPlainVfMac v → vf_mac_header (vf_mac_bytes v) ≡ v }
-    ensures mac_bytes { (s : List ℕ) → length s ≡ 36 → AreBytes s → vf_mac_bytes (vf_mac_header s) ≡ s }
+    ensures mac_bytes { (s : List ℕ) → length s ≡ 36 → AreBytes s
+        → vf_mac_bytes (vf_mac_header s) ≡ s }
     ensures guid_back { (v : VfGuid) → IsPlainVfGuid v → vf_guid_header (vf_guid_bytes v) ≡ v }
-    ensures guid_bytes { (s : List ℕ) → length s ≡ 16 → AreBytes s → vf_guid_bytes (vf_guid_header s) ≡ s }
+    ensures guid_bytes { (s : List ℕ) → length s ≡ 16 → AreBytes s
+        → vf_guid_bytes (vf_guid_header s) ≡ s }
 {}
 
 /// `==` of the lifetimes of addresses, of routes' cache entries, of counters and of what is set for virtual functions

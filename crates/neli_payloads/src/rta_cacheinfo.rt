@@ -6,7 +6,8 @@ ghost use Rattle.neli_wire.specs.laws.Reading.{value_at-local, value_at-no_memor
 ghost use Rattle.neli_wire.specs.laws.Sizes.{unpadded-rounded, unpadded-zeros};
 ghost use Rattle.neli_wire.specs.laws.Writing.{written-length, written-no_memory};
 ghost use Rattle.neli_payloads.specs.RtaCacheinfo.{IsPlainRtaCacheinfo, rta_cacheinfo_bytes, rta_cacheinfo_header};
-ghost use Rattle.neli_payloads.specs.laws.RtaCacheinfo.{rta_cacheinfo-reads_back, rta_cacheinfo-width, rta_cacheinfo-writes_back};
+ghost use Rattle.neli_payloads.specs.laws.RtaCacheinfo.{rta_cacheinfo-reads_back, rta_cacheinfo-width};
+ghost use Rattle.neli_payloads.specs.laws.RtaCacheinfo.{rta_cacheinfo-writes_back};
 
 use neli_body::numbers::{i32_in, u32_in};
 use neli_body::{FixedHeader, HeaderBytes, read_fixed, write_fixed};

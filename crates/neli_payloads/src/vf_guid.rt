@@ -94,7 +94,8 @@ impl Size for VfGuid {
 impl ToBytes for VfGuid {
     ghost wire = { λ v. Ok (vf_guid_bytes v) };
 
-    ghost length_is = { λ v bytes e. written-length (vf_guid_bytes v) bytes 16 (vf_guid-width v) e };
+    ghost length_is = { λ v bytes e.
+        written-length (vf_guid_bytes v) bytes 16 (vf_guid-width v) e };
 
     ghost zeros_after = { λ v bytes e. unpadded-zeros 16 bytes
         (written-length (vf_guid_bytes v) bytes 16 (vf_guid-width v) e) };

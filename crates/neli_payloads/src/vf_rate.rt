@@ -79,7 +79,8 @@ impl Size for VfRate {
 impl ToBytes for VfRate {
     ghost wire = { λ v. Ok (vf_rate_bytes v) };
 
-    ghost length_is = { λ v bytes e. written-length (vf_rate_bytes v) bytes 12 (vf_rate-width v) e };
+    ghost length_is = { λ v bytes e.
+        written-length (vf_rate_bytes v) bytes 12 (vf_rate-width v) e };
 
     ghost zeros_after = { λ v bytes e. unpadded-zeros 12 bytes
         (written-length (vf_rate_bytes v) bytes 12 (vf_rate-width v) e) };

@@ -83,7 +83,8 @@ impl Size for VfSetting {
 impl ToBytes for VfSetting {
     ghost wire = { λ v. Ok (vf_setting_bytes v) };
 
-    ghost length_is = { λ v bytes e. written-length (vf_setting_bytes v) bytes 8 (vf_setting-width v) e };
+    ghost length_is = { λ v bytes e.
+        written-length (vf_setting_bytes v) bytes 8 (vf_setting-width v) e };
 
     ghost zeros_after = { λ v bytes e. unpadded-zeros 8 bytes
         (written-length (vf_setting_bytes v) bytes 8 (vf_setting-width v) e) };

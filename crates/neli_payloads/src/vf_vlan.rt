@@ -76,7 +76,8 @@ impl Size for VfVlan {
 impl ToBytes for VfVlan {
     ghost wire = { λ v. Ok (vf_vlan_bytes v) };
 
-    ghost length_is = { λ v bytes e. written-length (vf_vlan_bytes v) bytes 12 (vf_vlan-width v) e };
+    ghost length_is = { λ v bytes e.
+        written-length (vf_vlan_bytes v) bytes 12 (vf_vlan-width v) e };
 
     ghost zeros_after = { λ v bytes e. unpadded-zeros 12 bytes
         (written-length (vf_vlan_bytes v) bytes 12 (vf_vlan-width v) e) };

@@ -6,7 +6,8 @@ ghost use Rattle.neli_wire.specs.laws.Reading.{value_at-local, value_at-no_memor
 ghost use Rattle.neli_wire.specs.laws.Sizes.{unpadded-rounded, unpadded-zeros};
 ghost use Rattle.neli_wire.specs.laws.Writing.{written-length, written-no_memory};
 ghost use Rattle.neli_payloads.specs.VfVlanInfo.{IsPlainVfVlanInfo, vf_vlan_info_bytes, vf_vlan_info_header};
-ghost use Rattle.neli_payloads.specs.laws.VfVlanInfo.{vf_vlan_info-reads_back, vf_vlan_info-width, vf_vlan_info-writes_back};
+ghost use Rattle.neli_payloads.specs.laws.VfVlanInfo.{vf_vlan_info-reads_back, vf_vlan_info-width};
+ghost use Rattle.neli_payloads.specs.laws.VfVlanInfo.{vf_vlan_info-writes_back};
 
 use byteorder::{BigEndian, ByteOrder};
 use neli_body::numbers::{u16_in, u32_in};
@@ -107,7 +108,8 @@ impl Size for VfVlanInfo {
 impl ToBytes for VfVlanInfo {
     ghost wire = { λ v. Ok (vf_vlan_info_bytes v) };
 
-    ghost length_is = { λ v bytes e. written-length (vf_vlan_info_bytes v) bytes 16 (vf_vlan_info-width v) e };
+    ghost length_is = { λ v bytes e.
+        written-length (vf_vlan_info_bytes v) bytes 16 (vf_vlan_info-width v) e };
 
     ghost zeros_after = { λ v bytes e. unpadded-zeros 16 bytes
         (written-length (vf_vlan_info_bytes v) bytes 16 (vf_vlan_info-width v) e) };

@@ -1,8 +1,10 @@
 -- Lines that are good, and the first that is not.
-use Rattle.std.proofs.Common.{◌≡◌, ◌⊎◌, inl, inr, ℕ, suc, ◌+◌, ◌<◌, Bool, true, false, List, [], ◌∷◌, length, take, Option, Some, None, Result, Ok, Err, refl, arith}
+use Rattle.std.proofs.Common.{◌≡◌, ◌⊎◌, inl, inr, ℕ, suc, ◌+◌, ◌<◌, Bool, true, false, List, [], ◌∷◌, length, take}
+use Rattle.std.proofs.Common.{Option, Some, None, Result, Ok, Err, refl, arith}
 use Rattle.std.specs.Prelude.{IsSome}
 use Rattle.neli_replay.specs.declared.line.Entry.{Entry}
-use Rattle.neli_replay.specs.Script.{AreGood, IsFirstBad, entry_if, entries_from, entries_of, entry_in, lines_in, with_line, words_in}
+use Rattle.neli_replay.specs.Script.{AreGood, IsFirstBad, entry_if, entries_from, entries_of, entry_in, lines_in}
+use Rattle.neli_replay.specs.Script.{with_line, words_in}
 
 with_ok : (k : ℕ) (o : Option Entry) (later : Result (List Entry) ℕ) (es : List Entry) → with_line k o later ≡ Ok es
     → IsSome o × ((rest : List Entry) × (later ≡ Ok rest))

@@ -1,5 +1,6 @@
 -- What words are read as.
-use Rattle.std.proofs.Common.{Bor, ◌≡◌, eqb, ℕ, ◌<◌, ◌^◌, true, false, ltb, List, length, Some, Result, Ok, Err, refl, ap, rules}
+use Rattle.std.proofs.Common.{Bor, ◌≡◌, eqb, ℕ, ◌<◌, ◌^◌, true, false, ltb, List, length, Some, Result, Ok, Err, refl}
+use Rattle.std.proofs.Common.{ap, rules}
 use Rattle.std.specs.Prelude.{MatchOption, MatchResult}
 use Rattle.std.specs.Result.{result_ok}
 use Rattle.std.specs.Char.{is_ascii_digit}

@@ -1,5 +1,6 @@
 -- Scripts: their lines, and what each says.
-use Rattle.std.specs.Prelude.{◌≡◌, ⊤, ℕ, ◌+◌, Bool, true, false, ◌==◌, if◌then◌else◌, bit_and, List, [], ◌∷◌, codes, IsSome, ◌<◌, length, take, Option, Some, None, Result, Ok, Err}
+use Rattle.std.specs.Prelude.{◌≡◌, ⊤, ℕ, ◌+◌, Bool, true, false, ◌==◌, if◌then◌else◌, bit_and, List, [], ◌∷◌, codes}
+use Rattle.std.specs.Prelude.{IsSome, ◌<◌, length, take, Option, Some, None, Result, Ok, Err}
 use Rattle.std.specs.List.{AllZip, flat_map, slice_split}
 use Rattle.std.specs.Option.{option_map, option_to_list}
 use Rattle.std.specs.Str.{bytes_eq}

@@ -1,5 +1,6 @@
 -- What look-ups say, in the words of `specs/Attributes.antt`.
-use Rattle.std.proofs.Common.{◌≡◌, ℕ, Bool, true, false, cond, List, [], ◌∷◌, Option, Some, None, Result, Ok, Err, refl, ap, inl, inr, map, find, option_map, IsSomeAnd, IfOk, IfErr}
+use Rattle.std.proofs.Common.{◌≡◌, ℕ, Bool, true, false, cond, List, [], ◌∷◌, Option, Some, None, Result, Ok, Err, refl}
+use Rattle.std.proofs.Common.{ap, inl, inr, map, find, option_map, IsSomeAnd, IfOk, IfErr}
 use Rattle.std.specs.Result.{result_ok}
 use Rattle.neli_wire.specs.DeError.{DeError}
 use Rattle.neli_wire.specs.DeError.TheVariants.{Msg, Io, Utf8, InvalidInput, Memory}
@@ -15,7 +16,8 @@ use Rattle.neli_attr.specs.Lookup.{payload_of_type, read_found}
 use Rattle.neli_attr.specs.Nlattr.{nlattr_says}
 use Rattle.neli_attr.specs.declared.nlattr.Nlattr.{Nlattr}
 use Rattle.neli_attr.specs.Payloads.{ReadsFirst}
-use Rattle.neli_resolvers.specs.Attributes.{first_number, is_family_id, is_family_name, is_id, is_mcast_groups, is_name, payload_where}
+use Rattle.neli_resolvers.specs.Attributes.{first_number, is_family_id, is_family_name, is_id, is_mcast_groups, is_name}
+use Rattle.neli_resolvers.specs.Attributes.{payload_where}
 use Rattle.neli_resolvers.specs.Items.{IsReadRefusal}
 
 -- ---- types

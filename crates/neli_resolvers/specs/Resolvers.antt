@@ -1,5 +1,7 @@
 -- What the resolvers answer, by the whole list of items.
-use Rattle.std.specs.Prelude.{ℕ, ◌==◌, ◌⊎◌, Bool, false, ◌≡◌, List, [], ◌++◌, codes, if◌then◌else◌, nat_eq, filter_map, Option, Some, None, Result, Ok, Err, IsSome, ok_or, option_and_then, option_map, unwrap_or}
+use Rattle.std.specs.Prelude.{ℕ, ◌==◌, ◌⊎◌, Bool, false, ◌≡◌, List, [], ◌++◌, codes, if◌then◌else◌, nat_eq, filter_map}
+use Rattle.std.specs.Prelude.{Option, Some, None, Result, Ok, Err, IsSome, ok_or, option_and_then, option_map}
+use Rattle.std.specs.Prelude.{unwrap_or}
 use Rattle.std.specs.Cmp.Lexicographic.{pointwise}
 use Rattle.std.specs.List.{last_or}
 use Rattle.std.specs.Option.{option_map_or}
@@ -11,7 +13,8 @@ use Rattle.neli_genl.specs.Genlmsghdr.{AttributesRead}
 use Rattle.neli_reader.specs.RouterError.TheVariants.{Msg}
 use Rattle.neli_reader.specs.RouterErrors.{de_of}
 use Rattle.neli_resolvers.specs.Attributes.{Group, family_id, family_name, group_attrs, group_id, group_name, groups}
-use Rattle.neli_resolvers.specs.Items.{Error, Item, Message, after, first_error, first_found, last_found, messages, attributes_said}
+use Rattle.neli_resolvers.specs.Items.{Error, Item, Message, after, first_error, first_found, last_found, messages}
+use Rattle.neli_resolvers.specs.Items.{attributes_said}
 
 -- ---- texts, where nothing was found
 

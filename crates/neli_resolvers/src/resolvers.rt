@@ -4,7 +4,9 @@ ghost use Rattle.std.specs.Prelude.{⊤, ◌≡◌, Err, IfErr, IfOk, IsSome, Ok
 ghost use Rattle.neli_attr.specs.Handles.{attrs_in};
 ghost use Rattle.neli_attr.specs.Nlattr.{nlattr_says};
 ghost use Rattle.neli_resolvers.specs.Items.{IsReadRefusal, IsRefusal, attributes_said};
-ghost use Rattle.neli_resolvers.specs.Resolvers.{both_answer, family_answer, family_takes_memory, group_answer, group_takes_memory, lent_family_takes_memory, match_in, names_answer, names_in, names_said, names_take_memory, number_told};
+ghost use Rattle.neli_resolvers.specs.Resolvers.{both_answer, family_answer, family_takes_memory, group_answer};
+ghost use Rattle.neli_resolvers.specs.Resolvers.{group_takes_memory, lent_family_takes_memory, match_in, names_answer};
+ghost use Rattle.neli_resolvers.specs.Resolvers.{names_in, names_said, names_take_memory, number_told};
 
 use crate::attributes::{family_id, family_name, groups};
 use crate::groups::{first_match, last_name};

@@ -1,5 +1,7 @@
 -- Walks, one item after the other.
-use Rattle.std.proofs.Common.{◌≡◌, ◌≢◌, inl, inr, Bool, true, false, ltb, ℕ, zero, suc, ◌+◌, ◌-◌, ◌<◌, ◌≤◌, List, [], ◌∷◌, ◌++◌, length, map, Option, Some, None, Ok, Err, refl, sym, ap, ◌∙◌, append_assoc, arith, length-append}
+use Rattle.std.proofs.Common.{◌≡◌, ◌≢◌, inl, inr, Bool, true, false, ltb, ℕ, zero, suc, ◌+◌, ◌-◌, ◌<◌, ◌≤◌, List, []}
+use Rattle.std.proofs.Common.{◌∷◌, ◌++◌, length, map, Option, Some, None, Ok, Err, refl, sym, ap, ◌∙◌, append_assoc}
+use Rattle.std.proofs.Common.{arith, length-append}
 use Rattle.std.specs.Prelude.{◌⊎◌, option_map}
 use Rattle.std.proofs.lemmas.List.{append-nil, map-append, length-map}
 use Rattle.std.proofs.lemmas.Bool.{ltb-true, ltb-false}
@@ -18,7 +20,8 @@ use Rattle.neli_schema_walk.specs.declared.item.Step.{Step}
 use Rattle.neli_schema_walk.specs.declared.level.Level.{Level}
 use Rattle.neli_schema_walk.specs.declared.shape.Shape.TheVariants.{Nest}
 use Rattle.neli_schema_walk.specs.Shapes.{Lent, Shaped, attribute_layout, attributes_of, row_shape}
-use Rattle.neli_schema_walk.specs.Walks.{Seen, attribute_item, attribute_seen_at, closed, fault_items, fault_seen, left_items, level_items, nest_items, nested_bytes, shape_in, step_of, walked}
+use Rattle.neli_schema_walk.specs.Walks.{Seen, attribute_item, attribute_seen_at, closed, fault_items, fault_seen}
+use Rattle.neli_schema_walk.specs.Walks.{left_items, level_items, nest_items, nested_bytes, shape_in, step_of, walked}
 
 -- ---- a list of attributes
 

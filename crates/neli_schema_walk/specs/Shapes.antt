@@ -1,5 +1,6 @@
 -- What a payload is by its row, or how it breaks the row.
-use Rattle.std.specs.Prelude.{ℕ, ◌-◌, Bool, ◌&&◌, ◌==◌, nat_eq, nat_lt, if◌then◌else◌, List, [], ◌∷◌, length, take, find, slice_index, Option, Some, None, option_map, Result, Ok, Err, ◌%◌}
+use Rattle.std.specs.Prelude.{ℕ, ◌-◌, Bool, ◌&&◌, ◌==◌, nat_eq, nat_lt, if◌then◌else◌, List, [], ◌∷◌, length, take}
+use Rattle.std.specs.Prelude.{find, slice_index, Option, Some, None, option_map, Result, Ok, Err, ◌%◌}
 use Rattle.std.specs.Str.{bytes_eq, is_utf8}
 use Rattle.byteorder.specs.Endian.{little_number}
 use Rattle.neli_attr.specs.TypeField.{type_of}

@@ -2,7 +2,8 @@
 
 ghost use Rattle.std.specs.Prelude.{◌≡◌, Some, find};
 ghost use Rattle.std.specs.Option.{option_copied};
-ghost use Rattle.neli_schema_walk.specs.Shapes.{address_shape, case_table, chosen_shape, chosen_table, key_fits, kind_shape, row_shape};
+ghost use Rattle.neli_schema_walk.specs.Shapes.{address_shape, case_table, chosen_shape, chosen_table, key_fits};
+ghost use Rattle.neli_schema_walk.specs.Shapes.{kind_shape, row_shape};
 
 use crate::payload::{
     beside, hops_shape, in_parts, key_fits, nest_shape, of_size, text_shape, zero_text_shape,

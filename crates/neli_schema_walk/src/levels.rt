@@ -5,7 +5,8 @@ ghost use Rattle.arrayvec.specs.ArrayVec.{array_vec_len};
 ghost use Rattle.neli_wire.specs.Frames.{frame_at};
 ghost use Rattle.neli_schema_walk.specs.Shapes.{attribute_layout};
 ghost use Rattle.neli_lent.specs.Attributes.{attribute_said};
-ghost use Rattle.neli_schema_walk.specs.Walks.{closed, item_seen, left_items, nest_items, nested_bytes, next_item, walked};
+ghost use Rattle.neli_schema_walk.specs.Walks.{closed, item_seen, left_items, nest_items, nested_bytes, next_item};
+ghost use Rattle.neli_schema_walk.specs.Walks.{walked};
 
 use crate::level::{Level, MAX_DEPTH};
 use crate::{Attribute, Broken, Context, Item, Path, Shape, Step};

@@ -28,8 +28,8 @@ pub struct Place<'b, 't> {
 }
 
 /// The path to the attribute in which an offset lies, its header and its padding counted: of nests in one another the
-/// innermost, of ten at most. The offset counts from the first byte of the attributes, so that of an extended acknowledgement is less
-/// by the headers of the message and of the body. `None` where no attribute is there.
+/// innermost, of ten at most. The offset counts from the first byte of the attributes, so that of an extended
+/// acknowledgement is less by the headers of the message and of the body. `None` where no attribute is there.
 pub fn find<'t>(
     context: Context<'t>,
     table: Table<'t>,

@@ -1,7 +1,8 @@
 //! Payloads by their lengths, as texts, and beside others.
 
 ghost use Rattle.std.specs.Prelude.{◌≡◌, option_map};
-ghost use Rattle.neli_schema_walk.specs.Shapes.{beside, ends_in_zero, hops_shape, in_parts, key_fits, nest_shape, of_size, text_shape, without_zero, zero_text_shape};
+ghost use Rattle.neli_schema_walk.specs.Shapes.{beside, ends_in_zero, hops_shape, in_parts, key_fits, nest_shape};
+ghost use Rattle.neli_schema_walk.specs.Shapes.{of_size, text_shape, without_zero, zero_text_shape};
 
 use crate::{Broken, Shape};
 use byteorder::{ByteOrder, LittleEndian};

@@ -5,8 +5,8 @@ ghost use Rattle.std.specs.Net.Addr.{segments_of};
 ghost use Rattle.std.specs.Net.Text.{ipv4_text, ipv6_text};
 ghost use Rattle.std.specs.Str.{IsUtf8};
 ghost use Rattle.neli_show.specs.Quoted.{quoted};
-ghost use Rattle.neli_show.specs.Values.{IsWithoutZero, byte_text, bytes_text, hardware_text, hex_text, later_hex_text, number_text, signed_text};
-ghost use Rattle.neli_show.specs.Values.{value_text};
+ghost use Rattle.neli_show.specs.Values.{IsWithoutZero, byte_text, bytes_text, hardware_text, hex_text, later_hex_text};
+ghost use Rattle.neli_show.specs.Values.{number_text, signed_text, value_text};
 
 use crate::quoted::Quoted;
 use byteorder::{BigEndian, ByteOrder, LittleEndian};

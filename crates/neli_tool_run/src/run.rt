@@ -6,7 +6,8 @@ ghost use Rattle.neli_listing.specs.Runs.{Prints, PrintsMemory};
 ghost use Rattle.neli_listing.specs.Listing.{Lists};
 ghost use Rattle.neli_listing.specs.Rewriting.{Rewrites};
 ghost use Rattle.neli_replay.specs.Runs.{PrintsReplay};
-ghost use Rattle.neli_tool_run.specs.Requests.{AreWrong, AskForList, AskForReplay, AskForZero, Asks, Complains, RanOutOfMemory};
+ghost use Rattle.neli_tool_run.specs.Requests.{AreWrong, AskForList, AskForReplay, AskForZero, Asks, Complains};
+ghost use Rattle.neli_tool_run.specs.Requests.{RanOutOfMemory};
 
 use neli_listing::listing::{list, out_of_memory};
 use neli_listing::rewriting::list_zero;

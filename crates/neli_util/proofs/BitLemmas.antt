@@ -1,14 +1,20 @@
 -- Bit arrays: the bits of words as numbers.
-use Rattle.std.proofs.Common.{◌≡◌, ℕ, ◌+◌, ◌-◌, ◌*◌, ◌/◌, ◌%◌, ◌^◌, ◌<◌, ◌≤◌, ◌≢◌, Bool, false, ◌&&◌, ◌||◌, eqb, ltb, leb, bit_or, w32, List, ◌++◌, length, take, set, replicate, get_or, refl, sym, ap, ◌∙◌, arith, inl, inr}
+use Rattle.std.proofs.Common.{◌≡◌, ℕ, ◌+◌, ◌-◌, ◌*◌, ◌/◌, ◌%◌, ◌^◌, ◌<◌, ◌≤◌, ◌≢◌, Bool, false, ◌&&◌, ◌||◌, eqb, ltb}
+use Rattle.std.proofs.Common.{leb, bit_or, w32, List, ◌++◌, length, take, set, replicate, get_or, refl, sym, ap, ◌∙◌}
+use Rattle.std.proofs.Common.{arith, inl, inr}
 use Rattle.std.specs.Int.{bit_at}
 use Rattle.std.specs.List.{All, filter, range_with_len}
 use Rattle.std.specs.List.Sorted.{IsStrictlyIncreasing}
-use Rattle.std.proofs.lemmas.Bool.{lt-ltb, le-leb, lt-leb, cases_eq, cases_lt, eq-eqb, ne_eqb, and_from, and_left, or_right}
-use Rattle.std.proofs.lemmas.List.{get_or_append_left, get_or-append_right, get_or-take, get_or_past, get_or-replicate, length-take, length-append, length-replicate, length-set, get_or-set_same, get_or-set_other}
+use Rattle.std.proofs.lemmas.Bool.{lt-ltb, le-leb, lt-leb, cases_eq, cases_lt, eq-eqb, ne_eqb, and_from, and_left}
+use Rattle.std.proofs.lemmas.Bool.{or_right}
+use Rattle.std.proofs.lemmas.List.{get_or_append_left, get_or-append_right, get_or-take, get_or_past, get_or-replicate}
+use Rattle.std.proofs.lemmas.List.{length-take, length-append, length-replicate, length-set, get_or-set_same}
+use Rattle.std.proofs.lemmas.List.{get_or-set_other}
 use Rattle.std.proofs.lemmas.List.Elements.{All-weaker, All-filter}
 use Rattle.std.proofs.lemmas.List.Kept.{IsStrictlyIncreasing-filter}
 use Rattle.std.proofs.lemmas.Nat.Bits.{bit_at-zero, bit_at_set_same, bit_at_set_other}
-use Rattle.neli_util.proofs.Lists.{has-filter, has-range, filter-filter, filter_agree_on, filter_ranges, range_within, range_rises}
+use Rattle.neli_util.proofs.Lists.{has-filter, has-range, filter-filter, filter_agree_on, filter_ranges, range_within}
+use Rattle.neli_util.proofs.Lists.{range_rises}
 use Rattle.neli_util.proofs.MaskLemmas.{and_false, and_true, or_false}
 use Rattle.neli_util.specs.Groups.{has}
 use Rattle.neli_util.specs.BitArrays.{BitArray, with_capacity, with_number, has_bit, array_of}

@@ -1,6 +1,7 @@
 //! Bit arrays.
 
-ghost use Rattle.std.specs.Prelude.{◌≡◌, ◌↔◌, ◌<◌, ◌≤◌, ◌*◌, ◌%◌, ◌-◌, ◌++◌, [], Err, IfOk, IfErr, IsErr, IsOk, OnOk, OnErr, length, codes, take, replicate, ◌==◌};
+ghost use Rattle.std.specs.Prelude.{◌≡◌, ◌↔◌, ◌<◌, ◌≤◌, ◌*◌, ◌%◌, ◌-◌, ◌++◌, [], Err, IfOk, IfErr, IsErr, IsOk, OnOk};
+ghost use Rattle.std.specs.Prelude.{OnErr, length, codes, take, replicate, ◌==◌};
 ghost use Rattle.std.specs.Int.{bit_at};
 ghost use Rattle.std.specs.List.{All};
 ghost use Rattle.std.specs.List.Sorted.{IsStrictlyIncreasing};

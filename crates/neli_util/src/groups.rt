@@ -1,6 +1,7 @@
 //! Multicast groups.
 
-ghost use Rattle.std.specs.Prelude.{◌≡◌, ◌↔◌, ◌⊎◌, ◌<◌, [], ◌∷◌, false, IfOk, IfErr, IsErr, IsOk, OnOk, OnErr, IsTrue, length, slice_index};
+ghost use Rattle.std.specs.Prelude.{◌≡◌, ◌↔◌, ◌⊎◌, ◌<◌, [], ◌∷◌, false, IfOk, IfErr, IsErr, IsOk, OnOk, OnErr, IsTrue};
+ghost use Rattle.std.specs.Prelude.{length, slice_index};
 ghost use Rattle.neli_util.specs.Groups.{HasNoZero, has, without_zeros, without, lacking, with_added};
 ghost use Rattle.neli_util.specs.Masks.{groups_of, IsMaskOf, past_mask, past_mask_text};
 

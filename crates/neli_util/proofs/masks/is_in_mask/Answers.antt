@@ -3,7 +3,8 @@ use Rattle.std.specs.Int.{bit_at}
 use Rattle.std.proofs.lemmas.Bool.{and_left, le-ltb}
 use Rattle.neli_util.proofs.MaskLemmas.{is_masked_above}
 use Rattle.neli_util.proofs.masks.is_in_mask.Goals as goal
-use Rattle.neli_util.proofs.masks.is_in_mask.Goals.{then-group-eq0-via-then-group-eq0, then-group-eq0-via-else-group-eq0+then-group-gt-MASK_WIDTH}
+use Rattle.neli_util.proofs.masks.is_in_mask.Goals.{then-group-eq0-via-then-group-eq0}
+use Rattle.neli_util.proofs.masks.is_in_mask.Goals.{then-group-eq0-via-else-group-eq0+then-group-gt-MASK_WIDTH}
 
 pub returns-then-group-eq0 : goal.returns-then-group-eq0
 returns-then-group-eq0 c =

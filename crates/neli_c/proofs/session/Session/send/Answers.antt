@@ -8,7 +8,8 @@ use Rattle.neli_router.specs.declared.handle.HandleState.{HandleState}
 use Rattle.neli_c.specs.declared.session.Slot.{Slot}
 use Rattle.neli_c.specs.Slots.{handle_at, put_at}
 use Rattle.neli_c.proofs.FreePlaces.{again}
-use Rattle.neli_c.proofs.Requests.{copied-code, fitting-code, frame-converted, no-matter-of-room, refusal-code, refused-else}
+use Rattle.neli_c.proofs.Requests.{copied-code, fitting-code, frame-converted, no-matter-of-room, refusal-code}
+use Rattle.neli_c.proofs.Requests.{refused-else}
 use Rattle.neli_c.proofs.session.Session.send.Goals as goal
 
 pub returns-in-Ok-send-clause-sent : goal.returns-in-Ok-send-clause-sent

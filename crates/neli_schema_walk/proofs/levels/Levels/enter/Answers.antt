@@ -16,5 +16,6 @@ returns-clause-entered c =
     λ _. (
       refl,
       left ∙ ap (λ (s : Shaped). nest_items (walked before.context (9 - length before.open.items)
-          (insides before.open.items)) s c.args.payload.now ++ left_items before.context [] before.open.items) (sym nest),
+          (insides before.open.items)) s c.args.payload.now ++ left_items before.context [] before.open.items)
+          (sym nest),
     )
