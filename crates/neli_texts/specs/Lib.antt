@@ -1,5 +1,9 @@
+pub mod BodyLine
 pub mod ExitStatus
 pub mod FlagNames
+pub mod GenlFields
 pub mod MessageFlags
 pub mod MessageLine
 pub mod MessageTypes
+pub mod NumberNames
+pub mod RtnlFields

@@ -1,10 +1,5 @@
 -- The types of routing messages by name: `RTM_*` of `linux/rtnetlink.h`.
 use Rattle.std.specs.Prelude.{ℕ, List, [], ◌∷◌, Option, codes, find, nat_eq}
-use Rattle.std.specs.Borrow.{Bor}
-
--- a row of the code's table
-abbrev pub type_seen : ℕ × Bor (List ℕ) → ℕ × List ℕ
-type_seen row = (row.0, row.1.now)
 
 -- every type that has a name, with its number
 unfoldable pub route_types : List (ℕ × List ℕ)

@@ -1,11 +1,11 @@
 //! The names of types of messages.
 
 ghost use Rattle.std.specs.Prelude.{◌≡◌, find, map, nat_eq};
-ghost use Rattle.std.specs.Option.{option_copied, option_map};
-ghost use Rattle.neli_texts.specs.MessageTypes.{route_types, type_named, type_seen};
+ghost use Rattle.std.specs.Option.{option_map};
+ghost use Rattle.neli_texts.specs.MessageTypes.{route_types, type_named};
+ghost use Rattle.neli_texts.specs.NumberNames.{row_seen};
 
-/// A type of messages: its number, and its name.
-type Row = (u16, &'static str);
+use crate::number_names::{Row, row_of};
 
 /// The types of routing messages: `RTM_*` of `linux/rtnetlink.h`.
 static ROUTE_TYPES: [Row; 71] = [
@@ -85,21 +85,14 @@ static ROUTE_TYPES: [Row; 71] = [
 /// The whole table.
 #[tactic(auto, unfolding(crate::specs::MessageTypes::route_types))]
 fn route_types() -> &'static [Row]
-    ensures { map type_seen result.now ≡ route_types }
+    ensures { map row_seen result.now ≡ route_types }
 {
     &ROUTE_TYPES
 }
 
-/// The first row with this number.
-fn find_row(rows: &[Row], number: u16) -> Option<&Row>
-    ensures { option_copied result ≡ find (λ row. nat_eq row.0 number) rows.now }
-{
-    rows.iter().find(|row| row.0 == number)
-}
-
 /// The table's row with this number.
 pub(crate) fn route_type(number: u16) -> Option<Row>
-    ensures { option_map type_seen result ≡ type_named number }
+    ensures { option_map row_seen result ≡ type_named number }
 {
-    find_row(route_types(), number).copied()
+    row_of(route_types(), number)
 }

@@ -7,7 +7,7 @@
 //! - [`constants`], [`types`], [`wrappers`]: constants on the wire, and the traits and wrappers over the
 //!   tables. [`sets`]: flags as sets. [`equality`]: which constants are equal. What each number is read as,
 //!   what it is written as and what each flag is, `neli_constants` lists.
-//! - [`shown`]: exit codes and sets of flags as texts.
+//! - [`shown`]: exit codes, sets of flags and headers of messages as texts. [`body_lines`]: the fields of bodies.
 //! - [`groups`] and [`masks`]: lists of multicast groups, and their masks. [`bit_arrays`]: bit arrays.
 //! - [`own_types`], [`own_enums`]: a user's own types, those of `example_body`, and enums, those of
 //!   `example_enum`.
@@ -26,6 +26,8 @@
 
 #[cfg(test)]
 mod bit_arrays;
+#[cfg(test)]
+mod body_lines;
 #[cfg(test)]
 mod constants;
 #[cfg(test)]

@@ -19,7 +19,7 @@ use std::fmt::Display;
 use std::process::Abort;
 
 /// Asserts what a value prints.
-fn assert_prints<D: Display>(rt: &impl Abort, alloc: Global, value: &D, want: &str) {
+pub fn assert_prints<D: Display>(rt: &impl Abort, alloc: Global, value: &D, want: &str) {
     let text = value.to_string(alloc).expect(rt, "memory");
     assert_is(rt, text.as_str(), want);
 }
