@@ -97,8 +97,7 @@ fn write_each<A: ToBytes, B: ToBytes, C: ToBytes>(
     third: &C,
     buffer: &mut Vec<u8>,
 ) -> Result<(), SerError>
-    ensures appended { OnOk result
-        (append_wire buffer.old.items
+    ensures appended { OnOk result (append_wire buffer.old.items
         ((A.wire first.now +++ B.wire second.now) +++ C.wire third.now) ≡ Ok buffer.new.items) }
     ensures refused { IfErr result
         (RefusesWrite ((A.wire first.now +++ B.wire second.now) +++ C.wire third.now)) }
@@ -117,8 +116,7 @@ pub(crate) fn write_three<A: ToBytes, B: ToBytes, C: ToBytes>(
     third: &C,
     buffer: &mut Vec<u8>,
 ) -> Result<(), SerError>
-    ensures appended { OnOk result
-        (append_wire buffer.old.items
+    ensures appended { OnOk result (append_wire buffer.old.items
         ((A.wire first.now +++ B.wire second.now) +++ C.wire third.now) ≡ Ok buffer.new.items) }
     ensures refused { IfErr result
         (RefusesWrite ((A.wire first.now +++ B.wire second.now) +++ C.wire third.now)) }
