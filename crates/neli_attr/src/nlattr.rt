@@ -20,10 +20,9 @@ ghost use Rattle.neli_attr.specs.laws.Nlattr.{nlattr_equiv, nlattr_per};
 
 use crate::{AttrType, Attribute, Buffer, BuildError, of};
 use neli_attr_parts::frame::{
-    HEADER_SIZE, frame_length, nested_bytes, payload_bytes, read_attribute, size_with,
-    write_attribute, written,
+    frame_length, nested_bytes, payload_bytes, read_attribute, size_with, write_attribute, written,
 };
-use neli_consts::NlAttrType;
+use neli_consts::{ATTRIBUTE_HEADER_SIZE, NlAttrType};
 use neli_list::{
     AttrHandle, FrameList, Retyped, ToTyped, TryClone, TypedPayload, handle_of_payload,
     read_borrowed,
@@ -270,7 +269,7 @@ impl<T: NlAttrType, P> Header for Nlattr<T, P> {
     ghost header = { 4 };
 
     fn header_size() -> usize {
-        HEADER_SIZE
+        ATTRIBUTE_HEADER_SIZE
     }
 }
 

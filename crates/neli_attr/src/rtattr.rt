@@ -16,9 +16,9 @@ ghost use Rattle.neli_attr.specs.laws.Rtattr.{rtattr_wire-length, rtattr_wire-no
 
 use crate::{Attribute, Buffer, BuildError, of};
 use neli_attr_parts::frame::{
-    HEADER_SIZE, frame_length, nested_bytes, payload_bytes, read_attribute, size_with,
-    write_attribute, written,
+    frame_length, nested_bytes, payload_bytes, read_attribute, size_with, write_attribute, written,
 };
+use neli_consts::ATTRIBUTE_HEADER_SIZE;
 use neli_consts_attrs::RtaType;
 use neli_list::{
     AttrHandle, FrameList, Retyped, TryClone, TypedPayload, handle_of_payload, read_borrowed,
@@ -232,7 +232,7 @@ impl<T: RtaType, P> Header for Rtattr<T, P> {
     ghost header = { 4 };
 
     fn header_size() -> usize {
-        HEADER_SIZE
+        ATTRIBUTE_HEADER_SIZE
     }
 }
 

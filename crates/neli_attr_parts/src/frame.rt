@@ -9,14 +9,12 @@ ghost use Rattle.neli_attr_parts.specs.Attributes.{attr, attribute, attribute_pa
 ghost use Rattle.neli_attr_parts.specs.laws.Steps.{attribute_at, attribute_takes_memory};
 
 use crate::Buffer;
+use neli_consts::ATTRIBUTE_HEADER_SIZE;
 use neli_wire::implementing::{length_refusal, pad_from, read_padded_payload, undo_on_refusal};
 use neli_wire::{
     Constant, Cursor, DeError, FromBytes, FromBytesWithInput, MsgError, SerError, Size, ToBytes,
 };
 use std::alloc::Global;
-
-/// The size of an attribute's header, in bytes (`NLA_HDRLEN` of `linux/netlink.h`).
-pub const HEADER_SIZE: usize = 4;
 
 /// The parts of an attribute: its length, its type and its payload.
 pub type Parts<K, P> = (u16, K, P);
@@ -37,7 +35,7 @@ fn read_fields<K: Constant<Number = u16>, P: FromBytesWithInput>(
     let mut ahead = cursor.ahead();
     let len = u16::from_bytes(alloc, &mut ahead)?;
     let kind = K::from_bytes(alloc, &mut ahead)?;
-    let payload = read_padded_payload(alloc, &mut ahead, HEADER_SIZE, len as usize)?;
+    let payload = read_padded_payload(alloc, &mut ahead, ATTRIBUTE_HEADER_SIZE, len as usize)?;
     *cursor = ahead;
     Ok((len, kind, payload))
 }
@@ -119,7 +117,7 @@ pub fn frame_length(payload: &Buffer) -> Option<u16>
     ensures { let whole = 4 + length payload.now in
         MatchOption result (65535 < whole) (λ len. len ≡ whole) }
 {
-    u16::try_from(payload.len().saturating_add(HEADER_SIZE)).ok()
+    u16::try_from(payload.len().saturating_add(ATTRIBUTE_HEADER_SIZE)).ok()
 }
 
 /// The refusal of a length that passes its field.
@@ -164,5 +162,5 @@ pub fn nested_bytes<A: ToBytes>(payload: Buffer, attr: &A) -> Result<(u16, Buffe
 pub fn size_with<P: Size>(payload: &P) -> usize
     ensures { result ≡ min (4 + P.wire_length payload.now) usize.MAX }
 {
-    payload.written_size().saturating_add(HEADER_SIZE)
+    payload.written_size().saturating_add(ATTRIBUTE_HEADER_SIZE)
 }

@@ -11,6 +11,7 @@ ghost use Rattle.neli_c.specs.AnswersShown.{payload_code, payload_shown};
 use crate::code::{KIND, LENGTH, OK, PLACE, SHORT};
 use crate::lent::{NeliMessage, NeliWalk};
 use byteorder::{ByteOrder, LittleEndian};
+use neli_consts::{NLMSG_DONE, NLMSG_ERROR};
 use neli_wire::alignto;
 use std::cmp::min;
 
@@ -74,10 +75,10 @@ fn attributes_begin(nl_type: u16, flags: u16, payload: &[u8]) -> Result<usize, i
     ensures refused { IfErr result (λ e. (answer_code nl_type flags payload.now ≡ e)
         × (e ≢ ok)) }
 {
-    if nl_type == 3 && flags & MULTI == MULTI && !payload.is_empty() {
+    if nl_type == NLMSG_DONE && flags & MULTI == MULTI && !payload.is_empty() {
         return if payload.len() < 4 { Err(SHORT) } else { Ok(4) };
     }
-    if nl_type != 2 {
+    if nl_type != NLMSG_ERROR {
         return Err(KIND);
     }
     if payload.len() < ANSWER_SIZE {
@@ -151,7 +152,7 @@ pub extern "C" fn neli_c_get_answer(
                 place: message.payload + begin,
                 end: message.payload + payload.len(),
             };
-            *answer = shown(payload, message.message_type == 2, attributes);
+            *answer = shown(payload, message.message_type == NLMSG_ERROR, attributes);
             OK
         }
         Err(code) => code,

@@ -12,13 +12,8 @@ ghost use Rattle.neli_c.specs.Writes.{attribute_code, header_bytes, message_end_
 
 use crate::code::{LENGTH, OK, PLACE, ROOM};
 use byteorder::{ByteOrder, LittleEndian};
+use neli_consts::{ATTRIBUTE_HEADER_SIZE, MESSAGE_HEADER_SIZE};
 use neli_wire::alignto;
-
-/// The size of a message's header, in bytes (`NLMSG_HDRLEN` of `linux/netlink.h`).
-const HEADER_SIZE: usize = 16;
-
-/// The size of an attribute's header, in bytes (`NLA_HDRLEN` of `linux/netlink.h`).
-const ATTR_HEADER_SIZE: usize = 4;
 
 /// The longest attribute, in bytes: its length has 16 bits.
 const MAX_ATTR_SIZE: usize = 65535;
@@ -66,13 +61,13 @@ pub extern "C" fn neli_c_begin_message(
     ensures unchanged { result ≢ ok → (out.new ≡ out.old) × (writer.new ≡ writer.old) }
 {
     let start = writer.end;
-    if out.len() < HEADER_SIZE || out.len() - HEADER_SIZE < start {
+    if out.len() < MESSAGE_HEADER_SIZE || out.len() - MESSAGE_HEADER_SIZE < start {
         return ROOM;
     }
     write_header(&mut out[start..], nl_type, flags, number, port);
     *writer = NeliWriter {
         start,
-        end: start + HEADER_SIZE,
+        end: start + MESSAGE_HEADER_SIZE,
     };
     OK
 }
@@ -127,9 +122,9 @@ fn write_attribute(out: &mut [u8], nl_type: u16, payload: &[u8])
     ensures { IfOk (attribute_wire (4 + length payload.now) nl_type (Ok payload.now))
         (λ written. out.new ≡ put_first written out.old) }
 {
-    let size = ATTR_HEADER_SIZE + payload.len();
+    let size = ATTRIBUTE_HEADER_SIZE + payload.len();
     write_attribute_header(out, size as u16, nl_type);
-    write_padded(&mut out[ATTR_HEADER_SIZE..], payload);
+    write_padded(&mut out[ATTRIBUTE_HEADER_SIZE..], payload);
 }
 
 /// Appends an attribute.
@@ -142,11 +137,11 @@ fn append(out: &mut [u8], writer: &mut NeliWriter, nl_type: u16, payload: &[u8])
         → writer.new ≡ record writer.old { end = writer.old.end + align (4 + length payload.now) } }
     ensures unchanged { result ≢ ok → (out.new ≡ out.old) × (writer.new ≡ writer.old) }
 {
-    if MAX_ATTR_SIZE - ATTR_HEADER_SIZE < payload.len() {
+    if MAX_ATTR_SIZE - ATTRIBUTE_HEADER_SIZE < payload.len() {
         return LENGTH;
     }
     let start = writer.end;
-    let size = alignto(ATTR_HEADER_SIZE + payload.len());
+    let size = alignto(ATTRIBUTE_HEADER_SIZE + payload.len());
     if out.len() < size || out.len() - size < start {
         return ROOM;
     }
@@ -217,10 +212,10 @@ pub extern "C" fn neli_c_end_nest(out: &mut [u8], writer: &NeliWriter, nest: usi
     ensures unchanged { result ≢ ok → out.new ≡ out.old }
 {
     let NeliWriter { start, end } = *writer;
-    if nest < HEADER_SIZE || nest - HEADER_SIZE < start {
+    if nest < MESSAGE_HEADER_SIZE || nest - MESSAGE_HEADER_SIZE < start {
         return PLACE;
     }
-    if end < ATTR_HEADER_SIZE || end - ATTR_HEADER_SIZE < nest || out.len() < end {
+    if end < ATTRIBUTE_HEADER_SIZE || end - ATTRIBUTE_HEADER_SIZE < nest || out.len() < end {
         return PLACE;
     }
     let size = end - nest;
@@ -244,7 +239,7 @@ pub extern "C" fn neli_c_end_message(out: &mut [u8], writer: &NeliWriter) -> i32
     ensures unchanged { result ≢ ok → out.new ≡ out.old }
 {
     let NeliWriter { start, end } = *writer;
-    if end < HEADER_SIZE || end - HEADER_SIZE < start || out.len() < end {
+    if end < MESSAGE_HEADER_SIZE || end - MESSAGE_HEADER_SIZE < start || out.len() < end {
         return PLACE;
     }
     let Ok(size) = u32::try_from(end - start) else {

@@ -8,6 +8,18 @@ ghost use Rattle.neli_wire.specs.laws.Constants.{first_with-number};
 
 use neli_wire::Constant;
 
+/// The number of [`Nlmsg::Noop`].
+pub const NLMSG_NOOP: u16 = 1;
+
+/// The number of [`Nlmsg::Error`].
+pub const NLMSG_ERROR: u16 = 2;
+
+/// The number of [`Nlmsg::Done`].
+pub const NLMSG_DONE: u16 = 3;
+
+/// The number of [`Nlmsg::Overrun`].
+pub const NLMSG_OVERRUN: u16 = 4;
+
 /// Types of control messages, which every netlink protocol has: `NLMSG_*` of `linux/netlink.h` (RFC
 /// 3549, section 2.3.2).
 #[derive(Clone, Copy, Debug, PartialEq, Eq)]
@@ -38,10 +50,10 @@ impl From<u16> for Nlmsg {
 
     fn from(number: u16) -> Nlmsg {
         match number {
-            1 => Nlmsg::Noop,
-            2 => Nlmsg::Error,
-            3 => Nlmsg::Done,
-            4 => Nlmsg::Overrun,
+            NLMSG_NOOP => Nlmsg::Noop,
+            NLMSG_ERROR => Nlmsg::Error,
+            NLMSG_DONE => Nlmsg::Done,
+            NLMSG_OVERRUN => Nlmsg::Overrun,
             _ => Nlmsg::UnrecognizedConst(number),
         }
     }
@@ -52,10 +64,10 @@ impl From<Nlmsg> for u16 {
 
     fn from(value: Nlmsg) -> u16 {
         match value {
-            Nlmsg::Noop => 1,
-            Nlmsg::Error => 2,
-            Nlmsg::Done => 3,
-            Nlmsg::Overrun => 4,
+            Nlmsg::Noop => NLMSG_NOOP,
+            Nlmsg::Error => NLMSG_ERROR,
+            Nlmsg::Done => NLMSG_DONE,
+            Nlmsg::Overrun => NLMSG_OVERRUN,
             Nlmsg::UnrecognizedConst(number) => number,
         }
     }

@@ -10,15 +10,13 @@ ghost use Rattle.neli_lent.specs.Attributes.{attribute_said, lent_attribute};
 use crate::LentAttrs;
 use byteorder::{ByteOrder, LittleEndian};
 use neli_attr::AttrType;
+use neli_consts::ATTRIBUTE_HEADER_SIZE;
 use neli_list::{read_borrowed, read_first, read_whole};
 use neli_wire::{
     Constant, Cursor, DeError, FromBytes, FromBytesWithInput, FromBytesWithInputBorrowed, alignto,
 };
 use std::alloc::Global;
 use std::io::ErrorKind;
-
-/// The size of an attribute's header, in bytes (`NLA_HDRLEN` of `linux/netlink.h`).
-const HEADER_SIZE: usize = 4;
 
 /// An attribute with a type field of type `K`, whose payload is the bytes that it was read from.
 #[derive(Clone, Copy, Debug)]
@@ -76,24 +74,24 @@ impl<'b, K: Constant<Number = u16>> LentAttr<'b, K> {
         ensures unchanged { OnErr result (cursor.new ≡ cursor.old) }
     {
         let rest = cursor.rest();
-        if rest.len() < HEADER_SIZE {
+        if rest.len() < ATTRIBUTE_HEADER_SIZE {
             return Err(DeError::Io(ErrorKind::UnexpectedEof));
         }
         let len = LittleEndian::read_u16(rest);
         let kind = K::from_wire(LittleEndian::read_u16(&rest[2..]));
         let size = len as usize;
-        if size < HEADER_SIZE {
+        if size < ATTRIBUTE_HEADER_SIZE {
             return Err(DeError::InvalidInput(size));
         }
         if rest.len() < size {
-            return Err(DeError::InvalidInput(size - HEADER_SIZE));
+            return Err(DeError::InvalidInput(size - ATTRIBUTE_HEADER_SIZE));
         }
         let end = alignto(size);
         if rest.len() < end {
             return Err(DeError::Io(ErrorKind::UnexpectedEof));
         }
         cursor.advance(end);
-        let payload = &rest[HEADER_SIZE..size];
+        let payload = &rest[ATTRIBUTE_HEADER_SIZE..size];
         Ok(LentAttr { len, kind, payload })
     }
 

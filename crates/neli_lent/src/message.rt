@@ -11,14 +11,11 @@ ghost use Rattle.neli_reader.specs.Retyping.{typed_header};
 ghost use Rattle.neli_lent.specs.Messages.{as_owned, as_owned_takes_memory, lent_message, message_said};
 
 use crate::LentAttrs;
-use neli_consts::{NlType, NlmF};
+use neli_consts::{MESSAGE_HEADER_SIZE, NLMSG_DONE, NLMSG_ERROR, NlType, NlmF};
 use neli_reader::{NlPayload, Nlmsghdr, NlmsghdrAck};
 use neli_wire::{Constant, Cursor, DeError, FromBytesWithInput, Header, alignto};
 use std::alloc::Global;
 use std::io::ErrorKind;
-
-/// The size of a message's header, in bytes (`NLMSG_HDRLEN` of `linux/netlink.h`).
-const HEADER_SIZE: usize = 16;
 
 /// A message whose payload is the bytes that it was read from, whatever its kind.
 #[derive(Clone, Copy, Debug)]
@@ -119,18 +116,18 @@ impl<'b, T: NlType> LentMessage<'b, T> {
             return Err(DeError::Io(ErrorKind::UnexpectedEof));
         };
         let len = *header.nl_len() as usize;
-        if len < HEADER_SIZE {
+        if len < MESSAGE_HEADER_SIZE {
             return Err(DeError::InvalidInput(len));
         }
         if rest.len() < len {
-            return Err(DeError::InvalidInput(len - HEADER_SIZE));
+            return Err(DeError::InvalidInput(len - MESSAGE_HEADER_SIZE));
         }
         let end = alignto(len);
         if rest.len() < end {
             return Err(DeError::Io(ErrorKind::UnexpectedEof));
         }
         cursor.advance(end);
-        let payload = &rest[HEADER_SIZE..len];
+        let payload = &rest[MESSAGE_HEADER_SIZE..len];
         Ok(LentMessage { header, payload })
     }
 
@@ -168,7 +165,7 @@ impl<'b> LentMessage<'b, u16> {
             ↔ (self.now.header.message_type ≢ 2) × (self.now.header.message_type ≢ 3) }
     {
         let number = *self.nl_type();
-        number != 2 && number != 3
+        number != NLMSG_ERROR && number != NLMSG_DONE
     }
 
     /// The same message with the type that its number means. It takes no memory.

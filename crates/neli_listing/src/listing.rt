@@ -16,18 +16,13 @@ ghost use Rattle.neli_listing.specs.Runs.{Prints, PrintsMemory, status_by};
 use crate::input::{InputError, read_whole};
 use crate::line::{Ending, Line, RawMessage};
 use crate::status::Status;
+use neli_consts::{NLMSG_DONE, NLMSG_ERROR};
 use neli_lent::LentMessage;
 use neli_reader::Nlmsghdr;
 use neli_wire::{Cursor, DeError, FromBytes};
 use std::alloc::Global;
 use std::io;
 use std::io::{ErrorKind, Read, Write};
-
-/// The type of errors and acknowledgements (`NLMSG_ERROR` of `linux/netlink.h`).
-const ERROR: u16 = 2;
-
-/// The type of the message that ends a dump (`NLMSG_DONE`).
-const DONE: u16 = 3;
 
 /// The ending for a datagram that has this fault.
 pub fn fault_ending(fault: &DeError) -> Ending
@@ -63,7 +58,7 @@ fn line_of(alloc: Global, message: &LentMessage<'_, u16>) -> Result<Line, DeErro
         → IsOk result }
 {
     let number = *message.nl_type();
-    if number == ERROR || number == DONE {
+    if number == NLMSG_ERROR || number == NLMSG_DONE {
         let owned: RawMessage = message.to_nlmsghdr(alloc)?;
         return Ok(Line::of(&owned));
     }

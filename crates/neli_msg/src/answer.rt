@@ -19,11 +19,11 @@ ghost use Rattle.neli_msg.specs.laws.Answers.{dump_end_in-never_short, dump_end_
 ghost use Rattle.neli_msg.specs.laws.Answers.{failure_in-never_short, failure_in-no_memory};
 
 use crate::frame::{from_place, read_attributes, write_three};
-use crate::header::{HEADER_SIZE, header_of};
+use crate::header::header_of;
 use crate::{NlmsghdrAck, NlmsghdrErr, RouterError};
 use byteorder::{ByteOrder, LittleEndian};
 use neli_attr::{Buffer, BuildError, GenlBuffer, of};
-use neli_consts::{NlType, NlmsgerrAttr};
+use neli_consts::{MESSAGE_HEADER_SIZE, NlType, NlmsgerrAttr};
 use neli_list::{TryClone, read_whole};
 use neli_wire::{
     Constant, Cursor, DeError, FromBytesWithInput, NoMemory, SerError, Size, ToBytes,
@@ -155,7 +155,7 @@ fn echoed_count(bytes: &[u8]) -> usize
     ensures fits { result < 2 ^ 32 }
 {
     let len = LittleEndian::read_u32(&bytes[4..]);
-    len.saturating_sub(16) as usize
+    (len as usize).saturating_sub(MESSAGE_HEADER_SIZE)
 }
 
 /// The payload of the echoed message.
@@ -165,10 +165,10 @@ fn echoed(bytes: &[u8]) -> Result<&[u8], DeError>
     ensures refused { IfErr result (Refuses (echoed_in bytes.now) ⊥) }
 {
     let len = LittleEndian::read_u32(&bytes[4..]) as usize;
-    if len < HEADER_SIZE {
+    if len < MESSAGE_HEADER_SIZE {
         return Err(DeError::InvalidInput(len));
     }
-    let count = len - HEADER_SIZE;
+    let count = len - MESSAGE_HEADER_SIZE;
     if bytes.len() - ANSWER_SIZE < count {
         return Err(DeError::InvalidInput(count));
     }

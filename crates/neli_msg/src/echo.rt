@@ -15,10 +15,10 @@ ghost use Rattle.neli_msg.specs.laws.Messages.{layout_with-local, layout_with-no
 ghost use Rattle.neli_msg.specs.laws.Wires.{echo_wire-length, echo_wire-no_memory, echo_wire-zeros};
 
 use crate::frame::{frame_length, write_framed};
-use crate::header::{HEADER_SIZE, header_of};
+use crate::header::header_of;
 use crate::{NlmsghdrAck, RouterError};
 use neli_attr::{Buffer, BuildError, of};
-use neli_consts::{NlType, NlmF};
+use neli_consts::{MESSAGE_HEADER_SIZE, NlType, NlmF};
 use neli_list::{TryClone, read_whole};
 use neli_wire::implementing::{length_refusal, padded_length};
 use neli_wire::{
@@ -84,7 +84,7 @@ impl<T, P> Header for NlmsghdrErr<T, P> {
     ghost header = { 16 };
 
     fn header_size() -> usize {
-        HEADER_SIZE
+        MESSAGE_HEADER_SIZE
     }
 }
 
@@ -96,7 +96,9 @@ impl<T: NlType, P: Size> Size for NlmsghdrErr<T, P> {
     ghost rounded = { padded-rounded (echo_size P.wire_length) };
 
     fn unpadded_size(&self) -> usize {
-        self.payload.written_size().saturating_add(HEADER_SIZE)
+        self.payload
+            .written_size()
+            .saturating_add(MESSAGE_HEADER_SIZE)
     }
 
     fn written_size(&self) -> usize {
@@ -136,18 +138,18 @@ impl<T: NlType, P: FromBytesWithInput> FromBytes for NlmsghdrErr<T, P> {
     #[tactic(auto, using(neli_wire::specs::laws::Reading::refused_first), unfolding(neli_wire::specs::Frames::frame_at))]
     fn from_bytes(alloc: Global, cursor: &mut Cursor<'_>) -> Result<Self, DeError> {
         let rest = cursor.rest();
-        if rest.len() < HEADER_SIZE {
+        if rest.len() < MESSAGE_HEADER_SIZE {
             return Err(DeError::Io(ErrorKind::UnexpectedEof));
         }
         let header: NlmsghdrAck<T> = header_of(rest);
         let len = *header.nl_len() as usize;
-        if len < HEADER_SIZE {
+        if len < MESSAGE_HEADER_SIZE {
             return Err(DeError::InvalidInput(len));
         }
         if rest.len() < len {
-            return Err(DeError::InvalidInput(len - HEADER_SIZE));
+            return Err(DeError::InvalidInput(len - MESSAGE_HEADER_SIZE));
         }
-        let payload = read_whole(alloc, &rest[HEADER_SIZE..len])?;
+        let payload = read_whole(alloc, &rest[MESSAGE_HEADER_SIZE..len])?;
         let end = alignto(len);
         if rest.len() < end {
             return Err(DeError::Io(ErrorKind::UnexpectedEof));

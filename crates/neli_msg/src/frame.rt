@@ -7,7 +7,7 @@ ghost use Rattle.neli_wire.specs.Writing.{RefusesWrite, append_wire, ◌+++◌, 
 ghost use Rattle.neli_msg.specs.Answers.{ext_ack_in};
 
 use neli_attr::{Buffer, GenlBuffer};
-use neli_consts::NlmsgerrAttr;
+use neli_consts::{MESSAGE_HEADER_SIZE, NlmsgerrAttr};
 use neli_list::read_whole;
 use neli_wire::implementing::{pad_from, padded_length, undo_on_refusal};
 use neli_wire::{DeError, SerError, Size, ToBytes};
@@ -133,6 +133,6 @@ pub(crate) fn frame_length<P: Size>(payload: &P) -> Option<u32>
     ensures { MatchOption result (4294967295 < align (16 + P.wire_length payload.now))
         (λ len. len ≡ align (16 + P.wire_length payload.now)) }
 {
-    let size = payload.written_size().saturating_add(16);
+    let size = payload.written_size().saturating_add(MESSAGE_HEADER_SIZE);
     u32::try_from(padded_length(size)).ok()
 }

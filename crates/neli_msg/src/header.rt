@@ -14,7 +14,7 @@ ghost use Rattle.neli_msg.specs.laws.Headers.{header_wire-length, header_wire-no
 
 use byteorder::{ByteOrder, LittleEndian};
 use neli_attr::{BuildError, of};
-use neli_consts::{NlType, NlmF};
+use neli_consts::{MESSAGE_HEADER_SIZE, NlType, NlmF};
 use neli_list::TryClone;
 use neli_wire::implementing::undo_on_refusal;
 use neli_wire::{
@@ -22,9 +22,6 @@ use neli_wire::{
     UninitializedFieldError,
 };
 use std::alloc::Global;
-
-/// The size of a message's header, in bytes: the kernel's `NLMSG_HDRLEN` (linux/netlink.h).
-pub const HEADER_SIZE: usize = 16;
 
 /// The header of a message: `struct nlmsghdr` of linux/netlink.h. An acknowledgement carries that of
 /// the message that it answers.
@@ -95,7 +92,7 @@ impl<T: NlType> NlmsghdrAck<T> {
         ensures { MatchOption result (length bytes.now < 16)
             (λ h. (16 ≤ length bytes.now) × (h ≡ header_in T.wire_value bytes.now)) }
     {
-        if bytes.len() < HEADER_SIZE {
+        if bytes.len() < MESSAGE_HEADER_SIZE {
             return None;
         }
         Some(header_of(bytes))
@@ -122,7 +119,7 @@ impl<T: NlType> FromBytes for NlmsghdrAck<T> {
     ghost no_memory = { value_at-no_memory 16 (header_in T.wire_value) };
 
     fn from_bytes(_alloc: Global, cursor: &mut Cursor<'_>) -> Result<Self, DeError> {
-        let bytes = cursor.bytes(HEADER_SIZE)?;
+        let bytes = cursor.bytes(MESSAGE_HEADER_SIZE)?;
         Ok(header_of(bytes))
     }
 }
@@ -135,11 +132,11 @@ impl<T: NlType> Size for NlmsghdrAck<T> {
     ghost rounded = { unpadded-rounded (λ _. 16) };
 
     fn unpadded_size(&self) -> usize {
-        HEADER_SIZE
+        MESSAGE_HEADER_SIZE
     }
 
     fn written_size(&self) -> usize {
-        HEADER_SIZE
+        MESSAGE_HEADER_SIZE
     }
 }
 

@@ -19,11 +19,11 @@ ghost use Rattle.neli_msg.specs.laws.Messages.{layout_with-local, message-no_mem
 ghost use Rattle.neli_msg.specs.laws.Wires.{message_wire-length, message_wire-no_memory, message_wire-zeros};
 
 use crate::frame::{frame_length, write_framed};
-use crate::header::{HEADER_SIZE, header_of};
+use crate::header::header_of;
 use crate::payload::read_payload;
 use crate::{NlPayload, Nlmsgerr, NlmsghdrAck, NlmsghdrErr, RouterError};
 use neli_attr::{Buffer, BuildError, of};
-use neli_consts::{NlType, NlmF};
+use neli_consts::{MESSAGE_HEADER_SIZE, NlType, NlmF};
 use neli_list::TryClone;
 use neli_wire::implementing::{length_refusal, padded_length};
 use neli_wire::{
@@ -90,7 +90,7 @@ impl<T, P> Header for Nlmsghdr<T, P> {
     ghost header = { 16 };
 
     fn header_size() -> usize {
-        HEADER_SIZE
+        MESSAGE_HEADER_SIZE
     }
 }
 
@@ -102,7 +102,9 @@ impl<T: NlType, P: Size> Size for Nlmsghdr<T, P> {
     ghost rounded = { padded-rounded (message_size P.wire_length) };
 
     fn unpadded_size(&self) -> usize {
-        self.payload.written_size().saturating_add(HEADER_SIZE)
+        self.payload
+            .written_size()
+            .saturating_add(MESSAGE_HEADER_SIZE)
     }
 
     fn written_size(&self) -> usize {
@@ -147,19 +149,24 @@ impl<T: NlType, P: FromBytesWithInput> FromBytes for Nlmsghdr<T, P> {
     #[tactic(auto, using(neli_wire::specs::laws::Reading::refused_first), unfolding(neli_wire::specs::Frames::frame_at))]
     fn from_bytes(alloc: Global, cursor: &mut Cursor<'_>) -> Result<Self, DeError> {
         let rest = cursor.rest();
-        if rest.len() < HEADER_SIZE {
+        if rest.len() < MESSAGE_HEADER_SIZE {
             return Err(DeError::Io(ErrorKind::UnexpectedEof));
         }
         let header: NlmsghdrAck<T> = header_of(rest);
         let len = *header.nl_len() as usize;
-        if len < HEADER_SIZE {
+        if len < MESSAGE_HEADER_SIZE {
             return Err(DeError::InvalidInput(len));
         }
         if rest.len() < len {
-            return Err(DeError::InvalidInput(len - HEADER_SIZE));
+            return Err(DeError::InvalidInput(len - MESSAGE_HEADER_SIZE));
         }
         let number = header.nl_type().to_number();
-        let payload = read_payload(alloc, number, *header.nl_flags(), &rest[HEADER_SIZE..len])?;
+        let payload = read_payload(
+            alloc,
+            number,
+            *header.nl_flags(),
+            &rest[MESSAGE_HEADER_SIZE..len],
+        )?;
         let end = alignto(len);
         if rest.len() < end {
             return Err(DeError::Io(ErrorKind::UnexpectedEof));
@@ -306,7 +313,7 @@ impl<T: NlType, P: Drop> Nlmsghdr<T, P> {
         if let NlPayload::Err(_) = &self.payload {
             let payload = replace(&mut self.payload, NlPayload::Empty);
             if let NlPayload::Err(answer) = payload {
-                self.header = self.header.with_len(16);
+                self.header = self.header.with_len(MESSAGE_HEADER_SIZE as u32);
                 return Some(answer);
             }
         }
@@ -324,7 +331,7 @@ impl<T: NlType, P: Drop> Nlmsghdr<T, P> {
         if let NlPayload::Capped(_) = &self.payload {
             let payload = replace(&mut self.payload, NlPayload::Empty);
             if let NlPayload::Capped(answer) = payload {
-                self.header = self.header.with_len(16);
+                self.header = self.header.with_len(MESSAGE_HEADER_SIZE as u32);
                 return Some(answer);
             }
         }

@@ -17,7 +17,7 @@ use crate::{Nlmsgerr, NlmsghdrAck, NlmsghdrErr, RouterError};
 use bitflags::Flags;
 use byteorder::{ByteOrder, LittleEndian};
 use neli_attr::Buffer;
-use neli_consts::{NlType, NlmF};
+use neli_consts::{NLMSG_DONE, NLMSG_ERROR, NlType, NlmF};
 use neli_list::{TryClone, read_whole};
 use neli_wire::{Constant, Cursor, DeError, FromBytesWithInput, NoMemory, SerError, Size, ToBytes};
 use std::alloc::Global;
@@ -76,7 +76,7 @@ fn tail_of(flags: NlmF) -> Tail
 fn kind_of(number: u16, flags: NlmF, bytes: &[u8]) -> Kind
     ensures { result ≡ kind_of number flags bytes.now }
 {
-    if number == 2 {
+    if number == NLMSG_ERROR {
         if is_acknowledgement(bytes) {
             Kind::Acknowledgement(tail_of(flags))
         } else if flags.contains(NlmF::CAPPED) {
@@ -84,7 +84,7 @@ fn kind_of(number: u16, flags: NlmF, bytes: &[u8]) -> Kind
         } else {
             Kind::Failure
         }
-    } else if number == 3 {
+    } else if number == NLMSG_DONE {
         if bytes.is_empty() {
             Kind::Nothing
         } else if flags.contains(NlmF::MULTI) {

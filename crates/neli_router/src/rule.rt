@@ -5,11 +5,8 @@ ghost use Rattle.neli_router.specs.Rule.{ends_alone, ends_at, has_number, is_sin
 
 use crate::HandleState;
 use bitflags::Flags;
-use neli_consts::{NlType, NlmF};
+use neli_consts::{NLMSG_DONE, NlType, NlmF};
 use neli_reader::{NlPayload, Nlmsghdr, RouterError};
-
-/// The type of the message that ends a dump (`NLMSG_DONE` of `linux/netlink.h`).
-const DONE: u16 = 3;
 
 /// Whether flags that are sent ask for an acknowledgement.
 pub(crate) fn needs_acknowledgement(flags: NlmF) -> bool
@@ -40,7 +37,7 @@ fn is_single<T: NlType, P>(numbered: bool, item: &Result<Nlmsghdr<T, P>, RouterE
             numbered
                 && !ends_alone(item)
                 && (!message.nl_flags().contains(NlmF::MULTI)
-                    || message.nl_type().to_number() == DONE)
+                    || message.nl_type().to_number() == NLMSG_DONE)
         }
         Err(_) => false,
     }

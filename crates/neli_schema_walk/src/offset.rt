@@ -9,12 +9,10 @@ use crate::level::MAX_DEPTH;
 use crate::levels::{name_of, nested_bytes};
 use crate::{Broken, Context, Path, Shape, Step};
 use arrayvec::ArrayVec;
+use neli_consts::ATTRIBUTE_HEADER_SIZE;
 use neli_lent::LentNlattr;
 use neli_schema::Table;
 use neli_wire::{Cursor, alignto};
-
-/// The size of an attribute's header, in bytes.
-const HEADER_SIZE: usize = 4;
 
 /// An offset in a list of attributes.
 #[derive(Clone, Copy, Debug)]
@@ -100,10 +98,10 @@ fn inner_place<'b, 't>(
     let Ok(Shape::Nest(table)) = shape else {
         return None;
     };
-    if offset < HEADER_SIZE {
+    if offset < ATTRIBUTE_HEADER_SIZE {
         return None;
     }
-    let offset = offset - HEADER_SIZE;
+    let offset = offset - ATTRIBUTE_HEADER_SIZE;
     if offset < table.header.size {
         return None;
     }

@@ -6,6 +6,7 @@ ghost use Rattle.neli_schema.specs.Tables.{table_in};
 ghost use Rattle.neli_show.specs.Heads.{IsHead};
 
 use byteorder::{ByteOrder, LittleEndian};
+use neli_consts::{NLMSG_DONE, NLMSG_ERROR, NLMSG_NOOP, NLMSG_OVERRUN};
 use neli_lent::LentMessage;
 use neli_schema::{Body, Schema, Table};
 
@@ -49,10 +50,10 @@ impl<'t> Names<'t> {
     /// The name of a type of messages.
     fn type_name(&self, protocol: u16, message_type: u16) -> Option<&'t str> {
         match message_type {
-            1 => Some("NLMSG_NOOP"),
-            2 => Some("NLMSG_ERROR"),
-            3 => Some("NLMSG_DONE"),
-            4 => Some("NLMSG_OVERRUN"),
+            NLMSG_NOOP => Some("NLMSG_NOOP"),
+            NLMSG_ERROR => Some("NLMSG_ERROR"),
+            NLMSG_DONE => Some("NLMSG_DONE"),
+            NLMSG_OVERRUN => Some("NLMSG_OVERRUN"),
             _ => match self.body(protocol, u32::from(message_type)) {
                 Some(body) if protocol != CONNECTOR => Some(body.name),
                 _ => None,

@@ -3,6 +3,8 @@
 ghost use Rattle.std.specs.Prelude.{◌≡◌, map};
 ghost use Rattle.neli_texts.specs.MessageFlags.{flag_rows, flag_seen};
 
+use neli_consts::{NLMSG_DONE, NLMSG_ERROR};
+
 /// A flag: its bits, and its name.
 pub(crate) type Row = (u32, &'static str);
 
@@ -72,7 +74,7 @@ static ANSWERING: [Row; 8] = [
 pub(crate) fn flag_rows(is_route: bool, number: u16) -> &'static [Row]
     ensures { map flag_seen result.now ≡ flag_rows is_route number }
 {
-    if number == 2 || number == 3 {
+    if number == NLMSG_ERROR || number == NLMSG_DONE {
         return &ANSWERING;
     }
     if !is_route || number < 16 {

@@ -6,7 +6,7 @@ ghost use Rattle.neli_texts.specs.MessageLine.{flags_text, is_route, line_text, 
 use crate::bit_names::write_names;
 use crate::message_flags::flag_rows;
 use crate::message_types::route_type;
-use neli_consts::{NlType, NlmF};
+use neli_consts::{NLMSG_DONE, NLMSG_ERROR, NLMSG_NOOP, NLMSG_OVERRUN, NlType, NlmF};
 use neli_consts_system::NlFamily;
 use neli_lent::LentMessage;
 use neli_reader::Nlmsghdr;
@@ -83,10 +83,10 @@ impl fmt::Display for TypeName {
     fn fmt<W: fmt::Write>(&self, f: &mut fmt::Formatter<W>) -> fmt::Result {
         let number = self.number;
         match number {
-            1 => return write!(f, "NLMSG_NOOP"),
-            2 => return write!(f, "NLMSG_ERROR"),
-            3 => return write!(f, "NLMSG_DONE"),
-            4 => return write!(f, "NLMSG_OVERRUN"),
+            NLMSG_NOOP => return write!(f, "NLMSG_NOOP"),
+            NLMSG_ERROR => return write!(f, "NLMSG_ERROR"),
+            NLMSG_DONE => return write!(f, "NLMSG_DONE"),
+            NLMSG_OVERRUN => return write!(f, "NLMSG_OVERRUN"),
             _ => {}
         }
         if self.is_route {

@@ -11,7 +11,7 @@ returns-then-rest-end-clause-refused g c =
     c.nl_type.ensures
     c.to_number-number.result c.to_number-number.ensures c.nl_flags.result.now c.nl_flags.ensures c.alignto-end.result
     c.alignto-end.ensures
-    _ c.if-rest-lt-HEADER_SIZE.false c.if-len-lt-HEADER_SIZE.false c.if-rest-len.false c.in_ok-payload.ensures.value
+    _ c.if-rest-lt-MESSAGE_HEADER_SIZE.false c.if-len-lt-MESSAGE_HEADER_SIZE.false c.if-rest-len.false c.in_ok-payload.ensures.value
     c.if-rest-end.true
 
 pub returns-clause-value : goal.returns-clause-value
@@ -25,5 +25,5 @@ returns-clause-value g c =
     c.nl_type.ensures
     c.to_number-number.result c.to_number-number.ensures c.nl_flags.result.now c.nl_flags.ensures c.alignto-end.result
     c.alignto-end.ensures
-    _ c.if-rest-lt-HEADER_SIZE.false c.if-len-lt-HEADER_SIZE.false c.if-rest-len.false c.in_ok-payload.ensures.value
+    _ c.if-rest-lt-MESSAGE_HEADER_SIZE.false c.if-len-lt-MESSAGE_HEADER_SIZE.false c.if-rest-len.false c.in_ok-payload.ensures.value
     c.if-rest-end.false)
