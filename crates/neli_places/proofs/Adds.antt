@@ -23,7 +23,7 @@ use Rattle.std.proofs.Common.{length-append, length-drop}
 use Rattle.neli_places.proofs.Changes.{drop_end}
 use Rattle.neli_places.proofs.Nexts.{found_none, slice_get_drop, slice_get_end, own_unshared}
 use Rattle.std.proofs.lemmas.List.{drop-append-le, take-append-le}
-use Rattle.neli_places.specs.Places.{with_last, links_with}
+use Rattle.neli_places.specs.Places.{extended, with_last, links_with}
 
 pub found_push_other : {T : Type 0} (p : Route → Bool) (n : ℕ) (l : List (Entry T)) (e : Entry T) → p e.route ≡ false
     → first_position p n (l ++ e ∷ []) ≡ first_position p n l
@@ -527,6 +527,22 @@ pub sound_added : {T : Type 0} (place : Option ℕ → Option Place) (numbers : 
     → AreSound place numbers base shared_base c es links shared
     → AreSound place numbers base shared_base c es' links' shared'
 sound_added place numbers base shared_base c es es' links links' shared shared' a b d h = rw (a, b, d) h
+
+-- an entry for one list stands after the others, and that list's place is put back with it in its chain
+pub sound_extended : {T : Type 0} (place place' : Option ℕ → Option Place) (numbers numbers' : List Place)
+    (base shared_base c : ℕ) (es es' : List (Entry T)) (links linked links' : List (Option ℕ)) (shared : List Shared)
+    (e : Entry T) (w : Option ℕ) (p x : Place) (m : ℕ) → m ≡ base + length es → x ≡ extended p m
+    → linked ≡ links_with base p.chain m links → es' ≡ es ++ e ∷ [] → links' ≡ linked ++ None ∷ []
+    → AreSound place numbers base shared_base c es links shared → base + length es + 1 < 2 ^ 64
+    → Altered place place' w x → place w ≡ Some p → leads_only w e.route ≡ true → is_shared e.route ≡ false
+    → ((k : ℕ) → waiting_count k numbers' ≡ waiting_count k numbers)
+    → AreSound place' numbers' base shared_base c es' links' shared
+sound_extended place place' numbers numbers' base shared_base c es es' links linked links' shared e w p x m
+    last is next added unlinked h room altered mine leads_there unshared same =
+    rw (added, unlinked, next, last)
+    (sound_add_own place place' numbers numbers' base shared_base c es links shared e h room w p x altered mine
+    leads_there unshared (ap (λ y. y.from) is) (ap (λ y. y.chain) is ∙ ap (λ k. Some (with_last p.chain k)) last)
+    (ap (λ y. y.shared_passed) is) same)
 
 pub trimmed_same : {T : Type 0} (place : Option ℕ → Option Place) (base : ℕ) (es es' : List (Entry T)) → es' ≡ es
     → BeginsAwaited place base es → BeginsAwaited place base es'

@@ -87,6 +87,10 @@ abbrev pub with_last : Option Chain → ℕ → Chain
 with_last None m = record { first = m; last = m }
 with_last (Some c) m = record { first = c.first; last = m }
 
+-- the place whose chain has one more entry, at position m
+abbrev pub extended : Place → ℕ → Place
+extended p m = record { from = p.from; chain = Some (with_last p.chain m); shared_passed = p.shared_passed }
+
 -- the links where the last entry of the chain gets a next one, at position m
 abbrev pub links_with : ℕ → Option Chain → ℕ → List (Option ℕ) → List (Option ℕ)
 links_with base None m links = links

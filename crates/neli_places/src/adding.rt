@@ -5,7 +5,7 @@ ghost use Rattle.std.specs.VecDeque.{deque_capacity, deque_len};
 ghost use Rattle.neli_places.specs.Places.{Gains, HasRoom, IsTrimmed, LeavesRoom, entries_of, pending_of, place_of};
 ghost use Rattle.neli_places.specs.Routes.{entry};
 
-use crate::chains::{link, with_last};
+use crate::chains::{extended, link};
 use crate::counts::put;
 use crate::entry::{Entry, Route};
 use crate::place::{Place, Shared};
@@ -27,11 +27,7 @@ impl<T: Drop> Places<T> {
     {
         let at = self.base + self.entries.len() as u64;
         link(&mut self.links, self.base, p.chain, at);
-        self.multicast = Some(Place {
-            from: p.from,
-            chain: Some(with_last(p.chain, at)),
-            shared_passed: p.shared_passed,
-        });
+        self.multicast = Some(extended(p, at));
         append(
             &mut self.entries,
             &mut self.links,
@@ -56,12 +52,7 @@ impl<T: Drop> Places<T> {
     {
         let at = self.base + self.entries.len() as u64;
         link(&mut self.links, self.base, p.chain, at);
-        let place = Place {
-            from: p.from,
-            chain: Some(with_last(p.chain, at)),
-            shared_passed: p.shared_passed,
-        };
-        put(&mut self.numbers, n, place);
+        put(&mut self.numbers, n, extended(p, at));
         append(
             &mut self.entries,
             &mut self.links,

@@ -2,11 +2,11 @@
 
 ghost use Rattle.std.specs.Prelude.{◌≡◌, ◌+◌, ◌<◌, ◌≤◌, Some, length};
 ghost use Rattle.std.specs.VecDeque.{deque_capacity, deque_len};
-ghost use Rattle.neli_places.specs.Places.{links_with, start, with_last, without_first};
+ghost use Rattle.neli_places.specs.Places.{extended, links_with, start, with_last, without_first};
 ghost use Rattle.neli_places.specs.Routes.{lesser_of};
 ghost use Rattle.neli_places.specs.declared.place.Chain.{Chain as Link};
 
-use crate::place::Chain;
+use crate::place::{Chain, Place};
 use std::collections::VecDeque;
 
 /// The position of a chain's first entry.
@@ -30,7 +30,7 @@ pub(crate) fn without_first(chain: Option<Chain>, link: Option<u64>) -> Option<C
 }
 
 /// The chain with one more entry, at this position.
-pub(crate) fn with_last(chain: Option<Chain>, last: u64) -> Chain
+fn with_last(chain: Option<Chain>, last: u64) -> Chain
     ensures { result ≡ with_last chain last }
 {
     match chain {
@@ -39,6 +39,17 @@ pub(crate) fn with_last(chain: Option<Chain>, last: u64) -> Chain
             first: chain.first,
             last,
         },
+    }
+}
+
+/// The place whose chain has one more entry, at this position.
+pub(crate) fn extended(place: Place, last: u64) -> Place
+    ensures { result ≡ extended place last }
+{
+    Place {
+        from: place.from,
+        chain: Some(with_last(place.chain, last)),
+        shared_passed: place.shared_passed,
     }
 }
 

@@ -1,10 +1,9 @@
-use Rattle.std.proofs.Common.{refl, Some, None, ◌≡◌, ◌+◌, ◌-◌, [], ◌∷◌, ◌++◌, ◌∙◌, arith, ap, length}
+use Rattle.std.proofs.Common.{refl, Some, None, ◌+◌, ◌-◌, arith, ap}
 use Rattle.std.specs.HashMap.{values}
-use Rattle.neli_places.specs.Places.{place_of, links_with, with_last}
-use Rattle.neli_places.specs.declared.place.Place.{Place}
+use Rattle.neli_places.specs.Places.{place_of}
 use Rattle.neli_places.specs.declared.entry.Entry.{Entry}
 use Rattle.neli_places.specs.declared.entry.Route.TheVariants.{Multicast}
-use Rattle.neli_places.proofs.Adds.{pending_added, sound_add_own, trimmed_added, sound_added, from_multicast}
+use Rattle.neli_places.proofs.Adds.{pending_added, sound_extended, trimmed_added, from_multicast}
 use Rattle.neli_places.proofs.Adds.{altered_multicast, last_bounds}
 use Rattle.neli_places.proofs.places.Places.add_to_multicast.Goals as goal
 
@@ -19,39 +18,24 @@ pub returns-clause-more : goal.returns-clause-more
 returns-clause-more g c = λ w.
     let s = c.args.self.now in let h = c.requires.trimmed.sound in
     let e : Entry _ = record { item = c.args.item; route = Multicast } in
-    let x : Place = record {
-      from = c.args.p.from;
-      chain = Some c.with_last.result;
-      shared_passed = c.args.p.shared_passed;
-    } in
+    let x = c.extended.result in
     pending_added w s.base s.entries.items c.append.new.entries.items e (place_of s w) _ c.append.ensures.entries
-    (from_multicast (place_of s) (place_of (record s { multicast = Some x })) c.args.p x c.requires.is refl refl
-    (λ q. refl) w) (λ p is. (h.places w p is).within)
+    (from_multicast (place_of s) (place_of (record s { multicast = Some x })) c.args.p x c.requires.is refl
+    (ap (λ y. y.from) c.extended.ensures) (λ q. refl) w) (λ p is. (h.places w p is).within)
 
 pub returns-clause-trimmed : goal.returns-clause-trimmed
 returns-clause-trimmed g c =
     let s = c.args.self.now in let h = c.requires.trimmed.sound in
     let e : Entry _ = record { item = c.args.item; route = Multicast } in
-    let x : Place = record {
-      from = c.args.p.from;
-      chain = Some c.with_last.result;
-      shared_passed = c.args.p.shared_passed;
-    } in
-    let len : c.len.result ≡ length s.entries.items = omega (arith, s.entries.ok.0, c.len.ensures) in
-    let owned : Some c.with_last.result ≡ Some (with_last c.args.p.chain (s.base + length s.entries.items)) =
-    ap Some (rw len at c.with_last.ensures) in
-    let links : c.append.new.links.items ≡ links_with s.base c.args.p.chain
-    (s.base + length s.entries.items) s.links.items ++ None ∷ [] = c.append.ensures.links
-    ∙ ap (λ l. l ++ None ∷ []) (rw len at c.link.ensures.links) in
+    let x = c.extended.result in
     record {
-      sound = sound_added _ (values s.numbers) s.base s.shared_base s.caught_up _ c.append.new.entries.items _
-          c.append.new.links.items s.shared.items s.shared.items c.append.ensures.entries links refl
-          (sound_add_own (place_of s) _ (values s.numbers)
-          (values s.numbers) s.base s.shared_base s.caught_up s.entries.items s.links.items s.shared.items e h
-          c.requires.room.positions
-          None c.args.p x (altered_multicast (place_of s) _ x refl (λ q. refl)) c.requires.is refl refl refl owned refl
-          (λ k. refl));
+      sound = sound_extended (place_of s) _ (values s.numbers) (values s.numbers) s.base s.shared_base s.caught_up
+          s.entries.items _ s.links.items _ _ s.shared.items e None c.args.p x (s.base + c.len.result)
+          (omega (arith, s.entries.ok.0, c.len.ensures)) c.extended.ensures c.link.ensures.links
+          c.append.ensures.entries c.append.ensures.links h c.requires.room.positions
+          (altered_multicast (place_of s) _ x refl (λ q. refl)) c.requires.is refl refl (λ k. refl);
       begins = trimmed_added (place_of s) _ s.base s.entries.items c.append.new.entries.items e None c.args.p
-          c.append.ensures.entries (from_multicast (place_of s) _ c.args.p x c.requires.is refl refl
-          (λ q. refl)) c.requires.is (h.places None c.args.p c.requires.is).within refl c.requires.trimmed.begins;
+          c.append.ensures.entries (from_multicast (place_of s) _ c.args.p x c.requires.is refl
+          (ap (λ y. y.from) c.extended.ensures) (λ q. refl)) c.requires.is
+          (h.places None c.args.p c.requires.is).within refl c.requires.trimmed.begins;
     }
