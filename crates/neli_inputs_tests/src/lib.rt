@@ -5,8 +5,4 @@
 #![tactic(auto)]
 
 #[cfg(test)]
-mod files;
-#[cfg(test)]
-mod reading;
-#[cfg(test)]
-mod texts;
+mod tests;

@@ -1,20 +1,5 @@
 //! Tests of what a kernel answers.
-//!
-//! - [`answers`]: acknowledgements and errors. [`dumps`]: dumps. [`single`]: single replies and notifications. Each is
-//!   a table of what was recorded from a kernel, built again from its values. Numbers are those of docs/RECORDINGS.md.
-//! - [`family`]: a family of generic netlink, served, and its client on the router.
-//! - [`laws`]: the laws are called. [`support`]: what the tests share.
 #![tactic(auto)]
 
 #[cfg(test)]
-mod answers;
-#[cfg(test)]
-mod dumps;
-#[cfg(test)]
-mod family;
-#[cfg(test)]
-mod laws;
-#[cfg(test)]
-mod single;
-#[cfg(test)]
-mod support;
+mod tests;

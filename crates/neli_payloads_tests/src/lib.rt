@@ -6,16 +6,4 @@
 #![tactic(auto)]
 
 #[cfg(test)]
-mod addresses;
-#[cfg(test)]
-mod cache_entries;
-#[cfg(test)]
-mod counters;
-#[cfg(test)]
-mod next_hops;
-#[cfg(test)]
-mod support;
-#[cfg(test)]
-mod texts;
-#[cfg(test)]
-mod virtual_functions;
+mod tests;

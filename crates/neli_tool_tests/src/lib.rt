@@ -1,16 +1,5 @@
-//! Tests of the program's crates, a file a subject: of `neli_listing` and `neli_tool_run`, which list datagrams and
-//! write them again, and of `neli_replay`, which answers scripts. They call `run`, `replay` and what these are made of,
-//! over [`readers`] and [`writers`] of their own, and scripts over both stores of deliveries.
-//!
-//! - [`arguments`]: what the words of a command line ask for. [`input`], [`output`]: what is read and written, where it
-//!   fails too. [`listing`], [`rewriting`]: lines of datagrams, and datagrams that are written again.
-//! - [`datagrams`], [`reasons`]: recorded datagrams against what libmnl reads in them, and why the kernel refuses.
-//!   [`lengths`]: each datagram of these tests cut at each place, and with each length in it set wrong, against
-//!   [`rules`], which says what comes of any bytes.
-//! - [`answers`], [`conversations`], [`bad_lines`], [`scripts_output`]: scripts, what is answered, and where that
-//!   fails. [`scripts`]: how a script is played. [`large`]: a datagram above 64 KB, and a script of more than a
-//!   thousand commands. [`laws`]: the laws, called.
-//! - [`out_of_memory`], [`scripts_out_of_memory`]: where an allocation is refused. [`support`]: what the tests share.
+//! Tests of the program's crates: of `neli_listing` and `neli_tool_run`, which list datagrams and write them again, and
+//! of `neli_replay`, which answers scripts.
 //!
 //! The recorded datagrams are of Linux 6.18 on x86-64; their numbers are those of docs/RECORDINGS.md.
 //! RFC 3549 section 2.3.2 and `struct nlmsghdr` of linux/netlink.h give the layout of the datagrams; the
@@ -18,44 +7,4 @@
 #![tactic(auto)]
 
 #[cfg(test)]
-mod answers;
-#[cfg(test)]
-mod arguments;
-#[cfg(test)]
-mod bad_lines;
-#[cfg(test)]
-mod conversations;
-#[cfg(test)]
-mod datagrams;
-#[cfg(test)]
-mod input;
-#[cfg(test)]
-mod large;
-#[cfg(test)]
-mod laws;
-#[cfg(test)]
-mod lengths;
-#[cfg(test)]
-mod listing;
-#[cfg(test)]
-mod out_of_memory;
-#[cfg(test)]
-mod output;
-#[cfg(test)]
-mod readers;
-#[cfg(test)]
-mod reasons;
-#[cfg(test)]
-mod rewriting;
-#[cfg(test)]
-mod rules;
-#[cfg(test)]
-mod scripts;
-#[cfg(test)]
-mod scripts_out_of_memory;
-#[cfg(test)]
-mod scripts_output;
-#[cfg(test)]
-mod support;
-#[cfg(test)]
-mod writers;
+mod tests;

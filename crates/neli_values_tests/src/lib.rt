@@ -1,20 +1,5 @@
 //! Tests of the wire layer, of the constants, and of groups and bit arrays, by the paths of `neli`.
 //!
-//! - [`numbers`], [`texts`], [`lists`], [`octets`], [`nothing`]: what values of each kind are written as, and
-//!   what is read. [`padding`] and [`frames`]: what stands around them. [`cursor`]: the place in bytes.
-//! - [`errors`]: what refusals are made of. [`printed`]: what every error prints, those of builders and of
-//!   the reader of messages too.
-//! - [`constants`], [`types`], [`wrappers`]: constants on the wire, and the traits and wrappers over the
-//!   tables. [`sets`]: flags as sets. [`equality`]: which constants are equal. What each number is read as,
-//!   what it is written as and what each flag is, `neli_constants` lists.
-//! - [`shown`]: exit codes, sets of flags and headers of messages as texts. [`body_lines`]: the fields of bodies.
-//! - [`groups`] and [`masks`]: lists of multicast groups, and their masks. [`bit_arrays`]: bit arrays.
-//! - [`own_types`], [`own_enums`]: a user's own types, those of `example_body`, and enums, those of
-//!   `example_enum`.
-//! - [`laws`]: the laws, called.
-//! - [`out_of_memory`], [`groups_out_of_memory`]: what each call answers where an allocation is refused.
-//! - [`support`]: what the tests share.
-//!
 //! Numbers are in two's complement, the lowest byte first. Expected bytes are worked out by hand from that,
 //! and padding from `NLMSG_ALIGN` of linux/netlink.h, unless a comment names another source. Constants are
 //! those of linux/netlink.h, linux/genetlink.h, linux/rtnetlink.h, linux/if_link.h, linux/fib_rules.h,
@@ -25,56 +10,4 @@
 #![tactic(auto)]
 
 #[cfg(test)]
-mod bit_arrays;
-#[cfg(test)]
-mod body_lines;
-#[cfg(test)]
-mod constants;
-#[cfg(test)]
-mod cursor;
-#[cfg(test)]
-mod equality;
-#[cfg(test)]
-mod errnos;
-#[cfg(test)]
-mod errors;
-#[cfg(test)]
-mod frames;
-#[cfg(test)]
-mod groups;
-#[cfg(test)]
-mod groups_out_of_memory;
-#[cfg(test)]
-mod laws;
-#[cfg(test)]
-mod lists;
-#[cfg(test)]
-mod masks;
-#[cfg(test)]
-mod nothing;
-#[cfg(test)]
-mod numbers;
-#[cfg(test)]
-mod octets;
-#[cfg(test)]
-mod out_of_memory;
-#[cfg(test)]
-mod own_enums;
-#[cfg(test)]
-mod own_types;
-#[cfg(test)]
-mod padding;
-#[cfg(test)]
-mod printed;
-#[cfg(test)]
-mod sets;
-#[cfg(test)]
-mod shown;
-#[cfg(test)]
-mod support;
-#[cfg(test)]
-mod texts;
-#[cfg(test)]
-mod types;
-#[cfg(test)]
-mod wrappers;
+mod tests;

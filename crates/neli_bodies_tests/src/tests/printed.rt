@@ -1,0 +1,56 @@
+//! What `Debug` prints of the bodies of routing.
+
+use super::support::{assert_is_at, read_whole};
+use neli::FromBytesWithInput;
+use neli::rtnl::{Fibmsg, Ifaddrmsg, Ifinfomsg, Ndmsg, Rtgenmsg, Rtmsg, Tcmsg};
+use std::alloc::Global;
+use std::process::Abort;
+
+/// Bytes that spell the fields of any of these bodies.
+const ZEROS: [u8; 20] = [0; 20];
+
+/// Asserts that this is printed of the body that as many zeros spell: its name, its fields, and no attribute.
+fn assert_shows<B: FromBytesWithInput>(
+    rt: &impl Abort,
+    alloc: Global,
+    name: &str,
+    size: usize,
+    fields: &str,
+) {
+    let bytes = ZEROS.get(..size).expect(rt, name);
+    let body: B = read_whole(rt, alloc, name, bytes);
+    let text = format!(in alloc; "{body:?}").expect(rt, "memory");
+    let want = format!(in alloc;
+        "{name} {{ header: {name}Header {{ {fields} }}, rtattrs: FrameList {{ items: [] }} }}"
+    );
+    assert_is_at(rt, name, text.as_str(), want.expect(rt, "memory").as_str());
+}
+
+#[test]
+fn links_show_their_fields(rt: HostRuntime) {
+    let fields = "ifi_family: Unspecified, padding: 0, ifi_type: Netrom, ifi_index: 0, \
+        ifi_flags: Iff(0), ifi_change: Iff(0)";
+    assert_shows::<Ifinfomsg>(&rt, rt.alloc(), "Ifinfomsg", 16, fields);
+    let fields = "ifa_family: Unspecified, ifa_prefixlen: 0, ifa_flags: IfaF(0), \
+        ifa_scope: Universe, ifa_index: 0";
+    assert_shows::<Ifaddrmsg>(&rt, rt.alloc(), "Ifaddrmsg", 8, fields);
+    let fields = "ndm_family: Unspecified, pad1: 0, pad2: 0, ndm_index: 0, ndm_state: Nud(0), \
+        ndm_flags: Ntf(0), ndm_type: Unspec";
+    assert_shows::<Ndmsg>(&rt, rt.alloc(), "Ndmsg", 12, fields);
+}
+
+#[test]
+fn routes_show_their_fields(rt: HostRuntime) {
+    let fields = "rtm_family: Unspecified, rtm_dst_len: 0, rtm_src_len: 0, rtm_tos: 0, \
+        rtm_table: Unspec, rtm_protocol: Unspec, rtm_scope: Universe, rtm_type: Unspec, \
+        rtm_flags: RtmF(0)";
+    assert_shows::<Rtmsg>(&rt, rt.alloc(), "Rtmsg", 12, fields);
+    let fields = "tcm_family: 0, padding_char: 0, padding_short: 0, tcm_ifindex: 0, \
+        tcm_handle: 0, tcm_parent: 0, tcm_info: 0";
+    assert_shows::<Tcmsg>(&rt, rt.alloc(), "Tcmsg", 20, fields);
+    let fields = "fib_family: Unspecified, fib_dst_len: 0, fib_src_len: 0, fib_tos: 0, \
+        fib_table: Unspec, pad1: 0, pad2: 0, fib_action: Unspec, fib_flags: Frf(0)";
+    assert_shows::<Fibmsg>(&rt, rt.alloc(), "Fibmsg", 12, fields);
+    let fields = "rtgen_family: Unspecified, pad1: 0, pad2: 0";
+    assert_shows::<Rtgenmsg>(&rt, rt.alloc(), "Rtgenmsg", 4, fields);
+}

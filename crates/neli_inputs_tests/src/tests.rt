@@ -1,0 +1,5 @@
+//! The tests, a file a subject.
+
+mod files;
+mod reading;
+mod texts;

@@ -1,0 +1,105 @@
+//! What the shared store keeps after each step: entries, and bytes of datagrams. That both stores answer such steps
+//! alike is tested in [`super::datagrams`].
+//!
+//! Any one allocation may be refused in this test (`rt try --test --fail-alloc N`). A call of the router that is
+//! refused changes nothing, and gives what it would have given when it is made again.
+
+use super::script::Step::{Close, Come, Read, Send};
+use super::script::Told::{Done, Message, Refused, Sent, Stray};
+use super::script::{Came, Step, Told, kind_once};
+use super::steps::Asker;
+use super::support::assert_is_at;
+use neli::router::synchronous::Log;
+use std::alloc::Global;
+use std::process::Abort;
+
+/// Messages of type 16 with the numbers 0, 1 and 9; the first two have the flag MULTI.
+pub const THREE: &str = "10000000100002000000000000000000\
+    10000000100002000100000000000000\
+    10000000100000000900000000000000";
+
+/// A message of type 16.
+pub const ONE: &str = "10000000100000000000000000000000";
+
+/// A message of a dump with number 0 and four bytes, and the error -22 to number 1 with the request's header and
+/// body and an attribute.
+pub const ECHO: &str = "1400000010000200000000000000000001020304\
+    34000000020000020100000000000000eaffffff\
+    150000000004050001000000000000006162636465000000\
+    0800010062616400";
+
+/// Scripts: steps, what each of them answers, and how many entries and bytes are kept then.
+const SCRIPTS: [(&str, &[(Step, Told, [usize; 2])]); 3] = [
+    (
+        // What comes to a group at the end is kept until multicast is closed, and not at all after that.
+        "an entry goes with the last handle that waits for it",
+        &[
+            (Send(16, 0, ""), Sent(0, 0), [0, 0]),
+            (Send(16, 0, ""), Sent(1, 0), [0, 0]),
+            (Come(THREE, 0), Done, [3, 48]),
+            (Read(1), Message(16, 0, 0), [2, 48]),
+            (Read(1), Stray(9, 0), [2, 48]),
+            (Read(2), Message(16, 1, 0), [1, 48]),
+            (Read(2), Stray(9, 0), [0, 0]),
+            (Come(ONE, 1), Done, [1, 16]),
+            (Close(0), Done, [0, 0]),
+            (Come(ONE, 1), Done, [0, 0]),
+        ],
+    ),
+    (
+        "a fault is one entry without bytes",
+        &[
+            (Send(16, 0, ""), Sent(0, 0), [0, 0]),
+            (Send(16, 0, ""), Sent(1, 0), [0, 0]),
+            (Come("100000001000000000000000000000", 0), Done, [1, 0]),
+        ],
+    ),
+    (
+        "a refused call changes nothing",
+        &[
+            (Send(16, 0, ""), Sent(0, 0), [0, 0]),
+            (Send(16, 0, ""), Sent(1, 0), [0, 0]),
+            (Come(ECHO, 0), Done, [2, 72]),
+            (Read(1), Message(16, 0, 4), [1, 72]),
+            (Read(2), Refused(-22, 1024), [0, 0]),
+        ],
+    ),
+];
+
+/// How many entries a router keeps, and how many bytes of datagrams.
+pub fn kept(asker: &Asker<Log>) -> [usize; 2] {
+    let log = asker.router.deliveries();
+    [log.kept(), log.kept_bytes()]
+}
+
+/// Does a step, again where memory ran out.
+fn step(rt: &impl Abort, alloc: Global, row: &str, asker: &mut Asker<Log>, step: Step) -> Came {
+    let before = kept(asker);
+    if let Ok(outcome) = asker.step(alloc, step) {
+        return outcome;
+    }
+    assert_is_at(rt, row, kept(asker), before);
+    asker.step(alloc, step).expect(rt, "memory")
+}
+
+/// Plays a script, and asserts what each step answers and what is kept then.
+fn play(rt: &impl Abort, alloc: Global, row: &str, steps: &[(Step, Told, [usize; 2])]) {
+    let mut asker = Asker::<Log>::new(rt, alloc, 0);
+    for (doing, want, left) in steps {
+        let outcome = step(rt, alloc, row, &mut asker, *doing);
+        assert_is_at(rt, row, kind_once(outcome), *want);
+        assert_is_at(rt, row, kept(&asker), *left);
+    }
+}
+
+/// Plays the scripts. Any one allocation may be refused here.
+pub fn play_all(rt: &impl Abort, alloc: Global) {
+    for (row, steps) in &SCRIPTS {
+        play(rt, alloc, row, steps);
+    }
+}
+
+#[test]
+fn entries_are_kept_while_they_are_waited_for(rt: HostRuntime) {
+    play_all(&rt, rt.alloc());
+}

@@ -1,0 +1,148 @@
+//! The example of the README, and those that docs/ATTRIBUTES.md and docs/LENT.md begin with, line by line.
+
+use super::support::{assert_is, assert_spelled, bytes_of};
+use neli::consts::nl::NlmF;
+use neli::consts::rtnl::{Ifa, RtAddrFamily, RtScope, Rtm};
+use neli::err::RouterError;
+use neli::nl::NlPayload;
+use neli::router::synchronous::{Log, NlRouter, Reply};
+use neli::rtnl::{Ifaddrmsg, IfaddrmsgBuilder};
+use neli::utils::Groups;
+use std::alloc::Global;
+use std::net::Ipv4Addr;
+use std::test::Fail;
+
+/// What the link, the router or a builder refused.
+type Trouble = RouterError<Rtm, Ifaddrmsg>;
+
+/// Reads the answers to the request.
+type Handle = neli::router::synchronous::NlRouterReceiverHandle<Rtm, Ifaddrmsg>;
+
+/// What the kernel is asked for the addresses of a link, and the first of them in its answer, which the function below
+/// reads.
+fn first_address(
+    alloc: Global,
+    port: u32,
+    datagram: &[u8],
+) -> Result<(Vec<u8>, Option<Ipv4Addr>), Trouble> {
+    let (mut router, _multicast) = NlRouter::<Log>::new(alloc, port);
+    let asked = IfaddrmsgBuilder::default()
+        .ifa_family(RtAddrFamily::Inet)
+        .ifa_prefixlen(0)
+        .ifa_scope(RtScope::Universe)
+        .ifa_index(3)
+        .build(alloc)?;
+    let body = NlPayload::Payload(asked);
+    let (request, mut handle) = router.send::<_, _, Rtm, Ifaddrmsg>(
+        alloc,
+        Rtm::Getaddr,
+        NlmF::DUMP,
+        body,
+    )?;
+    let address = first_answer(alloc, &mut router, handle, datagram)?;
+    Ok((request, address))
+}
+
+/// The first address in the kernel's answer.
+fn first_answer(
+    alloc: Global,
+    router: &mut NlRouter,
+    mut handle: Handle,
+    datagram: &[u8],
+) -> Result<Option<Ipv4Addr>, Trouble> {
+    // Your link sends `request`, and `datagram` comes back.
+    router.processing_loop(datagram, &Groups::empty(alloc))?;
+    let mut address: Option<Ipv4Addr> = None;
+    if let Reply::Item(item) = router.next_typed::<Rtm, Ifaddrmsg, _, _>(alloc, &mut handle)? {
+        if let Some(body) = item?.get_payload() {
+            let attrs = body.rtattrs().get_attr_handle();
+            address = Some(attrs.get_attr_payload_as(alloc, Ifa::Local)?); // 192.0.2.1
+        }
+    }
+    Ok(address)
+}
+
+// Recorded from Linux 6.18, but for the number, which was 1179: one of the addresses of veth0.
+#[test]
+fn addresses_of_a_link(rt: HostRuntime) -> Result<(), Fail> {
+    let alloc = rt.alloc();
+    let datagram = bytes_of(
+        &rt,
+        alloc,
+        "58000000140022000000000085958cf6021880000300000008000100c000020108000200c000020108000400c00002ff\
+        0a0003007665746830000000080008008000000014000600ffffffffffffffff4473030044730300",
+    );
+    let (request, address) = first_address(alloc, 4136408453, &datagram)?;
+    let want = "18000000160001030000000085958cf60200000003000000";
+    assert_spelled(&rt, alloc, &request, want);
+    assert_is(&rt, address, Some(Ipv4Addr::new(192, 0, 2, 1)));
+    Ok(())
+}
+
+/// A gateway of a route: its bytes, and the address that is read of them.
+fn gateway(alloc: Global) -> Result<(Vec<u8>, [u8; 4]), Fail> {
+    use neli::consts::rtnl::Rta;
+    use neli::rtnl::RtattrBuilder;
+    use neli::types::{Buffer, RtBuffer};
+    use neli::{Cursor, FromBytesWithInput, ToBytes};
+
+    let gateway = RtattrBuilder::default()
+        .rta_type(Rta::Gateway)
+        .rta_payload([192u8, 0, 2, 1])
+        .build(alloc)?;
+    let mut attrs = RtBuffer::new(alloc);
+    attrs.push(gateway)?;
+
+    let mut bytes = Vec::new(alloc);
+    attrs.to_bytes(&mut bytes)?; // 08 00 05 00 c0 00 02 01
+
+    let mut cursor = Cursor::new(&bytes);
+    let read: RtBuffer<Rta, Buffer> = RtBuffer::from_bytes_with_input(
+        alloc,
+        &mut cursor,
+        bytes.len(),
+    )?;
+    let address: [u8; 4] = read
+        .get_attr_handle()
+        .get_attr_payload_as(alloc, Rta::Gateway)?;
+    Ok((bytes, address))
+}
+
+#[test]
+fn gateway_of_a_route(rt: HostRuntime) -> Result<(), Fail> {
+    let (bytes, address) = gateway(rt.alloc())?;
+    assert_spelled(&rt, rt.alloc(), &bytes, "08000500c0000201");
+    assert_is(&rt, address, [192, 0, 2, 1]);
+    Ok(())
+}
+
+/// The names of the links in a datagram. Each is the datagram's own bytes, so it outlives the message and the attribute
+/// that it was read in.
+fn names_of<'a>(alloc: Global, datagram: &'a [u8]) -> Result<Vec<&'a str>, Fail> {
+    use neli::consts::rtnl::Ifla;
+    use neli::lent::LentMessages;
+    use neli::rtnl::Ifinfomsg;
+
+    let mut names = Vec::new(alloc);
+    for message in LentMessages::<u16>::new(datagram) {
+        let attrs = message?.get_attrs::<Ifinfomsg, Ifla>()?;
+        if let Some(attr) = attrs.get_attribute(Ifla::Ifname)? {
+            let name: &str = attr.get_payload_as_with_len_borrowed()?;
+            names.push(name.strip_suffix('\0').unwrap_or(name))?;
+        }
+    }
+    Ok(names)
+}
+
+/// Two links, each a message with the header, `struct ifinfomsg` and the name.
+const LINKS: &str =
+    "2800000010000200010000000000000000000403010000004900000000000000070003006c6f00002c00000010000200\
+    0100000000000000000001000300000043100100000000000a0003007665746830000000";
+
+#[test]
+fn names_of_links(rt: HostRuntime) -> Result<(), Fail> {
+    let datagram = bytes_of(&rt, rt.alloc(), LINKS);
+    let names = names_of(rt.alloc(), &datagram)?;
+    assert_is(&rt, names.as_slice(), ["lo", "veth0"].as_slice());
+    Ok(())
+}

@@ -1,0 +1,86 @@
+//! A conversation: one request, the datagrams that answer it, and the items that its handle gives.
+
+use super::support::{assert_is, bytes_of};
+use neli::consts::nl::{NlType, NlmF};
+use neli::err::RouterError;
+use neli::nl::{NlPayload, Nlmsghdr};
+use neli::router::synchronous::{Log, NlRouter, NlRouterReceiverHandle, Reply};
+use neli::utils::Groups;
+use neli::{FromBytesWithInput, Size, ToBytes};
+use std::alloc::Global;
+use std::process::Abort;
+
+/// What goes over the link, in hexadecimal digits.
+pub struct Talk {
+    /// The router's port, and the request's number.
+    pub port: u32,
+    pub number: u32,
+    /// The request. Its port is not compared: the recorded request has port 0 there.
+    pub request: &'static str,
+    /// The datagrams that answer it.
+    pub answers: &'static [&'static str],
+}
+
+/// An item of a handle.
+pub type Item<T, P> = Result<Nlmsghdr<T, P>, RouterError<T, P>>;
+
+/// Asserts that these bytes are the recorded ones, but for the port.
+fn assert_asked(rt: &impl Abort, alloc: Global, bytes: &[u8], digits: &str) {
+    let want = bytes_of(rt, alloc, digits);
+    assert_is(rt, bytes.get(..12), want.get(..12));
+    assert_is(rt, bytes.get(16..), want.get(16..));
+}
+
+/// All items of a handle, up to the end.
+fn items_of<T: NlType, P: FromBytesWithInput + Size + Drop>(
+    rt: &impl Abort,
+    alloc: Global,
+    router: &mut NlRouter,
+    mut handle: NlRouterReceiverHandle<T, P>,
+) -> Vec<Item<T, P>> {
+    let mut items = Vec::new(alloc);
+    for _ in 0..9u32 {
+        let reply = router.next_typed::<T, P, _, _>(alloc, &mut handle);
+        match reply.expect(rt, "memory") {
+            Reply::Item(item) => items.push(item).expect(rt, "memory"),
+            Reply::End => return items,
+            Reply::Waits => return rt.panic("no end"),
+        }
+    }
+    rt.panic("no end of nine items")
+}
+
+/// Sends a request, hands in its answers, and gives all items of its handle, up to the end.
+pub fn answered<T: NlType, S: ToBytes + Drop, P: FromBytesWithInput + Size + Drop>(
+    rt: &impl Abort,
+    alloc: Global,
+    talk: &Talk,
+    nl_type: T,
+    nl_flags: NlmF,
+    body: S,
+) -> Vec<Item<T, P>> {
+    let (mut router, _multicast) = NlRouter::<Log>::new(alloc, talk.port);
+    router.set_next_seq(talk.number);
+    let sent = router.send::<T, S, T, P>(alloc, nl_type, nl_flags, NlPayload::Payload(body));
+    let (request, handle) = match sent {
+        Ok(sent) => sent,
+        Err(_) => return rt.panic("not sent"),
+    };
+    assert_asked(rt, alloc, &request, talk.request);
+    let no_groups = Groups::empty(alloc);
+    for digits in talk.answers {
+        let datagram = bytes_of(rt, alloc, digits);
+        router
+            .processing_loop(&datagram, &no_groups)
+            .expect(rt, "memory");
+    }
+    items_of(rt, alloc, &mut router, handle)
+}
+
+/// The payload of an item, which is to be a message with one.
+pub fn payload_of<'a, T, P>(rt: &impl Abort, item: &'a Item<T, P>) -> &'a P {
+    match item {
+        Ok(message) => message.get_payload().expect(rt, "a payload"),
+        Err(_) => rt.panic("an error"),
+    }
+}
