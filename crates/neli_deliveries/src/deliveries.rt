@@ -1,10 +1,9 @@
 //! What a store of deliveries has to keep.
 
-ghost use Rattle.std.specs.Prelude.{true, ◌≡◌, ◌≢◌, ℕ, List, [], ◌∷◌, ◌++◌, Option, None, Some, IsOk, IfOk, OnOk};
-ghost use Rattle.std.specs.Prelude.{OnErr, is_some, option_map};
+ghost use Rattle.std.specs.Prelude.{true, ◌≡◌, ℕ, List, [], ◌∷◌, Option, None, Some, IsOk, IfOk, OnOk, OnErr, is_some};
 ghost use Rattle.neli_reader.specs.Cuts.{cut_of};
 ghost use Rattle.neli_reader.specs.Agreement.{untyped_layout};
-ghost use Rattle.neli_deliveries.specs.Lists.{ListsGain, SameLists, SameListsBut};
+ghost use Rattle.neli_deliveries.specs.Lists.{ListsGain, Opens, SameLists, SameListsBut};
 ghost use Rattle.neli_deliveries.specs.declared.delivery.Delivery.{Delivery as Waiting};
 ghost use Rattle.neli_deliveries.specs.Deliveries.{fault_share, head_of, is_would_block, datagram_share};
 ghost use Rattle.neli_deliveries.specs.Readings.{IsFirst};
@@ -46,9 +45,7 @@ pub trait Deliveries: Sized {
     fn open(&mut self, number: u32) -> Result<(), NoMemory>
         requires { pending self.old (Some number) ≡ None }
         ensures port { port_of self.new ≡ port_of self.old }
-        ensures opened { OnOk result (pending self.new (Some number) ≡ Some []) }
-        ensures others { OnOk result (SameListsBut (Some number)
-            (pending self.old) (pending self.new)) }
+        ensures opened { OnOk result (Opens number (pending self.old) (pending self.new)) }
         ensures err { OnErr result (SameLists (pending self.old) (pending self.new)) };
 
     /// Takes a list away, with what waits there. It takes no memory.

@@ -4,7 +4,7 @@ ghost use Rattle.std.specs.Prelude.{◌≡◌, ◌↔◌, ◌≤◌, ◌+◌, �
 ghost use Rattle.std.specs.Prelude.{OnOk, is_some, true};
 ghost use Rattle.neli_reader.specs.Agreement.{untyped_layout};
 ghost use Rattle.neli_reader.specs.Cuts.{cut_of};
-ghost use Rattle.neli_deliveries.specs.Lists.{ListsGain, SameLists, SameListsBut};
+ghost use Rattle.neli_deliveries.specs.Lists.{ListsGain, Opens, SameLists, SameListsBut};
 ghost use Rattle.neli_deliveries.specs.declared.delivery.Delivery.{Delivery as Waiting};
 ghost use Rattle.neli_deliveries.specs.Deliveries.{datagram_share, fault_share, is_would_block};
 ghost use Rattle.neli_log.specs.Log.{IsAsBefore, KeepsEachOnce, KeepsEntries, KeepsNoMore, byte_count, entry_count};
@@ -87,9 +87,7 @@ impl Deliveries for Log {
     fn open(&mut self, number: u32) -> Result<(), NoMemory>
         requires { pending_of self.old (Some number) ≡ None }
         ensures port { self.new.port ≡ self.old.port }
-        ensures opened { OnOk result (pending_of self.new (Some number) ≡ Some []) }
-        ensures others { OnOk result (SameListsBut (Some number)
-            (pending_of self.old) (pending_of self.new)) }
+        ensures opened { OnOk result (Opens number (pending_of self.old) (pending_of self.new)) }
         ensures err { OnErr result (SameLists (pending_of self.old) (pending_of self.new)) }
         ensures left { IsAsBefore self.old self.new }
     {

@@ -4,7 +4,7 @@ ghost use Rattle.std.specs.Prelude.{◌≡◌, ◌↔◌, ◌++◌, ◌+◌, ◌
 ghost use Rattle.std.specs.Prelude.{OnErr, OnOk, is_some, length, map, true};
 ghost use Rattle.neli_reader.specs.Agreement.{untyped_layout};
 ghost use Rattle.neli_reader.specs.Cuts.{cut_of};
-ghost use Rattle.neli_deliveries.specs.Lists.{ListsGain, SameLists, SameListsBut};
+ghost use Rattle.neli_deliveries.specs.Lists.{ListsGain, Opens, SameLists, SameListsBut};
 ghost use Rattle.neli_deliveries.specs.declared.delivery.Delivery.{Delivery as Waiting};
 ghost use Rattle.neli_deliveries.specs.Deliveries.{fault_share, head_of, is_would_block, datagram_share};
 ghost use Rattle.neli_deliveries.specs.Readings.{IsFirst, IsReading};
@@ -86,9 +86,7 @@ impl Store {
         requires closed { pending_of self.old (Some number) ≡ None }
         requires log { IsTrimmedAndBacked self.old }
         ensures port { self.new.port ≡ self.old.port }
-        ensures opened { OnOk result (pending_of self.new (Some number) ≡ Some []) }
-        ensures others { OnOk result (SameListsBut (Some number)
-            (pending_of self.old) (pending_of self.new)) }
+        ensures opened { OnOk result (Opens number (pending_of self.old) (pending_of self.new)) }
         ensures err { OnErr result (SameLists (pending_of self.old) (pending_of self.new)) }
         ensures left { IsAsBefore self.old self.new }
         ensures log { IsTrimmedAndBacked self.new }

@@ -1,11 +1,10 @@
 //! Requests to the controller of generic netlink, which knows the number of each family.
 
-ghost use Rattle.std.specs.Prelude.{false, ◌≡◌, ◌≢◌, ◌≤◌, ℕ, [], ◌∷◌, Option, Some, Ok, IfOk, IfErr, OnOk, OnErr};
-ghost use Rattle.std.specs.Prelude.{is_some, length};
+ghost use Rattle.std.specs.Prelude.{false, ◌≡◌, ◌≤◌, Some, Ok, IfOk, IfErr, OnOk, OnErr, is_some, length};
 ghost use Rattle.neli_router.specs.Requests.{FamilyTakesMemory, families_request, families_sent, family_request};
 ghost use Rattle.neli_router.specs.Requests.{family_sent, getfamily, name_attribute, sent_to_controller};
 ghost use Rattle.neli_router.specs.Sends.{RefusesSend, asks, number_after};
-ghost use Rattle.neli_deliveries.specs.Lists.{SameLists, SameListsBut};
+ghost use Rattle.neli_deliveries.specs.Lists.{Opens, SameLists};
 
 use crate::{Deliveries, NlRouter, NlRouterReceiverHandle};
 use neli_attr::{AttrType, Buffer, BuildError, GenlBuffer, Nlattr, NlattrBuilder};
@@ -60,9 +59,7 @@ impl<D: Deliveries> NlRouter<D> {
             (is_some (D.pending self.old.deliveries (Some self.old.next_seq))) name.now)) }
         ensures handle { IfOk result (λ r. r.1 ≡ asks self.old.next_seq NlmF.ACK) }
         ensures next_seq { OnOk result (self.new.next_seq ≡ number_after self.old.next_seq) }
-        ensures opened { OnOk result
-            (D.pending self.new.deliveries (Some self.old.next_seq) ≡ Some []) }
-        ensures others { OnOk result (SameListsBut (Some self.old.next_seq)
+        ensures opened { OnOk result (Opens self.old.next_seq
             (D.pending self.old.deliveries) (D.pending self.new.deliveries)) }
         ensures err { OnErr result ((self.new.next_seq ≡ self.old.next_seq)
             × (SameLists (D.pending self.old.deliveries) (D.pending self.new.deliveries))) }
@@ -109,9 +106,7 @@ impl<D: Deliveries> NlRouter<D> {
             (is_some (D.pending self.old.deliveries (Some self.old.next_seq)) ≡ false)) }
         ensures handle { IfOk result (λ r. r.1 ≡ asks self.old.next_seq NlmF.DUMP) }
         ensures next_seq { OnOk result (self.new.next_seq ≡ number_after self.old.next_seq) }
-        ensures opened { OnOk result
-            (D.pending self.new.deliveries (Some self.old.next_seq) ≡ Some []) }
-        ensures others { OnOk result (SameListsBut (Some self.old.next_seq)
+        ensures opened { OnOk result (Opens self.old.next_seq
             (D.pending self.old.deliveries) (D.pending self.new.deliveries)) }
         ensures err { OnErr result ((self.new.next_seq ≡ self.old.next_seq)
             × (SameLists (D.pending self.old.deliveries) (D.pending self.new.deliveries))) }

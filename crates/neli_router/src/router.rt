@@ -1,10 +1,10 @@
 //! The router's calls.
 
-ghost use Rattle.std.specs.Prelude.{true, false, ◌≡◌, ◌≢◌, ◌||◌, ℕ, List, [], ◌∷◌, ◌++◌, Option, None, Some, Ok, Err};
-ghost use Rattle.std.specs.Prelude.{IsOk, IfOk, IfErr, OnOk, OnErr, is_some, option_map};
+ghost use Rattle.std.specs.Prelude.{true, false, ◌≡◌, ◌||◌, ℕ, List, [], ◌∷◌, None, Some, Ok, Err, IsOk, IfOk, IfErr};
+ghost use Rattle.std.specs.Prelude.{OnOk, OnErr, is_some};
 ghost use Rattle.neli_reader.specs.Cuts.{cut_of};
 ghost use Rattle.neli_reader.specs.Agreement.{untyped_layout};
-ghost use Rattle.neli_deliveries.specs.Lists.{ListsGain, SameLists, SameListsBut};
+ghost use Rattle.neli_deliveries.specs.Lists.{ListsGain, Opens, SameLists, SameListsBut};
 ghost use Rattle.neli_deliveries.specs.declared.delivery.Delivery.{Delivery as Waiting};
 ghost use Rattle.neli_deliveries.specs.Deliveries.{fault_share, is_would_block, datagram_share};
 ghost use Rattle.neli_deliveries.specs.Readings.{IsReading, Item as Given};
@@ -113,9 +113,7 @@ impl<D: Deliveries> NlRouter<D> {
             (is_some (D.pending self.old.deliveries (Some self.old.next_seq))) nl_payload)) }
         ensures handle { IfOk result (λ r. r.1 ≡ asks self.old.next_seq nl_flags) }
         ensures next_seq { OnOk result (self.new.next_seq ≡ number_after self.old.next_seq) }
-        ensures opened { OnOk result
-            (D.pending self.new.deliveries (Some self.old.next_seq) ≡ Some []) }
-        ensures others { OnOk result (SameListsBut (Some self.old.next_seq)
+        ensures opened { OnOk result (Opens self.old.next_seq
             (D.pending self.old.deliveries) (D.pending self.new.deliveries)) }
         ensures err { OnErr result ((self.new.next_seq ≡ self.old.next_seq)
             × (SameLists (D.pending self.old.deliveries) (D.pending self.new.deliveries))) }

@@ -34,8 +34,8 @@ returns-in-Ok-send-clause-sent c = λ e.
       λ ks free. again c.reserve.new.self.items s.handles.items s.freed c.put-sent.result ks
           c.put-sent.new.handles.items c.put-sent.new.freed there (p.again ks) free,
       r.next_seq,
-      r.opened,
-      r.others,
+      r.opened.0,
+      r.opened.1,
       r.port,
       refl,
     )

@@ -1,7 +1,7 @@
 use Rattle.neli_log.proofs.log.LogDeliveries.open.Goals as goal
 
-pub returns-clause-others : goal.returns-clause-others
-returns-clause-others c = rw (← c.self.view_is) c.open.ensures.others
+pub returns-clause-opened : goal.returns-clause-opened
+returns-clause-opened c = rw (← c.self.view_is) c.open.ensures.opened
 
 pub returns-clause-err : goal.returns-clause-err
 returns-clause-err c = rw (← c.self.view_is) c.open.ensures.err

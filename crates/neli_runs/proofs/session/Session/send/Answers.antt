@@ -16,7 +16,7 @@ returns-in_ok-push-in-Ok-clause-goes g c =
     refl (λ h k. refl) (λ result is. is) c.in-Ok.ensures.bytes
     (sent-free (is_some (g.D.Deliveries.pending c.args.self.now.router.deliveries
     (Some c.args.self.now.router.next_seq))) _ _ _ c.in-Ok.ensures.bytes)
-    c.in-Ok.ensures.next_seq c.in-Ok.ensures.opened c.in-Ok.ensures.others c.in-Ok.ensures.handle)
+    c.in-Ok.ensures.next_seq c.in-Ok.ensures.opened.0 c.in-Ok.ensures.opened.1 c.in-Ok.ensures.handle)
 
 pub returns-in_default : goal.returns-in_default
 returns-in_default g c = record {
