@@ -27,8 +27,8 @@ use Rattle.neli_log.specs.declared.content.Content.{Content}
 use Rattle.neli_log.specs.declared.content.Content.TheVariants as content
 use Rattle.neli_log.specs.declared.next.Address.{Address}
 use Rattle.neli_log.specs.Contents.{AreMessages, entry_read, part_of, span_of, spans_of}
-use Rattle.neli_log.specs.Routed.{AreAwaited, message_routed}
-use Rattle.neli_log.specs.Staged.{AreDueBefore, AreStaged, HaveReaders, IsFound, deliveries_added, entries_due, is_open}
+use Rattle.neli_log.specs.Routed.{AreAwaited, is_open, message_routed}
+use Rattle.neli_log.specs.Staged.{AreDueBefore, AreStaged, HaveReaders, IsFound, deliveries_added, entries_due}
 use Rattle.neli_log.proofs.Entries.{each_joined, each_one, items_read, spans_append}
 use Rattle.neli_log.proofs.Routed.{awaited_items, awaited_more, awaited_skipped, items_routed}
 

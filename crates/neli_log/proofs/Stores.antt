@@ -28,8 +28,8 @@ use Rattle.neli_log.specs.Contents.{AreBacked, AreMessages, IsReadable, delivery
 use Rattle.neli_log.specs.Contents.{spans_of}
 use Rattle.neli_log.specs.declared.store.Store.{Store}
 use Rattle.neli_log.specs.Log.{Keeps, KeepsEachOnce, entries_read, pending_of}
-use Rattle.neli_log.specs.Routed.{AreAwaited, datagram_routed}
-use Rattle.neli_log.specs.Staged.{deliveries_added, entries_due, is_open}
+use Rattle.neli_log.specs.Routed.{AreAwaited, datagram_routed, is_open}
+use Rattle.neli_log.specs.Staged.{deliveries_added, entries_due}
 use Rattle.neli_log.proofs.Entries.{each_joined, true_or_false, get_end, get_right, items_same, read_same, spans_append}
 use Rattle.neli_log.proofs.Routed.{awaited_same, items_routed, routed_nothing, routed_same}
 
@@ -241,17 +241,17 @@ module _ (s s' : Places Content) (d d' : Datagrams) (bytes : List ℕ) (es : Lis
 
 -- which numbers are open is said by the lists of deliveries as by those of entries
 pub due_same : (s : Store) (groups : List ℕ) (cut : Cut Untyped) → entries_due s.port (items_of s.places) groups cut
-    ≡ datagram_routed s.port (λ q. is_some (pending_of s (Some q))) groups cut
-due_same s groups cut = routed_same s.port (is_open (items_of s.places)) (λ q. is_some (pending_of s (Some q)))
+    ≡ datagram_routed s.port (is_open (pending_of s)) groups cut
+due_same s groups cut = routed_same s.port (is_open (items_of s.places)) (is_open (pending_of s))
     (λ q. sym (mapped_is_some (map (delivery_of (span_bytes s.datagrams))) (items_of s.places (Some q)))) groups cut
 
 -- so is what each list is due
 pub share_same : (s : Store) (w : Option ℕ) (groups : List ℕ) (cut : Cut Untyped)
     → datagram_share s.port (is_open (items_of s.places)) w cut groups
-    ≡ datagram_share s.port (λ q. is_some (pending_of s (Some q))) w cut groups
+    ≡ datagram_share s.port (is_open (pending_of s)) w cut groups
 share_same s w groups cut = sym (items_routed s.port (is_open (items_of s.places)) w groups cut)
     ∙ ap (items_for w) (due_same s groups cut)
-    ∙ items_routed s.port (λ q. is_some (pending_of s (Some q))) w groups cut
+    ∙ items_routed s.port (is_open (pending_of s)) w groups cut
 
 -- an empty datagram brings nothing
 pub received_nothing : (port : ℕ) (o : ℕ → Bool) (w : Option ℕ) (groups : List ℕ)

@@ -1,7 +1,10 @@
 -- What a log holds.
 use Rattle.std.specs.Prelude.{ℕ, zero, suc, ◌≡◌, ◌≤◌, ◌+◌, List, ◌++◌, length, map, Option}
 use Rattle.std.specs.Option.{option_map}
+use Rattle.neli_reader.specs.Agreement.{untyped_layout}
+use Rattle.neli_reader.specs.Cuts.{cut_of}
 use Rattle.neli_deliveries.specs.declared.delivery.Delivery.{Delivery}
+use Rattle.neli_deliveries.specs.Deliveries.{datagram_share}
 use Rattle.neli_places.specs.declared.entry.Entry.{Entry}
 use Rattle.neli_places.specs.Places.{IsSound, IsTrimmed, entries_of}
 use Rattle.neli_places.specs.Places.{pending_of as items_of}
@@ -9,12 +12,20 @@ use Rattle.neli_spans.specs.Spans.{bytes_of, span_bytes}
 use Rattle.neli_log.specs.declared.content.Content.{Content}
 use Rattle.neli_log.specs.declared.store.Store.{Store}
 use Rattle.neli_log.specs.Contents.{AreBacked, delivery_of, entry_read, spans_of}
-use Rattle.neli_log.specs.Routed.{AreAwaited}
+use Rattle.neli_log.specs.Routed.{AreAwaited, datagram_routed, is_open}
 use Rattle.neli_log.specs.Staged.{HaveReaders}
 
 -- what waits for a number, or for multicast (None), where it is open
 abbrev pub pending_of : Store → Option ℕ → Option (List Delivery)
 pending_of s w = option_map (map (delivery_of (span_bytes s.datagrams))) (items_of s.places w)
+
+-- what a list gains of a datagram that came to these groups
+abbrev pub share_of : Store → List ℕ → List ℕ → Option ℕ → List Delivery
+share_of s bytes groups w = datagram_share s.port (is_open (pending_of s)) w (cut_of untyped_layout bytes) groups
+
+-- what such a datagram holds, each with whom it goes to
+abbrev pub routed_by : Store → List ℕ → List ℕ → List (Entry Delivery)
+routed_by s bytes groups = datagram_routed s.port (is_open (pending_of s)) groups (cut_of untyped_layout bytes)
 
 -- as a log is, but that entries for which nobody waits may still stand before the others
 pub record IsUntrimmed (s : Store) : Type 0 where

@@ -1,5 +1,5 @@
 -- With whom the deliveries of a datagram go, each once.
-use Rattle.std.specs.Prelude.{◌≡◌, ◌⊎◌, ℕ, Bool, List, [], ◌∷◌, ◌++◌, map, Option, Some, None, if◌then◌else◌}
+use Rattle.std.specs.Prelude.{◌≡◌, ◌⊎◌, ℕ, Bool, List, [], ◌∷◌, ◌++◌, map, Option, Some, None, if◌then◌else◌, is_some}
 use Rattle.neli_wire.specs.DeError.{DeError}
 use Rattle.neli_reader.specs.Cuts.{Cut}
 use Rattle.neli_reader.specs.SocketError.TheVariants as socket
@@ -10,6 +10,10 @@ use Rattle.neli_places.specs.declared.entry.Entry.{Entry}
 use Rattle.neli_places.specs.declared.entry.Route.TheVariants as route
 use Rattle.neli_places.specs.Places.{HasReader}
 use Rattle.neli_places.specs.Routes.{entry}
+
+-- whether a number is open, where the lists are these
+abbrev pub is_open : {T : Type 0} → (Option ℕ → Option (List T)) → ℕ → Bool
+is_open pending q = is_some (pending (Some q))
 
 -- a message: for multicast where it came to groups, else for the number that it answers, or as a stray for all numbers
 abbrev pub message_routed : ℕ → (ℕ → Bool) → List ℕ → Untyped → Entry Delivery

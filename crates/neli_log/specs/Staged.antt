@@ -1,5 +1,5 @@
 -- What a datagram brings, before any list changes.
-use Rattle.std.specs.Prelude.{◌≡◌, ◌≤◌, ℕ, Bool, List, [], ◌++◌, map, Option, Some, None, is_some}
+use Rattle.std.specs.Prelude.{◌≡◌, ◌≤◌, ℕ, List, [], ◌++◌, map, Option, Some, None}
 use Rattle.std.specs.List.{slice_get}
 use Rattle.neli_wire.specs.DeError.{DeError}
 use Rattle.neli_reader.specs.Agreement.{untyped_layout}
@@ -15,7 +15,7 @@ use Rattle.neli_spans.specs.Spans.{AreSpansOf}
 use Rattle.neli_log.specs.declared.content.Content.{Content}
 use Rattle.neli_log.specs.declared.next.Address.{Address}
 use Rattle.neli_log.specs.Contents.{AreMessages, delivery_of, entry_read, part_of, spans_of}
-use Rattle.neli_log.specs.Routed.{AreAwaited, datagram_routed}
+use Rattle.neli_log.specs.Routed.{AreAwaited, datagram_routed, is_open}
 
 -- what a list gains of entries, whose spans are of these bytes
 abbrev pub deliveries_added : List ℕ → Option ℕ → List (Entry Content) → List Delivery
@@ -25,10 +25,6 @@ deliveries_added bytes w es = map (delivery_of (part_of bytes)) (items_for w es)
 abbrev pub cut_left : List ℕ → Option DeError → Cut Untyped
 cut_left rest None = cut_of untyped_layout rest
 cut_left rest (Some e) = ([], Some e)
-
--- whether a number is open, where the lists are these
-abbrev pub is_open : (Option ℕ → Option (List Content)) → ℕ → Bool
-is_open pending q = is_some (pending (Some q))
 
 -- what a cut that came to these groups brings, with whom it goes to, where these lists are open
 abbrev pub entries_due : ℕ → (Option ℕ → Option (List Content)) → List ℕ → Cut Untyped → List (Entry Delivery)

@@ -1,15 +1,12 @@
 //! The log as a store of deliveries.
 
 ghost use Rattle.std.specs.Prelude.{◌≡◌, ◌↔◌, ◌≤◌, ◌+◌, ℕ, List, [], ◌∷◌, Option, None, Some, IsOk, OnErr};
-ghost use Rattle.std.specs.Prelude.{OnOk, is_some, true};
-ghost use Rattle.neli_reader.specs.Agreement.{untyped_layout};
-ghost use Rattle.neli_reader.specs.Cuts.{cut_of};
+ghost use Rattle.std.specs.Prelude.{OnOk, true};
 ghost use Rattle.neli_deliveries.specs.Lists.{ListsGain, Opens, SameLists, SameListsBut};
 ghost use Rattle.neli_deliveries.specs.declared.delivery.Delivery.{Delivery as Waiting};
-ghost use Rattle.neli_deliveries.specs.Deliveries.{datagram_share, fault_share, is_would_block};
+ghost use Rattle.neli_deliveries.specs.Deliveries.{fault_share, is_would_block};
 ghost use Rattle.neli_log.specs.Log.{IsAsBefore, KeepsEachOnce, KeepsEntries, KeepsNoMore, byte_count, entry_count};
-ghost use Rattle.neli_log.specs.Log.{pending_of};
-ghost use Rattle.neli_log.specs.Routed.{datagram_routed};
+ghost use Rattle.neli_log.specs.Log.{pending_of, routed_by, share_of};
 
 use crate::store::Store;
 use neli_consts::NlType;
@@ -109,16 +106,13 @@ impl Deliveries for Log {
     /// else not at all. Where memory runs out, entries and bytes are as they were.
     fn datagram(&mut self, bytes: &[u8], groups: &Groups) -> Result<(), NoMemory>
         ensures port { self.new.port ≡ self.old.port }
-        ensures ok { OnOk result (ListsGain (λ w. datagram_share self.old.port
-            (λ q. is_some (pending_of self.old (Some q))) w
-            (cut_of untyped_layout bytes.now) groups.now)
+        ensures ok { OnOk result (ListsGain (share_of self.old bytes.now groups.now)
             (pending_of self.old) (pending_of self.new)) }
         ensures err { OnErr result (SameLists (pending_of self.old) (pending_of self.new)) }
         ensures empty { bytes.now ≡ [] → IsOk result }
         ensures kept { OnOk result (KeepsEntries self.old self.new bytes.now) }
-        ensures once { OnOk result (KeepsEachOnce self.old self.new (datagram_routed self.old.port
-            (λ q. is_some (pending_of self.old (Some q))) groups.now
-            (cut_of untyped_layout bytes.now))) }
+        ensures once { OnOk result (KeepsEachOnce self.old self.new
+            (routed_by self.old bytes.now groups.now)) }
         ensures left { OnErr result (IsAsBefore self.old self.new) }
     {
         self.store.datagram(bytes, groups)

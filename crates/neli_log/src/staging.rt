@@ -9,8 +9,8 @@ ghost use Rattle.neli_deliveries.specs.Deliveries.{Untyped};
 ghost use Rattle.neli_lent.specs.Spans.{Spells};
 ghost use Rattle.neli_places.specs.Places.{pending_of};
 ghost use Rattle.neli_log.specs.Contents.{entry_read, part_of, span_of};
-ghost use Rattle.neli_log.specs.Routed.{message_routed};
-ghost use Rattle.neli_log.specs.Staged.{AreStaged, IsFound, cut_left, is_open};
+ghost use Rattle.neli_log.specs.Routed.{is_open, message_routed};
+ghost use Rattle.neli_log.specs.Staged.{AreStaged, IsFound, cut_left};
 
 use crate::content::Content;
 use crate::next::{Address, next_message};

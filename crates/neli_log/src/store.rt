@@ -2,18 +2,16 @@
 
 ghost use Rattle.std.specs.Prelude.{◌≡◌, ◌↔◌, ◌++◌, ◌+◌, ◌≤◌, ℕ, List, [], ◌∷◌, Option, None, Some, IfOk, IsOk};
 ghost use Rattle.std.specs.Prelude.{OnErr, OnOk, is_some, length, map, true};
-ghost use Rattle.neli_reader.specs.Agreement.{untyped_layout};
-ghost use Rattle.neli_reader.specs.Cuts.{cut_of};
 ghost use Rattle.neli_deliveries.specs.Lists.{ListsGain, Opens, SameLists, SameListsBut};
 ghost use Rattle.neli_deliveries.specs.declared.delivery.Delivery.{Delivery as Waiting};
-ghost use Rattle.neli_deliveries.specs.Deliveries.{fault_share, head_of, is_would_block, datagram_share};
+ghost use Rattle.neli_deliveries.specs.Deliveries.{fault_share, head_of, is_would_block};
 ghost use Rattle.neli_deliveries.specs.Readings.{IsFirst, IsReading};
 ghost use Rattle.neli_places.specs.Places.{pending_of as items_of};
 ghost use Rattle.neli_spans.specs.Spans.{AreSpansOf, next_serial, span_bytes};
 ghost use Rattle.neli_log.specs.Contents.{AreMessages, IsReadable, delivery_of, entry_read, part_of, spans_of};
 ghost use Rattle.neli_log.specs.Log.{IsAsBefore, IsTrimmedAndBacked, IsUntrimmed, Keeps, KeepsEachOnce, KeepsEntries};
-ghost use Rattle.neli_log.specs.Log.{KeepsNoMore, byte_count, entries_read, entry_count, pending_of};
-ghost use Rattle.neli_log.specs.Routed.{datagram_routed};
+ghost use Rattle.neli_log.specs.Log.{KeepsNoMore, byte_count, entries_read, entry_count, pending_of, routed_by};
+ghost use Rattle.neli_log.specs.Log.{share_of};
 ghost use Rattle.neli_log.specs.Staged.{HaveReaders, deliveries_added};
 
 use crate::content::Content;
@@ -150,16 +148,13 @@ impl Store {
     pub(crate) fn datagram(&mut self, bytes: &[u8], groups: &Groups) -> Result<(), NoMemory>
         requires { IsTrimmedAndBacked self.old }
         ensures port { self.new.port ≡ self.old.port }
-        ensures ok { OnOk result (ListsGain (λ w. datagram_share self.old.port
-            (λ q. is_some (pending_of self.old (Some q))) w
-            (cut_of untyped_layout bytes.now) groups.now)
+        ensures ok { OnOk result (ListsGain (share_of self.old bytes.now groups.now)
             (pending_of self.old) (pending_of self.new)) }
         ensures err { OnErr result (SameLists (pending_of self.old) (pending_of self.new)) }
         ensures empty { bytes.now ≡ [] → IsOk result }
         ensures kept { OnOk result (KeepsEntries self.old self.new bytes.now) }
-        ensures once { OnOk result (KeepsEachOnce self.old self.new (datagram_routed self.old.port
-            (λ q. is_some (pending_of self.old (Some q))) groups.now
-            (cut_of untyped_layout bytes.now))) }
+        ensures once { OnOk result (KeepsEachOnce self.old self.new
+            (routed_by self.old bytes.now groups.now)) }
         ensures left { OnErr result (IsAsBefore self.old self.new) }
         ensures log { IsTrimmedAndBacked self.new }
     {

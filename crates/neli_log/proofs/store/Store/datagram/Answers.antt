@@ -1,4 +1,4 @@
-use Rattle.std.proofs.Common.{◌≡◌, ◌∙◌, ℕ, Bool, List, [], ap, is_some, length, map, arith, refl, subst, sym, Some}
+use Rattle.std.proofs.Common.{◌≡◌, ◌∙◌, ℕ, Bool, List, [], ap, length, map, arith, refl, subst, sym}
 use Rattle.std.proofs.lemmas.Bool.{eqb-true}
 use Rattle.std.proofs.lemmas.List.{nil_from_length}
 use Rattle.neli_reader.specs.Agreement.{untyped_layout}
@@ -10,8 +10,8 @@ use Rattle.neli_places.specs.declared.entry.Entry.{Entry}
 use Rattle.neli_places.specs.Places.{pending_of as items_of}
 use Rattle.neli_spans.specs.Spans.{span_bytes}
 use Rattle.neli_log.specs.Contents.{delivery_of, entry_read, part_of}
-use Rattle.neli_log.specs.Log.{pending_of}
-use Rattle.neli_log.specs.Routed.{AreAwaited, datagram_routed}
+use Rattle.neli_log.specs.Log.{pending_of, share_of}
+use Rattle.neli_log.specs.Routed.{AreAwaited, datagram_routed, is_open}
 use Rattle.neli_log.specs.Staged.{deliveries_added, entries_due}
 use Rattle.neli_log.proofs.Routed.{routed_nothing}
 use Rattle.neli_log.proofs.Stages.{staged_each, staged_gains}
@@ -22,7 +22,7 @@ use Rattle.neli_log.proofs.store.Store.datagram.Goals as goal
 pub returns-then-is_empty-clause-ok : goal.returns-then-is_empty-clause-ok
 returns-then-is_empty-clause-ok c = λ w.
     let s = c.args.self.now in
-    let opened : ℕ → Bool = λ q. is_some (pending_of s (Some q)) in
+    let opened : ℕ → Bool = is_open (pending_of s) in
     let none : c.args.bytes.now ≡ [] = empty_is c.args.bytes.now
     (eqb-true _ _ (sym c.is_empty.ensures ∙ c.if-is_empty.true)) in
     mapped_nothing (delivery_of (span_bytes s.datagrams)) (items_of s.places w) _
@@ -52,7 +52,7 @@ returns-clause-ok c =
     let es = c.in_ok-entries.entries.items in
     on_ok c.hand_over.result _ _
     (λ h w. h w ∙ mapped_more (delivery_of (span_bytes s.datagrams)) (P w) (deliveries_added bytes w es)
-    (datagram_share s.port (λ q. is_some (pending_of s (Some q))) w cut c.args.groups.now)
+    (share_of s bytes c.args.groups.now w)
     (λ opened. staged_gains P s.port c.next_serial-serial.result bytes c.args.groups.now cut es
     (length bytes) c.in_ok-entries.ensures w opened ∙ share_same s w c.args.groups.now cut)) c.hand_over.ensures.ok
 
@@ -71,7 +71,7 @@ returns-clause-kept c = on_ok c.hand_over.result _ _ (λ kept. (
 pub returns-then-is_empty-clause-once : goal.returns-then-is_empty-clause-once
 returns-then-is_empty-clause-once c =
     let s = c.args.self.now in
-    let opened : ℕ → Bool = λ q. is_some (pending_of s (Some q)) in
+    let opened : ℕ → Bool = is_open (pending_of s) in
     let none : c.args.bytes.now ≡ [] = empty_is c.args.bytes.now
     (eqb-true _ _ (sym c.is_empty.ensures ∙ c.if-is_empty.true)) in
     let nothing : datagram_routed s.port opened c.args.groups.now (cut_of untyped_layout c.args.bytes.now) ≡ [] =
