@@ -1,6 +1,7 @@
 pub mod AsBox
 pub mod Frames
 pub mod FreePlaces
+pub mod Moves
 pub mod Opened
 pub mod Replies
 pub mod Requests
