@@ -64,39 +64,81 @@ fn step_of<'t>(item: &Item<'_, 't>) -> Step<'t> {
     }
 }
 
-/// Prints an item of a walk.
-fn show_item<F: Form, W: Write>(
-    form: &mut F,
-    out: &mut W,
-    level: usize,
-    item: &Item<'_, '_>,
-) -> io::Result<()>
-    ensures { F.is_json ≡ true → OnOk result
-        (Extends (W.contents out.old) (W.contents out.new)
-        (F.is_open form.old) (F.is_open form.new)) }
-{
-    let place = place_of(level, item);
-    match &item.content {
-        Ok(attribute) => form.attribute(out, place, &step_of(item), attribute),
-        Err(error) => form.rest(out, place, error),
+/// How the items of a walk are printed.
+trait ShowItem {
+    /// Prints an item of a walk whose list is at this level.
+    fn show_item<F: Form, W: Write>(
+        &self,
+        form: &mut F,
+        out: &mut W,
+        level: usize,
+        item: &Item<'_, '_>,
+    ) -> io::Result<()>
+        ensures { F.is_json ≡ true → OnOk result
+            (Extends (W.contents out.old) (W.contents out.new)
+            (F.is_open form.old) (F.is_open form.new)) };
+}
+
+/// Structures with attributes in them are printed as bytes.
+#[derive(Drop)]
+struct HopsAsBytes;
+
+impl ShowItem for HopsAsBytes {
+    fn show_item<F: Form, W: Write>(
+        &self,
+        form: &mut F,
+        out: &mut W,
+        level: usize,
+        item: &Item<'_, '_>,
+    ) -> io::Result<()> {
+        let place = place_of(level, item);
+        match &item.content {
+            Ok(attribute) => form.attribute(out, place, &step_of(item), attribute),
+            Err(error) => form.rest(out, place, error),
+        }
     }
 }
 
-/// Prints attributes; structures with attributes in them are printed as bytes.
-fn show_inner<F: Form, W: Write>(
+/// Structures with attributes in them are printed with these.
+#[derive(Drop)]
+struct HopsInFull<'s> {
+    context: Context<'s>,
+}
+
+impl ShowItem for HopsInFull<'_> {
+    fn show_item<F: Form, W: Write>(
+        &self,
+        form: &mut F,
+        out: &mut W,
+        level: usize,
+        item: &Item<'_, '_>,
+    ) -> io::Result<()> {
+        match &item.content {
+            Ok(attribute) if let Ok(Shape::Hops(table)) = attribute.shape => {
+                let place = place_of(level, item);
+                form.hops(out, place, &step_of(item))?;
+                let deeper = place.level.saturating_add(1);
+                show_hops(form, out, deeper, self.context, table, attribute.payload)
+            }
+            _ => HopsAsBytes.show_item(form, out, level, item),
+        }
+    }
+}
+
+/// Prints attributes.
+fn show_list<F: Form, W: Write, S: ShowItem>(
     form: &mut F,
     out: &mut W,
     level: usize,
-    context: Context<'_>,
-    table: Table<'_>,
-    bytes: &[u8],
+    how: &S,
+    walk: Walk<'_, '_>,
 ) -> io::Result<()>
     ensures { F.is_json ≡ true → OnOk result
         (Extends (W.contents out.old) (W.contents out.new) AreMembers AreMembers) }
 {
     form.list(out)?;
-    for item in Walk::new(context, table, bytes) {
-        show_item(form, out, level, &item)?;
+    for item in walk {
+        how.show_item(form, out, level, &item)?;
     }
     form.end_list(out)
 }
@@ -131,14 +173,8 @@ fn show_hop<F: Form, W: Write>(
     let mut inner = *form;
     inner.hop(out, level, is_first, &table, bytes)?;
     let attributes = bytes_from(bytes, padded_length(table.header.size));
-    show_inner(
-        &mut inner,
-        out,
-        level.saturating_add(1),
-        context,
-        table,
-        attributes,
-    )?;
+    let walk = Walk::new(context, table, attributes);
+    show_list(&mut inner, out, level.saturating_add(1), &HopsAsBytes, walk)?;
     inner.end_hop(out)
 }
 
@@ -166,48 +202,6 @@ fn show_hops<F: Form, W: Write>(
         rest = bytes_from(rest, padded_length(length));
     }
     form.end_hops(out, level, is_first, rest)
-}
-
-/// Prints an item of a walk, and the structures with attributes that it has.
-fn show_whole_item<F: Form, W: Write>(
-    form: &mut F,
-    out: &mut W,
-    level: usize,
-    context: Context<'_>,
-    item: &Item<'_, '_>,
-) -> io::Result<()>
-    ensures { F.is_json ≡ true → OnOk result
-        (Extends (W.contents out.old) (W.contents out.new)
-        (F.is_open form.old) (F.is_open form.new)) }
-{
-    match &item.content {
-        Ok(attribute) if let Ok(Shape::Hops(table)) = attribute.shape => {
-            let place = place_of(level, item);
-            form.hops(out, place, &step_of(item))?;
-            let deeper = place.level.saturating_add(1);
-            show_hops(form, out, deeper, context, table, attribute.payload)
-        }
-        _ => show_item(form, out, level, item),
-    }
-}
-
-/// Prints attributes.
-fn show_list<F: Form, W: Write>(
-    form: &mut F,
-    out: &mut W,
-    level: usize,
-    context: Context<'_>,
-    table: Table<'_>,
-    bytes: &[u8],
-) -> io::Result<()>
-    ensures { F.is_json ≡ true → OnOk result
-        (Extends (W.contents out.old) (W.contents out.new) AreMembers AreMembers) }
-{
-    form.list(out)?;
-    for item in Walk::new(context, table, bytes) {
-        show_whole_item(form, out, level, context, &item)?;
-    }
-    form.end_list(out)
 }
 
 /// The table of what a message of this protocol and type carries, and its name.
@@ -278,7 +272,8 @@ fn show_body<F: Form, W: Write>(
         family: family_of(head.protocol, payload),
     };
     let attributes = bytes_from(payload, padded_length(table.header.size));
-    show_list(form, out, level, context, table, attributes)
+    let walk = Walk::new(context, table, attributes);
+    show_list(form, out, level, &HopsInFull { context }, walk)
 }
 
 /// Prints the attributes of an answer.
@@ -296,7 +291,10 @@ fn show_extended<F: Form, W: Write>(
         family: 0,
     };
     match names.schema.table(EXTENDED_ACKNOWLEDGEMENT) {
-        Some(table) => show_list(form, out, 1, context, table, bytes),
+        Some(table) => {
+            let walk = Walk::new(context, table, bytes);
+            show_list(form, out, 1, &HopsInFull { context }, walk)
+        }
         None => form.bytes(out, 1, bytes),
     }
 }

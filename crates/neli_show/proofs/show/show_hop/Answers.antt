@@ -9,4 +9,4 @@ returns g c = λ json.
     let before = FirstElements c.args.is_first in
     then_ok c.end_hop.result (c.end_hop.ensures json) (λ last.
     extends_then before IsHopBegun AreElements _ _ _
-    (hop_goes_on before _ _ _ (c.in_ok-hop.ensures json) (c.in_ok-show_inner.ensures json)) last)
+    (hop_goes_on before _ _ _ (c.in_ok-hop.ensures json) (c.in_ok-show_list.ensures json)) last)

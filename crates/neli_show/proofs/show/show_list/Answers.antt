@@ -8,23 +8,23 @@ loop-item-init g c = c.in_ok-list.ensures
 
 pub loop-item-preserved : goal.loop-item-preserved
 loop-item-preserved g c = λ json.
-    extends_then AreMembers (g.F.Form.is_open c.loop-item.form) (g.F.Form.is_open c.show_whole_item.new.form) _ _ _
-    (c.loop-item.invariant json) (c.in_ok-show_whole_item.ensures json)
+    extends_then AreMembers (g.F.Form.is_open c.loop-item.form) (g.F.Form.is_open c.show_item.new.form) _ _ _
+    (c.loop-item.invariant json) (c.in_ok-show_item.ensures json)
 
-pub loop-item-preserved-in_ok-show_whole_item : goal.loop-item-preserved-in_ok-show_whole_item
-loop-item-preserved-in_ok-show_whole_item g c = λ json.
-    extends_then AreMembers (g.F.Form.is_open c.loop-item.form) (g.F.Form.is_open c.show_whole_item.new.form) _ _ _
-    (c.loop-item.invariant json) (c.in_ok-show_whole_item.ensures json)
+pub loop-item-preserved-in_ok-show_item : goal.loop-item-preserved-in_ok-show_item
+loop-item-preserved-in_ok-show_item g c = λ json.
+    extends_then AreMembers (g.F.Form.is_open c.loop-item.form) (g.F.Form.is_open c.show_item.new.form) _ _ _
+    (c.loop-item.invariant json) (c.in_ok-show_item.ensures json)
 
-pub loop-item-preserved-in_ok-show_whole_item-2 : goal.loop-item-preserved-in_ok-show_whole_item-2
-loop-item-preserved-in_ok-show_whole_item-2 g c = λ json.
-    extends_then AreMembers (g.F.Form.is_open c.loop-item.form) (g.F.Form.is_open c.show_whole_item.new.form) _ _ _
-    (c.loop-item.invariant json) (c.in_ok-show_whole_item.ensures json)
+pub loop-item-preserved-in_ok-show_item-2 : goal.loop-item-preserved-in_ok-show_item-2
+loop-item-preserved-in_ok-show_item-2 g c = λ json.
+    extends_then AreMembers (g.F.Form.is_open c.loop-item.form) (g.F.Form.is_open c.show_item.new.form) _ _ _
+    (c.loop-item.invariant json) (c.in_ok-show_item.ensures json)
 
-pub loop-item-preserved-in_ok-show_whole_item-3 : goal.loop-item-preserved-in_ok-show_whole_item-3
-loop-item-preserved-in_ok-show_whole_item-3 g c = λ json.
-    extends_then AreMembers (g.F.Form.is_open c.loop-item.form) (g.F.Form.is_open c.show_whole_item.new.form) _ _ _
-    (c.loop-item.invariant json) (c.in_ok-show_whole_item.ensures json)
+pub loop-item-preserved-in_ok-show_item-3 : goal.loop-item-preserved-in_ok-show_item-3
+loop-item-preserved-in_ok-show_item-3 g c = λ json.
+    extends_then AreMembers (g.F.Form.is_open c.loop-item.form) (g.F.Form.is_open c.show_item.new.form) _ _ _
+    (c.loop-item.invariant json) (c.in_ok-show_item.ensures json)
 
 pub returns : goal.returns
 returns g c = λ json.

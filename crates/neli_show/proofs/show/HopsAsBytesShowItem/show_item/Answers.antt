@@ -1,4 +1,4 @@
-use Rattle.neli_show.proofs.show.show_item.Goals as goal
+use Rattle.neli_show.proofs.show.HopsAsBytesShowItem.show_item.Goals as goal
 
 pub returns-in-Ok : goal.returns-in-Ok
 returns-in-Ok g c = c.attribute.ensures

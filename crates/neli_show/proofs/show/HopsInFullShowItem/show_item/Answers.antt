@@ -1,7 +1,7 @@
 use Rattle.std.proofs.Common.{◌++◌}
 use Rattle.neli_show.proofs.Pieces.{then_ok}
 use Rattle.std.proofs.KnownBytes.{Appends-trans}
-use Rattle.neli_show.proofs.show.show_whole_item.Goals as goal
+use Rattle.neli_show.proofs.show.HopsInFullShowItem.show_item.Goals as goal
 
 pub returns-in_ok-hops-in-Ok : goal.returns-in_ok-hops-in-Ok
 returns-in_ok-hops-in-Ok g c = λ json.
