@@ -13,10 +13,11 @@ use Rattle.neli_util.proofs.bit_array.NetlinkBitArray.to_vec.Goals as goal
 use Rattle.neli_util.proofs.bit_array.NetlinkBitArray.to_vec.Goals.{then-word_has_bit+in_ok-push, else-word_has_bit}
 
 -- whether a bit of a word is set, as a number of the array
-number_of_bit : (ws : List ℕ) (bit w : ℕ) → w ≡ get_or ws (bit / 32) 0
-    → has_bit ws (bit + 1) ≡ eqb (bit_at w (bit % 32)) 1
-number_of_bit ws bit w read =
+number_of_bit : (ws : List ℕ) (bit w end capacity : ℕ) → 32 * length ws ≡ capacity → end ≡ capacity → bit < end
+    → w ≡ get_or ws (bit / 32) w → has_bit ws (bit + 1) ≡ eqb (bit_at w (bit % 32)) 1
+number_of_bit ws bit w end capacity words ends below at =
     let back : bit + 1 - 1 ≡ bit = omega arith in
+    let read : w ≡ get_or ws (bit / 32) 0 = get_or_read ws (bit / 32) w (omega arith) at 0 in
     ap (λ k. eqb (bit_at (get_or ws (k / 32) 0) (k % 32)) 1) back ∙ ap (λ v. eqb (bit_at v (bit % 32)) 1) (sym read)
 
 pub returns-in_err-push-clause-empty : goal.returns-in_err-push-clause-empty
@@ -24,15 +25,11 @@ returns-in_err-push-clause-empty c none =
     let ws : List ℕ = c.self.inside.words.items in
     let bit = c.loop-bit.bit in
     let capacity = ap (λ a. a.capacity) c.self.view_is in
-    let within : bit < 32 * length ws = omega (
-      arith,
-      capacity,
-      c.len_bits-bit-end.ensures.value,
-      c.loop-bit-test.true,
-    ) in
-    let sets = number_of_bit ws bit _ (get_or_read ws (bit / 32) _ (omega arith) c.index.ensures 0)
+    let end = c.len_bits-bit-end.ensures.value in
+    let sets = number_of_bit ws bit _ _ _ capacity end c.loop-bit-test.true c.index.ensures
     ∙ sym c.word_has_bit.ensures ∙ c.if-word_has_bit.true in
-    let has_it = has-numbers ws (bit + 1) (omega arith) (omega arith) ∙ sets in
+    let has_it =
+    has-numbers ws (bit + 1) (omega arith) (omega (arith, capacity, end, c.loop-bit-test.true)) ∙ sets in
     absurd (true≢false (sym has_it ∙ ap (λ xs. has xs (bit + 1)) (ap (λ a. a.numbers) c.self.view_is ∙ none)))
 
 pub returns-in_err-push-clause-lowest_first : goal.returns-in_err-push-clause-lowest_first
@@ -49,14 +46,8 @@ pub loop-bit-preserved : goal.loop-bit-preserved
 loop-bit-preserved c =
     let ws : List ℕ = c.self.inside.words.items in
     let bit = c.loop-bit.bit in
-    let capacity = ap (λ a. a.capacity) c.self.view_is in
-    let within : bit < 32 * length ws = omega (
-      arith,
-      capacity,
-      c.len_bits-bit-end.ensures.value,
-      c.loop-bit-test.true,
-    ) in
-    let sets = number_of_bit ws bit _ (get_or_read ws (bit / 32) _ (omega arith) c.index.ensures 0)
+    let sets = number_of_bit ws bit _ _ _ (ap (λ a. a.capacity) c.self.view_is) c.len_bits-bit-end.ensures.value
+    c.loop-bit-test.true c.index.ensures
     ∙ sym c.word_has_bit.ensures in
     let before = filter (has_bit ws) (range_with_len 1 bit) in
     let more = filter_range_more (has_bit ws) bit in
