@@ -47,35 +47,35 @@ impl<T, P> Nlmsghdr<T, P> {
     pub fn nl_len(&self) -> &u32
         ensures { result.now ≡ self.now.header.len }
     {
-        self.header.nl_len()
+        &self.header.len
     }
 
     /// The type of the message, which says what its payload means.
     pub fn nl_type(&self) -> &T
         ensures { result.now ≡ self.now.header.message_type }
     {
-        self.header.nl_type()
+        &self.header.message_type
     }
 
     /// The flags, with all the bits that were read, also those without a name.
     pub fn nl_flags(&self) -> &NlmF
         ensures { result.now ≡ self.now.header.flags }
     {
-        self.header.nl_flags()
+        &self.header.flags
     }
 
     /// The sequence number: a reply has that of its request.
     pub fn nl_seq(&self) -> &u32
         ensures { result.now ≡ self.now.header.sequence_number }
     {
-        self.header.nl_seq()
+        &self.header.sequence_number
     }
 
     /// The port of the socket that the message belongs to; 0 is the kernel's.
     pub fn nl_pid(&self) -> &u32
         ensures { result.now ≡ self.now.header.port }
     {
-        self.header.nl_pid()
+        &self.header.port
     }
 
     /// What the message carries.
