@@ -9,21 +9,97 @@
 //! lines in `stdout` are what `ip -d monitor all file` of iproute2 reads in it.
 #![tactic(auto)]
 
-mod lines;
-
 ghost use Rattle.std.specs.Prelude.{◌≡◌, ◌+◌, OnOk, length};
 ghost use Rattle.neli.specs.consts_routing.Rtm.{rtm_of};
 ghost use Rattle.neli.specs.lent.Messages.{messages_in};
 ghost use Rattle.neli.specs.lent.Walks.{items_of};
 
-use crate::lines::line_of;
-use neli::consts::rtnl::Rtm;
+use neli::attr::Attribute;
+use neli::consts::Flags;
+use neli::consts::nl::NlType;
+use neli::consts::rtnl::{Ifa, Iff, Ifla, Nda, Rta, RtaType, Rtm};
 use neli::err::DeError;
-use neli::lent::LentMessages;
+use neli::lent::{LentMessage, LentMessages};
+use neli::rtnl::{HardwareAddress, Ifaddrmsg, Ifinfomsg, Ndmsg, Rtattr, Rtmsg};
+use neli::types::Buffer;
+use neli::{Cursor, FromBytesWithInput};
 use std::alloc::Global;
-use std::io;
-use std::io::Read;
+use std::io::{self, Read};
+use std::net::{Ipv4Addr, Ipv6Addr};
 use std::process::ExitCode;
+
+/// The address of IP or of a device that an attribute has, as text; `-` where there is none.
+fn text_of<T: RtaType>(alloc: Global, attr: Option<&Rtattr<T, Buffer>>) -> Result<String, DeError> {
+    let Some(attr) = attr else {
+        return Ok("-".to_string(alloc)?);
+    };
+    let text = match attr.rta_payload().len() {
+        4 => attr.get_payload_as::<Ipv4Addr>(alloc)?.to_string(alloc),
+        16 => attr.get_payload_as::<Ipv6Addr>(alloc)?.to_string(alloc),
+        _ => attr
+            .get_payload_as_with_len::<HardwareAddress>(alloc)?
+            .to_string(alloc),
+    };
+    Ok(text?)
+}
+
+/// A link: its number, its name, and whether it is switched on.
+fn link_line(alloc: Global, body: &Ifinfomsg) -> Result<String, DeError> {
+    let attrs = body.rtattrs().get_attr_handle();
+    let name: String = attrs.get_attr_payload_as_with_len(alloc, Ifla::Ifname)?;
+    let is_up = body.ifi_flags().contains(Iff::UP);
+    let state = if is_up { "up" } else { "down" };
+    Ok(format!(in alloc; "{} {name} {state}", body.ifi_index())?)
+}
+
+/// An address, or where a link has one other end that one's; the bits of its network, and its link.
+fn address_line(alloc: Global, body: &Ifaddrmsg) -> Result<String, DeError> {
+    let attrs = body.rtattrs().get_attr_handle();
+    let address = text_of(alloc, attrs.get_attribute(Ifa::Address))?;
+    let (bits, link) = (body.ifa_prefixlen(), body.ifa_index());
+    Ok(format!(in alloc; "{address}/{bits} link {link}")?)
+}
+
+/// A route: where to, by which gateway, and over which link; a route with no link has number 0.
+fn route_line(alloc: Global, body: &Rtmsg) -> Result<String, DeError> {
+    let attrs = body.rtattrs().get_attr_handle();
+    let to = text_of(alloc, attrs.get_attribute(Rta::Dst))?;
+    let gateway = text_of(alloc, attrs.get_attribute(Rta::Gateway))?;
+    let link: u32 = match attrs.get_attribute(Rta::Oif) {
+        Some(_) => attrs.get_attr_payload_as(alloc, Rta::Oif)?,
+        None => 0,
+    };
+    Ok(format!(in alloc; "{to}/{} via {gateway} link {link}", body.rtm_dst_len())?)
+}
+
+/// A neighbour: its address, that of its device, and the link that it is on.
+fn neighbour_line(alloc: Global, body: &Ndmsg) -> Result<String, DeError> {
+    let attrs = body.rtattrs().get_attr_handle();
+    let address = text_of(alloc, attrs.get_attribute(Nda::Dst))?;
+    let device = text_of(alloc, attrs.get_attribute(Nda::Lladdr))?;
+    Ok(format!(in alloc; "{address} at {device} link {}", body.ndm_index())?)
+}
+
+/// The body that this payload is.
+fn read<P: FromBytesWithInput>(alloc: Global, payload: &[u8]) -> Result<P, DeError> {
+    P::from_bytes_with_input(alloc, &mut Cursor::new(payload), payload.len())
+}
+
+/// What a message says. Refused as its body is, or where a link has no name.
+fn line_of(alloc: Global, message: &LentMessage<'_, Rtm>) -> Result<String, DeError> {
+    let (kind, payload) = (*message.nl_type(), message.nl_payload());
+    let said = match kind {
+        Rtm::Newlink | Rtm::Dellink => link_line(alloc, &read(alloc, payload)?)?,
+        Rtm::Newaddr | Rtm::Deladdr => address_line(alloc, &read(alloc, payload)?)?,
+        Rtm::Newroute | Rtm::Delroute => route_line(alloc, &read(alloc, payload)?)?,
+        Rtm::Newneigh | Rtm::Delneigh => neighbour_line(alloc, &read(alloc, payload)?)?,
+        _ => {
+            let (number, length) = (kind.to_number(), message.nl_len());
+            return Ok(format!(in alloc; "type {number}: {length} bytes")?);
+        }
+    };
+    Ok(format!(in alloc; "{kind:?} {said}")?)
+}
 
 /// Appends a line for each message, up to the end or to the fault that it answers.
 fn read_lines(alloc: Global, bytes: &[u8], lines: &mut Vec<String>) -> Result<(), DeError>
