@@ -1,0 +1,71 @@
+//! A request whose attributes have attributes: a bridge is made, with settings of its own.
+//!
+//! Its bytes are those that iproute2 hands to the kernel, as 1090 of docs/RECORDINGS.md has them, for
+//! `ip link add br0 type bridge mcast_snooping 1 stp_state 1 priority 5`.
+
+use super::support::assert_spelled;
+use neli::ToBytes;
+use neli::consts::linux::IflaBr;
+use neli::consts::nl::NlmF;
+use neli::consts::rtnl::{Ifla, IflaInfo, RtAddrFamily, RtaType, Rtm};
+use neli::nl::NlPayload;
+use neli::router::synchronous::{Log, NlRouter};
+use neli::rtnl::{Ifinfomsg, IfinfomsgBuilder, Rtattr, RtattrBuilder, RtattrBuilderError};
+use neli::types::{Buffer, RtBuffer};
+use std::alloc::Global;
+use std::test::Fail;
+
+/// An attribute with this payload.
+fn attribute<T: RtaType, P: ToBytes + Drop>(
+    alloc: Global,
+    kind: T,
+    payload: P,
+) -> Result<Rtattr<T, Buffer>, RtattrBuilderError> {
+    RtattrBuilder::default()
+        .rta_type(kind)
+        .rta_payload(payload)
+        .build(alloc)
+}
+
+/// What the link is: a bridge with these settings, made from the inside out.
+fn bridge(alloc: Global) -> Result<Rtattr<Ifla, Buffer>, Fail> {
+    let settings = attribute(alloc, IflaInfo::Data, ())?
+        .nest(&attribute(alloc, IflaBr::McastSnooping, 1u8)?)?
+        .nest(&attribute(alloc, IflaBr::StpState, 1u32)?)?
+        .nest(&attribute(alloc, IflaBr::Priority, 5u16)?)?;
+    let info = attribute(alloc, Ifla::Linkinfo, ())?
+        .nest(&attribute(alloc, IflaInfo::Kind, *b"bridge")?)?
+        .nest(&settings)?;
+    Ok(info)
+}
+
+/// The link to be made.
+fn link(alloc: Global, name: &str) -> Result<Ifinfomsg, Fail> {
+    let mut attrs = RtBuffer::new(alloc);
+    attrs.push(attribute(alloc, Ifla::Ifname, name)?)?;
+    attrs.push(bridge(alloc)?)?;
+    let link = IfinfomsgBuilder::default()
+        .ifi_family(RtAddrFamily::Unspecified)
+        .rtattrs(attrs)
+        .build(alloc)?;
+    Ok(link)
+}
+
+/// The request.
+fn request(alloc: Global, router: &mut NlRouter) -> Result<Vec<u8>, Fail> {
+    let body = NlPayload::Payload(link(alloc, "br0")?);
+    let flags = NlmF::CREATE | NlmF::EXCL | NlmF::ACK;
+    let (request, _handle) = router.send::<_, _, Rtm, Ifinfomsg>(alloc, Rtm::Newlink, flags, body)?;
+    Ok(request)
+}
+
+#[test]
+fn a_bridge_is_made(rt: HostRuntime) -> Result<(), Fail> {
+    let (mut router, _multicast) = NlRouter::<Log>::new(rt.alloc(), 0);
+    router.set_next_seq(1795332459);
+    let request = request(rt.alloc(), &mut router)?;
+    let want = "54000000100005066b99026b00000000000000000000000000000000000000000800030062723000\
+        2c0012000a00010062726964676500001c000200050017000100000008000500010000000600060005000000";
+    assert_spelled(&rt, rt.alloc(), &request, want);
+    Ok(())
+}

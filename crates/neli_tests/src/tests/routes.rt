@@ -1,0 +1,97 @@
+//! The routes of a host: they are asked for, and each is a line, as `Unicast 10.1.0.0/16 via 192.0.2.10 link 3`.
+//!
+//! Recorded from Linux 6.18: 0157 to 0159 of docs/RECORDINGS.md, with three of the 26 routes. What these say was read
+//! by pyroute2.
+
+use super::support::assert_is;
+use super::talk::{Talk, answered, payload_of};
+use neli::FromBytes;
+use neli::attr::Attribute;
+use neli::consts::nl::NlmF;
+use neli::consts::rtnl::{RtAddrFamily, RtScope, RtTable, Rta, Rtm, Rtn, Rtprot};
+use neli::err::DeError;
+use neli::rtnl::{RtAttrHandle, Rtmsg, RtmsgBuilder};
+use std::alloc::Global;
+use std::net::Ipv4Addr;
+use std::test::Fail;
+
+/// A dump of the routes of IPv4.
+const ROUTES: Talk = Talk {
+    port: 2828030817,
+    number: 1008,
+    request: "1c0000001a000103f003000000000000020000000000000000000000",
+    answers: &[
+        "3c00000018000200f0030000615390a802100000fe0300010000000008000f00fe000000080001000a01000008000500\
+        c000020a08000400030000002c00000018000200f0030000615390a802100000fe0300060000000008000f00fe000000\
+        080001000a0300003c00000018000200f0030000615390a802100000fe02fd010000000008000f00fe00000008000100\
+        0a090000080007000a0900010800040005000000",
+        "1400000003000200f0030000615390a800000000",
+    ],
+};
+
+/// The request: the routes of IPv4, of each table and kind.
+fn all_routes(alloc: Global) -> Result<Rtmsg, Fail> {
+    let all = RtmsgBuilder::default()
+        .rtm_family(RtAddrFamily::Inet)
+        .rtm_dst_len(0)
+        .rtm_src_len(0)
+        .rtm_tos(0)
+        .rtm_table(RtTable::Unspec)
+        .rtm_protocol(Rtprot::Unspec)
+        .rtm_scope(RtScope::Universe)
+        .rtm_type(Rtn::Unspec)
+        .build(alloc)?;
+    Ok(all)
+}
+
+/// The value of an attribute, where the route has it.
+fn value_in<R: FromBytes>(
+    alloc: Global,
+    attrs: &RtAttrHandle<'_, Rta>,
+    kind: Rta,
+) -> Result<Option<R>, DeError> {
+    match attrs.get_attribute(kind) {
+        Some(attr) => Ok(Some(attr.get_payload_as(alloc)?)),
+        None => Ok(None),
+    }
+}
+
+/// The line of a route: its kind, where to, by which gateway, over which link and from which address.
+fn line_of(alloc: Global, route: &Rtmsg) -> Result<String, DeError> {
+    let attrs = route.rtattrs().get_attr_handle();
+    let mut line = match value_in::<Ipv4Addr>(alloc, &attrs, Rta::Dst)? {
+        Some(to) => format!(in alloc; "{:?} {to}/{}", route.rtm_type(), route.rtm_dst_len())?,
+        None => format!(in alloc; "{:?} default", route.rtm_type())?,
+    };
+    if let Some(gateway) = value_in::<Ipv4Addr>(alloc, &attrs, Rta::Gateway)? {
+        line = format!(in alloc; "{line} via {gateway}")?;
+    }
+    if let Some(link) = value_in::<u32>(alloc, &attrs, Rta::Oif)? {
+        line = format!(in alloc; "{line} link {link}")?;
+    }
+    if let Some(address) = value_in::<Ipv4Addr>(alloc, &attrs, Rta::Prefsrc)? {
+        line = format!(in alloc; "{line} from {address}")?;
+    }
+    Ok(line)
+}
+
+/// What the routes print.
+const LINES: [&str; 3] = [
+    "Unicast 10.1.0.0/16 via 192.0.2.10 link 3",
+    "Blackhole 10.3.0.0/16",
+    "Unicast 10.9.0.0/16 link 5 from 10.9.0.1",
+];
+
+#[test]
+fn routes_are_shown(rt: HostRuntime) -> Result<(), Fail> {
+    let alloc = rt.alloc();
+    let all = all_routes(alloc)?;
+    let items = answered::<_, _, Rtmsg>(&rt, alloc, &ROUTES, Rtm::Getroute, NlmF::DUMP, all);
+    // The last one is the end of the dump.
+    assert_is(&rt, items.len(), 4);
+    for (item, want) in items.iter().zip(LINES) {
+        let line = line_of(alloc, payload_of(&rt, item))?;
+        assert_is(&rt, line.as_str(), want);
+    }
+    Ok(())
+}
