@@ -1,2 +1,3 @@
+mod Events
 mod Names
 mod Rows

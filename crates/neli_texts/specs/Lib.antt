@@ -6,4 +6,5 @@ pub mod MessageFlags
 pub mod MessageLine
 pub mod MessageTypes
 pub mod NumberNames
+pub mod ProcFields
 pub mod RtnlFields

@@ -22,8 +22,8 @@ pub trait LineFields {
 ///
 /// The names are those of the kernel's struct, without their prefix. Flags print as [`FlagNames`](crate::FlagNames)
 /// does; families, devices, tables, protocols, scopes, kinds of routes and actions of rules by the names of the
-/// kernel's headers, without their prefix and in small letters, or as their number. Padding, attributes and payloads
-/// are not printed.
+/// kernel's headers, without their prefix and in small letters, or as their number; what happened to a process by such
+/// a name too, and a thread's name in quotes. Padding, attributes and payloads are not printed.
 #[derive(Clone, Copy, Debug)]
 pub struct BodyLine<'a, B>(pub &'a B);
 

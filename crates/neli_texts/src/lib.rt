@@ -15,6 +15,7 @@ mod message_flags;
 mod message_line;
 mod message_types;
 mod number_names;
+mod proc_fields;
 mod rtnl_fields;
 
 pub use body_line::{BodyLine, LineFields};

@@ -1,11 +1,11 @@
 //! The fields of bodies on a line: the recorded examples of docs/BODIES.md, and others by hand.
 //!
 //! The bytes are those of the structs of linux/rtnetlink.h, linux/if_addr.h, linux/neighbour.h, linux/fib_rules.h,
-//! linux/genetlink.h and linux/connector.h, without attributes; the names are those headers' own, of
+//! linux/genetlink.h, linux/connector.h and linux/cn_proc.h, without attributes; the names are those headers' own, of
 //! linux/if_arp.h and of linux/socket.h.
 
 use super::shown::assert_prints;
-use neli::connector::CnMsg;
+use neli::connector::{CnMsg, ProcEventHeader};
 use neli::consts::genl::CtrlCmd;
 use neli::genl::Genlmsghdr;
 use neli::nl::{BodyLine, LineFields};
@@ -113,6 +113,87 @@ const CONNECTOR: [Row; 1] = [(
     "idx 1 val 2 seq 60 ack 5 len 4 flags 0x10",
 )];
 
+/// The front of each is `what`, `cpu` and `timestamp_ns`, 16 bytes; then come the fields of the event.
+const EVENTS: [Row; 14] = [
+    (
+        b"\x00\x00\x00\x00\x01\x00\x00\x00\x05\x00\x00\x00\x00\x00\x00\x00\x16\x00\x00\x00",
+        "what none cpu 1 timestamp_ns 5 err 22",
+    ),
+    (
+        b"\x01\x00\x00\x00\x00\x00\x00\x00\x00\xca\x9a\x3b\x00\x00\x00\x00\
+          \x0b\x00\x00\x00\x0a\x00\x00\x00\x0d\x00\x00\x00\x0c\x00\x00\x00",
+        "what fork cpu 0 timestamp_ns 1000000000 parent_pid 11 parent_tgid 10 child_pid 13 child_tgid 12",
+    ),
+    (
+        b"\x02\x00\x00\x00\x03\x00\x00\x00\x00\x00\x00\x00\x01\x00\x00\x00\x0d\x00\x00\x00\x0c\x00\x00\x00",
+        "what exec cpu 3 timestamp_ns 4294967296 process_pid 13 process_tgid 12",
+    ),
+    // Recorded: the example of docs/BODIES.md.
+    (
+        b"\x04\x00\x00\x00\x02\x00\x00\x00\x10\x53\x27\x17\x38\x02\x00\x00\
+          \x8c\x43\x00\x00\x8c\x43\x00\x00\xfe\xff\x00\x00\xfe\xff\x00\x00",
+        "what uid cpu 2 timestamp_ns 2439929877264 process_pid 17292 process_tgid 17292 ruid 65534 euid 65534",
+    ),
+    (
+        b"\x40\x00\x00\x00\x02\x00\x00\x00\x01\x00\x00\x00\x00\x00\x00\x00\
+          \x0d\x00\x00\x00\x0c\x00\x00\x00\xe8\x03\x00\x00\xff\xff\xff\xff",
+        "what gid cpu 2 timestamp_ns 1 process_pid 13 process_tgid 12 rgid 1000 egid 4294967295",
+    ),
+    (
+        b"\x80\x00\x00\x00\x02\x00\x00\x00\x02\x00\x00\x00\x00\x00\x00\x00\xff\xff\xff\xff\x0c\x00\x00\x00",
+        "what sid cpu 2 timestamp_ns 2 process_pid -1 process_tgid 12",
+    ),
+    (
+        b"\x00\x01\x00\x00\x02\x00\x00\x00\x03\x00\x00\x00\x00\x00\x00\x00\
+          \x0d\x00\x00\x00\x0c\x00\x00\x00\x15\x00\x00\x00\x14\x00\x00\x00",
+        "what ptrace cpu 2 timestamp_ns 3 process_pid 13 process_tgid 12 tracer_pid 21 tracer_tgid 20",
+    ),
+    (
+        b"\x00\x02\x00\x00\x02\x00\x00\x00\x04\x00\x00\x00\x00\x00\x00\x00\
+          \x0d\x00\x00\x00\x0c\x00\x00\x00tmux: server\x00\x00\x00\x00",
+        "what comm cpu 2 timestamp_ns 4 process_pid 13 process_tgid 12 comm \"tmux: server\"",
+    ),
+    // A name of sixteen bytes without a zero: with a space, a tilde, a line feed, DEL, a quote, a backslash and an
+    // accented letter, which takes two bytes.
+    (
+        b"\x00\x02\x00\x00\x02\x00\x00\x00\x04\x00\x00\x00\x00\x00\x00\x00\
+          \x0d\x00\x00\x00\x0c\x00\x00\x00a ~\x0a\x7f\"\\\xc3\xa9bcdefgh",
+        "what comm cpu 2 timestamp_ns 4 process_pid 13 process_tgid 12 \
+         comm \"a ~\\x0a\\x7f\\x22\\x5c\\xc3\\xa9bcdefgh\"",
+    ),
+    // What stands after the first zero is not of the name.
+    (
+        b"\x00\x02\x00\x00\x02\x00\x00\x00\x04\x00\x00\x00\x00\x00\x00\x00\
+          \x0d\x00\x00\x00\x0c\x00\x00\x00\x00left of another",
+        "what comm cpu 2 timestamp_ns 4 process_pid 13 process_tgid 12 comm \"\"",
+    ),
+    (
+        b"\x00\x00\x00\x40\x02\x00\x00\x00\x05\x00\x00\x00\x00\x00\x00\x00\
+          \x0d\x00\x00\x00\x0c\x00\x00\x00\x0b\x00\x00\x00\x0a\x00\x00\x00",
+        "what coredump cpu 2 timestamp_ns 5 process_pid 13 process_tgid 12 parent_pid 11 parent_tgid 10",
+    ),
+    // Recorded: the child that `process_events` of `neli_tests` reads. Its status is 3, its signal SIGCHLD.
+    (
+        b"\x00\x00\x00\x80\x01\x00\x00\x00\x6b\x57\x78\xf6\x37\x02\x00\x00\x89\x43\x00\x00\x89\x43\x00\x00\
+          \x00\x03\x00\x00\x11\x00\x00\x00\x4b\x43\x00\x00\x4b\x43\x00\x00",
+        "what exit cpu 1 timestamp_ns 2439381538667 process_pid 17289 process_tgid 17289 exit_code 768 exit_signal 17 \
+         parent_pid 17227 parent_tgid 17227",
+    ),
+    // The type of those alone whose code is not 0, and the largest numbers.
+    (
+        b"\x00\x00\x00\x20\xff\xff\xff\xff\xff\xff\xff\xff\xff\xff\xff\xff\x00\x00\x00\x80\xff\xff\xff\x7f\
+          \xff\xff\xff\xff\xff\xff\xff\xff\x00\x00\x00\x00\x00\x00\x00\x00",
+        "what exit cpu 4294967295 timestamp_ns 18446744073709551615 process_pid -2147483648 process_tgid 2147483647 \
+         exit_code 4294967295 exit_signal 4294967295 parent_pid 0 parent_tgid 0",
+    ),
+    // A kernel sends 40 bytes for each event: what follows its fields is not printed.
+    (
+        b"\x02\x00\x00\x00\x03\x00\x00\x00\x01\x00\x00\x00\x00\x00\x00\x00\x0d\x00\x00\x00\x0c\x00\x00\x00\
+          \x07\x00\x00\x00\x07\x00\x00\x00\x07\x00\x00\x00\x07\x00\x00\x00",
+        "what exec cpu 3 timestamp_ns 1 process_pid 13 process_tgid 12",
+    ),
+];
+
 /// Asserts what bodies print.
 fn check<B: LineFields + FromBytesWithInput + Drop>(rt: &impl Abort, alloc: Global, rows: &[Row]) {
     for (bytes, want) in rows {
@@ -141,4 +222,9 @@ fn bodies_of_routes(rt: HostRuntime) {
 fn bodies_of_generic_netlink_and_the_connector(rt: HostRuntime) {
     check::<Genlmsghdr<CtrlCmd, u16>>(&rt, rt.alloc(), &COMMANDS);
     check::<CnMsg<Buffer>>(&rt, rt.alloc(), &CONNECTOR);
+}
+
+#[test]
+fn process_events(rt: HostRuntime) {
+    check::<ProcEventHeader>(&rt, rt.alloc(), &EVENTS);
 }
