@@ -68,7 +68,8 @@ event_after x xs (Exit a b c d e f) = fields_after x xs _ _
 
 -- and after those of its header
 pub event_after_head : (h : ProcEventHeader)
-    → fields_text (head_fields h) ++ (codes " " ++ fields_text (event_fields h.event)) ≡ fields_text (proc_event_fields h)
+    → fields_text (head_fields h) ++ (codes " " ++ fields_text (event_fields h.event))
+    ≡ fields_text (proc_event_fields h)
 event_after_head h = event_after (codes "what", event_word h.event)
     ((codes "cpu", decimal h.cpu) ∷ (codes "timestamp_ns", decimal h.timestamp_ns) ∷ []) h.event
 

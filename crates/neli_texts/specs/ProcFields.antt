@@ -7,7 +7,6 @@ use Rattle.neli_genl.specs.declared.proc_event.ProcEvent.TheVariants.{Ack, Fork,
 use Rattle.neli_genl.specs.declared.proc_event.ProcEvent.TheVariants.{Coredump, Exit}
 use Rattle.neli_genl.specs.declared.proc_event_header.ProcEventHeader.{ProcEventHeader}
 use Rattle.neli_texts.specs.declared.proc_fields.Head.{Head}
-use Rattle.neli_texts.specs.declared.proc_fields.Name.{Name}
 use Rattle.neli_texts.specs.declared.proc_fields.Number.{Number}
 use Rattle.neli_texts.specs.declared.proc_fields.Pids.{Pids}
 use Rattle.neli_texts.specs.declared.proc_fields.Shape.{Shape}
