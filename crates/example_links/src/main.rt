@@ -16,8 +16,8 @@ use neli::consts::nl::NlmF;
 use neli::consts::rtnl::{Iff, Ifla, RtAddrFamily, Rtm};
 use neli::err::{DeError, NoMemory, RouterError};
 use neli::lent::LentMessage;
-use neli::nl::NlPayload;
-use neli::router::synchronous::{Log, NlRouter, Reply};
+use neli::nl::{NlPayload, Nlmsghdr};
+use neli::router::synchronous::{Log, NlRouter, NlRouterReceiverHandle, Reply};
 use neli::rtnl::{HardwareAddress, Ifinfomsg, IfinfomsgBuilder, IfinfomsgBuilderError};
 use neli::utils::Groups;
 use std::alloc::Global;
@@ -61,11 +61,43 @@ fn line_of(alloc: Global, body: &Ifinfomsg) -> Result<String, DeError> {
     Ok(format!(in alloc; "{line} {address}")?)
 }
 
+/// Appends the line of the link that an item is, if it is one.
+fn add_line(
+    alloc: Global,
+    item: Result<Nlmsghdr<Rtm, Ifinfomsg>, RouterError<Rtm, Ifinfomsg>>,
+    lines: &mut Vec<String>,
+) -> Result<(), Trouble>
+    ensures kept { take (length lines.old.items) lines.new.items ≡ lines.old.items }
+{
+    if let Some(body) = item?.get_payload() {
+        lines.push(line_of(alloc, body)?).map_err(NoMemory::from)?;
+    }
+    Ok(())
+}
+
+/// Appends the lines of the answers, up to their end. Each turn takes one of them, so the loop ends.
+fn read_answers(
+    alloc: Global,
+    router: &mut NlRouter,
+    handle: &mut NlRouterReceiverHandle<Rtm, Ifinfomsg>,
+    lines: &mut Vec<String>,
+) -> Result<(), Trouble>
+    ensures kept { take (length lines.old.items) lines.new.items ≡ lines.old.items }
+{
+    for _ in 0..u64::MAX {
+        match router.next_typed::<Rtm, Ifinfomsg, _, _>(alloc, handle)? {
+            Reply::Item(item) => add_line(alloc, item, lines)?,
+            Reply::End => return Ok(()),
+            Reply::Waits => break,
+        }
+    }
+    Err(Trouble::NoEnd)
+}
+
 /// Asks for all links, and appends the line of each that the answer has.
 fn read_links(alloc: Global, datagrams: &[u8], lines: &mut Vec<String>) -> Result<(), Trouble>
     ensures kept { take (length lines.old.items) lines.new.items ≡ lines.old.items }
 {
-    // The request that they answer has the port and the number of the first message.
     let first = LentMessage::<u16>::lend(&mut Cursor::new(datagrams))?;
     let (mut router, _multicast) = NlRouter::<Log>::new(alloc, *first.nl_pid());
     router.set_next_seq(*first.nl_seq());
@@ -77,19 +109,7 @@ fn read_links(alloc: Global, datagrams: &[u8], lines: &mut Vec<String>) -> Resul
     // A socket sends the request here, and gives the datagrams.
     let (_request, mut handle) = asked;
     router.processing_loop(datagrams, &Groups::empty(alloc))?;
-    // Each turn takes one of the answers, so the loop ends.
-    for _ in 0..u64::MAX {
-        match router.next_typed::<Rtm, Ifinfomsg, _, _>(alloc, &mut handle)? {
-            Reply::Item(item) => {
-                if let Some(body) = item?.get_payload() {
-                    lines.push(line_of(alloc, body)?).map_err(NoMemory::from)?;
-                }
-            }
-            Reply::End => return Ok(()),
-            Reply::Waits => break,
-        }
-    }
-    Err(Trouble::NoEnd)
+    read_answers(alloc, &mut router, &mut handle, lines)
 }
 
 fn main(rt: HostRuntime) -> io::Result<ExitCode> {

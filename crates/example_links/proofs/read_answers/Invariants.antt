@@ -1,5 +1,5 @@
 use Rattle.std.proofs.Common.{◌≡◌, length, take}
-use Rattle.example_links.proofs.read_links.Given as goal
+use Rattle.example_links.proofs.read_answers.Given as goal
 
 -- the lines before stay
 abbrev pub invariant-loop : goal.invariant-loop
