@@ -121,7 +121,7 @@ fn payloads_that_are_set(rt: HostRuntime) {
     let alloc = rt.alloc();
     let mut attr = generic(&rt, alloc, 1u16, 7u32);
     let refused = attr.set_payload(alloc, &zeros(&rt, alloc, 65532));
-    assert!(rt; refused.is_err());
+    assert_refused(&rt, alloc, refused, "Length does not fit its field");
     assert_written(&rt, alloc, &attr, &[8, 0, 1, 0, 7, 0, 0, 0]);
     attr.set_payload(alloc, &9u8)
         .expect(&rt, "a payload that fits");

@@ -1,9 +1,11 @@
-//! What `Debug` prints of the bodies of routing.
+//! What `Debug` prints of the bodies of routing and of their sets of flags.
 
 use super::support::{assert_is_at, read_whole};
 use neli::FromBytesWithInput;
+use neli::consts::rtnl::{Frf, IfaF, Iff, Ntf, Nud, RtmF, VlanFlags};
 use neli::rtnl::{Fibmsg, Ifaddrmsg, Ifinfomsg, Ndmsg, Rtgenmsg, Rtmsg, Tcmsg};
 use std::alloc::Global;
+use std::fmt::Debug;
 use std::process::Abort;
 
 /// Bytes that spell the fields of any of these bodies.
@@ -53,4 +55,40 @@ fn routes_show_their_fields(rt: HostRuntime) {
     assert_shows::<Fibmsg>(&rt, rt.alloc(), "Fibmsg", 12, fields);
     let fields = "rtgen_family: Unspecified, pad1: 0, pad2: 0";
     assert_shows::<Rtgenmsg>(&rt, rt.alloc(), "Rtgenmsg", 4, fields);
+}
+
+// The address 192.0.2.1 of IFA_LOCAL (the kernel's linux/if_addr.h).
+#[test]
+fn attributes_are_shown(rt: HostRuntime) {
+    let alloc = rt.alloc();
+    let bytes = [2, 24, 0x80, 0, 3, 0, 0, 0, 8, 0, 2, 0, 192, 0, 2, 1];
+    let body: Ifaddrmsg = read_whole(&rt, alloc, "an address", &bytes);
+    assert_prints(
+        &rt,
+        alloc,
+        &body,
+        "Ifaddrmsg { header: IfaddrmsgHeader { ifa_family: Inet, ifa_prefixlen: 24, \
+         ifa_flags: IfaF(128), ifa_scope: Universe, ifa_index: 3 }, rtattrs: FrameList { items: \
+         [Rtattr { rta_len: 8, rta_type: Local, rta_payload: Buffer }] } }",
+    );
+}
+
+/// Asserts that `Debug` prints this of the value.
+fn assert_prints<V: Debug>(rt: &impl Abort, alloc: Global, value: &V, want: &str) {
+    let text = format!(in alloc; "{value:?}").expect(rt, "memory");
+    assert_is_at(rt, want, text.as_str(), want);
+}
+
+// The numbers are the kernel's, of linux/if.h, if_addr.h, if_vlan.h, neighbour.h, rtnetlink.h and fib_rules.h.
+#[test]
+fn sets_show_their_bits(rt: HostRuntime) {
+    let alloc = rt.alloc();
+    assert_prints(&rt, alloc, &(Iff::UP | Iff::RUNNING), "Iff(65)");
+    assert_prints(&rt, alloc, &IfaF::PERMANENT, "IfaF(128)");
+    assert_prints(&rt, alloc, &(Nud::REACHABLE | Nud::PERMANENT), "Nud(130)");
+    assert_prints(&rt, alloc, &Ntf::ROUTER, "Ntf(128)");
+    assert_prints(&rt, alloc, &RtmF::CLONED, "RtmF(512)");
+    assert_prints(&rt, alloc, &Frf::PERMANENT, "Frf(1)");
+    let flags = VlanFlags::GVRP | VlanFlags::MVRP;
+    assert_prints(&rt, alloc, &flags, "VlanFlags(10)");
 }

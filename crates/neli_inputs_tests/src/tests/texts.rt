@@ -111,3 +111,17 @@ fn texts_are_found_to_be_texts(rt: HostRuntime) -> Result<(), Fail> {
     }
     Ok(())
 }
+
+// A text of 85000 bytes; an empty line ends a datagram.
+#[test]
+fn a_long_text_is_read(rt: HostRuntime) -> Result<(), Fail> {
+    let alloc = rt.alloc();
+    let mut text = Vec::new(alloc);
+    for _ in 0..2500 {
+        text.extend_from_slice(b"2800000002000000e90300002b310000\n\n")?;
+    }
+    let input = read_input(alloc, text)?;
+    let sizes = (input.items.len(), input.bytes.len());
+    assert_is_at(&rt, "a long text", sizes, (2500, 40000));
+    Ok(())
+}

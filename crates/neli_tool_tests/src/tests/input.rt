@@ -44,6 +44,14 @@ fn an_input_is_read_to_its_end(rt: HostRuntime) {
     }
 }
 
+// They come in some 270 calls, so what is endless is told by the calls and not by the bytes.
+#[test]
+fn more_than_a_million_bytes_are_read_to_their_end(rt: HostRuntime) {
+    let alloc = rt.alloc();
+    let bytes = counting(&rt, alloc, 1100000);
+    assert_read(&rt, alloc, "by pieces", &mut bytes.as_slice(), &bytes);
+}
+
 #[test]
 fn a_read_that_fails_is_told(rt: HostRuntime) {
     for last in [1, 2, 3] {
