@@ -1,6 +1,6 @@
 //! Tables together.
 
-ghost use Rattle.std.specs.Prelude.{◌≡◌, find, nat_eq};
+ghost use Rattle.std.specs.Prelude.{◌≡◌, [], find, nat_eq};
 ghost use Rattle.std.specs.Option.{option_copied};
 ghost use Rattle.neli_schema.specs.Tables.{table_in};
 
@@ -16,7 +16,8 @@ pub struct Schema<'t> {
 impl<'t> Schema<'t> {
     /// These tables, as `all_tables` of `neli_kernel_tables` lists the kernel's.
     pub fn new(tables: &'t [Table<'t>]) -> Self
-        ensures { result.tables.now ≡ tables.now }
+        ensures tables { result.tables.now ≡ tables.now }
+        ensures own { result.own.now ≡ [] }
     {
         Schema { own: &[], tables }
     }
