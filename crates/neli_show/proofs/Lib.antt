@@ -1,4 +1,5 @@
 mod Addresses
+mod Numerals
 mod Parts
 mod Pieces
 mod Strings

@@ -1,7 +1,11 @@
--- What the words of the command line name.
-use Rattle.std.specs.Prelude.{ℕ, List, codes, bytes_eq, if◌then◌else◌, Option, Some, None}
+-- What the words of the command line name, and what they ask for.
+use Rattle.std.specs.Prelude.{ℕ, Bool, List, [], ◌∷◌, codes, bytes_eq, length, nat_lt, ◌&&◌, if◌then◌else◌, Option, Some, None}
+use Rattle.std.specs.Option.{option_or}
+use Rattle.std.specs.Str.{all_ascii_digits}
+use Rattle.std.specs.Str.Parse.{digits_value, without_leading_plus}
 use Rattle.neli_show.specs.declared.request.Output.{Output}
 use Rattle.neli_show.specs.declared.request.Output.TheVariants as output
+use Rattle.neli_show.specs.declared.request.Request.{Request}
 
 -- the output that a word names
 abbrev pub named_output : List ℕ → Option Output
@@ -15,3 +19,31 @@ named_protocol word =
     if bytes_eq word (codes "route") then Some 0
     else (if bytes_eq word (codes "connector") then Some 11
     else (if bytes_eq word (codes "generic") then Some 16 else None))
+
+-- one decimal digit or more, and nothing else
+abbrev pub is_numeral : List ℕ → Bool
+is_numeral digits = nat_lt 0 (length digits) && all_ascii_digits digits
+
+-- the number that a word is, before which a plus may stand, where it has 16 bits at most
+abbrev pub number_in : List ℕ → Option ℕ
+number_in word =
+    let digits = without_leading_plus word in
+    if is_numeral digits && nat_lt (digits_value 10 digits) 65536 then Some (digits_value 10 digits) else None
+
+-- a protocol, by its name or else by its number
+abbrev pub protocol_in : List ℕ → Option ℕ
+protocol_in word = option_or (named_protocol word) (number_in word)
+
+-- this output for this protocol, where there are both
+abbrev pub both_asked : Option Output → Option ℕ → Option Request
+both_asked (Some output) (Some protocol) = Some (record { output = output; protocol = protocol })
+both_asked (Some output) None = None
+both_asked None protocol = None
+
+-- what words ask for: first an output, then a protocol; lines of text where there is none, and routing
+abbrev pub request_in : List (List ℕ) → Option Request
+request_in [] = both_asked (Some output.Text) (Some 0)
+request_in (word ∷ []) =
+    option_or (both_asked (named_output word) (Some 0)) (both_asked (Some output.Text) (protocol_in word))
+request_in (output ∷ protocol ∷ []) = both_asked (named_output output) (protocol_in protocol)
+request_in (output ∷ protocol ∷ word ∷ words) = None

@@ -1,10 +1,17 @@
 -- How a run ends.
-use Rattle.std.specs.Prelude.{ℕ, Bool, true, false, List, codes, Option, Some, None, Result, Ok, Err}
+use Rattle.std.specs.Prelude.{ℕ, Bool, true, false, List, map, codes, string_bytes, Option, Some, None, Result, Ok, Err}
+use Rattle.std.specs.IoError.{error_kind}
+use Rattle.std.specs.Option.{ok_or}
+use Rattle.std.specs.declared.alloc.Global.{Global}
 use Rattle.std.specs.declared.io.Error.{Error}
 use Rattle.std.specs.declared.io.ErrorKind.{ErrorKind}
 use Rattle.std.specs.declared.io.ErrorKind.TheVariants.{OutOfMemory}
+use Rattle.std.specs.declared.string.String.{String}
+use Rattle.std.specs.declared.vec.Vec.{Vec}
+use Rattle.neli_show.specs.declared.request.Request.{Request}
 use Rattle.neli_show.specs.declared.run.Status.{Status}
 use Rattle.neli_show.specs.declared.run.Status.TheVariants as status
+use Rattle.neli_show.specs.Requests.{request_in}
 
 -- the exit status
 abbrev pub status_code : Status → ℕ
@@ -29,6 +36,11 @@ complaint_text status.Memory = Some (codes "neli_show: out of memory")
 abbrev pub unread_status : ErrorKind → Status
 unread_status OutOfMemory = status.Memory
 unread_status kind = status.Usage
+
+-- what words ask for, or else how a run ends that prints nothing
+abbrev pub asked_in : Result (Vec (String Global) Global) Error → Result Request Status
+asked_in (Ok words) = ok_or (request_in (map string_bytes words.items)) status.Usage
+asked_in (Err error) = Err (unread_status (error_kind error))
 
 -- how a run ends that printed its input: all of it is messages, or a part is not, or the output failed
 abbrev pub shown_status : Result Bool Error → Status

@@ -1,7 +1,7 @@
 //! What the words of the command line ask for.
 
-ghost use Rattle.std.specs.Prelude.{◌≡◌, ◌<◌, None, IfSome, [], Some, codes, length};
-ghost use Rattle.neli_show.specs.Requests.{named_output, named_protocol};
+ghost use Rattle.std.specs.Prelude.{◌≡◌, ◌<◌, None, IfSome, [], Some, codes, length, map, string_bytes};
+ghost use Rattle.neli_show.specs.Requests.{named_output, named_protocol, protocol_in, request_in};
 
 use crate::head::{CONNECTOR, GENERIC, ROUTE};
 
@@ -38,7 +38,8 @@ fn output_of(word: &str) -> Option<Output>
 
 /// The protocol that a word names, by its name or by its number.
 fn protocol_of(word: &str) -> Option<u16>
-    ensures { IfSome (named_protocol word.now) (λ protocol. result ≡ Some protocol) }
+    ensures named { IfSome (named_protocol word.now) (λ protocol. result ≡ Some protocol) }
+    ensures any { result ≡ protocol_in word.now }
 {
     match word {
         "route" => Some(ROUTE),
@@ -52,6 +53,7 @@ fn protocol_of(word: &str) -> Option<u16>
 pub fn request_of(words: &[String]) -> Option<Request>
     ensures none { words.now ≡ [] → result ≡ Some (record { output = Output.Text; protocol = 0 }) }
     ensures many { 2 < length words.now → result ≡ None }
+    ensures any { result ≡ request_in (map string_bytes words.now) }
 {
     let (output, protocol) = match words {
         [] => return Some(asking(Output::Text, ROUTE)),

@@ -4,7 +4,7 @@ ghost use Rattle.std.specs.Prelude.{◌≡◌, ◌≢◌, Err, IfErr, IfOk, OnOk
 ghost use Rattle.std.specs.IoError.{error_kind};
 ghost use Rattle.std.specs.Option.{option_map};
 ghost use Rattle.neli_show.specs.Json.{AreLines};
-ghost use Rattle.neli_show.specs.Runs.{complaint_text, shown_status, status_code, unread_status};
+ghost use Rattle.neli_show.specs.Runs.{asked_in, complaint_text, shown_status, status_code, unread_status};
 ghost use Rattle.neli_show.specs.Written.{Extends};
 
 use crate::form::{Fault, Form};
@@ -188,7 +188,8 @@ fn show<R: Read, W: Write>(alloc: Global, request: Request, input: &mut R, out: 
 
 /// What these words ask for; where they were not read, how the run ends.
 fn asked(words: &io::Result<Vec<String>>) -> Result<Request, Status>
-    ensures { IfErr words.now (λ error. result ≡ Err (unread_status (error_kind error))) }
+    ensures unread { IfErr words.now (λ error. result ≡ Err (unread_status (error_kind error))) }
+    ensures any { result ≡ asked_in words.now }
 {
     match words {
         Ok(words) => request_of(words.as_slice()).ok_or(Status::Usage),
