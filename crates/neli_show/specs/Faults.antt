@@ -26,6 +26,11 @@ datagram_fault_text de.Memory = codes "out of memory"
 datagram_fault_text (de.Msg text) = codes "unreadable"
 datagram_fault_text (de.Utf8 error) = codes "unreadable"
 
+-- what the place of a fault is in: a byte of a datagram, or a place of the input
+abbrev pub fault_kind : Fault → List ℕ
+fault_kind (Datagram error) = codes "at"
+fault_kind (Input refusal) = codes "input"
+
 -- the same, or why a part of the input is no datagram
 abbrev pub fault_text : Fault → List ℕ
 fault_text (Datagram error) = datagram_fault_text error.now

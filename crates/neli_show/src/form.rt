@@ -1,7 +1,7 @@
 //! What a form of the output does for each part of a message.
 
 ghost use Rattle.std.specs.Prelude.{◌≡◌, ℕ, List, ◌++◌, Bool, true, OnOk, Some};
-ghost use Rattle.neli_show.specs.Faults.{breach_text, fault_text};
+ghost use Rattle.neli_show.specs.Faults.{breach_text, fault_kind, fault_text};
 ghost use Rattle.std.specs.List.{list_all};
 ghost use Rattle.neli_show.specs.Json.{AreElements, AreLines, AreMembers, is_plain};
 ghost use Rattle.neli_show.specs.Written.{AreHops, Extends, FirstElements, IsAround, IsBegun, IsHopBegun, Turns};
@@ -170,7 +170,8 @@ pub enum Fault<'e> {
 impl Fault<'_> {
     /// What its place is in.
     pub fn kind(self) -> &'static str
-        ensures { list_all is_plain result.now ≡ true }
+        ensures plain { list_all is_plain result.now ≡ true }
+        ensures word { result.now ≡ fault_kind self.entry }
     {
         match self {
             Fault::Datagram(_) => "at",

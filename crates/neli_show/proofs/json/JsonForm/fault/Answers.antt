@@ -13,5 +13,5 @@ returns g c = λ json.
     then_ok c.writeln.result c.writeln.ensures.bytes (λ last. (
       codes "{\"fault\":\"" ++ (fault ++ (codes "\",\"" ++ (kind ++ (codes "\":" ++ (decimal place ++ codes "}\n"))))),
       last,
-      fault_line fault kind place (fault-plain c.args.fault) c.kind-kind.ensures,
+      fault_line fault kind place (fault-plain c.args.fault) c.kind-kind.ensures.plain,
     ))
