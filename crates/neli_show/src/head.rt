@@ -3,7 +3,7 @@
 ghost use Rattle.std.specs.Prelude.{◌≡◌, ◌&&◌, ◌≤◌, ◌↔◌, IfSome, IsSome, find, length, nat_eq};
 ghost use Rattle.std.specs.Option.{option_copied};
 ghost use Rattle.neli_schema.specs.Tables.{table_in};
-ghost use Rattle.neli_show.specs.Heads.{IsHead};
+ghost use Rattle.neli_show.specs.Heads.{IsHead, IsHeadOf};
 
 use byteorder::{ByteOrder, LittleEndian};
 use neli_consts::{NLMSG_DONE, NLMSG_ERROR, NLMSG_NOOP, NLMSG_OVERRUN};
@@ -83,7 +83,9 @@ pub struct Head<'t> {
 
 impl<'t> Head<'t> {
     /// The header of a message that was read.
-    pub fn of(names: &Names<'t>, protocol: u16, message: &LentMessage<'_, u16>) -> Head<'t> {
+    pub fn of(names: &Names<'t>, protocol: u16, message: &LentMessage<'_, u16>) -> Head<'t>
+        ensures { IsHeadOf protocol message.now result }
+    {
         let message_type = *message.nl_type();
         Head {
             protocol,
