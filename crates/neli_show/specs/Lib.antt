@@ -1,6 +1,7 @@
 pub mod Faults
 pub mod Heads
 pub mod Json
+pub mod Places
 pub mod Quoted
 pub mod Requests
 pub mod Runs

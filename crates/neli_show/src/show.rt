@@ -1,8 +1,10 @@
 //! Messages, part by part, whatever the form that they are printed in.
 
-ghost use Rattle.std.specs.Prelude.{◌≡◌, ◌≤◌, IfSome, OnOk, bit_and, drop, length, nat_eq, true, if◌then◌else◌};
+ghost use Rattle.std.specs.Prelude.{◌≡◌, ◌+◌, ◌-◌, ◌<◌, ◌≤◌, ◌^◌, IfSome, OnOk, bit_and, drop, length, nat_eq, true};
+ghost use Rattle.std.specs.Prelude.{if◌then◌else◌};
 ghost use Rattle.neli_show.specs.Heads.{body_family};
 ghost use Rattle.neli_show.specs.Json.{AreElements, AreLines, AreMembers};
+ghost use Rattle.neli_show.specs.Places.{hop_size, lists_of};
 ghost use Rattle.neli_show.specs.Written.{AreHops, Extends, FirstElements, IsBegun, Writes};
 
 use crate::form::{Fault, Form, Place};
@@ -44,7 +46,11 @@ fn bytes_from(bytes: &[u8], start: usize) -> &[u8]
 }
 
 /// Where an item stands whose body is at this level.
-fn place_of(level: usize, item: &Item<'_, '_>) -> Place {
+fn place_of(level: usize, item: &Item<'_, '_>) -> Place
+    ensures lists { result.lists ≡ lists_of item.now }
+    ensures level { level + lists_of item.now < 2 ^ 64
+        → result.level ≡ level + (lists_of item.now - 1) }
+{
     let steps = item.path.steps().len();
     let lists = match item.content {
         Ok(_) => steps,
@@ -145,7 +151,8 @@ fn show_list<F: Form, W: Write, S: ShowItem>(
 
 /// How many bytes a structure and its attributes have, which it states first: as many as there are at most.
 fn hop_length(bytes: &[u8], least: usize) -> Option<usize>
-    ensures { IfSome result (λ n. n ≤ length bytes.now) }
+    ensures few { IfSome result (λ n. n ≤ length bytes.now) }
+    ensures size { result ≡ hop_size least bytes.now }
 {
     if bytes.len() < 2 {
         return None;
