@@ -1,6 +1,6 @@
 //! The output as lines of JSON (RFC 8259), an object each.
 
-ghost use Rattle.std.specs.Prelude.{◌≡◌, ℕ, ◌+◌, ◌≤◌, max, true, false, OnOk};
+ghost use Rattle.std.specs.Prelude.{◌≡◌, ℕ, ◌+◌, ◌≤◌, max, min, true, false, OnOk};
 ghost use Rattle.std.specs.Io.KnownBytes.{Appends};
 ghost use Rattle.std.specs.List.{list_all};
 ghost use Rattle.neli_show.specs.Json.{AreMembers, IsJson, is_plain};
@@ -257,6 +257,7 @@ impl Json {
         ensures ended { OnOk result (Extends (W.contents out.old) (W.contents out.new)
             (IsOpen self.old.lists self.old.is_first) (IsOpen self.new.lists self.new.is_first)) }
         ensures few { OnOk result (self.new.lists ≤ max lists 1) }
+        ensures left { OnOk result (self.new.lists ≡ min self.old.lists (max lists 1)) }
     {
         let least = lists.max(1);
         while least < self.lists {
