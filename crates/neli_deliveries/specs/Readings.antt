@@ -1,7 +1,7 @@
 -- What a delivery is as a caller's types: a message, or why there is none.
 use Rattle.std.specs.Prelude.{◌≡◌, ◌≢◌, ℕ, List, Option, Some, None, Result, Ok, Err}
 use Rattle.neli_wire.specs.DeError.{DeError}
-use Rattle.neli_reader.specs.Nlmsghdr.{Nlmsghdr}
+use Rattle.neli_reader.specs.Framed.{Nlmsghdr}
 use Rattle.neli_reader.specs.RouterError.{RouterError}
 use Rattle.neli_reader.specs.RouterError.TheVariants as router
 use Rattle.neli_reader.specs.Retyping.{IsTyped, RefusesTypingMessage}

@@ -24,7 +24,7 @@ use Rattle.neli_reader.specs.Cuts.{cut_of}
 use Rattle.neli_reader.specs.Headers.{Header, flags_of, header_in, header_wire}
 use Rattle.neli_reader.specs.Kinds.{is_acknowledged, payload_in, tail_of}
 use Rattle.neli_reader.specs.NlPayload.{NlPayload}
-use Rattle.neli_reader.specs.NlmsghdrErr.{NlmsghdrErr}
+use Rattle.neli_reader.specs.Framed.{NlmsghdrErr}
 use Rattle.neli_reader.specs.Nlmsgerr.{Nlmsgerr}
 use Rattle.neli_reader.specs.NlPayload.TheVariants as payload
 use Rattle.neli_reader.specs.Wires.{answer_wire, payload_wire}

@@ -8,7 +8,7 @@ use Rattle.neli_wire.specs.Writing.{Wire}
 use Rattle.neli_consts.specs.declared.nlm_f.NlmF.{NlmF}
 use Rattle.neli_reader.specs.Answers.{Attributes}
 use Rattle.neli_reader.specs.Headers.{flags_of}
-use Rattle.neli_reader.specs.Nlmsghdr.{Nlmsghdr}
+use Rattle.neli_reader.specs.Framed.{Nlmsghdr}
 use Rattle.neli_reader.specs.NlPayload.{NlPayload}
 use Rattle.neli_reader.specs.Wires.{message_wire}
 use Rattle.neli_lent.specs.Written.{IsWalked}

@@ -9,7 +9,7 @@ use Rattle.neli_consts.specs.declared.nlm_f.NlmF.{NlmF}
 use Rattle.neli_reader.specs.Answers.{Attributes, answer}
 use Rattle.neli_reader.specs.Builders.{header_with}
 use Rattle.neli_reader.specs.Headers.{flags_of}
-use Rattle.neli_reader.specs.Nlmsghdr.{Nlmsghdr}
+use Rattle.neli_reader.specs.Framed.{Nlmsghdr}
 use Rattle.neli_reader.specs.NlPayload.{NlPayload}
 use Rattle.neli_reader.specs.NlPayload.TheVariants as payload
 use Rattle.neli_reader.specs.Wires.{message_wire, payload_size}

@@ -14,7 +14,7 @@ use Rattle.neli_reader.specs.Agreement.{untyped_layout}
 use Rattle.neli_reader.specs.Answers.{Attributes, ext_ack_in}
 use Rattle.neli_reader.specs.Builders.{header_with}
 use Rattle.neli_reader.specs.Cuts.{cut_of}
-use Rattle.neli_reader.specs.Nlmsghdr.{Nlmsghdr}
+use Rattle.neli_reader.specs.Framed.{Nlmsghdr}
 use Rattle.neli_reader.specs.NlPayload.TheVariants as payload
 use Rattle.neli_reader.specs.Wires.{attributes_wire}
 use Rattle.neli_lent.specs.Messages.{Lent, as_owned}

@@ -9,7 +9,7 @@ use Rattle.neli_wire.specs.Writing.{Wire}
 use Rattle.neli_consts.specs.declared.nlm_f.NlmF.{NlmF}
 use Rattle.neli_reader.specs.Answers.{Attributes, answer}
 use Rattle.neli_reader.specs.Headers.{flags_of}
-use Rattle.neli_reader.specs.Nlmsghdr.{Nlmsghdr}
+use Rattle.neli_reader.specs.Framed.{Nlmsghdr}
 use Rattle.neli_reader.specs.NlPayload.TheVariants as payload
 use Rattle.neli_kernel.specs.Answers.{answer_flags, message_or_refusal, message_with, reply}
 use Rattle.neli_kernel.specs.declared.dump.Dump.{Dump}

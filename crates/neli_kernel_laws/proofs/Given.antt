@@ -4,7 +4,7 @@ use Rattle.std.proofs.Common.{map, Result, Ok, Err, refl, sym, subst, ◌∙◌,
 use Rattle.std.proofs.lemmas.List.{length-map}
 use Rattle.std.proofs.lemmas.List.Elements.{All-head, All-tail}
 use Rattle.neli_wire.specs.DeError.{DeError}
-use Rattle.neli_reader.specs.Nlmsghdr.{Nlmsghdr}
+use Rattle.neli_reader.specs.Framed.{Nlmsghdr}
 use Rattle.neli_reader.specs.NlPayload.{NlPayload}
 use Rattle.neli_reader.specs.NlPayload.TheVariants as payload
 use Rattle.neli_deliveries.specs.Deliveries.{Untyped, message}

@@ -4,7 +4,7 @@ use Rattle.std.proofs.Common.{Option, Some, None, Ok, Err, refl, sym, ap, subst,
 use Rattle.std.specs.Prelude.{⊤, nat_lt, ◌==◌}
 use Rattle.std.specs.List.{list_any, slice_get}
 use Rattle.std.proofs.lemmas.Bool.Decides.{nat_tests}
-use Rattle.neli_reader.specs.Nlmsghdr.{Nlmsghdr}
+use Rattle.neli_reader.specs.Framed.{Nlmsghdr}
 use Rattle.neli_reader.specs.NlPayload.{NlPayload}
 use Rattle.neli_reader.specs.NlPayload.TheVariants as payload
 use Rattle.neli_runs.specs.Reply.{Reply}

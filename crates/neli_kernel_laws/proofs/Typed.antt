@@ -8,7 +8,7 @@ use Rattle.neli_consts.specs.declared.nlm_f.NlmF.{NlmF}
 use Rattle.neli_reader.specs.Headers.{Header}
 use Rattle.neli_reader.specs.Kinds.{is_multi}
 use Rattle.neli_reader.specs.Messages.{message_from}
-use Rattle.neli_reader.specs.Nlmsghdr.{Nlmsghdr}
+use Rattle.neli_reader.specs.Framed.{Nlmsghdr}
 use Rattle.neli_reader.specs.NlPayload.{NlPayload}
 use Rattle.neli_reader.specs.NlPayload.TheVariants as payload
 use Rattle.neli_reader.specs.Retyping.{payload_stating, stated_echo, typed_failure, typed_payload}

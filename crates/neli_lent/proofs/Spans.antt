@@ -11,7 +11,7 @@ use Rattle.neli_reader.specs.Builders.{own_length}
 use Rattle.neli_reader.specs.Agreement.{untyped_layout}
 use Rattle.neli_reader.specs.Kinds.{payload_view}
 use Rattle.neli_reader.specs.Messages.{Message, message_of}
-use Rattle.neli_reader.specs.Nlmsghdr.{Nlmsghdr}
+use Rattle.neli_reader.specs.Framed.{Nlmsghdr}
 use Rattle.neli_reader.specs.NlPayload.{NlPayload}
 use Rattle.neli_reader.specs.NlPayload.TheVariants as payload
 use Rattle.neli_lent.specs.Messages.{Lent, as_owned, lent_message}

@@ -2,7 +2,7 @@
 use Rattle.std.specs.Prelude.{◌≡◌, ◌<◌, ℕ, ◌+◌, List, [], ◌∷◌, ◌++◌, length, None, Ok}
 use Rattle.neli_wire.specs.Writing.{Wire, zeros_for}
 use Rattle.neli_reader.specs.Headers.{Header}
-use Rattle.neli_reader.specs.Nlmsghdr.{Nlmsghdr}
+use Rattle.neli_reader.specs.Framed.{Nlmsghdr}
 use Rattle.neli_reader.specs.Wires.{payload_wire}
 use Rattle.neli_lent.specs.Messages.{messages_in}
 

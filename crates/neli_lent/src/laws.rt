@@ -6,7 +6,7 @@ ghost use Rattle.neli_wire.specs.Frames.{frame_at};
 ghost use Rattle.neli_attr.specs.Attributes.{Attr, attributes_in};
 ghost use Rattle.neli_wire.specs.Sizes.{align};
 ghost use Rattle.neli_reader.specs.Messages.{message_layout};
-ghost use Rattle.neli_reader.specs.Nlmsghdr.{Nlmsghdr as Message};
+ghost use Rattle.neli_reader.specs.Framed.{Nlmsghdr as Message};
 ghost use Rattle.neli_reader.specs.Wires.{message_wire, payload_size};
 ghost use Rattle.neli_lent.specs.Attributes.{attributes_at};
 ghost use Rattle.neli_lent.specs.Messages.{Lent, lent_message, owned_reading};

@@ -11,7 +11,7 @@ use Rattle.neli_wire.specs.DeError.{DeError}
 use Rattle.neli_wire.specs.DeError.TheVariants as de
 use Rattle.neli_wire.specs.Numbers.{AreBytes}
 use Rattle.neli_wire.specs.Writing.{Wire, ◌+++◌, append_wire, wire_all}
-use Rattle.neli_reader.specs.Nlmsghdr.{Nlmsghdr}
+use Rattle.neli_reader.specs.Framed.{Nlmsghdr}
 use Rattle.neli_reader.specs.NlPayload.{NlPayload}
 use Rattle.neli_reader.specs.NlPayload.TheVariants as payload
 use Rattle.neli_reader.specs.Agreement.{untyped_layout}

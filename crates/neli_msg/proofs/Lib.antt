@@ -1,4 +1,3 @@
 pub mod Words
 pub mod Attributes
 pub mod Retyped
-pub mod Messages

@@ -1,5 +1,5 @@
 -- The text of an attribute, where it has one.
-use Rattle.std.proofs.Common.{◌≡◌, sym, ap, ℕ, List, Option, Some, None, Ok, Err}
+use Rattle.std.proofs.Common.{◌≡◌, sym, ap, ℕ, List, Some, None, Ok, Err}
 use Rattle.std.specs.Result.{result_ok}
 use Rattle.neli_wire.specs.DeError.{DeError}
 use Rattle.neli_wire.specs.Strings.{owned_text}

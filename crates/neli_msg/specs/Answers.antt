@@ -15,7 +15,7 @@ use Rattle.neli_attr.specs.Attributes.{Attr, attributes_in}
 use Rattle.neli_attr.specs.TypeField.{type_of as field_of}
 use Rattle.neli_attr.specs.AttrType.{AttrType}
 use Rattle.neli_attr.specs.declared.nlattr.Nlattr.{Nlattr}
-use Rattle.neli_msg.specs.declared.echo.NlmsghdrErr.{NlmsghdrErr}
+use Rattle.neli_msg.specs.Framed.{NlmsghdrErr}
 use Rattle.neli_msg.specs.declared.answer.Nlmsgerr.{Nlmsgerr}
 use Rattle.neli_msg.specs.declared.answer.Tail.{Tail}
 use Rattle.neli_msg.specs.declared.answer.Tail.TheVariants.{Unread, Attributes as Listed}
@@ -74,7 +74,7 @@ after_echo s = drop (echo_end s) s
 
 -- the echoed message with this payload
 abbrev pub echo_with : {K V : Type 0} → (ℕ → K) → List ℕ → V → NlmsghdrErr K V
-echo_with type_of s v = record { header = header_in type_of (drop 4 s); payload = v }
+echo_with type_of s v = record { header = header_in type_of (drop 4 s); payload = record { 0 = v } }
 
 -- ---- answers
 
@@ -129,7 +129,7 @@ failure_takes_memory takes s = IsOkAnd (echoed_in s) (λ body. takes body ⊎ (0
 
 -- the echoed message, over what is seen of its payload
 abbrev pub echo_view : {K P V : Type 0} → (P → V) → NlmsghdrErr K P → NlmsghdrErr K V
-echo_view view m = record { header = m.header; payload = view m.payload }
+echo_view view m = record { header = m.header; payload = record { 0 = view m.payload.0 } }
 
 -- the error, over what is seen of that payload
 abbrev pub failure_view : {K P V : Type 0} → (P → V) → Nlmsgerr (NlmsghdrErr K P) → Nlmsgerr (NlmsghdrErr K V)

@@ -6,11 +6,11 @@ use Rattle.neli_attr.specs.Builders.Fault.{Invalid}
 use Rattle.neli_consts.specs.declared.nlm_f.NlmF.{NlmF}
 use Rattle.neli_msg.specs.declared.answer.Nlmsgerr.{Nlmsgerr}
 use Rattle.neli_msg.specs.declared.answer.NlmsgerrBuilder.{NlmsgerrBuilder}
-use Rattle.neli_msg.specs.declared.echo.NlmsghdrErr.{NlmsghdrErr}
-use Rattle.neli_msg.specs.declared.echo.NlmsghdrErrBuilder.{NlmsghdrErrBuilder}
+use Rattle.neli_msg.specs.declared.echo.Echoed.{Echoed}
+use Rattle.neli_msg.specs.declared.framed.FramedBuilder.{FramedBuilder}
 use Rattle.neli_msg.specs.declared.header.NlmsghdrAckBuilder.{NlmsghdrAckBuilder}
-use Rattle.neli_msg.specs.declared.message.Nlmsghdr.{Nlmsghdr}
-use Rattle.neli_msg.specs.declared.message.NlmsghdrBuilder.{NlmsghdrBuilder}
+use Rattle.neli_msg.specs.Framed.{Nlmsghdr, NlmsghdrErr}
+use Rattle.neli_msg.specs.declared.payload.NlPayload.{NlPayload}
 use Rattle.neli_msg.specs.Answers.{answer}
 use Rattle.neli_msg.specs.Headers.{Header, flags_of}
 use Rattle.neli_msg.specs.Wires.{payload_size}
@@ -36,14 +36,14 @@ own_length n = if nat_lt 4294967295 (align (16 + n)) then Err (Invalid (codes "L
     else Ok (align (16 + n))
 
 -- an echoed message; without more its flags, sequence number and port are 0
-abbrev pub built_echo : {T P : Type 0} → (P → ℕ) → NlmsghdrErrBuilder T P → Outcome (NlmsghdrErr T P)
+abbrev pub built_echo : {T P : Type 0} → (P → ℕ) → FramedBuilder T (Echoed P) → Outcome (NlmsghdrErr T P)
 built_echo size b =
-    require_field (codes "nl_type") b.nl_type (λ message_type.
-    require_field (codes "nl_payload") b.nl_payload (λ payload.
-    own_length (size payload) >>> λ len.
+    require_field (codes "nl_type") b.header.nl_type (λ message_type.
+    require_field (codes "nl_payload") b.payload (λ payload.
+    own_length (size payload.0) >>> λ len.
     Ok (record {
-      header = header_with len message_type (unwrap_or b.nl_flags (flags_of 0)) (unwrap_or b.nl_seq 0)
-          (unwrap_or b.nl_pid 0);
+      header = header_with len message_type (unwrap_or b.header.nl_flags (flags_of 0)) (unwrap_or b.header.nl_seq 0)
+          (unwrap_or b.header.nl_pid 0);
       payload = payload;
     })))
 
@@ -54,13 +54,13 @@ built_answer b =
     (answer (unwrap_or b.error (pos 0)) answered (unwrap_or b.ext_ack [])))
 
 -- a message; without more its sequence number and port are 0
-abbrev pub built_message : {T P : Type 0} → (P → ℕ) → NlmsghdrBuilder T P → Outcome (Nlmsghdr T P)
+abbrev pub built_message : {T P : Type 0} → (P → ℕ) → FramedBuilder T (NlPayload T P) → Outcome (Nlmsghdr T P)
 built_message size b =
-    require_field (codes "nl_type") b.nl_type (λ message_type.
-    require_field (codes "nl_flags") b.nl_flags (λ flags.
-    require_field (codes "nl_payload") b.nl_payload (λ payload.
+    require_field (codes "nl_type") b.header.nl_type (λ message_type.
+    require_field (codes "nl_flags") b.header.nl_flags (λ flags.
+    require_field (codes "nl_payload") b.payload (λ payload.
     own_length (payload_size size payload) >>> λ len.
     Ok (record {
-      header = header_with len message_type flags (unwrap_or b.nl_seq 0) (unwrap_or b.nl_pid 0);
+      header = header_with len message_type flags (unwrap_or b.header.nl_seq 0) (unwrap_or b.header.nl_pid 0);
       payload = payload;
     }))))

@@ -1,6 +1,7 @@
 pub mod Answers
 pub mod Builders
 pub mod Explained
+pub mod Framed
 pub mod Headers
 pub mod Kinds
 pub mod laws

@@ -2,7 +2,7 @@
 use Rattle.std.specs.Prelude.{ℕ, List, Result}
 use Rattle.neli_wire.specs.DeError.{DeError}
 use Rattle.neli_wire.specs.Frames.{Layout}
-use Rattle.neli_msg.specs.declared.message.Nlmsghdr.{Nlmsghdr}
+use Rattle.neli_msg.specs.Framed.{Nlmsghdr}
 use Rattle.neli_msg.specs.declared.payload.NlPayload.{NlPayload}
 use Rattle.neli_msg.specs.Headers.{Header, header_in}
 use Rattle.neli_msg.specs.Kinds.{payload_in, payload_takes_memory, payload_view}
@@ -19,10 +19,6 @@ layout_with type_of payload_of = record {
   length_of = λ h. h.len;
   payload_of = payload_of;
 }
-
--- an echoed message by itself: its payload is a body
-abbrev pub echo_layout : {K V : Type 0} → (ℕ → K) → (List ℕ → Result V DeError) → Layout (Header K) V
-echo_layout type_of read = layout_with type_of (λ _. read)
 
 -- a message: its type and flags say what its payload is
 abbrev pub message_layout : {K V : Type 0} → (ℕ → K) → (K → ℕ) → (List ℕ → Result V DeError)

@@ -6,8 +6,7 @@ use Rattle.neli_wire.specs.DeError.TheVariants.{InvalidInput}
 use Rattle.neli_wire.specs.Reading.{◌>>=◌}
 use Rattle.neli_wire.specs.Sizes.{align}
 use Rattle.neli_msg.specs.declared.answer.Nlmsgerr.{Nlmsgerr}
-use Rattle.neli_msg.specs.declared.echo.NlmsghdrErr.{NlmsghdrErr}
-use Rattle.neli_msg.specs.declared.message.Nlmsghdr.{Nlmsghdr}
+use Rattle.neli_msg.specs.Framed.{Nlmsghdr, NlmsghdrErr}
 use Rattle.neli_msg.specs.declared.payload.NlPayload.{NlPayload}
 use Rattle.neli_msg.specs.declared.payload.NlPayload.TheVariants as payload
 use Rattle.neli_msg.specs.declared.router_error.RouterError.{RouterError}
@@ -40,7 +39,8 @@ first_as read n bytes = if nat_lt (length bytes) n then Err (InvalidInput n) els
 module _ {K V : Type 0} (type_of : ℕ → K) (read : List ℕ → Result V DeError) where
   -- an echoed message: its payload's bytes are read as a body
   abbrev pub typed_echo : NlmsghdrErr ℕ (List ℕ) → Result (NlmsghdrErr K V) DeError
-  typed_echo m = read m.payload >>= λ v. Ok (record { header = typed_header type_of m.header; payload = v })
+  typed_echo m =
+      read m.payload.0 >>= λ v. Ok (record { header = typed_header type_of m.header; payload = record { 0 = v } })
 
   -- an error: its code and its attributes stay
   abbrev pub typed_failure : Nlmsgerr (NlmsghdrErr ℕ (List ℕ)) → Result (Nlmsgerr (NlmsghdrErr K V)) DeError
@@ -67,7 +67,7 @@ module _ {K V : Type 0} (type_of : ℕ → K) (read : List ℕ → Result V DeEr
 -- the bytes that a payload has for a body are read as one; other payloads have none
 abbrev pub IsRead : {V : Type 0} → (List ℕ → Result V DeError) → NlPayload ℕ (List ℕ) → Type 0
 IsRead read (payload.Payload bytes) = IsOk (read bytes)
-IsRead read (payload.Err e) = IsOk (read e.nlmsg.payload)
+IsRead read (payload.Err e) = IsOk (read e.nlmsg.payload.0)
 IsRead read p = Unit {0}
 
 -- how many bytes a body has
@@ -89,7 +89,7 @@ with_len h len = record {
 
 -- what is seen of an echoed message, if it stated this length
 abbrev pub echo_stating : {K P V : Type 0} → ℕ → (P → V) → NlmsghdrErr K P → NlmsghdrErr K V
-echo_stating len view m = record { header = with_len m.header len; payload = view m.payload }
+echo_stating len view m = record { header = with_len m.header len; payload = record { 0 = view m.payload.0 } }
 
 -- the same of an error
 abbrev pub failure_stating : {K P V : Type 0} → ℕ → (P → V) → Nlmsgerr (NlmsghdrErr K P) → Nlmsgerr (NlmsghdrErr K V)
@@ -111,7 +111,7 @@ stated_echo p = 0
 
 -- an echoed message states the length of its own header and payload, rounded up to four
 abbrev pub HasOwnLength : {K P : Type 0} → (P → ℕ) → NlmsghdrErr K P → Type 0
-HasOwnLength size m = m.header.len ≡ align (16 + size m.payload)
+HasOwnLength size m = m.header.len ≡ align (16 + size m.payload.0)
 
 -- the same where a payload echoes a message
 abbrev pub HasOwnEcho : {K P : Type 0} → (P → ℕ) → NlPayload K P → Type 0
@@ -134,7 +134,7 @@ module _ {P V : Type 0} (view : P → V) (size : P → ℕ) (read : List ℕ →
 
   -- the same of the bytes that a payload echoes
   abbrev pub IsEchoTooLong : NlPayload ℕ (List ℕ) → Type 0
-  IsEchoTooLong (payload.Err e) = IsTooLong e.nlmsg.payload
+  IsEchoTooLong (payload.Err e) = IsTooLong e.nlmsg.payload.0
   IsEchoTooLong p = ⊥
 
   -- the echoed message is too long, or the typed payload makes the message so
@@ -180,7 +180,7 @@ module _ {K P V : Type 0} (type_of : ℕ → K) (view : P → V) (size : P → �
   -- why is why the untyped error can't be typed: its message can't; or memory ran out where there is something to copy
   abbrev pub RefusesTypingError : RouterError ℕ (List ℕ) → RouterError K P → Type 0
   RefusesTypingError (router.Nlmsgerr e) why =
-      RefusesTyping (typed_failure type_of read e) (IsTooLong view size read e.nlmsg.payload) why
+      RefusesTyping (typed_failure type_of read e) (IsTooLong view size read e.nlmsg.payload.0) why
   RefusesTypingError (router.BadSeqOrPid u) why = RefusesTypingMessage u why
   RefusesTypingError (router.Capped e) why = why ≡ router.Memory
   RefusesTypingError (router.Msg text) why = why ≡ router.Memory

@@ -7,8 +7,8 @@ use Rattle.neli_wire.specs.Writing.{Wire, ◌+++◌, pad_wire, wire_all}
 use Rattle.neli_consts.specs.NlmsgerrAttr.{nlmsgerr_attr_number}
 use Rattle.neli_attr.specs.Nlattr.{nlattr_wire}
 use Rattle.neli_msg.specs.declared.answer.Nlmsgerr.{Nlmsgerr}
-use Rattle.neli_msg.specs.declared.echo.NlmsghdrErr.{NlmsghdrErr}
-use Rattle.neli_msg.specs.declared.message.Nlmsghdr.{Nlmsghdr}
+use Rattle.neli_msg.specs.declared.framed.Framed.{Framed}
+use Rattle.neli_msg.specs.Framed.{Nlmsghdr, NlmsghdrErr}
 use Rattle.neli_msg.specs.declared.payload.NlPayload.{NlPayload}
 use Rattle.neli_msg.specs.declared.payload.NlPayload.TheVariants as payload
 use Rattle.neli_msg.specs.Answers.{Attributes}
@@ -24,10 +24,14 @@ attributes_wire = wire_all (nlattr_wire nlmsgerr_attr_number (λ bytes. Ok bytes
 abbrev pub answer_wire : {M : Type 0} → (M → Wire) → Nlmsgerr M → Wire
 answer_wire wire e = (Ok (signed_bytes w32 4 e.error) +++ wire e.nlmsg) +++ attributes_wire e.ext_ack
 
+-- the bytes of a header and of what it carries, with zeros up to a multiple of four
+abbrev pub framed_wire : {K X : Type 0} → (K → ℕ) → (X → Wire) → Framed K X → Wire
+framed_wire number_of wire m = pad_wire (header_wire number_of m.header +++ wire m.payload)
+
 module _ {K P : Type 0} (number_of : K → ℕ) (wire : P → Wire) where
-  -- the bytes of an echoed message, with zeros up to a multiple of four
+  -- the bytes of an echoed message
   abbrev pub echo_wire : NlmsghdrErr K P → Wire
-  echo_wire m = pad_wire (header_wire number_of m.header +++ wire m.payload)
+  echo_wire = framed_wire number_of (λ x. wire x.0)
 
   -- the bytes of a payload
   abbrev pub payload_wire : NlPayload K P → Wire
@@ -38,9 +42,9 @@ module _ {K P : Type 0} (number_of : K → ℕ) (wire : P → Wire) where
   payload_wire (payload.Payload p) = wire p
   payload_wire payload.Empty = Ok []
 
-  -- the bytes of a message, with zeros up to a multiple of four
+  -- the bytes of a message
   abbrev pub message_wire : Nlmsghdr K P → Wire
-  message_wire m = pad_wire (header_wire number_of m.header +++ payload_wire m.payload)
+  message_wire = framed_wire number_of payload_wire
 
 -- ---- how many bytes that makes
 
@@ -52,10 +56,14 @@ attributes_size = sum_by (λ a. align (4 + length a.nla_payload))
 abbrev pub answer_size : {M : Type 0} → (M → ℕ) → Nlmsgerr M → ℕ
 answer_size size e = 4 + size e.nlmsg + attributes_size e.ext_ack
 
+-- the size of a header and of what it carries, without their padding
+abbrev pub framed_size : {K X : Type 0} → (X → ℕ) → Framed K X → ℕ
+framed_size size m = 16 + size m.payload
+
 module _ {K P : Type 0} (size : P → ℕ) where
   -- the size of an echoed message without its padding
   abbrev pub echo_size : NlmsghdrErr K P → ℕ
-  echo_size m = 16 + size m.payload
+  echo_size = framed_size (λ x. size x.0)
 
   -- the size of a payload
   abbrev pub payload_size : NlPayload K P → ℕ
@@ -68,4 +76,4 @@ module _ {K P : Type 0} (size : P → ℕ) where
 
   -- the size of a message without its padding
   abbrev pub message_size : Nlmsghdr K P → ℕ
-  message_size m = 16 + payload_size m.payload
+  message_size = framed_size payload_size

@@ -19,8 +19,9 @@ ghost use Rattle.neli_msg.specs.laws.Answers.{dump_end_in-never_short, dump_end_
 ghost use Rattle.neli_msg.specs.laws.Answers.{failure_in-never_short, failure_in-no_memory};
 
 use crate::frame::{from_place, read_attributes, write_three};
+use crate::framed::Framed;
 use crate::header::header_of;
-use crate::{NlmsghdrAck, NlmsghdrErr, RouterError};
+use crate::{Echoed, NlmsghdrAck, NlmsghdrErr, RouterError};
 use byteorder::{ByteOrder, LittleEndian};
 use neli_attr::{Buffer, BuildError, GenlBuffer, of};
 use neli_consts::{MESSAGE_HEADER_SIZE, NlType, NlmsgerrAttr};
@@ -197,10 +198,10 @@ pub(crate) fn read_failure<T: Constant<Number = u16>, P: FromBytesWithInput>(
 {
     after(bytes, ANSWER_SIZE)?;
     let body = echoed(bytes)?;
-    let payload = read_whole(alloc, body)?;
+    let payload = Echoed(read_whole(alloc, body)?);
     let ext_ack = read_attributes(alloc, after_echo(bytes))?;
     let header = header_of(&bytes[4..]);
-    Ok(answer_of(bytes, NlmsghdrErr { header, payload }, ext_ack))
+    Ok(answer_of(bytes, Framed { header, payload }, ext_ack))
 }
 
 impl FromBytesWithInput for Nlmsgerr<()> {
@@ -259,7 +260,7 @@ impl<T: NlType> FromBytesWithInput for Nlmsgerr<NlmsghdrAck<T>> {
 }
 
 impl<T: NlType, P: FromBytesWithInput> FromBytesWithInput for Nlmsgerr<NlmsghdrErr<T, P>> {
-    ghost use Rattle.neli_msg.specs.declared.echo.NlmsghdrErr.{NlmsghdrErr as Echo};
+    ghost use Rattle.neli_msg.specs.Framed.{NlmsghdrErr as Echo};
     ghost use Rattle.neli_msg.specs.declared.answer.Nlmsgerr.{Nlmsgerr as Answer};
 
     ghost Value = { Answer (Echo T P.Value) };
@@ -452,7 +453,7 @@ impl Nlmsgerr<NlmsghdrErr<u16, Buffer>> {
             ≡ Ok (failure_stating self.now.nlmsg.header.len P.view e)) }
         ensures length { IfOk result (λ e. HasOwnLength P.wire_length e.nlmsg) }
         ensures refused { IfErr result (RefusesTyping (typed_failure T.wire_value P.read self.now)
-            (IsTooLong P.view P.wire_length P.read self.now.nlmsg.payload)) }
+            (IsTooLong P.view P.wire_length P.read self.now.nlmsg.payload.0)) }
     {
         let typed = self.nlmsg.to_typed(alloc)?;
         let ext_ack = self.ext_ack.try_clone()?;

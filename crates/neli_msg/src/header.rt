@@ -183,11 +183,11 @@ pub type NlmsghdrAckBuilderError = BuildError<{ of::NLMSGHDR_ACK }>;
 /// A builder of headers. Each field has to be given.
 #[derive(Debug, Drop)]
 pub struct NlmsghdrAckBuilder<T> {
-    nl_len: Option<u32>,
-    nl_type: Option<T>,
-    nl_flags: Option<NlmF>,
-    nl_seq: Option<u32>,
-    nl_pid: Option<u32>,
+    pub(crate) nl_len: Option<u32>,
+    pub(crate) nl_type: Option<T>,
+    pub(crate) nl_flags: Option<NlmF>,
+    pub(crate) nl_seq: Option<u32>,
+    pub(crate) nl_pid: Option<u32>,
 }
 
 impl<T> Default for NlmsghdrAckBuilder<T> {

@@ -5,6 +5,7 @@
 //! - [`Nlmsgerr`]: an answer, which is a code, what it answers, and attributes.
 //! - [`Explained`]: an answer as a person reads it.
 //! - [`NlPayload`]: the payload of a message, by its kind.
+//! - [`Framed`]: a header and what it carries, which all messages are.
 //!
 //! `specs/Kinds.antt` says on one page which kind a payload is and what its bytes say.
 #![tactic(auto)]
@@ -13,6 +14,7 @@ mod answer;
 mod echo;
 mod explained;
 mod frame;
+mod framed;
 mod header;
 mod message;
 mod payload;
@@ -20,8 +22,9 @@ mod router_error;
 mod socket_error;
 
 pub use answer::{Nlmsgerr, NlmsgerrBuilder, NlmsgerrBuilderError};
-pub use echo::{NlmsghdrErr, NlmsghdrErrBuilder, NlmsghdrErrBuilderError};
+pub use echo::{Echoed, NlmsghdrErr, NlmsghdrErrBuilder, NlmsghdrErrBuilderError};
 pub use explained::Explained;
+pub use framed::{Carried, Framed, FramedBuilder};
 pub use header::{NlmsghdrAck, NlmsghdrAckBuilder, NlmsghdrAckBuilderError};
 pub use message::{Nlmsghdr, NlmsghdrBuilder, NlmsghdrBuilderError};
 pub use payload::NlPayload;

@@ -15,9 +15,8 @@ use Rattle.neli_attr.specs.laws.Equality.{both-apart, bytes-equality, from-parts
 use Rattle.neli_msg.specs.Answers.{Attributes}
 use Rattle.neli_msg.specs.Headers.{Header}
 use Rattle.neli_msg.specs.declared.answer.Nlmsgerr.{Nlmsgerr}
-use Rattle.neli_msg.specs.declared.echo.NlmsghdrErr.{NlmsghdrErr}
-use Rattle.neli_msg.specs.declared.message.Nlmsghdr.{Nlmsghdr}
-use Rattle.neli_msg.specs.declared.payload.NlPayload.{NlPayload}
+use Rattle.neli_msg.specs.declared.echo.Echoed.{Echoed}
+use Rattle.neli_msg.specs.declared.framed.Framed.{Framed}
 
 -- ---- answers
 
@@ -67,25 +66,19 @@ module _ {K : Type 0} {same : K → K → Bool} (h : IsEquality same) where
   pub header-equality : IsEquality header_eq
   header-equality = from-parts header-apart header-same
 
-pub echo-equality : {K P : Type 0} {p : Header K → Header K → Bool} {q : P → P → Bool} → IsEquality p → IsEquality q
-    → IsEquality {T = NlmsghdrErr K P} (λ a b. p a.header b.header && q a.payload b.payload)
-echo-equality {K} {P} {p} {q} h k = from-parts apart (λ a. both_true ((h a.header a.header).1 refl)
-    ((k a.payload a.payload).1 refl))
-  where
-    apart : (a b : NlmsghdrErr K P) → (p a.header b.header && q a.payload b.payload) ≡ true → a ≡ b
-    apart a b e =
-        let both = both-apart h k (λ (m : NlmsghdrErr K P). m.header) (λ m. m.payload) a b e in
-        λ i. record { header = both.0 i; payload = both.1 i }
-
-pub message-equality : {K P : Type 0} {p : Header K → Header K → Bool} {q : NlPayload K P → NlPayload K P → Bool}
-    → IsEquality p → IsEquality q → IsEquality {T = Nlmsghdr K P} (λ a b. p a.header b.header && q a.payload b.payload)
-message-equality {K} {P} {p} {q} h k = from-parts apart
+pub framed-equality : {K X : Type 0} {p : Header K → Header K → Bool} {q : X → X → Bool} → IsEquality p → IsEquality q
+    → IsEquality {T = Framed K X} (λ a b. p a.header b.header && q a.payload b.payload)
+framed-equality {K} {X} {p} {q} h k = from-parts apart
     (λ a. both_true ((h a.header a.header).1 refl) ((k a.payload a.payload).1 refl))
   where
-    apart : (a b : Nlmsghdr K P) → (p a.header b.header && q a.payload b.payload) ≡ true → a ≡ b
+    apart : (a b : Framed K X) → (p a.header b.header && q a.payload b.payload) ≡ true → a ≡ b
     apart a b e =
-        let both = both-apart h k (λ (m : Nlmsghdr K P). m.header) (λ m. m.payload) a b e in
+        let both = both-apart h k (λ (m : Framed K X). m.header) (λ m. m.payload) a b e in
         λ i. record { header = both.0 i; payload = both.1 i }
+
+pub echoed-equality : {P : Type 0} {q : P → P → Bool} → IsEquality q
+    → IsEquality {T = Echoed P} (λ a b. q a.0 b.0)
+echoed-equality {P} {q} k = from-parts (λ a b e i. record { 0 = (k a.0 b.0).0 e i }) (λ a. (k a.0 a.0).1 refl)
 
 -- ---- enums
 

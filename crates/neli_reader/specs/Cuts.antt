@@ -5,7 +5,7 @@ use Rattle.neli_wire.specs.Bytes.{Reading}
 use Rattle.neli_wire.specs.Frames.{Layout, AreFrames, frame_at}
 use Rattle.neli_msg.specs.declared.socket_error.SocketError.{SocketError}
 use Rattle.neli_msg.specs.declared.socket_error.SocketError.TheVariants.{De, Memory}
-use Rattle.neli_msg.specs.declared.message.Nlmsghdr.{Nlmsghdr}
+use Rattle.neli_msg.specs.Framed.{Nlmsghdr}
 use Rattle.neli_msg.specs.Messages.{Message, message_of}
 
 -- nothing is left, or what is left has this fault

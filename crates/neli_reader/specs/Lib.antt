@@ -1,12 +1,11 @@
 pub use Rattle.neli_msg.specs.declared.answer.Nlmsgerr
-pub use Rattle.neli_msg.specs.declared.echo.NlmsghdrErr
 pub use Rattle.neli_msg.specs.declared.header.NlmsghdrAck
-pub use Rattle.neli_msg.specs.declared.message.Nlmsghdr
 pub use Rattle.neli_msg.specs.declared.payload.NlPayload
 pub use Rattle.neli_msg.specs.declared.router_error.RouterError
 pub use Rattle.neli_msg.specs.declared.socket_error.SocketError
 pub use Rattle.neli_msg.specs.Answers
 pub use Rattle.neli_msg.specs.Builders
+pub use Rattle.neli_msg.specs.Framed
 pub use Rattle.neli_msg.specs.Headers
 pub use Rattle.neli_msg.specs.Kinds
 pub use Rattle.neli_msg.specs.Messages

@@ -13,7 +13,7 @@ use Rattle.neli_attr.specs.Nlattr.{nlattr_says}
 use Rattle.neli_genl.specs.Genlmsghdr.{AttributesRead}
 use Rattle.neli_genl.specs.declared.genlmsghdr.Genlmsghdr.{Genlmsghdr}
 use Rattle.neli_genl.specs.declared.no_user_header.NoUserHeader.{NoUserHeader}
-use Rattle.neli_reader.specs.Nlmsghdr.{Nlmsghdr}
+use Rattle.neli_reader.specs.Framed.{Nlmsghdr}
 use Rattle.neli_reader.specs.Retyping.{body_of}
 use Rattle.neli_reader.specs.RouterError.{RouterError}
 use Rattle.neli_reader.specs.RouterError.TheVariants as router

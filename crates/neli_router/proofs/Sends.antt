@@ -1,5 +1,5 @@
 -- Requests that are refused.
-use Rattle.std.proofs.Common.{◌≡◌, ℕ, Bool, true, false, Ok, Err, Result, Some, refl, sym, ap, subst}
+use Rattle.std.proofs.Common.{◌≡◌, ℕ, Bool, true, false, Ok, Err, Result, None, Some, refl, sym, ap, subst}
 use Rattle.std.specs.Prelude.{IfErr, IsErrAnd, codes, if◌then◌else◌, nat_lt}
 use Rattle.neli_wire.specs.Refusals.{IsRefusal, ser_ran_out}
 use Rattle.neli_wire.specs.SerError.{SerError}
@@ -9,7 +9,7 @@ use Rattle.neli_attr.specs.Builders.{Outcome, ◌>>>◌}
 use Rattle.neli_attr.specs.Builders.Fault.{Invalid}
 use Rattle.neli_consts.specs.declared.nlm_f.NlmF.{NlmF}
 use Rattle.neli_reader.specs.Builders.{built_message, header_with}
-use Rattle.neli_reader.specs.Nlmsghdr.{Nlmsghdr}
+use Rattle.neli_reader.specs.Framed.{Nlmsghdr}
 use Rattle.neli_reader.specs.NlPayload.{NlPayload}
 use Rattle.neli_reader.specs.RouterError.{RouterError}
 use Rattle.neli_reader.specs.RouterError.TheVariants as router
@@ -50,11 +50,14 @@ module _ {T P : Type 0} (number_of : T → ℕ) (wire : P → Wire) (size : P �
 
     -- why a built request is not sent
     pub refused-request : built_message size (record {
-      nl_type = Some t;
-      nl_flags = Some (with_request f);
-      nl_seq = Some number;
-      nl_pid = Some port;
-      nl_payload = Some p;
+      header = record {
+        nl_len = None;
+        nl_type = Some t;
+        nl_flags = Some (with_request f);
+        nl_seq = Some number;
+        nl_pid = Some port;
+      };
+      payload = Some p;
     }) ≡ Ok m
         → IsRefusal ser_ran_out (message_wire number_of wire m) room e
         → RefusesSend {T = T} {P = P} (frame_or_refusal number_of wire size port number false t f p)

@@ -12,7 +12,7 @@ use Rattle.neli_wire.specs.laws.Lists.{both_written}
 use Rattle.neli_wire.specs.laws.Numbers.{count-unsigned}
 use Rattle.neli_reader.specs.Cuts.{Cut}
 use Rattle.neli_reader.specs.Headers.{Header, header_wire}
-use Rattle.neli_reader.specs.Nlmsghdr.{Nlmsghdr}
+use Rattle.neli_reader.specs.Framed.{Nlmsghdr}
 use Rattle.neli_reader.specs.Wires.{message_wire, payload_size, payload_wire}
 use Rattle.neli_reader.specs.laws.Cuts.{cut_of-end, cut_of-message}
 use Rattle.neli_reader.specs.laws.Headers.{header_wire-length}

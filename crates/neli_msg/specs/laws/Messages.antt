@@ -6,8 +6,7 @@ use Rattle.neli_wire.specs.Frames.{frame_at}
 use Rattle.neli_wire.specs.laws.Frames.{IsPlaced, number_in-take, frame_at-local, frame_at-no_memory}
 use Rattle.neli_wire.specs.Reading.{IsLocal}
 use Rattle.neli_msg.specs.Headers.{Header}
-use Rattle.neli_msg.specs.Messages.{layout_with, message_layout}
-use Rattle.neli_msg.specs.laws.Kinds.{payload_in-no_memory}
+use Rattle.neli_msg.specs.Messages.{layout_with}
 
 -- the header is in the first 16 bytes
 pub layout_with-placed : {K V : Type 0} (type_of : ℕ → K) (payload_of : Header K → List ℕ → Result V DeError)
@@ -32,9 +31,3 @@ pub layout_with-no_memory : {K V : Type 0} (type_of : ℕ → K) (payload_of : H
     → ((h : Header K) (s : List ℕ) → payload_of h s ≢ Err Memory) → (s : List ℕ)
     → frame_at (layout_with type_of payload_of) s ≢ Err Memory
 layout_with-no_memory type_of payload_of none = frame_at-no_memory (layout_with type_of payload_of) none
-
-pub message-no_memory : {K V : Type 0} (type_of : ℕ → K) (number_of : K → ℕ) (read : List ℕ → Result V DeError)
-    → ((s : List ℕ) → read s ≢ Err Memory) → (s : List ℕ)
-    → frame_at (message_layout type_of number_of read) s ≢ Err Memory
-message-no_memory type_of number_of read bodies = layout_with-no_memory type_of _
-    (λ h. payload_in-no_memory type_of read bodies (number_of h.message_type) h.flags)

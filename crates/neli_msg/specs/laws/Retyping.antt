@@ -19,7 +19,7 @@ use Rattle.neli_msg.specs.declared.answer.Tail.{Tail}
 use Rattle.neli_msg.specs.declared.payload.NlPayload.{NlPayload}
 use Rattle.neli_msg.specs.declared.payload.NlPayload.TheVariants as payload
 use Rattle.neli_msg.specs.declared.answer.Nlmsgerr.{Nlmsgerr}
-use Rattle.neli_msg.specs.declared.echo.NlmsghdrErr.{NlmsghdrErr}
+use Rattle.neli_msg.specs.Framed.{NlmsghdrErr}
 use Rattle.neli_msg.specs.Answers.{Attributes, after, after_echo, answer, ext_ack_in, code_in}
 use Rattle.neli_msg.specs.Answers.{dump_end_in, echo_with, echoed_in, failure_in, headed_in, tail_in}
 use Rattle.neli_msg.specs.Headers.{Header, header_in, flags_of}
@@ -247,9 +247,9 @@ module _ {K V : Type 0} (type_of : ℕ → K) (read : List ℕ → Result V DeEr
   typed_payload-ok : (u : NlPayload ℕ (List ℕ)) → IsOk (typed_payload type_of read u) ↔ IsRead read u
   typed_payload-ok (payload.Payload bytes) = ok-map (read bytes) (λ v. payload.Payload v)
   typed_payload-ok (payload.Err e) =
-      let inner = ok-map (read e.nlmsg.payload) (λ v. record {
+      let inner = ok-map (read e.nlmsg.payload.0) (λ v. record {
         header = typed_header type_of e.nlmsg.header;
-        payload = v;
+        payload = record { 0 = v };
       }) in
       let one = ok-map (typed_echo type_of read e.nlmsg) (λ m. answer e.error m e.ext_ack) in
       let two = ok-map (typed_failure type_of read e) (λ f. payload.Err f) in

@@ -14,15 +14,16 @@ use Rattle.neli_wire.specs.laws.Writing.{own-length, written-length, written-no_
 use Rattle.neli_consts.specs.NlmsgerrAttr.{nlmsgerr_attr_number}
 use Rattle.neli_attr.specs.laws.Nlattr.{nlattr_wire-length, nlattr_wire-no_memory}
 use Rattle.neli_msg.specs.declared.answer.Nlmsgerr.{Nlmsgerr}
-use Rattle.neli_msg.specs.declared.echo.NlmsghdrErr.{NlmsghdrErr}
-use Rattle.neli_msg.specs.declared.message.Nlmsghdr.{Nlmsghdr}
+use Rattle.neli_msg.specs.declared.echo.Echoed.{Echoed}
+use Rattle.neli_msg.specs.declared.framed.Framed.{Framed}
+use Rattle.neli_msg.specs.Framed.{Nlmsghdr}
 use Rattle.neli_msg.specs.declared.payload.NlPayload.{NlPayload}
 use Rattle.neli_msg.specs.declared.payload.NlPayload.TheVariants as payload
 use Rattle.neli_msg.specs.Answers.{Attributes}
 use Rattle.neli_msg.specs.Headers.{header_wire}
 use Rattle.neli_msg.specs.laws.Headers.{header_wire-length, header_wire-no_memory}
-use Rattle.neli_msg.specs.Wires.{attributes_size, attributes_wire, answer_wire, answer_size, echo_wire}
-use Rattle.neli_msg.specs.Wires.{echo_size, payload_wire, payload_size, message_wire, message_size}
+use Rattle.neli_msg.specs.Wires.{attributes_size, attributes_wire, answer_wire, answer_size, echo_size, echo_wire}
+use Rattle.neli_msg.specs.Wires.{framed_size, framed_wire, payload_wire, payload_size, message_wire, message_size}
 
 -- ---- two parts, and their padding
 
@@ -89,25 +90,34 @@ module _ {M : Type 0} (wire : M → Wire) where
       (none e.nlmsg))
       (attributes_wire-no_memory e.ext_ack)
 
--- ---- echoed messages, payloads and messages
+-- ---- a header and what it carries
+
+module _ {K X : Type 0} (number_of : K → ℕ) (wire : X → Wire) where
+  module _ (size : X → ℕ) (sized : (x : X) (bytes : List ℕ) → wire x ≡ Ok bytes → length bytes ≡ size x) where
+    framed-length : (m : Framed K X) (bytes : List ℕ) → header_wire number_of m.header +++ wire m.payload ≡ Ok bytes
+        → length bytes ≡ framed_size size m
+    framed-length m = both-length (header_wire number_of m.header) (wire m.payload) 16 (size m.payload)
+        (header_wire-length number_of m.header) (sized m.payload)
+
+    pub framed_wire-length : (m : Framed K X) (bytes : List ℕ) → framed_wire number_of wire m ≡ Ok bytes
+        → length bytes ≡ align (framed_size size m)
+    framed_wire-length m = padded-length (header_wire number_of m.header +++ wire m.payload) (framed_size size m)
+        (framed-length m)
+
+    pub framed_wire-zeros : (m : Framed K X) (bytes : List ℕ) → framed_wire number_of wire m ≡ Ok bytes
+        → EndsInZeros (framed_size size m) bytes
+    framed_wire-zeros m = padded-zeros (header_wire number_of m.header +++ wire m.payload) (framed_size size m)
+        (framed-length m)
+
+  pub framed_wire-no_memory : ((x : X) → wire x ≢ Err ser.Memory) → (m : Framed K X)
+      → framed_wire number_of wire m ≢ Err ser.Memory
+  framed_wire-no_memory none m = padded-no_memory _ (both-no_memory (header_wire number_of m.header) (wire m.payload)
+      (header_wire-no_memory number_of m.header) (none m.payload))
+
+-- ---- payloads and messages
 
 module _ {K P : Type 0} (number_of : K → ℕ) (wire : P → Wire) (size : P → ℕ) (sized : (p : P) (bytes : List ℕ)
     → wire p ≡ Ok bytes → length bytes ≡ size p) where
-  pub echo-length : (m : NlmsghdrErr K P) (bytes : List ℕ)
-      → header_wire number_of m.header +++ wire m.payload ≡ Ok bytes → length bytes ≡ echo_size size m
-  echo-length m = both-length (header_wire number_of m.header) (wire m.payload) 16 (size m.payload)
-      (header_wire-length number_of m.header) (sized m.payload)
-
-  pub echo_wire-length : (m : NlmsghdrErr K P) (bytes : List ℕ) → echo_wire number_of wire m ≡ Ok bytes
-      → length bytes ≡ align (echo_size size m)
-  echo_wire-length m = padded-length (header_wire number_of m.header +++ wire m.payload) (echo_size size m)
-      (echo-length m)
-
-  pub echo_wire-zeros : (m : NlmsghdrErr K P) (bytes : List ℕ) → echo_wire number_of wire m ≡ Ok bytes
-      → EndsInZeros (echo_size size m) bytes
-  echo_wire-zeros m = padded-zeros (header_wire number_of m.header +++ wire m.payload) (echo_size size m)
-      (echo-length m)
-
   pub payload_wire-length : (p : NlPayload K P) (bytes : List ℕ) → payload_wire number_of wire p ≡ Ok bytes
       → length bytes ≡ payload_size size p
   payload_wire-length (payload.Ack e) = answer_wire-length (header_wire number_of) (λ _. 16)
@@ -117,7 +127,8 @@ module _ {K P : Type 0} (number_of : K → ℕ) (wire : P → Wire) (size : P �
   payload_wire-length (payload.DumpExtAck e) = answer_wire-length (λ _. Ok []) (λ _. 0)
       (λ u bytes is. written-length [] bytes 0 refl is) e
   payload_wire-length (payload.Err e) = answer_wire-length (echo_wire number_of wire)
-      (λ m. align (echo_size size m)) echo_wire-length e
+      (λ m. align (echo_size size m))
+      (framed_wire-length number_of (λ (x : Echoed P). wire x.0) (λ x. size x.0) (λ x. sized x.0)) e
   payload_wire-length (payload.Payload p) = sized p
   payload_wire-length payload.Empty = λ bytes is. written-length [] bytes 0 refl is
 
@@ -125,38 +136,19 @@ module _ {K P : Type 0} (number_of : K → ℕ) (wire : P → Wire) (size : P �
       → EndsInZeros (payload_size size p) bytes
   payload_wire-zeros p bytes is = unpadded-zeros (payload_size size p) bytes (payload_wire-length p bytes is)
 
-  pub message-length : (m : Nlmsghdr K P) (bytes : List ℕ)
-      → header_wire number_of m.header +++ payload_wire number_of wire m.payload ≡ Ok bytes
-      → length bytes ≡ message_size size m
-  message-length m = both-length (header_wire number_of m.header) (payload_wire number_of wire m.payload) 16
-      (payload_size size m.payload) (header_wire-length number_of m.header) (payload_wire-length m.payload)
-
   pub message_wire-length : (m : Nlmsghdr K P) (bytes : List ℕ) → message_wire number_of wire m ≡ Ok bytes
       → length bytes ≡ align (message_size size m)
-  message_wire-length m = padded-length (header_wire number_of m.header +++ payload_wire number_of wire m.payload)
-      (message_size size m) (message-length m)
-
-  pub message_wire-zeros : (m : Nlmsghdr K P) (bytes : List ℕ) → message_wire number_of wire m ≡ Ok bytes
-      → EndsInZeros (message_size size m) bytes
-  message_wire-zeros m = padded-zeros (header_wire number_of m.header +++ payload_wire number_of wire m.payload)
-      (message_size size m) (message-length m)
+  message_wire-length = framed_wire-length number_of (payload_wire number_of wire) (payload_size size)
+      payload_wire-length
 
 module _ {K P : Type 0} (number_of : K → ℕ) (wire : P → Wire) (none : (p : P) → wire p ≢ Err ser.Memory) where
-  pub echo_wire-no_memory : (m : NlmsghdrErr K P) → echo_wire number_of wire m ≢ Err ser.Memory
-  echo_wire-no_memory m = padded-no_memory _ (both-no_memory (header_wire number_of m.header) (wire m.payload)
-      (header_wire-no_memory number_of m.header) (none m.payload))
-
   pub payload_wire-no_memory : (p : NlPayload K P) → payload_wire number_of wire p ≢ Err ser.Memory
   payload_wire-no_memory (payload.Ack e) = answer_wire-no_memory (header_wire number_of)
       (header_wire-no_memory number_of) e
   payload_wire-no_memory (payload.Capped e) = answer_wire-no_memory (header_wire number_of)
       (header_wire-no_memory number_of) e
   payload_wire-no_memory (payload.DumpExtAck e) = answer_wire-no_memory (λ _. Ok []) (λ u. written-no_memory []) e
-  payload_wire-no_memory (payload.Err e) = answer_wire-no_memory (echo_wire number_of wire) echo_wire-no_memory e
+  payload_wire-no_memory (payload.Err e) = answer_wire-no_memory (echo_wire number_of wire)
+      (framed_wire-no_memory number_of (λ (x : Echoed P). wire x.0) (λ x. none x.0)) e
   payload_wire-no_memory (payload.Payload p) = none p
   payload_wire-no_memory payload.Empty = written-no_memory []
-
-  pub message_wire-no_memory : (m : Nlmsghdr K P) → message_wire number_of wire m ≢ Err ser.Memory
-  message_wire-no_memory m = padded-no_memory _ (both-no_memory (header_wire number_of m.header)
-      (payload_wire number_of wire m.payload) (header_wire-no_memory number_of m.header)
-      (payload_wire-no_memory m.payload))

@@ -23,10 +23,9 @@ use Rattle.neli_attr.specs.AttrType.{AttrType}
 use Rattle.neli_attr.specs.TypeField.{type_of}
 use Rattle.neli_attr.specs.laws.Attributes.{attribute-placed}
 use Rattle.neli_msg.specs.declared.answer.Nlmsgerr.{Nlmsgerr}
-use Rattle.neli_msg.specs.declared.echo.NlmsghdrErr.{NlmsghdrErr}
+use Rattle.neli_msg.specs.Framed.{NlmsghdrErr}
 use Rattle.neli_msg.specs.declared.payload.Kind.{Kind}
 use Rattle.neli_msg.specs.declared.payload.Kind.TheVariants.{Body, Nothing, DumpEnd, Acknowledgement, Capped, Failure}
-use Rattle.neli_msg.specs.declared.answer.Tail.{Tail}
 use Rattle.neli_msg.specs.declared.answer.Tail.TheVariants.{Unread, Attributes as Listed}
 use Rattle.neli_msg.specs.declared.payload.NlPayload.{NlPayload}
 use Rattle.neli_msg.specs.Answers.{Attributes, after, after_echo, answer, attribute_of, code_in, dump_end_in, echo_end}
@@ -272,7 +271,7 @@ failure-again number flags s u kind e =
     whole x = Ok x
 
     failure_of : ℤ → Header ℕ → List ℕ → Attributes → Result (Nlmsgerr (NlmsghdrErr ℕ (List ℕ))) DeError
-    failure_of c h body attrs = Ok (answer c (record { header = h; payload = body }) attrs)
+    failure_of c h body attrs = Ok (answer c (record { header = h; payload = record { 0 = body } }) attrs)
 
 -- ---- answers that echo a header alone
 

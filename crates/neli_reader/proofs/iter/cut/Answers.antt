@@ -1,7 +1,6 @@
-use Rattle.std.proofs.Common.{arith, ◌≡◌, [], ◌∙◌, sym, ap, length, map, None}
-use Rattle.std.specs.Prelude.{List}
+use Rattle.std.proofs.Common.{arith, ◌≡◌, [], ◌∙◌, sym, length}
 use Rattle.std.proofs.lemmas.Bool.{eqb-true}
-use Rattle.neli_msg.specs.Messages.{message_layout, message_of}
+use Rattle.neli_msg.specs.Messages.{message_layout}
 use Rattle.neli_msg.specs.laws.Messages.{layout_with-placed}
 use Rattle.neli_reader.specs.laws.Cuts.{cut_of-end, empty_is}
 use Rattle.neli_reader.proofs.iter.cut.Goals as goal

@@ -3,7 +3,7 @@ use Rattle.std.specs.Prelude.{codes}
 use Rattle.neli_wire.specs.Sizes.{align}
 use Rattle.neli_msg.specs.Wires.{payload_size}
 use Rattle.neli_msg.proofs.Retyped.{first-whole, refuses-passed}
-use Rattle.neli_msg.proofs.message.Nlmsghdr+u16+Buffer.to_typed.Goals as goal
+use Rattle.neli_msg.proofs.message.Framed+u16+NlPayload+u16+Buffer.to_typed.Goals as goal
 
 pub returns-in_err-payload-clause-refused : goal.returns-in_err-payload-clause-refused
 returns-in_err-payload-clause-refused g c =
