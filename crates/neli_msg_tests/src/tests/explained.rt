@@ -48,8 +48,8 @@ const ANSWERS: [(&[u8], &str); 17] = [
     ),
     // The recorded error of a listing with a header that is too short (docs/FRAMES.md), without its echo.
     (
-        b"\xea\xff\xff\xff\x1a\x00\x01\x00invalid header length\x00\x00\x00",
-        "-22 EINVAL: Invalid argument; invalid header length",
+        b"\xea\xff\xff\xff\x1a\x00\x01\x00Invalid header length\x00\x00\x00",
+        "-22 EINVAL: Invalid argument; Invalid header length",
     ),
     // Of two texts the first.
     (
