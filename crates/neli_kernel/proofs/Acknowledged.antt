@@ -285,7 +285,7 @@ Whole = Nlmsgerr (NlmsghdrErr ℕ (List ℕ))
 
 -- an error of this code, which echoes a message of this header and these bytes
 abbrev failure : ℤ → Header ℕ → List ℕ → Attributes → Whole
-failure code h body attrs = answer code (record { header = h; payload = body }) attrs
+failure code h body attrs = answer code (record { header = h; payload = record { 0 = body } }) attrs
 
 -- bytes of such a code, header and payload, of zeros, and of attributes
 module _ (s : List ℕ) (code : ℤ) (h : Header ℕ) (body zeros extra : List ℕ) (attrs : Attributes)

@@ -68,4 +68,4 @@ capped_error asked code attrs =
 abbrev pub error : Request → ℤ → Attributes → Nlmsghdr ℕ (List ℕ)
 error asked code attrs =
     answer_with asked (answer_flags (flags_of 0) attrs)
-    (payload.Err (answer code (record { header = asked.header; payload = asked.payload.now }) attrs))
+    (payload.Err (answer code (record { header = asked.header; payload = record { 0 = asked.payload.now } }) attrs))
