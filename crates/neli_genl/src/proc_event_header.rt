@@ -45,7 +45,9 @@ impl ProcEventHeader {
 }
 
 impl TryClone for ProcEventHeader {
-    fn try_clone(&self) -> Result<Self, NoMemory> {
+    fn try_clone(&self) -> Result<Self, NoMemory>
+        ensures { result ≡ Ok self.now }
+    {
         ProcEventHeader::try_clone(self)
     }
 }

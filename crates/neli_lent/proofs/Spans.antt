@@ -9,7 +9,8 @@ use Rattle.neli_wire.specs.laws.Reading.{bind_ok, ok_is}
 use Rattle.neli_attr.specs.Builders.{Fault}
 use Rattle.neli_reader.specs.Builders.{own_length}
 use Rattle.neli_reader.specs.Agreement.{untyped_layout}
-use Rattle.neli_reader.specs.Kinds.{payload_view}
+use Rattle.neli_reader.specs.Headers.{Header}
+use Rattle.neli_reader.specs.Kinds.{payload_in, payload_view}
 use Rattle.neli_reader.specs.Messages.{Message, message_of}
 use Rattle.neli_reader.specs.Framed.{Nlmsghdr}
 use Rattle.neli_reader.specs.NlPayload.{NlPayload}
@@ -56,6 +57,14 @@ pub span_message : (s r : List ℕ) (m : Lent ℕ) (w : Nlmsghdr ℕ (List ℕ))
 span_message s r m w lent owned u is =
     ok_is u (message_of (λ b. b) w) (sym (span_owned s r m u lent is) ∙ owned)
     ∙ ap (λ (p : NlPayload ℕ (List ℕ)). (w.header, p)) (payload_same w.payload)
+
+-- what is lent has the span's header
+pub span_header : (s r : List ℕ) (m : Lent ℕ) (u : Message ℕ (List ℕ)) → frame_at (lent_message same) s ≡ Ok (m, r)
+    → Spells s u → u.0 ≡ m.0
+span_header s r m u lent is =
+    let b = bind_ok (payload_in same all m.0.message_type m.0.flags m.1) _ u (span_owned s r m u lent is) in
+    let head : Message ℕ (List ℕ) → Header ℕ = λ x. x.0 in
+    sym (ap head (ok_is (m.0, b.0) u b.2))
 
 -- a body is its bytes
 pub span_body : (s r : List ℕ) (m : Lent ℕ) → frame_at (lent_message same) s ≡ Ok (m, r)

@@ -1,6 +1,6 @@
 //! A message that is read from its own bytes as types of a caller's.
 
-ghost use Rattle.std.specs.Prelude.{◌≡◌, ℕ, List, Ok, IfOk, IfErr};
+ghost use Rattle.std.specs.Prelude.{◌≡◌, ◌≢◌, ℕ, List, Err, Ok, IfOk, IfErr};
 ghost use Rattle.neli_wire.specs.Sizes.{align};
 ghost use Rattle.neli_reader.specs.Messages.{Message};
 ghost use Rattle.neli_reader.specs.NlPayload.TheVariants as payload;
@@ -33,6 +33,7 @@ fn with_body<T: NlType, P: FromBytesWithInput + Size>(
     ensures refused { IfErr result
         (RefusesTyping (typed_payload T.wire_value P.read (payload.Payload bytes.now))
         (IsMessageTooLong P.view P.wire_length P.read T.wire_value (payload.Payload bytes.now))) }
+    ensures memory { result ≡ Err RouterError.Memory → P.takes_memory bytes.now }
 {
     let body: P = read_whole(alloc, bytes)?;
     let mut message = Nlmsghdr::from_header(header.to_typed(), NlPayload::Empty);
@@ -47,7 +48,8 @@ fn with_body<T: NlType, P: FromBytesWithInput + Size>(
 /// where it lies.
 ///
 /// Lengths are computed anew. Refused with the refusal of these bytes as [`RouterError::De`], as [`RouterError::Msg`]
-/// where a length passes 32 bits, or as [`RouterError::Memory`].
+/// where a length passes 32 bits, or as [`RouterError::Memory`], of a body of another type than 2 and 3 only where reading
+/// it takes memory.
 pub fn from_span<T: NlType, P: FromBytesWithInput + Size>(
     alloc: Global,
     span: &[u8],
@@ -63,6 +65,10 @@ pub fn from_span<T: NlType, P: FromBytesWithInput + Size>(
     ensures refused { (u : Message ℕ (List ℕ)) → Spells span.now u → IfErr result
         (RefusesTyping (typed_payload T.wire_value P.read u.1)
         (IsMessageTooLong P.view P.wire_length P.read T.wire_value u.1)) }
+    // A body of another type than 2 and 3 is read where it lies.
+    ensures memory { (u : Message ℕ (List ℕ)) (bytes : List ℕ) → Spells span.now u
+        → u.0.message_type ≢ 2 → u.0.message_type ≢ 3 → u.1 ≡ payload.Payload bytes
+        → result ≡ Err RouterError.Memory → P.takes_memory bytes }
 {
     let mut cursor = Cursor::new(span);
     let message: LentMessage<'_, u16> = match LentMessage::lend(&mut cursor) {

@@ -3,7 +3,7 @@
 ghost use Rattle.neli_attr.specs.Builders.{IsWhyNot};
 ghost use Rattle.neli_msg.specs.Builders.{built_echo};
 ghost use Rattle.neli_msg.specs.Retyping.{HasOwnLength, IsTooLong, RefusesTyping, echo_stating, typed_echo};
-ghost use Rattle.std.specs.Prelude.{Some, ◌≡◌, Ok, IfOk, IfErr};
+ghost use Rattle.std.specs.Prelude.{Some, ◌≡◌, Err, Ok, IfOk, IfErr};
 
 use crate::frame::frame_length;
 use crate::framed::{Carried, Framed, FramedBuilder};
@@ -136,7 +136,7 @@ impl Framed<u16, Echoed<Buffer>> {
     /// length is computed anew.
     ///
     /// Refused with the refusal of these bytes as [`RouterError::De`], as [`RouterError::Msg`] where the
-    /// length passes 32 bits, or as [`RouterError::Memory`].
+    /// length passes 32 bits, or as [`RouterError::Memory`] where reading these bytes takes memory.
     pub fn to_typed<T: NlType, P: FromBytesWithInput + Size>(
         &self,
         alloc: Global,
@@ -147,6 +147,7 @@ impl Framed<u16, Echoed<Buffer>> {
         ensures length { IfOk result (HasOwnLength P.wire_length) }
         ensures refused { IfErr result (RefusesTyping (typed_echo T.wire_value P.read self.now)
             (IsTooLong P.view P.wire_length P.read self.now.payload.0)) }
+        ensures memory { result ≡ Err RouterError.Memory → P.takes_memory self.now.payload.0 }
     {
         let payload: Echoed<P> = Echoed(read_whole(alloc, self.payload.0.as_ref())?);
         let Some(len) = frame_length(&payload) else {

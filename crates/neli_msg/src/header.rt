@@ -100,7 +100,9 @@ impl<T: NlType> NlmsghdrAck<T> {
 }
 
 impl<T: NlType> TryClone for NlmsghdrAck<T> {
-    fn try_clone(&self) -> Result<Self, NoMemory> {
+    fn try_clone(&self) -> Result<Self, NoMemory>
+        ensures { result ≡ Ok self.now }
+    {
         Ok(*self)
     }
 }

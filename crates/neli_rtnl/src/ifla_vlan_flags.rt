@@ -54,7 +54,9 @@ impl IflaVlanFlags {
 }
 
 impl TryClone for IflaVlanFlags {
-    fn try_clone(&self) -> Result<Self, NoMemory> {
+    fn try_clone(&self) -> Result<Self, NoMemory>
+        ensures { result ≡ Ok self.now }
+    {
         IflaVlanFlags::try_clone(self)
     }
 }

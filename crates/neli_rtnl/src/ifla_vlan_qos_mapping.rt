@@ -52,7 +52,9 @@ impl IflaVlanQosMapping {
 }
 
 impl TryClone for IflaVlanQosMapping {
-    fn try_clone(&self) -> Result<Self, NoMemory> {
+    fn try_clone(&self) -> Result<Self, NoMemory>
+        ensures { result ≡ Ok self.now }
+    {
         IflaVlanQosMapping::try_clone(self)
     }
 }

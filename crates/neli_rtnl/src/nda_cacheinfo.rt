@@ -70,7 +70,9 @@ impl NdaCacheinfo {
 }
 
 impl TryClone for NdaCacheinfo {
-    fn try_clone(&self) -> Result<Self, NoMemory> {
+    fn try_clone(&self) -> Result<Self, NoMemory>
+        ensures { result ≡ Ok self.now }
+    {
         NdaCacheinfo::try_clone(self)
     }
 }
