@@ -3,6 +3,7 @@ pub mod Frames
 pub mod FreePlaces
 pub mod Moves
 pub mod Opened
+pub mod OutOfPlace
 pub mod Replies
 pub mod Requests
 pub mod Steps

@@ -74,7 +74,8 @@ SetsNumber number s t =
     (t.router.next_seq ≡ number) × (t.router.deliveries ≡ s.router.deliveries) × (t.handles.items ≡ s.handles.items)
     × (t.freed ≡ s.freed) × (t.held ≡ s.held)
 
--- each handle gets its share of the datagram; or memory ran out, and what waits is the same
+-- each handle gets its share of the datagram; or memory ran out, and what waits is the same, but never at no bytes that
+-- came to no group
 abbrev pub TakesDatagram : ℤ → List ℕ → List ℕ → Session → Session → Type 0
 TakesDatagram code bytes groups s t =
     ((code ≡ ok) ⊎ (code ≡ memory))
@@ -82,7 +83,7 @@ TakesDatagram code bytes groups s t =
     ≡ option_map (λ ds. ds ++ datagram_share s.router.deliveries.port (is_open s) w (cut_of untyped_layout bytes)
     (without_zeros groups)) (pending s w))
     × (code ≡ memory → (w : Option ℕ) → pending t w ≡ pending s w)
-    × KeepsRest s t
+    × KeepsRest s t × (bytes ≡ [] → groups ≡ [] → code ≡ ok)
 
 -- the link's fault of a number of errno.h, negated or not: EAGAIN (11), ECONNRESET (104), or another one
 abbrev pub fault_kind : ℤ → ErrorKind
@@ -90,14 +91,15 @@ fault_kind n =
     if nat_eq (unsigned_abs n) 11 then kind.WouldBlock
     else (if nat_eq (unsigned_abs n) 104 then kind.ConnectionReset else kind.Other)
 
--- each handle gets its share of the fault; or memory ran out, and what waits is the same
+-- each handle gets its share of the fault; or memory ran out, and what waits is the same, but never where the link would
+-- block
 abbrev pub TakesFault : ℤ → ℤ → Session → Session → Type 0
 TakesFault code errno s t =
     ((code ≡ ok) ⊎ (code ≡ memory))
     × (code ≡ ok → (w : Option ℕ) → pending t w ≡ option_map (λ ds. ds ++ fault_share w (socket.Io (fault_kind errno)))
     (pending s w))
     × (code ≡ memory → (w : Option ℕ) → pending t w ≡ pending s w)
-    × KeepsRest s t
+    × KeepsRest s t × (fault_kind errno ≡ kind.WouldBlock → code ≡ ok)
 
 -- the bytes of the held message are written where there is room, and `length` is how many there are
 abbrev pub WritesMessage : ℤ → Wire → List ℕ → List ℕ → ℕ → Type 0

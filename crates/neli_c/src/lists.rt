@@ -1,8 +1,9 @@
 //! Lists of attributes in the caller's bytes: where they lie, and look-up by number. They take no memory.
 
-ghost use Rattle.std.specs.Prelude.{◌≡◌, ◌≢◌};
-ghost use Rattle.neli_c.specs.Codes.{item, ok};
+ghost use Rattle.std.specs.Prelude.{◌≡◌, ◌≢◌, None};
+ghost use Rattle.neli_c.specs.Codes.{item, ok, place};
 ghost use Rattle.neli_c.specs.Lists.{FindsNone, IsFound, attributes_code, list_code, walk_after, walk_over};
+ghost use Rattle.neli_c.specs.Walks.{bytes_left};
 
 use crate::code::{ITEM, OK, PLACE, SHORT};
 use crate::lent::{NeliAttribute, NeliMessage, NeliWalk, neli_c_next_attribute};
@@ -92,6 +93,8 @@ pub extern "C" fn neli_c_find_attribute(
     ensures found { result ≡ item → IsFound bytes.now walk.now number attribute.new }
     ensures none { result ≢ item → FindsNone bytes.now walk.now number result }
     ensures unchanged { result ≢ item → attribute.new ≡ attribute.old }
+    // A walk that is not within the bytes finds nothing.
+    ensures place { bytes_left bytes.now walk.now ≡ None → result ≡ place }
 {
     let mut ahead = *walk;
     let mut next = NO_ATTRIBUTE;

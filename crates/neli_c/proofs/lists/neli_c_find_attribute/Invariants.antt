@@ -1,10 +1,13 @@
-use Rattle.std.proofs.Common.{◌≡◌, ◌-◌}
+use Rattle.std.proofs.Common.{◌≡◌, ◌-◌, None}
 use Rattle.neli_c.specs.Lists.{Passes}
+use Rattle.neli_c.specs.Walks.{bytes_left}
 use Rattle.neli_c.proofs.lists.neli_c_find_attribute.Given as goal
 
--- those so far have other numbers, and nothing is given yet
+-- those so far have other numbers, nothing is given yet, and a walk that is not within the bytes has not moved
 abbrev pub invariant-loop-ahead : goal.invariant-loop-ahead
-invariant-loop-ahead l = Passes l.fn.bytes l.fn.number l.fn.walk l.ahead × (l.attribute ≡ l.fn.attribute)
+invariant-loop-ahead l =
+    Passes l.fn.bytes l.fn.number l.fn.walk l.ahead × (l.attribute ≡ l.fn.attribute)
+    × (bytes_left l.fn.bytes l.fn.walk ≡ None → l.ahead ≡ l.fn.walk)
 
 -- the bytes that are left
 abbrev pub decreases-loop-ahead : goal.decreases-loop-ahead
