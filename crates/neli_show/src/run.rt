@@ -1,8 +1,9 @@
 //! A run of the program.
 
-ghost use Rattle.std.specs.Prelude.{◌≡◌, ◌≢◌, Err, IfErr, IfOk, OnOk, true};
+ghost use Rattle.std.specs.Prelude.{◌≡◌, ◌≢◌, Err, IfErr, IfOk, Ok, OnErr, OnOk, true};
 ghost use Rattle.std.specs.IoError.{error_kind};
 ghost use Rattle.std.specs.Option.{option_map};
+ghost use Rattle.neli_show.specs.declared.request.Request.{Request as Asked};
 ghost use Rattle.neli_show.specs.Json.{AreLines};
 ghost use Rattle.neli_show.specs.Runs.{asked_in, complaint_text, shown_status, status_code, unread_status};
 ghost use Rattle.neli_show.specs.Written.{Extends};
@@ -148,8 +149,9 @@ fn status_of(shown: &io::Result<bool>) -> Status
 
 /// Prints an input by these tables, in the form that is asked for.
 fn show_by<W: Write>(out: &mut W, tables: &[Table<'_>], request: Request, input: &Input) -> Status
-    ensures { request.output ≡ Output.Json → result ≢ Status.NoOutput
+    ensures json { request.output ≡ Output.Json → result ≢ Status.NoOutput
         → Extends (W.contents out.old) (W.contents out.new) AreLines AreLines }
+    ensures shown { (result ≢ Status.Usage) × (result ≢ Status.Memory) × (result ≢ Status.NoInput) }
 {
     let names = Names {
         schema: Schema::new(tables).with(&process_event::TABLES),
@@ -165,8 +167,11 @@ fn show_bytes<W: Write>(
     bytes: Vec<u8>,
     out: &mut W,
 ) -> Result<Status, AllocError>
-    ensures { request.output ≡ Output.Json → IfOk result (λ status. status ≢ Status.NoOutput
+    ensures json { request.output ≡ Output.Json → IfOk result (λ status. status ≢ Status.NoOutput
         → Extends (W.contents out.old) (W.contents out.new) AreLines AreLines) }
+    ensures shown { IfOk result (λ status. (status ≢ Status.Usage) × (status ≢ Status.Memory)
+        × (status ≢ Status.NoInput)) }
+    ensures silent { OnErr result (out.new ≡ out.old) }
 {
     let input = read_input(alloc, bytes)?;
     let tables = all_tables(alloc)?;
@@ -174,7 +179,13 @@ fn show_bytes<W: Write>(
 }
 
 /// Reads the input, and prints it in the form that is asked for.
-fn show<R: Read, W: Write>(alloc: Global, request: Request, input: &mut R, out: &mut W) -> Status {
+fn show<R: Read, W: Write>(alloc: Global, request: Request, input: &mut R, out: &mut W) -> Status
+    ensures json { request.output ≡ Output.Json → result ≢ Status.NoOutput
+        → Extends (W.contents out.old) (W.contents out.new) AreLines AreLines }
+    ensures asked { result ≢ Status.Usage }
+    ensures unread { result ≡ Status.NoInput → out.new ≡ out.old }
+    ensures memory { result ≡ Status.Memory → out.new ≡ out.old }
+{
     let mut bytes = Vec::new(alloc);
     match input.read_to_end(&mut bytes) {
         Ok(_) => match show_bytes(alloc, request, bytes, out) {
@@ -205,7 +216,16 @@ pub fn run<R: Read, W: Write, C: Write>(
     input: &mut R,
     out: &mut W,
     complaints: &mut C,
-) -> Status {
+) -> Status
+    ensures json { (request : Asked) → asked_in words.now ≡ Ok request → request.output ≡ Output.Json
+        → result ≢ Status.NoOutput
+        → Extends (W.contents out.old) (W.contents out.new) AreLines AreLines }
+    ensures asked { (request : Asked) → asked_in words.now ≡ Ok request → result ≢ Status.Usage }
+    ensures refused { IfErr (asked_in words.now)
+        (λ status. (result ≡ status) × (out.new ≡ out.old) × (input.new ≡ input.old)) }
+    ensures unread { result ≡ Status.NoInput → out.new ≡ out.old }
+    ensures memory { result ≡ Status.Memory → out.new ≡ out.old }
+{
     let status = match asked(words) {
         Ok(request) => show(alloc, request, input, out),
         Err(status) => status,
