@@ -122,9 +122,10 @@ impl<I> FrameList<I> {
 impl<I: TryClone> FrameList<I> {
     /// A list of equal values.
     ///
-    /// Refused only where memory runs out.
+    /// Refused only where memory runs out: that of a list without values never is.
     pub fn try_clone(&self) -> Result<Self, NoMemory>
-        ensures { IfOk result (λ list. list ≡ self.now) }
+        ensures value { IfOk result (λ list. list ≡ self.now) }
+        ensures memory { OnErr result (0 < length self.now) }
     {
         let mut items = Vec::new(*self.items.allocator());
         for item in &self.items {

@@ -1,6 +1,6 @@
 //! Attributes that are looked up, owned or lent.
 
-ghost use Rattle.std.specs.Prelude.{◌≡◌, ◌<◌, ℕ, List, Ok, IfErr, IfOk, length, map};
+ghost use Rattle.std.specs.Prelude.{◌≡◌, ◌<◌, ℕ, List, Ok, IfErr, IfOk, OnErr, length, map};
 ghost use Rattle.std.specs.Option.{option_copied};
 ghost use Rattle.std.specs.Slice.Iter.{iter_rest};
 ghost use Rattle.neli_wire.specs.Refusals.{Refuses};
@@ -263,7 +263,7 @@ impl<I> FrameList<I> {
 
     /// A handle of copies of these attributes, of which each type is what its number means.
     ///
-    /// Refused only where memory runs out.
+    /// Refused only where memory runs out, and never where there are no attributes.
     pub fn get_typed_attr_handle<T>(
         &self,
         alloc: Global,
@@ -272,7 +272,8 @@ impl<I> FrameList<I> {
         I: ToTyped<T>,
         I::Typed: Drop,
         ensures value { IfOk result (λ h. IsOwner (map I.typed self.now) h) }
-        ensures memory { IfErr result (λ e. e ≡ Memory) }
+        ensures refused { IfErr result (λ e. e ≡ Memory) }
+        ensures memory { OnErr result (0 < length self.now) }
     {
         let items = self.as_ref();
         let mut attrs = Vec::new(alloc);
