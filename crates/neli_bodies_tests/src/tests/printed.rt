@@ -2,6 +2,7 @@
 
 use super::support::{assert_is_at, read_whole};
 use neli::FromBytesWithInput;
+use neli::consts::Constant;
 use neli::consts::rtnl::{Frf, IfaF, Iff, Ntf, Nud, RtmF, VlanFlags};
 use neli::rtnl::{Fibmsg, Ifaddrmsg, Ifinfomsg, Ndmsg, Rtgenmsg, Rtmsg, Tcmsg};
 use std::alloc::Global;
@@ -83,6 +84,7 @@ fn assert_prints<V: Debug>(rt: &impl Abort, alloc: Global, value: &V, want: &str
 #[test]
 fn sets_show_their_bits(rt: HostRuntime) {
     let alloc = rt.alloc();
+    assert_prints(&rt, alloc, &Iff::empty(), "Iff(0)");
     assert_prints(&rt, alloc, &(Iff::UP | Iff::RUNNING), "Iff(65)");
     assert_prints(&rt, alloc, &IfaF::PERMANENT, "IfaF(128)");
     assert_prints(&rt, alloc, &(Nud::REACHABLE | Nud::PERMANENT), "Nud(130)");
@@ -91,4 +93,6 @@ fn sets_show_their_bits(rt: HostRuntime) {
     assert_prints(&rt, alloc, &Frf::PERMANENT, "Frf(1)");
     let flags = VlanFlags::GVRP | VlanFlags::MVRP;
     assert_prints(&rt, alloc, &flags, "VlanFlags(10)");
+    // A bit without a name is shown too.
+    assert_prints(&rt, alloc, &VlanFlags::from_wire(65), "VlanFlags(65)");
 }
