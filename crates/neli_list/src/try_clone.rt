@@ -1,6 +1,6 @@
 //! Values that are copied.
 
-ghost use Rattle.std.specs.Prelude.{◌≡◌, IfOk};
+ghost use Rattle.std.specs.Prelude.{◌≡◌, ◌<◌, IfOk, IsOk, OnErr, length};
 
 use crate::FrameList;
 use neli_wire::NoMemory;
@@ -15,13 +15,18 @@ pub trait TryClone: Sized + Drop {
 }
 
 impl TryClone for () {
-    fn try_clone(&self) -> Result<(), NoMemory> {
+    fn try_clone(&self) -> Result<(), NoMemory>
+        ensures { IsOk result }
+    {
         Ok(())
     }
 }
 
 impl<I: TryClone> TryClone for FrameList<I> {
-    fn try_clone(&self) -> Result<Self, NoMemory> {
+    fn try_clone(&self) -> Result<Self, NoMemory>
+        ensures value { IfOk result (λ list. list ≡ self.now) }
+        ensures memory { OnErr result (0 < length self.now) }
+    {
         FrameList::try_clone(self)
     }
 }
