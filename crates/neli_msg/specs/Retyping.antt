@@ -3,7 +3,7 @@ use Rattle.std.specs.Prelude.{◌≡◌, ◌<◌, ◌+◌, ◌⊎◌, ℕ, List,
 use Rattle.std.specs.Prelude.{Option, Some, None, Result, Ok, Err, IsOk, nat_lt, if◌then◌else◌}
 use Rattle.neli_wire.specs.DeError.{DeError}
 use Rattle.neli_wire.specs.DeError.TheVariants.{InvalidInput}
-use Rattle.neli_wire.specs.Reading.{◌>>=◌}
+use Rattle.neli_wire.specs.Reading.{◌>>=◌, exact_takes_memory}
 use Rattle.neli_wire.specs.Sizes.{align}
 use Rattle.neli_msg.specs.declared.answer.Nlmsgerr.{Nlmsgerr}
 use Rattle.neli_msg.specs.Framed.{Nlmsghdr, NlmsghdrErr}
@@ -69,6 +69,20 @@ abbrev pub IsRead : {V : Type 0} → (List ℕ → Result V DeError) → NlPaylo
 IsRead read (payload.Payload bytes) = IsOk (read bytes)
 IsRead read (payload.Err e) = IsOk (read e.nlmsg.payload.0)
 IsRead read p = Unit {0}
+
+-- where typing a payload takes memory: where reading its body does, or attributes are copied
+abbrev pub typing_takes_memory : (List ℕ → Type 0) → NlPayload ℕ (List ℕ) → Type 0
+typing_takes_memory takes (payload.Payload bytes) = takes bytes
+typing_takes_memory takes (payload.Err e) = takes e.nlmsg.payload.0 ⊎ (0 < length e.ext_ack)
+typing_takes_memory takes (payload.Ack e) = 0 < length e.ext_ack
+typing_takes_memory takes (payload.Capped e) = 0 < length e.ext_ack
+typing_takes_memory takes (payload.DumpExtAck e) = 0 < length e.ext_ack
+typing_takes_memory takes payload.Empty = ⊥
+
+-- the same, of a body the first n bytes
+abbrev pub first_takes_memory : (List ℕ → Type 0) → ℕ → NlPayload ℕ (List ℕ) → Type 0
+first_takes_memory takes n (payload.Payload bytes) = exact_takes_memory takes n bytes
+first_takes_memory takes n p = typing_takes_memory takes p
 
 -- how many bytes a body has
 abbrev pub body_count : {K : Type 0} → NlPayload K (List ℕ) → ℕ
@@ -187,6 +201,13 @@ module _ {K P V : Type 0} (type_of : ℕ → K) (view : P → V) (size : P → �
   RefusesTypingError (router.De e) why = why ≡ router.Memory
   RefusesTypingError (router.Socket e) why = why ≡ router.Memory
   RefusesTypingError e why = ⊥
+
+-- where typing an error may say that memory ran out: where its message takes some, or its attributes or texts are copied
+abbrev pub error_takes_memory : (List ℕ → Type 0) → RouterError ℕ (List ℕ) → Type 0
+error_takes_memory takes (router.Nlmsgerr e) = takes e.nlmsg.payload.0 ⊎ (0 < length e.ext_ack)
+error_takes_memory takes (router.Capped e) = 0 < length e.ext_ack
+error_takes_memory takes (router.BadSeqOrPid u) = typing_takes_memory takes u.payload
+error_takes_memory takes e = Unit {0}
 
 -- ---- parts that are taken out and put in
 

@@ -1,6 +1,6 @@
 //! Answers: errors, acknowledgements and ends of dumps.
 
-ghost use Rattle.std.specs.Prelude.{◌≡◌, ◌<◌, ◌≤◌, ◌+◌, ◌^◌, ℕ, Ok, Some};
+ghost use Rattle.std.specs.Prelude.{◌≡◌, ◌<◌, ◌≤◌, ◌+◌, ◌⊎◌, ◌^◌, ℕ, Ok, Err, Some};
 ghost use Rattle.std.specs.Prelude.{None, IfOk, IfErr, OnOk, OnErr, length, drop, min};
 ghost use Rattle.neli_attr.specs.Builders.{IsWhyNot};
 ghost use Rattle.neli_wire.specs.laws.Sizes.{unpadded-rounded};
@@ -431,19 +431,32 @@ impl<M: TryClone> TryClone for Nlmsgerr<M> {
 impl Nlmsgerr<NlmsghdrAck<u16>> {
     /// The same acknowledgement with the type that its header's number means.
     ///
-    /// Refused only where memory runs out.
+    /// Refused only where memory runs out, and never where there are no attributes.
     pub fn to_typed<T: NlType>(&self) -> Result<Nlmsgerr<NlmsghdrAck<T>>, NoMemory>
-        ensures { IfOk result (λ e. e ≡ typed_acknowledgement T.wire_value self.now) }
+        ensures value { IfOk result (λ e. e ≡ typed_acknowledgement T.wire_value self.now) }
+        ensures memory { OnErr result (0 < length self.now.ext_ack) }
     {
         let ext_ack = self.ext_ack.try_clone()?;
         Ok(answer_with(self.error, self.nlmsg.to_typed(), ext_ack))
     }
 }
 
+impl Nlmsgerr<()> {
+    /// An equal end of a dump.
+    ///
+    /// Refused only where memory runs out, and never where there are no attributes.
+    pub(crate) fn copied(&self) -> Result<Self, NoMemory>
+        ensures value { IfOk result (λ e. e ≡ self.now) }
+        ensures memory { OnErr result (0 < length self.now.ext_ack) }
+    {
+        Ok(answer_with(self.error, (), self.ext_ack.try_clone()?))
+    }
+}
+
 impl Nlmsgerr<NlmsghdrErr<u16, Buffer>> {
     /// The same error with the echoed message typed; its code and its attributes stay.
     ///
-    /// Refused as the echoed message is.
+    /// Refused as the echoed message is, or where memory runs out while attributes are copied.
     pub fn to_typed<T: NlType, P: FromBytesWithInput + Size>(
         &self,
         alloc: Global,
@@ -454,6 +467,8 @@ impl Nlmsgerr<NlmsghdrErr<u16, Buffer>> {
         ensures length { IfOk result (λ e. HasOwnLength P.wire_length e.nlmsg) }
         ensures refused { IfErr result (RefusesTyping (typed_failure T.wire_value P.read self.now)
             (IsTooLong P.view P.wire_length P.read self.now.nlmsg.payload.0)) }
+        ensures memory { result ≡ Err RouterError.Memory
+            → P.takes_memory self.now.nlmsg.payload.0 ⊎ (0 < length self.now.ext_ack) }
     {
         let typed = self.nlmsg.to_typed(alloc)?;
         let ext_ack = self.ext_ack.try_clone()?;

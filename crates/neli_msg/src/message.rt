@@ -6,7 +6,8 @@ ghost use Rattle.neli_attr.specs.Builders.Fault.{Invalid};
 ghost use Rattle.neli_msg.specs.declared.payload.NlPayload.{NlPayload as Payload};
 ghost use Rattle.neli_msg.specs.Retyping.{HasOwnEcho, IsMessageTooLong, RefusesTyping, body_of, capped_of};
 ghost use Rattle.neli_msg.specs.Retyping.{failure_of, payload_stating, stated_echo, typed_header, typed_payload};
-ghost use Rattle.neli_msg.specs.Retyping.{with_len, with_payload, without_capped, without_failure};
+ghost use Rattle.neli_msg.specs.Retyping.{typing_takes_memory, with_len, with_payload, without_capped};
+ghost use Rattle.neli_msg.specs.Retyping.{without_failure};
 ghost use Rattle.neli_msg.specs.Wires.{message_size, payload_size};
 ghost use Rattle.std.specs.Prelude.{Err, ℕ, List, IsOk, codes, option_map, Some, ◌≡◌};
 ghost use Rattle.std.specs.Prelude.{Ok, IfOk, IfErr, OnOk, OnErr};
@@ -188,7 +189,8 @@ impl Framed<u16, NlPayload<u16, Buffer>> {
     /// read as `P`. Lengths are computed anew; codes, attributes and a header that is echoed alone stay.
     ///
     /// Refused with the refusal of these bytes as [`RouterError::De`], as [`RouterError::Msg`] where a length
-    /// passes 32 bits, or as [`RouterError::Memory`], of a body only where reading it takes memory.
+    /// passes 32 bits, or as [`RouterError::Memory`], only where reading these bytes takes memory or there are
+    /// attributes to copy.
     pub fn to_typed<T: NlType, P: FromBytesWithInput + Size>(
         &self,
         alloc: Global,
@@ -203,8 +205,8 @@ impl Framed<u16, NlPayload<u16, Buffer>> {
         ensures refused { IfErr result
             (RefusesTyping (typed_payload T.wire_value P.read self.now.payload)
             (IsMessageTooLong P.view P.wire_length P.read T.wire_value self.now.payload)) }
-        ensures memory { (bytes : List ℕ) → self.now.payload ≡ NlPayload.Payload bytes
-            → result ≡ Err RouterError.Memory → P.takes_memory bytes }
+        ensures memory { result ≡ Err RouterError.Memory
+            → typing_takes_memory P.takes_memory self.now.payload }
         ensures empty { self.now.payload ≡ NlPayload.Empty → IsOk result }
     {
         let payload: NlPayload<T, P> = self.payload.to_typed(alloc, self.payload.body_len())?;

@@ -8,7 +8,7 @@ ghost use Rattle.neli_msg.specs.Kinds.{is_acknowledged, kind_of, kind_takes_memo
 ghost use Rattle.neli_msg.specs.Kinds.{payload_in, payload_takes_memory, payload_view, tail_of};
 ghost use Rattle.neli_wire.specs.laws.Sizes.{unpadded-rounded};
 ghost use Rattle.neli_msg.specs.Retyping.{HasOwnEcho, IsEchoTooLong, RefusesTyping, body_count};
-ghost use Rattle.neli_msg.specs.Retyping.{first_as, payload_stating, stated_echo, typed_first};
+ghost use Rattle.neli_msg.specs.Retyping.{first_as, first_takes_memory, payload_stating, stated_echo, typed_first};
 ghost use Rattle.neli_msg.specs.Wires.{payload_size, payload_wire};
 ghost use Rattle.neli_msg.specs.laws.Wires.{payload_wire-length, payload_wire-no_memory, payload_wire-zeros};
 
@@ -249,7 +249,7 @@ impl NlPayload<u16, Buffer> {
     ///
     /// Refused as [`RouterError::De`] with `InvalidInput(n)` where a body has fewer bytes, else with the
     /// refusal of these bytes; as [`RouterError::Msg`] where an echoed message's length passes 32 bits; or as
-    /// [`RouterError::Memory`], of a body only where reading these bytes takes memory.
+    /// [`RouterError::Memory`], only where reading these bytes takes memory or there are attributes to copy.
     pub fn to_typed<T: NlType, P: FromBytesWithInput + Size>(
         &self,
         alloc: Global,
@@ -261,14 +261,13 @@ impl NlPayload<u16, Buffer> {
         ensures length { IfOk result (HasOwnEcho P.wire_length) }
         ensures refused { IfErr result (RefusesTyping (typed_first T.wire_value P.read n self.now)
             (IsEchoTooLong P.view P.wire_length P.read self.now)) }
-        ensures memory { (bytes : List ℕ) → self.now ≡ NlPayload.Payload bytes
-            → result ≡ Err RouterError.Memory → exact_takes_memory P.takes_memory n bytes }
+        ensures memory { result ≡ Err RouterError.Memory → first_takes_memory P.takes_memory n self.now }
         ensures empty { self.now ≡ NlPayload.Empty → IsOk result }
     {
         match self {
             NlPayload::Ack(answer) => Ok(NlPayload::Ack(answer.to_typed()?)),
             NlPayload::Capped(answer) => Ok(NlPayload::Capped(answer.to_typed()?)),
-            NlPayload::DumpExtAck(answer) => Ok(NlPayload::DumpExtAck(answer.try_clone()?)),
+            NlPayload::DumpExtAck(answer) => Ok(NlPayload::DumpExtAck(answer.copied()?)),
             NlPayload::Err(answer) => Ok(NlPayload::Err(answer.to_typed(alloc)?)),
             NlPayload::Payload(body) => Ok(NlPayload::Payload(read_first(alloc, body, n)?)),
             NlPayload::Empty => Ok(NlPayload::Empty),

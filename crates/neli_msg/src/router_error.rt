@@ -1,9 +1,9 @@
 //! What a router reports.
 
-ghost use Rattle.std.specs.Prelude.{◌≡◌, IfErr, IfOk, IfSome};
+ghost use Rattle.std.specs.Prelude.{◌≡◌, Err, IfErr, IfOk, IfSome};
 ghost use Rattle.neli_attr.specs.Builders.{message_in};
 ghost use Rattle.neli_msg.specs.declared.router_error.RouterError.TheVariants as router;
-ghost use Rattle.neli_msg.specs.Retyping.{IsTypedError, RefusesTypingError};
+ghost use Rattle.neli_msg.specs.Retyping.{IsTypedError, RefusesTypingError, error_takes_memory};
 ghost use Rattle.neli_msg.specs.RouterErrors.{de_of, router_of_message, router_text, socket_of};
 
 use crate::{Nlmsgerr, Nlmsghdr, NlmsghdrAck, NlmsghdrErr, SocketError};
@@ -95,8 +95,8 @@ impl RouterError<u16, Buffer> {
     ///
     /// Refused as [`Nlmsgerr::to_typed`] and [`Nlmsghdr::to_typed`] are: with the refusal of the message's
     /// bytes as [`RouterError::De`], as [`RouterError::Msg`] where a length passes 32 bits, or as
-    /// [`RouterError::Memory`]. `Memory` alone refuses a `Capped`, a `Msg`, a `De` and a `Socket`, which are
-    /// copied; no other error is refused.
+    /// [`RouterError::Memory`], as they say. `Memory` alone refuses a `Capped` that has attributes, a `Msg`, a `De`
+    /// and a `Socket`, which are copied; no other error is refused.
     pub fn to_typed<T: NlType, P: FromBytesWithInput + Size>(
         &self,
         alloc: Global,
@@ -105,6 +105,7 @@ impl RouterError<u16, Buffer> {
             (IsTypedError T.wire_value P.view P.wire_length P.read self.now) }
         ensures refused { IfErr result
             (RefusesTypingError T.wire_value P.view P.wire_length P.read self.now) }
+        ensures memory { result ≡ Err RouterError.Memory → error_takes_memory P.takes_memory self.now }
     {
         Ok(match self {
             RouterError::Nlmsgerr(answer) => RouterError::Nlmsgerr(answer.to_typed(alloc)?),
