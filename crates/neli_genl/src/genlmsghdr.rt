@@ -1,7 +1,7 @@
 //! Messages of generic netlink.
 
-ghost use Rattle.std.specs.Prelude.{◌≡◌, ◌+◌, ◌++◌, ◌≤◌, Some, None, Ok, IfOk, IfErr, OnOk, OnErr, drop, length, min};
-ghost use Rattle.std.specs.Prelude.{take};
+ghost use Rattle.std.specs.Prelude.{◌≡◌, ◌+◌, ◌++◌, ◌<◌, ◌≤◌, Some, None, Ok, IfOk, IfErr, OnOk, OnErr, drop, length};
+ghost use Rattle.std.specs.Prelude.{min, take};
 ghost use Rattle.neli_wire.specs.Refusals.{Refuses};
 ghost use Rattle.neli_wire.specs.Place.{whole};
 ghost use Rattle.neli_wire.specs.Reading.{map_refusal, refusal_within};
@@ -73,9 +73,10 @@ impl<C, T, H> Genlmsghdr<C, T, H> {
 impl<C: Cmd, T: NlAttrType, H: Copy> Genlmsghdr<C, T, H> {
     /// An equal message.
     ///
-    /// Refused only where memory runs out.
+    /// Refused only where memory runs out, and never where it has no attributes.
     pub fn try_clone(&self) -> Result<Self, NoMemory>
-        ensures { IfOk result (λ m. m ≡ self.now) }
+        ensures value { IfOk result (λ m. m ≡ self.now) }
+        ensures memory { OnErr result (0 < length self.now.attrs) }
     {
         Ok(Genlmsghdr {
             cmd: self.cmd,

@@ -1,6 +1,6 @@
 //! What the bodies with attributes have in common: their fields, and then the attributes.
 
-ghost use Rattle.std.specs.Prelude.{◌≡◌, ◌+◌, ◌<◌, IfOk, length};
+ghost use Rattle.std.specs.Prelude.{◌≡◌, ◌+◌, ◌<◌, IfOk, OnErr, length};
 ghost use Rattle.neli_wire.specs.laws.Sizes.{unpadded-rounded};
 ghost use Rattle.neli_body.specs.Attributes.{AttributesRead, attrs_of, attrs_view, attrs_size, attrs_wire};
 ghost use Rattle.neli_body.specs.Bodies.{body_of, body_takes_memory, body_wire};
@@ -40,9 +40,10 @@ impl<H, A> Body<H, A> {
 impl<H: Fields, A: RtaType> Body<H, A> {
     /// An equal body.
     ///
-    /// Refused only where memory runs out.
+    /// Refused only where memory runs out, and never where it has no attributes.
     pub fn try_clone(&self) -> Result<Self, NoMemory>
-        ensures { IfOk result (λ m. m ≡ self.now) }
+        ensures value { IfOk result (λ m. m ≡ self.now) }
+        ensures memory { OnErr result (0 < length self.now.rtattrs) }
     {
         Ok(Body {
             header: self.header,
