@@ -2,9 +2,13 @@
 
 use super::support::{assert_is_at, read_whole};
 use neli::FromBytesWithInput;
+use neli::connector::CnMsg;
 use neli::consts::Constant;
+use neli::consts::genl::{CtrlAttr, CtrlCmd};
 use neli::consts::rtnl::{Frf, IfaF, Iff, Ntf, Nud, RtmF, VlanFlags};
+use neli::genl::Genlmsghdr;
 use neli::rtnl::{Fibmsg, Ifaddrmsg, Ifinfomsg, Ndmsg, Rtgenmsg, Rtmsg, Tcmsg};
+use neli::types::Buffer;
 use std::alloc::Global;
 use std::fmt::Debug;
 use std::process::Abort;
@@ -71,6 +75,31 @@ fn attributes_are_shown(rt: HostRuntime) {
         "Ifaddrmsg { header: IfaddrmsgHeader { ifa_family: Inet, ifa_prefixlen: 24, \
          ifa_flags: IfaF(128), ifa_scope: Universe, ifa_index: 3 }, rtattrs: FrameList { items: \
          [Rtattr { rta_len: 8, rta_type: Local, rta_payload: Buffer }] } }",
+    );
+}
+
+// CTRL_CMD_GETFAMILY with CTRL_ATTR_FAMILY_ID (the kernel's linux/genetlink.h), and CN_IDX_PROC (linux/connector.h).
+#[test]
+fn generic_messages_are_shown(rt: HostRuntime) {
+    let alloc = rt.alloc();
+    let bytes = [3, 1, 0, 0, 6, 0, 1, 0, 16, 0, 0, 0];
+    let body: Genlmsghdr<CtrlCmd, CtrlAttr> = read_whole(&rt, alloc, "a request", &bytes);
+    assert_prints(
+        &rt,
+        alloc,
+        &body,
+        "Genlmsghdr { cmd: Getfamily, version: 1, reserved: 0, header: NoUserHeader, attrs: \
+         FrameList { items: [Nlattr { nla_len: 6, nla_type: AttrType { nla_nested: false, \
+         nla_network_order: false, nla_type: FamilyId }, nla_payload: Buffer }] } }",
+    );
+    let bytes = [1, 0, 0, 0, 1, 0, 0, 0, 2, 0, 0, 0, 3, 0, 0, 0, 0, 0, 4, 0];
+    let message: CnMsg<Buffer> = read_whole(&rt, alloc, "a connector's message", &bytes);
+    assert_prints(
+        &rt,
+        alloc,
+        &message,
+        "CnMsg { header: CnMsgHeader { idx: Proc, val: Proc, seq: 2, ack: 3, len: 0, flags: 4 }, \
+         payload: Buffer }",
     );
 }
 
