@@ -1,6 +1,7 @@
 pub use Rattle.neli_attr_parts.specs.declared.attr_type.AttrType
 pub use Rattle.neli_attr_parts.specs.declared.buffer.Buffer
 pub use Rattle.neli_attr_parts.specs.declared.builders.BuildError
+pub use Rattle.neli_attr_parts.specs.Buffers
 pub use Rattle.neli_attr_parts.specs.Builders
 pub use Rattle.neli_attr_parts.specs.TypeField
 pub use Rattle.neli_attr_parts.specs.Attributes

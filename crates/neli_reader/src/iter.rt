@@ -1,6 +1,6 @@
 //! The reader of a datagram.
 
-ghost use Rattle.std.specs.Prelude.{◌≡◌, ◌≢◌, ◌+◌, ◌≤◌, ℕ, List, [], IfOk, IfSome, OnErr, OnOk, length, map};
+ghost use Rattle.std.specs.Prelude.{◌≡◌, ◌≢◌, ◌+◌, ◌≤◌, ℕ, List, IfOk, IfSome, OnErr, OnOk, length, map};
 ghost use Rattle.neli_wire.specs.Frames.{frame_takes_memory};
 ghost use Rattle.neli_msg.specs.Messages.{message_layout, message_of, message_takes_memory};
 ghost use Rattle.neli_reader.specs.Cuts.{IsNext, cut_of, cut_with, item_of};
@@ -99,9 +99,20 @@ impl<'b, T: NlType, P: FromBytesWithInput> NlBufferIter<'b, T, P> {
     }
 }
 
+/// The fault that a reader gave; it gives no other error but that memory ran out.
+fn fault_of(error: SocketError) -> Result<DeError, NoMemory>
+    ensures fault { IfOk result (λ fault. error ≡ SocketError.De fault) }
+    ensures memory { OnErr result ((fault : DeError) → error ≢ SocketError.De fault) }
+{
+    match error {
+        SocketError::De(fault) => Ok(fault),
+        _ => Err(NoMemory),
+    }
+}
+
 /// All the messages of a datagram, and the fault after them, if there is one.
 ///
-/// Refused only where memory runs out, which a datagram of no bytes does not ask for.
+/// Refused only where memory runs out, which a datagram of fewer than the 16 bytes of a header does not ask for.
 pub fn cut<T: NlType, P: FromBytesWithInput>(
     alloc: Global,
     bytes: &[u8],
@@ -109,29 +120,14 @@ pub fn cut<T: NlType, P: FromBytesWithInput>(
     ensures cut { IfOk result (λ c. cut_of
         (message_layout T.wire_value T.wire_number P.read) bytes.now
         ≡ (map (message_of P.view) c.0.items, c.1)) }
-    ensures memory { OnErr result (bytes.now ≢ []) }
-{
-    if bytes.is_empty() {
-        return Ok((Vec::new(alloc), None));
-    }
-    cut_messages(alloc, bytes)
-}
-
-/// The messages of a datagram, and the fault after them.
-fn cut_messages<T: NlType, P: FromBytesWithInput>(
-    alloc: Global,
-    bytes: &[u8],
-) -> Result<(Vec<Nlmsghdr<T, P>>, Option<DeError>), NoMemory>
-    ensures { IfOk result (λ c. cut_of (message_layout T.wire_value T.wire_number P.read) bytes.now
-        ≡ (map (message_of P.view) c.0.items, c.1)) }
+    ensures memory { OnErr result (16 ≤ length bytes.now) }
 {
     let mut messages = Vec::new(alloc);
     let mut iter: NlBufferIter<'_, T, P> = NlBufferIter::new(bytes);
     while let Some(item) = iter.next(alloc) {
         match item {
             Ok(message) => messages.push(message)?,
-            Err(SocketError::De(fault)) => return Ok((messages, Some(fault))),
-            Err(_) => return Err(NoMemory),
+            Err(error) => return Ok((messages, Some(fault_of(error)?))),
         }
     }
     Ok((messages, None))
