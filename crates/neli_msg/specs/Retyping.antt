@@ -70,19 +70,26 @@ IsRead read (payload.Payload bytes) = IsOk (read bytes)
 IsRead read (payload.Err e) = IsOk (read e.nlmsg.payload.0)
 IsRead read p = Unit {0}
 
--- where typing a payload takes memory: where reading its body does, or attributes are copied
-abbrev pub typing_takes_memory : (List ℕ → Type 0) → NlPayload ℕ (List ℕ) → Type 0
-typing_takes_memory takes (payload.Payload bytes) = takes bytes
-typing_takes_memory takes (payload.Err e) = takes e.nlmsg.payload.0 ⊎ (0 < length e.ext_ack)
-typing_takes_memory takes (payload.Ack e) = 0 < length e.ext_ack
-typing_takes_memory takes (payload.Capped e) = 0 < length e.ext_ack
-typing_takes_memory takes (payload.DumpExtAck e) = 0 < length e.ext_ack
-typing_takes_memory takes payload.Empty = ⊥
+-- where typing takes memory, by what a body is read as and where reading it takes some
+module _ {V : Type 0} (read : List ℕ → Result V DeError) (takes : List ℕ → Type 0) where
+  -- an error: where reading the echoed bytes does, or these are read and there are attributes to copy
+  abbrev pub failure_typing_takes_memory : Nlmsgerr (NlmsghdrErr ℕ (List ℕ)) → Type 0
+  failure_typing_takes_memory e =
+      takes e.nlmsg.payload.0 ⊎ (IsOk (read e.nlmsg.payload.0) × (0 < length e.ext_ack))
 
--- the same, of a body the first n bytes
-abbrev pub first_takes_memory : (List ℕ → Type 0) → ℕ → NlPayload ℕ (List ℕ) → Type 0
-first_takes_memory takes n (payload.Payload bytes) = exact_takes_memory takes n bytes
-first_takes_memory takes n p = typing_takes_memory takes p
+  -- a payload: a body as its reading does; an answer without a body where it has attributes
+  abbrev pub typing_takes_memory : NlPayload ℕ (List ℕ) → Type 0
+  typing_takes_memory (payload.Payload bytes) = takes bytes
+  typing_takes_memory (payload.Err e) = failure_typing_takes_memory e
+  typing_takes_memory (payload.Ack e) = 0 < length e.ext_ack
+  typing_takes_memory (payload.Capped e) = 0 < length e.ext_ack
+  typing_takes_memory (payload.DumpExtAck e) = 0 < length e.ext_ack
+  typing_takes_memory payload.Empty = ⊥
+
+  -- a payload, of a body the first n bytes
+  abbrev pub first_takes_memory : ℕ → NlPayload ℕ (List ℕ) → Type 0
+  first_takes_memory n (payload.Payload bytes) = exact_takes_memory takes n bytes
+  first_takes_memory n p = typing_takes_memory p
 
 -- how many bytes a body has
 abbrev pub body_count : {K : Type 0} → NlPayload K (List ℕ) → ℕ
@@ -202,12 +209,13 @@ module _ {K P V : Type 0} (type_of : ℕ → K) (view : P → V) (size : P → �
   RefusesTypingError (router.Socket e) why = why ≡ router.Memory
   RefusesTypingError e why = ⊥
 
--- where typing an error may say that memory ran out: where its message takes some, or its attributes or texts are copied
-abbrev pub error_takes_memory : (List ℕ → Type 0) → RouterError ℕ (List ℕ) → Type 0
-error_takes_memory takes (router.Nlmsgerr e) = takes e.nlmsg.payload.0 ⊎ (0 < length e.ext_ack)
-error_takes_memory takes (router.Capped e) = 0 < length e.ext_ack
-error_takes_memory takes (router.BadSeqOrPid u) = typing_takes_memory takes u.payload
-error_takes_memory takes e = Unit {0}
+-- where typing a router's error takes memory: where its message does, or its attributes or texts are copied
+module _ {V : Type 0} (read : List ℕ → Result V DeError) (takes : List ℕ → Type 0) where
+  abbrev pub error_takes_memory : RouterError ℕ (List ℕ) → Type 0
+  error_takes_memory (router.Nlmsgerr e) = failure_typing_takes_memory read takes e
+  error_takes_memory (router.Capped e) = 0 < length e.ext_ack
+  error_takes_memory (router.BadSeqOrPid u) = typing_takes_memory read takes u.payload
+  error_takes_memory e = Unit {0}
 
 -- ---- parts that are taken out and put in
 

@@ -1,6 +1,6 @@
 //! Answers: errors, acknowledgements and ends of dumps.
 
-ghost use Rattle.std.specs.Prelude.{◌≡◌, ◌<◌, ◌≤◌, ◌+◌, ◌⊎◌, ◌^◌, ℕ, Ok, Err, Some};
+ghost use Rattle.std.specs.Prelude.{◌≡◌, ◌<◌, ◌≤◌, ◌+◌, ◌^◌, ℕ, Ok, Err, Some};
 ghost use Rattle.std.specs.Prelude.{None, IfOk, IfErr, OnOk, OnErr, length, drop, min};
 ghost use Rattle.neli_attr.specs.Builders.{IsWhyNot};
 ghost use Rattle.neli_wire.specs.laws.Sizes.{unpadded-rounded};
@@ -11,7 +11,8 @@ ghost use Rattle.neli_msg.specs.Answers.{code_in, dump_end_in, echoed_count, ech
 ghost use Rattle.neli_msg.specs.Answers.{failure_takes_memory, failure_view, headed_in, tail_in, tail_takes_memory};
 ghost use Rattle.neli_msg.specs.Builders.{built_answer};
 ghost use Rattle.neli_msg.specs.Retyping.{HasOwnLength, IsTooLong, RefusesTyping};
-ghost use Rattle.neli_msg.specs.Retyping.{failure_stating, typed_acknowledgement, typed_failure};
+ghost use Rattle.neli_msg.specs.Retyping.{failure_stating, failure_typing_takes_memory, typed_acknowledgement};
+ghost use Rattle.neli_msg.specs.Retyping.{typed_failure};
 ghost use Rattle.neli_msg.specs.Wires.{answer_size, answer_wire};
 ghost use Rattle.neli_msg.specs.laws.Wires.{answer_wire-length, answer_wire-no_memory, answer_wire-zeros};
 ghost use Rattle.neli_msg.specs.laws.Answers.{acknowledgement_in-never_short, acknowledgement_in-no_memory};
@@ -468,7 +469,7 @@ impl Nlmsgerr<NlmsghdrErr<u16, Buffer>> {
         ensures refused { IfErr result (RefusesTyping (typed_failure T.wire_value P.read self.now)
             (IsTooLong P.view P.wire_length P.read self.now.nlmsg.payload.0)) }
         ensures memory { result ≡ Err RouterError.Memory
-            → P.takes_memory self.now.nlmsg.payload.0 ⊎ (0 < length self.now.ext_ack) }
+            → failure_typing_takes_memory P.read P.takes_memory self.now }
     {
         let typed = self.nlmsg.to_typed(alloc)?;
         let ext_ack = self.ext_ack.try_clone()?;

@@ -206,7 +206,7 @@ impl Framed<u16, NlPayload<u16, Buffer>> {
             (RefusesTyping (typed_payload T.wire_value P.read self.now.payload)
             (IsMessageTooLong P.view P.wire_length P.read T.wire_value self.now.payload)) }
         ensures memory { result ≡ Err RouterError.Memory
-            → typing_takes_memory P.takes_memory self.now.payload }
+            → typing_takes_memory P.read P.takes_memory self.now.payload }
         ensures empty { self.now.payload ≡ NlPayload.Empty → IsOk result }
     {
         let payload: NlPayload<T, P> = self.payload.to_typed(alloc, self.payload.body_len())?;

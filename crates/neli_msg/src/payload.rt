@@ -261,7 +261,7 @@ impl NlPayload<u16, Buffer> {
         ensures length { IfOk result (HasOwnEcho P.wire_length) }
         ensures refused { IfErr result (RefusesTyping (typed_first T.wire_value P.read n self.now)
             (IsEchoTooLong P.view P.wire_length P.read self.now)) }
-        ensures memory { result ≡ Err RouterError.Memory → first_takes_memory P.takes_memory n self.now }
+        ensures memory { result ≡ Err RouterError.Memory → first_takes_memory P.read P.takes_memory n self.now }
         ensures empty { self.now ≡ NlPayload.Empty → IsOk result }
     {
         match self {

@@ -105,7 +105,7 @@ impl RouterError<u16, Buffer> {
             (IsTypedError T.wire_value P.view P.wire_length P.read self.now) }
         ensures refused { IfErr result
             (RefusesTypingError T.wire_value P.view P.wire_length P.read self.now) }
-        ensures memory { result ≡ Err RouterError.Memory → error_takes_memory P.takes_memory self.now }
+        ensures memory { result ≡ Err RouterError.Memory → error_takes_memory P.read P.takes_memory self.now }
     {
         Ok(match self {
             RouterError::Nlmsgerr(answer) => RouterError::Nlmsgerr(answer.to_typed(alloc)?),
