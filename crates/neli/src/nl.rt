@@ -1,4 +1,4 @@
 //! Messages: the header, and the kinds of payload; the header and the body on a line, for a log.
 
 pub use neli_reader::{NlPayload, Nlmsghdr, NlmsghdrBuilder, NlmsghdrBuilderError, laws};
-pub use neli_texts::{BodyLine, LineFields, MessageLine};
+pub use neli_texts::{BodyLine, LineFields, MessageLine, laws as laws_of_texts};

@@ -73,8 +73,10 @@ pub fn virtual_functions_are_read_back()
 {}
 
 /// `==` of the lifetimes of addresses, of routes' cache entries, of counters and of what is set for virtual functions
-/// is true exactly where the two values are equal, field by field.
+/// is true exactly where the two values are equal, field by field; that of addresses of devices, where they have the
+/// same bytes.
 pub fn equality()
+    ensures hardware_address { IsEquality ⟦<crate::HardwareAddress as PartialEq>⟧.eq }
     ensures ifa_cacheinfo { IsEquality ⟦<crate::IfaCacheinfo as PartialEq>⟧.eq }
     ensures rta_cacheinfo { IsEquality ⟦<crate::RtaCacheinfo as PartialEq>⟧.eq }
     ensures link_stats64 { IsEquality ⟦<crate::LinkStats64 as PartialEq>⟧.eq }

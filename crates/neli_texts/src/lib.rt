@@ -11,6 +11,7 @@ mod body_line;
 mod exit_status;
 mod flag_names;
 mod genl_fields;
+pub mod laws;
 mod message_flags;
 mod message_line;
 mod message_types;

@@ -17,6 +17,9 @@ use Rattle.neli_payloads.proofs.laws.equality.Goals as goal
 signed : IsEquality int_eq
 signed = λ a b. signed_Decides a b
 
+pub returns-clause-hardware_address : goal.returns-clause-hardware_address
+returns-clause-hardware_address c = lists-equality bytes-equality
+
 pub returns-clause-ifa_cacheinfo : goal.returns-clause-ifa_cacheinfo
 returns-clause-ifa_cacheinfo c =
     parts-equality (λ (v : IfaCacheinfo). (v.ifa_prefered, (v.ifa_valid, (v.cstamp, v.tstamp))))
