@@ -40,5 +40,7 @@ abbrev pub owned_reading : {K V : Type 0} → (ℕ → K) → (K → ℕ) → (L
 owned_reading type_of number_of read m r = as_owned type_of number_of read m >>= λ owned. Ok (owned, r)
 
 -- where reading that payload takes memory
-abbrev pub as_owned_takes_memory : {K : Type 0} → (K → ℕ) → (List ℕ → Type 0) → Lent K → Type 0
-as_owned_takes_memory number_of takes m = payload_takes_memory takes (number_of m.0.message_type) m.0.flags m.1
+abbrev pub as_owned_takes_memory : {K V : Type 0} → (K → ℕ) → (List ℕ → Result V DeError) → (List ℕ → Type 0)
+    → Lent K → Type 0
+as_owned_takes_memory number_of read takes m =
+    payload_takes_memory read takes (number_of m.0.message_type) m.0.flags m.1

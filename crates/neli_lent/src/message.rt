@@ -144,7 +144,7 @@ impl<'b, T: NlType> LentMessage<'b, T> {
             ≡ Ok (message_of P.view m)) }
         ensures refused { IfErr result
             (Refuses (as_owned T.wire_value T.wire_number P.read (message_said self.now))
-            (as_owned_takes_memory T.wire_number P.takes_memory (message_said self.now))) }
+            (as_owned_takes_memory T.wire_number P.read P.takes_memory (message_said self.now))) }
     {
         let number = self.header.nl_type().to_number();
         let flags = *self.header.nl_flags();

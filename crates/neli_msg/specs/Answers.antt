@@ -1,6 +1,6 @@
 -- Answers: a code, what is answered, and attributes that say more (`struct nlmsgerr` of linux/netlink.h).
-use Rattle.std.specs.Prelude.{ℕ, ◌+◌, ◌-◌, ◌<◌, ◌⊎◌, ℤ, List, [], ◌++◌, codes}
-use Rattle.std.specs.Prelude.{length, take, drop, map, Result, Ok, Err, IsOkAnd, nat_lt, if◌then◌else◌}
+use Rattle.std.specs.Prelude.{ℕ, ◌+◌, ◌-◌, ◌<◌, ◌≤◌, ◌⊎◌, ℤ, List, [], ◌++◌, codes}
+use Rattle.std.specs.Prelude.{length, take, drop, map, Result, Ok, Err, IsOk, IsOkAnd, nat_lt, if◌then◌else◌}
 use Rattle.std.specs.Fmt.{signed_decimal}
 use Rattle.std.specs.Int.{w32}
 use Rattle.neli_wire.specs.DeError.{DeError}
@@ -121,9 +121,10 @@ failure_in type_of read s = do
   attrs ← ext_ack_in (after_echo s)
   Ok (answer (code_in s) (echo_with type_of s v) attrs)
 
--- where reading an error takes memory: for the echoed payload, or for attributes
-abbrev pub failure_takes_memory : (List ℕ → Type 0) → List ℕ → Type 0
-failure_takes_memory takes s = IsOkAnd (echoed_in s) (λ body. takes body ⊎ (0 < length (after_echo s)))
+-- where reading an error takes memory: for the echoed payload; or, where that is read, for attributes after it
+abbrev pub failure_takes_memory : {V : Type 0} → (List ℕ → Result V DeError) → (List ℕ → Type 0) → List ℕ → Type 0
+failure_takes_memory read takes s = (20 ≤ length s)
+    × IsOkAnd (echoed_in s) (λ body. takes body ⊎ (IsOk (read body) × (0 < length (after_echo s))))
 
 -- ---- what contracts see of an error
 

@@ -57,18 +57,20 @@ module _ {K V : Type 0} (type_of : ℕ → K) (read : List ℕ → Result V DeEr
   abbrev pub payload_in : ℕ → NlmF → List ℕ → Result (NlPayload K V) DeError
   payload_in number flags s = payload_as (kind_of number flags s) s
 
--- where reading each kind takes memory
-abbrev pub kind_takes_memory : (List ℕ → Type 0) → Kind → List ℕ → Type 0
-kind_takes_memory takes Body s = takes s
-kind_takes_memory takes Nothing s = ⊥
-kind_takes_memory takes DumpEnd s = 0 < length (drop 4 s)
-kind_takes_memory takes (Acknowledgement tail) s = tail_takes_memory tail (drop 20 s)
-kind_takes_memory takes (Capped tail) s = tail_takes_memory tail (drop 20 s)
-kind_takes_memory takes Failure s = failure_takes_memory takes s
+-- where reading takes memory, by what a body is read as and where that takes some
+module _ {V : Type 0} (read : List ℕ → Result V DeError) (takes : List ℕ → Type 0) where
+  -- each kind
+  abbrev pub kind_takes_memory : Kind → List ℕ → Type 0
+  kind_takes_memory Body s = takes s
+  kind_takes_memory Nothing s = ⊥
+  kind_takes_memory DumpEnd s = 0 < length (drop 4 s)
+  kind_takes_memory (Acknowledgement tail) s = tail_takes_memory tail (drop 20 s)
+  kind_takes_memory (Capped tail) s = tail_takes_memory tail (drop 20 s)
+  kind_takes_memory Failure s = failure_takes_memory read takes s
 
--- the same by type and flags
-abbrev pub payload_takes_memory : (List ℕ → Type 0) → ℕ → NlmF → List ℕ → Type 0
-payload_takes_memory takes number flags s = kind_takes_memory takes (kind_of number flags s) s
+  -- the same by type and flags
+  abbrev pub payload_takes_memory : ℕ → NlmF → List ℕ → Type 0
+  payload_takes_memory number flags s = kind_takes_memory (kind_of number flags s) s
 
 -- what contracts see of a payload, over what they see of a body
 abbrev pub payload_view : {K P V : Type 0} → (P → V) → NlPayload K P → NlPayload K V

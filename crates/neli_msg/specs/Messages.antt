@@ -27,8 +27,9 @@ message_layout type_of number_of read = layout_with type_of
     (λ h. payload_in type_of read (number_of h.message_type) h.flags)
 
 -- where reading the payload of a message takes memory
-abbrev pub message_takes_memory : {K : Type 0} → (K → ℕ) → (List ℕ → Type 0) → Header K → List ℕ → Type 0
-message_takes_memory number_of takes h = payload_takes_memory takes (number_of h.message_type) h.flags
+abbrev pub message_takes_memory : {K V : Type 0} → (K → ℕ) → (List ℕ → Result V DeError) → (List ℕ → Type 0)
+    → Header K → List ℕ → Type 0
+message_takes_memory number_of read takes h = payload_takes_memory read takes (number_of h.message_type) h.flags
 
 -- a message that says this
 abbrev pub message_from : {K V : Type 0} → Message K V → Nlmsghdr K V

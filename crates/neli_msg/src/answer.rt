@@ -195,7 +195,7 @@ pub(crate) fn read_failure<T: Constant<Number = u16>, P: FromBytesWithInput>(
         (λ e. failure_in T.wire_value P.read bytes.now ≡ Ok (failure_view P.view e)) }
     ensures refused { IfErr result
         (Refuses (failure_in T.wire_value P.read bytes.now)
-        (failure_takes_memory P.takes_memory bytes.now)) }
+        (failure_takes_memory P.read P.takes_memory bytes.now)) }
 {
     after(bytes, ANSWER_SIZE)?;
     let body = echoed(bytes)?;
@@ -270,7 +270,7 @@ impl<T: NlType, P: FromBytesWithInput> FromBytesWithInput for Nlmsgerr<NlmsghdrE
 
     ghost read = { failure_in T.wire_value P.read };
 
-    ghost takes_memory = { failure_takes_memory P.takes_memory };
+    ghost takes_memory = { failure_takes_memory P.read P.takes_memory };
 
     ghost no_memory = { failure_in-no_memory T.wire_value P.read P.no_memory };
 
@@ -443,7 +443,8 @@ impl Nlmsgerr<NlmsghdrAck<u16>> {
 }
 
 impl Nlmsgerr<()> {
-    /// An equal end of a dump.
+    /// An equal end of a dump, as `try_clone` gives; here the contract can say where memory is asked for, since nothing
+    /// is answered whose copy could take some.
     ///
     /// Refused only where memory runs out, and never where there are no attributes.
     pub(crate) fn copied(&self) -> Result<Self, NoMemory>

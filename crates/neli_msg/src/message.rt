@@ -46,7 +46,7 @@ impl<T: NlType, P: FromBytesWithInput> Carried<T> for NlPayload<T, P> {
 
     ghost read = { λ h. payload_in T.wire_value P.read (T.wire_number h.message_type) h.flags };
 
-    ghost takes_memory = { message_takes_memory T.wire_number P.takes_memory };
+    ghost takes_memory = { message_takes_memory T.wire_number P.read P.takes_memory };
 
     ghost no_memory = { λ h. payload_in-no_memory T.wire_value P.read P.no_memory
         (T.wire_number h.message_type) h.flags };

@@ -108,7 +108,7 @@ fn read_as<T: Constant<Number = u16>, P: FromBytesWithInput>(
         (λ p. payload_as T.wire_value P.read kind bytes.now ≡ Ok (payload_view P.view p)) }
     ensures refused { IfErr result
         (Refuses (payload_as T.wire_value P.read kind bytes.now)
-        (kind_takes_memory P.takes_memory kind bytes.now)) }
+        (kind_takes_memory P.read P.takes_memory kind bytes.now)) }
 {
     match kind {
         Kind::Body => Ok(NlPayload::Payload(read_whole(alloc, bytes)?)),
@@ -131,7 +131,7 @@ pub(crate) fn read_payload<T: Constant<Number = u16>, P: FromBytesWithInput>(
         (λ p. payload_in T.wire_value P.read number flags bytes.now ≡ Ok (payload_view P.view p)) }
     ensures refused { IfErr result
         (Refuses (payload_in T.wire_value P.read number flags bytes.now)
-        (payload_takes_memory P.takes_memory number flags bytes.now)) }
+        (payload_takes_memory P.read P.takes_memory number flags bytes.now)) }
 {
     read_as(alloc, kind_of(number, flags, bytes), bytes)
 }
@@ -155,7 +155,8 @@ impl<T: Constant<Number = u16>, P: FromBytesWithInput> NlPayload<T, P> {
         ensures refused { IfErr result
             (Refuses (exact_reading
             (payload_in T.wire_value P.read nl_type nl_flags) n cursor.old.rest)
-            (exact_takes_memory (payload_takes_memory P.takes_memory nl_type nl_flags) n cursor.old.rest)) }
+            (exact_takes_memory
+            (payload_takes_memory P.read P.takes_memory nl_type nl_flags) n cursor.old.rest)) }
         ensures unchanged { OnErr result (cursor.new ≡ cursor.old) }
     {
         let bytes = cursor.input(n)?;

@@ -1,7 +1,7 @@
 //! The reader of a datagram.
 
-ghost use Rattle.std.specs.Prelude.{◌≡◌, ◌≢◌, ◌+◌, ◌≤◌, ℕ, List, IfOk, IfSome, OnErr, OnOk, length, map};
-ghost use Rattle.neli_wire.specs.Frames.{frame_takes_memory};
+ghost use Rattle.std.specs.Prelude.{◌≡◌, ◌≢◌, ◌+◌, ◌≤◌, ℕ, List, Err, IfOk, IfSome, OnErr, OnOk, length, map};
+ghost use Rattle.neli_wire.specs.Frames.{frame_at, frame_takes_memory};
 ghost use Rattle.neli_msg.specs.Messages.{message_layout, message_of, message_takes_memory};
 ghost use Rattle.neli_reader.specs.Cuts.{IsNext, cut_of, cut_with, item_of};
 
@@ -46,7 +46,7 @@ impl<'b, T: NlType, P: FromBytesWithInput> NlBufferIter<'b, T, P> {
     pub fn next(&mut self, alloc: Global) -> Option<Result<Nlmsghdr<T, P>, SocketError>>
         ensures next { IsNext (message_layout T.wire_value T.wire_number P.read)
             (frame_takes_memory (message_layout T.wire_value T.wire_number P.read)
-            (message_takes_memory T.wire_number P.takes_memory) self.old) self.old self.new
+            (message_takes_memory T.wire_number P.read P.takes_memory) self.old) self.old self.new
             (item_of P.view result) }
         // A message takes at least the 16 bytes of its header.
         ensures shorter { IfSome result
@@ -73,7 +73,7 @@ impl<'b, T: NlType, P: FromBytesWithInput> NlBufferIter<'b, T, P> {
     ) -> Option<Result<Nlmsghdr<T2, P2>, SocketError>>
         ensures next { IsNext (message_layout T2.wire_value T2.wire_number P2.read)
             (frame_takes_memory (message_layout T2.wire_value T2.wire_number P2.read)
-            (message_takes_memory T2.wire_number P2.takes_memory) self.old) self.old self.new
+            (message_takes_memory T2.wire_number P2.read P2.takes_memory) self.old) self.old self.new
             (item_of P2.view result) }
         // A message takes at least the 16 bytes of its header.
         ensures shorter { IfSome result
@@ -112,7 +112,8 @@ fn fault_of(error: SocketError) -> Result<DeError, NoMemory>
 
 /// All the messages of a datagram, and the fault after them, if there is one.
 ///
-/// Refused only where memory runs out, which a datagram of fewer than the 16 bytes of a header does not ask for.
+/// Refused only where memory runs out. A datagram of fewer than the 16 bytes of a header does not ask for any; where its
+/// first message is refused, memory is asked for only where reading that takes some.
 pub fn cut<T: NlType, P: FromBytesWithInput>(
     alloc: Global,
     bytes: &[u8],
@@ -121,6 +122,10 @@ pub fn cut<T: NlType, P: FromBytesWithInput>(
         (message_layout T.wire_value T.wire_number P.read) bytes.now
         ≡ (map (message_of P.view) c.0.items, c.1)) }
     ensures memory { OnErr result (16 ≤ length bytes.now) }
+    ensures first { OnErr result ((e : DeError)
+        → frame_at (message_layout T.wire_value T.wire_number P.read) bytes.now ≡ Err e
+        → frame_takes_memory (message_layout T.wire_value T.wire_number P.read)
+        (message_takes_memory T.wire_number P.read P.takes_memory) bytes.now) }
 {
     let mut messages = Vec::new(alloc);
     let mut iter: NlBufferIter<'_, T, P> = NlBufferIter::new(bytes);

@@ -6,6 +6,7 @@ use neli::consts::rtnl::Rta;
 use neli::genl::NoUserHeader;
 use neli::genl::laws::{equality, genlmsghdr_is_read_back};
 use neli::implementing::bodies::laws::{attributes_are_read_back, body_is_read_back};
+use neli::nl::laws_of_texts;
 use neli::rtnl::NdaCacheinfo;
 use neli::rtnl::laws::{
     equality_of_links, equality_of_routes, fibmsg_is_read_back, ifaddrmsg_is_read_back,
@@ -35,4 +36,5 @@ fn laws_are_called() {
     equality::<CtrlCmd, CtrlAttr, NoUserHeader, Buffer>();
     equality_of_links();
     equality_of_routes();
+    laws_of_texts::equality();
 }

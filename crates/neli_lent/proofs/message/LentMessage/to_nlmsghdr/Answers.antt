@@ -20,8 +20,8 @@ returns-in_err-payload-clause-refused g c =
     let number = c.to_number-number.ensures ∙ ap g.T.Constant.wire_number c.nl_type.ensures in
     let read = payload_in g.T.Constant.wire_value g.P.FromBytesWithInput.read c.to_number-number.result
     c.nl_flags-flags.result.now in
-    let takes = payload_takes_memory g.P.FromBytesWithInput.takes_memory c.to_number-number.result
-    c.nl_flags-flags.result.now in
+    let takes = payload_takes_memory g.P.FromBytesWithInput.read g.P.FromBytesWithInput.takes_memory
+    c.to_number-number.result c.nl_flags-flags.result.now in
     let refused = whole-refused read takes (length bytes) c.new-cursor.result.rest bytes c.args.self.now.header
     c.from_residual.result c.in_err-payload.field-0.0 c.new-cursor.ensures.rest refl c.from_residual.ensures.1
     c.in_err-payload.ensures.refused in
