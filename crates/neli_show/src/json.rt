@@ -273,6 +273,7 @@ impl Json {
         ensures begun { OnOk result (Extends (W.contents out.old) (W.contents out.new)
             (IsOpen self.old.lists self.old.is_first) (IsPlace self.new.lists)) }
         ensures first { OnOk result (self.new.is_first ≡ false) }
+        ensures left { OnOk result (self.new.lists ≡ min self.old.lists (max lists 1)) }
     {
         self.close_to(out, lists)?;
         write_comma(out, self.is_first)?;
@@ -285,6 +286,7 @@ impl Json {
         ensures begun { OnOk result (Extends (W.contents out.old) (W.contents out.new)
             (IsOpen self.old.lists self.old.is_first) (IsElement self.new.lists)) }
         ensures first { OnOk result (self.new.is_first ≡ false) }
+        ensures left { OnOk result (self.new.lists ≡ min self.old.lists (max place.lists 1)) }
     {
         self.element(out, place.lists)?;
         let number = step.number;
@@ -301,8 +303,10 @@ impl Json {
         lists: usize,
     ) -> io::Result<()>
         requires { lists ≡ self.old.lists + 1 }
-        ensures { OnOk result (Extends (W.contents out.old) (W.contents out.new)
+        ensures begun { OnOk result (Extends (W.contents out.old) (W.contents out.new)
             (IsElement self.old.lists) (IsOpen self.new.lists self.new.is_first)) }
+        ensures deeper { OnOk result (self.new.lists ≡ self.old.lists + 1) }
+        ensures first { OnOk result (self.new.is_first ≡ true) }
     {
         write_nest_header(out, structure, bytes)?;
         self.lists = lists;

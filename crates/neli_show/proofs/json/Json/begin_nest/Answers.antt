@@ -5,8 +5,8 @@ use Rattle.neli_show.specs.Written.{IsElement, IsOpen}
 use Rattle.std.proofs.Common.{add-one, suc}
 use Rattle.neli_show.proofs.json.Json.begin_nest.Goals as goal
 
-pub returns : goal.returns
-returns g c =
+pub returns-clause-begun : goal.returns-clause-begun
+returns-clause-begun g c =
     let n = c.args.self.now.lists in
     rw (c.requires, add-one)
     (then_ok c.write.result c.write.ensures.bytes (λ last.

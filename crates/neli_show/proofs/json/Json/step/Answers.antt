@@ -23,3 +23,7 @@ returns-clause-begun g c =
 pub returns-clause-first : goal.returns-clause-first
 returns-clause-first g c =
     then_ok c.write_optional.result c.write_optional.ensures (λ last. c.in_ok-element.ensures.first)
+
+pub returns-clause-left : goal.returns-clause-left
+returns-clause-left g c =
+    then_ok c.write_optional.result c.write_optional.ensures (λ last. c.in_ok-element.ensures.left)

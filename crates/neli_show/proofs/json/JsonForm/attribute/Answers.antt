@@ -8,7 +8,7 @@ pub returns-in-Nest-Some : goal.returns-in-Nest-Some
 returns-in-Nest-Some g c = λ json.
     let before = IsOpen c.args.self.now.lists c.args.self.now.is_first in
     let n = c.step.new.self.lists in
-    then_ok c.begin_nest.result c.begin_nest.ensures (λ last.
+    then_ok c.begin_nest.result c.begin_nest.ensures.begun (λ last.
     extends_then before (IsElement n) (IsOpen c.begin_nest.new.self.lists c.begin_nest.new.self.is_first) _ _ _
     (element_goes_on before n _ _ _ c.in_ok-step.ensures.begun c.in_ok-write_broken.ensures) last)
 
