@@ -1,9 +1,12 @@
 //! Values: what payloads and fields of structures say.
 
-ghost use Rattle.std.specs.Prelude.{◌≡◌, ◌≢◌, ◌≤◌, Some, IsSomeAnd, length, slice_range, take};
+ghost use Rattle.std.specs.Prelude.{◌≡◌, ◌≢◌, ◌≤◌, ◌<◌, ◌==◌, Some, IfSome, IsNone, IsSomeAnd, drop, length};
+ghost use Rattle.std.specs.Prelude.{slice_range};
+ghost use Rattle.std.specs.List.{before_first, position};
 ghost use Rattle.std.specs.Net.Addr.{segments_of};
 ghost use Rattle.std.specs.Net.Text.{ipv4_text, ipv6_text};
 ghost use Rattle.std.specs.Str.{IsUtf8};
+ghost use Rattle.neli_schema.specs.Kinds.{number_size};
 ghost use Rattle.neli_show.specs.Quoted.{quoted};
 ghost use Rattle.neli_show.specs.Values.{IsWithoutZero, byte_text, bytes_text, hardware_text, hex_text, later_hex_text};
 ghost use Rattle.neli_show.specs.Values.{number_text, signed_text, value_text};
@@ -44,7 +47,8 @@ fn signed_value(bytes: &[u8], size: usize) -> Value<'_>
 
 /// The number at the front of these bytes; bytes where they are too few.
 pub fn number_value(number: Number, bytes: &[u8]) -> Value<'_>
-    ensures { value_text result ≡ Some (number_text number bytes.now) }
+    ensures text { value_text result ≡ Some (number_text number bytes.now) }
+    ensures short { length bytes.now < number_size number → result ≡ Value.Bytes bytes.entry }
 {
     let size = number.size();
     if bytes.len() < size {
@@ -68,6 +72,7 @@ pub fn number_value(number: Number, bytes: &[u8]) -> Value<'_>
 pub fn text_value(bytes: &[u8]) -> Value<'_>
     ensures text { IsUtf8 bytes.now → value_text result ≡ Some (quoted bytes.now) }
     ensures other { ¬ (IsUtf8 bytes.now) → value_text result ≡ Some (bytes_text bytes.now) }
+    ensures bytes { ¬ (IsUtf8 bytes.now) → result ≡ Value.Bytes bytes.entry }
 {
     match str::from_utf8(bytes) {
         Ok(text) => Value::Text(text),
@@ -75,13 +80,21 @@ pub fn text_value(bytes: &[u8]) -> Value<'_>
     }
 }
 
-/// The bytes before the first zero.
-fn before_zero(bytes: &[u8]) -> &[u8]
-    ensures { result.now ≡ take (length result.now) bytes.now }
+/// The index of the first zero.
+fn first_zero(bytes: &[u8]) -> Option<usize>
+    ensures value { result ≡ position (λ b. b == 0) bytes.now }
+    ensures within { IfSome result (λ place. place < length bytes.now) }
 {
-    match bytes.iter().position(|byte| *byte == 0) {
-        Some(end) if end <= bytes.len() => &bytes[..end],
-        _ => bytes,
+    bytes.iter().position(|byte| *byte == 0)
+}
+
+/// The bytes before the first zero; all where none is zero.
+fn before_zero(bytes: &[u8]) -> &[u8]
+    ensures { result.now ≡ before_first (λ b. b == 0) bytes.now }
+{
+    match first_zero(bytes) {
+        Some(end) => &bytes[..end],
+        None => bytes,
     }
 }
 
@@ -99,6 +112,7 @@ pub fn without_zero(bytes: &[u8]) -> &[u8]
 pub fn ipv4_value(bytes: &[u8]) -> Value<'_>
     ensures four { length bytes.now ≡ 4 → value_text result ≡ Some (ipv4_text bytes.now) }
     ensures other { length bytes.now ≢ 4 → value_text result ≡ Some (bytes_text bytes.now) }
+    ensures bytes { length bytes.now ≢ 4 → result ≡ Value.Bytes bytes.entry }
 {
     match <[u8; 4]>::try_from(bytes) {
         Ok(address) => Value::Ip(IpAddr::from(address)),
@@ -111,6 +125,7 @@ pub fn ipv6_value(bytes: &[u8]) -> Value<'_>
     ensures sixteen { length bytes.now ≡ 16
         → value_text result ≡ Some (ipv6_text (segments_of bytes.now)) }
     ensures other { length bytes.now ≢ 16 → value_text result ≡ Some (bytes_text bytes.now) }
+    ensures bytes { length bytes.now ≢ 16 → result ≡ Value.Bytes bytes.entry }
 {
     match <[u8; 16]>::try_from(bytes) {
         Ok(address) => Value::Ip(IpAddr::from(address)),
@@ -120,9 +135,18 @@ pub fn ipv6_value(bytes: &[u8]) -> Value<'_>
 
 /// The bytes of a field in a structure that may end early: as many as are there of bytes, and else all or none.
 fn field_bytes<'b>(field: &Field<'_>, structure: &'b [u8]) -> Option<&'b [u8]>
-    ensures { field.now.start ≤ field.now.«end» → field.now.«end» ≤ length structure.now
+    ensures whole { field.now.start ≤ field.now.«end» → field.now.«end» ≤ length structure.now
         → IsSomeAnd result (λ bytes. bytes.now
         ≡ slice_range structure.now field.now.start field.now.«end») }
+
+    // Of a field that is cut off nothing is there, or of bytes those that are left.
+    ensures cut { length structure.now < field.now.«end» → field.now.kind ≢ FieldKind.Bytes
+        → IsNone result }
+    ensures past { length structure.now < field.now.«end» → length structure.now ≤ field.now.start
+        → IsNone result }
+    ensures left { length structure.now < field.now.«end» → field.now.kind ≡ FieldKind.Bytes
+        → field.now.start < length structure.now
+        → IsSomeAnd result (λ bytes. bytes.now ≡ drop field.now.start structure.now) }
 {
     let whole = structure.get(field.start..field.end);
     match field.kind {
