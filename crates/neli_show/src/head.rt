@@ -1,9 +1,9 @@
 //! The header of a message, and the names of what it says.
 
 ghost use Rattle.std.specs.Prelude.{◌≡◌, ◌&&◌, ◌≤◌, ◌↔◌, IfSome, IsSome, find, length, nat_eq};
-ghost use Rattle.std.specs.Option.{option_copied};
+ghost use Rattle.std.specs.Option.{option_copied, option_map};
 ghost use Rattle.neli_schema.specs.Tables.{table_in};
-ghost use Rattle.neli_show.specs.Heads.{IsHead, IsHeadOf};
+ghost use Rattle.neli_show.specs.Heads.{IsHead, IsHeadOf, head_name, name_of_type};
 
 use byteorder::{ByteOrder, LittleEndian};
 use neli_consts::{NLMSG_DONE, NLMSG_ERROR, NLMSG_NOOP, NLMSG_OVERRUN};
@@ -48,15 +48,19 @@ impl<'t> Names<'t> {
     }
 
     /// The name of a type of messages.
-    fn type_name(&self, protocol: u16, message_type: u16) -> Option<&'t str> {
+    fn type_name(&self, protocol: u16, message_type: u16) -> Option<&'t str>
+        ensures { option_map (λ name. name.now) result
+            ≡ name_of_type self.now protocol message_type }
+    {
         match message_type {
             NLMSG_NOOP => Some("NLMSG_NOOP"),
             NLMSG_ERROR => Some("NLMSG_ERROR"),
             NLMSG_DONE => Some("NLMSG_DONE"),
             NLMSG_OVERRUN => Some("NLMSG_OVERRUN"),
+            _ if protocol == CONNECTOR => None,
             _ => match self.body(protocol, u32::from(message_type)) {
-                Some(body) if protocol != CONNECTOR => Some(body.name),
-                _ => None,
+                Some(body) => Some(body.name),
+                None => None,
             },
         }
     }
@@ -84,7 +88,8 @@ pub struct Head<'t> {
 impl<'t> Head<'t> {
     /// The header of a message that was read.
     pub fn of(names: &Names<'t>, protocol: u16, message: &LentMessage<'_, u16>) -> Head<'t>
-        ensures { IsHeadOf protocol message.now result }
+        ensures header { IsHeadOf protocol message.now result }
+        ensures name { head_name result ≡ name_of_type names.now protocol result.message_type }
     {
         let message_type = *message.nl_type();
         Head {
@@ -102,6 +107,8 @@ impl<'t> Head<'t> {
     pub fn read(names: &Names<'t>, protocol: u16, bytes: &[u8]) -> Option<Head<'t>>
         ensures there { IsSome result ↔ (16 ≤ length bytes.now) }
         ensures read { IfSome result (λ head. IsHead protocol bytes.now head) }
+        ensures name { IfSome result
+            (λ head. head_name head ≡ name_of_type names.now protocol head.message_type) }
     {
         if bytes.len() < 16 {
             return None;
