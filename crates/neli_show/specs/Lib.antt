@@ -1,4 +1,5 @@
 pub mod Faults
+pub mod Flags
 pub mod Heads
 pub mod Json
 pub mod Places

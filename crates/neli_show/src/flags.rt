@@ -2,6 +2,8 @@
 
 ghost use Rattle.std.specs.Prelude.{◌≡◌, OnOk};
 ghost use Rattle.std.specs.Io.KnownBytes.{Appends};
+ghost use Rattle.std.specs.List.{fold};
+ghost use Rattle.neli_show.specs.Flags.{without};
 ghost use Rattle.neli_show.specs.Json.{IsJson};
 ghost use Rattle.neli_show.specs.Values.{bits_json};
 ghost use Rattle.neli_show.specs.Written.{Extends, FirstElements, Writes, AreFlags, comma};
@@ -118,9 +120,10 @@ struct Left {
 
 /// Writes a flag, if its bit is left.
 fn write_flag<W: Write>(out: &mut W, form: FlagForm, flag: &Flag, left: &mut Left) -> io::Result<()>
-    ensures { form ≡ FlagForm.Strings → OnOk result
+    ensures written { form ≡ FlagForm.Strings → OnOk result
         (Extends (W.contents out.old) (W.contents out.new)
         (FirstElements left.old.is_first) (FirstElements left.new.is_first)) }
+    ensures left { OnOk result (left.new.bits ≡ without flag.now.0 left.old.bits) }
 {
     let (bit, name) = flag;
     let is_left = left.bits & *bit != 0;
@@ -141,9 +144,11 @@ fn write_set<W: Write>(
     flags: &[Flag],
     left: &mut Left,
 ) -> io::Result<()>
-    ensures { form ≡ FlagForm.Strings → OnOk result
+    ensures written { form ≡ FlagForm.Strings → OnOk result
         (Extends (W.contents out.old) (W.contents out.new)
         (FirstElements left.old.is_first) (FirstElements left.new.is_first)) }
+    ensures left { OnOk result (left.new.bits
+        ≡ fold (λ bits flag. without flag.0 bits) left.old.bits flags.now) }
 {
     for flag in flags {
         write_flag(out, form, flag, left)?;

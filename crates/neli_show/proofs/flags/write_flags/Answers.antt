@@ -10,7 +10,7 @@ returns-then-left-eq0 g c = λ json.
     let first = c.write_set-2.new.left.is_first in
     flags_so_far first _ _
     (extends_then (FirstElements true) (FirstElements c.write_set.new.left.is_first) (FirstElements first) _ _ _
-    (c.in_ok-write_set.ensures json) (c.in_ok-write_set-2.ensures json))
+    (c.in_ok-write_set.ensures.written json) (c.in_ok-write_set-2.ensures.written json))
 
 pub returns : goal.returns
 returns g c = λ json.
@@ -19,7 +19,7 @@ returns g c = λ json.
     then_ok c.write_bits.result (c.write_bits.ensures json) (λ last.
     flags_so_far false _ _
     (extends_then (FirstElements true) (FirstElements c.write_set.new.left.is_first) (FirstElements false) _ _ _
-    (c.in_ok-write_set.ensures json)
+    (c.in_ok-write_set.ensures.written json)
     (extends_then (FirstElements c.write_set.new.left.is_first) (FirstElements first) (FirstElements false) _ _ _
-    (c.in_ok-write_set-2.ensures json) (flag_written first _ _ _ (c.in_ok-write_between.ensures json)
+    (c.in_ok-write_set-2.ensures.written json) (flag_written first _ _ _ (c.in_ok-write_between.ensures json)
     (bits_json bits, last, bits-is_json bits)))))
