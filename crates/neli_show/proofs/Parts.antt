@@ -1,11 +1,12 @@
 -- Values, members and elements one after the other.
 use Rattle.std.proofs.Common.{◌≡◌, ℕ, zero, suc, ◌+◌, Bool, true, false, List, [], ◌++◌, codes, Option, pos, refl, sym}
-use Rattle.std.proofs.Common.{ap, subst, ◌∙◌, append_assoc, append-nil}
+use Rattle.std.proofs.Common.{ap, subst, ◌∙◌, append_assoc, append-nil, arith}
 use Rattle.std.specs.Fmt.{decimal}
 use Rattle.std.specs.List.{list_all}
 use Rattle.std.proofs.KnownBytes.{Appends-nil, Appends-trans}
-use Rattle.neli_show.specs.Json.{AreElements, AreLines, AreMembers, IsJson, array, element, elements, empty_array}
-use Rattle.neli_show.specs.Json.{empty_object, integer, is_plain, lines, member, members, object, plain, string}
+use Rattle.neli_show.specs.Json.{AreElements, AreLines, AreMembers, AreSoManyLines, IsJson, IsLine, array}
+use Rattle.neli_show.specs.Json.{element, elements, empty_array, empty_object, integer, is_plain, member, members}
+use Rattle.neli_show.specs.Json.{object, plain, string}
 use Rattle.neli_show.specs.Written.{AreHops, Extends, FirstElements, FirstMembers, InArray, InElement, InPlace, IsBegun}
 use Rattle.neli_show.specs.Written.{IsElement, IsHopBegun, IsListBegun, IsOpen, IsPlace, Turns, Writes, comma, opening}
 
@@ -81,12 +82,13 @@ begun_more level text more before is = (
       ∙ ap (λ (l : List ℕ). is.0 ++ l) (append_assoc (opening level) is.1 text),
 )
 
-pub begun_end-line : Turns (IsBegun 0) AreLines (codes "}\n")
-begun_end-line before is =
-    subst AreLines (sym (
-    ap (λ (l : List ℕ). l ++ codes "}\n") is.4 ∙ append_assoc is.0 (codes "{" ++ is.1) (codes "}\n")
-    ∙ ap (λ (l : List ℕ). is.0 ++ (codes "{" ++ l)) (sym (append_assoc is.1 (codes "}") (codes "\n")))))
-    (lines is.0 (codes "{" ++ (is.1 ++ codes "}")) is.2 (object is.1 is.3))
+pub begun_end-line : Turns (IsBegun 0) IsLine (codes "}\n")
+begun_end-line before is = (
+  codes "{" ++ (is.1 ++ codes "}"),
+  object is.1 is.3,
+  ap (λ (l : List ℕ). l ++ codes "}\n") (is.4 ∙ ap (λ (l : List ℕ). l ++ (codes "{" ++ is.1)) is.2)
+      ∙ ap (λ (l : List ℕ). codes "{" ++ l) (sym (append_assoc is.1 (codes "}") (codes "\n"))),
+)
 
 pub begun_end-request : (level : ℕ) → Turns (IsBegun (suc level)) AreMembers (codes "}")
 begun_end-request level before is =
@@ -265,3 +267,46 @@ pub writes_turned :
     (P Q : List ℕ → Type 0) (a b c : Option (List ℕ)) → Writes a b P → Extends b c P Q → Writes a c Q
 writes_turned P Q a b c first second =
     (first.0 ++ second.0, Appends-trans a b c first.0 second.0 first.1 second.1, second.2 first.0 first.2)
+
+-- ---- lines
+
+-- lines after lines
+pub lines_more :
+    (n m : ℕ) (before text : List ℕ) → AreSoManyLines n before → AreSoManyLines m text
+    → AreSoManyLines (n + m) (before ++ text)
+lines_more zero m before text none some =
+    let all : m ≡ 0 + m = omega arith in
+    subst (λ (k : ℕ). AreSoManyLines k (before ++ text)) all
+    (subst (λ (l : List ℕ). AreSoManyLines m (l ++ text)) (sym none) some)
+lines_more (suc n) m before text is some =
+    let all : suc (n + m) ≡ suc n + m = omega arith in
+    subst (λ (k : ℕ). AreSoManyLines k (before ++ text)) all (
+      is.0,
+      is.1 ++ text,
+      is.2,
+      lines_more n m is.1 text is.3 some,
+      ap (λ (l : List ℕ). l ++ text) is.4 ∙ append_assoc is.0 is.1 text,
+    )
+
+pub writes_lines :
+    (n m : ℕ) (a b c : Option (List ℕ)) → Writes a b (AreSoManyLines n) → Writes b c (AreSoManyLines m)
+    → Writes a c (AreSoManyLines (n + m))
+writes_lines n m a b c =
+    writes_then (AreSoManyLines n) (AreSoManyLines m) (AreSoManyLines (n + m)) a b c
+    (lines_more n m)
+
+pub writes_line : (a b : Option (List ℕ)) → Writes a b IsLine → Writes a b (AreSoManyLines 1)
+writes_line a b line = (line.0, line.1, (line.0, [], line.2, refl, sym (append-nil line.0)))
+
+pub writes_no_lines : (a : Option (List ℕ)) → Writes a a (AreSoManyLines 0)
+writes_no_lines a = ([], Appends-nil a, refl)
+
+pub writes_recounted :
+    (n m : ℕ) (a b : Option (List ℕ)) → n ≡ m → Writes a b (AreSoManyLines n) → Writes a b (AreSoManyLines m)
+writes_recounted n m a b same = subst (λ (k : ℕ). Writes a b (AreSoManyLines k)) same
+
+-- lines that are counted go on as lines
+pub lines_extend :
+    (n : ℕ) (a b : Option (List ℕ)) → Writes a b (AreSoManyLines n) → Extends a b AreLines AreLines
+lines_extend n a b some =
+    (some.0, some.1, λ before is. (is.0 + n, lines_more is.0 n before some.0 is.1 some.2))

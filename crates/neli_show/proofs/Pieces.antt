@@ -7,9 +7,9 @@ use Rattle.std.specs.Io.KnownBytes.{Appends}
 use Rattle.std.specs.List.{list_all}
 use Rattle.std.proofs.KnownBytes.{Appends-trans}
 use Rattle.std.proofs.lemmas.Result.{on_ok_weaker}
-use Rattle.neli_show.specs.Json.{AreLines, AreMembers, IsJson, is_plain, lines, member, members, object}
-use Rattle.neli_show.specs.Written.{AreFlags, AreHops, Extends, FirstElements, IsAround, IsBegun, IsElement, IsHopBegun}
-use Rattle.neli_show.specs.Written.{IsOpen, Turns, Writes, comma}
+use Rattle.neli_show.specs.Json.{AreMembers, IsJson, IsLine, is_plain, member, members, object}
+use Rattle.neli_show.specs.Written.{AreFlags, AreHops, Extends, FirstElements, IsAround, IsBegun, IsClosed, IsElement}
+use Rattle.neli_show.specs.Written.{IsHopBegun, IsOpen, Turns, Writes, comma}
 use Rattle.neli_show.specs.Quoted.{escaped, quoted}
 use Rattle.neli_show.specs.Values.{bits_json}
 use Rattle.neli_show.proofs.Strings.{digits-plain, escaped-chars}
@@ -120,11 +120,11 @@ pub request_begin : (level : ℕ) (text : List ℕ) → (level ≡ 0 → ⊥) �
 request_begin zero text inner some before is = absurd (inner refl)
 request_begin (suc level) text inner some before is = (before, text, is, some, refl)
 
-pub message_end : (level : ℕ) → level ≡ 0 → Turns (IsBegun level) (IsAround level) (codes "}\n")
+pub message_end : (level : ℕ) → level ≡ 0 → Turns (IsBegun level) (IsClosed level) (codes "}\n")
 message_end zero e before is = begun_end-line before is
 message_end (suc level) e before is = absurd (omega (arith, e))
 
-pub request_end : (level : ℕ) → (level ≡ 0 → ⊥) → Turns (IsBegun level) (IsAround level) (codes "}")
+pub request_end : (level : ℕ) → (level ≡ 0 → ⊥) → Turns (IsBegun level) (IsClosed level) (codes "}")
 request_end zero inner before is = absurd (inner refl)
 request_end (suc level) inner before is = begun_end-request level before is
 
@@ -224,9 +224,9 @@ hops_fault first a b c d e value json p q r s =
 
 pub fault_line :
     (fault kind : List ℕ) (place : ℕ) → list_all is_plain fault ≡ true → list_all is_plain kind ≡ true
-    → Turns AreLines AreLines (codes "{\"fault\":\""
+    → IsLine (codes "{\"fault\":\""
     ++ (fault ++ (codes "\",\"" ++ (kind ++ (codes "\":" ++ (decimal place ++ codes "}\n"))))))
-fault_line fault kind place fault_is kind_is before is =
+fault_line fault kind place fault_is kind_is =
     let first = codes "\"fault\":\"" ++ (fault ++ codes "\"") in
     let second = codes "\"" ++ (kind ++ (codes "\":" ++ decimal place)) in
     let value = codes "{" ++ ((first ++ (codes "," ++ second)) ++ codes "}") in
@@ -249,8 +249,7 @@ fault_line fault kind place fault_is kind_is before is =
     ∙ ap (λ (l : List ℕ). fault ++ (codes "\",\"" ++ l)) (
     append_assoc kind later (codes "\n")
     ∙ ap (λ (l : List ℕ). kind ++ (codes "\":" ++ l)) (append_assoc (decimal place) (codes "}") (codes "\n")))) in
-    subst AreLines (ap (λ (l : List ℕ). before ++ l) (ap (λ (l : List ℕ). l ++ codes "\n") same ∙ ended))
-    (lines before value is json)
+    (value, json, sym (ap (λ (l : List ℕ). l ++ codes "\n") same ∙ ended))
 
 -- ---- members after other parts
 

@@ -1,5 +1,5 @@
 -- JSON as text (RFC 8259), with no blanks between its parts.
-use Rattle.std.specs.Prelude.{◌≡◌, ℕ, ℤ, List, [], ◌∷◌, ◌++◌, length, codes, Bool, true, not, ◌==◌, ◌&&◌, ◌||◌, nat_le}
+use Rattle.std.specs.Prelude.{◌≡◌, ℕ, zero, suc, ℤ, List, [], ◌∷◌, ◌++◌, length, codes, Bool, true, not, ◌==◌, ◌&&◌, ◌||◌, nat_le}
 use Rattle.std.specs.Fmt.{signed_decimal}
 use Rattle.std.specs.List.{list_all}
 
@@ -44,7 +44,15 @@ mutual
         → AreMembers (codes "\"" ++ (name ++ (codes "\":" ++ value)))
     members : (text more : List ℕ) → AreMembers text → AreMembers more → AreMembers (text ++ (codes "," ++ more))
 
--- lines, each of which is the text of one value
-pub data AreLines : List ℕ → Type 0 where
-  no_lines : AreLines []
-  lines : (text value : List ℕ) → AreLines text → IsJson value → AreLines (text ++ (value ++ codes "\n"))
+-- a line, which is the text of one value
+abbrev pub IsLine : List ℕ → Type 0
+IsLine text = (value : List ℕ) × IsJson value × (text ≡ value ++ codes "\n")
+
+-- so many lines, one after the other
+abbrev pub AreSoManyLines : ℕ → List ℕ → Type 0
+AreSoManyLines zero text = text ≡ []
+AreSoManyLines (suc n) text = (line more : List ℕ) × IsLine line × AreSoManyLines n more × (text ≡ line ++ more)
+
+-- lines, however many
+abbrev pub AreLines : List ℕ → Type 0
+AreLines text = (n : ℕ) × AreSoManyLines n text

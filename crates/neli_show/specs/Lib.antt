@@ -2,6 +2,7 @@ pub mod Faults
 pub mod Flags
 pub mod Heads
 pub mod Json
+pub mod Lines
 pub mod Places
 pub mod Quoted
 pub mod Requests

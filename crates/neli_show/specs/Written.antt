@@ -1,7 +1,7 @@
 -- What is written as JSON, part by part.
 use Rattle.std.specs.Prelude.{◌≡◌, ℕ, zero, suc, List, [], ◌++◌, codes, Bool, true, false, Option}
 use Rattle.std.specs.Io.KnownBytes.{Appends}
-use Rattle.neli_show.specs.Json.{AreElements, AreLines, AreMembers}
+use Rattle.neli_show.specs.Json.{AreElements, AreMembers, IsLine}
 
 -- a text with P is written
 abbrev pub Writes : Option (List ℕ) → Option (List ℕ) → (List ℕ → Type 0) → Type 0
@@ -31,9 +31,9 @@ FirstMembers false text = AreMembers text
 
 -- ---- objects of a message and of a request
 
--- what an object of this level follows: lines, or members of a message
+-- what an object of this level follows: nothing, as each message is written by itself, or members of a message
 abbrev pub IsAround : ℕ → List ℕ → Type 0
-IsAround zero text = AreLines text
+IsAround zero text = text ≡ []
 IsAround (suc level) text = AreMembers text
 
 abbrev pub opening : ℕ → List ℕ
@@ -45,6 +45,11 @@ abbrev pub IsBegun : ℕ → List ℕ → Type 0
 IsBegun level text =
     (around members : List ℕ) × IsAround level around × AreMembers members ×
     (text ≡ around ++ (opening level ++ members))
+
+-- and what there is with its end: a line, or members of a message
+abbrev pub IsClosed : ℕ → List ℕ → Type 0
+IsClosed zero text = IsLine text
+IsClosed (suc level) text = AreMembers text
 
 -- ---- lists of attributes
 

@@ -3,9 +3,9 @@
 ghost use Rattle.std.specs.Prelude.{◌≡◌, ℕ, List, ◌++◌, Bool, true, OnOk, Some};
 ghost use Rattle.neli_show.specs.Faults.{breach_text, fault_kind, fault_text};
 ghost use Rattle.std.specs.List.{list_all};
-ghost use Rattle.neli_show.specs.Json.{AreElements, AreLines, AreMembers, is_plain};
-ghost use Rattle.neli_show.specs.Written.{AreHops, Extends, FirstElements, IsAround, IsBegun, IsHopBegun, Turns};
-ghost use Rattle.neli_show.specs.Written.{Writes};
+ghost use Rattle.neli_show.specs.Json.{AreElements, AreMembers, IsLine, is_plain};
+ghost use Rattle.neli_show.specs.Written.{AreHops, Extends, FirstElements, IsAround, IsBegun, IsClosed, IsHopBegun};
+ghost use Rattle.neli_show.specs.Written.{Turns, Writes};
 
 use crate::head::Head;
 use neli_inputs::Refusal;
@@ -131,12 +131,12 @@ pub trait Form: Copy + Drop {
     /// A message, at level 0, or a request, ends.
     fn end<W: Write>(&mut self, out: &mut W, level: usize) -> io::Result<()>
         ensures { is_json ≡ true → OnOk result
-            (Extends (W.contents out.old) (W.contents out.new) (IsBegun level) (IsAround level)) };
+            (Extends (W.contents out.old) (W.contents out.new) (IsBegun level) (IsClosed level)) };
 
     /// A fault and its place, where there is no message.
     fn fault<W: Write>(&mut self, out: &mut W, place: usize, fault: Fault<'_>) -> io::Result<()>
         ensures { is_json ≡ true → OnOk result
-            (Extends (W.contents out.old) (W.contents out.new) AreLines AreLines) };
+            (Writes (W.contents out.old) (W.contents out.new) IsLine) };
 }
 
 /// How a payload breaks its row, in words.

@@ -1,10 +1,12 @@
 //! Messages, part by part, whatever the form that they are printed in.
 
-ghost use Rattle.std.specs.Prelude.{◌≡◌, ◌+◌, ◌-◌, ◌<◌, ◌≤◌, ◌^◌, IfSome, OnOk, bit_and, drop, length, nat_eq, true};
-ghost use Rattle.std.specs.Prelude.{if◌then◌else◌};
+ghost use Rattle.std.specs.Prelude.{◌≡◌, ◌+◌, ◌-◌, ◌<◌, ◌≤◌, ◌^◌, IfOk, IfSome, OnOk, bit_and, drop, length};
+ghost use Rattle.std.specs.Prelude.{◌≢◌, ◌⊎◌, pos, true};
+ghost use Rattle.byteorder.specs.Endian.{little_number};
 ghost use Rattle.neli_show.specs.Heads.{body_family};
-ghost use Rattle.neli_show.specs.Json.{AreElements, AreLines, AreMembers};
-ghost use Rattle.neli_show.specs.Places.{hop_size, lists_of};
+ghost use Rattle.neli_show.specs.Json.{AreElements, AreLines, AreMembers, AreSoManyLines, IsLine};
+ghost use Rattle.neli_show.specs.Lines.{datagram_lines};
+ghost use Rattle.neli_show.specs.Places.{echoed_size, header_end, hop_size, lists_of, whole_request_end};
 ghost use Rattle.neli_show.specs.Written.{AreHops, Extends, FirstElements, IsBegun, Writes};
 
 use crate::form::{Fault, Form, Place};
@@ -320,8 +322,10 @@ fn show_echo<F: Form, W: Write>(
     request: &Head<'_>,
     echoed: &[u8],
 ) -> io::Result<usize>
-    ensures { F.is_json ≡ true → OnOk result
+    ensures written { F.is_json ≡ true → OnOk result
         (Extends (W.contents out.old) (W.contents out.new) AreMembers AreMembers) }
+    ensures size { IfOk result (λ n. n ≡ echoed_size request.now.length echoed.now) }
+    ensures few { IfOk result (λ n. n < 2 ^ 32) }
 {
     let length = (request.length as usize)
         .saturating_sub(16)
@@ -338,8 +342,10 @@ fn show_whole_request<F: Form, W: Write>(
     request: &Head<'_>,
     payload: &[u8],
 ) -> io::Result<usize>
-    ensures { F.is_json ≡ true → OnOk result
+    ensures written { F.is_json ≡ true → OnOk result
         (Extends (W.contents out.old) (W.contents out.new) (IsBegun 1) AreMembers) }
+    ensures place { IfOk result
+        (λ start. start ≡ whole_request_end request.now.length payload.now) }
 {
     let length = show_echo(form, out, names, request, bytes_from(payload, 20))?;
     form.end(out, 1)?;
@@ -348,8 +354,7 @@ fn show_whole_request<F: Form, W: Write>(
 
 /// Where the attributes of an answer begin in its payload, if it echoes a header alone.
 fn attributes_start(answer: &Head<'_>, payload: &[u8]) -> usize
-    ensures { result ≡ (if nat_eq (bit_and answer.now.flags 0x200) 0
-        then length payload.now else 20) }
+    ensures { result ≡ header_end answer.now.flags payload.now }
 {
     if answer.flags & ACK_TLVS != 0 {
         20
@@ -367,8 +372,14 @@ fn show_request<F: Form, W: Write>(
     code: i32,
     payload: &[u8],
 ) -> io::Result<usize>
-    ensures { F.is_json ≡ true → OnOk result
+    ensures written { F.is_json ≡ true → OnOk result
         (Extends (W.contents out.old) (W.contents out.new) AreMembers AreMembers) }
+    ensures short { length payload.now < 20 → IfOk result (λ start. start ≡ length payload.now) }
+    ensures whole { 20 ≤ length payload.now → code ≢ pos 0 → bit_and answer.now.flags 0x100 ≡ 0
+        → IfOk result (λ start. start
+        ≡ whole_request_end (little_number 4 (drop 4 payload.now)) payload.now) }
+    ensures header { 20 ≤ length payload.now → (code ≡ pos 0) ⊎ (bit_and answer.now.flags 0x100 ≢ 0)
+        → IfOk result (λ start. start ≡ header_end answer.now.flags payload.now) }
 {
     let Some(request) = Head::read(names, answer.protocol, bytes_from(payload, 4)) else {
         return Ok(payload.len());
@@ -446,7 +457,7 @@ fn show_message<F: Form, W: Write>(
     message: &LentMessage<'_, u16>,
 ) -> io::Result<()>
     ensures { F.is_json ≡ true → OnOk result
-        (Extends (W.contents out.old) (W.contents out.new) AreLines AreLines) }
+        (Writes (W.contents out.old) (W.contents out.new) IsLine) }
 {
     let head = Head::of(names, protocol, message);
     form.head(out, 0, &head)?;
@@ -462,8 +473,11 @@ pub fn show_datagram<F: Form, W: Write>(
     protocol: u16,
     bytes: &[u8],
 ) -> io::Result<bool>
-    ensures { F.is_json ≡ true → OnOk result
+    ensures written { F.is_json ≡ true → OnOk result
         (Extends (W.contents out.old) (W.contents out.new) AreLines AreLines) }
+    ensures lines { F.is_json ≡ true → OnOk result
+        (Writes (W.contents out.old) (W.contents out.new)
+        (AreSoManyLines (datagram_lines bytes.now))) }
 {
     let mut place: usize = 0;
     for message in LentMessages::<u16>::new(bytes) {

@@ -1,10 +1,13 @@
-use Rattle.std.proofs.Common.{◌≡◌, true}
-use Rattle.neli_show.specs.Json.{AreLines}
-use Rattle.neli_show.specs.Written.{Extends}
+use Rattle.std.proofs.Common.{◌≡◌, ℕ, ◌+◌, length, true}
+use Rattle.neli_lent.specs.Messages.{messages_in}
+use Rattle.neli_lent.specs.Walks.{items_of}
+use Rattle.neli_show.specs.Json.{AreSoManyLines}
+use Rattle.neli_show.specs.Lines.{datagram_lines}
+use Rattle.neli_show.specs.Written.{Writes}
 use Rattle.neli_show.proofs.show.show_datagram.Given as goal
 
--- the messages passed are written
+-- each message passed is a line, and the others are still to come
 abbrev pub invariant-loop-message : goal.invariant-loop-message
 invariant-loop-message g l =
-    g.F.Form.is_json ≡ true
-    → Extends (g.W.Write.contents l.fn.out) (g.W.Write.contents l.out) AreLines AreLines
+    (n : ℕ) × (n + length (items_of (messages_in (λ n. n) l.message-iterator)) ≡ datagram_lines l.fn.bytes)
+    × (g.F.Form.is_json ≡ true → Writes (g.W.Write.contents l.fn.out) (g.W.Write.contents l.out) (AreSoManyLines n))
