@@ -2,7 +2,8 @@
 
 ghost use Rattle.std.specs.Prelude.{◌≡◌, ◌≢◌, Err, IfErr, IfOk, Ok, OnErr, OnOk, true};
 ghost use Rattle.std.specs.IoError.{error_kind};
-ghost use Rattle.std.specs.Option.{option_map};
+ghost use Rattle.std.specs.Io.KnownBytes.{IsAtEnd};
+ghost use Rattle.std.specs.Option.{option_map, unwrap_or};
 ghost use Rattle.neli_show.specs.declared.request.Request.{Request as Asked};
 ghost use Rattle.neli_show.specs.Json.{AreLines};
 ghost use Rattle.neli_show.specs.Runs.{asked_in, complaint_text, shown_status, status_code, unread_status};
@@ -14,7 +15,7 @@ use crate::json::Json;
 use crate::request::{Output, Request, request_of};
 use crate::show::show_datagram;
 use crate::text::Text;
-use neli_inputs::{Input, Item, read_input};
+use neli_inputs::{Input, Item, Packet, read_input};
 use neli_kernel_tables::{all_tables, bodies};
 use neli_schema::tables::process_event;
 use neli_schema::{Schema, Table};
@@ -68,6 +69,13 @@ impl Status {
     }
 }
 
+/// The protocol of a datagram: the one that the input says, or else this one.
+fn protocol_of(packet: &Packet, asked: u16) -> u16
+    ensures { result ≡ unwrap_or packet.now.family asked }
+{
+    packet.family.unwrap_or(asked)
+}
+
 /// Prints a part of an input, and answers whether it is messages.
 fn show_part<F: Form, W: Write>(
     form: &mut F,
@@ -83,8 +91,7 @@ fn show_part<F: Form, W: Write>(
     match part.packet {
         Ok(packet) => {
             let bytes = input.bytes.get(packet.start..packet.end).unwrap_or(&[]);
-            let protocol = packet.family.unwrap_or(protocol);
-            show_datagram(form, out, names, protocol, bytes)
+            show_datagram(form, out, names, protocol_of(&packet, protocol), bytes)
         }
         Err(refusal) => {
             form.fault(out, part.place, Fault::Input(refusal))?;
@@ -185,6 +192,7 @@ fn show<R: Read, W: Write>(alloc: Global, request: Request, input: &mut R, out: 
     ensures asked { result ≢ Status.Usage }
     ensures unread { result ≡ Status.NoInput → out.new ≡ out.old }
     ensures memory { result ≡ Status.Memory → out.new ≡ out.old }
+    ensures read { result ≢ Status.NoInput → result ≢ Status.Memory → IsAtEnd (R.remaining input.new) }
 {
     let mut bytes = Vec::new(alloc);
     match input.read_to_end(&mut bytes) {
@@ -225,6 +233,8 @@ pub fn run<R: Read, W: Write, C: Write>(
         (λ status. (result ≡ status) × (out.new ≡ out.old) × (input.new ≡ input.old)) }
     ensures unread { result ≡ Status.NoInput → out.new ≡ out.old }
     ensures memory { result ≡ Status.Memory → out.new ≡ out.old }
+    ensures read { (request : Asked) → asked_in words.now ≡ Ok request → result ≢ Status.NoInput
+        → result ≢ Status.Memory → IsAtEnd (R.remaining input.new) }
 {
     let status = match asked(words) {
         Ok(request) => show(alloc, request, input, out),
