@@ -1,6 +1,6 @@
 -- A datagram that is read and written again.
 use Rattle.std.proofs.Common.{◌≡◌, ◌≢◌, ℕ, List, [], ◌∷◌, map, Option, Some, None, Ok, Err, refl, sym, ap, subst, ◌∙◌}
-use Rattle.std.proofs.Common.{arith}
+use Rattle.std.proofs.Common.{◌≤◌, arith, length}
 use Rattle.std.specs.List.{All}
 use Rattle.std.proofs.Common.{Fits, w8}
 use Rattle.std.specs.Prelude.{slice_index}
@@ -10,7 +10,9 @@ use Rattle.std.specs.declared.io.ErrorKind.TheVariants.{UnexpectedEof}
 use Rattle.neli_wire.specs.DeError.{DeError}
 use Rattle.neli_wire.specs.DeError.TheVariants as de
 use Rattle.neli_wire.specs.Numbers.{AreBytes}
-use Rattle.neli_wire.specs.Writing.{Wire, ◌+++◌, append_wire, wire_all}
+use Rattle.neli_wire.specs.SerError.{SerError}
+use Rattle.neli_wire.specs.SerError.TheVariants as ser
+use Rattle.neli_wire.specs.Writing.{RefusesWrite, Wire, ◌+++◌, append_wire, wire_all}
 use Rattle.neli_reader.specs.Framed.{Nlmsghdr}
 use Rattle.neli_reader.specs.NlPayload.{NlPayload}
 use Rattle.neli_reader.specs.NlPayload.TheVariants as payload
@@ -20,7 +22,7 @@ use Rattle.neli_reader.specs.Headers.{Header}
 use Rattle.neli_reader.specs.Messages.{message_of}
 use Rattle.neli_reader.specs.Wires.{message_wire}
 use Rattle.neli_reader.specs.Zeroed.{HasNoTail, untyped_wire, untyped_wires, datagram_zeroed}
-use Rattle.neli_reader.specs.laws.Cuts.{cut_of-Cuts, whole_frames}
+use Rattle.neli_reader.specs.laws.Cuts.{Cuts-long, cut_of-Cuts, whole_frames}
 use Rattle.neli_reader.specs.laws.Messages.{layout_with-placed}
 use Rattle.neli_reader.specs.laws.Zeroed.{datagram-back}
 use Rattle.neli_listing.specs.declared.line.Ending.{Ending}
@@ -93,6 +95,24 @@ rewritten bytes old written items fits cut whole none writes =
       subst (λ (c : Cut Raw). All HasNoTail c.0) (sym cut) tails,
       is,
     )
+
+-- only messages are refused, and the first of them has the bytes of a header
+pub refused_long : (bytes : List ℕ) (items : List Held) (f : Option DeError) (e : SerError)
+    → raw_cut bytes ≡ (map seen items, f) → RefusesWrite (wire_all held_wire items) e → 16 ≤ length bytes
+refused_long bytes [] f e cut refused = absurd (none e refused)
+  where
+    none : (e : SerError) → RefusesWrite (Ok []) e → ⊥
+    none ser.Memory h = absurd (omega (arith, h))
+    none (ser.Msg m) h = cc
+    none (ser.Io k) h = cc
+    none (ser.Utf8 u) h = cc
+refused_long bytes (m ∷ items) f e cut refused =
+    let placed = layout_with-placed (λ n. n) _ in
+    let found : Cuts untyped_layout bytes (raw_cut bytes).0 (raw_cut bytes).1 =
+    cut_of-Cuts untyped_layout placed (omega arith) bytes in
+    let cuts : Cuts untyped_layout bytes (map seen (m ∷ items)) f =
+    subst (λ (c : Cut Raw). Cuts untyped_layout bytes c.0 c.1) cut found in
+    omega (arith, Cuts-long untyped_layout placed (omega arith) bytes (map seen (m ∷ items)) f cuts)
 
 -- a message has a tail
 pub has_tail : (bytes old : List ℕ) (items : List Held) → old ≡ [] → raw_cut bytes ≡ (map seen items, None)

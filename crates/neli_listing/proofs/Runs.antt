@@ -5,20 +5,20 @@ use Rattle.neli_listing.specs.declared.status.Status.{Status}
 use Rattle.neli_listing.specs.declared.status.Status.TheVariants as status
 use Rattle.neli_listing.specs.declared.line.Ending.{Ending}
 use Rattle.neli_listing.specs.declared.line.Ending.TheVariants.{Whole, Input, Short, Other, Tail, Memory}
-use Rattle.neli_listing.specs.Inputs.{IsInput}
+use Rattle.neli_listing.specs.Inputs.{HasAtLeast, IsInput}
 use Rattle.neli_listing.specs.Lines.{ending}
 use Rattle.neli_listing.specs.Runs.{Makes, Prints, PrintsMemory, status_by}
 
-pub memory_prints : (makes : Makes) (known old new : Option (List ℕ)) (s : Status) → PrintsMemory old new s
-    → Prints makes known old new s
-memory_prints makes known old new status.Memory p = inl p
-memory_prints makes known old new status.NoOutput p = tt
-memory_prints makes known old new status.Whole p = absurd p
-memory_prints makes known old new status.Fault p = absurd p
-memory_prints makes known old new status.NoInput p = absurd p
-memory_prints makes known old new status.BadLine p = absurd p
-memory_prints makes known old new status.Usage p = absurd p
-memory_prints makes known old new status.NoUsage p = absurd p
+pub memory_prints : (makes : Makes) (known old new : Option (List ℕ)) (s : Status) → HasAtLeast 1 known
+    → PrintsMemory old new s → Prints makes known old new s
+memory_prints makes known old new status.Memory some p = inl (some, p)
+memory_prints makes known old new status.NoOutput some p = tt
+memory_prints makes known old new status.Whole some p = absurd p
+memory_prints makes known old new status.Fault some p = absurd p
+memory_prints makes known old new status.NoInput some p = absurd p
+memory_prints makes known old new status.BadLine some p = absurd p
+memory_prints makes known old new status.Usage some p = absurd p
+memory_prints makes known old new status.NoUsage some p = absurd p
 
 pub text_prints : (makes : Makes) (known old new : Option (List ℕ)) (bytes text : List ℕ) (e : Ending)
     → IsInput known bytes → makes bytes text e → Appends old new (text ++ ending e)

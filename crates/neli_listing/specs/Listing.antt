@@ -5,14 +5,14 @@ use Rattle.std.specs.List.{flat_map}
 use Rattle.std.specs.Fmt.{decimal, signed_decimal}
 use Rattle.neli_wire.specs.DeError.{DeError}
 use Rattle.neli_wire.specs.DeError.TheVariants as de
-use Rattle.neli_wire.specs.Frames.{frame_at}
+use Rattle.neli_wire.specs.Frames.{AreFrames, frame_at, frame_takes_memory}
 use Rattle.std.specs.declared.io.ErrorKind.TheVariants.{UnexpectedEof}
 use Rattle.neli_lent.specs.Messages.{Lent, lent_message}
 use Rattle.neli_reader.specs.NlPayload.{NlPayload}
 use Rattle.neli_reader.specs.NlPayload.TheVariants as payload
 use Rattle.neli_reader.specs.Agreement.{untyped_layout}
 use Rattle.neli_reader.specs.Headers.{Header}
-use Rattle.neli_reader.specs.Messages.{Message}
+use Rattle.neli_reader.specs.Messages.{Message, message_takes_memory}
 use Rattle.neli_reader.specs.Cuts.{Cut, cut_of}
 use Rattle.neli_listing.specs.declared.line.Heading.{Heading}
 use Rattle.neli_listing.specs.declared.line.Kind.{Kind}
@@ -109,13 +109,31 @@ abbrev pub BeginsWithBody : List ℕ → Type 0
 BeginsWithBody bytes = (m : Lent ℕ) × (rest : List ℕ) × (frame_at (lent_message (λ n. n)) bytes ≡ Ok (m, rest))
     × (m.0.message_type ≢ 2) × (m.0.message_type ≢ 3)
 
+-- ---- where memory is asked for
+
+-- where reading the message that begins the bytes takes memory, with a body as its bytes
+abbrev pub reading_takes_memory : List ℕ → Type 0
+reading_takes_memory =
+    frame_takes_memory untyped_layout (message_takes_memory (λ n. n) (λ b. Ok b) (λ b. 0 < length b))
+
+-- where its line takes memory: a body that has its padding is not copied
+abbrev pub line_takes_memory : List ℕ → Type 0
+line_takes_memory bytes = reading_takes_memory bytes × (¬ BeginsWithBody bytes)
+
+-- the datagram is the frames of its first k messages, and then bytes of which the line takes memory
+abbrev pub TakesMemoryAfter : ℕ → List ℕ → Type 0
+TakesMemoryAfter k bytes = (front : List ℕ) × (left : List ℕ) × (bytes ≡ front ++ left)
+    × AreFrames untyped_layout front (take k (raw_cut bytes).0) × line_takes_memory left
+
+-- ---- what is listed
+
 -- after the first k messages of a cut stands another, or a fault
 abbrev pub GoesOnAfter : ℕ → Cut Raw → Type 0
 GoesOnAfter k cut = (k < length cut.0) ⊎ (cut.1 ≢ None)
 
 -- the lines are those of the datagram's messages, and the ending that of its fault; or memory ran out at a
--- message or a fault, and they are those of all messages before it
+-- message or a fault that takes some, and they are those of all messages before it
 abbrev pub Lists : List ℕ → List ℕ → Ending → Type 0
 Lists bytes lines Memory =
-    (k : ℕ) × GoesOnAfter k (raw_cut bytes) × (lines ≡ lines_of (take k (raw_cut bytes).0))
+    (k : ℕ) × GoesOnAfter k (raw_cut bytes) × TakesMemoryAfter k bytes × (lines ≡ lines_of (take k (raw_cut bytes).0))
 Lists bytes lines e = (lines ≡ lines_of (raw_cut bytes).0) × (e ≡ ending_of (raw_cut bytes).1)

@@ -5,7 +5,7 @@ use Rattle.neli_listing.specs.declared.line.Ending.{Ending}
 use Rattle.neli_listing.specs.declared.line.Ending.TheVariants.{Whole, Memory}
 use Rattle.neli_listing.specs.declared.status.Status.{Status}
 use Rattle.neli_listing.specs.declared.status.Status.TheVariants as status
-use Rattle.neli_listing.specs.Inputs.{IsInput}
+use Rattle.neli_listing.specs.Inputs.{HasAtLeast, IsInput}
 use Rattle.neli_listing.specs.Lines.{ending}
 
 -- ---- how a run ends
@@ -46,13 +46,13 @@ PrintsMemory old new status.NoOutput = ⊤
 PrintsMemory old new s = ⊥
 
 -- the output gains the text that is made of the input, which ends as the status says, or nothing where the input
--- fails; where memory runs out before the input is read, the line for that alone
+-- fails; where memory runs out while the input is read, which has a byte then, the line for that alone
 abbrev pub Prints : Makes → Option (List ℕ) → Option (List ℕ) → Option (List ℕ) → Status → Type 0
 Prints makes known old new status.Whole = GainsText makes known old new Whole
 Prints makes known old new status.Fault =
     (e : Ending) × (status_by e ≡ status.Fault) × GainsText makes known old new e
 Prints makes known old new status.Memory =
-    Appends old new (ending Memory) ⊎ GainsText makes known old new Memory
+    (HasAtLeast 1 known × Appends old new (ending Memory)) ⊎ GainsText makes known old new Memory
 Prints makes known old new status.NoInput = Keeps old new
 Prints makes known old new status.NoOutput = ⊤
 Prints makes known old new s = ⊥

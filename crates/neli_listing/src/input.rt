@@ -49,13 +49,14 @@ impl From<AllocError> for InputError {
 /// All the bytes that the input still has.
 ///
 /// Refused where a call of `read` fails, where the input has not ended after a million calls of `read`,
-/// and where memory runs out. The bytes that were read are lost then.
+/// and where memory runs out, which is asked for where a byte came. The bytes that were read are lost then.
 #[tactic(auto, using(crate::proofs::Streams::consumes_long, crate::proofs::Streams::longer))]
 pub fn read_whole<R: Read>(alloc: Global, input: &mut R) -> Result<Vec<u8>, InputError>
     ensures whole { IfOk result (λ bytes. IsInput (R.remaining input.old) bytes.items) }
     // A call that is not the last gives a byte or more.
     ensures endless { IfErr result (λ e. e ≡ InputError.Endless
         → HasAtLeast 1000000 (R.remaining input.old)) }
+    ensures memory { IfErr result (λ e. e ≡ InputError.Memory → HasAtLeast 1 (R.remaining input.old)) }
 {
     let mut bytes = Vec::new(alloc);
     let mut piece = [0; PIECE];

@@ -1,16 +1,17 @@
 //! The listing of a datagram.
 
-ghost use Rattle.std.specs.Prelude.{⊤, ◌≡◌, ◌≢◌, ◌++◌, List, ℕ, Ok, Some, IfOk, IfErr, OnOk, OnErr, IsOk};
+ghost use Rattle.std.specs.Prelude.{◌≡◌, ◌≢◌, ◌<◌, ◌++◌, List, ℕ, length, Ok, Some, IfOk, IfErr, OnOk, OnErr, IsOk};
 ghost use Rattle.std.specs.Io.KnownBytes.{Appends};
 ghost use Rattle.neli_wire.specs.Frames.{frame_at};
 ghost use Rattle.neli_wire.specs.Place.{whole};
 ghost use Rattle.neli_wire.specs.Refusals.{Refuses};
 ghost use Rattle.neli_reader.specs.Agreement.{untyped_layout};
-ghost use Rattle.neli_lent.specs.Messages.{as_owned, message_said};
+ghost use Rattle.neli_lent.specs.Messages.{as_owned, as_owned_takes_memory, message_said};
 ghost use Rattle.neli_listing.specs.declared.line.Ending.TheVariants as line;
 ghost use Rattle.neli_listing.specs.declared.status.Status.TheVariants as status;
 ghost use Rattle.neli_listing.specs.Lines.{ending as ending_text};
 ghost use Rattle.neli_listing.specs.Listing.{BeginsWith, BeginsWithBody, IsLineOf, Lists, ending_by, ending_of};
+ghost use Rattle.neli_listing.specs.Listing.{reading_takes_memory};
 ghost use Rattle.neli_listing.specs.Runs.{Prints, PrintsMemory, status_by};
 
 use crate::input::{InputError, read_whole};
@@ -48,12 +49,15 @@ fn ending_at(error: &DeError) -> Ending
 /// The line of a message that is lent. A body is not looked at; an error, an acknowledgement or the end of a
 /// dump is read, since its attributes are counted.
 ///
-/// Refused as that payload is refused. A body takes no memory.
+/// Refused as that payload is refused. It takes memory where the payload has attributes or an echo to copy; a body
+/// takes none.
 fn line_of(alloc: Global, message: &LentMessage<'_, u16>) -> Result<Line, DeError>
     ensures value { IfOk result
         (IsLineOf (as_owned (λ n. n) (λ n. n) (λ b. Ok b) (message_said message.now))) }
     ensures refused { IfErr result
-        (Refuses (as_owned (λ n. n) (λ n. n) (λ b. Ok b) (message_said message.now)) ⊤) }
+        (Refuses (as_owned (λ n. n) (λ n. n) (λ b. Ok b) (message_said message.now))
+        (as_owned_takes_memory (λ n. n) (λ b. Ok b) (λ b. 0 < length b)
+        (message_said message.now))) }
     ensures body { message.now.header.message_type ≢ 2 → message.now.header.message_type ≢ 3
         → IsOk result }
 {
@@ -68,7 +72,8 @@ fn line_of(alloc: Global, message: &LentMessage<'_, u16>) -> Result<Line, DeErro
 /// Reads the message that the cursor's rest begins with as an owned one, and gives its line.
 fn read_owned_line(alloc: Global, cursor: &mut Cursor<'_>) -> Result<Line, DeError>
     ensures value { IfOk result (λ l. BeginsWith cursor.old.rest l cursor.new.rest) }
-    ensures refused { IfErr result (Refuses (frame_at untyped_layout cursor.old.rest) ⊤) }
+    ensures refused { IfErr result (Refuses (frame_at untyped_layout cursor.old.rest)
+        (reading_takes_memory cursor.old.rest)) }
     ensures moved { OnOk result (whole cursor.new ≡ whole cursor.old) }
     ensures unchanged { OnErr result (cursor.new ≡ cursor.old) }
 {
@@ -78,11 +83,12 @@ fn read_owned_line(alloc: Global, cursor: &mut Cursor<'_>) -> Result<Line, DeErr
 
 /// Reads the message that the cursor's rest begins with, and gives its line.
 ///
-/// Refused as reading it as an untyped message is. It takes no memory where the payload is a body by the message's type
-/// alone, and the padding is there.
+/// Refused as reading it as an untyped message is. It takes memory only where that reading does, for bytes that are
+/// copied; and none where the payload is a body by the message's type alone, and the padding is there.
 pub fn read_line(alloc: Global, cursor: &mut Cursor<'_>) -> Result<Line, DeError>
     ensures value { IfOk result (λ l. BeginsWith cursor.old.rest l cursor.new.rest) }
-    ensures refused { IfErr result (Refuses (frame_at untyped_layout cursor.old.rest) ⊤) }
+    ensures refused { IfErr result (Refuses (frame_at untyped_layout cursor.old.rest)
+        (reading_takes_memory cursor.old.rest)) }
     ensures body { BeginsWithBody cursor.old.rest → IsOk result }
     ensures moved { OnOk result (whole cursor.new ≡ whole cursor.old) }
     ensures unchanged { OnErr result (cursor.new ≡ cursor.old) }
@@ -99,7 +105,7 @@ pub fn read_line(alloc: Global, cursor: &mut Cursor<'_>) -> Result<Line, DeError
 
 /// Writes a line for each message of a datagram, and answers how they end.
 ///
-/// Where memory runs out, the lines are those of the messages before it did.
+/// Where memory runs out, the lines are those of the messages before it did, and the line after them takes memory.
 pub fn write_lines<W: Write>(alloc: Global, bytes: &[u8], output: &mut W) -> io::Result<Ending>
     ensures lists { IfOk result (λ e. (lines : List ℕ) × Lists bytes.now lines e
         × Appends (W.contents output.old) (W.contents output.new) lines) }

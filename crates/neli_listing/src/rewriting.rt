@@ -74,7 +74,7 @@ fn are_whole(messages: &[RawMessage]) -> bool
 /// What a datagram is written again as.
 ///
 /// Where it has a fault, it is not written, nor where a message has bytes that are not read.
-#[tactic(auto, using(crate::proofs::Rewritings::rewritten, crate::proofs::Rewritings::has_tail, crate::proofs::Rewritings::has_fault))]
+#[tactic(auto, using(crate::proofs::Rewritings::rewritten, crate::proofs::Rewritings::has_tail, crate::proofs::Rewritings::has_fault, crate::proofs::Rewritings::refused_long))]
 pub fn rewriting_of(alloc: Global, bytes: &[u8]) -> Rewriting
     ensures { Rewrites bytes.now result.bytes.items result.ending }
 {

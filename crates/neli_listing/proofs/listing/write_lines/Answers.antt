@@ -1,7 +1,7 @@
 use Rattle.std.proofs.Common.{rules, ◌≡◌, ◌≢◌, [], true, false, length, sym, ◌∙◌}
 use Rattle.std.proofs.lemmas.Bool.{eqb-true}
 use Rattle.neli_reader.specs.laws.Cuts.{empty_is}
-use Rattle.neli_listing.proofs.Listings.{line_shorter, printed_end, printed_error, printed_more}
+use Rattle.neli_listing.proofs.Listings.{line_refused, line_shorter, printed_end, printed_error, printed_more}
 use Rattle.neli_listing.proofs.PlainBodies.{listed-named}
 use Rattle.neli_listing.proofs.listing.write_lines.Goals as goal
 
@@ -19,7 +19,8 @@ returns-in-Err-clause-lists g c =
     let none : (true ≡ false → left ≡ []) × (left ≡ [] → true ≡ false) = search rules in
     let any : left ≢ [] = λ e. let f = none.1 e in cc in
     rw c.ending_at.ensures (printed_error c.args.bytes.now _ _ left c.in-Err.error c.loop-cursor.invariant any
-    c.in-Err.ensures.refused)
+    (line_refused left c.in-Err.error (λ begins. let no = c.in-Err.ensures.body begins in cc)
+    c.in-Err.ensures.refused))
 
 pub returns-in-Err-clause-named : goal.returns-in-Err-clause-named
 returns-in-Err-clause-named g c =

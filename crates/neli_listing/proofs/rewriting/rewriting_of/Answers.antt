@@ -1,9 +1,9 @@
-use Rattle.std.proofs.Common.{sym, subst}
+use Rattle.std.proofs.Common.{rules, sym, subst}
 use Rattle.std.specs.Prelude.{IsTrue}
 use Rattle.std.specs.List.{All}
 use Rattle.neli_reader.specs.Messages.{message_of}
 use Rattle.neli_reader.specs.Zeroed.{HasNoTail}
-use Rattle.neli_listing.proofs.Rewritings.{has_tail, no_fault, rewritten}
+use Rattle.neli_listing.proofs.Rewritings.{has_tail, no_fault, refused_long, rewritten}
 use Rattle.neli_listing.proofs.rewriting.rewriting_of.Goals as goal
 
 pub returns-then-not-are_whole : goal.returns-then-not-are_whole
@@ -26,3 +26,10 @@ returns c =
     (subst (All (λ m. HasNoTail (message_of (λ b. b) m))) c.deref.ensures.value
     (c.are_whole.ensures.0 c.if-not-are_whole.false))
     c.new-written.ensures.items c.in-Ok-to_bytes.ensures.appended
+
+pub returns-in_default-to_bytes : goal.returns-in_default-to_bytes
+returns-in_default-to_bytes c = (
+  refused_long c.args.bytes.now c.in-Ok.messages.items c.in-Ok.fault c.in_default-to_bytes.field-0
+      c.in-Ok.ensures.cut c.in_default-to_bytes.ensures.refused,
+  search rules,
+)
