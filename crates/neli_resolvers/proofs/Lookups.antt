@@ -1,6 +1,18 @@
 -- What look-ups say, in the words of `specs/Attributes.antt`.
 use Rattle.std.proofs.Common.{◌≡◌, ℕ, Bool, true, false, cond, List, [], ◌∷◌, Option, Some, None, Result, Ok, Err, refl}
-use Rattle.std.proofs.Common.{ap, inl, inr, map, find, option_map, IsSomeAnd, IfOk, IfErr}
+use Rattle.std.proofs.Common.{ap, inl, inr, map, find, option_map, IsErrAnd, IsSomeAnd, IfOk, IfErr, OnErr, ◌<◌, length, arith}
+use Rattle.std.proofs.lemmas.List.{length-map}
+use Rattle.neli_consts.specs.declared.index.Index.{Index}
+use Rattle.neli_wire.specs.Bytes.{Reading}
+use Rattle.neli_wire.specs.Strings.{owned_text}
+use Rattle.neli_wire.specs.laws.Elements.{elements_by}
+use Rattle.neli_consts.specs.CtrlAttrMcastGrp.{ctrl_attr_mcast_grp_of}
+use Rattle.neli_attr.specs.Attributes.{attributes_in}
+use Rattle.neli_attr.specs.TypeField.{type_of}
+use Rattle.neli_genl.specs.Genlmsghdr.{AttributesRead}
+use Rattle.neli_resolvers.specs.Attributes.{Group, HasBytes, family_name, family_name_takes_memory, group_attrs}
+use Rattle.neli_resolvers.specs.Attributes.{group_attrs_take_memory, group_name_takes_memory, groups}
+use Rattle.neli_resolvers.specs.Attributes.{groups_take_memory}
 use Rattle.std.specs.Result.{result_ok}
 use Rattle.neli_wire.specs.DeError.{DeError}
 use Rattle.neli_wire.specs.DeError.TheVariants.{Msg, Io, Utf8, InvalidInput, Memory}
@@ -12,7 +24,7 @@ use Rattle.neli_consts.specs.declared.genl.CtrlAttr.{CtrlAttr}
 use Rattle.neli_consts.specs.declared.genl.CtrlAttr.TheVariants.{FamilyId, FamilyName, McastGroups}
 use Rattle.neli_consts.specs.declared.genl.CtrlAttrMcastGrp.{CtrlAttrMcastGrp}
 use Rattle.neli_consts.specs.declared.genl.CtrlAttrMcastGrp.TheVariants.{Name, Id}
-use Rattle.neli_attr.specs.Lookup.{payload_of_type, read_found}
+use Rattle.neli_attr.specs.Lookup.{list_found, payload_of_type, read_found}
 use Rattle.neli_attr.specs.Nlattr.{nlattr_says}
 use Rattle.neli_attr.specs.declared.nlattr.Nlattr.{Nlattr}
 use Rattle.neli_attr.specs.Payloads.{ReadsFirst}
@@ -85,16 +97,16 @@ finds_id = looked_up-where mcast_grp.eq Id is_id tests_id
 -- ---- refusals
 
 read_refusal : {A : Type 0} (outcome : Result A DeError) (takes : Type 0) (e : DeError) → Refuses outcome takes e
-    → IsReadRefusal outcome e
-read_refusal outcome takes (Msg m) h = inr h
-read_refusal outcome takes (Io k) h = inr h
-read_refusal outcome takes (Utf8 u) h = inr h
-read_refusal outcome takes (InvalidInput n) h = inr h
-read_refusal outcome takes Memory h = inl refl
+    → IsReadRefusal outcome takes e
+read_refusal outcome takes (Msg m) h = inr ((λ f. cc), h)
+read_refusal outcome takes (Io k) h = inr ((λ f. cc), h)
+read_refusal outcome takes (Utf8 u) h = inr ((λ f. cc), h)
+read_refusal outcome takes (InvalidInput n) h = inr ((λ f. cc), h)
+read_refusal outcome takes Memory h = inl (refl, h)
 
--- a read is refused, wherever it takes memory
+-- a read is refused
 pub refused_read : {V A : Type 0} (result : Result V DeError) (outcome : Result A DeError) (takes : Type 0)
-    → IfErr result (Refuses outcome takes) → IfErr result (IsReadRefusal outcome)
+    → IfErr result (Refuses outcome takes) → IfErr result (IsReadRefusal outcome takes)
 refused_read (Ok v) outcome takes h = h
 refused_read (Err e) outcome takes h = read_refusal outcome takes e h
 
@@ -105,12 +117,70 @@ was_read (Ok w) outcome view v h is = let same : v ≡ w = cc in rw same h
 was_read (Err e) outcome view v h is = cc
 
 -- where nothing was read and memory did not run out, nothing can be read
-pub was_not_read : {V A : Type 0} (result : Result V DeError) (outcome : Result A DeError)
-    → IfErr result (IsReadRefusal outcome) → (result ≡ Err Memory → ⊥) → None ≡ result_ok result
+pub was_not_read : {V A : Type 0} (result : Result V DeError) (outcome : Result A DeError) (takes : Type 0)
+    → IfErr result (IsReadRefusal outcome takes) → (result ≡ Err Memory → ⊥) → None ≡ result_ok result
     → result_ok outcome ≡ None
-was_not_read (Ok w) outcome h enough is = cc
-was_not_read (Err e) outcome (inl m) enough is = absurd (enough (ap Err m))
-was_not_read (Err e) outcome (inr o) enough is = rw o refl
+was_not_read (Ok w) outcome takes h enough is = cc
+was_not_read (Err e) outcome takes (inl m) enough is = absurd (enough (ap Err m.0))
+was_not_read (Err e) outcome takes (inr o) enough is = rw o.1 refl
+
+-- where memory ran out, the read takes some
+pub ran_out : {V A : Type 0} (result : Result V DeError) (outcome : Result A DeError) (takes : Type 0)
+    → IfErr result (IsReadRefusal outcome takes) → result ≡ Err Memory → takes
+ran_out (Ok w) outcome takes h is = absurd cc
+ran_out (Err e) outcome takes (inl m) is = m.1
+ran_out (Err e) outcome takes (inr o) is = let same : e ≡ Memory = cc in absurd (o.0 same)
+
+pub on_err : {V E : Type 0} (result : Result V E) (said : Type 0) → said → OnErr result said
+on_err (Ok v) said is = tt
+on_err (Err e) said is = is
+
+-- the refusal of a step is that of the whole, which takes memory where the step does
+pub step_refused : {V A B : Type 0} (result : Result V DeError) (e : DeError) (step : Result A DeError)
+    (whole : Result B DeError) (takes more : Type 0) → IsErrAnd result (λ d. d ≡ e)
+    → (step ≡ Err e → whole ≡ Err e) → (takes → more) → IsReadRefusal step takes e
+    → IfErr result (IsReadRefusal whole more)
+step_refused (Ok v) e step whole takes more is same so h = tt
+step_refused (Err d) e step whole takes more is same so (inl m) = rw is (inl (m.0, so m.1))
+step_refused (Err d) e step whole takes more is same so (inr o) = rw is (inr (o.0, same o.1))
+
+-- ---- payloads that have bytes
+
+-- a text that is read has a payload
+text_has_bytes : (payload : Option (List ℕ)) (text : List ℕ) → read_found payload owned_text ≡ Ok text
+    → HasBytes payload
+text_has_bytes None text is = absurd cc
+text_has_bytes (Some []) text is = absurd cc
+text_has_bytes (Some (b ∷ s)) text is = omega arith
+
+pub named_family : (attrs : AttributesRead CtrlAttr) (name : List ℕ) → family_name attrs ≡ Ok name
+    → family_name_takes_memory attrs
+named_family attrs name is = text_has_bytes (payload_where is_family_name attrs) name is
+
+-- a list that is not empty has a payload
+list_has_bytes : {V : Type 0} (read : List ℕ → Reading V) (payload : Option (List ℕ)) (all : List V)
+    → list_found payload read ≡ Ok all → 0 < length all → HasBytes payload
+unfolding elements_by
+list_has_bytes read None all is some = absurd cc
+list_has_bytes read (Some []) all is some = let none : all ≡ [] = cc in absurd (omega (arith, ap length none, some))
+list_has_bytes read (Some (b ∷ s)) all is some = omega arith
+
+pub some_groups : (attrs : AttributesRead CtrlAttr) (all : List (Nlattr Index (List ℕ)))
+    → groups attrs ≡ Ok (map nlattr_says all) → 0 < length all → groups_take_memory attrs
+some_groups attrs all is some = list_has_bytes _ (payload_where is_mcast_groups attrs) (map nlattr_says all) is
+    (omega (arith, some, length-map all (λ (a : Nlattr Index (List ℕ)). nlattr_says a)))
+
+-- and so has a group with a name
+attrs_have_bytes : (group : List ℕ) (attrs : AttributesRead CtrlAttrMcastGrp)
+    → attributes_in (type_of ctrl_attr_mcast_grp_of) group ≡ Ok attrs → group_name_takes_memory attrs
+    → 0 < length group
+unfolding elements_by
+attrs_have_bytes [] attrs is name = let none : attrs ≡ [] = cc in absurd (rw none at name)
+attrs_have_bytes (b ∷ s) attrs is name = omega arith
+
+pub named_group : (group : Group) (attrs : AttributesRead CtrlAttrMcastGrp) → group_attrs group ≡ Ok attrs
+    → group_name_takes_memory attrs → group_attrs_take_memory group
+named_group group attrs is name = attrs_have_bytes group.1 attrs is name
 
 -- ---- numbers
 

@@ -1,5 +1,5 @@
 -- What attributes say of a family and its multicast groups. Of two with one type the first counts.
-use Rattle.std.specs.Prelude.{ℕ, Bool, true, false, List, Option, Result, Ok, find, option_map}
+use Rattle.std.specs.Prelude.{ℕ, ◌<◌, Bool, true, false, List, Option, Result, IsSomeAnd, Ok, find, length, option_map}
 use Rattle.neli_wire.specs.DeError.{DeError}
 use Rattle.neli_wire.specs.Frames.{frame_at}
 use Rattle.neli_wire.specs.Reading.{◌>>=◌, number_at}
@@ -87,3 +87,25 @@ group_name attrs = read_found (payload_where is_name attrs) owned_text
 -- its number, in four bytes
 abbrev pub group_id : AttributesRead CtrlAttrMcastGrp → Result ℕ DeError
 group_id attrs = read_found (payload_where is_id attrs) (first_number 4)
+
+-- ---- where reading that takes memory
+
+-- there is a payload, and it has bytes
+abbrev pub HasBytes : Option (List ℕ) → Type 0
+HasBytes payload = IsSomeAnd payload (λ bytes. 0 < length bytes)
+
+-- for the name of a family
+abbrev pub family_name_takes_memory : AttributesRead CtrlAttr → Type 0
+family_name_takes_memory attrs = HasBytes (payload_where is_family_name attrs)
+
+-- for its groups
+abbrev pub groups_take_memory : AttributesRead CtrlAttr → Type 0
+groups_take_memory attrs = HasBytes (payload_where is_mcast_groups attrs)
+
+-- for the attributes of a group
+abbrev pub group_attrs_take_memory : Group → Type 0
+group_attrs_take_memory group = 0 < length group.1
+
+-- for the name of a group
+abbrev pub group_name_takes_memory : AttributesRead CtrlAttrMcastGrp → Type 0
+group_name_takes_memory attrs = HasBytes (payload_where is_name attrs)

@@ -1,5 +1,5 @@
 -- The items of a handle: messages of the controller, and errors in place of messages.
-use Rattle.std.specs.Prelude.{◌≡◌, List, [], ◌∷◌, Option, None, Some, IsSome, Result, Ok, Err, filter_map, map}
+use Rattle.std.specs.Prelude.{◌≡◌, ◌≢◌, List, [], ◌∷◌, Option, None, Some, IsOk, IsSome, Result, Ok, Err, filter_map, map}
 use Rattle.std.specs.Prelude.{option_map, ◌⊎◌}
 use Rattle.std.specs.List.{cons_option, last_or}
 use Rattle.std.specs.Option.{option_or}
@@ -70,11 +70,16 @@ all_found f (x ∷ xs) =
 abbrev pub last_found : {A B E : Type 0} → (A → Result (Option B) E) → List A → Result (Option B) E
 last_found f xs = after (λ found. Ok (last_or None found)) (all_found f xs)
 
+-- f is asked of the items up to its first refusal, and takes memory at one of these
+abbrev pub finding_takes_memory : {A B E : Type 0} → (A → Result B E) → (A → Type 0) → List A → Type 0
+finding_takes_memory f takes [] = ⊥
+finding_takes_memory f takes (x ∷ xs) = takes x ⊎ (IsOk (f x) × finding_takes_memory f takes xs)
+
 -- ---- refusals
 
--- e is why a read is refused: its outcome says so, or memory ran out
-abbrev pub IsReadRefusal : {A : Type 0} → Result A DeError → DeError → Type 0
-IsReadRefusal outcome e = (e ≡ de.Memory) ⊎ (outcome ≡ Err e)
+-- e is why a read is refused: memory ran out, where the read takes some; or else its outcome says so
+abbrev pub IsReadRefusal : {A : Type 0} → Result A DeError → Type 0 → DeError → Type 0
+IsReadRefusal outcome takes e = ((e ≡ de.Memory) × takes) ⊎ ((e ≢ de.Memory) × (outcome ≡ Err e))
 
 -- the same of a resolver, which takes memory where this is said
 abbrev pub IsRefusal : {A : Type 0} → Result A Error → Type 0 → Error → Type 0

@@ -1,6 +1,7 @@
 -- What the resolvers answer, by the whole list of items.
 use Rattle.std.specs.Prelude.{ℕ, ◌==◌, ◌⊎◌, Bool, false, ◌≡◌, List, [], ◌++◌, codes, if◌then◌else◌, nat_eq, filter_map}
 use Rattle.std.specs.Prelude.{Option, Some, None, Result, Ok, Err, IsSome, ok_or, option_and_then, option_map}
+use Rattle.std.specs.Prelude.{IsOk, IsOkAnd, IsSomeAnd}
 use Rattle.std.specs.Prelude.{unwrap_or}
 use Rattle.std.specs.Cmp.Lexicographic.{pointwise}
 use Rattle.std.specs.List.{last_or}
@@ -13,8 +14,9 @@ use Rattle.neli_genl.specs.Genlmsghdr.{AttributesRead}
 use Rattle.neli_reader.specs.RouterError.TheVariants.{Msg}
 use Rattle.neli_reader.specs.RouterErrors.{de_of}
 use Rattle.neli_resolvers.specs.Attributes.{Group, family_id, family_name, group_attrs, group_id, group_name, groups}
+use Rattle.neli_resolvers.specs.Attributes.{family_name_takes_memory, groups_take_memory}
 use Rattle.neli_resolvers.specs.Items.{Error, Item, Message, after, first_error, first_found, last_found, messages}
-use Rattle.neli_resolvers.specs.Items.{attributes_said}
+use Rattle.neli_resolvers.specs.Items.{attributes_said, finding_takes_memory}
 
 -- ---- texts, where nothing was found
 
@@ -92,14 +94,29 @@ group_answer family name items =
     (after (or_text (no_group family name))
     (as_error (last_found (match_in name) (messages items))))
 
--- memory is asked for where no item is an error
-abbrev pub group_takes_memory : List Item → Type 0
-group_takes_memory items = first_error items ≡ None
+-- memory is asked for in a message that has bytes for its groups
+abbrev pub match_takes_memory : Message → Type 0
+match_takes_memory m = IsSomeAnd (attributes_said m) groups_take_memory
+
+-- memory is asked for where no item is an error: for the groups of a message, or for the text
+abbrev pub group_takes_memory : List ℕ → List ℕ → List Item → Type 0
+group_takes_memory family name items = (first_error items ≡ None)
+    × (finding_takes_memory (match_in name) match_takes_memory (messages items)
+    ⊎ (group_answer family name items ≡ Err (Msg (no_group family name))))
+
+-- the same where the items are lent: an error among them is copied
+abbrev pub lent_group_takes_memory : List ℕ → List ℕ → List Item → Type 0
+lent_group_takes_memory family name items = IsSome (first_error items) ⊎ group_takes_memory family name items
 
 -- the numbers of both: the family's refusal comes before the group's
 abbrev pub both_answer : List ℕ → List ℕ → List Item → Result (ℕ × ℕ) Error
 both_answer family name items =
     after (λ f. after (λ g. Ok (f, g)) (group_answer family name items)) (family_answer family items)
+
+-- memory is asked for the family's number; or for the group's, where the family has one
+abbrev pub both_take_memory : List ℕ → List ℕ → List Item → Type 0
+both_take_memory family name items = lent_family_takes_memory family items
+    ⊎ (IsOk (family_answer family items) × lent_group_takes_memory family name items)
 
 -- ---- the names of a group
 
@@ -132,6 +149,11 @@ names_told id item = after (λ m. as_error (names_in id m)) item
 abbrev pub names_answer : ℕ → List Item → Result (List ℕ × List ℕ) Error
 names_answer id items = after (or_text no_number) (last_found (names_told id) items)
 
--- memory is asked for where a message has a payload
-abbrev pub names_take_memory : List Item → Type 0
-names_take_memory items = IsSome (first_found attributes_said (messages items))
+-- memory is asked for in a message that has bytes for the name of its family
+abbrev pub message_names_take_memory : Message → Type 0
+message_names_take_memory m = IsSomeAnd (attributes_said m) family_name_takes_memory
+
+-- memory is asked for in such a message, where it stands before the first refusal
+abbrev pub names_take_memory : ℕ → List Item → Type 0
+names_take_memory id items =
+    finding_takes_memory (names_told id) (λ item. IsOkAnd item message_names_take_memory) items

@@ -1,7 +1,9 @@
 //! What groups say of a name or a number.
 
-ghost use Rattle.std.specs.Prelude.{◌≡◌, Err, IfErr, IfOk, Ok, None, map, option_map, string_bytes};
+ghost use Rattle.std.specs.Prelude.{◌≡◌, ◌<◌, Err, IfErr, IfOk, Ok, OnErr, None, length, map, option_map};
+ghost use Rattle.std.specs.Prelude.{string_bytes};
 ghost use Rattle.neli_attr.specs.Nlattr.{nlattr_says};
+ghost use Rattle.neli_resolvers.specs.Attributes.{group_attrs_take_memory};
 ghost use Rattle.neli_resolvers.specs.Items.{IsReadRefusal, first_found, last_found};
 ghost use Rattle.neli_resolvers.specs.Resolvers.{match_number, name_if};
 
@@ -13,12 +15,15 @@ use neli_wire::{DeError, NoMemory};
 use std::alloc::Global;
 
 /// The number of a group that has this name. One that can't be read is passed over.
+///
+/// Refused only where memory runs out, which a group without a payload does not ask for.
 fn match_number(
     alloc: Global,
     group: &Nlattr<Index, Buffer>,
     name: &str,
 ) -> Result<Option<u32>, NoMemory>
-    ensures { IfOk result (λ n. n ≡ match_number name.now (nlattr_says group.now)) }
+    ensures value { IfOk result (λ n. n ≡ match_number name.now (nlattr_says group.now)) }
+    ensures memory { OnErr result (group_attrs_take_memory (nlattr_says group.now)) }
 {
     let Some(attrs) = readable(group_attrs(alloc, group))? else {
         return Ok(None);
@@ -33,13 +38,16 @@ fn match_number(
 }
 
 /// The number of the first of these groups that has this name and a number.
+///
+/// Refused only where memory runs out, and never where there are no groups.
 pub(crate) fn first_match(
     alloc: Global,
     groups: &[Nlattr<Index, Buffer>],
     name: &str,
 ) -> Result<Option<u32>, NoMemory>
-    ensures { IfOk result
+    ensures value { IfOk result
         (λ n. n ≡ first_found (match_number name.now) (map nlattr_says groups.now)) }
+    ensures memory { OnErr result (0 < length groups.now) }
 {
     for candidate in groups {
         let found = match_number(alloc, candidate, name)?;
@@ -54,7 +62,8 @@ pub(crate) fn first_match(
 fn name_if(alloc: Global, group: &Nlattr<Index, Buffer>, id: u32) -> Result<Option<String>, DeError>
     ensures value { IfOk result
         (λ name. name_if id (nlattr_says group.now) ≡ Ok (option_map string_bytes name)) }
-    ensures refused { IfErr result (IsReadRefusal (name_if id (nlattr_says group.now))) }
+    ensures refused { IfErr result (IsReadRefusal (name_if id (nlattr_says group.now))
+        (group_attrs_take_memory (nlattr_says group.now))) }
 {
     let attrs = group_attrs(alloc, group)?;
     if group_id(alloc, &attrs) != Some(id) {
@@ -73,7 +82,8 @@ pub(crate) fn last_name(
         (λ name. last_found (name_if id) (map nlattr_says groups.now)
         ≡ Ok (option_map string_bytes name)) }
     ensures refused { IfErr result
-        (IsReadRefusal (last_found (name_if id) (map nlattr_says groups.now))) }
+        (IsReadRefusal (last_found (name_if id) (map nlattr_says groups.now))
+        (0 < length groups.now)) }
 {
     let mut found = None;
     for group in groups {

@@ -1,12 +1,15 @@
 //! The resolvers.
 
-ghost use Rattle.std.specs.Prelude.{⊤, ◌≡◌, Err, IfErr, IfOk, IsSome, Ok, OnErr, None, map, option_map, string_bytes};
+ghost use Rattle.std.specs.Prelude.{◌≡◌, Err, IfErr, IfOk, IsSome, Ok, OnErr, None, map, option_map, string_bytes};
 ghost use Rattle.neli_attr.specs.Handles.{attrs_in};
 ghost use Rattle.neli_attr.specs.Nlattr.{nlattr_says};
+ghost use Rattle.neli_resolvers.specs.Attributes.{family_name_takes_memory};
 ghost use Rattle.neli_resolvers.specs.Items.{IsReadRefusal, IsRefusal, attributes_said};
 ghost use Rattle.neli_resolvers.specs.Resolvers.{both_answer, family_answer, family_takes_memory, group_answer};
 ghost use Rattle.neli_resolvers.specs.Resolvers.{group_takes_memory, lent_family_takes_memory, match_in, names_answer};
-ghost use Rattle.neli_resolvers.specs.Resolvers.{names_in, names_said, names_take_memory, number_told};
+ghost use Rattle.neli_resolvers.specs.Resolvers.{both_take_memory, lent_group_takes_memory, match_takes_memory};
+ghost use Rattle.neli_resolvers.specs.Resolvers.{message_names_take_memory, names_in, names_said, names_take_memory};
+ghost use Rattle.neli_resolvers.specs.Resolvers.{number_told};
 
 use crate::attributes::{family_id, family_name, groups};
 use crate::groups::{first_match, last_name};
@@ -69,7 +72,8 @@ pub fn resolve_genl_family(
 /// The number of the first group of this name in a message.
 fn match_in(alloc: Global, message: &CtrlMessage, name: &str) -> Result<Option<u32>, DeError>
     ensures value { IfOk result (λ n. match_in name.now message.now ≡ Ok n) }
-    ensures refused { IfErr result (IsReadRefusal (match_in name.now message.now)) }
+    ensures refused { IfErr result
+        (IsReadRefusal (match_in name.now message.now) (match_takes_memory message.now)) }
 {
     let Some(body) = message.get_payload() else {
         return Ok(None);
@@ -83,7 +87,8 @@ fn match_in(alloc: Global, message: &CtrlMessage, name: &str) -> Result<Option<u
 /// in that message. A group without a readable name and number is passed over. The items stay with the caller.
 ///
 /// Refused with a copy of the first error among the items; else with the refusal of the first payload of
-/// which the groups can't be read; else, where no group has the name, with a text that names both. Memory may run out.
+/// which the groups can't be read; else, where no group has the name, with a text that names both. Memory is
+/// asked for the copy, for the groups of messages, or for the text.
 pub fn find_nl_mcast_group(
     alloc: Global,
     family: &str,
@@ -91,7 +96,8 @@ pub fn find_nl_mcast_group(
     items: &[CtrlItem],
 ) -> Result<u32, CtrlError>
     ensures value { IfOk result (λ n. group_answer family.now group.now items.now ≡ Ok n) }
-    ensures refused { IfErr result (IsRefusal (group_answer family.now group.now items.now) ⊤) }
+    ensures refused { IfErr result (IsRefusal (group_answer family.now group.now items.now)
+        (lent_group_takes_memory family.now group.now items.now)) }
 {
     refuse_errors(items)?;
     let mut found = None;
@@ -111,7 +117,7 @@ pub fn find_nl_mcast_group(
 ///
 /// Refused with the first error among the items; else with the refusal of the first payload of
 /// which the groups can't be read; else, where no group has the name, with a text that names both. Where
-/// no item is an error, memory may run out.
+/// no item is an error, memory is asked for the groups of messages, or for the text.
 pub fn resolve_nl_mcast_group(
     alloc: Global,
     family: &str,
@@ -120,7 +126,7 @@ pub fn resolve_nl_mcast_group(
 ) -> Result<u32, CtrlError>
     ensures value { IfOk result (λ n. group_answer family.now group.now items.items ≡ Ok n) }
     ensures refused { IfErr result (IsRefusal (group_answer family.now group.now items.items)
-        (group_takes_memory items.items)) }
+        (group_takes_memory family.now group.now items.items)) }
 {
     find_nl_mcast_group(alloc, family, group, &without_errors(items)?)
 }
@@ -128,7 +134,7 @@ pub fn resolve_nl_mcast_group(
 /// The numbers of the family and of its group of this name, of one reply: each as [`find_genl_family`] and
 /// [`find_nl_mcast_group`] find it.
 ///
-/// Refused as the family is; else as the group is. Memory may run out.
+/// Refused as the family is; else as the group is. Memory is asked for where they ask for it.
 pub fn find_genl_family_and_group(
     alloc: Global,
     family: &str,
@@ -136,7 +142,8 @@ pub fn find_genl_family_and_group(
     items: &[CtrlItem],
 ) -> Result<(u16, u32), CtrlError>
     ensures value { IfOk result (λ both. both_answer family.now group.now items.now ≡ Ok both) }
-    ensures refused { IfErr result (IsRefusal (both_answer family.now group.now items.now) ⊤) }
+    ensures refused { IfErr result (IsRefusal (both_answer family.now group.now items.now)
+        (both_take_memory family.now group.now items.now)) }
 {
     let number = find_genl_family(alloc, family, items)?;
     let group = find_nl_mcast_group(alloc, family, group, items)?;
@@ -153,7 +160,8 @@ fn names_said(
     ensures value { IfOk result (λ names. names_said id (map nlattr_says (attrs_in attrs.now))
         ≡ Ok (option_map (λ p. (string_bytes p.0, string_bytes p.1)) names)) }
     ensures refused { IfErr result
-        (IsReadRefusal (names_said id (map nlattr_says (attrs_in attrs.now)))) }
+        (IsReadRefusal (names_said id (map nlattr_says (attrs_in attrs.now)))
+        (family_name_takes_memory (map nlattr_says (attrs_in attrs.now)))) }
 {
     let family = family_name(alloc, attrs)?;
     let Some(all) = readable(groups(alloc, attrs))? else {
@@ -173,7 +181,8 @@ fn names_in(
 ) -> Result<Option<(String, String)>, DeError>
     ensures value { IfOk result (λ names. names_in id message.now
         ≡ Ok (option_map (λ p. (string_bytes p.0, string_bytes p.1)) names)) }
-    ensures refused { IfErr result (IsReadRefusal (names_in id message.now)) }
+    ensures refused { IfErr result
+        (IsReadRefusal (names_in id message.now) (message_names_take_memory message.now)) }
     ensures payload { OnErr result (IsSome (attributes_said message.now)) }
 {
     let Some(body) = message.get_payload() else {
@@ -188,8 +197,8 @@ fn names_in(
 /// Refused with the first failure, item by item, and in an item first the family's name, then group
 /// by group: an item that is an error; a payload without a readable name of the family; a group
 /// that can't be read, where the list of groups can; the group with the number, where its name
-/// can't be read. Where the number isn't found, refused with a text. Where a message has a payload, memory
-/// may run out.
+/// can't be read. Where the number isn't found, refused with a text. Memory is asked for in a message that
+/// has bytes for the name of its family and stands before the first failure.
 pub fn lookup_id(
     alloc: Global,
     id: u32,
@@ -198,7 +207,7 @@ pub fn lookup_id(
     ensures value { IfOk result
         (λ names. names_answer id items.items ≡ Ok (string_bytes names.0, string_bytes names.1)) }
     ensures refused { IfErr result
-        (IsRefusal (names_answer id items.items) (names_take_memory items.items)) }
+        (IsRefusal (names_answer id items.items) (names_take_memory id items.items)) }
 {
     let mut found = None;
     for item in items {

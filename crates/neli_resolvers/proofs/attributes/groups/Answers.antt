@@ -6,6 +6,7 @@ use Rattle.neli_attr.specs.Handles.{attrs_in}
 use Rattle.neli_attr.specs.Lookup.{list_found}
 use Rattle.neli_attr.specs.Nlattr.{nlattr_says}
 use Rattle.neli_attr.specs.TypeField.{type_of}
+use Rattle.neli_resolvers.specs.Attributes.{HasBytes}
 use Rattle.neli_resolvers.specs.Items.{IsReadRefusal}
 use Rattle.neli_resolvers.proofs.Lookups.{finds_mcast_groups, refused_read}
 use Rattle.neli_resolvers.proofs.attributes.groups.Goals as goal
@@ -18,6 +19,6 @@ returns c =
     record {
       value = subst (λ p. IfOk result (λ all. list_found p listed ≡ Ok (map nlattr_says (attrs_in all)))) found
           c.get_nested_attributes.ensures.value;
-      refused = subst (λ p. IfErr result (IsReadRefusal (list_found p listed))) found
+      refused = subst (λ p. IfErr result (IsReadRefusal (list_found p listed) (HasBytes p))) found
           (refused_read result _ _ c.get_nested_attributes.ensures.refused);
     }

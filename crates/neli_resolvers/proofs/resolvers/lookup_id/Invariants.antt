@@ -13,5 +13,5 @@ invariant-loop-item l = record {
   last : last_from (names_told l.id) (option_map (λ p. (string_bytes p.0, string_bytes p.1)) l.found)
       (into_iter_items l.item-iterator)
       ≡ last_found (names_told l.id) l.fn.items.items;
-  takes : names_take_memory (into_iter_items l.item-iterator) → names_take_memory l.fn.items.items;
+  takes : names_take_memory l.id (into_iter_items l.item-iterator) → names_take_memory l.id l.fn.items.items;
 }
