@@ -1,7 +1,7 @@
 -- Scripts, line by line.
 use Rattle.std.proofs.Common.{Bor, get_or, ◌<◌, ◌≡◌, ◌∙◌, ℕ, ◌+◌, Bool, false, eqb, List, [], ◌∷◌, ◌++◌, length, drop}
 use Rattle.std.proofs.Common.{map, Option, Some, None, Result, Ok, Err, refl, sym, ap, subst, arith, rules}
-use Rattle.std.proofs.Common.{append_assoc}
+use Rattle.std.proofs.Common.{append_assoc, OnErr, zero, suc}
 use Rattle.std.specs.List.{AllZip, flat_map}
 use Rattle.std.specs.Option.{option_to_list}
 use Rattle.std.proofs.lemmas.Grind.{flat_map-append}
@@ -9,7 +9,9 @@ use Rattle.std.proofs.lemmas.List.{append-nil, drop_more, get_or-map, length-map
 use Rattle.std.proofs.lemmas.Bool.Decides.{nat_tests}
 use Rattle.neli_runs.specs.declared.command.Command.{Command}
 use Rattle.neli_replay.specs.declared.line.Entry.{Entry}
-use Rattle.neli_replay.specs.Script.{AreCommands, IsTold, entry_if, entries_from, entry_in, with_line, words_in}
+use Rattle.neli_replay.specs.declared.line.Entry.TheVariants.{Port, Number, Request, Datagram, Fault, Read, Close}
+use Rattle.neli_replay.specs.Script.{AreCommands, IsTold, entry_if, entries_from, entry_in, telling_takes_memory}
+use Rattle.neli_replay.specs.Script.{with_line, words_in}
 
 -- ---- what a router is told
 
@@ -41,6 +43,55 @@ told_none entries cs e before one =
 pub told_some : (entries : List Entry) (cs : List Told) (e : Entry) (c : Told) → AreCommands entries cs
     → IsTold e (Some c) → AreCommands (entries ++ e ∷ []) (cs ++ c ∷ [])
 told_some entries cs e c before one = told_push entries cs e (Some c) before one
+
+-- ---- where memory is asked for
+
+no_command : (e : Entry) (rest : List Entry) → AreCommands (e ∷ rest) [] → IsTold e None × AreCommands rest []
+no_command e rest ([], zips, none) = absurd zips
+no_command e rest (None ∷ told, zips, none) = (zips.0, (told, zips.1, none))
+no_command e rest (Some c ∷ told, zips, none) = absurd cc
+
+-- entries of which no command comes tell nothing, each of them
+told_nothing : (entries : List Entry) (i : ℕ) (e : Entry) → (i < length entries) × (e ≡ get_or entries i e)
+    → AreCommands entries [] → IsTold e None
+told_nothing [] i e at none = absurd (omega (arith, at.0))
+told_nothing (x ∷ xs) zero e at none =
+    let same : e ≡ x = at.1 in subst (λ (y : Entry). IsTold y None) (sym same) (no_command x xs none).0
+told_nothing (x ∷ xs) (suc i) e at none = told_nothing xs i e (omega (arith, at.0), at.1) (no_command x xs none).1
+
+not_told : (e : Entry) → telling_takes_memory e → IsTold e None → ⊥
+not_told (Port n) takes told = takes
+not_told (Number n) takes told = takes
+not_told (Request message_type flags bytes) takes told = takes
+not_told (Datagram mask bytes) takes told = told
+not_told (Fault kind) takes told = takes
+not_told (Read handle) takes told = takes
+not_told (Close handle) takes told = takes
+
+not_both : (e : Entry) (c : Told) → IsTold e (Some c) → IsTold e None → ⊥
+not_both (Port n) c told none = cc
+not_both (Number n) c told none = cc
+not_both (Request message_type flags bytes) c told none = cc
+not_both (Datagram mask bytes) c told none = none
+not_both (Fault kind) c told none = cc
+not_both (Read handle) c told none = cc
+not_both (Close handle) c told none = cc
+
+on_err : {V E : Type 0} (result : Result V E) (said : Type 0) → said → OnErr result said
+on_err (Ok v) said is = tt
+on_err (Err e) said is = is
+
+-- an entry whose command takes memory, or that tells one, is none of those that tell nothing
+pub telling_refused : {V E : Type 0} (result : Result V E) (entries : List Entry) (i : ℕ) (e : Entry)
+    → (i < length entries) × (e ≡ get_or entries i e) → telling_takes_memory e
+    → OnErr result (¬ AreCommands entries [])
+telling_refused result entries i e at takes =
+    on_err result _ (λ none. not_told e takes (told_nothing entries i e at none))
+
+pub told_refused : {V E : Type 0} (result : Result V E) (entries : List Entry) (i : ℕ) (e : Entry) (c : Told)
+    → (i < length entries) × (e ≡ get_or entries i e) → IsTold e (Some c) → OnErr result (¬ AreCommands entries [])
+told_refused result entries i e c at told =
+    on_err result _ (λ none. not_both e c told (told_nothing entries i e at none))
 
 -- ---- lines
 

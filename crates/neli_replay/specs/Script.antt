@@ -1,5 +1,5 @@
 -- Scripts: their lines, and what each says.
-use Rattle.std.specs.Prelude.{◌≡◌, ⊤, ℕ, ◌+◌, Bool, true, false, ◌==◌, if◌then◌else◌, bit_and, List, [], ◌∷◌, codes}
+use Rattle.std.specs.Prelude.{◌≡◌, ◌≢◌, ⊤, ℕ, ◌+◌, Bool, true, false, ◌==◌, if◌then◌else◌, bit_and, List, [], ◌∷◌, codes}
 use Rattle.std.specs.Prelude.{IsSome, ◌<◌, length, take, Option, Some, None, Result, Ok, Err}
 use Rattle.std.specs.List.{AllZip, flat_map, slice_split}
 use Rattle.std.specs.Option.{option_map, option_to_list}
@@ -19,7 +19,7 @@ use Rattle.neli_replay.specs.declared.line.Entry.{Entry}
 use Rattle.neli_replay.specs.declared.line.Entry.TheVariants.{Port, Number, Request, Datagram, Fault, Read, Close}
 use Rattle.neli_replay.specs.declared.script.ScriptError.{ScriptError}
 use Rattle.neli_replay.specs.declared.script.ScriptError.TheVariants as script
-use Rattle.neli_replay.specs.Words.{bytes_of, number}
+use Rattle.neli_replay.specs.Words.{bytes_of, bytes_take_memory, number}
 
 -- ---- lines and words
 
@@ -68,6 +68,15 @@ entry_in (word ∷ message_type ∷ flags ∷ bytes ∷ []) =
     if bytes_eq word (codes "send")
     then request (number 16 message_type) (number 16 flags) (bytes_of bytes) else None
 entry_in words = None
+
+-- where reading what they say takes memory: for the bytes of a datagram or a request of which the numbers are good
+abbrev pub entry_takes_memory : List (List ℕ) → Type 0
+entry_takes_memory (word ∷ mask ∷ bytes ∷ []) =
+    (bytes_eq word (codes "data") ≡ true) × IsSome (number 32 mask) × bytes_take_memory bytes
+entry_takes_memory (word ∷ message_type ∷ flags ∷ bytes ∷ []) =
+    (bytes_eq word (codes "send") ≡ true) × IsSome (number 16 message_type) × IsSome (number 16 flags)
+    × bytes_take_memory bytes
+entry_takes_memory words = ⊥
 
 -- ---- what a script says
 
@@ -132,6 +141,11 @@ IsTold (Datagram mask bytes) told = ⊥
 IsTold (Fault kind) told = told ≡ Some (command.Fault (socket.Io kind))
 IsTold (Read handle) told = told ≡ Some (command.Read handle)
 IsTold (Close handle) told = told ≡ Some (command.Close handle)
+
+-- where telling an entry takes memory: for the groups of a datagram
+abbrev pub telling_takes_memory : Entry → Type 0
+telling_takes_memory (Datagram mask bytes) = mask ≢ 0
+telling_takes_memory entry = ⊥
 
 -- the commands are those that the entries tell, in order
 abbrev pub AreCommands : List Entry → List (Command ℕ (List ℕ)) → Type 0

@@ -1,6 +1,6 @@
 -- The words of a script: numbers and bytes.
-use Rattle.std.specs.Prelude.{◌≡◌, ⊤, ℕ, ◌^◌, Bool, ◌&&◌, nat_lt, if◌then◌else◌, List, [], length, codes, Option, Some}
-use Rattle.std.specs.Prelude.{None, Result, Ok, Err}
+use Rattle.std.specs.Prelude.{◌≡◌, ℕ, ◌^◌, ◌%◌, ◌<◌, Bool, ◌&&◌, nat_lt, if◌then◌else◌, List, [], length, codes, Option}
+use Rattle.std.specs.Prelude.{Some, None, Result, Ok, Err}
 use Rattle.std.specs.Result.{result_ok}
 use Rattle.std.specs.Char.{is_ascii_digit}
 use Rattle.std.specs.List.{list_all}
@@ -26,8 +26,12 @@ bytes_of word =
     if bytes_eq word (codes "-") then Some []
     else (if bytes_eq word [] then None else result_ok (decode_of word))
 
--- what is said is read, or refused as bad where nothing is said; or memory ran out
-abbrev pub Reads : {A : Type 0} → Option A → Result A LineError → Type 0
-Reads said (Ok read) = said ≡ Some read
-Reads said (Err Bad) = said ≡ None
-Reads said (Err Memory) = ⊤
+-- where reading them takes memory: for pairs of characters, one or more
+abbrev pub bytes_take_memory : List ℕ → Type 0
+bytes_take_memory word = (0 < length word) × (length word % 2 ≡ 0)
+
+-- what is said is read, or refused as bad where nothing is said; or memory ran out, where that takes some
+abbrev pub Reads : {A : Type 0} → Option A → Type 0 → Result A LineError → Type 0
+Reads said takes (Ok read) = said ≡ Some read
+Reads said takes (Err Bad) = said ≡ None
+Reads said takes (Err Memory) = takes

@@ -1,8 +1,9 @@
 //! The lines of a script.
 
-ghost use Rattle.std.specs.Prelude.{◌≡◌, map};
-ghost use Rattle.neli_replay.specs.Words.{Reads, bytes_of, number};
-ghost use Rattle.neli_replay.specs.Script.{entry_if, datagram, entry_in, fault_named, request, short_entry, words_in};
+ghost use Rattle.std.specs.Prelude.{⊤, ◌≡◌, IsSome, map};
+ghost use Rattle.neli_replay.specs.Words.{Reads, bytes_of, bytes_take_memory, number};
+ghost use Rattle.neli_replay.specs.Script.{entry_if, datagram, entry_in, entry_takes_memory, fault_named, request};
+ghost use Rattle.neli_replay.specs.Script.{short_entry, words_in};
 
 use crate::words::{LineError, number_u16, number_u32, number_usize, parts_of, read_bytes};
 use neli_attr::Buffer;
@@ -62,9 +63,10 @@ fn read_short(word: &[u8], argument: &[u8]) -> Option<Entry>
     }
 }
 
-/// A datagram of these words.
+/// A datagram of these words. Memory is asked for its bytes, where the mask is good.
 fn read_datagram(alloc: Global, mask: &[u8], bytes: &[u8]) -> Result<Entry, LineError>
-    ensures { Reads (datagram (number 32 mask.now) (bytes_of bytes.now)) result }
+    ensures { Reads (datagram (number 32 mask.now) (bytes_of bytes.now))
+        (IsSome (number 32 mask.now) × bytes_take_memory bytes.now) result }
 {
     let Some(mask) = number_u32(mask) else {
         return Err(LineError::Bad);
@@ -75,7 +77,7 @@ fn read_datagram(alloc: Global, mask: &[u8], bytes: &[u8]) -> Result<Entry, Line
     }
 }
 
-/// A request of these words.
+/// A request of these words. Memory is asked for its bytes, where the numbers are good.
 fn read_request(
     alloc: Global,
     message_type: &[u8],
@@ -83,7 +85,9 @@ fn read_request(
     bytes: &[u8],
 ) -> Result<Entry, LineError>
     ensures { Reads
-        (request (number 16 message_type.now) (number 16 flags.now) (bytes_of bytes.now)) result }
+        (request (number 16 message_type.now) (number 16 flags.now) (bytes_of bytes.now))
+        (IsSome (number 16 message_type.now) × IsSome (number 16 flags.now)
+        × bytes_take_memory bytes.now) result }
 {
     let Some(message_type) = number_u16(message_type) else {
         return Err(LineError::Bad);
@@ -99,7 +103,8 @@ fn read_request(
 
 /// What these words say.
 fn read_words(alloc: Global, words: &[&[u8]]) -> Result<Entry, LineError>
-    ensures { Reads (entry_in (map (λ word. word.now) words.now)) result }
+    ensures { let said = map (λ word. word.now) words.now in
+        Reads (entry_in said) (entry_takes_memory said) result }
 {
     match words {
         [word, argument] => match read_short(word, argument) {
@@ -126,7 +131,8 @@ fn read_words(alloc: Global, words: &[&[u8]]) -> Result<Entry, LineError>
 
 /// What a line says that isn't empty. Only the first such line may set the port.
 pub(crate) fn read_line(alloc: Global, line: &[u8], first: bool) -> Result<Entry, LineError>
-    ensures { Reads (entry_if first (entry_in (words_in line.now))) result }
+    // The words take memory, and there is one at least.
+    ensures { Reads (entry_if first (entry_in (words_in line.now))) ⊤ result }
 {
     let words = parts_of(alloc, line, b' ')?;
     match read_words(alloc, &words) {

@@ -1,8 +1,9 @@
 //! Scripts.
 
-ghost use Rattle.std.specs.Prelude.{◌≡◌, Ok, IfOk, IfErr};
+ghost use Rattle.std.specs.Prelude.{◌≡◌, [], Ok, IfOk, IfErr, OnErr};
 ghost use Rattle.neli_replay.specs.declared.script.ScriptError.TheVariants as script;
 ghost use Rattle.neli_replay.specs.Script.{AreCommands, BadLineOf, IsScript, IsTold, entries_of, port_of};
+ghost use Rattle.neli_replay.specs.Script.{telling_takes_memory};
 
 use crate::line::{Entry, read_line};
 use crate::words::{LineError, parts_of};
@@ -87,8 +88,11 @@ fn port_in(entries: &[Entry]) -> u32
 }
 
 /// What a router is told by this line. A port is not told to it.
+///
+/// Refused only where memory runs out, which is asked for the groups of a datagram alone.
 fn command_of(alloc: Global, entry: Entry) -> Result<Option<Command<u16, Buffer>>, NoMemory>
-    ensures { IfOk result (IsTold entry) }
+    ensures told { IfOk result (IsTold entry) }
+    ensures memory { OnErr result (telling_takes_memory entry) }
 {
     Ok(Some(match entry {
         Entry::Port(_) => return Ok(None),
@@ -106,8 +110,11 @@ fn command_of(alloc: Global, entry: Entry) -> Result<Option<Command<u16, Buffer>
 }
 
 /// What a router is told by these lines.
+///
+/// Refused only where memory runs out, and never where it is told nothing.
 fn commands_of(alloc: Global, entries: Vec<Entry>) -> Result<Vec<Command<u16, Buffer>>, NoMemory>
-    ensures { IfOk result (λ commands. AreCommands entries.items commands.items) }
+    ensures commands { IfOk result (λ commands. AreCommands entries.items commands.items) }
+    ensures memory { OnErr result (¬ AreCommands entries.items []) }
 {
     let mut commands = Vec::new(alloc);
     for entry in entries {

@@ -3,7 +3,7 @@
 ghost use Rattle.std.specs.Prelude.{◌≡◌, ◌==◌, true, false, map, IfOk, MatchOption};
 ghost use Rattle.std.specs.List.{list_all, slice_split};
 ghost use Rattle.std.specs.Char.{is_ascii_digit};
-ghost use Rattle.neli_replay.specs.Words.{Reads, bytes_of, is_numeral, number};
+ghost use Rattle.neli_replay.specs.Words.{Reads, bytes_of, bytes_take_memory, is_numeral, number};
 
 use hex::FromHexError;
 use neli_attr::Buffer;
@@ -81,9 +81,9 @@ pub(crate) fn number_usize(word: &[u8]) -> Option<usize>
     numeral(word)?.parse().ok()
 }
 
-/// The bytes of a word: pairs of hexadecimal digits, or `-` for no byte.
+/// The bytes of a word: pairs of hexadecimal digits, or `-` for no byte. Memory is asked for pairs alone.
 pub(crate) fn read_bytes(alloc: Global, word: &[u8]) -> Result<Buffer, LineError>
-    ensures { Reads (bytes_of word.now) result }
+    ensures { Reads (bytes_of word.now) (bytes_take_memory word.now) result }
 {
     if word == b"-".as_slice() {
         return Ok(Buffer::new(alloc));
