@@ -1,5 +1,5 @@
 -- Where parts of a message stand.
-use Rattle.std.specs.Prelude.{ℕ, ℤ, pos, ◌+◌, ◌-◌, ◌==◌, List, length, drop, min, nat_le, nat_lt, is_ok, bit_and, ◌&&◌}
+use Rattle.std.specs.Prelude.{ℕ, ◌+◌, ◌-◌, ◌==◌, List, length, drop, min, nat_le, is_ok, bit_and, ◌&&◌}
 use Rattle.std.specs.Prelude.{if◌then◌else◌, Option, Some, None}
 use Rattle.byteorder.specs.Endian.{little_number}
 use Rattle.neli_schema_walk.specs.declared.item.Item.{Item}

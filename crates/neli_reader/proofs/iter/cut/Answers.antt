@@ -1,4 +1,4 @@
-use Rattle.std.proofs.Common.{◌≡◌, ◌≢◌, ℕ, List, Some, Result, Ok, Err, refl, arith, subst}
+use Rattle.std.proofs.Common.{◌≢◌, ℕ, List, Some, Result, Ok, Err, refl, arith, subst}
 use Rattle.std.proofs.lemmas.Grind.{common_steps}
 use Rattle.std.specs.Prelude.{OnErr}
 use Rattle.neli_wire.specs.DeError.{DeError}

@@ -1,4 +1,4 @@
-use Rattle.std.proofs.Common.{◌≡◌, ℕ, take}
+use Rattle.std.proofs.Common.{◌≡◌, take}
 use Rattle.std.specs.List.{fold}
 use Rattle.neli_show.specs.Flags.{without}
 use Rattle.neli_show.specs.Written.{Extends, FirstElements}
