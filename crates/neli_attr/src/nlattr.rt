@@ -1,6 +1,6 @@
 //! Generic attributes, lists of them, and handles in which they are looked up.
 
-ghost use Rattle.std.specs.Prelude.{◌≡◌, ◌+◌, ◌<◌, ℕ, List, Some, None, Ok, IfOk, IfErr, length, map};
+ghost use Rattle.std.specs.Prelude.{◌≡◌, ◌+◌, ◌<◌, ℕ, List, Some, None, Ok, IfOk, IfErr, OnErr, length, map};
 ghost use Rattle.neli_wire.specs.Frames.{frame_at, frame_takes_memory};
 ghost use Rattle.neli_wire.specs.Refusals.{Refuses};
 ghost use Rattle.neli_wire.specs.Sizes.{align};
@@ -126,9 +126,10 @@ impl<T: NlAttrType> Nlattr<T, Buffer> {
 
     /// An equal attribute.
     ///
-    /// Refused only where memory runs out.
+    /// Refused only where memory runs out, and never where its payload is empty.
     pub fn try_clone(&self) -> Result<Self, NoMemory>
-        ensures { IfOk result (λ a. a ≡ self.now) }
+        ensures value { IfOk result (λ a. a ≡ self.now) }
+        ensures memory { OnErr result (0 < length self.now.nla_payload) }
     {
         Ok(Nlattr {
             nla_len: self.nla_len,
@@ -142,6 +143,8 @@ impl<T: NlAttrType> ToTyped<T> for Nlattr<u16, Buffer> {
     type Typed = Nlattr<T, Buffer>;
 
     ghost typed = { typed_attribute T.wire_value };
+
+    ghost typing_takes_memory = { λ a. 0 < length a.nla_payload };
 
     fn to_typed(&self) -> Result<Nlattr<T, Buffer>, NoMemory> {
         Ok(Nlattr {
@@ -169,6 +172,8 @@ impl<T: Eq, P: Eq> Eq for Nlattr<T, P> {
 }
 
 impl<T: NlAttrType> TryClone for Nlattr<T, Buffer> {
+    ghost copy_takes_memory = { λ a. 0 < length a.nla_payload };
+
     fn try_clone(&self) -> Result<Self, NoMemory> {
         Nlattr::try_clone(self)
     }

@@ -1,6 +1,6 @@
 //! Routing attributes, lists of them, and handles in which they are looked up.
 
-ghost use Rattle.std.specs.Prelude.{◌≡◌, ◌+◌, ◌<◌, ℕ, List, Some, None, Ok, IfOk, IfErr, length, map};
+ghost use Rattle.std.specs.Prelude.{◌≡◌, ◌+◌, ◌<◌, ℕ, List, Some, None, Ok, IfOk, IfErr, OnErr, length, map};
 ghost use Rattle.neli_wire.specs.Frames.{frame_at, frame_takes_memory};
 ghost use Rattle.neli_wire.specs.Refusals.{Refuses};
 ghost use Rattle.neli_wire.specs.Sizes.{align};
@@ -119,9 +119,10 @@ impl<T: RtaType> Rtattr<T, Buffer> {
 
     /// An equal attribute.
     ///
-    /// Refused only where memory runs out.
+    /// Refused only where memory runs out, and never where its payload is empty.
     pub fn try_clone(&self) -> Result<Self, NoMemory>
-        ensures { IfOk result (λ a. a ≡ self.now) }
+        ensures value { IfOk result (λ a. a ≡ self.now) }
+        ensures memory { OnErr result (0 < length self.now.rta_payload) }
     {
         Ok(Rtattr {
             rta_len: self.rta_len,
@@ -132,6 +133,8 @@ impl<T: RtaType> Rtattr<T, Buffer> {
 }
 
 impl<T: RtaType> TryClone for Rtattr<T, Buffer> {
+    ghost copy_takes_memory = { λ a. 0 < length a.rta_payload };
+
     fn try_clone(&self) -> Result<Self, NoMemory> {
         Rtattr::try_clone(self)
     }

@@ -43,10 +43,14 @@ impl Buffer {
 
     /// A buffer that holds a copy of these bytes.
     ///
-    /// Refused only where memory runs out.
+    /// Refused only where memory runs out, and never where there are no bytes.
     pub fn from_slice(alloc: Global, bytes: &[u8]) -> Result<Buffer, NoMemory>
-        ensures { IfOk result (λ b. b ≡ bytes.now) }
+        ensures value { IfOk result (λ b. b ≡ bytes.now) }
+        ensures memory { OnErr result (0 < length bytes.now) }
     {
+        if bytes.is_empty() {
+            return Ok(Buffer::new(alloc));
+        }
         Ok(Buffer {
             bytes: Vec::from_slice(alloc, bytes)?,
         })
@@ -54,12 +58,15 @@ impl Buffer {
 
     /// Appends bytes.
     ///
-    /// Refused only where memory runs out, and then the buffer is as it was.
+    /// Refused only where memory runs out, and never where there are no bytes; then the buffer is as it was.
     pub fn extend_from_slice(&mut self, bytes: &[u8]) -> Result<(), NoMemory>
         ensures ok { OnOk result (self.new ≡ self.old ++ bytes.now) }
         ensures err { OnErr result (self.new ≡ self.old) }
+        ensures memory { OnErr result (0 < length bytes.now) }
     {
-        self.bytes.extend_from_slice(bytes)?;
+        if !bytes.is_empty() {
+            self.bytes.extend_from_slice(bytes)?;
+        }
         Ok(())
     }
 
@@ -94,15 +101,18 @@ impl Buffer {
 
     /// A buffer that holds the same bytes.
     ///
-    /// Refused only where memory runs out.
+    /// Refused only where memory runs out, and never where the buffer holds no byte.
     pub fn try_clone(&self) -> Result<Buffer, NoMemory>
-        ensures { IfOk result (λ b. b ≡ self.now) }
+        ensures value { IfOk result (λ b. b ≡ self.now) }
+        ensures memory { OnErr result (0 < length self.now) }
     {
         Buffer::from_slice(*self.bytes.allocator(), self.as_ref())
     }
 }
 
 impl TryClone for Buffer {
+    ghost copy_takes_memory = { λ bytes. 0 < length bytes };
+
     fn try_clone(&self) -> Result<Buffer, NoMemory> {
         Buffer::try_clone(self)
     }

@@ -1,5 +1,5 @@
 -- Refusals: what an error of a call says of the outcome that the definitions give.
-use Rattle.std.specs.Prelude.{◌≡◌, Bool, true, false, Result, Err}
+use Rattle.std.specs.Prelude.{◌≡◌, ◌<◌, Bool, true, false, Result, Err, length}
 use Rattle.std.specs.Bool.{MatchBool}
 use Rattle.neli_cursor.specs.declared.errors.SerError.{SerError}
 use Rattle.neli_cursor.specs.declared.errors.SerError.TheVariants as ser
@@ -28,3 +28,15 @@ de_ran_out de.Memory = true
 -- e is why a read is refused, which takes memory where this is said
 abbrev pub Refuses : {A : Type 0} → Result A DeError → Type 0 → DeError → Type 0
 Refuses outcome takes_memory e = IsRefusal de_ran_out outcome takes_memory e
+
+-- ---- copies
+
+-- copying a refused write takes memory: that of its text
+abbrev pub ser_copy_takes_memory : SerError → Type 0
+ser_copy_takes_memory (ser.Msg text) = 0 < length text
+ser_copy_takes_memory e = ⊥
+
+-- copying a refused read takes memory: that of its text
+abbrev pub de_copy_takes_memory : DeError → Type 0
+de_copy_takes_memory (de.Msg text) = 0 < length text
+de_copy_takes_memory e = ⊥

@@ -4,12 +4,13 @@
 //! implementation's own, [`MsgError`]. Out of memory is a variant of each, `Memory`, and where nothing
 //! else can go wrong the error [`NoMemory`].
 
-ghost use Rattle.std.specs.Prelude.{◌≡◌, ◌++◌, IfOk, IfSome, Some, None, codes, string_bytes};
+ghost use Rattle.std.specs.Prelude.{◌≡◌, ◌++◌, IfOk, IfSome, OnErr, Some, None, codes, string_bytes};
 ghost use Rattle.std.specs.Fmt.{decimal};
 ghost use Rattle.neli_cursor.specs.declared.errors.SerError.TheVariants as ser;
 ghost use Rattle.neli_cursor.specs.declared.errors.DeError.TheVariants as de;
 ghost use Rattle.neli_cursor.specs.declared.errors.Utf8.TheVariants as utf8;
 ghost use Rattle.neli_cursor.specs.ErrorTexts.{ser_text, de_text};
+ghost use Rattle.neli_cursor.specs.Refusals.{de_copy_takes_memory, ser_copy_takes_memory};
 ghost use Rattle.std.specs.IoError.{error_kind};
 ghost use Rattle.std.specs.String.{from_utf8_error_cause};
 
@@ -93,9 +94,10 @@ impl SerError {
 
     /// An equal error.
     ///
-    /// Refused only where memory runs out.
+    /// Refused only where memory runs out, and only where the error has a text.
     pub fn try_clone(&self) -> Result<SerError, NoMemory>
-        ensures { IfOk result (λ e. e ≡ self.now) }
+        ensures value { IfOk result (λ e. e ≡ self.now) }
+        ensures memory { OnErr result (ser_copy_takes_memory self.now) }
     {
         Ok(match self {
             SerError::Msg(message) => SerError::Msg(message.try_clone()?),
@@ -189,9 +191,10 @@ impl DeError {
 
     /// An equal error.
     ///
-    /// Refused only where memory runs out.
+    /// Refused only where memory runs out, and only where the error has a text.
     pub fn try_clone(&self) -> Result<DeError, NoMemory>
-        ensures { IfOk result (λ e. e ≡ self.now) }
+        ensures value { IfOk result (λ e. e ≡ self.now) }
+        ensures memory { OnErr result (de_copy_takes_memory self.now) }
     {
         Ok(match self {
             DeError::Msg(message) => DeError::Msg(message.try_clone()?),

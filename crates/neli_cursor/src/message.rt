@@ -1,6 +1,6 @@
 //! Messages: texts that say what is wrong, fixed or made.
 
-ghost use Rattle.std.specs.Prelude.{◌≡◌, IfOk, IfSome, Some};
+ghost use Rattle.std.specs.Prelude.{◌≡◌, ◌<◌, IfOk, IfSome, OnErr, Some, length};
 ghost use Rattle.neli_cursor.specs.Messages.{uninitialized};
 
 use crate::NoMemory;
@@ -62,12 +62,14 @@ impl MsgError {
 
     /// A message with the same text.
     ///
-    /// Refused only where memory runs out.
+    /// Refused only where memory runs out, and never where the text is empty.
     pub fn try_clone(&self) -> Result<MsgError, NoMemory>
-        ensures { IfOk result (λ m. m ≡ self.now) }
+        ensures value { IfOk result (λ m. m ≡ self.now) }
+        ensures memory { OnErr result (0 < length self.now) }
     {
         let text = match &self.text {
             Text::Fixed(text) => Text::Fixed(*text),
+            Text::Owned(text) if text.is_empty() => Text::Fixed(""),
             Text::Owned(text) => Text::Owned(text.clone()?),
             Text::Uninitialized(name) => Text::Uninitialized(*name),
         };

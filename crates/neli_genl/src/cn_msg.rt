@@ -1,6 +1,6 @@
 //! Messages of the connector.
 
-ghost use Rattle.std.specs.Prelude.{◌≡◌, ◌+◌, Some, None, Ok, IfOk, IfErr};
+ghost use Rattle.std.specs.Prelude.{◌≡◌, ◌+◌, Some, None, Ok, IfOk, IfErr, OnErr};
 ghost use Rattle.neli_wire.specs.laws.Sizes.{unpadded-rounded};
 ghost use Rattle.neli_attr.specs.Builders.{IsWhyNot};
 ghost use Rattle.neli_body.specs.Bodies.{body_of, body_takes_memory, body_wire};
@@ -92,9 +92,10 @@ impl<P> CnMsg<P> {
 impl<P: TryClone> CnMsg<P> {
     /// An equal message.
     ///
-    /// Refused only where memory runs out.
+    /// Refused only where memory runs out, and only where a copy of the payload takes some.
     pub fn try_clone(&self) -> Result<Self, NoMemory>
-        ensures { IfOk result (λ m. m ≡ self.now) }
+        ensures value { IfOk result (λ m. m ≡ self.now) }
+        ensures memory { OnErr result (P.copy_takes_memory self.now.payload) }
     {
         Ok(CnMsg {
             header: self.header,
@@ -104,6 +105,8 @@ impl<P: TryClone> CnMsg<P> {
 }
 
 impl<P: TryClone> TryClone for CnMsg<P> {
+    ghost copy_takes_memory = { λ m. P.copy_takes_memory m.payload };
+
     fn try_clone(&self) -> Result<Self, NoMemory> {
         CnMsg::try_clone(self)
     }

@@ -89,6 +89,8 @@ impl<C: Cmd, T: NlAttrType, H: Copy> Genlmsghdr<C, T, H> {
 }
 
 impl<C: Cmd, T: NlAttrType, H: Copy> TryClone for Genlmsghdr<C, T, H> {
+    ghost copy_takes_memory = { λ m. 0 < length m.attrs };
+
     fn try_clone(&self) -> Result<Self, NoMemory> {
         Genlmsghdr::try_clone(self)
     }

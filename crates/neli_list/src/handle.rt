@@ -56,11 +56,15 @@ pub trait ToTyped<T> {
     // The attribute with what the number of its type means.
     ghost typed: { Self → Self.Typed };
 
+    // Where typing takes memory: that of the copied payload.
+    ghost typing_takes_memory: { Self → Type 0 };
+
     /// The same attribute with what the number of its type means.
     ///
-    /// Refused only where memory runs out.
+    /// Refused only where memory runs out, and only where typing takes some.
     fn to_typed(&self) -> Result<Self::Typed, NoMemory>
-        ensures { IfOk result (λ a. a ≡ typed self.now) };
+        ensures value { IfOk result (λ a. a ≡ typed self.now) }
+        ensures memory { OnErr result (typing_takes_memory self.now) };
 }
 
 /// A list that lends its attributes.

@@ -1,32 +1,35 @@
 //! Values that are copied.
 
-ghost use Rattle.std.specs.Prelude.{◌≡◌, ◌<◌, IfOk, IsOk, OnErr, length};
+ghost use Rattle.std.specs.Prelude.{◌≡◌, ◌<◌, IfOk, OnErr, length};
 
 use crate::FrameList;
 use neli_wire::NoMemory;
 
 /// A value of which a copy can be made where memory allows.
 pub trait TryClone: Sized + Drop {
+    // Where a copy takes memory.
+    ghost copy_takes_memory: { Self → Type 0 };
+
     /// An equal value.
     ///
-    /// Refused only where memory runs out.
+    /// Refused only where memory runs out, and only where a copy of the value takes some.
     fn try_clone(&self) -> Result<Self, NoMemory>
-        ensures { IfOk result (λ v. v ≡ self.now) };
+        ensures value { IfOk result (λ v. v ≡ self.now) }
+        ensures memory { OnErr result (copy_takes_memory self.now) };
 }
 
 impl TryClone for () {
-    fn try_clone(&self) -> Result<(), NoMemory>
-        ensures { IsOk result }
-    {
+    ghost copy_takes_memory = { λ _. ⊥ };
+
+    fn try_clone(&self) -> Result<(), NoMemory> {
         Ok(())
     }
 }
 
 impl<I: TryClone> TryClone for FrameList<I> {
-    fn try_clone(&self) -> Result<Self, NoMemory>
-        ensures value { IfOk result (λ list. list ≡ self.now) }
-        ensures memory { OnErr result (0 < length self.now) }
-    {
+    ghost copy_takes_memory = { λ list. 0 < length list };
+
+    fn try_clone(&self) -> Result<Self, NoMemory> {
         FrameList::try_clone(self)
     }
 }

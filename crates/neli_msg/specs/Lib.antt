@@ -1,5 +1,6 @@
 pub mod Answers
 pub mod Builders
+pub mod Copies
 pub mod Explained
 pub mod Framed
 pub mod Headers

@@ -4,6 +4,7 @@ use Rattle.std.specs.Prelude.{Option, Some, None, Result, Ok, Err, IsOk, nat_lt,
 use Rattle.neli_wire.specs.DeError.{DeError}
 use Rattle.neli_wire.specs.DeError.TheVariants.{InvalidInput}
 use Rattle.neli_wire.specs.Reading.{◌>>=◌, exact_takes_memory}
+use Rattle.neli_wire.specs.Refusals.{de_copy_takes_memory}
 use Rattle.neli_wire.specs.Sizes.{align}
 use Rattle.neli_msg.specs.declared.answer.Nlmsgerr.{Nlmsgerr}
 use Rattle.neli_msg.specs.Framed.{Nlmsghdr, NlmsghdrErr}
@@ -12,6 +13,7 @@ use Rattle.neli_msg.specs.declared.payload.NlPayload.TheVariants as payload
 use Rattle.neli_msg.specs.declared.router_error.RouterError.{RouterError}
 use Rattle.neli_msg.specs.declared.router_error.RouterError.TheVariants as router
 use Rattle.neli_msg.specs.Answers.{answer}
+use Rattle.neli_msg.specs.Copies.{socket_copy_takes_memory}
 use Rattle.neli_msg.specs.Headers.{Header}
 use Rattle.neli_msg.specs.Messages.{Message}
 use Rattle.neli_msg.specs.Wires.{message_size, payload_size}
@@ -215,7 +217,10 @@ module _ {V : Type 0} (read : List ℕ → Result V DeError) (takes : List ℕ �
   error_takes_memory (router.Nlmsgerr e) = failure_typing_takes_memory read takes e
   error_takes_memory (router.Capped e) = 0 < length e.ext_ack
   error_takes_memory (router.BadSeqOrPid u) = typing_takes_memory read takes u.payload
-  error_takes_memory e = Unit {0}
+  error_takes_memory (router.Msg text) = 0 < length text
+  error_takes_memory (router.De e) = de_copy_takes_memory e
+  error_takes_memory (router.Socket e) = socket_copy_takes_memory e
+  error_takes_memory e = ⊥
 
 -- ---- parts that are taken out and put in
 

@@ -10,6 +10,7 @@ ghost use Rattle.neli_msg.specs.Answers.{acknowledgement_in, after, after_echo, 
 ghost use Rattle.neli_msg.specs.Answers.{code_in, dump_end_in, echoed_count, echoed_in, failure_in};
 ghost use Rattle.neli_msg.specs.Answers.{failure_takes_memory, failure_view, headed_in, tail_in, tail_takes_memory};
 ghost use Rattle.neli_msg.specs.Builders.{built_answer};
+ghost use Rattle.neli_msg.specs.Copies.{answer_copy_takes_memory};
 ghost use Rattle.neli_msg.specs.Retyping.{HasOwnLength, IsTooLong, RefusesTyping};
 ghost use Rattle.neli_msg.specs.Retyping.{failure_stating, failure_typing_takes_memory, typed_acknowledgement};
 ghost use Rattle.neli_msg.specs.Retyping.{typed_failure};
@@ -413,9 +414,10 @@ fn answer_with<M>(error: i32, nlmsg: M, ext_ack: GenlBuffer<NlmsgerrAttr, Buffer
 impl<M: TryClone> Nlmsgerr<M> {
     /// An equal answer.
     ///
-    /// Refused only where memory runs out.
+    /// Refused only where memory runs out: a copy takes some where that of the message does, or for attributes.
     pub fn try_clone(&self) -> Result<Self, NoMemory>
-        ensures { IfOk result (λ e. e ≡ self.now) }
+        ensures value { IfOk result (λ e. e ≡ self.now) }
+        ensures memory { OnErr result (answer_copy_takes_memory M.copy_takes_memory self.now) }
     {
         let nlmsg = self.nlmsg.try_clone()?;
         let ext_ack = self.ext_ack.try_clone()?;
@@ -424,6 +426,8 @@ impl<M: TryClone> Nlmsgerr<M> {
 }
 
 impl<M: TryClone> TryClone for Nlmsgerr<M> {
+    ghost copy_takes_memory = { answer_copy_takes_memory M.copy_takes_memory };
+
     fn try_clone(&self) -> Result<Self, NoMemory> {
         Nlmsgerr::try_clone(self)
     }
@@ -439,19 +443,6 @@ impl Nlmsgerr<NlmsghdrAck<u16>> {
     {
         let ext_ack = self.ext_ack.try_clone()?;
         Ok(answer_with(self.error, self.nlmsg.to_typed(), ext_ack))
-    }
-}
-
-impl Nlmsgerr<()> {
-    /// An equal end of a dump, as `try_clone` gives; here the contract can say where memory is asked for, since nothing
-    /// is answered whose copy could take some.
-    ///
-    /// Refused only where memory runs out, and never where there are no attributes.
-    pub(crate) fn copied(&self) -> Result<Self, NoMemory>
-        ensures value { IfOk result (λ e. e ≡ self.now) }
-        ensures memory { OnErr result (0 < length self.now.ext_ack) }
-    {
-        Ok(answer_with(self.error, (), self.ext_ack.try_clone()?))
     }
 }
 

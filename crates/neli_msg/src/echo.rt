@@ -81,6 +81,8 @@ impl<T: NlType, P: FromBytesWithInput> Carried<T> for Echoed<P> {
 }
 
 impl<P: TryClone> TryClone for Echoed<P> {
+    ghost copy_takes_memory = { λ echoed. P.copy_takes_memory echoed.0 };
+
     fn try_clone(&self) -> Result<Self, NoMemory> {
         Ok(Echoed(self.0.try_clone()?))
     }

@@ -179,9 +179,10 @@ impl<T: NlType, X: Carried<T>> FromBytes for Framed<T, X> {
 impl<T: NlType, X: TryClone> Framed<T, X> {
     /// An equal message.
     ///
-    /// Refused only where memory runs out.
+    /// Refused only where memory runs out, and only where a copy of what the message carries takes some.
     pub fn try_clone(&self) -> Result<Self, NoMemory>
-        ensures { IfOk result (λ m. m ≡ self.now) }
+        ensures value { IfOk result (λ m. m ≡ self.now) }
+        ensures memory { OnErr result (X.copy_takes_memory self.now.payload) }
     {
         let payload = self.payload.try_clone()?;
         Ok(Framed {
@@ -192,6 +193,8 @@ impl<T: NlType, X: TryClone> Framed<T, X> {
 }
 
 impl<T: NlType, X: TryClone> TryClone for Framed<T, X> {
+    ghost copy_takes_memory = { λ m. X.copy_takes_memory m.payload };
+
     fn try_clone(&self) -> Result<Self, NoMemory> {
         Framed::try_clone(self)
     }

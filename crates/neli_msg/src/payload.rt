@@ -4,6 +4,7 @@ ghost use Rattle.std.specs.Prelude.{◌≡◌, ℕ, List, Ok, Err, IsOk, IfOk, I
 ghost use Rattle.neli_wire.specs.Place.{whole};
 ghost use Rattle.neli_wire.specs.Refusals.{Refuses};
 ghost use Rattle.neli_wire.specs.Reading.{exact_reading, exact_takes_memory};
+ghost use Rattle.neli_msg.specs.Copies.{payload_copy_takes_memory};
 ghost use Rattle.neli_msg.specs.Kinds.{is_acknowledged, kind_of, kind_takes_memory, payload_as};
 ghost use Rattle.neli_msg.specs.Kinds.{payload_in, payload_takes_memory, payload_view, tail_of};
 ghost use Rattle.neli_wire.specs.laws.Sizes.{unpadded-rounded};
@@ -213,9 +214,10 @@ impl<T: NlType, P: ToBytes> ToBytes for NlPayload<T, P> {
 impl<T: NlType, P: TryClone> NlPayload<T, P> {
     /// An equal payload.
     ///
-    /// Refused only where memory runs out.
+    /// Refused only where memory runs out: a copy takes some where that of the body does, or for attributes.
     pub fn try_clone(&self) -> Result<Self, NoMemory>
-        ensures { IfOk result (λ p. p ≡ self.now) }
+        ensures value { IfOk result (λ p. p ≡ self.now) }
+        ensures memory { OnErr result (payload_copy_takes_memory P.copy_takes_memory self.now) }
     {
         Ok(match self {
             NlPayload::Ack(answer) => NlPayload::Ack(answer.try_clone()?),
@@ -229,6 +231,8 @@ impl<T: NlType, P: TryClone> NlPayload<T, P> {
 }
 
 impl<T: NlType, P: TryClone> TryClone for NlPayload<T, P> {
+    ghost copy_takes_memory = { payload_copy_takes_memory P.copy_takes_memory };
+
     fn try_clone(&self) -> Result<Self, NoMemory> {
         NlPayload::try_clone(self)
     }
@@ -268,7 +272,7 @@ impl NlPayload<u16, Buffer> {
         match self {
             NlPayload::Ack(answer) => Ok(NlPayload::Ack(answer.to_typed()?)),
             NlPayload::Capped(answer) => Ok(NlPayload::Capped(answer.to_typed()?)),
-            NlPayload::DumpExtAck(answer) => Ok(NlPayload::DumpExtAck(answer.copied()?)),
+            NlPayload::DumpExtAck(answer) => Ok(NlPayload::DumpExtAck(answer.try_clone()?)),
             NlPayload::Err(answer) => Ok(NlPayload::Err(answer.to_typed(alloc)?)),
             NlPayload::Payload(body) => Ok(NlPayload::Payload(read_first(alloc, body, n)?)),
             NlPayload::Empty => Ok(NlPayload::Empty),

@@ -1,8 +1,9 @@
 //! What a router reports.
 
-ghost use Rattle.std.specs.Prelude.{◌≡◌, Err, IfErr, IfOk, IfSome};
+ghost use Rattle.std.specs.Prelude.{◌≡◌, Err, IfErr, IfOk, IfSome, OnErr};
 ghost use Rattle.neli_attr.specs.Builders.{message_in};
 ghost use Rattle.neli_msg.specs.declared.router_error.RouterError.TheVariants as router;
+ghost use Rattle.neli_msg.specs.Copies.{error_copy_takes_memory};
 ghost use Rattle.neli_msg.specs.Retyping.{IsTypedError, RefusesTypingError, error_takes_memory};
 ghost use Rattle.neli_msg.specs.RouterErrors.{de_of, router_of_message, router_text, socket_of};
 
@@ -62,9 +63,11 @@ impl<T, P> RouterError<T, P> {
 impl<T: NlType, P: TryClone> RouterError<T, P> {
     /// An equal error.
     ///
-    /// Refused only where memory runs out.
+    /// Refused only where memory runs out, and only where the error has a text, attributes, or a message of which a
+    /// copy takes some.
     pub fn try_clone(&self) -> Result<Self, NoMemory>
-        ensures { IfOk result (λ e. e ≡ self.now) }
+        ensures value { IfOk result (λ e. e ≡ self.now) }
+        ensures memory { OnErr result (error_copy_takes_memory P.copy_takes_memory self.now) }
     {
         Ok(match self {
             RouterError::Msg(message) => RouterError::Msg(message.try_clone()?),
@@ -84,6 +87,8 @@ impl<T: NlType, P: TryClone> RouterError<T, P> {
 }
 
 impl<T: NlType, P: TryClone> TryClone for RouterError<T, P> {
+    ghost copy_takes_memory = { error_copy_takes_memory P.copy_takes_memory };
+
     fn try_clone(&self) -> Result<Self, NoMemory> {
         RouterError::try_clone(self)
     }
@@ -95,8 +100,8 @@ impl RouterError<u16, Buffer> {
     ///
     /// Refused as [`Nlmsgerr::to_typed`] and [`Nlmsghdr::to_typed`] are: with the refusal of the message's
     /// bytes as [`RouterError::De`], as [`RouterError::Msg`] where a length passes 32 bits, or as
-    /// [`RouterError::Memory`], as they say. `Memory` alone refuses a `Capped` that has attributes, a `Msg`, a `De`
-    /// and a `Socket`, which are copied; no other error is refused.
+    /// [`RouterError::Memory`], as they say. `Memory` alone refuses a `Capped` that has attributes, and a `Msg`, a `De`
+    /// and a `Socket` that have a text, which are copied; no other error is refused.
     pub fn to_typed<T: NlType, P: FromBytesWithInput + Size>(
         &self,
         alloc: Global,

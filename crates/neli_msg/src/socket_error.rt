@@ -1,9 +1,10 @@
 //! What a reader of messages, or a link below it, reports.
 
-ghost use Rattle.std.specs.Prelude.{◌≡◌, IfOk, IfSome};
+ghost use Rattle.std.specs.Prelude.{◌≡◌, IfOk, IfSome, OnErr};
 ghost use Rattle.std.specs.IoError.{error_kind};
 ghost use Rattle.neli_attr.specs.Builders.{message_in};
 ghost use Rattle.neli_msg.specs.declared.socket_error.SocketError.TheVariants as socket;
+ghost use Rattle.neli_msg.specs.Copies.{socket_copy_takes_memory};
 ghost use Rattle.neli_msg.specs.SocketErrors.{of_ser, of_de, socket_of_message, socket_text};
 
 use neli_attr::BuildError;
@@ -40,9 +41,10 @@ impl SocketError {
 
     /// An equal error.
     ///
-    /// Refused only where memory runs out.
+    /// Refused only where memory runs out, and only where the error has a text.
     pub fn try_clone(&self) -> Result<SocketError, NoMemory>
-        ensures { IfOk result (λ e. e ≡ self.now) }
+        ensures value { IfOk result (λ e. e ≡ self.now) }
+        ensures memory { OnErr result (socket_copy_takes_memory self.now) }
     {
         Ok(match self {
             SocketError::Msg(message) => SocketError::Msg(message.try_clone()?),

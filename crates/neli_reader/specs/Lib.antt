@@ -5,6 +5,7 @@ pub use Rattle.neli_msg.specs.declared.router_error.RouterError
 pub use Rattle.neli_msg.specs.declared.socket_error.SocketError
 pub use Rattle.neli_msg.specs.Answers
 pub use Rattle.neli_msg.specs.Builders
+pub use Rattle.neli_msg.specs.Copies
 pub use Rattle.neli_msg.specs.Explained
 pub use Rattle.neli_msg.specs.Framed
 pub use Rattle.neli_msg.specs.Headers

@@ -1,6 +1,6 @@
 -- What look-ups say, in the words of `specs/Attributes.antt`.
 use Rattle.std.proofs.Common.{◌≡◌, ℕ, Bool, true, false, cond, List, [], ◌∷◌, Option, Some, None, Result, Ok, Err, refl}
-use Rattle.std.proofs.Common.{ap, inl, inr, map, find, option_map, IsErrAnd, IsSomeAnd, IfOk, IfErr, OnErr, ◌<◌, length, arith}
+use Rattle.std.proofs.Common.{ap, map, find, option_map, IsErrAnd, IsSomeAnd, IfOk, IfErr, OnErr, ◌<◌, length, arith}
 use Rattle.std.proofs.lemmas.List.{length-map}
 use Rattle.neli_consts.specs.declared.index.Index.{Index}
 use Rattle.neli_wire.specs.Bytes.{Reading}
@@ -30,7 +30,6 @@ use Rattle.neli_attr.specs.declared.nlattr.Nlattr.{Nlattr}
 use Rattle.neli_attr.specs.Payloads.{ReadsFirst}
 use Rattle.neli_resolvers.specs.Attributes.{first_number, is_family_id, is_family_name, is_id, is_mcast_groups, is_name}
 use Rattle.neli_resolvers.specs.Attributes.{payload_where}
-use Rattle.neli_resolvers.specs.Items.{IsReadRefusal}
 
 -- ---- types
 
@@ -96,20 +95,6 @@ finds_id = looked_up-where mcast_grp.eq Id is_id tests_id
 
 -- ---- refusals
 
-read_refusal : {A : Type 0} (outcome : Result A DeError) (takes : Type 0) (e : DeError) → Refuses outcome takes e
-    → IsReadRefusal outcome takes e
-read_refusal outcome takes (Msg m) h = inr ((λ f. cc), h)
-read_refusal outcome takes (Io k) h = inr ((λ f. cc), h)
-read_refusal outcome takes (Utf8 u) h = inr ((λ f. cc), h)
-read_refusal outcome takes (InvalidInput n) h = inr ((λ f. cc), h)
-read_refusal outcome takes Memory h = inl (refl, h)
-
--- a read is refused
-pub refused_read : {V A : Type 0} (result : Result V DeError) (outcome : Result A DeError) (takes : Type 0)
-    → IfErr result (Refuses outcome takes) → IfErr result (IsReadRefusal outcome takes)
-refused_read (Ok v) outcome takes h = h
-refused_read (Err e) outcome takes h = read_refusal outcome takes e h
-
 -- what was read, by what its outcome is
 pub was_read : {V A : Type 0} (result : Result V DeError) (outcome : Result A DeError) (view : V → A) (v : V)
     → IfOk result (λ v. outcome ≡ Ok (view v)) → Some v ≡ result_ok result → outcome ≡ Ok (view v)
@@ -118,18 +103,24 @@ was_read (Err e) outcome view v h is = cc
 
 -- where nothing was read and memory did not run out, nothing can be read
 pub was_not_read : {V A : Type 0} (result : Result V DeError) (outcome : Result A DeError) (takes : Type 0)
-    → IfErr result (IsReadRefusal outcome takes) → (result ≡ Err Memory → ⊥) → None ≡ result_ok result
+    → IfErr result (Refuses outcome takes) → (result ≡ Err Memory → ⊥) → None ≡ result_ok result
     → result_ok outcome ≡ None
 was_not_read (Ok w) outcome takes h enough is = cc
-was_not_read (Err e) outcome takes (inl m) enough is = absurd (enough (ap Err m.0))
-was_not_read (Err e) outcome takes (inr o) enough is = rw o.1 refl
+was_not_read (Err Memory) outcome takes h enough is = absurd (enough refl)
+was_not_read (Err (Msg m)) outcome takes h enough is = rw h refl
+was_not_read (Err (Io k)) outcome takes h enough is = rw h refl
+was_not_read (Err (Utf8 u)) outcome takes h enough is = rw h refl
+was_not_read (Err (InvalidInput n)) outcome takes h enough is = rw h refl
 
 -- where memory ran out, the read takes some
 pub ran_out : {V A : Type 0} (result : Result V DeError) (outcome : Result A DeError) (takes : Type 0)
-    → IfErr result (IsReadRefusal outcome takes) → result ≡ Err Memory → takes
+    → IfErr result (Refuses outcome takes) → result ≡ Err Memory → takes
 ran_out (Ok w) outcome takes h is = absurd cc
-ran_out (Err e) outcome takes (inl m) is = m.1
-ran_out (Err e) outcome takes (inr o) is = let same : e ≡ Memory = cc in absurd (o.0 same)
+ran_out (Err Memory) outcome takes h is = h
+ran_out (Err (Msg m)) outcome takes h is = absurd cc
+ran_out (Err (Io k)) outcome takes h is = absurd cc
+ran_out (Err (Utf8 u)) outcome takes h is = absurd cc
+ran_out (Err (InvalidInput n)) outcome takes h is = absurd cc
 
 pub on_err : {V E : Type 0} (result : Result V E) (said : Type 0) → said → OnErr result said
 on_err (Ok v) said is = tt
@@ -138,11 +129,14 @@ on_err (Err e) said is = is
 -- the refusal of a step is that of the whole, which takes memory where the step does
 pub step_refused : {V A B : Type 0} (result : Result V DeError) (e : DeError) (step : Result A DeError)
     (whole : Result B DeError) (takes more : Type 0) → IsErrAnd result (λ d. d ≡ e)
-    → (step ≡ Err e → whole ≡ Err e) → (takes → more) → IsReadRefusal step takes e
-    → IfErr result (IsReadRefusal whole more)
+    → (step ≡ Err e → whole ≡ Err e) → (takes → more) → Refuses step takes e
+    → IfErr result (Refuses whole more)
 step_refused (Ok v) e step whole takes more is same so h = tt
-step_refused (Err d) e step whole takes more is same so (inl m) = rw is (inl (m.0, so m.1))
-step_refused (Err d) e step whole takes more is same so (inr o) = rw is (inr (o.0, same o.1))
+step_refused (Err d) Memory step whole takes more is same so h = rw is (so h)
+step_refused (Err d) (Msg m) step whole takes more is same so h = rw is (same h)
+step_refused (Err d) (Io k) step whole takes more is same so h = rw is (same h)
+step_refused (Err d) (Utf8 u) step whole takes more is same so h = rw is (same h)
+step_refused (Err d) (InvalidInput n) step whole takes more is same so h = rw is (same h)
 
 -- ---- payloads that have bytes
 

@@ -1,11 +1,9 @@
 -- The items of a handle: messages of the controller, and errors in place of messages.
-use Rattle.std.specs.Prelude.{◌≡◌, ◌≢◌, List, [], ◌∷◌, Option, None, Some, IsOk, IsSome, Result, Ok, Err, filter_map, map}
-use Rattle.std.specs.Prelude.{option_map, ◌⊎◌}
+use Rattle.std.specs.Prelude.{◌≡◌, List, [], ◌∷◌, Option, None, Some, IsOk, IsSomeAnd, Result, Ok, Err, filter_map, map}
+use Rattle.std.specs.Prelude.{option_map, ◌<◌, ◌⊎◌, length}
 use Rattle.std.specs.List.{cons_option, last_or}
 use Rattle.std.specs.Option.{option_or}
 use Rattle.std.specs.Result.{result_err, result_ok}
-use Rattle.neli_wire.specs.DeError.{DeError}
-use Rattle.neli_wire.specs.DeError.TheVariants as de
 use Rattle.neli_consts.specs.declared.genl.CtrlAttr.{CtrlAttr}
 use Rattle.neli_consts.specs.declared.genl.CtrlCmd.{CtrlCmd}
 use Rattle.neli_consts.specs.declared.genl.GenlId.{GenlId}
@@ -13,6 +11,7 @@ use Rattle.neli_attr.specs.Nlattr.{nlattr_says}
 use Rattle.neli_genl.specs.Genlmsghdr.{AttributesRead}
 use Rattle.neli_genl.specs.declared.genlmsghdr.Genlmsghdr.{Genlmsghdr}
 use Rattle.neli_genl.specs.declared.no_user_header.NoUserHeader.{NoUserHeader}
+use Rattle.neli_reader.specs.Copies.{error_copy_takes_memory as copy_takes_memory}
 use Rattle.neli_reader.specs.Framed.{Nlmsghdr}
 use Rattle.neli_reader.specs.Retyping.{body_of}
 use Rattle.neli_reader.specs.RouterError.{RouterError}
@@ -77,14 +76,15 @@ finding_takes_memory f takes (x ∷ xs) = takes x ⊎ (IsOk (f x) × finding_tak
 
 -- ---- refusals
 
--- e is why a read is refused: memory ran out, where the read takes some; or else its outcome says so
-abbrev pub IsReadRefusal : {A : Type 0} → Result A DeError → Type 0 → DeError → Type 0
-IsReadRefusal outcome takes e = ((e ≡ de.Memory) × takes) ⊎ ((e ≢ de.Memory) × (outcome ≡ Err e))
-
--- the same of a resolver, which takes memory where this is said
+-- e is why a resolver is refused: memory ran out, where it takes some; or its outcome says so
 abbrev pub IsRefusal : {A : Type 0} → Result A Error → Type 0 → Error → Type 0
 IsRefusal outcome takes e = ((e ≡ router.Memory) × takes) ⊎ (outcome ≡ Err e)
 
--- e is this error; or there is one, and memory ran out
-abbrev pub IsCopyOf : Option Error → Error → Type 0
-IsCopyOf error e = ((e ≡ router.Memory) × IsSome error) ⊎ (error ≡ Some e)
+-- copying the first error takes memory, where there is one
+abbrev pub error_copy_takes_memory : List Item → Type 0
+error_copy_takes_memory items =
+    IsSomeAnd (first_error items) (copy_takes_memory (λ (body : Body). 0 < length body.attrs))
+
+-- e is the first error; or there is one of which a copy takes memory, and that ran out
+abbrev pub IsCopyOfError : List Item → Error → Type 0
+IsCopyOfError items e = ((e ≡ router.Memory) × error_copy_takes_memory items) ⊎ (first_error items ≡ Some e)

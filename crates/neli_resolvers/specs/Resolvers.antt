@@ -1,6 +1,6 @@
 -- What the resolvers answer, by the whole list of items.
 use Rattle.std.specs.Prelude.{ℕ, ◌==◌, ◌⊎◌, Bool, false, ◌≡◌, List, [], ◌++◌, codes, if◌then◌else◌, nat_eq, filter_map}
-use Rattle.std.specs.Prelude.{Option, Some, None, Result, Ok, Err, IsSome, ok_or, option_and_then, option_map}
+use Rattle.std.specs.Prelude.{Option, Some, None, Result, Ok, Err, ok_or, option_and_then, option_map}
 use Rattle.std.specs.Prelude.{IsOk, IsOkAnd, IsSomeAnd}
 use Rattle.std.specs.Prelude.{unwrap_or}
 use Rattle.std.specs.Cmp.Lexicographic.{pointwise}
@@ -16,7 +16,7 @@ use Rattle.neli_reader.specs.RouterErrors.{de_of}
 use Rattle.neli_resolvers.specs.Attributes.{Group, family_id, family_name, group_attrs, group_id, group_name, groups}
 use Rattle.neli_resolvers.specs.Attributes.{family_name_takes_memory, groups_take_memory}
 use Rattle.neli_resolvers.specs.Items.{Error, Item, Message, after, first_error, first_found, last_found, messages}
-use Rattle.neli_resolvers.specs.Items.{attributes_said, finding_takes_memory}
+use Rattle.neli_resolvers.specs.Items.{attributes_said, error_copy_takes_memory, finding_takes_memory}
 
 -- ---- texts, where nothing was found
 
@@ -66,7 +66,7 @@ family_takes_memory family items = family_answer family items ≡ Err (Msg (no_f
 
 -- the same where the items are lent: an error among them is copied
 abbrev pub lent_family_takes_memory : List ℕ → List Item → Type 0
-lent_family_takes_memory family items = IsSome (first_error items) ⊎ family_takes_memory family items
+lent_family_takes_memory family items = error_copy_takes_memory items ⊎ family_takes_memory family items
 
 -- ---- the number of a group
 
@@ -106,7 +106,7 @@ group_takes_memory family name items = (first_error items ≡ None)
 
 -- the same where the items are lent: an error among them is copied
 abbrev pub lent_group_takes_memory : List ℕ → List ℕ → List Item → Type 0
-lent_group_takes_memory family name items = IsSome (first_error items) ⊎ group_takes_memory family name items
+lent_group_takes_memory family name items = error_copy_takes_memory items ⊎ group_takes_memory family name items
 
 -- the numbers of both: the family's refusal comes before the group's
 abbrev pub both_answer : List ℕ → List ℕ → List Item → Result (ℕ × ℕ) Error

@@ -2,12 +2,12 @@
 
 ghost use Rattle.std.specs.Prelude.{◌≡◌, Ok, IfErr, IfOk, map, string_bytes};
 ghost use Rattle.std.specs.Result.{result_ok};
+ghost use Rattle.neli_wire.specs.Refusals.{Refuses};
 ghost use Rattle.neli_attr.specs.Handles.{attrs_in};
 ghost use Rattle.neli_attr.specs.Nlattr.{nlattr_says};
 ghost use Rattle.neli_resolvers.specs.Attributes.{family_id, family_name, group_attrs, group_id, group_name, groups};
 ghost use Rattle.neli_resolvers.specs.Attributes.{family_name_takes_memory, groups_take_memory};
 ghost use Rattle.neli_resolvers.specs.Attributes.{group_attrs_take_memory, group_name_takes_memory};
-ghost use Rattle.neli_resolvers.specs.Items.{IsReadRefusal};
 
 use neli_attr::{Buffer, GenlAttrHandle, Nlattr};
 use neli_consts::{CtrlAttr, CtrlAttrMcastGrp, Index};
@@ -29,7 +29,7 @@ pub(crate) fn family_name(
     ensures value { IfOk result
         (λ name. family_name (map nlattr_says (attrs_in attrs.now)) ≡ Ok (string_bytes name)) }
     ensures refused { IfErr result
-        (IsReadRefusal (family_name (map nlattr_says (attrs_in attrs.now)))
+        (Refuses (family_name (map nlattr_says (attrs_in attrs.now)))
         (family_name_takes_memory (map nlattr_says (attrs_in attrs.now)))) }
 {
     attrs.get_attr_payload_as_with_len(alloc, CtrlAttr::FamilyName)
@@ -43,7 +43,7 @@ pub(crate) fn groups<'a>(
     ensures value { IfOk result (λ all.
         groups (map nlattr_says (attrs_in attrs.now)) ≡ Ok (map nlattr_says (attrs_in all))) }
     ensures refused { IfErr result
-        (IsReadRefusal (groups (map nlattr_says (attrs_in attrs.now)))
+        (Refuses (groups (map nlattr_says (attrs_in attrs.now)))
         (groups_take_memory (map nlattr_says (attrs_in attrs.now)))) }
 {
     attrs.get_nested_attributes::<Index>(alloc, CtrlAttr::McastGroups)
@@ -56,7 +56,7 @@ pub(crate) fn group_attrs(
 ) -> Result<GenlAttrHandle<'_, CtrlAttrMcastGrp>, DeError>
     ensures value { IfOk result
         (λ attrs. group_attrs (nlattr_says group.now) ≡ Ok (map nlattr_says (attrs_in attrs))) }
-    ensures refused { IfErr result (IsReadRefusal (group_attrs (nlattr_says group.now))
+    ensures refused { IfErr result (Refuses (group_attrs (nlattr_says group.now))
         (group_attrs_take_memory (nlattr_says group.now))) }
 {
     group.get_attr_handle(alloc)
@@ -70,7 +70,7 @@ pub(crate) fn group_name(
     ensures value { IfOk result
         (λ name. group_name (map nlattr_says (attrs_in attrs.now)) ≡ Ok (string_bytes name)) }
     ensures refused { IfErr result
-        (IsReadRefusal (group_name (map nlattr_says (attrs_in attrs.now)))
+        (Refuses (group_name (map nlattr_says (attrs_in attrs.now)))
         (group_name_takes_memory (map nlattr_says (attrs_in attrs.now)))) }
 {
     attrs.get_attr_payload_as_with_len(alloc, CtrlAttrMcastGrp::Name)

@@ -2,9 +2,10 @@
 
 ghost use Rattle.std.specs.Prelude.{◌≡◌, ◌<◌, Err, IfErr, IfOk, Ok, OnErr, None, length, map, option_map};
 ghost use Rattle.std.specs.Prelude.{string_bytes};
+ghost use Rattle.neli_wire.specs.Refusals.{Refuses};
 ghost use Rattle.neli_attr.specs.Nlattr.{nlattr_says};
 ghost use Rattle.neli_resolvers.specs.Attributes.{group_attrs_take_memory};
-ghost use Rattle.neli_resolvers.specs.Items.{IsReadRefusal, first_found, last_found};
+ghost use Rattle.neli_resolvers.specs.Items.{first_found, last_found};
 ghost use Rattle.neli_resolvers.specs.Resolvers.{match_number, name_if};
 
 use crate::attributes::{group_attrs, group_id, group_name};
@@ -62,7 +63,7 @@ pub(crate) fn first_match(
 fn name_if(alloc: Global, group: &Nlattr<Index, Buffer>, id: u32) -> Result<Option<String>, DeError>
     ensures value { IfOk result
         (λ name. name_if id (nlattr_says group.now) ≡ Ok (option_map string_bytes name)) }
-    ensures refused { IfErr result (IsReadRefusal (name_if id (nlattr_says group.now))
+    ensures refused { IfErr result (Refuses (name_if id (nlattr_says group.now))
         (group_attrs_take_memory (nlattr_says group.now))) }
 {
     let attrs = group_attrs(alloc, group)?;
@@ -82,7 +83,7 @@ pub(crate) fn last_name(
         (λ name. last_found (name_if id) (map nlattr_says groups.now)
         ≡ Ok (option_map string_bytes name)) }
     ensures refused { IfErr result
-        (IsReadRefusal (last_found (name_if id) (map nlattr_says groups.now))
+        (Refuses (last_found (name_if id) (map nlattr_says groups.now))
         (0 < length groups.now)) }
 {
     let mut found = None;

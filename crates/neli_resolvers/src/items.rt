@@ -3,7 +3,7 @@
 ghost use Rattle.std.specs.Prelude.{◌≡◌, ◌≢◌, Err, IfErr, IfOk, IsSome, None, OnErr, OnOk, Some, is_some};
 ghost use Rattle.std.specs.Result.{result_ok};
 ghost use Rattle.neli_wire.specs.DeError.TheVariants.{Memory as no_memory};
-ghost use Rattle.neli_resolvers.specs.Items.{IsCopyOf, first_error};
+ghost use Rattle.neli_resolvers.specs.Items.{IsCopyOfError, first_error};
 
 use neli_consts::{CtrlAttr, CtrlCmd, GenlId};
 use neli_genl::Genlmsghdr;
@@ -58,10 +58,10 @@ pub(crate) fn without_errors(items: Vec<CtrlItem>) -> Result<Vec<CtrlItem>, Ctrl
     }
 }
 
-/// Refused with a copy of the first error among the items, or where there is one and memory runs out.
+/// Refused with a copy of the first error among the items, or where that takes memory and memory runs out.
 pub(crate) fn refuse_errors(items: &[CtrlItem]) -> Result<(), CtrlError>
     ensures whole { OnOk result (first_error items.now ≡ None) }
-    ensures refused { IfErr result (IsCopyOf (first_error items.now)) }
+    ensures refused { IfErr result (IsCopyOfError items.now) }
 {
     for item in items {
         if let Err(error) = item {

@@ -1,10 +1,11 @@
 //! The resolvers.
 
 ghost use Rattle.std.specs.Prelude.{◌≡◌, Err, IfErr, IfOk, IsSome, Ok, OnErr, None, map, option_map, string_bytes};
+ghost use Rattle.neli_wire.specs.Refusals.{Refuses};
 ghost use Rattle.neli_attr.specs.Handles.{attrs_in};
 ghost use Rattle.neli_attr.specs.Nlattr.{nlattr_says};
 ghost use Rattle.neli_resolvers.specs.Attributes.{family_name_takes_memory};
-ghost use Rattle.neli_resolvers.specs.Items.{IsReadRefusal, IsRefusal, attributes_said};
+ghost use Rattle.neli_resolvers.specs.Items.{IsRefusal, attributes_said};
 ghost use Rattle.neli_resolvers.specs.Resolvers.{both_answer, family_answer, family_takes_memory, group_answer};
 ghost use Rattle.neli_resolvers.specs.Resolvers.{group_takes_memory, lent_family_takes_memory, match_in, names_answer};
 ghost use Rattle.neli_resolvers.specs.Resolvers.{both_take_memory, lent_group_takes_memory, match_takes_memory};
@@ -73,7 +74,7 @@ pub fn resolve_genl_family(
 fn match_in(alloc: Global, message: &CtrlMessage, name: &str) -> Result<Option<u32>, DeError>
     ensures value { IfOk result (λ n. match_in name.now message.now ≡ Ok n) }
     ensures refused { IfErr result
-        (IsReadRefusal (match_in name.now message.now) (match_takes_memory message.now)) }
+        (Refuses (match_in name.now message.now) (match_takes_memory message.now)) }
 {
     let Some(body) = message.get_payload() else {
         return Ok(None);
@@ -160,7 +161,7 @@ fn names_said(
     ensures value { IfOk result (λ names. names_said id (map nlattr_says (attrs_in attrs.now))
         ≡ Ok (option_map (λ p. (string_bytes p.0, string_bytes p.1)) names)) }
     ensures refused { IfErr result
-        (IsReadRefusal (names_said id (map nlattr_says (attrs_in attrs.now)))
+        (Refuses (names_said id (map nlattr_says (attrs_in attrs.now)))
         (family_name_takes_memory (map nlattr_says (attrs_in attrs.now)))) }
 {
     let family = family_name(alloc, attrs)?;
@@ -182,7 +183,7 @@ fn names_in(
     ensures value { IfOk result (λ names. names_in id message.now
         ≡ Ok (option_map (λ p. (string_bytes p.0, string_bytes p.1)) names)) }
     ensures refused { IfErr result
-        (IsReadRefusal (names_in id message.now) (message_names_take_memory message.now)) }
+        (Refuses (names_in id message.now) (message_names_take_memory message.now)) }
     ensures payload { OnErr result (IsSome (attributes_said message.now)) }
 {
     let Some(body) = message.get_payload() else {

@@ -53,6 +53,8 @@ impl<H: Fields, A: RtaType> Body<H, A> {
 }
 
 impl<H: Fields, A: RtaType> TryClone for Body<H, A> {
+    ghost copy_takes_memory = { λ m. 0 < length m.rtattrs };
+
     fn try_clone(&self) -> Result<Self, NoMemory> {
         Body::try_clone(self)
     }

@@ -70,9 +70,9 @@ impl NdaCacheinfo {
 }
 
 impl TryClone for NdaCacheinfo {
-    fn try_clone(&self) -> Result<Self, NoMemory>
-        ensures { result ≡ Ok self.now }
-    {
+    ghost copy_takes_memory = { λ _. ⊥ };
+
+    fn try_clone(&self) -> Result<Self, NoMemory> {
         NdaCacheinfo::try_clone(self)
     }
 }

@@ -1,5 +1,6 @@
 use Rattle.std.proofs.Common.{◌≡◌, Ok, IfErr, IfOk, map, subst}
 use Rattle.neli_wire.specs.Frames.{frame_at}
+use Rattle.neli_wire.specs.Refusals.{Refuses}
 use Rattle.neli_consts.specs.Index.{index_of}
 use Rattle.neli_attr.specs.Attributes.{attribute}
 use Rattle.neli_attr.specs.Handles.{attrs_in}
@@ -7,8 +8,7 @@ use Rattle.neli_attr.specs.Lookup.{list_found}
 use Rattle.neli_attr.specs.Nlattr.{nlattr_says}
 use Rattle.neli_attr.specs.TypeField.{type_of}
 use Rattle.neli_resolvers.specs.Attributes.{HasBytes}
-use Rattle.neli_resolvers.specs.Items.{IsReadRefusal}
-use Rattle.neli_resolvers.proofs.Lookups.{finds_mcast_groups, refused_read}
+use Rattle.neli_resolvers.proofs.Lookups.{finds_mcast_groups}
 use Rattle.neli_resolvers.proofs.attributes.groups.Goals as goal
 
 pub returns : goal.returns
@@ -19,6 +19,6 @@ returns c =
     record {
       value = subst (λ p. IfOk result (λ all. list_found p listed ≡ Ok (map nlattr_says (attrs_in all)))) found
           c.get_nested_attributes.ensures.value;
-      refused = subst (λ p. IfErr result (IsReadRefusal (list_found p listed) (HasBytes p))) found
-          (refused_read result _ _ c.get_nested_attributes.ensures.refused);
+      refused = subst (λ p. IfErr result (Refuses (list_found p listed) (HasBytes p))) found
+          c.get_nested_attributes.ensures.refused;
     }
