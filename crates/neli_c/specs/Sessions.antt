@@ -100,6 +100,7 @@ TakesFault code errno s t =
     (pending s w))
     × (code ≡ memory → (w : Option ℕ) → pending t w ≡ pending s w)
     × KeepsRest s t × (fault_kind errno ≡ kind.WouldBlock → code ≡ ok)
+    × (((q : ℕ) → pending s (Some q) ≡ None) → code ≡ ok)
 
 -- the bytes of the held message are written where there is room, and `length` is how many there are
 abbrev pub WritesMessage : ℤ → Wire → List ℕ → List ℕ → ℕ → Type 0

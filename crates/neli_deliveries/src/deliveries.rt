@@ -18,7 +18,7 @@ use std::alloc::Global;
 ///
 /// Contracts see a store as its port and, for each number and for multicast (`None`), the list of
 /// what waits there, or that it is not open. How it is kept is the store's own matter.
-pub trait Deliveries: Sized {
+pub trait Deliveries: Sized + Drop {
     /// The port of the router: a message that came to no group and has another one is a stray.
     ghost port_of: { Self → ℕ };
 
@@ -70,13 +70,14 @@ pub trait Deliveries: Sized {
     /// Hands a fault of the link to each open number, unless it is that the link would block.
     ///
     /// Refused only where memory runs out, and then all lists are as they were; that the link would
-    /// block never is.
+    /// block never is, nor any fault where no number is open.
     fn fault(&mut self, error: SocketError) -> Result<(), NoMemory>
         ensures port { port_of self.new ≡ port_of self.old }
         ensures ok { OnOk result (ListsGain (λ w. fault_share w error)
             (pending self.old) (pending self.new)) }
         ensures err { OnErr result (SameLists (pending self.old) (pending self.new)) }
-        ensures would_block { is_would_block error ≡ true → IsOk result };
+        ensures would_block { is_would_block error ≡ true → IsOk result }
+        ensures unawaited { ((q : ℕ) → pending self.old (Some q) ≡ None) → IsOk result };
 
     /// What waits first, read as the caller's types, or that nothing waits: a message, or why there
     /// is none.

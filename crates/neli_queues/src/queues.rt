@@ -145,6 +145,9 @@ impl Deliveries for Queues {
         if would_block(&error) {
             return Ok(());
         }
+        if self.numbers.is_empty() {
+            return Ok(());
+        }
         let mut pieces = Vec::new(self.alloc);
         stage_each(
             self.alloc,

@@ -45,10 +45,7 @@ fn write_bad_line<W: Write>(line: usize, output: &mut W) -> Status
 /// Lets a new router do what a script says, and answers what came of each command.
 ///
 /// Refused where memory runs out.
-fn outcomes_of<D: Deliveries + Drop>(
-    alloc: Global,
-    script: Script,
-) -> Result<Vec<RawOutcome>, NoMemory>
+fn outcomes_of<D: Deliveries>(alloc: Global, script: Script) -> Result<Vec<RawOutcome>, NoMemory>
     ensures { IfOk result
         (λ outcomes. AreOutcomes script.pid script.commands.items outcomes.items) }
 {
@@ -62,7 +59,7 @@ fn outcomes_of<D: Deliveries + Drop>(
 /// The whole script is read before anything is written. Where a line is bad, only the number of the first
 /// such line is written; where memory runs out, only that. Nothing is written where the input fails or does
 /// not end.
-pub fn replay<D: Deliveries + Drop, R: Read, W: Write>(
+pub fn replay<D: Deliveries, R: Read, W: Write>(
     alloc: Global,
     input: &mut R,
     output: &mut W,

@@ -158,7 +158,7 @@ impl<D: Deliveries> NlRouter<D> {
     /// only block.
     ///
     /// Refused only where memory runs out, and then nothing is handed to anybody; that the link
-    /// would block never is.
+    /// would block never is, nor any fault where no number is open.
     pub fn error_handling(&mut self, error: SocketError) -> Result<(), NoMemory>
         ensures port { D.port_of self.new.deliveries ≡ D.port_of self.old.deliveries }
         ensures next_seq { self.new.next_seq ≡ self.old.next_seq }
@@ -167,6 +167,7 @@ impl<D: Deliveries> NlRouter<D> {
         ensures err { OnErr result (SameLists
             (D.pending self.old.deliveries) (D.pending self.new.deliveries)) }
         ensures would_block { is_would_block error ≡ true → IsOk result }
+        ensures unawaited { ((q : ℕ) → D.pending self.old.deliveries (Some q) ≡ None) → IsOk result }
     {
         self.deliveries.fault(error)
     }

@@ -42,7 +42,7 @@ fn put<H: Drop>(handles: &mut Vec<Option<H>>, k: usize, handle: H)
     handles[k] = Some(handle);
 }
 
-impl<D: Deliveries + Drop, RT: NlType, RP: FromBytesWithInput + Size + Drop> Session<D, RT, RP> {
+impl<D: Deliveries, RT: NlType, RP: FromBytesWithInput + Size + Drop> Session<D, RT, RP> {
     /// A new router, with the handle for multicast.
     pub(crate) fn start(alloc: Global, pid: u32) -> Result<Self, NoMemory>
         ensures port { IfOk result (λ s. D.port_of s.router.deliveries ≡ pid) }

@@ -22,7 +22,7 @@ pub fn run<D, ST, SP, RT, RP>(
     commands: Vec<Command<ST, SP>>,
 ) -> Result<Vec<Outcome<ST, SP, RT, RP>>, NoMemory>
 where
-    D: Deliveries + Drop,
+    D: Deliveries,
     ST: NlType,
     SP: ToBytes + Drop,
     RT: NlType,

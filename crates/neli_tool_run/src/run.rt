@@ -101,7 +101,7 @@ fn complain<C: Write>(complaints: &mut C) -> Status
 /// before anything is written. Words that ask for nothing are answered by the usage line on `complaints`. A
 /// script is answered over deliveries that are kept in a `D`.
 #[tactic(auto, using(crate::proofs::Asked::not_both, crate::proofs::Asked::not_zero_too, crate::proofs::Asked::not_replay_too, crate::proofs::Asked::list_or_zero, crate::proofs::Asked::list_or_replay, crate::proofs::Asked::zero_or_replay, crate::proofs::Asked::memory_no_input))]
-pub fn run<D: Deliveries + Drop, R: Read, W: Write, C: Write>(
+pub fn run<D: Deliveries, R: Read, W: Write, C: Write>(
     alloc: Global,
     words: &io::Result<Vec<String>>,
     input: &mut R,

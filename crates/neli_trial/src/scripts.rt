@@ -133,7 +133,7 @@ fn push_outcome(alloc: Global, out: &mut Vec<u8>, outcome: &Came) -> Result<(), 
 }
 
 /// What comes of these commands over this store.
-fn told<D: Deliveries + Drop>(alloc: Global, commands: Vec<Asked>) -> Result<Vec<u8>, NoMemory> {
+fn told<D: Deliveries>(alloc: Global, commands: Vec<Asked>) -> Result<Vec<u8>, NoMemory> {
     let came = run::<D, u16, Buffer, u16, Buffer>(alloc, PORT, commands)?;
     let mut out = Vec::new(alloc);
     for outcome in &came {

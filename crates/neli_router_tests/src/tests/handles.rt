@@ -40,7 +40,7 @@ const SCRIPTS: [(&str, &[&[(Step, Told)]]); 2] = [
 ];
 
 /// Plays the parts of a script in turn by two routers over this store.
-fn play_in_turn<D: Deliveries + Drop>(
+fn play_in_turn<D: Deliveries>(
     rt: &impl Abort,
     alloc: Global,
     row: &str,

@@ -20,18 +20,18 @@ fn reply(number: u32) -> [u8; 16] {
 }
 
 /// Sends an empty request of type 16, which gets this number.
-fn send<D: Deliveries + Drop>(rt: &impl Abort, alloc: Global, asker: &mut Asker<D>, number: u32) {
+fn send<D: Deliveries>(rt: &impl Abort, alloc: Global, asker: &mut Asker<D>, number: u32) {
     let came = asker.send(alloc, 16, 0, "").expect(rt, "memory");
     assert_is_at(rt, number, kind_once(came), Told::Sent(number, 0));
 }
 
 /// Hands in the reply to the request of this number.
-fn answer<D: Deliveries + Drop>(rt: &impl Abort, alloc: Global, asker: &mut Asker<D>, number: u32) {
+fn answer<D: Deliveries>(rt: &impl Abort, alloc: Global, asker: &mut Asker<D>, number: u32) {
     asker.hand_in(alloc, &reply(number), 0).expect(rt, "memory");
 }
 
 /// Reads the handle of the request of this number, which has to give its reply.
-fn read<D: Deliveries + Drop>(rt: &impl Abort, alloc: Global, asker: &mut Asker<D>, number: u32) {
+fn read<D: Deliveries>(rt: &impl Abort, alloc: Global, asker: &mut Asker<D>, number: u32) {
     let k = (number as usize).wrapping_add(1);
     assert_is_at(rt, number, asker.number(k), Some(number));
     let came = asker.read(alloc, k).expect(rt, "memory");
@@ -39,7 +39,7 @@ fn read<D: Deliveries + Drop>(rt: &impl Abort, alloc: Global, asker: &mut Asker<
 }
 
 /// Sends so many requests, hands in their replies, and reads each from its handle.
-fn round<D: Deliveries + Drop>(rt: &impl Abort, alloc: Global, count: u32) {
+fn round<D: Deliveries>(rt: &impl Abort, alloc: Global, count: u32) {
     let mut asker = Asker::<D>::new(rt, alloc, 0);
     for number in 0..count {
         send(rt, alloc, &mut asker, number);
@@ -148,7 +148,7 @@ fn commands(rt: &impl Abort, alloc: Global, load: Load) -> Vec<Command<u16, Buff
 }
 
 /// Asserts that a run over this store gives each message of a load in its turn, and then waits.
-fn assert_read<D: Deliveries + Drop>(rt: &impl Abort, alloc: Global, load: Load) {
+fn assert_read<D: Deliveries>(rt: &impl Abort, alloc: Global, load: Load) {
     let commands = commands(rt, alloc, load);
     let (count, before) = (commands.len(), (load.datagrams as usize).saturating_add(1));
     let came = run::<D, u16, Buffer, u16, Buffer>(alloc, 0, commands).expect(rt, "memory");

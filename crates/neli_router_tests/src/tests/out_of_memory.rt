@@ -11,7 +11,7 @@ use std::alloc::Global;
 use std::process::Abort;
 
 /// Does the steps of a script by the router's calls over this store, each once more where memory ran out.
-fn call<D: Deliveries + Drop>(rt: &impl Abort, alloc: Global, script: Script) {
+fn call<D: Deliveries>(rt: &impl Abort, alloc: Global, script: Script) {
     let (row, port, steps) = script;
     let mut asker = Asker::<D>::new(rt, alloc, port);
     for (place, (step, want)) in steps.iter().enumerate() {
@@ -21,7 +21,7 @@ fn call<D: Deliveries + Drop>(rt: &impl Abort, alloc: Global, script: Script) {
 }
 
 /// Does them by one run, once more where memory ran out.
-fn run<D: Deliveries + Drop>(rt: &impl Abort, alloc: Global, script: Script) {
+fn run<D: Deliveries>(rt: &impl Abort, alloc: Global, script: Script) {
     let (row, port, steps) = script;
     let came = match outcomes::<D>(alloc, port, steps) {
         Ok(came) => came,

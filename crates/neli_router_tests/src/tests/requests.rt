@@ -136,7 +136,7 @@ const EXCHANGES: [Exchange; 4] = [
 ];
 
 /// Sends a request.
-fn ask<D: Deliveries + Drop>(
+fn ask<D: Deliveries>(
     alloc: Global,
     asker: &mut Asker<D>,
     asked: Asked<'_>,
@@ -148,7 +148,7 @@ fn ask<D: Deliveries + Drop>(
 }
 
 /// Sends a request, and gives its bytes and its handle.
-fn request<D: Deliveries + Drop>(
+fn request<D: Deliveries>(
     rt: &impl Abort,
     alloc: Global,
     asker: &mut Asker<D>,
@@ -158,7 +158,7 @@ fn request<D: Deliveries + Drop>(
 }
 
 /// Sends an empty request of type 16, and gives its bytes and its handle, which is retyped.
-fn request_bytes<D: Deliveries + Drop>(
+fn request_bytes<D: Deliveries>(
     rt: &impl Abort,
     alloc: Global,
     asker: &mut Asker<D>,
@@ -218,7 +218,7 @@ fn assert_found(rt: &impl Abort, alloc: Global, row: &Exchange, list: Vec<CtrlIt
 }
 
 /// Sends the request of an exchange.
-fn start<D: Deliveries + Drop>(
+fn start<D: Deliveries>(
     rt: &impl Abort,
     alloc: Global,
     asker: &mut Asker<D>,
@@ -240,7 +240,7 @@ fn start<D: Deliveries + Drop>(
 }
 
 /// Sends a request to a new router, hands in the datagrams that answer it, and reads these.
-fn play<D: Deliveries + Drop>(rt: &impl Abort, alloc: Global, row: &Exchange) {
+fn play<D: Deliveries>(rt: &impl Abort, alloc: Global, row: &Exchange) {
     let mut asker = Asker::<D>::new(rt, alloc, 0);
     let mut handle = start(rt, alloc, &mut asker, row);
     for text in row.datagrams {
@@ -265,7 +265,7 @@ fn waits(reply: Reply<GenlId, Ctrl>) -> bool {
 }
 
 /// Reads multicast as it is given, which waits, and closes it.
-fn read_multicast<D: Deliveries + Drop>(rt: &impl Abort, alloc: Global) {
+fn read_multicast<D: Deliveries>(rt: &impl Abort, alloc: Global) {
     let (mut router, mut multicast) = NlRouter::<D>::new(alloc, 7);
     let reply = next(rt, alloc, &mut router, &mut multicast);
     assert_is_at(rt, "multicast", waits(reply), true);

@@ -236,7 +236,7 @@ fn command(alloc: Global, step: Step) -> Result<Command<u16, Buffer>, NoMemory> 
 
 /// Does these steps in their order by one run with a router of this port, over this store. Refused where memory
 /// runs out.
-pub fn outcomes<D: Deliveries + Drop>(
+pub fn outcomes<D: Deliveries>(
     alloc: Global,
     port: u32,
     steps: &[(Step, Told)],
@@ -266,7 +266,7 @@ pub fn assert_told(rt: &impl Abort, row: &str, came: &[Came], steps: &[(Step, To
 
 /// Does steps over this store with a router of this port: by one run, and by the router's own calls. Asserts that each
 /// answers what stands beside it, and that both have equal outcomes, which it gives.
-fn play_over<D: Deliveries + Drop>(
+fn play_over<D: Deliveries>(
     rt: &impl Abort,
     alloc: Global,
     row: &str,

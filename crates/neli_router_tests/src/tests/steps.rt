@@ -22,7 +22,7 @@ pub struct Asker<D> {
 }
 
 // A call that is refused, as it is where memory runs out, has done nothing that is seen when it is made again.
-impl<D: Deliveries + Drop> Asker<D> {
+impl<D: Deliveries> Asker<D> {
     /// A new router of this port and its handle for multicast. Any one allocation may be refused here.
     pub fn new(rt: &impl Abort, alloc: Global, port: u32) -> Asker<D> {
         let mut handles = Vec::new(alloc);
@@ -151,7 +151,7 @@ impl<D: Deliveries + Drop> Asker<D> {
 }
 
 /// Does these steps in their order with a new router of this port, over this store, a call each.
-pub fn called<D: Deliveries + Drop>(
+pub fn called<D: Deliveries>(
     rt: &impl Abort,
     alloc: Global,
     port: u32,

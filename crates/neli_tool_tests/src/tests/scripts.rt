@@ -13,7 +13,7 @@ use std::process::Abort;
 pub type Row = (&'static str, &'static str, &'static str);
 
 /// Asserts that this script is answered by these lines, over deliveries that are kept in a `D`.
-fn answers_over<D: Deliveries + Drop, R: Abort>(rt: &R, alloc: Global, row: Row) {
+fn answers_over<D: Deliveries, R: Abort>(rt: &R, alloc: Global, row: Row) {
     let mut output = Vec::new(alloc);
     let status = replay::<D, _, _>(alloc, &mut row.1.as_bytes(), &mut output);
     let answered = (output.as_slice(), status);

@@ -17,7 +17,7 @@ use std::process::Abort;
 
 /// Plays a script over deliveries that are kept in a `D`. Asserts that it is answered, or that memory ran out, and says
 /// which.
-fn is_answered<D: Deliveries + Drop>(rt: &impl Abort, alloc: Global, row: Row) -> bool {
+fn is_answered<D: Deliveries>(rt: &impl Abort, alloc: Global, row: Row) -> bool {
     let mut output = Kept::new();
     let status = replay::<D, _, _>(alloc, &mut row.1.as_bytes(), &mut output);
     let is_answered = status != Status::Memory;
@@ -31,13 +31,13 @@ fn is_answered<D: Deliveries + Drop>(rt: &impl Abort, alloc: Global, row: Row) -
 }
 
 /// Plays a script, once more where memory ran out, and asserts that it is answered.
-fn answers_again<D: Deliveries + Drop>(rt: &impl Abort, alloc: Global, row: Row) {
+fn answers_again<D: Deliveries>(rt: &impl Abort, alloc: Global, row: Row) {
     let is_answered = is_answered::<D>(rt, alloc, row) || is_answered::<D>(rt, alloc, row);
     assert_is_at(rt, row.0, is_answered, true);
 }
 
 /// Plays scripts over a store.
-fn answers_all<D: Deliveries + Drop>(rt: &impl Abort, alloc: Global) {
+fn answers_all<D: Deliveries>(rt: &impl Abort, alloc: Global) {
     for row in WORKED {
         answers_again::<D>(rt, alloc, row);
     }
