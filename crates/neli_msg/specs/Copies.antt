@@ -1,5 +1,5 @@
 -- Copies: where making one takes memory.
-use Rattle.std.specs.Prelude.{◌<◌, ◌⊎◌, ℕ, List, length}
+use Rattle.std.specs.Prelude.{◌<◌, ◌⊎◌, length}
 use Rattle.neli_wire.specs.Refusals.{de_copy_takes_memory, ser_copy_takes_memory}
 use Rattle.neli_msg.specs.declared.answer.Nlmsgerr.{Nlmsgerr}
 use Rattle.neli_msg.specs.declared.payload.NlPayload.{NlPayload}
