@@ -153,7 +153,7 @@ names_answer id items = after (or_text no_number) (last_found (names_told id) it
 abbrev pub message_names_take_memory : Message → Type 0
 message_names_take_memory m = IsSomeAnd (attributes_said m) family_name_takes_memory
 
--- memory is asked for in such a message, where it stands before the first refusal
+-- memory is asked for in such a message, where no item before it is refused
 abbrev pub names_take_memory : ℕ → List Item → Type 0
 names_take_memory id items =
     finding_takes_memory (names_told id) (λ item. IsOkAnd item message_names_take_memory) items

@@ -198,8 +198,8 @@ fn names_in(
 /// Refused with the first failure, item by item, and in an item first the family's name, then group
 /// by group: an item that is an error; a payload without a readable name of the family; a group
 /// that can't be read, where the list of groups can; the group with the number, where its name
-/// can't be read. Where the number isn't found, refused with a text. Memory is asked for in a message that
-/// has bytes for the name of its family and stands before the first failure.
+/// can't be read. Where the number isn't found, refused with a text. Memory is asked for in a message up to the
+/// first failure, that one too, that has bytes for the name of its family.
 pub fn lookup_id(
     alloc: Global,
     id: u32,
