@@ -24,7 +24,7 @@ returns-in-Ok-send-clause-sent c = λ e.
     let there : c.reserve.new.self.items ≡ s.handles.items = c.reserve.ensures.items in
     let p = c.put-sent.ensures in (
       bytes,
-      frame-converted _ _ _ _ _ _ _ _ bytes c.from_wire-flags.ensures c.in-Ok.ensures r.bytes,
+      frame-converted _ _ _ _ _ _ _ _ bytes c.from_wire-flags.ensures c.in-Ok.ensures.value r.bytes,
       c.copy.ensures.copied good ∙ ap (λ b. put_first b c.args.out.now) same,
       c.copy.ensures.size ∙ ap (λ b. length b) same,
       ap (λ (hs : List Slot). handle_at c.put-sent.result hs) (sym there) ∙ p.free,
@@ -48,26 +48,26 @@ returns-in-Err-clause-sent c = λ e. absurd (c.of_error.ensures.refused
 pub returns-in-Ok-send-clause-refused : goal.returns-in-Ok-send-clause-refused
 returns-in-Ok-send-clause-refused c = λ ne.
     let code = to_z-of_z w32 c.copy.result (record { sfits = c.copy.type_inv }) in
-    absurd (ne (code ∙ copied-code _ _ _ _ _ _ _ _ _ _ _ c.in-Ok-send.ensures.bytes c.in-Ok.ensures
+    absurd (ne (code ∙ copied-code _ _ _ _ _ _ _ _ _ _ _ c.in-Ok-send.ensures.bytes c.in-Ok.ensures.value
     c.deref.ensures.value (omega (arith, c.if-out-wanted.false)) c.copy.ensures.code))
 
 pub returns-in-Ok-send-clause-why : goal.returns-in-Ok-send-clause-why
 returns-in-Ok-send-clause-why c = λ ne.
     let code = to_z-of_z w32 c.copy.result (record { sfits = c.copy.type_inv }) in
-    absurd (ne (code ∙ copied-code _ _ _ _ _ _ _ _ _ _ _ c.in-Ok-send.ensures.bytes c.in-Ok.ensures
+    absurd (ne (code ∙ copied-code _ _ _ _ _ _ _ _ _ _ _ c.in-Ok-send.ensures.bytes c.in-Ok.ensures.value
     c.deref.ensures.value (omega (arith, c.if-out-wanted.false)) c.copy.ensures.code))
 
 pub returns-in-Ok-send-clause-needed : goal.returns-in-Ok-send-clause-needed
 returns-in-Ok-send-clause-needed c = λ ne.
     let code = to_z-of_z w32 c.copy.result (record { sfits = c.copy.type_inv }) in
-    absurd (ne (code ∙ copied-code _ _ _ _ _ _ _ _ _ _ _ c.in-Ok-send.ensures.bytes c.in-Ok.ensures
+    absurd (ne (code ∙ copied-code _ _ _ _ _ _ _ _ _ _ _ c.in-Ok-send.ensures.bytes c.in-Ok.ensures.value
     c.deref.ensures.value (omega (arith, c.if-out-wanted.false)) c.copy.ensures.code))
 
 pub returns-in-Err-clause-why : goal.returns-in-Err-clause-why
 returns-in-Err-clause-why c = λ ne.
     let s = c.args.self.now in
     let code = to_z-of_z w32 c.of_error.result (record { sfits = c.of_error.type_inv }) ∙ c.of_error.ensures.code in
-    let size : length c.in-Ok.buffer ≡ length c.args.body.now = ap (λ b. length b) c.in-Ok.ensures in
+    let size : length c.in-Ok.buffer ≡ length c.args.body.now = ap (λ b. length b) c.in-Ok.ensures.value in
     let cause = refusal-code _ _ _ _ _ c.in-Ok.buffer _ c.in-Err.error (omega (arith, size, c.if-body.false))
     c.in-Err.ensures.refused in
     refused-else c.args.body.now s c.args.out.now (to_z w32 (of_z w32 c.of_error.result))
@@ -78,7 +78,7 @@ returns-in-Err-clause-why c = λ ne.
 pub returns-in-Err-clause-needed : goal.returns-in-Err-clause-needed
 returns-in-Err-clause-needed c = λ ne.
     let code = to_z-of_z w32 c.of_error.result (record { sfits = c.of_error.type_inv }) ∙ c.of_error.ensures.code in
-    let size : length c.in-Ok.buffer ≡ length c.args.body.now = ap (λ b. length b) c.in-Ok.ensures in
+    let size : length c.in-Ok.buffer ≡ length c.args.body.now = ap (λ b. length b) c.in-Ok.ensures.value in
     let cause = refusal-code _ _ _ _ _ c.in-Ok.buffer _ c.in-Err.error (omega (arith, size, c.if-body.false))
     c.in-Err.ensures.refused in (λ is. absurd (no-matter-of-room _ _ cause (sym code ∙ is)), λ _. refl)
 
