@@ -1,8 +1,36 @@
 -- How many lines of JSON are printed.
-use Rattle.std.specs.Prelude.{ℕ, List, length}
+use Rattle.std.specs.Prelude.{ℕ, ◌&&◌, if◌then◌else◌, nat_le, List, [], length, slice_range, Option, Result, Ok, Err}
+use Rattle.std.specs.List.{sum_by}
+use Rattle.neli_inputs.specs.Inputs.{IsInput}
+use Rattle.neli_inputs.specs.declared.item.Item.{Item}
+use Rattle.neli_inputs.specs.declared.item.Packet.{Packet}
+use Rattle.neli_inputs.specs.declared.item.Refusal.{Refusal}
 use Rattle.neli_lent.specs.Messages.{messages_in}
 use Rattle.neli_lent.specs.Walks.{items_of}
+use Rattle.neli_show.specs.Json.{AreSoManyLines}
+use Rattle.neli_show.specs.Written.{Writes}
 
 -- of a datagram: one a message, and one where a fault follows them
 abbrev pub datagram_lines : List ℕ → ℕ
 datagram_lines bytes = length (items_of (messages_in (λ n. n) bytes))
+
+-- the bytes of a datagram of an input; none where its places are not within it
+abbrev pub packet_bytes : List ℕ → Packet → List ℕ
+packet_bytes bytes packet =
+    if nat_le packet.start packet.«end» && nat_le packet.«end» (length bytes)
+    then slice_range bytes packet.start packet.«end» else []
+
+-- of a part of an input: those of its datagram, or one for its refusal
+abbrev pub packet_lines : List ℕ → Result Packet Refusal → ℕ
+packet_lines bytes (Ok packet) = datagram_lines (packet_bytes bytes packet)
+packet_lines bytes (Err refusal) = 1
+
+-- of an input: those of its parts
+abbrev pub input_lines : List ℕ → List Item → ℕ
+input_lines bytes items = sum_by (λ item. packet_lines bytes item.packet) items
+
+-- the lines of this input are written, as many as it has
+abbrev pub WritesInput : List ℕ → Option (List ℕ) → Option (List ℕ) → Type 0
+WritesInput input old new =
+    (bytes : List ℕ) × (items : List Item) × IsInput input bytes items
+    × Writes old new (AreSoManyLines (input_lines bytes items))

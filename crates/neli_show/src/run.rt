@@ -1,13 +1,14 @@
 //! A run of the program.
 
-ghost use Rattle.std.specs.Prelude.{◌≡◌, ◌≢◌, Err, IfErr, IfOk, Ok, OnErr, OnOk, true};
+ghost use Rattle.std.specs.Prelude.{◌≡◌, ◌≢◌, Err, IfErr, IfOk, IfSome, Ok, OnErr, OnOk, true};
 ghost use Rattle.std.specs.IoError.{error_kind};
 ghost use Rattle.std.specs.Io.KnownBytes.{IsAtEnd};
 ghost use Rattle.std.specs.Option.{option_map, unwrap_or};
 ghost use Rattle.neli_show.specs.declared.request.Request.{Request as Asked};
-ghost use Rattle.neli_show.specs.Json.{AreLines};
+ghost use Rattle.neli_show.specs.Json.{AreLines, AreSoManyLines};
+ghost use Rattle.neli_show.specs.Lines.{WritesInput, input_lines, packet_bytes, packet_lines};
 ghost use Rattle.neli_show.specs.Runs.{asked_in, complaint_text, shown_status, status_code, unread_status};
-ghost use Rattle.neli_show.specs.Written.{Extends};
+ghost use Rattle.neli_show.specs.Written.{Extends, Writes};
 
 use crate::form::{Fault, Form};
 use crate::head::Names;
@@ -76,6 +77,13 @@ fn protocol_of(packet: &Packet, asked: u16) -> u16
     packet.family.unwrap_or(asked)
 }
 
+/// The bytes of a datagram of an input.
+fn packet_bytes<'a>(input: &'a Input, packet: &Packet) -> &'a [u8]
+    ensures { result.now ≡ packet_bytes input.now.bytes.items packet.now }
+{
+    input.bytes.get(packet.start..packet.end).unwrap_or(&[])
+}
+
 /// Prints a part of an input, and answers whether it is messages.
 fn show_part<F: Form, W: Write>(
     form: &mut F,
@@ -85,12 +93,12 @@ fn show_part<F: Form, W: Write>(
     input: &Input,
     part: &Item,
 ) -> io::Result<bool>
-    ensures { F.is_json ≡ true → OnOk result
-        (Extends (W.contents out.old) (W.contents out.new) AreLines AreLines) }
+    ensures { F.is_json ≡ true → OnOk result (Writes (W.contents out.old) (W.contents out.new)
+        (AreSoManyLines (packet_lines input.now.bytes.items part.now.packet))) }
 {
     match part.packet {
         Ok(packet) => {
-            let bytes = input.bytes.get(packet.start..packet.end).unwrap_or(&[]);
+            let bytes = packet_bytes(input, &packet);
             show_datagram(form, out, names, protocol_of(&packet, protocol), bytes)
         }
         Err(refusal) => {
@@ -108,8 +116,8 @@ fn show_input<F: Form, W: Write>(
     protocol: u16,
     input: &Input,
 ) -> io::Result<bool>
-    ensures { F.is_json ≡ true → OnOk result
-        (Extends (W.contents out.old) (W.contents out.new) AreLines AreLines) }
+    ensures { F.is_json ≡ true → OnOk result (Writes (W.contents out.old) (W.contents out.new)
+        (AreSoManyLines (input_lines input.now.bytes.items input.now.items.items))) }
 {
     let mut is_whole = true;
     for part in &input.items {
@@ -126,8 +134,8 @@ fn show_request<W: Write>(
     request: Request,
     input: &Input,
 ) -> io::Result<bool>
-    ensures { request.output ≡ Output.Json → OnOk result
-        (Extends (W.contents out.old) (W.contents out.new) AreLines AreLines) }
+    ensures { request.output ≡ Output.Json → OnOk result (Writes (W.contents out.old) (W.contents out.new)
+        (AreSoManyLines (input_lines input.now.bytes.items input.now.items.items))) }
 {
     let protocol = request.protocol;
     match request.output {
@@ -157,7 +165,8 @@ fn status_of(shown: &io::Result<bool>) -> Status
 /// Prints an input by these tables, in the form that is asked for.
 fn show_by<W: Write>(out: &mut W, tables: &[Table<'_>], request: Request, input: &Input) -> Status
     ensures json { request.output ≡ Output.Json → result ≢ Status.NoOutput
-        → Extends (W.contents out.old) (W.contents out.new) AreLines AreLines }
+        → Writes (W.contents out.old) (W.contents out.new)
+        (AreSoManyLines (input_lines input.now.bytes.items input.now.items.items)) }
     ensures shown { (result ≢ Status.Usage) × (result ≢ Status.Memory) × (result ≢ Status.NoInput) }
 {
     let names = Names {
@@ -175,7 +184,7 @@ fn show_bytes<W: Write>(
     out: &mut W,
 ) -> Result<Status, AllocError>
     ensures json { request.output ≡ Output.Json → IfOk result (λ status. status ≢ Status.NoOutput
-        → Extends (W.contents out.old) (W.contents out.new) AreLines AreLines) }
+        → WritesInput bytes.items (W.contents out.old) (W.contents out.new)) }
     ensures shown { IfOk result (λ status. (status ≢ Status.Usage) × (status ≢ Status.Memory)
         × (status ≢ Status.NoInput)) }
     ensures silent { OnErr result (out.new ≡ out.old) }
@@ -189,6 +198,9 @@ fn show_bytes<W: Write>(
 fn show<R: Read, W: Write>(alloc: Global, request: Request, input: &mut R, out: &mut W) -> Status
     ensures json { request.output ≡ Output.Json → result ≢ Status.NoOutput
         → Extends (W.contents out.old) (W.contents out.new) AreLines AreLines }
+    ensures lines { request.output ≡ Output.Json → result ≢ Status.NoOutput → result ≢ Status.NoInput
+        → result ≢ Status.Memory → IfSome (R.remaining input.old)
+        (λ bytes. WritesInput bytes (W.contents out.old) (W.contents out.new)) }
     ensures asked { result ≢ Status.Usage }
     ensures unread { result ≡ Status.NoInput → out.new ≡ out.old }
     ensures memory { result ≡ Status.Memory → out.new ≡ out.old }
@@ -228,6 +240,10 @@ pub fn run<R: Read, W: Write, C: Write>(
     ensures json { (request : Asked) → asked_in words.now ≡ Ok request → request.output ≡ Output.Json
         → result ≢ Status.NoOutput
         → Extends (W.contents out.old) (W.contents out.new) AreLines AreLines }
+    ensures lines { (request : Asked) → asked_in words.now ≡ Ok request → request.output ≡ Output.Json
+        → result ≢ Status.NoOutput → result ≢ Status.NoInput → result ≢ Status.Memory
+        → IfSome (R.remaining input.old)
+        (λ bytes. WritesInput bytes (W.contents out.old) (W.contents out.new)) }
     ensures asked { (request : Asked) → asked_in words.now ≡ Ok request → result ≢ Status.Usage }
     ensures refused { IfErr (asked_in words.now)
         (λ status. (result ≡ status) × (out.new ≡ out.old) × (input.new ≡ input.old)) }

@@ -1,16 +1,18 @@
-use Rattle.neli_show.proofs.Parts.{extends_none, extends_then}
-use Rattle.neli_show.specs.Json.{AreLines}
-use Rattle.std.proofs.KnownBytes.{Appends-kept}
+use Rattle.std.proofs.Common.{sym, take}
+use Rattle.std.proofs.lemmas.List.Sums.{sum_by_more}
+use Rattle.neli_show.specs.Lines.{input_lines, packet_lines}
+use Rattle.neli_inputs.specs.declared.item.Item.{Item}
+use Rattle.neli_show.proofs.Parts.{writes_lines, writes_no_lines, writes_recounted}
 use Rattle.neli_show.proofs.run.show_input.Goals as goal
 
 pub loop-part-init : goal.loop-part-init
-loop-part-init g c = λ json. extends_none AreLines _
+loop-part-init g c = λ json. writes_no_lines _
 
 pub loop-part-preserved : goal.loop-part-preserved
 loop-part-preserved g c = λ json.
-    extends_then AreLines AreLines AreLines _ _ _ (c.loop-part.invariant json) (c.in_ok-is_whole.ensures json)
-
-pub returns : goal.returns
-returns g c = λ json.
-    let all = c.loop-part.invariant json in
-    (all.0, Appends-kept _ _ _ all.0 all.1 c.in_ok-flush.ensures.bytes, all.2)
+    let bytes = c.args.input.now.bytes.items in
+    let items = c.deref-part-items.result.now in
+    let i = c.loop-part.part-index in
+    let more = sum_by_more (λ (item : Item). packet_lines bytes item.packet) items i _ c.loop-part-test.true in
+    writes_recounted _ _ _ _ (sym more)
+    (writes_lines (input_lines bytes (take i items)) _ _ _ _ (c.loop-part.invariant json) (c.in_ok-is_whole.ensures json))

@@ -1,10 +1,12 @@
-use Rattle.std.proofs.Common.{◌≡◌, true}
-use Rattle.neli_show.specs.Json.{AreLines}
-use Rattle.neli_show.specs.Written.{Extends}
+use Rattle.std.proofs.Common.{◌≡◌, take, true}
+use Rattle.neli_show.specs.Json.{AreSoManyLines}
+use Rattle.neli_show.specs.Lines.{input_lines}
+use Rattle.neli_show.specs.Written.{Writes}
 use Rattle.neli_show.proofs.run.show_input.Given as goal
 
--- the parts passed are written
+-- the lines of the parts passed are written
 abbrev pub invariant-loop-part : goal.invariant-loop-part
 invariant-loop-part g l =
     g.F.Form.is_json ≡ true
-    → Extends (g.W.Write.contents l.fn.out) (g.W.Write.contents l.out) AreLines AreLines
+    → Writes (g.W.Write.contents l.fn.out) (g.W.Write.contents l.out)
+    (AreSoManyLines (input_lines l.input.bytes.items (take l.part-index l.part-items)))
