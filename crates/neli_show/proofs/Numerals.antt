@@ -1,5 +1,5 @@
 -- What words are read as.
-use Rattle.std.proofs.Common.{◌≡◌, ℕ, true, false, true≢false, List, length, Some, None, Result, Ok, Err, Option, sym}
+use Rattle.std.proofs.Common.{◌≡◌, ℕ, true, true≢false, List, length, Some, None, Result, Ok, Err, Option, sym}
 use Rattle.std.proofs.Common.{◌∙◌, ap, refl}
 use Rattle.std.specs.Prelude.{◌&&◌, nat_lt}
 use Rattle.std.specs.Result.{result_ok}

@@ -1,4 +1,4 @@
-use Rattle.std.proofs.Common.{codes, true}
+use Rattle.std.proofs.Common.{codes}
 use Rattle.neli_show.proofs.Pieces.{then_ok}
 use Rattle.neli_show.proofs.Written.{value-is_json}
 use Rattle.neli_show.specs.Json.{truth}

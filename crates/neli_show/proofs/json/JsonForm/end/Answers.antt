@@ -1,4 +1,4 @@
-use Rattle.std.proofs.Common.{codes, true, false}
+use Rattle.std.proofs.Common.{codes}
 use Rattle.neli_show.proofs.Pieces.{message_end, request_end, then_ok}
 use Rattle.neli_show.proofs.json.JsonForm.end.Goals as goal
 

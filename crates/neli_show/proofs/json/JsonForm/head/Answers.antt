@@ -1,4 +1,4 @@
-use Rattle.std.proofs.Common.{◌++◌, codes, true, false}
+use Rattle.std.proofs.Common.{◌++◌, codes}
 use Rattle.neli_show.proofs.Pieces.{message_begin, request_begin, then_ok}
 use Rattle.std.specs.Fmt.{decimal}
 use Rattle.std.proofs.KnownBytes.{Appends-trans}
