@@ -19,7 +19,6 @@ use Rattle.neli_schema.specs.declared.kind.Key.{Key}
 use Rattle.neli_schema.specs.declared.kind.Key.TheVariants as key
 use Rattle.neli_schema.specs.declared.kind.Kind.{Kind}
 use Rattle.neli_schema.specs.declared.kind.Kind.TheVariants as kind
-use Rattle.neli_schema.specs.declared.kind.Number.{Number}
 use Rattle.neli_schema.specs.declared.row.Row.{Row}
 use Rattle.neli_schema.specs.declared.row.Table.{Table}
 use Rattle.neli_schema.specs.declared.row.TableId.{TableId}
