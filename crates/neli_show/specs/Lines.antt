@@ -1,6 +1,7 @@
--- How many lines of JSON are printed.
-use Rattle.std.specs.Prelude.{ℕ, ◌&&◌, if◌then◌else◌, nat_le, List, [], length, slice_range, Option, Result, Ok, Err}
-use Rattle.std.specs.List.{sum_by}
+-- How many lines of JSON are printed of an input, and whether it is messages alone.
+use Rattle.std.specs.Prelude.{ℕ, Bool, false, ◌&&◌, if◌then◌else◌, nat_le, List, [], length, slice_range}
+use Rattle.std.specs.Prelude.{Option, is_none, Result, Ok, Err}
+use Rattle.std.specs.List.{list_all, sum_by}
 use Rattle.neli_inputs.specs.Inputs.{IsInput}
 use Rattle.neli_inputs.specs.declared.item.Item.{Item}
 use Rattle.neli_inputs.specs.declared.item.Packet.{Packet}
@@ -34,3 +35,18 @@ abbrev pub WritesInput : List ℕ → Option (List ℕ) → Option (List ℕ) �
 WritesInput input old new =
     (bytes : List ℕ) × (items : List Item) × IsInput input bytes items
     × Writes old new (AreSoManyLines (input_lines bytes items))
+
+-- ---- what is messages alone
+
+-- a datagram: no fault follows its messages
+abbrev pub is_whole_datagram : List ℕ → Bool
+is_whole_datagram bytes = is_none (messages_in (λ n. n) bytes).1
+
+-- a part of an input: its datagram is
+abbrev pub is_whole_packet : List ℕ → Result Packet Refusal → Bool
+is_whole_packet bytes (Ok packet) = is_whole_datagram (packet_bytes bytes packet)
+is_whole_packet bytes (Err refusal) = false
+
+-- an input: all its parts are
+abbrev pub is_whole_input : List ℕ → List Item → Bool
+is_whole_input bytes items = list_all (λ item. is_whole_packet bytes item.packet) items

@@ -1,5 +1,6 @@
 -- How a run ends.
-use Rattle.std.specs.Prelude.{ℕ, Bool, true, false, List, map, codes, string_bytes, Option, Some, None, Result, Ok, Err}
+use Rattle.std.specs.Prelude.{◌≡◌, ℕ, Bool, true, false, List, map, codes, string_bytes, Option, Some, None}
+use Rattle.std.specs.Prelude.{Result, Ok, Err}
 use Rattle.std.specs.IoError.{error_kind}
 use Rattle.std.specs.Option.{ok_or}
 use Rattle.std.specs.declared.alloc.Global.{Global}
@@ -8,9 +9,12 @@ use Rattle.std.specs.declared.io.ErrorKind.{ErrorKind}
 use Rattle.std.specs.declared.io.ErrorKind.TheVariants.{OutOfMemory}
 use Rattle.std.specs.declared.string.String.{String}
 use Rattle.std.specs.declared.vec.Vec.{Vec}
+use Rattle.neli_inputs.specs.Inputs.{IsInput}
+use Rattle.neli_inputs.specs.declared.item.Item.{Item}
 use Rattle.neli_show.specs.declared.request.Request.{Request}
 use Rattle.neli_show.specs.declared.run.Status.{Status}
 use Rattle.neli_show.specs.declared.run.Status.TheVariants as status
+use Rattle.neli_show.specs.Lines.{is_whole_input}
 use Rattle.neli_show.specs.Requests.{request_in}
 
 -- the exit status
@@ -42,8 +46,18 @@ abbrev pub asked_in : Result (Vec (String Global) Global) Error → Result Reque
 asked_in (Ok words) = ok_or (request_in (map string_bytes words.items)) status.Usage
 asked_in (Err error) = Err (unread_status (error_kind error))
 
--- how a run ends that printed its input: all of it is messages, or a part is not, or the output failed
+-- how a run ends that printed its input: it is messages alone, or not
+abbrev pub printed_status : Bool → Status
+printed_status true = status.Whole
+printed_status false = status.Fault
+
+-- the same, or the output failed
 abbrev pub shown_status : Result Bool Error → Status
-shown_status (Ok true) = status.Whole
-shown_status (Ok false) = status.Fault
+shown_status (Ok is_whole) = printed_status is_whole
 shown_status (Err error) = status.NoOutput
+
+-- so ends a run that printed this input
+abbrev pub EndsAfter : List ℕ → Status → Type 0
+EndsAfter input end =
+    (bytes : List ℕ) × (items : List Item) × IsInput input bytes items
+    × (end ≡ printed_status (is_whole_input bytes items))

@@ -7,7 +7,9 @@ ghost use Rattle.std.specs.Option.{option_map, unwrap_or};
 ghost use Rattle.neli_show.specs.declared.request.Request.{Request as Asked};
 ghost use Rattle.neli_show.specs.Json.{AreLines, AreSoManyLines};
 ghost use Rattle.neli_show.specs.Lines.{WritesInput, input_lines, packet_bytes, packet_lines};
-ghost use Rattle.neli_show.specs.Runs.{asked_in, complaint_text, shown_status, status_code, unread_status};
+ghost use Rattle.neli_show.specs.Lines.{is_whole_input, is_whole_packet};
+ghost use Rattle.neli_show.specs.Runs.{EndsAfter, asked_in, complaint_text, printed_status, shown_status};
+ghost use Rattle.neli_show.specs.Runs.{status_code, unread_status};
 ghost use Rattle.neli_show.specs.Written.{Extends, Writes};
 
 use crate::form::{Fault, Form};
@@ -93,8 +95,10 @@ fn show_part<F: Form, W: Write>(
     input: &Input,
     part: &Item,
 ) -> io::Result<bool>
-    ensures { F.is_json ≡ true → OnOk result (Writes (W.contents out.old) (W.contents out.new)
+    ensures lines { F.is_json ≡ true → OnOk result (Writes (W.contents out.old) (W.contents out.new)
         (AreSoManyLines (packet_lines input.now.bytes.items part.now.packet))) }
+    ensures whole { IfOk result
+        (λ is_whole. is_whole ≡ is_whole_packet input.now.bytes.items part.now.packet) }
 {
     match part.packet {
         Ok(packet) => {
@@ -116,8 +120,10 @@ fn show_input<F: Form, W: Write>(
     protocol: u16,
     input: &Input,
 ) -> io::Result<bool>
-    ensures { F.is_json ≡ true → OnOk result (Writes (W.contents out.old) (W.contents out.new)
+    ensures lines { F.is_json ≡ true → OnOk result (Writes (W.contents out.old) (W.contents out.new)
         (AreSoManyLines (input_lines input.now.bytes.items input.now.items.items))) }
+    ensures whole { IfOk result
+        (λ is_whole. is_whole ≡ is_whole_input input.now.bytes.items input.now.items.items) }
 {
     let mut is_whole = true;
     for part in &input.items {
@@ -134,8 +140,10 @@ fn show_request<W: Write>(
     request: Request,
     input: &Input,
 ) -> io::Result<bool>
-    ensures { request.output ≡ Output.Json → OnOk result (Writes (W.contents out.old) (W.contents out.new)
+    ensures lines { request.output ≡ Output.Json → OnOk result (Writes (W.contents out.old) (W.contents out.new)
         (AreSoManyLines (input_lines input.now.bytes.items input.now.items.items))) }
+    ensures whole { IfOk result
+        (λ is_whole. is_whole ≡ is_whole_input input.now.bytes.items input.now.items.items) }
 {
     let protocol = request.protocol;
     match request.output {
@@ -167,6 +175,8 @@ fn show_by<W: Write>(out: &mut W, tables: &[Table<'_>], request: Request, input:
     ensures json { request.output ≡ Output.Json → result ≢ Status.NoOutput
         → Writes (W.contents out.old) (W.contents out.new)
         (AreSoManyLines (input_lines input.now.bytes.items input.now.items.items)) }
+    ensures ends { result ≢ Status.NoOutput
+        → result ≡ printed_status (is_whole_input input.now.bytes.items input.now.items.items) }
     ensures shown { (result ≢ Status.Usage) × (result ≢ Status.Memory) × (result ≢ Status.NoInput) }
 {
     let names = Names {
@@ -185,6 +195,7 @@ fn show_bytes<W: Write>(
 ) -> Result<Status, AllocError>
     ensures json { request.output ≡ Output.Json → IfOk result (λ status. status ≢ Status.NoOutput
         → WritesInput bytes.items (W.contents out.old) (W.contents out.new)) }
+    ensures ends { IfOk result (λ status. status ≢ Status.NoOutput → EndsAfter bytes.items status) }
     ensures shown { IfOk result (λ status. (status ≢ Status.Usage) × (status ≢ Status.Memory)
         × (status ≢ Status.NoInput)) }
     ensures silent { OnErr result (out.new ≡ out.old) }
@@ -201,6 +212,8 @@ fn show<R: Read, W: Write>(alloc: Global, request: Request, input: &mut R, out: 
     ensures lines { request.output ≡ Output.Json → result ≢ Status.NoOutput → result ≢ Status.NoInput
         → result ≢ Status.Memory → IfSome (R.remaining input.old)
         (λ bytes. WritesInput bytes (W.contents out.old) (W.contents out.new)) }
+    ensures ends { result ≢ Status.NoOutput → result ≢ Status.NoInput → result ≢ Status.Memory
+        → IfSome (R.remaining input.old) (λ bytes. EndsAfter bytes result) }
     ensures asked { result ≢ Status.Usage }
     ensures unread { result ≡ Status.NoInput → out.new ≡ out.old }
     ensures memory { result ≡ Status.Memory → out.new ≡ out.old }
@@ -244,6 +257,9 @@ pub fn run<R: Read, W: Write, C: Write>(
         → result ≢ Status.NoOutput → result ≢ Status.NoInput → result ≢ Status.Memory
         → IfSome (R.remaining input.old)
         (λ bytes. WritesInput bytes (W.contents out.old) (W.contents out.new)) }
+    ensures ends { (request : Asked) → asked_in words.now ≡ Ok request
+        → result ≢ Status.NoOutput → result ≢ Status.NoInput → result ≢ Status.Memory
+        → IfSome (R.remaining input.old) (λ bytes. EndsAfter bytes result) }
     ensures asked { (request : Asked) → asked_in words.now ≡ Ok request → result ≢ Status.Usage }
     ensures refused { IfErr (asked_in words.now)
         (λ status. (result ≡ status) × (out.new ≡ out.old) × (input.new ≡ input.old)) }

@@ -5,7 +5,7 @@ ghost use Rattle.std.specs.Prelude.{◌≢◌, ◌⊎◌, pos, true};
 ghost use Rattle.byteorder.specs.Endian.{little_number};
 ghost use Rattle.neli_show.specs.Heads.{body_family};
 ghost use Rattle.neli_show.specs.Json.{AreElements, AreLines, AreMembers, AreSoManyLines, IsLine};
-ghost use Rattle.neli_show.specs.Lines.{datagram_lines};
+ghost use Rattle.neli_show.specs.Lines.{datagram_lines, is_whole_datagram};
 ghost use Rattle.neli_show.specs.Places.{echoed_size, header_end, hop_size, lists_of, whole_request_end};
 ghost use Rattle.neli_show.specs.Written.{AreHops, Extends, FirstElements, IsBegun, Writes};
 
@@ -478,6 +478,7 @@ pub fn show_datagram<F: Form, W: Write>(
     ensures lines { F.is_json ≡ true → OnOk result
         (Writes (W.contents out.old) (W.contents out.new)
         (AreSoManyLines (datagram_lines bytes.now))) }
+    ensures whole { IfOk result (λ is_whole. is_whole ≡ is_whole_datagram bytes.now) }
 {
     let mut place: usize = 0;
     for message in LentMessages::<u16>::new(bytes) {

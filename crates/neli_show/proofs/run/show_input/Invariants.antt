@@ -1,12 +1,13 @@
 use Rattle.std.proofs.Common.{◌≡◌, take, true}
 use Rattle.neli_show.specs.Json.{AreSoManyLines}
-use Rattle.neli_show.specs.Lines.{input_lines}
+use Rattle.neli_show.specs.Lines.{input_lines, is_whole_input}
 use Rattle.neli_show.specs.Written.{Writes}
 use Rattle.neli_show.proofs.run.show_input.Given as goal
 
--- the lines of the parts passed are written
+-- the lines of the parts passed are written, and it is known whether these parts are messages
 abbrev pub invariant-loop-part : goal.invariant-loop-part
 invariant-loop-part g l =
-    g.F.Form.is_json ≡ true
-    → Writes (g.W.Write.contents l.fn.out) (g.W.Write.contents l.out)
-    (AreSoManyLines (input_lines l.input.bytes.items (take l.part-index l.part-items)))
+    let passed = take l.part-index l.part-items in
+    (g.F.Form.is_json ≡ true → Writes (g.W.Write.contents l.fn.out) (g.W.Write.contents l.out)
+    (AreSoManyLines (input_lines l.input.bytes.items passed)))
+    × (l.is_whole ≡ is_whole_input l.input.bytes.items passed)
