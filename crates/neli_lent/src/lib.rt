@@ -4,7 +4,8 @@
 //!   payload's bytes. It becomes an owned, typed message by `to_nlmsghdr`.
 //! - [`LentAttrs`] walks attributes, generic or routing ones by the type of their type field, and
 //!   [`LentAttr`] is one. [`LentNlattrs`] and [`LentRtattrs`] are names for the two.
-//! - [`from_span`]: the bytes of one message, read as types of a caller's, with its lengths computed.
+//! - [`FromSpan`]: `Nlmsghdr::<T, P>::from_span` reads the bytes of one message as types of a caller's, with its
+//!   lengths computed.
 //! - [`AttrSelector`]: what an attribute is looked up by.
 //! - [`laws`]: what is lent is what is read as owned values, or refused with it.
 //!
@@ -27,4 +28,4 @@ pub use attributes::{LentAttrs, LentNlattrs, LentRtattrs};
 pub use message::LentMessage;
 pub use messages::LentMessages;
 pub use selector::AttrSelector;
-pub use span::from_span;
+pub use span::FromSpan;

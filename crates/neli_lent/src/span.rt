@@ -43,44 +43,55 @@ fn with_body<T: NlType, P: FromBytesWithInput + Size>(
     }
 }
 
-/// The message that a span is, from its header to the end of its padding, with the types that numbers mean, and its
-/// body's or its echoed payload's bytes read as `P`: the same as reading it untyped and retyping that. A body is read
-/// where it lies.
-///
-/// Lengths are computed anew. Refused with the refusal of these bytes as [`RouterError::De`], as [`RouterError::Msg`]
-/// where a length passes 32 bits, or as [`RouterError::Memory`], of a body of another type than 2 and 3 only where reading
-/// it takes memory.
-pub fn from_span<T: NlType, P: FromBytesWithInput + Size>(
-    alloc: Global,
-    span: &[u8],
-) -> Result<Nlmsghdr<T, P>, RouterError<T, P>>
-    requires { IsSpan span.now }
-    ensures value { (u : Message ℕ (List ℕ)) → Spells span.now u → IfOk result
-        (λ m. typed_payload T.wire_value P.read u.1
-        ≡ Ok (payload_stating (stated_echo u.1) P.view m.payload)) }
-    ensures header { (u : Message ℕ (List ℕ)) → Spells span.now u → IfOk result
-        (λ m. m.header ≡ with_len (typed_header T.wire_value u.0)
-        (align (message_size P.wire_length m))) }
-    ensures length { IfOk result (λ m. HasOwnEcho P.wire_length m.payload) }
-    ensures refused { (u : Message ℕ (List ℕ)) → Spells span.now u → IfErr result
-        (RefusesTyping (typed_payload T.wire_value P.read u.1)
-        (IsMessageTooLong P.view P.wire_length P.read T.wire_value u.1)) }
-    // A body of another type than 2 and 3 is read where it lies.
-    ensures memory { (u : Message ℕ (List ℕ)) (bytes : List ℕ) → Spells span.now u
-        → u.0.message_type ≢ 2 → u.0.message_type ≢ 3 → u.1 ≡ payload.Payload bytes
-        → result ≡ Err RouterError.Memory → P.takes_memory bytes }
-{
-    let mut cursor = Cursor::new(span);
-    let message: LentMessage<'_, u16> = match LentMessage::lend(&mut cursor) {
-        Ok(message) => message,
-        Err(error) => return Err(RouterError::De(error)),
-    };
-    if message.has_plain_body() {
-        return with_body(alloc, message.header(), message.nl_payload());
-    }
-    // All that refuses it is that memory ran out.
-    match message.to_nlmsghdr::<Buffer>(alloc) {
-        Ok(message) => message.to_typed(alloc),
-        Err(_) => Err(RouterError::Memory),
+/// What is read of the bytes of one message, from its header to the end of its padding.
+pub trait FromSpan: Sized {
+    /// Why the bytes are refused.
+    type Error;
+
+    /// The value of these bytes, which are one message that can be read untyped.
+    fn from_span(alloc: Global, span: &[u8]) -> Result<Self, Self::Error>
+        requires { IsSpan span.now };
+}
+
+impl<T: NlType, P: FromBytesWithInput + Size> FromSpan for Nlmsghdr<T, P> {
+    type Error = RouterError<T, P>;
+
+    /// The message that a span is, from its header to the end of its padding, with the types that numbers mean, and its
+    /// body's or its echoed payload's bytes read as `P`: the same as reading it untyped and retyping that. A body is read
+    /// where it lies.
+    ///
+    /// Lengths are computed anew. Refused with the refusal of these bytes as [`RouterError::De`], as [`RouterError::Msg`]
+    /// where a length passes 32 bits, or as [`RouterError::Memory`], of a body of another type than 2 and 3 only where reading
+    /// it takes memory.
+    fn from_span(alloc: Global, span: &[u8]) -> Result<Nlmsghdr<T, P>, RouterError<T, P>>
+        requires { IsSpan span.now }
+        ensures value { (u : Message ℕ (List ℕ)) → Spells span.now u → IfOk result
+            (λ m. typed_payload T.wire_value P.read u.1
+            ≡ Ok (payload_stating (stated_echo u.1) P.view m.payload)) }
+        ensures header { (u : Message ℕ (List ℕ)) → Spells span.now u → IfOk result
+            (λ m. m.header ≡ with_len (typed_header T.wire_value u.0)
+            (align (message_size P.wire_length m))) }
+        ensures length { IfOk result (λ m. HasOwnEcho P.wire_length m.payload) }
+        ensures refused { (u : Message ℕ (List ℕ)) → Spells span.now u → IfErr result
+            (RefusesTyping (typed_payload T.wire_value P.read u.1)
+            (IsMessageTooLong P.view P.wire_length P.read T.wire_value u.1)) }
+        // A body of another type than 2 and 3 is read where it lies.
+        ensures memory { (u : Message ℕ (List ℕ)) (bytes : List ℕ) → Spells span.now u
+            → u.0.message_type ≢ 2 → u.0.message_type ≢ 3 → u.1 ≡ payload.Payload bytes
+            → result ≡ Err RouterError.Memory → P.takes_memory bytes }
+    {
+        let mut cursor = Cursor::new(span);
+        let message: LentMessage<'_, u16> = match LentMessage::lend(&mut cursor) {
+            Ok(message) => message,
+            Err(error) => return Err(RouterError::De(error)),
+        };
+        if message.has_plain_body() {
+            return with_body(alloc, message.header(), message.nl_payload());
+        }
+        // All that refuses it is that memory ran out.
+        match message.to_nlmsghdr::<Buffer>(alloc) {
+            Ok(message) => message.to_typed(alloc),
+            Err(_) => Err(RouterError::Memory),
+        }
     }
 }

@@ -8,7 +8,7 @@ ghost use Rattle.neli_deliveries.specs.Deliveries.{Untyped};
 ghost use Rattle.neli_deliveries.specs.Readings.{IsReading};
 
 use neli_consts::NlType;
-use neli_lent::from_span;
+use neli_lent::FromSpan;
 use neli_reader::{Nlmsghdr, RouterError};
 use neli_wire::{FromBytesWithInput, NoMemory, Size};
 use std::alloc::Global;
@@ -22,7 +22,7 @@ pub(crate) fn typed<T: NlType, P: FromBytesWithInput + Size>(
     ensures { (u : Untyped) → Spells span.now u → IfOk result (IsReading T.wire_value P.view
         P.wire_length P.read (delivery.Message (message_from u))) }
 {
-    match from_span::<T, P>(alloc, span) {
+    match Nlmsghdr::<T, P>::from_span(alloc, span) {
         Ok(message) => Ok(Ok(message)),
         Err(RouterError::Memory) => Err(NoMemory),
         Err(error) => Ok(Err(error)),

@@ -3,7 +3,7 @@ use Rattle.neli_wire.specs.Frames.{frame_at}
 use Rattle.neli_lent.specs.Messages.{lent_message, message_said}
 use Rattle.neli_reader.specs.Headers.{Header}
 use Rattle.neli_lent.proofs.Spans.{same, span_body, span_header, span_lent, span_message}
-use Rattle.neli_lent.proofs.span.from_span.Goals as goal
+use Rattle.neli_lent.proofs.span.NlmsghdrFromSpan.from_span.Goals as goal
 
 pub returns-in-Err-clause-refused : goal.returns-in-Err-clause-refused
 returns-in-Err-clause-refused g c = λ u is.
