@@ -1,5 +1,0 @@
-//! The tests, a file a subject.
-
-mod files;
-mod reading;
-mod texts;

@@ -1,5 +1,0 @@
-//! Tests of what a kernel answers.
-#![tactic(auto)]
-
-#[cfg(test)]
-mod tests;

@@ -1,5 +1,0 @@
-//! Tests of attributes by name.
-#![tactic(auto)]
-
-#[cfg(test)]
-mod tests;

@@ -1,0 +1,20 @@
+//! Tests of the bodies of all families.
+//!
+//! The bodies were recorded from Linux 6.18 on x86-64; their numbers are those of docs/RECORDINGS.md. Their fields were
+//! read by pyroute2.
+//!
+//! - [`builders`]: what builders make of their fields.
+//! - [`links`], [`routes`], [`generic`]: recorded bodies, a file a family.
+//! - [`cuts`]: bodies at each length, and lengths of attributes that lie.
+//! - [`laws`]: that each law can be called.
+//! - [`printed`]: what `Debug` prints of the bodies of routing.
+//! - [`support`]: what the tests share.
+
+mod builders;
+mod cuts;
+mod generic;
+mod laws;
+mod links;
+mod printed;
+mod routes;
+mod support;

@@ -1,0 +1,22 @@
+//! Tests of the library by the paths of `neli`, a module a subject.
+//!
+//! - [`values`]: the wire layer, constants, groups and bit arrays. [`attributes`]: attributes and lists of them.
+//! - [`bodies`]: the bodies of all families. [`payloads`]: what attributes hold beside numbers and texts.
+//! - [`messages`]: messages, owned and lent. [`router`]: the router and the resolvers, over each store.
+//! - [`simulator`]: what a kernel answers.
+#![tactic(auto)]
+
+#[cfg(test)]
+mod attributes;
+#[cfg(test)]
+mod bodies;
+#[cfg(test)]
+mod messages;
+#[cfg(test)]
+mod payloads;
+#[cfg(test)]
+mod router;
+#[cfg(test)]
+mod simulator;
+#[cfg(test)]
+mod values;

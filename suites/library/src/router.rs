@@ -1,0 +1,38 @@
+//! Tests of the router and of the resolvers by the paths of `neli`; of the router over both stores, plain lists and the
+//! shared log, and over the store of `example_store`.
+//!
+//! Expected values are worked out by hand from RFC 3549 section 2.3.2 and the headers of Linux; those of
+//! the recorded conversations are what libmnl reads in them.
+//!
+//! - [`script`]: a list of steps with what each of them answers, played over each store by one run, and by the
+//!   router's own calls, as [`steps`] makes them. The other files are tables of scripts.
+//! - [`numbers`]: requests as bytes, and which number each has. [`answers`]: where a handle's answers end.
+//! - [`datagrams`]: who gets what of a datagram. [`faults`]: faults of the link.
+//! - [`strays`]: in all combinations what comes before and after a close, and numbers that are used again.
+//! - [`handles`]: handles that another router made. [`many`]: thousands of requests, and of deliveries to one handle.
+//! - [`requests`]: requests to the controller of generic netlink, and what comes of its answers.
+//! - [`resolvers`]: what the resolvers find in lists of answers, as [`controller`] looks it up.
+//! - [`conversations`]: conversations with a kernel, as they were recorded.
+//! - [`random`]: scripts that a generator makes, over both stores. [`entries`]: what the log keeps.
+//! - [`out_of_memory`]: each allocation of a run refused in turn. [`limited`]: a store with a limit.
+//! - [`laws`]: the laws of runs, called. [`support`]: what the tests share.
+
+mod answers;
+mod controller;
+mod conversations;
+mod datagrams;
+mod entries;
+mod faults;
+mod handles;
+mod laws;
+mod limited;
+mod many;
+mod numbers;
+mod out_of_memory;
+mod random;
+mod requests;
+mod resolvers;
+mod script;
+mod steps;
+mod strays;
+mod support;

@@ -1,0 +1,55 @@
+//! Any one allocation may be refused in these tests: `suites/run` refuses each in turn. A call that was refused
+//! has changed nothing: made once more, it answers what it answers without a refusal, and so does each call after it.
+//! What the log keeps where a call is refused is told in [`super::entries`].
+
+use super::script::{Script, assert_told, kind_once, outcomes};
+use super::steps::Asker;
+use super::support::assert_is_at;
+use super::{answers, conversations, datagrams, entries, faults, numbers};
+use neli::router::synchronous::{Deliveries, Log, Queues};
+use std::alloc::Global;
+use std::process::Abort;
+
+/// Does the steps of a script by the router's calls over this store, each once more where memory ran out.
+fn call<D: Deliveries>(rt: &impl Abort, alloc: Global, script: Script) {
+    let (row, port, steps) = script;
+    let mut asker = Asker::<D>::new(rt, alloc, port);
+    for (place, (step, want)) in steps.iter().enumerate() {
+        let outcome = asker.step_again(rt, alloc, *step);
+        assert_is_at(rt, (row, place), kind_once(outcome), *want);
+    }
+}
+
+/// Does them by one run, once more where memory ran out.
+fn run<D: Deliveries>(rt: &impl Abort, alloc: Global, script: Script) {
+    let (row, port, steps) = script;
+    let came = match outcomes::<D>(alloc, port, steps) {
+        Ok(came) => came,
+        Err(_) => outcomes::<D>(alloc, port, steps).expect(rt, "memory"),
+    };
+    assert_told(rt, row, &came, steps);
+}
+
+/// Plays these scripts over each store, by calls and by runs.
+fn play(rt: &impl Abort, alloc: Global, scripts: &[Script]) {
+    for script in scripts {
+        call::<Queues>(rt, alloc, *script);
+        call::<Log>(rt, alloc, *script);
+        run::<Queues>(rt, alloc, *script);
+        run::<Log>(rt, alloc, *script);
+    }
+}
+
+#[test]
+fn scripts_are_answered_again(rt: HostRuntime) {
+    play(&rt, rt.alloc(), &numbers::SCRIPTS);
+    play(&rt, rt.alloc(), &answers::SCRIPTS);
+    play(&rt, rt.alloc(), &datagrams::SCRIPTS);
+    play(&rt, rt.alloc(), &faults::SCRIPTS);
+    play(&rt, rt.alloc(), &conversations::SCRIPTS);
+}
+
+#[test]
+fn the_log_keeps_what_it_kept(rt: HostRuntime) {
+    entries::play_all(&rt, rt.alloc());
+}

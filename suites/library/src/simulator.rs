@@ -1,0 +1,13 @@
+//! Tests of what a kernel answers.
+//!
+//! - [`answers`]: acknowledgements and errors. [`dumps`]: dumps. [`single`]: single replies and notifications. Each is
+//!   a table of what was recorded from a kernel, built again from its values. Numbers are those of docs/RECORDINGS.md.
+//! - [`family`]: a family of generic netlink, served, and its client on the router.
+//! - [`laws`]: the laws are called. [`support`]: what the tests share.
+
+mod answers;
+mod dumps;
+mod family;
+mod laws;
+mod single;
+mod support;
