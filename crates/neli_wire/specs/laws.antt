@@ -9,4 +9,5 @@ pub mod Reading
 pub mod Sizes
 pub mod Steps
 pub mod Strings
+pub mod Values
 pub mod Writing
