@@ -5,10 +5,12 @@
 //! - [`AttrHandle`]: a list of its own, or one that is lent, in which attributes are looked up.
 //! - [`TypedPayload`], [`Retyped`], [`ToTyped`]: what a handle asks of its attributes.
 //! - [`read_first`], [`read_whole`], [`read_borrowed`]: what a payload is read as.
+//! - [`laws`]: what lists say of themselves.
 #![tactic(auto)]
 
 mod frame_list;
 mod handle;
+pub mod laws;
 mod listed;
 mod payload;
 mod try_clone;
