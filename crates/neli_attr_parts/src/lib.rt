@@ -5,6 +5,7 @@
 //! - [`AttrType`]: the type field of a generic attribute.
 //! - [`BuildError`]: why a builder made nothing, for all builders.
 //! - [`frame`]: how an attribute is read and written, by the type of its type field.
+//! - [`laws`]: what buffers and type fields say of themselves.
 #![tactic(auto)]
 
 mod attr_type;
@@ -12,6 +13,7 @@ mod attribute;
 mod buffer;
 mod builders;
 pub mod frame;
+pub mod laws;
 
 pub use attr_type::{AttrType, AttrTypeBuilder, AttrTypeBuilderError};
 pub use attribute::Attribute;
