@@ -1,14 +1,16 @@
-//! Laws over the definitions alone. The functions do nothing: their contracts are the laws.
+//! Laws over the definitions, and what attributes say of themselves. The functions do nothing: their contracts are the
+//! laws.
 //!
 //! A type field is any [`Constant`] of 16 bits: [`crate::AttrType`] for generic attributes, the type itself for
 //! routing ones.
 
-ghost use Rattle.std.specs.Prelude.{◌≡◌, ◌+◌, ◌<◌, ◌++◌, ◌∷◌, ℕ, List, [], Ok, Err, length};
+ghost use Rattle.std.specs.Prelude.{◌≡◌, ◌+◌, ◌<◌, ◌++◌, ◌∷◌, ℕ, List, [], None, Ok, Err, length};
 ghost use Rattle.neli_wire.specs.Constants.{IsEquality};
 ghost use Rattle.neli_wire.specs.DeError.{DeError as Refusal};
-ghost use Rattle.neli_wire.specs.Frames.{AreFrames, frame_at};
+ghost use Rattle.neli_wire.specs.Frames.{AreFrames, frame_at, frame_takes_memory};
 ghost use Rattle.neli_wire.specs.Reading.{refusal_within};
 ghost use Rattle.neli_wire.specs.laws.Elements.{elements};
+ghost use Rattle.neli_wire.specs.laws.Values.{AreSame, OnlyWhere};
 ghost use Rattle.neli_attr.specs.AttrType.{AttrType as Field};
 ghost use Rattle.neli_attr.specs.declared.nlattr.Nlattr.{Nlattr as Generic};
 ghost use Rattle.neli_attr.specs.declared.nlattr.NlattrBuilder.{NlattrBuilder as GenericBuilder};
@@ -16,15 +18,19 @@ ghost use Rattle.neli_attr.specs.declared.rtattr.Rtattr.{Rtattr as Routing};
 ghost use Rattle.neli_attr.specs.declared.rtattr.RtattrBuilder.{RtattrBuilder as RoutingBuilder};
 ghost use Rattle.neli_attr.specs.TypeField.{number_of, type_of};
 ghost use Rattle.neli_attr.specs.Attributes.{Attr, attr, attribute, attribute_wire, attributes_in, nested_payload};
-ghost use Rattle.neli_attr.specs.Nlattr.{built_nlattr};
-ghost use Rattle.neli_attr.specs.Rtattr.{built_rtattr};
+ghost use Rattle.neli_attr.specs.Nlattr.{built_nlattr, nlattr_wire, typed_attribute, with_bytes};
+ghost use Rattle.neli_attr.specs.Rtattr.{built_rtattr, rtattr_wire, with_bytes as with_routing_bytes};
 ghost use Rattle.neli_attr.specs.RoundTrips.{IsReadBack, KeepsField};
 
-use crate::{AttrType, Buffer, Nlattr, Rtattr};
+use crate::{AttrType, Attribute, Buffer, Nlattr, NlattrBuilder, Rtattr, RtattrBuilder};
+pub use neli_attr_parts::laws::{buffer_is_its_bytes, type_field_is_its_number};
 use neli_consts::NlAttrType;
 use neli_consts_attrs::RtaType;
-use neli_list::FrameList;
-use neli_wire::{Constant, FromBytesWithInput, ToBytes};
+pub use neli_list::laws::{
+    copies_of_nothing_take_no_memory, list_is_its_values, list_is_written_and_read,
+};
+use neli_list::{FrameList, ToTyped, TryClone, TypedPayload};
+use neli_wire::{Constant, FromBytes, FromBytesWithInput, Header, Size, ToBytes};
 
 /// A list of attributes that is read is the frames of its attributes, one after the other, and every such
 /// byte list is read as that list. After frames, the first refusal is that of the list.
@@ -91,4 +97,60 @@ pub fn equality<T: PartialEq, P: PartialEq>()
     ensures routing { IsEquality T.eq → IsEquality P.eq
         → IsEquality ⟦<Rtattr<T, P> as PartialEq>⟧.eq }
     ensures list { IsEquality P.eq → IsEquality ⟦<FrameList<P> as PartialEq>⟧.eq }
+{}
+
+/// A generic attribute is found by its type without the flags, and its payload is the bytes that it holds. A copy takes
+/// memory only where there is a byte, a typed one too.
+pub fn generic_attribute_is_its_fields<T: NlAttrType>()
+    ensures kind { AreSame ⟦<Nlattr<T, Buffer> as TypedPayload>⟧.type_of (λ a. a.nla_type.nla_type) }
+    ensures bytes { AreSame ⟦<Nlattr<T, Buffer> as TypedPayload>⟧.bytes_of (λ a. a.nla_payload) }
+    ensures payload { AreSame ⟦<Nlattr<T, Buffer> as Attribute<T>>⟧.payload_of (λ a. a.nla_payload) }
+    ensures set { AreSame ⟦<Nlattr<T, Buffer> as Attribute<T>>⟧.with_payload with_bytes }
+    ensures typed { AreSame ⟦<Nlattr<u16, Buffer> as ToTyped<T>>⟧.typed (typed_attribute T.wire_value) }
+    ensures typing { OnlyWhere ⟦<Nlattr<u16, Buffer> as ToTyped<T>>⟧.typing_takes_memory
+        (λ a. 0 < length a.nla_payload) }
+    ensures copy { OnlyWhere ⟦<Nlattr<T, Buffer> as TryClone>⟧.copy_takes_memory
+        (λ a. 0 < length a.nla_payload) }
+{}
+
+/// A routing attribute is found by its type, and its payload is the bytes that it holds. A copy takes memory only where
+/// there is a byte.
+pub fn routing_attribute_is_its_fields<T: RtaType>()
+    ensures kind { AreSame ⟦<Rtattr<T, Buffer> as TypedPayload>⟧.type_of (λ a. a.rta_type) }
+    ensures bytes { AreSame ⟦<Rtattr<T, Buffer> as TypedPayload>⟧.bytes_of (λ a. a.rta_payload) }
+    ensures payload { AreSame ⟦<Rtattr<T, Buffer> as Attribute<T>>⟧.payload_of (λ a. a.rta_payload) }
+    ensures set { AreSame ⟦<Rtattr<T, Buffer> as Attribute<T>>⟧.with_payload with_routing_bytes }
+    ensures copy { OnlyWhere ⟦<Rtattr<T, Buffer> as TryClone>⟧.copy_takes_memory
+        (λ a. 0 < length a.rta_payload) }
+{}
+
+/// A generic attribute is written and read as a frame with a header of four bytes, and a builder begins with no field.
+pub fn generic_attribute_is_its_frame<T: NlAttrType, W: ToBytes, R: FromBytesWithInput>()
+    ensures written { AreSame ⟦<Nlattr<T, W> as ToBytes>⟧.wire (nlattr_wire T.wire_number W.wire) }
+    ensures size { AreSame ⟦<Nlattr<T, W> as Size>⟧.unpadded_length
+        (λ a. 4 + W.Size.wire_length a.nla_payload) }
+    ensures read { AreSame ⟦<Nlattr<T, R> as FromBytes>⟧.read
+        (frame_at (attribute (type_of T.wire_value) R.read)) }
+    ensures seen { AreSame ⟦<Nlattr<T, R> as FromBytes>⟧.view
+        (λ a. attr a.nla_len a.nla_type (R.view a.nla_payload)) }
+    ensures memory { OnlyWhere ⟦<Nlattr<T, R> as FromBytes>⟧.takes_memory
+        (frame_takes_memory (attribute (type_of T.wire_value) R.read) (λ _. R.takes_memory)) }
+    ensures header { ⟦<Nlattr<T, W> as Header>⟧.header ≡ 4 }
+    ensures builder { OnlyWhere ⟦<NlattrBuilder<T, W> as Default>⟧.is_default
+        (λ b. b ≡ record { nla_type = None; nla_payload = None }) }
+{}
+
+/// A routing attribute is written and read as a frame with a header of four bytes, and a builder begins with no field.
+pub fn routing_attribute_is_its_frame<T: RtaType, W: ToBytes, R: FromBytesWithInput>()
+    ensures written { AreSame ⟦<Rtattr<T, W> as ToBytes>⟧.wire (rtattr_wire T.wire_number W.wire) }
+    ensures size { AreSame ⟦<Rtattr<T, W> as Size>⟧.unpadded_length
+        (λ a. 4 + W.Size.wire_length a.rta_payload) }
+    ensures read { AreSame ⟦<Rtattr<T, R> as FromBytes>⟧.read (frame_at (attribute T.wire_value R.read)) }
+    ensures seen { AreSame ⟦<Rtattr<T, R> as FromBytes>⟧.view
+        (λ a. attr a.rta_len a.rta_type (R.view a.rta_payload)) }
+    ensures memory { OnlyWhere ⟦<Rtattr<T, R> as FromBytes>⟧.takes_memory
+        (frame_takes_memory (attribute T.wire_value R.read) (λ _. R.takes_memory)) }
+    ensures header { ⟦<Rtattr<T, W> as Header>⟧.header ≡ 4 }
+    ensures builder { OnlyWhere ⟦<RtattrBuilder<T, W> as Default>⟧.is_default
+        (λ b. b ≡ record { rta_type = None; rta_payload = None }) }
 {}
