@@ -30,23 +30,70 @@ fn run<D: Deliveries>(rt: &impl Abort, alloc: Global, script: Script) {
     assert_told(rt, row, &came, steps);
 }
 
-/// Plays these scripts over each store, by calls and by runs.
-fn play(rt: &impl Abort, alloc: Global, scripts: &[Script]) {
+/// Plays these scripts over each store by calls.
+fn call_all(rt: &impl Abort, alloc: Global, scripts: &[Script]) {
     for script in scripts {
         call::<Queues>(rt, alloc, *script);
         call::<Log>(rt, alloc, *script);
+    }
+}
+
+/// Plays these scripts over each store by runs.
+fn run_all(rt: &impl Abort, alloc: Global, scripts: &[Script]) {
+    for script in scripts {
         run::<Queues>(rt, alloc, *script);
         run::<Log>(rt, alloc, *script);
     }
 }
 
 #[test]
-fn scripts_are_answered_again(rt: HostRuntime) {
-    play(&rt, rt.alloc(), &numbers::SCRIPTS);
-    play(&rt, rt.alloc(), &answers::SCRIPTS);
-    play(&rt, rt.alloc(), &datagrams::SCRIPTS);
-    play(&rt, rt.alloc(), &faults::SCRIPTS);
-    play(&rt, rt.alloc(), &conversations::SCRIPTS);
+fn calls_for_numbers_are_answered_again(rt: HostRuntime) {
+    call_all(&rt, rt.alloc(), &numbers::SCRIPTS);
+}
+
+#[test]
+fn calls_for_answers_are_answered_again(rt: HostRuntime) {
+    call_all(&rt, rt.alloc(), &answers::SCRIPTS);
+}
+
+#[test]
+fn calls_for_datagrams_are_answered_again(rt: HostRuntime) {
+    call_all(&rt, rt.alloc(), &datagrams::SCRIPTS);
+}
+
+#[test]
+fn calls_for_faults_are_answered_again(rt: HostRuntime) {
+    call_all(&rt, rt.alloc(), &faults::SCRIPTS);
+}
+
+#[test]
+fn calls_of_conversations_are_answered_again(rt: HostRuntime) {
+    call_all(&rt, rt.alloc(), &conversations::SCRIPTS);
+}
+
+#[test]
+fn runs_for_numbers_are_answered_again(rt: HostRuntime) {
+    run_all(&rt, rt.alloc(), &numbers::SCRIPTS);
+}
+
+#[test]
+fn runs_for_answers_are_answered_again(rt: HostRuntime) {
+    run_all(&rt, rt.alloc(), &answers::SCRIPTS);
+}
+
+#[test]
+fn runs_for_datagrams_are_answered_again(rt: HostRuntime) {
+    run_all(&rt, rt.alloc(), &datagrams::SCRIPTS);
+}
+
+#[test]
+fn runs_for_faults_are_answered_again(rt: HostRuntime) {
+    run_all(&rt, rt.alloc(), &faults::SCRIPTS);
+}
+
+#[test]
+fn runs_of_conversations_are_answered_again(rt: HostRuntime) {
+    run_all(&rt, rt.alloc(), &conversations::SCRIPTS);
 }
 
 #[test]
