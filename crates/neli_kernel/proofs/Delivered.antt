@@ -1,5 +1,5 @@
 -- Messages as a router keeps and delivers them.
-use Rattle.std.proofs.Common.{◌≡◌, ◌≢◌, ℕ, ◌+◌, ◌-◌, All, Bool, true, false, ltb, List}
+use Rattle.std.proofs.Common.{◌≡◌, ◌≢◌, ◌<◌, ℕ, ◌+◌, ◌-◌, All, Bool, true, false, ltb, List}
 use Rattle.std.proofs.Common.{[], ◌∷◌, ◌++◌, length, map, take, drop, Option, Some, None, Result}
 use Rattle.std.proofs.Common.{Ok, Err, refl, sym, ap, subst, ◌∙◌, arith, length-append}
 use Rattle.std.specs.Prelude.{ℤ, FitsSigned, flat_map, nat_eq}
@@ -24,7 +24,7 @@ use Rattle.neli_reader.specs.Nlmsgerr.{Nlmsgerr}
 use Rattle.neli_reader.specs.Agreement.{untyped_layout}
 use Rattle.neli_reader.specs.Builders.{header_with}
 use Rattle.neli_reader.specs.Cuts.{Cut, cut_of}
-use Rattle.neli_reader.specs.Headers.{Header}
+use Rattle.neli_reader.specs.Headers.{Header, flags_of}
 use Rattle.neli_reader.specs.Kinds.{is_multi, payload_in}
 use Rattle.neli_reader.specs.NlPayload.{NlPayload}
 use Rattle.neli_reader.specs.NlPayload.TheVariants as payload
@@ -32,9 +32,12 @@ use Rattle.neli_reader.specs.laws.Cuts.{CutsEach, cut_of-each, cut_of-is}
 use Rattle.neli_reader.specs.laws.Messages.{layout_with-placed}
 use Rattle.neli_lent.specs.Messages.{Lent, lent_message, messages_in}
 use Rattle.neli_deliveries.specs.Deliveries.{Untyped, datagram_share, message, message_to, messages_to}
+use Rattle.neli_deliveries.specs.Deliveries.{reader_fault}
 use Rattle.neli_deliveries.specs.declared.delivery.Delivery.{Delivery}
 use Rattle.neli_kernel.specs.Datagrams.{AreRead, HasNoFault, messages_of}
 use Rattle.neli_kernel.specs.Delivered.{AreReadBack, IsFor, IsPlain, IsReply, kept, reply_kept, shares, untyped}
+use Rattle.neli_kernel.specs.Answers.{IsAddressed, control, message_or_refusal}
+use Rattle.neli_kernel.specs.declared.request.Request.{Request}
 use Rattle.neli_kernel.proofs.Answers.{one-message}
 
 abbrev same : ℕ → ℕ
@@ -340,3 +343,28 @@ module _ {T P : Type 0} (number_of : T → ℕ) (wire : P → Wire) (size : P �
       → datagram_share port is_open other (cut_of untyped_layout bytes) [] ≡ []
   reply-other is_open other opened differs = share-other number port is_open opened other bytes
       (kept lent_reply ∷ []) differs reply-for reply-cut
+
+  -- the same bytes, where they came to groups
+  pub notification-heard : (own group : ℕ) (groups : List ℕ) (is_open : ℕ → Bool)
+      → datagram_share own is_open None (cut_of untyped_layout bytes) (group ∷ groups)
+      ≡ message (reply_kept (number_of t) flags number port text) ∷ []
+  notification-heard own group groups is_open = ap (λ (c : Cut Untyped). map message c.0) reply-cut
+
+  pub notification-other : (own group : ℕ) (groups : List ℕ) (is_open : ℕ → Bool) (q : ℕ)
+      → datagram_share own is_open (Some q) (cut_of untyped_layout bytes) (group ∷ groups) ≡ []
+  notification-other own group groups is_open q = ap (λ (c : Cut Untyped). reader_fault c.1) reply-cut
+
+-- ---- a control message
+
+pub control-reply : (t : ℕ) (asked : Request) (bytes : List ℕ) → t ≢ 2 → t ≢ 3 → t < 65536 → IsAddressed asked
+    → message_or_refusal (λ n. n) (λ b. Ok b) (control asked t) ≡ Ok bytes
+    → IsReply (λ n. n) (λ b. Ok b) length t (flags_of 0) asked.header.sequence_number asked.port [] [] bytes
+control-reply t asked bytes two three fits addressed is = record {
+  is_plain = (two, three);
+  type_fits = fits;
+  flags_fit = omega arith;
+  number_fits = addressed.0;
+  port_fits = addressed.1;
+  text_is = refl;
+  bytes_are = is;
+}

@@ -5,3 +5,4 @@ mod Delivered
 mod ExtAcks
 mod Acknowledged
 mod Finished
+mod Marks

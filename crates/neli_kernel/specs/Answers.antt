@@ -45,6 +45,10 @@ abbrev pub reply : {T P : Type 0} → (P → ℕ) → Request → T → NlmF →
 reply size asked message_type flags body =
     message_with size message_type flags asked.header.sequence_number asked.port (payload.Payload body)
 
+-- a message of a control type, as 1, NLMSG_NOOP, and 4, NLMSG_OVERRUN: no flag and no body
+abbrev pub control : Request → ℕ → Nlmsghdr ℕ (List ℕ)
+control asked message_type = reply length asked message_type (flags_of 0) []
+
 -- the flags of an answer that says what is echoed, and ACK_TLVS (512) where it has attributes
 abbrev pub answer_flags : NlmF → Attributes → NlmF
 answer_flags echo [] = echo

@@ -3,3 +3,4 @@ pub mod Dumps
 pub mod Datagrams
 pub mod Requests
 pub mod Delivered
+pub mod Marks

@@ -2,7 +2,7 @@
 
 ghost use Rattle.std.specs.Prelude.{⊤, ◌≡◌, ◌≢◌, [], Ok, IfOk, IfErr, OnOk, OnErr, map};
 ghost use Rattle.neli_wire.specs.Refusals.{IsRefusal, ser_ran_out};
-ghost use Rattle.neli_kernel.specs.Answers.{message_or_refusal};
+ghost use Rattle.neli_kernel.specs.Answers.{message_or_refusal, reply};
 ghost use Rattle.neli_kernel.specs.Dumps.{RefusesPut, begun, datagrams_of, dump_end};
 ghost use Rattle.neli_kernel.specs.Dumps.{dump_message, finished, packed_in, put_wire};
 
@@ -40,7 +40,9 @@ impl<'b> Dump<'b> {
         }
     }
 
-    /// One message more, with the request's number and port, and with these flags and MULTI.
+    /// One message more, with the request's number and port, and with these flags and MULTI. A kernel marks with DUMP_INTR
+    /// (0x10) the message at which it finds that the table changed while it was dumped, and no later one, and with
+    /// DUMP_FILTERED (0x20) each message of a dump that it filtered as was asked.
     ///
     /// Refused as `Msg` where the message's length passes 32 bits, then as the body is refused, then as `Msg` where the
     /// message alone is longer than a datagram may be; or as `Memory`. A refusal leaves the dump as it was. A kernel
@@ -65,8 +67,33 @@ impl<'b> Dump<'b> {
             (packed_in self.old)) }
         ensures unchanged { OnErr result (packed_in self.new ≡ packed_in self.old) }
     {
-        let flags = nl_flags | NlmF::MULTI;
-        let frame = self.request.reply(alloc, nl_type, flags, body)?;
+        self.push_reply(alloc, nl_type, nl_flags | NlmF::MULTI, body)
+    }
+
+    /// One message more, with these flags alone: some families, as `netdev`, leave MULTI out before the end.
+    ///
+    /// Refused as [`Dump::push`] is.
+    pub fn push_reply<T: NlType + Drop, P: ToBytes + Drop>(
+        &mut self,
+        alloc: Global,
+        nl_type: T,
+        nl_flags: NlmF,
+        body: P,
+    ) -> Result<(), SerError>
+        ensures request { self.new.request ≡ self.old.request }
+        ensures limit { self.new.limit ≡ self.old.limit }
+        ensures put { OnOk result
+            (put_wire self.old.limit
+            (message_or_refusal T.wire_number P.wire
+            (reply P.Size.wire_length self.old.request nl_type nl_flags body))
+            (packed_in self.old) ≡ Ok (packed_in self.new)) }
+        ensures refused { IfErr result
+            (RefusesPut self.old.limit T.wire_number P.wire
+            (reply P.Size.wire_length self.old.request nl_type nl_flags body)
+            (packed_in self.old)) }
+        ensures unchanged { OnErr result (packed_in self.new ≡ packed_in self.old) }
+    {
+        let frame = self.request.reply(alloc, nl_type, nl_flags, body)?;
         self.put(alloc, frame)
     }
 
@@ -89,7 +116,8 @@ impl<'b> Dump<'b> {
     }
 
     /// The datagrams, after one message more, the end: of type 3 (`NLMSG_DONE`), with these flags and MULTI, the code,
-    /// which is 0 where all went well, and attributes.
+    /// which is 0 where all went well and below 0 where the dump failed, as -19 for `ENODEV`, and attributes. The end may
+    /// be marked too, as [`Dump::push`] says.
     ///
     /// Refused as [`Dump::push`] is.
     pub fn finish(

@@ -8,21 +8,23 @@ ghost use Rattle.neli_consts.specs.declared.nlm_f.NlmF.{NlmF as Flags};
 ghost use Rattle.neli_reader.specs.Agreement.{untyped_layout};
 ghost use Rattle.neli_reader.specs.Answers.{Attributes, answer};
 ghost use Rattle.neli_reader.specs.Cuts.{cut_of};
-ghost use Rattle.neli_reader.specs.Headers.{Header};
+ghost use Rattle.neli_reader.specs.Headers.{Header, flags_of};
 ghost use Rattle.neli_reader.specs.Kinds.{is_multi};
 ghost use Rattle.neli_reader.specs.NlPayload.TheVariants as payload;
 ghost use Rattle.neli_reader.specs.NlPayload.{NlPayload as Payload};
 ghost use Rattle.neli_lent.specs.Messages.{Lent, messages_in};
 ghost use Rattle.neli_lent.specs.Written.{IsWalked};
 ghost use Rattle.neli_deliveries.specs.Deliveries.{Untyped, datagram_share, message};
-ghost use Rattle.neli_kernel.specs.Answers.{IsAddressed, acknowledgement, capped_error};
+ghost use Rattle.neli_kernel.specs.Answers.{IsAddressed, acknowledgement, capped_error, control};
 ghost use Rattle.neli_kernel.specs.Answers.{error, message_or_refusal, message_with};
 ghost use Rattle.neli_kernel.specs.declared.request.Request.{Request as Asked};
 ghost use Rattle.neli_kernel.specs.Datagrams.{AreRead, AreWithin};
 ghost use Rattle.neli_kernel.specs.Delivered.{AreReadBack, IsAnswer, IsDelivered, IsEnd, IsFor};
 ghost use Rattle.neli_kernel.specs.Delivered.{IsPlain, IsPlainAttribute, IsReply, answer_kept, end_said};
 ghost use Rattle.neli_kernel.specs.Delivered.{kept, reply_kept, shares, untyped};
-ghost use Rattle.neli_kernel.specs.Dumps.{Packed, begun, datagrams_of, dump_end, finished, put_wire};
+ghost use Rattle.neli_kernel.specs.Dumps.{Packed, begun, datagrams_of, dump_end, dump_message};
+ghost use Rattle.neli_kernel.specs.Dumps.{finished, put_wire};
+ghost use Rattle.neli_kernel.specs.Marks.{HasMarksOf};
 
 use neli_consts::NlType;
 use neli_wire::ToBytes;
@@ -206,4 +208,43 @@ pub fn error_is_delivered()
         → code ≢ pos 0 → FitsSigned w32 code → asked.header.len ≡ 16 + length asked.payload.now
         → AreReadBack attrs text → IsAnswer asked (error asked code attrs) bytes
         → IsDelivered asked (error asked code attrs) bytes }
+{}
+
+/// A dump keeps the marks that its messages are put in with: DUMP_INTR and DUMP_FILTERED are set in a message of
+/// [`Dump::push`](crate::Dump::push), and in the end of [`Dump::finish`](crate::Dump::finish), where they are in the
+/// flags that it was given, whatever MULTI and ACK_TLVS are.
+pub fn dump_keeps_its_marks<T: NlType, P: ToBytes>()
+    ensures message { (asked : Asked) (t : T) (flags : Flags) (body : P) → HasMarksOf flags
+        (dump_message P.Size.wire_length asked t flags body).header.flags }
+    ensures end { (asked : Asked) (flags : Flags) (code : ℤ) (attrs : Attributes)
+        → HasMarksOf flags (dump_end asked flags code attrs).header.flags }
+{}
+
+/// A message of no operation and one of an overrun are replies as the laws on replies want them, without MULTI and
+/// without a body.
+pub fn control_messages_are_replies()
+    ensures no_operation { (asked : Asked) (bytes : List ℕ) → IsAddressed asked
+        → message_or_refusal (λ n. n) (λ b. Ok b) (control asked 1) ≡ Ok bytes
+        → IsReply (λ n. n) (λ b. Ok b) length 1 (flags_of 0) asked.header.sequence_number
+        asked.port [] [] bytes }
+    ensures overrun { (asked : Asked) (bytes : List ℕ) → IsAddressed asked
+        → message_or_refusal (λ n. n) (λ b. Ok b) (control asked 4) ≡ Ok bytes
+        → IsReply (λ n. n) (λ b. Ok b) length 4 (flags_of 0) asked.header.sequence_number
+        asked.port [] [] bytes }
+{}
+
+/// A notification is delivered to multicast, once, and to no handle with a number, whatever its own number and port
+/// are, and whatever port the router has: where it came to a group, a datagram of its bytes is one message for the
+/// handle for multicast, with the body's bytes and zeros up to a multiple of four. So it is of each
+/// [`notification`](crate::notification) whose type is neither 2 nor 3.
+pub fn notification_is_delivered<T: NlType, P: ToBytes>()
+    ensures multicast { (t : T) (flags : Flags) (number port : ℕ) (body : P) (text bytes : List ℕ)
+        (own group : ℕ) (groups : List ℕ) (is_open : ℕ → Bool)
+        → IsReply T.wire_number P.wire P.Size.wire_length t flags number port body text bytes
+        → datagram_share own is_open None (cut_of untyped_layout bytes) (group ∷ groups)
+        ≡ message (reply_kept (T.wire_number t) flags number port text) ∷ [] }
+    ensures numbered { (t : T) (flags : Flags) (number port : ℕ) (body : P) (text bytes : List ℕ)
+        (own group q : ℕ) (groups : List ℕ) (is_open : ℕ → Bool)
+        → IsReply T.wire_number P.wire P.Size.wire_length t flags number port body text bytes
+        → datagram_share own is_open (Some q) (cut_of untyped_layout bytes) (group ∷ groups) ≡ [] }
 {}

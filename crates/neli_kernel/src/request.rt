@@ -3,9 +3,9 @@
 ghost use Rattle.std.specs.Prelude.{◌≡◌, [], Ok, IfOk, IfErr};
 ghost use Rattle.neli_reader.specs.NlPayload.TheVariants as payload;
 ghost use Rattle.neli_kernel.specs.Answers.{RefusesMessage, acknowledgement, answer_flags, capped_error};
-ghost use Rattle.neli_kernel.specs.Answers.{error, message_or_refusal, reply};
+ghost use Rattle.neli_kernel.specs.Answers.{control, error, message_or_refusal, reply};
 ghost use Rattle.neli_kernel.specs.Dumps.{dump_end, packed_in};
-ghost use Rattle.neli_kernel.specs.Requests.{has_flags, is_handled};
+ghost use Rattle.neli_kernel.specs.Requests.{has_flags, is_handled, wants_routing_dump};
 
 use crate::Dump;
 use crate::message::message;
@@ -126,12 +126,21 @@ impl<'b> Request<'b> {
         self.header.nl_flags().contains(NlmF::ACK)
     }
 
-    /// Whether it wants a dump: both bits of `NLM_F_DUMP` are set. Only in requests that get something do they mean
-    /// this.
+    /// Whether it wants a dump, as generic netlink reads it: both bits of `NLM_F_DUMP` are set. Only in requests that get
+    /// something do they mean this.
     pub fn wants_dump(&self) -> bool
         ensures { result ≡ has_flags self.now 768 }
     {
         self.header.nl_flags().contains(NlmF::DUMP)
+    }
+
+    /// Whether it wants a dump, as routing netlink reads it: its type is one that gets something, which is 2 modulo 4, as
+    /// `RTM_GETLINK`, 18, and a bit of `NLM_F_DUMP` is set, both or one of them. In other types these bits have other
+    /// meanings, as EXCL (0x200) where something is made.
+    pub fn wants_routing_dump(&self) -> bool
+        ensures { result ≡ wants_routing_dump self.now }
+    {
+        *self.header.nl_type() % 4 == 2 && self.header.nl_flags().intersects(NlmF::DUMP)
     }
 
     /// Whether it wants to be told what has changed, as groups are.
@@ -224,6 +233,28 @@ impl<'b> Request<'b> {
             self.port,
             NlPayload::Payload(body),
         )
+    }
+
+    /// A message of type 1 (`NLMSG_NOOP`), which says nothing: without a flag and without a body.
+    ///
+    /// Refused as `Memory` alone.
+    pub fn no_operation(&self, alloc: Global) -> Result<Vec<u8>, SerError>
+        ensures bytes { IfOk result (λ bytes. message_or_refusal (λ n. n) (λ b. Ok b)
+            (control self.now 1) ≡ Ok bytes.items) }
+        ensures refused { IfErr result (RefusesMessage (λ n. n) (λ b. Ok b) (control self.now 1)) }
+    {
+        self.reply(alloc, 1u16, NlmF::empty(), Buffer::new(alloc))
+    }
+
+    /// A message of type 4 (`NLMSG_OVERRUN`), that data was lost: without a flag and without a body.
+    ///
+    /// Refused as `Memory` alone.
+    pub fn overrun(&self, alloc: Global) -> Result<Vec<u8>, SerError>
+        ensures bytes { IfOk result (λ bytes. message_or_refusal (λ n. n) (λ b. Ok b)
+            (control self.now 4) ≡ Ok bytes.items) }
+        ensures refused { IfErr result (RefusesMessage (λ n. n) (λ b. Ok b) (control self.now 4)) }
+    {
+        self.reply(alloc, 4u16, NlmF::empty(), Buffer::new(alloc))
     }
 
     /// A dump, whose datagrams have at most `limit` bytes. It takes no memory.

@@ -10,22 +10,32 @@ use neli_reader::NlPayload;
 use neli_wire::{SerError, ToBytes};
 use std::alloc::Global;
 
-/// A message to groups: its sequence number and its port are 0. The groups are no part of the bytes; a socket is told
-/// them beside the datagram, as a router's `processing_loop` is.
+/// A message to groups, with the sequence number of the request that caused it and the port of the socket that sent
+/// this, or with 0 and 0 where no request did or the kernel does not say which. The groups are no part of the bytes; a
+/// socket gets them beside the datagram, as a router's `processing_loop` does.
 ///
 /// Refused as `Msg` where the length passes 32 bits, then as the body is refused, or as `Memory`.
 pub fn notification<T: NlType + Drop, P: ToBytes + Drop>(
     alloc: Global,
     nl_type: T,
     nl_flags: NlmF,
+    number: u32,
+    port: u32,
     body: P,
 ) -> Result<Vec<u8>, SerError>
     ensures bytes { IfOk result
         (λ bytes. message_or_refusal T.wire_number P.wire
-        (message_with P.Size.wire_length nl_type nl_flags 0 0 (payload.Payload body))
+        (message_with P.Size.wire_length nl_type nl_flags number port (payload.Payload body))
         ≡ Ok bytes.items) }
     ensures refused { IfErr result (RefusesMessage T.wire_number P.wire
-        (message_with P.Size.wire_length nl_type nl_flags 0 0 (payload.Payload body))) }
+        (message_with P.Size.wire_length nl_type nl_flags number port (payload.Payload body))) }
 {
-    message(alloc, nl_type, nl_flags, 0, 0, NlPayload::Payload(body))
+    message(
+        alloc,
+        nl_type,
+        nl_flags,
+        number,
+        port,
+        NlPayload::Payload(body),
+    )
 }
