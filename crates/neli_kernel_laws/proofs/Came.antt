@@ -30,7 +30,7 @@ use Rattle.neli_runs.specs.laws.Deliveries.{deliveries-more}
 use Rattle.neli_kernel_laws.specs.Complete.{IsComplete}
 use Rattle.neli_kernel_laws.specs.Served.{AllAnswer, Answers, brought, came, handle_after, history_sent}
 use Rattle.neli_kernel_laws.specs.Turns.{IsInTurn, IsReadAs}
-use Rattle.neli_kernel_laws.proofs.Given.{given-in-turn}
+use Rattle.neli_kernel_laws.proofs.Given.{given-before}
 
 -- ---- a datagram that answers requests
 
@@ -50,13 +50,12 @@ own-messages port number is_open (u ∷ us) all =
     (All-head (λ u. is_reply port is_open u ≡ true) u us all)
     (own-messages port number is_open us (All-tail (λ u. is_reply port is_open u ≡ true) u us all))
 
-own-share : (port number : ℕ) (is_open : ℕ → Bool) (cut : Cut Untyped) (groups : List ℕ) → groups ≡ [] → cut.1 ≡ None
-    → All (λ u. is_reply port is_open u ≡ true) cut.0 → datagram_share port is_open (Some number) cut groups
+own-share : (port number : ℕ) (is_open : ℕ → Bool) (cut : Cut Untyped) → cut.1 ≡ None
+    → All (λ u. is_reply port is_open u ≡ true) cut.0 → datagram_share port is_open (Some number) cut []
     ≡ map message (filter (λ u. u.0.sequence_number == number) cut.0)
-own-share port number is_open cut [] none whole all =
+own-share port number is_open cut whole all =
     ap (λ f. messages_to port is_open number cut.0 ++ reader_fault f) whole
     ∙ append-nil (messages_to port is_open number cut.0) ∙ own-messages port number is_open cut.0 all
-own-share port number is_open cut (g ∷ groups) none whole all = cc
 
 -- ---- numbers
 
@@ -83,7 +82,7 @@ not-before : (sent : Bool) (k n : ℕ) → nat_le k (if sent then suc n else n) 
 not-before true k n not = grind (arith, nat_tests)
 not-before false k n not = not
 
-kept-by : {A : Type 0} (sent same : Bool) (x y : A) → same ≡ false → (if sent && same then x else y) ≡ y
+pub kept-by : {A : Type 0} (sent same : Bool) (x y : A) → same ≡ false → (if sent && same then x else y) ≡ y
 kept-by true true x y is = cc
 kept-by true false x y is = refl
 kept-by false same x y is = refl
@@ -127,9 +126,10 @@ module _ {ST SP RT RP : Type 0} (port : ℕ) where
   -- what a command hands over to it
   handed : (j number : ℕ) (h : History ST SP RT RP) (c : Command ST SP) → number_of (suc j) h ≡ number
       → Answers port h c → handed_over port (suc j) c h ≡ map message (brought number c)
-  handed j number h (command.Datagram b groups) is a =
-      ap (λ (n : ℕ). datagram_share port (λ q. is_open q h) (Some n) (cut_of untyped_layout b.items) groups) is
-      ∙ own-share port number (λ q. is_open q h) (cut_of untyped_layout b.items) groups a.0 a.1 a.2
+  handed j number h (command.Datagram b []) is a =
+      ap (λ (n : ℕ). datagram_share port (λ q. is_open q h) (Some n) (cut_of untyped_layout b.items) []) is
+      ∙ own-share port number (λ q. is_open q h) (cut_of untyped_layout b.items) a.0 (a.1 refl)
+  handed j number h (command.Datagram b (g ∷ groups)) is a = ap reader_fault a.0
   handed j number h (command.Fault e) is a = absurd a
   handed j number h (command.SetNextSeq n) is a = refl
   handed j number h (command.Send t f p) is a = refl
@@ -233,6 +233,34 @@ module _ {ST SP RT RP : Type 0} (port : ℕ) where
 
 module _ {ST SP K P V : Type 0} (type_of : ℕ → K) (number_in : K → ℕ) (view : P → V) (size : P → ℕ) (read : List ℕ
     → Result V DeError) (back : (n : ℕ) → n < 65536 → number_in (type_of n) ≡ n) where
+  -- a whole answer came, and perhaps more after it
+  pub read-before : (port : ℕ) (t : ST) (flags : NlmF) (p : NlPayload ST SP) (sent : Bytes)
+      (before later : History ST SP K P) (o : Outcome ST SP K P) (us more : List Untyped)
+      → is_closed (handle_after before) (later ++ history_sent before t flags p sent) ≡ false
+      → AllAnswer port later (history_sent before t flags p sent)
+      → came (next_number before) later ≡ us ++ more → IsComplete (needs_ack flags) us
+      → IsAnswered type_of number_in view size read port (later ++ history_sent before t flags p sent)
+      (command.Read (handle_after before)) o
+      → (r : Reply K P) × IsInTurn (IsReadAs type_of view size read) us
+      (items_of (handle_after before) (later ++ history_sent before t flags p sent)) r × (o ≡ outcome_of r)
+  read-before port t flags p sent before later o us more closed a comes complete is =
+      let all : History ST SP K P = later ++ history_sent before t flags p sent in
+      let given : List (Item K P) = items_of (handle_after before) all in
+      let answered : IsReadOf type_of number_in view size read port all (handle_after before) true o =
+      subst (λ (b : Bool). IsReadOf type_of number_in view size read port all (handle_after before) b o)
+      (came-open port t flags p sent before later closed a) is in
+      let needed = subst (λ (b : Bool). IsNextAnswer type_of number_in view size read b true
+      (deliveries port (handle_after before) all) given answered.0)
+      (came-needs port t flags p sent before later closed a) answered.1 in
+      let next = subst (λ (ds : List Delivery). IsNextAnswer type_of number_in view size read
+      (needs_ack flags) true ds given answered.0) (came-delivered port t flags p sent before later closed
+      a ∙ ap (map message) comes) needed in (
+        answered.0,
+        given-before type_of number_in view size read back
+            (needs_ack flags) us more given answered.0 complete next,
+        answered.2,
+      )
+
   pub read-in-turn : (port : ℕ) (t : ST) (flags : NlmF) (p : NlPayload ST SP) (sent : Bytes)
       (before later : History ST SP K P) (o : Outcome ST SP K P)
       → is_closed (handle_after before) (later ++ history_sent before t flags p sent) ≡ false
@@ -243,20 +271,5 @@ module _ {ST SP K P V : Type 0} (type_of : ℕ → K) (number_in : K → ℕ) (v
       → (r : Reply K P) × IsInTurn (IsReadAs type_of view size read) (came (next_number before) later)
       (items_of (handle_after before) (later ++ history_sent before t flags p sent)) r × (o ≡ outcome_of r)
   read-in-turn port t flags p sent before later o closed a complete is =
-      let all : History ST SP K P = later ++ history_sent before t flags p sent in
       let us : List Untyped = came (next_number before) later in
-      let given : List (Item K P) = items_of (handle_after before) all in
-      let answered : IsReadOf type_of number_in view size read port all (handle_after before) true o =
-      subst (λ (b : Bool). IsReadOf type_of number_in view size read port all (handle_after before) b o)
-      (came-open port t flags p sent before later closed a) is in
-      let needed = subst (λ (b : Bool). IsNextAnswer type_of number_in view size read b true
-      (deliveries port (handle_after before) all) given answered.0)
-      (came-needs port t flags p sent before later closed a) answered.1 in
-      let next = subst (λ (ds : List Delivery). IsNextAnswer type_of number_in view size read
-      (needs_ack flags) true ds given answered.0) (came-delivered port t flags p sent before later closed
-      a) needed in (
-        answered.0,
-        given-in-turn type_of number_in view size read back
-            (needs_ack flags) us given answered.0 complete next,
-        answered.2,
-      )
+      read-before port t flags p sent before later o us [] closed a (sym (append-nil us)) complete is

@@ -18,11 +18,10 @@ use Rattle.neli_runs.specs.Rule.{needs_ack}
 use Rattle.neli_kernel.specs.Delivered.{IsFor}
 use Rattle.neli_kernel.specs.declared.request.Request.{Request}
 use Rattle.neli_kernel_laws.specs.Complete.{IsComplete}
-use Rattle.neli_kernel_laws.specs.Exchanges.{AllOthersAnswer, Exchange, IsReadInTurn, IsServed, OthersAnswer, ReadsGive}
+use Rattle.neli_kernel_laws.specs.Exchanges.{AllOthersAnswer, Exchange, IsServed, OthersAnswer, ReadsGive}
 use Rattle.neli_kernel_laws.specs.Exchanges.{datagram_with, datagrams_with, history_with, own_number, taken_with}
 use Rattle.neli_kernel_laws.specs.Served.{AllAnswer, Answers, brought, came, numbered}
-use Rattle.neli_kernel_laws.specs.Turns.{IsReadAs}
-use Rattle.neli_kernel_laws.proofs.Came.{Keeps, is-given, keeps-more, open-by, or-later, read-in-turn, start-keeps}
+use Rattle.neli_kernel_laws.proofs.Came.{Keeps, is-given, keeps-more, open-by, or-later, read-before, start-keeps}
 use Rattle.neli_kernel_laws.proofs.Complete.{All-first, All-later, all-answered, messages_cut, several-numbered}
 
 -- ---- an open number
@@ -54,12 +53,13 @@ any-known (suc n) j p le is = by (last-or-before j n le) (λ before. any-known n
 
 module _ {ST SP : Type 0} (number : ℕ) where
   brought-is : (c : Command ST SP) → brought number c ≡ flat_map (numbered number) (taken_with number c)
-  brought-is (command.Datagram b groups) = by (numbered number b.items) refl
+  brought-is (command.Datagram b []) = by (numbered number b.items) refl
     where
       by : (us : List Untyped) → numbered number b.items ≡ us
           → us ≡ flat_map (numbered number) (datagram_with b.items us)
       by [] is = refl
       by (u ∷ us) is = sym is ∙ sym (append-nil (numbered number b.items))
+  brought-is (command.Datagram b (g ∷ groups)) = refl
   brought-is (command.SetNextSeq n) = refl
   brought-is (command.Send t f p) = refl
   brought-is (command.Fault e) = refl
@@ -84,14 +84,15 @@ Own port number d = ((cut_of untyped_layout d).1 ≡ None) × All (IsFor number 
 module _ {ST SP RT RP : Type 0} (port number : ℕ) where
   one-answers : (c : Command ST SP) (h : History ST SP RT RP) → is_open number h ≡ true → OthersAnswer number port h c
       → All (Own port number) (taken_with number c) → Answers port h c
-  one-answers (command.Datagram b groups) h opened others own = by (numbered number b.items) refl own
+  one-answers (command.Datagram b []) h opened others own = by (numbered number b.items) refl own
     where
       by : (us : List Untyped) → numbered number b.items ≡ us → All (Own port number) (datagram_with b.items us)
-          → Answers port h (command.Datagram b groups)
-      by [] none all = others.1 none
+          → Answers port h (command.Datagram b [])
+      by [] none all = others none
       by (u ∷ us) some all =
           let is : Own port number b.items = All-head (Own port number) b.items [] all in
-          (others.0, is.0, all-answered number port (λ (q : ℕ). is_open q h) opened (messages_cut b.items) is.1)
+          (is.0, λ none. all-answered number port (λ (q : ℕ). is_open q h) opened (messages_cut b.items) is.1)
+  one-answers (command.Datagram b (g ∷ groups)) h opened others own = others refl
   one-answers (command.SetNextSeq n) h opened others own = tt
   one-answers (command.Send t f p) h opened others own = tt
   one-answers (command.Fault e) h opened others own = absurd others
@@ -145,29 +146,37 @@ IsUnbroken d = (cut_of untyped_layout d).1 ≡ None
 
 module _ {ST SP K P V : Type 0} (type_of : ℕ → K) (number_in : K → ℕ) (view : P → V) (size : P → ℕ) (read : List ℕ
     → Result V DeError) (back : (n : ℕ) → n < 65536 → number_in (type_of n) ≡ n) where
-  pub served-in-turn : (x : Exchange ST SP K P) (asked : Request) (datagrams : List (List ℕ)) (us : List Untyped)
-      → flat_map messages_cut datagrams ≡ us → All (λ d. (cut_of untyped_layout d).1 ≡ None) datagrams
-      → All (IsFor asked.header.sequence_number asked.port) us → IsComplete (needs_ack x.flags) us
+  -- a whole answer came, and perhaps more after it
+  pub served-before : (x : Exchange ST SP K P) (asked : Request) (datagrams : List (List ℕ)) (us more : List Untyped)
+      → flat_map messages_cut datagrams ≡ us ++ more → All (λ d. (cut_of untyped_layout d).1 ≡ None) datagrams
+      → All (IsFor asked.header.sequence_number asked.port) (us ++ more) → IsComplete (needs_ack x.flags) us
       → IsServed x asked datagrams
       → ReadsGive type_of number_in view size read asked.port us x
-  served-in-turn x asked datagrams us cut none all complete served o is =
+  served-before x asked datagrams us more cut none all complete served o is =
       let number : ℕ = own_number x in
       let port : ℕ = asked.port in
-      let mine : All (IsFor number port) us = subst (λ (n : ℕ). All (IsFor n port) us) served.number_is all in
-      let each = several-numbered number port datagrams us cut mine in
+      let mine : All (IsFor number port) (us ++ more) =
+      subst (λ (n : ℕ). All (IsFor n port) (us ++ more)) served.number_is all in
+      let each = several-numbered number port datagrams (us ++ more) cut mine in
       let own : All (Own port number) (datagrams_with number x.later) =
       subst (All (Own port number)) (sym served.own) (own-each port number datagrams none each.1) in
       let start-known = start-keeps port x.message_type x.flags x.payload x.sent x.before in
       let answers : AllAnswer port x.later (history_with x) =
       all-answer port number (requests_sent x.before) (needs_ack x.flags)
       (history_with x) x.later start-known served.stays_open served.others own in
-      let brings : came number x.later ≡ us = came-is number x.later ∙ ap (flat_map (numbered number)) served.own
-      ∙ each.0 in
-      let whole : IsComplete (needs_ack x.flags) (came number x.later) =
-      subst (IsComplete (needs_ack x.flags)) (sym brings) complete in
-      let turn = read-in-turn type_of number_in view size read back port x.message_type x.flags x.payload x.sent
-      x.before x.later o served.stays_open answers whole is in
-      subst (λ (ms : List Untyped). IsReadInTurn (IsReadAs type_of view size read) ms x o) brings turn
+      let brings : came number x.later ≡ us ++ more =
+      came-is number x.later ∙ ap (flat_map (numbered number)) served.own ∙ each.0 in
+      read-before type_of number_in view size read back port x.message_type x.flags x.payload x.sent
+      x.before x.later o us more served.stays_open answers brings complete is
+
+  pub served-in-turn : (x : Exchange ST SP K P) (asked : Request) (datagrams : List (List ℕ)) (us : List Untyped)
+      → flat_map messages_cut datagrams ≡ us → All (λ d. (cut_of untyped_layout d).1 ≡ None) datagrams
+      → All (IsFor asked.header.sequence_number asked.port) us → IsComplete (needs_ack x.flags) us
+      → IsServed x asked datagrams
+      → ReadsGive type_of number_in view size read asked.port us x
+  served-in-turn x asked datagrams us cut none all complete served =
+      served-before x asked datagrams us [] (cut ∙ sym (append-nil us)) none
+      (subst (All (IsFor asked.header.sequence_number asked.port)) (sym (append-nil us)) all) complete served
 
   -- of one datagram
   pub datagram-in-turn : (x : Exchange ST SP K P) (asked : Request) (bytes : List ℕ) (us : List Untyped) (needs : Bool)

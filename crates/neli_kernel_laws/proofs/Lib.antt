@@ -4,3 +4,6 @@ mod Typed
 mod Given
 mod Came
 mod Exchanges
+mod Heard
+mod Marked
+mod Unacknowledged

@@ -1,5 +1,5 @@
 -- Items of a handle, one after the other, and where they end.
-use Rattle.std.proofs.Common.{ℕ, suc, ◌≡◌, Bool, true, false, min, List, [], ◌∷◌, length}
+use Rattle.std.proofs.Common.{ℕ, suc, ◌≡◌, Bool, true, false, min, List, [], ◌∷◌, ◌++◌, length}
 use Rattle.std.proofs.Common.{Option, Some, None, Ok, Err, refl, sym, ap, subst, ◌∙◌, arith}
 use Rattle.std.specs.Prelude.{⊤, nat_lt, ◌==◌}
 use Rattle.std.specs.List.{list_any, slice_get}
@@ -39,33 +39,33 @@ min_zero m = grind (arith, nat_tests)
 zero_min : (m : ℕ) → min m 0 ≡ 0
 zero_min m = grind (arith, nat_tests)
 
-module _ {K P : Type 0} (number_of : K → ℕ) (needs : Bool) where
+module _ {K P : Type 0} (number_of : K → ℕ) (needs numbered : Bool) where
   abbrev last_of : List (Item K P) → ℕ
-  last_of = last_place number_of needs true
+  last_of = last_place number_of needs numbered
 
   abbrev answer_of : List (Item K P) → ℕ → Reply K P
-  answer_of = answer number_of needs true
+  answer_of = answer number_of needs numbered
 
   -- an item that does not end the answers stands before those of the others
-  quiet-last : (x : Item K P) (xs : List (Item K P)) → ends_alone x ≡ false → is_single number_of true x ≡ false
+  quiet-last : (x : Item K P) (xs : List (Item K P)) → ends_alone x ≡ false → is_single number_of numbered x ≡ false
       → last_of (x ∷ xs) ≡ suc (last_of xs)
-  quiet-last x xs alone single = elim needs as (λ b. last_place number_of b true (x ∷ xs)
-      ≡ suc (last_place number_of b true xs)) [
+  quiet-last x xs alone single = elim needs as (λ b. last_place number_of b numbered (x ∷ xs)
+      ≡ suc (last_place number_of b numbered xs)) [
         | true ↦ rw (alone, single) (min_suc _ _)
         | false ↦ rw (alone, single) (min_suc _ _)
       ]
 
-  quiet-single : (x : Item K P) (xs : List (Item K P)) → is_single number_of true x ≡ false
-      → single_place number_of true (x ∷ xs) ≡ suc (single_place number_of true xs)
+  quiet-single : (x : Item K P) (xs : List (Item K P)) → is_single number_of numbered x ≡ false
+      → single_place number_of numbered (x ∷ xs) ≡ suc (single_place number_of numbered xs)
   quiet-single x xs single = rw single refl
 
-  quiet-zero : (x : Item K P) (xs : List (Item K P)) → ends_alone x ≡ false → is_single number_of true x ≡ false
+  pub quiet-zero : (x : Item K P) (xs : List (Item K P)) → ends_alone x ≡ false → is_single number_of numbered x ≡ false
       → answer_of (x ∷ xs) 0 ≡ reply.Item x
   quiet-zero x xs alone single = rw (quiet-last x xs alone single, suc_lt (last_of xs)) refl
 
   quiet-suc-at : (x : Item K P) (xs : List (Item K P)) (i : ℕ) (item : Option (Item K P)) → ends_alone x ≡ false
-      → is_single number_of true x ≡ false → answer_at number_of needs true (x ∷ xs) (suc i) item
-      ≡ answer_at number_of needs true xs i item
+      → is_single number_of numbered x ≡ false → answer_at number_of needs numbered (x ∷ xs) (suc i) item
+      ≡ answer_at number_of needs numbered xs i item
   quiet-suc-at x xs i None alone single = rw (quiet-last x xs alone single, lt_suc (last_of xs) (length xs)) refl
   quiet-suc-at x xs i (Some item) alone single =
       rw (
@@ -73,37 +73,37 @@ module _ {K P : Type 0} (number_of : K → ℕ) (needs : Bool) where
         quiet-single x xs single,
         lt_suc i (last_of xs),
         eq_suc i (last_of xs),
-        lt_suc (single_place number_of true xs) i,
+        lt_suc (single_place number_of numbered xs) i,
       ) refl
 
-  quiet-suc : (x : Item K P) (xs : List (Item K P)) (i : ℕ) → ends_alone x ≡ false → is_single number_of true x ≡ false
+  pub quiet-suc : (x : Item K P) (xs : List (Item K P)) (i : ℕ) → ends_alone x ≡ false → is_single number_of numbered x ≡ false
       → answer_of (x ∷ xs) (suc i) ≡ answer_of xs i
   quiet-suc x xs i alone single = quiet-suc-at x xs i (slice_get xs i) alone single
 
   -- where the answers end at the first item
-  over-zero : (x : Item K P) (xs : List (Item K P)) → last_of (x ∷ xs) ≡ 0
+  pub over-zero : (x : Item K P) (xs : List (Item K P)) → last_of (x ∷ xs) ≡ 0
       → answer_of (x ∷ xs) 0 ≡ reply.Item (last_item needs false x)
-  over-zero x xs is = rw (is, lt_zero (single_place number_of true (x ∷ xs))) refl
+  over-zero x xs is = rw (is, lt_zero (single_place number_of numbered (x ∷ xs))) refl
 
   over-suc-at : (x : Item K P) (xs : List (Item K P)) (i : ℕ) (item : Option (Item K P)) → last_of (x ∷ xs) ≡ 0
-      → answer_at number_of needs true (x ∷ xs) (suc i) item ≡ reply.End
+      → answer_at number_of needs numbered (x ∷ xs) (suc i) item ≡ reply.End
   over-suc-at x xs i None is = rw (is, suc_lt (length xs)) refl
   over-suc-at x xs i (Some item) is = rw (is, lt_zero (suc i), suc_zero i) refl
 
-  over-suc : (x : Item K P) (xs : List (Item K P)) (i : ℕ) → last_of (x ∷ xs) ≡ 0
+  pub over-suc : (x : Item K P) (xs : List (Item K P)) (i : ℕ) → last_of (x ∷ xs) ≡ 0
       → answer_of (x ∷ xs) (suc i) ≡ reply.End
   over-suc x xs i is = over-suc-at x xs i (slice_get xs i) is
 
   pub alone-last : (x : Item K P) (xs : List (Item K P)) → ends_alone x ≡ true → last_of (x ∷ xs) ≡ 0
   alone-last x xs alone = rw alone (min_zero _)
 
-  -- a single reply ends them where no acknowledgement is needed
-  pub single-last : (x : Item K P) (xs : List (Item K P)) → is_single number_of true x ≡ true
-      → last_place number_of false true (x ∷ xs) ≡ 0
-  single-last x xs single = rw single (zero_min _)
+  pub waits : (i : ℕ) → answer_of [] i ≡ reply.Waits
+  waits i = elim needs as (λ b. answer {P = P} number_of b numbered [] i ≡ reply.Waits) [ true ↦ refl | false ↦ refl ]
 
-  waits : (i : ℕ) → answer_of [] i ≡ reply.Waits
-  waits i = elim needs as (λ b. answer {P = P} number_of b true [] i ≡ reply.Waits) [ true ↦ refl | false ↦ refl ]
+-- a single reply ends them where no acknowledgement is needed
+pub single-last : {K P : Type 0} (number_of : K → ℕ) (x : Item K P) (xs : List (Item K P))
+    → is_single number_of true x ≡ true → last_place number_of false true (x ∷ xs) ≡ 0
+single-last number_of x xs single = rw single (zero_min _)
 
 -- ---- reads of a handle to which these were delivered
 
@@ -122,9 +122,9 @@ module _ {U K P : Type 0} (IsRead : U → Item K P → Type 0) where
       × (r ≡ reply.Waits → length readings ≡ length us)
 
 module _ {U K P : Type 0} (number_of : K → ℕ) (needs : Bool) (IsRead : U → Item K P → Type 0) where
-  -- every read is answered by what its turn says
-  abbrev pub InTurn : List U → Type 0
-  InTurn us = (given : List (Item K P)) (r : Reply K P) → IsNext IsRead number_of needs us given r
+  -- every read is answered by what its turn says, whatever came later
+  abbrev pub InTurn : List U → List U → Type 0
+  InTurn us later = (given : List (Item K P)) (r : Reply K P) → IsNext IsRead number_of needs (us ++ later) given r
       → IsInTurn IsRead us given r
 
   -- a message of this kind, typed, does not end the answers
@@ -134,13 +134,13 @@ module _ {U K P : Type 0} (number_of : K → ℕ) (needs : Bool) (IsRead : U →
 
   -- what is read of it ends them, and is given as it is or as an error
   abbrev pub IsOver : U → Type 0
-  IsOver u = (x : Item K P) → IsRead u x → (last_place number_of needs true (x ∷ []) ≡ 0)
+  IsOver u = (x : Item K P) (xs : List (Item K P)) → IsRead u x → (last_place number_of needs true (x ∷ xs) ≡ 0)
       × (last_item needs false x ≡ last_item true false x)
 
-zero_not_suc : (n : ℕ) → 0 ≡ suc n → ⊥
+pub zero_not_suc : (n : ℕ) → 0 ≡ suc n → ⊥
 zero_not_suc n e = cc
 
-suc_is : (m n : ℕ) → suc m ≡ suc n → m ≡ n
+pub suc_is : (m n : ℕ) → suc m ≡ suc n → m ≡ n
 suc_is m n e = cc
 
 -- what does not end the answers is given as it is
@@ -155,12 +155,12 @@ quiet-by m payload.Empty alone = refl
 quiet-last_item : {K P : Type 0} (m : Nlmsghdr K P) → is_answer m.payload ≡ false → Ok m ≡ last_item true false (Ok m)
 quiet-last_item m alone = sym (quiet-by m m.payload alone)
 
-item_is : {K P : Type 0} (x y : Item K P) → reply.Item x ≡ reply.Item y → x ≡ y
+pub item_is : {K P : Type 0} (x y : Item K P) → reply.Item x ≡ reply.Item y → x ≡ y
 item_is x y e = cc
 
 past-waits : {K P : Type 0} (number_of : K → ℕ) (needs : Bool) (i n : ℕ) (r : Reply K P)
     → answer number_of needs true [] i ≡ r → (r ≡ reply.Waits → 0 ≡ suc n) → ⊥
-past-waits number_of needs i n r is none = let w : 0 ≡ suc n = none (sym is ∙ waits number_of needs i) in cc
+past-waits number_of needs i n r is none = let w : 0 ≡ suc n = none (sym is ∙ waits number_of needs true i) in cc
 
 ended : {U K P : Type 0} (IsRead : U → Item K P → Type 0) (b : Bool) (r : Reply K P) → r ≡ reply.End
     → IsReplyOrEnd IsRead b None r
@@ -168,51 +168,52 @@ ended IsRead true r is = is
 ended IsRead false r is = is
 
 module _ {U K P : Type 0} (number_of : K → ℕ) (needs : Bool) (IsRead : U → Item K P → Type 0) where
-  pub quiet-turn : (u : U) (us : List U) → IsQuiet number_of needs IsRead u → InTurn number_of needs IsRead us
-      → InTurn number_of needs IsRead (u ∷ us)
-  quiet-turn u us quiet rest given r ([], are, were, is, none) =
-      absurd (past-waits number_of needs (length given) (length us) r is none)
-  quiet-turn u us quiet rest [] r (Ok m ∷ xs, are, were, is, none) =
+  pub quiet-turn : (u : U) (us later : List U) → IsQuiet number_of needs IsRead u → InTurn number_of needs IsRead us later
+      → InTurn number_of needs IsRead (u ∷ us) later
+  quiet-turn u us later quiet rest given r ([], are, were, is, none) =
+      absurd (past-waits number_of needs (length given) (length (us ++ later)) r is none)
+  quiet-turn u us later quiet rest [] r (Ok m ∷ xs, are, were, is, none) =
       let q = quiet m are.0 in
-      let here : r ≡ reply.Item (Ok m) = sym is ∙ quiet-zero number_of needs (Ok m) xs q.0 q.1 in
+      let here : r ≡ reply.Item (Ok m) = sym is ∙ quiet-zero number_of needs true (Ok m) xs q.0 q.1 in
       (Ok m, (Ok m, are.0, quiet-last_item m q.0), here)
-  quiet-turn u us quiet rest [] r (Err e ∷ xs, are, were, is, none) = (
+  quiet-turn u us later quiet rest [] r (Err e ∷ xs, are, were, is, none) = (
     Err e,
     (Err e, are.0, refl),
-    sym is ∙ over-zero number_of needs (Err e) xs
-        (alone-last number_of needs (Err e) xs refl),
+    sym is ∙ over-zero number_of needs true (Err e) xs
+        (alone-last number_of needs true (Err e) xs refl),
   )
-  quiet-turn u us quiet rest (g ∷ given) r (Ok m ∷ xs, are, were, is, none) =
+  quiet-turn u us later quiet rest (g ∷ given) r (Ok m ∷ xs, are, were, is, none) =
       let q = quiet m are.0 in
-      let same : Ok m ≡ g = item_is _ _ (sym (quiet-zero number_of needs (Ok m) xs q.0 q.1) ∙ were 0 g refl) in
+      let same : Ok m ≡ g = item_is _ _ (sym (quiet-zero number_of needs true (Ok m) xs q.0 q.1) ∙ were 0 g refl) in
       let later = rest given r (
         xs,
         are.1,
-        λ i item at. sym (quiet-suc number_of needs (Ok m) xs i q.0 q.1)
+        λ i item at. sym (quiet-suc number_of needs true (Ok m) xs i q.0 q.1)
             ∙ were (suc i) item at,
-        sym (quiet-suc number_of needs (Ok m) xs (length given) q.0 q.1) ∙ is,
+        sym (quiet-suc number_of needs true (Ok m) xs (length given) q.0 q.1) ∙ is,
         λ w. suc_is _ _ (none w),
       ) in
       subst (λ (y : Item K P). IsInTurn IsRead (u ∷ us) (y ∷ given) r) same later
-  quiet-turn u us quiet rest (g ∷ given) r (Err e ∷ xs, are, were, is, none) =
-      let over = alone-last number_of needs (Err e) xs refl in
-      let same : Err e ≡ g = item_is _ _ (sym (over-zero number_of needs (Err e) xs over) ∙ were 0 g refl) in
+  quiet-turn u us later quiet rest (g ∷ given) r (Err e ∷ xs, are, were, is, none) =
+      let over = alone-last number_of needs true (Err e) xs refl in
+      let same : Err e ≡ g = item_is _ _ (sym (over-zero number_of needs true (Err e) xs over) ∙ were 0 g refl) in
       subst (λ (y : Item K P). IsInTurn IsRead (u ∷ us) (y ∷ given) r) same (sym is
-      ∙ over-suc number_of needs (Err e) xs (length given) over)
+      ∙ over-suc number_of needs true (Err e) xs (length given) over)
 
-  pub over-turn : (u : U) → IsOver number_of needs IsRead u → InTurn number_of needs IsRead (u ∷ [])
-  over-turn u over given r ([], are, were, is, none) = absurd (past-waits number_of needs (length given) 0 r is none)
-  over-turn u over [] r (x ∷ [], are, were, is, none) =
-      let o = over x are.0 in (
+  pub over-turn : (u : U) (later : List U) → IsOver number_of needs IsRead u
+      → InTurn number_of needs IsRead (u ∷ []) later
+  over-turn u later over given r ([], are, were, is, none) =
+      absurd (past-waits number_of needs (length given) (length later) r is none)
+  over-turn u later over [] r (x ∷ xs, are, were, is, none) =
+      let o = over x xs are.0 in (
         last_item true false x,
         (x, are.0, refl),
-        sym is ∙ over-zero number_of needs x [] o.0
+        sym is ∙ over-zero number_of needs true x xs o.0
             ∙ ap (λ (y : Item K P). reply.Item y) o.1,
       )
-  over-turn u over (g ∷ given) r (x ∷ [], are, were, is, none) =
+  over-turn u later over (g ∷ given) r (x ∷ xs, are, were, is, none) =
       ended IsRead (list_any is_err (g ∷ given)) r (sym is
-      ∙ over-suc number_of needs x [] (length given) (over x are.0).0)
-  over-turn u over given r (x ∷ y ∷ more, are, were, is, none) = absurd are.1
+      ∙ over-suc number_of needs true x xs (length given) (over x xs are.0).0)
 
 -- a single reply, and what is after it, where an acknowledgement is needed
 module _ {K P : Type 0} (number_of : K → ℕ) (x : Item K P) (alone : ends_alone x ≡ false)
@@ -223,16 +224,28 @@ module _ {K P : Type 0} (number_of : K → ℕ) (x : Item K P) (alone : ends_alo
       rw (alone, single) (min_suc _ _) in
       rw (place, suc_lt (min (first_place ends_alone xs) 0)) refl
 
-  pair-waits : (i : ℕ) → answer number_of true true (x ∷ []) (suc i) ≡ reply.Waits
+  pub pair-waits : (i : ℕ) → answer number_of true true (x ∷ []) (suc i) ≡ reply.Waits
   pair-waits i = rw (alone, single) refl
 
-  pair-second : (y : Item K P) → ends_alone y ≡ true → answer number_of true true (x ∷ y ∷ []) 1
-      ≡ reply.Item (last_item true true y)
-  pair-second y last = rw (alone, single, last) refl
+  module _ (y : Item K P) (ys : List (Item K P)) where
+    pair-last-by : (b : Bool) → ends_alone y ≡ b → last_place number_of true true (x ∷ y ∷ ys) ≡ 1
+    pair-last-by true last = rw (alone, single, last) refl
+    pair-last-by false last = rw (alone, single, last) (min_suc _ _ ∙ ap (λ (n : ℕ). suc n) (zero_min _))
 
-  pair-past : (y : Item K P) (i : ℕ) → ends_alone y ≡ true
-      → answer number_of true true (x ∷ y ∷ []) (suc (suc i)) ≡ reply.End
-  pair-past y i last = rw (alone, single, last) refl
+    pair-last : last_place number_of true true (x ∷ y ∷ ys) ≡ 1
+    pair-last = pair-last-by (ends_alone y) refl
+
+    pub pair-second : answer number_of true true (x ∷ y ∷ ys) 1 ≡ reply.Item (last_item true true y)
+    pair-second = rw (pair-last, single) refl
+
+    pair-past-at : (i : ℕ) (item : Option (Item K P))
+        → answer_at number_of true true (x ∷ y ∷ ys) (suc (suc i)) item ≡ reply.End
+    pair-past-at i None = rw (pair-last, lt_suc 0 (suc (length ys)), suc_lt (length ys)) refl
+    pair-past-at i (Some item) =
+        rw (pair-last, lt_suc (suc i) 0, lt_zero (suc i), eq_suc (suc i) 0, suc_zero i) refl
+
+    pub pair-past : (i : ℕ) → answer number_of true true (x ∷ y ∷ ys) (suc (suc i)) ≡ reply.End
+    pair-past i = pair-past-at i (slice_get ys i)
 
 -- a single reply, and the acknowledgement after it
 module _ {U K P : Type 0} (number_of : K → ℕ) (IsRead : U → Item K P → Type 0) (u a : U)
@@ -240,40 +253,40 @@ module _ {U K P : Type 0} (number_of : K → ℕ) (IsRead : U → Item K P → T
     × (is_single number_of true (Ok m) ≡ true))
     (last : (y : Item K P) → IsRead a y → (ends_alone y ≡ true)
     × (last_item true true y ≡ last_item true false y)) where
-  pub pair-turn : InTurn number_of true IsRead (u ∷ a ∷ [])
-  pair-turn given r ([], are, were, is, none) = absurd (past-waits number_of true (length given) 1 r is none)
-  pair-turn [] r (Ok m ∷ xs, are, were, is, none) = (
+  pub pair-turn : (later : List U) → InTurn number_of true IsRead (u ∷ a ∷ []) later
+  pair-turn later given r ([], are, were, is, none) =
+      absurd (past-waits number_of true (length given) (length (a ∷ later)) r is none)
+  pair-turn later [] r (Ok m ∷ xs, are, were, is, none) = (
     Ok m,
     (Ok m, are.0, quiet-last_item m (single m are.0).0),
     sym is
         ∙ pair-first number_of (Ok m) (single m are.0).0 (single m are.0).1 xs,
   )
-  pair-turn [] r (Err e ∷ xs, are, were, is, none) = (
+  pair-turn later [] r (Err e ∷ xs, are, were, is, none) = (
     Err e,
     (Err e, are.0, refl),
-    sym is ∙ over-zero number_of true (Err e) xs
-        (alone-last number_of true (Err e) xs refl),
+    sym is ∙ over-zero number_of true true (Err e) xs
+        (alone-last number_of true true (Err e) xs refl),
   )
-  pair-turn (g ∷ given) r (Ok m ∷ [], are, were, is, none) =
-      absurd (zero_not_suc 0 (suc_is 0 1 (none (sym is
+  pair-turn later (g ∷ given) r (Ok m ∷ [], are, were, is, none) =
+      absurd (zero_not_suc (length later) (suc_is 0 (suc (length later)) (none (sym is
       ∙ pair-waits number_of (Ok m) (single m are.0).0 (single m are.0).1 (length given)))))
-  pair-turn (g ∷ []) r (Ok m ∷ y ∷ [], are, were, is, none) =
+  pair-turn later (g ∷ []) r (Ok m ∷ y ∷ ys, are, were, is, none) =
       let same : Ok m ≡ g = item_is _ _ (sym (pair-first number_of (Ok m) (single m are.0).0 (single m are.0).1
-      (y ∷ [])) ∙ were 0 g refl) in
+      (y ∷ ys)) ∙ were 0 g refl) in
       let here : IsInTurn IsRead (u ∷ a ∷ []) (Ok m ∷ []) r = (
         last_item true false y,
         (y, are.1.0, refl),
         sym is
-            ∙ pair-second number_of (Ok m) (single m are.0).0 (single m are.0).1 y (last y are.1.0).0
+            ∙ pair-second number_of (Ok m) (single m are.0).0 (single m are.0).1 y ys
             ∙ ap (λ (x : Item K P). reply.Item x) (last y are.1.0).1,
       ) in
       subst (λ (x : Item K P). IsInTurn IsRead (u ∷ a ∷ []) (x ∷ []) r) same here
-  pair-turn (g ∷ g' ∷ given) r (Ok m ∷ y ∷ [], are, were, is, none) =
+  pair-turn later (g ∷ g' ∷ given) r (Ok m ∷ y ∷ ys, are, were, is, none) =
       ended IsRead (list_any is_err (g ∷ g' ∷ given)) r (sym is
-      ∙ pair-past number_of (Ok m) (single m are.0).0 (single m are.0).1 y (length given) (last y are.1.0).0)
-  pair-turn (g ∷ given) r (Ok m ∷ y ∷ z ∷ more, are, were, is, none) = absurd are.1.1
-  pair-turn (g ∷ given) r (Err e ∷ xs, are, were, is, none) =
-      let over = alone-last number_of true (Err e) xs refl in
-      let same : Err e ≡ g = item_is _ _ (sym (over-zero number_of true (Err e) xs over) ∙ were 0 g refl) in
+      ∙ pair-past number_of (Ok m) (single m are.0).0 (single m are.0).1 y ys (length given))
+  pair-turn later (g ∷ given) r (Err e ∷ xs, are, were, is, none) =
+      let over = alone-last number_of true true (Err e) xs refl in
+      let same : Err e ≡ g = item_is _ _ (sym (over-zero number_of true true (Err e) xs over) ∙ were 0 g refl) in
       subst (λ (y : Item K P). IsInTurn IsRead (u ∷ a ∷ []) (y ∷ given) r) same (sym is
-      ∙ over-suc number_of true (Err e) xs (length given) over)
+      ∙ over-suc number_of true true (Err e) xs (length given) over)

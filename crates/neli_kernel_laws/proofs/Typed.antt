@@ -72,7 +72,7 @@ module _ {K P V : Type 0} (type_of : ℕ → K) (number_of : K → ℕ) (view : 
   read-ack = sym (stated-ack (stated_echo u.1) view m.payload)
       ∙ (typed-class type_of read u.1 (payload_stating (stated_echo u.1) view m.payload) is.0).1
 
-  read-flags : m.header.flags ≡ u.0.flags
+  pub read-flags : m.header.flags ≡ u.0.flags
   read-flags = ap (λ (h : Header K). h.flags) is.1
 
   read-type : u.0.message_type < 65536 → number_of m.header.message_type ≡ u.0.message_type

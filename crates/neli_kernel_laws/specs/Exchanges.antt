@@ -13,7 +13,7 @@ use Rattle.neli_runs.specs.Outcomes.{IsAnswered, outcome_of}
 use Rattle.neli_runs.specs.Regrouping.{Bytes}
 use Rattle.neli_runs.specs.Reply.{Reply}
 use Rattle.neli_kernel.specs.declared.request.Request.{Request}
-use Rattle.neli_kernel_laws.specs.Served.{Answers, handle_after, history_sent, numbered}
+use Rattle.neli_kernel_laws.specs.Served.{Answers, brought, handle_after, history_sent, numbered}
 use Rattle.neli_kernel_laws.specs.Turns.{IsInTurn, IsReadAs}
 
 -- what happened before a request was sent, the request and the bytes that it was sent as, and what happened since
@@ -31,9 +31,10 @@ datagram_with datagram [] = []
 datagram_with datagram (u ∷ us) = datagram ∷ []
 
 module _ {ST SP : Type 0} where
-  -- a datagram that is taken in, where it has a message of this number
+  -- a datagram that is taken in, where it came to no group and has a message of this number
   abbrev pub taken_with : ℕ → Command ST SP → List (List ℕ)
-  taken_with number (command.Datagram b groups) = datagram_with b.items (numbered number b.items)
+  taken_with number (command.Datagram b []) = datagram_with b.items (numbered number b.items)
+  taken_with number (command.Datagram b (g ∷ groups)) = []
   taken_with number (command.SetNextSeq n) = []
   taken_with number (command.Send t f p) = []
   taken_with number (command.Fault e) = []
@@ -41,16 +42,16 @@ module _ {ST SP : Type 0} where
   taken_with number (command.Close k) = []
 
 module _ {ST SP RT RP : Type 0} where
-  -- the datagrams that were taken in, in order, each of which has a message of this number
+  -- the datagrams that were taken in, in order, each of which came to no group and has a message of this number
   abbrev pub datagrams_with : ℕ → History ST SP RT RP → List (List ℕ)
   datagrams_with number [] = []
   datagrams_with number (e ∷ later) = datagrams_with number later ++ taken_with number e.0
 
-  -- a datagram that is taken in after this history came to no group; where it has no message of this number, it answers
-  -- other requests; and the link does not fail
+  -- a datagram that is taken in after this history and brings no message of this number has no fault, and answers other
+  -- requests where it came to no group; and the link does not fail
   abbrev pub OthersAnswer : ℕ → ℕ → History ST SP RT RP → Command ST SP → Type 0
   OthersAnswer number port h (command.Datagram b groups) =
-      (groups ≡ []) × (numbered number b.items ≡ [] → Answers port h (command.Datagram b groups))
+      brought {ST = ST} {SP = SP} number (command.Datagram b groups) ≡ [] → Answers port h (command.Datagram b groups)
   OthersAnswer number port h (command.Fault e) = ⊥
   OthersAnswer number port h (command.SetNextSeq n) = ⊤
   OthersAnswer number port h (command.Send t f p) = ⊤

@@ -17,9 +17,10 @@ abbrev pub numbered : ℕ → List ℕ → List Untyped
 numbered number datagram = filter (λ u. u.0.sequence_number == number) (cut_of untyped_layout datagram).0
 
 module _ {ST SP : Type 0} where
-  -- those of a datagram that is taken in; another command brings none
+  -- those of a datagram that is taken in and came to no group; one that came to groups, or another command, brings none
   abbrev pub brought : ℕ → Command ST SP → List Untyped
-  brought number (command.Datagram b groups) = numbered number b.items
+  brought number (command.Datagram b []) = numbered number b.items
+  brought number (command.Datagram b (g ∷ groups)) = []
   brought number (command.SetNextSeq n) = []
   brought number (command.Send t f p) = []
   brought number (command.Fault e) = []
@@ -32,12 +33,12 @@ module _ {ST SP RT RP : Type 0} where
   came number [] = []
   came number (e ∷ later) = came number later ++ brought number e.0
 
-  -- a datagram that is taken in after this history answers requests: it came to no group, has no fault, and each of its
-  -- messages has the router's port and a number that is open; and the link does not fail
+  -- a datagram that is taken in after this history has no fault, and one that came to no group answers requests: each
+  -- of its messages has the router's port and a number that is open; and the link does not fail
   abbrev pub Answers : ℕ → History ST SP RT RP → Command ST SP → Type 0
   Answers port h (command.Datagram b groups) =
-      (groups ≡ []) × ((cut_of untyped_layout b.items).1 ≡ None)
-      × All (λ u. is_reply port (λ q. is_open q h) u ≡ true) (cut_of untyped_layout b.items).0
+      ((cut_of untyped_layout b.items).1 ≡ None)
+      × (groups ≡ [] → All (λ u. is_reply port (λ q. is_open q h) u ≡ true) (cut_of untyped_layout b.items).0)
   Answers port h (command.Fault e) = ⊥
   Answers port h (command.SetNextSeq n) = ⊤
   Answers port h (command.Send t f p) = ⊤

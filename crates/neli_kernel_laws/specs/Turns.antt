@@ -38,3 +38,20 @@ module _ {U K P : Type 0} (IsRead : U → Item K P → Type 0) where
   -- them, or once an error was given, the end
   abbrev pub IsInTurn : List U → List (Item K P) → Reply K P → Type 0
   IsInTurn us given r = IsReplyOrEnd (list_any is_err given) (slice_get us (length given)) r
+
+  -- ---- the handle for multicast, of which no answer is expected
+
+  -- what it is given of a message: what is read of it, an error of the other side and an acknowledgement as errors
+  abbrev pub IsHeard : U → Item K P → Type 0
+  IsHeard u item = (x : Item K P) × IsRead u x × (item ≡ last_item false false x)
+
+  -- the reply of this message, or a wait where there is none; or the end anyway
+  abbrev pub IsHeardOrWait : Bool → Option U → Reply K P → Type 0
+  IsHeardOrWait true u r = r ≡ reply.End
+  IsHeardOrWait false None r = r ≡ reply.Waits
+  IsHeardOrWait false (Some u) r = (item : Item K P) × IsHeard u item × (r ≡ reply.Item item)
+
+  -- the reply to a read of it, where it was given these items before: the next of these messages, and past the last of
+  -- them a wait; once an error was given, the end
+  abbrev pub IsHeardInTurn : List U → List (Item K P) → Reply K P → Type 0
+  IsHeardInTurn us given r = IsHeardOrWait (list_any is_err given) (slice_get us (length given)) r

@@ -5,19 +5,23 @@
 //! came for a number in a history, and `specs/Exchanges.antt` which datagrams came for a request. That the simulator's
 //! datagrams are cut into such messages is in `neli_kernel::laws`; [`acknowledged_request_is_answered`],
 //! [`refused_request_is_answered`], [`replied_request_is_answered`] and [`dump_request_is_answered`] put both together.
+//! `specs/Notified.antt` says which datagrams came to groups, and [`notifications_are_heard`] what multicast gets.
 #![tactic(auto)]
 
 ghost use Rattle.std.specs.Prelude.{◌≡◌, ◌≢◌, ◌<◌, ◌+◌, ◌++◌, ◌∷◌, [], ℕ, ℤ, Bool, true};
-ghost use Rattle.std.specs.Prelude.{false, All, FitsSigned, List, Ok, None, flat_map, length, map, pos};
+ghost use Rattle.std.specs.Prelude.{false, All, FitsSigned, List, Ok, Err, None, Some, flat_map, length, map, pos};
+ghost use Rattle.std.specs.List.{slice_get};
 ghost use Rattle.std.specs.Int.{w32};
 ghost use Rattle.neli_consts.specs.declared.nlm_f.NlmF.{NlmF as Flags};
 ghost use Rattle.neli_reader.specs.Agreement.{untyped_layout};
 ghost use Rattle.neli_reader.specs.Answers.{Attributes, answer};
 ghost use Rattle.neli_reader.specs.Cuts.{cut_of};
+ghost use Rattle.neli_reader.specs.Framed.{Nlmsghdr as Typed};
 ghost use Rattle.neli_reader.specs.Headers.{Header};
 ghost use Rattle.neli_reader.specs.Kinds.{is_multi};
 ghost use Rattle.neli_reader.specs.NlPayload.TheVariants as payload;
 ghost use Rattle.neli_reader.specs.NlPayload.{NlPayload as Payload};
+ghost use Rattle.neli_reader.specs.RouterError.{RouterError as Refusal};
 ghost use Rattle.neli_lent.specs.Messages.{Lent};
 ghost use Rattle.neli_deliveries.specs.Deliveries.{Untyped, is_reply, message};
 ghost use Rattle.neli_deliveries.specs.Readings.{Item};
@@ -32,11 +36,13 @@ ghost use Rattle.neli_runs.specs.History.{History, is_closed, items_of, next_num
 ghost use Rattle.neli_runs.specs.Outcomes.{IsAnswered, IsNextAnswer, outcome_of};
 ghost use Rattle.neli_runs.specs.Regrouping.{Bytes};
 ghost use Rattle.neli_runs.specs.Reply.{Reply as Answer};
+ghost use Rattle.neli_runs.specs.Reply.TheVariants as reply;
 ghost use Rattle.neli_runs.specs.Rule.{needs_ack};
-ghost use Rattle.neli_kernel_laws.specs.Complete.{IsComplete, IsPart};
-ghost use Rattle.neli_kernel_laws.specs.Exchanges.{Exchange, IsServed, ReadsGive};
+ghost use Rattle.neli_kernel_laws.specs.Complete.{IsComplete, IsPart, IsWhole, is_acknowledgement};
+ghost use Rattle.neli_kernel_laws.specs.Exchanges.{Exchange, IsServed, ReadsGive, history_of, own_handle};
+ghost use Rattle.neli_kernel_laws.specs.Notified.{AreNotifications, group_datagrams, messages_cut_of};
 ghost use Rattle.neli_kernel_laws.specs.Served.{AllAnswer, came, handle_after, history_sent, numbered};
-ghost use Rattle.neli_kernel_laws.specs.Turns.{IsInTurn, IsReadAs};
+ghost use Rattle.neli_kernel_laws.specs.Turns.{IsHeardInTurn, IsInTurn, IsReadAs};
 
 use neli_consts::NlType;
 use neli_kernel::laws::{
@@ -101,9 +107,10 @@ pub fn datagrams_bring_their_own()
 {}
 
 /// Each request of a run is answered by its own messages, in whatever order the datagrams come and whatever is sent,
-/// read or closed meanwhile: where a request was sent and its handle is not closed, the link has not failed since and
-/// the datagrams taken in answer requests, and those messages of them that have its number are a whole answer, each
-/// read of its handle is answered by these, in turn, and then by the end.
+/// read or closed meanwhile: where a request was sent and its handle is not closed, the link has not failed since, no
+/// datagram has a fault, those that came to no group answer requests, and those messages of these that have its number
+/// are a whole answer, each read of its handle is answered by these, in turn, and then by the end. A datagram that came
+/// to groups changes nothing of it, whatever numbers and ports its messages have.
 pub fn requests_are_answered_in_turn<ST, SP, RT, RP>()
 where
     RT: NlType,
@@ -129,9 +136,9 @@ where
 
 /// A request is answered by the datagrams that came for it: where its handle is not closed, these datagrams were taken
 /// in since, and their messages have its number and the router's port and are a whole answer, each read of its handle
-/// is answered by these messages, in turn, and then by the end; whatever else is sent, read or closed meanwhile. The
-/// link has not failed since, each datagram came to no group, and one that has no message of this number answers other
-/// requests: it has no fault, and each of its messages has the router's port and a number that is open.
+/// is answered by these messages, in turn, and then by the end; whatever else is sent, read, closed or notified
+/// meanwhile. The link has not failed since, no datagram has a fault, and one that came to no group and has no message
+/// of this number answers other requests: each of its messages has the router's port and a number that is open.
 pub fn request_is_answered<ST, SP, RT, RP>()
 where
     RT: NlType,
@@ -143,6 +150,78 @@ where
         → IsServed x asked datagrams
         → ReadsGive RT.wire_value RT.wire_number RP.view RP.wire_length RP.read asked.port us x }
 {}
+
+/// What comes after a whole answer is not given: where the messages that came for a handle are a whole answer and others
+/// after it, each read is answered as if these had not come. So where no acknowledgement is needed, of several messages
+/// without MULTI the first is given, or of a dump those before it too, and then the end.
+pub fn messages_after_an_answer_are_not_given<ST, SP, RT, RP>()
+where
+    RT: NlType,
+    RP: FromBytesWithInput + Size,
+    ensures turn { (needs : Bool) (whole more : List Untyped) (given : List (Item RT RP))
+        (r : Answer RT RP) → IsComplete needs whole
+        → IsNextAnswer RT.wire_value RT.wire_number RP.view RP.wire_length RP.read needs true
+        (map message (whole ++ more)) given r
+        → IsInTurn (IsReadAs RT.wire_value RP.view RP.wire_length RP.read) whole given r }
+    ensures served { (x : Exchange ST SP RT RP) (asked : Asked) (datagrams : List (List ℕ))
+        (whole more : List Untyped)
+        → flat_map (λ d. (cut_of untyped_layout d).0) datagrams ≡ whole ++ more
+        → All (λ d. (cut_of untyped_layout d).1 ≡ None) datagrams
+        → All (IsFor asked.header.sequence_number asked.port) (whole ++ more)
+        → IsComplete (needs_ack x.flags) whole → IsServed x asked datagrams
+        → ReadsGive RT.wire_value RT.wire_number RP.view RP.wire_length RP.read asked.port whole x }
+{}
+
+/// A whole reply that was to be acknowledged, and is not by what comes next, as where a change that touched several
+/// objects is echoed in several messages without MULTI, is given; then an error that says so, or why what came next
+/// can't be read; and then the end.
+pub fn unacknowledged_reply_is_an_error<RT, RP>()
+where
+    RT: NlType,
+    RP: FromBytesWithInput + Size,
+    ensures error { (u next : Untyped) (more : List Untyped) (m : Typed RT RP) (r : Answer RT RP)
+        → IsWhole u → is_acknowledgement next.1 ≡ false
+        → IsNextAnswer RT.wire_value RT.wire_number RP.view RP.wire_length RP.read true true
+        (map message (u ∷ next ∷ more)) (Ok m ∷ []) r
+        → (e : Refusal RT RP) × (r ≡ reply.Item (Err e)) }
+    ensures end { (u next : Untyped) (more : List Untyped) (m : Typed RT RP)
+        (second : Item RT RP) (given : List (Item RT RP)) (r : Answer RT RP) → IsWhole u
+        → IsNextAnswer RT.wire_value RT.wire_number RP.view RP.wire_length RP.read true true
+        (map message (u ∷ next ∷ more)) (Ok m ∷ second ∷ given) r → r ≡ reply.End }
+{}
+
+/// Multicast gets every message of every datagram that came to groups, each once, in order, and nothing else, whatever
+/// is sent, answered, read or closed meanwhile and whatever faults the link has; of a datagram with a fault the messages
+/// before it. So where its handle, 0, is not closed, each read of it is answered by the next of these messages, as the
+/// caller's types, and past the last of them by a wait; an acknowledgement, an error and a message that can't be read
+/// are given as errors, and after one of these the end. Where all these datagrams are notifications of the simulator, of
+/// whatever numbers and ports, these are their messages.
+pub fn notifications_are_heard<ST, SP, RT, RP, T, P>()
+where
+    RT: NlType,
+    RP: FromBytesWithInput + Size,
+    T: NlType,
+    P: ToBytes,
+    ensures deliveries { (port : ℕ) (h : History ST SP RT RP) → is_closed 0 h ≡ false
+        → deliveries port 0 h ≡ map message (messages_cut_of (group_datagrams h)) }
+    ensures read { (port : ℕ) (h : History ST SP RT RP) (o : Outcome ST SP RT RP)
+        → is_closed 0 h ≡ false
+        → IsAnswered RT.wire_value RT.wire_number RP.view RP.wire_length RP.read port h
+        (Command.Read 0) o
+        → (r : Answer RT RP)
+        × IsHeardInTurn (IsReadAs RT.wire_value RP.view RP.wire_length RP.read)
+        (messages_cut_of (group_datagrams h)) (items_of 0 h) r × (o ≡ outcome_of r) }
+    ensures notified { (port : ℕ) (h : History ST SP RT RP) (us : List Untyped)
+        (o : Outcome ST SP RT RP) → is_closed 0 h ≡ false
+        → AreNotifications T.wire_number P.wire P.Size.wire_length (group_datagrams h) us
+        → IsAnswered RT.wire_value RT.wire_number RP.view RP.wire_length RP.read port h
+        (Command.Read 0) o
+        → (r : Answer RT RP)
+        × IsHeardInTurn (IsReadAs RT.wire_value RP.view RP.wire_length RP.read) us
+        (items_of 0 h) r × (o ≡ outcome_of r) }
+{
+    reply_is_delivered::<T, P>();
+}
 
 /// A request that needs an acknowledgement is answered by the one that the simulator makes of it: where its datagram
 /// came for the request, the reads of the request's handle are given it, once, and then the end.
@@ -234,3 +313,28 @@ where
     finished_dump_is_delivered();
     dump_is_delivered();
 }
+
+/// The marks of an answer are given: a read of a request's handle that is answered by a message, not by an error, is
+/// answered by one with the flags of the message in its place, and where that is the end of a dump, with its code. So
+/// where a message of a dump or its end has DUMP_INTR or DUMP_FILTERED, so has what is given of it; and a dump that
+/// failed ends in a message with its code.
+pub fn marks_are_given<ST, SP, RT, RP>()
+where
+    RT: NlType,
+    RP: FromBytesWithInput + Size,
+    ensures flags { (port : ℕ) (us : List Untyped) (x : Exchange ST SP RT RP) (m : Typed RT RP)
+        → ReadsGive RT.wire_value RT.wire_number RP.view RP.wire_length RP.read port us x
+        → IsAnswered RT.wire_value RT.wire_number RP.view RP.wire_length RP.read port (history_of x)
+        (Command.Read (own_handle x)) (Outcome.Item (Ok m))
+        → (u : Untyped)
+        × (slice_get us (length (items_of (own_handle x) (history_of x))) ≡ Some u)
+        × (m.header.flags ≡ u.0.flags) }
+    ensures code { (port : ℕ) (us : List Untyped) (x : Exchange ST SP RT RP) (m : Typed RT RP)
+        (h : Header ℕ) (code : ℤ) (attrs : Attributes)
+        → ReadsGive RT.wire_value RT.wire_number RP.view RP.wire_length RP.read port us x
+        → IsAnswered RT.wire_value RT.wire_number RP.view RP.wire_length RP.read port (history_of x)
+        (Command.Read (own_handle x)) (Outcome.Item (Ok m))
+        → slice_get us (length (items_of (own_handle x) (history_of x)))
+        ≡ Some (h, payload.DumpExtAck (answer code tt attrs))
+        → m.payload ≡ payload.DumpExtAck (answer code tt attrs) }
+{}
