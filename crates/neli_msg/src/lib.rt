@@ -6,6 +6,7 @@
 //! - [`Explained`]: an answer as a person reads it.
 //! - [`NlPayload`]: the payload of a message, by its kind.
 //! - [`Framed`]: a header and what it carries, which all messages are.
+//! - [`laws`]: what these say of themselves.
 //!
 //! `specs/Kinds.antt` says on one page which kind a payload is and what its bytes say.
 #![tactic(auto)]
@@ -16,6 +17,7 @@ mod explained;
 mod frame;
 mod framed;
 mod header;
+pub mod laws;
 mod message;
 mod payload;
 mod router_error;
