@@ -1,10 +1,12 @@
 //! Laws over the definitions alone: what is written of a body is read again as what is equal to it, and when two
 //! bodies are equal. The functions do nothing: their contracts are the laws.
 
-ghost use Rattle.std.specs.Prelude.{◌≡◌, List, ℕ, length};
+ghost use Rattle.std.specs.Prelude.{◌≡◌, ◌+◌, ◌<◌, List, Ok, ℕ, length};
 ghost use Rattle.neli_wire.specs.Constants.{IsEquality};
 ghost use Rattle.neli_wire.specs.Numbers.{AreBytes};
-ghost use Rattle.neli_body.specs.Attributes.{attrs_of, attrs_wire};
+ghost use Rattle.neli_wire.specs.laws.Values.{AreReadAs, AreSame, OnlyWhere};
+ghost use Rattle.neli_body.specs.Attributes.{attrs_of, attrs_size, attrs_wire};
+ghost use Rattle.neli_body.specs.Bodies.{body_of, body_takes_memory, body_wire};
 ghost use Rattle.neli_body.specs.RoundTrips.{ArePlainAttrs, ReadsBack, ReadsBackWhole};
 ghost use Rattle.neli_consts_attrs.specs.Frattr.{frattr_number, frattr_of};
 ghost use Rattle.neli_consts_attrs.specs.Ifa.{ifa_number, ifa_of};
@@ -26,6 +28,7 @@ ghost use Rattle.neli_rtnl.specs.Rtgenmsg.{IsPlainRtgenmsg, Rtgenmsg, rtgenmsg_b
 ghost use Rattle.neli_rtnl.specs.Rtmsg.{IsPlainRtmsg, Rtmsg, rtmsg_bytes, rtmsg_header};
 ghost use Rattle.neli_rtnl.specs.Tcmsg.{IsPlainTcmsg, Tcmsg, tcmsg_bytes, tcmsg_header};
 
+use crate::body::{Body, Fields};
 use crate::fibmsg::FibmsgHeader;
 use crate::ifaddrmsg::IfaddrmsgHeader;
 use crate::ifinfomsg::IfinfomsgHeader;
@@ -33,9 +36,10 @@ use crate::ndmsg::NdmsgHeader;
 use crate::rtgenmsg::RtgenmsgHeader;
 use crate::rtmsg::RtmsgHeader;
 use crate::tcmsg::TcmsgHeader;
-use neli_attr::{Buffer, RtBuffer};
+use neli_attr::{Buffer, RtBuffer, TryClone};
 use neli_body::laws::{attributes_are_read_back, body_is_read_back};
-use neli_consts_attrs::{Frattr, Ifa, Ifla, Nda, Rta, Tca};
+use neli_consts_attrs::{Frattr, Ifa, Ifla, Nda, Rta, RtaType, Tca};
+use neli_wire::{FromBytes, FromBytesWithInput, Header, Size, ToBytes};
 
 /// A route is written as bytes that are read as its fields, and as what the attributes' own
 /// bytes are read as, where each field is what its number is read as. And bytes that are read
@@ -223,3 +227,81 @@ pub fn equality_of_links()
     neli_consts_attrs::laws::equality();
     neli_consts_flags::laws::equality();
 }
+
+/// The attributes of a body begin after its fields, of which there are so many bytes.
+pub fn attributes_begin_after_the_fields()
+    ensures rtmsg { ⟦<crate::Rtmsg as Header>⟧.header ≡ 12 }
+    ensures tcmsg { ⟦<crate::Tcmsg as Header>⟧.header ≡ 20 }
+    ensures fibmsg { ⟦<crate::Fibmsg as Header>⟧.header ≡ 12 }
+    ensures rtgenmsg { ⟦<crate::Rtgenmsg as Header>⟧.header ≡ 4 }
+    ensures ifinfomsg { ⟦<crate::Ifinfomsg as Header>⟧.header ≡ 16 }
+    ensures ifaddrmsg { ⟦<crate::Ifaddrmsg as Header>⟧.header ≡ 8 }
+    ensures ndmsg { ⟦<crate::Ndmsg as Header>⟧.header ≡ 12 }
+{}
+
+/// A body is written as the bytes of its fields and those of its attributes.
+pub fn bodies_are_written()
+    ensures rtmsg { AreSame ⟦<crate::Rtmsg as ToBytes>⟧.wire
+        (λ m. body_wire (rtmsg_bytes m.header) (attrs_wire rta_number m.rtattrs)) }
+    ensures tcmsg { AreSame ⟦<crate::Tcmsg as ToBytes>⟧.wire
+        (λ m. body_wire (tcmsg_bytes m.header) (attrs_wire tca_number m.rtattrs)) }
+    ensures fibmsg { AreSame ⟦<crate::Fibmsg as ToBytes>⟧.wire
+        (λ m. body_wire (fibmsg_bytes m.header) (attrs_wire frattr_number m.rtattrs)) }
+    ensures rtgenmsg { AreSame ⟦<crate::Rtgenmsg as ToBytes>⟧.wire
+        (λ m. body_wire (rtgenmsg_bytes m.header) (attrs_wire ifa_number m.rtattrs)) }
+    ensures ifinfomsg { AreSame ⟦<crate::Ifinfomsg as ToBytes>⟧.wire
+        (λ m. body_wire (ifinfomsg_bytes m.header) (attrs_wire ifla_number m.rtattrs)) }
+    ensures ifaddrmsg { AreSame ⟦<crate::Ifaddrmsg as ToBytes>⟧.wire
+        (λ m. body_wire (ifaddrmsg_bytes m.header) (attrs_wire ifa_number m.rtattrs)) }
+    ensures ndmsg { AreSame ⟦<crate::Ndmsg as ToBytes>⟧.wire
+        (λ m. body_wire (ndmsg_bytes m.header) (attrs_wire nda_number m.rtattrs)) }
+{}
+
+/// A body is read as its fields and as what the bytes after them are read as.
+pub fn bodies_are_read()
+    ensures rtmsg { AreSame ⟦<crate::Rtmsg as FromBytesWithInput>⟧.read
+        (body_of 12 rtmsg_header (attrs_of rta_of)) }
+    ensures tcmsg { AreSame ⟦<crate::Tcmsg as FromBytesWithInput>⟧.read
+        (body_of 20 tcmsg_header (attrs_of tca_of)) }
+    ensures fibmsg { AreSame ⟦<crate::Fibmsg as FromBytesWithInput>⟧.read
+        (body_of 12 fibmsg_header (attrs_of frattr_of)) }
+    ensures rtgenmsg { AreSame ⟦<crate::Rtgenmsg as FromBytesWithInput>⟧.read
+        (body_of 4 rtgenmsg_header (attrs_of ifa_of)) }
+    ensures ifinfomsg { AreSame ⟦<crate::Ifinfomsg as FromBytesWithInput>⟧.read
+        (body_of 16 ifinfomsg_header (attrs_of ifla_of)) }
+    ensures ifaddrmsg { AreSame ⟦<crate::Ifaddrmsg as FromBytesWithInput>⟧.read
+        (body_of 8 ifaddrmsg_header (attrs_of ifa_of)) }
+    ensures ndmsg { AreSame ⟦<crate::Ndmsg as FromBytesWithInput>⟧.read
+        (body_of 12 ndmsg_header (attrs_of nda_of)) }
+{}
+
+/// A read of a body takes memory only where a byte follows its fields, and a copy only where it has attributes.
+pub fn bodies_take_memory_for_attributes<H: Fields, A: RtaType>()
+    ensures size { AreSame ⟦<Body<H, A> as Size>⟧.unpadded_length (λ m. H.width + attrs_size m.rtattrs) }
+    ensures read { OnlyWhere ⟦<Body<H, A> as FromBytesWithInput>⟧.takes_memory
+        (body_takes_memory H.width (λ s. 0 < length s)) }
+    ensures copy { OnlyWhere ⟦<Body<H, A> as TryClone>⟧.copy_takes_memory (λ m. 0 < length m.rtattrs) }
+{}
+
+/// A neighbour's cache entry, a virtual network's pair of flags and a mapping of priorities are written and read as
+/// their fields. Neither a read nor a copy takes memory.
+pub fn payloads_are_their_fields()
+    ensures nda_cacheinfo_written { AreSame ⟦<crate::NdaCacheinfo as ToBytes>⟧.wire
+        (λ v. Ok (nda_cacheinfo_bytes v)) }
+    ensures nda_cacheinfo_read { AreReadAs ⟦<crate::NdaCacheinfo as FromBytes>⟧.read
+        ⟦<crate::NdaCacheinfo as FromBytes>⟧.takes_memory 16 nda_cacheinfo_header }
+    ensures nda_cacheinfo_copy { OnlyWhere ⟦<crate::NdaCacheinfo as TryClone>⟧.copy_takes_memory
+        (λ v. ⊥) }
+    ensures ifla_vlan_flags_written { AreSame ⟦<crate::IflaVlanFlags as ToBytes>⟧.wire
+        (λ v. Ok (ifla_vlan_flags_bytes v)) }
+    ensures ifla_vlan_flags_read { AreReadAs ⟦<crate::IflaVlanFlags as FromBytes>⟧.read
+        ⟦<crate::IflaVlanFlags as FromBytes>⟧.takes_memory 2 ifla_vlan_flags_header }
+    ensures ifla_vlan_flags_copy { OnlyWhere ⟦<crate::IflaVlanFlags as TryClone>⟧.copy_takes_memory
+        (λ v. ⊥) }
+    ensures ifla_vlan_qos_mapping_written { AreSame ⟦<crate::IflaVlanQosMapping as ToBytes>⟧.wire
+        (λ v. Ok (ifla_vlan_qos_mapping_bytes v)) }
+    ensures ifla_vlan_qos_mapping_read { AreReadAs ⟦<crate::IflaVlanQosMapping as FromBytes>⟧.read
+        ⟦<crate::IflaVlanQosMapping as FromBytes>⟧.takes_memory 8 ifla_vlan_qos_mapping_header }
+    ensures ifla_vlan_qos_mapping_copy { OnlyWhere
+        ⟦<crate::IflaVlanQosMapping as TryClone>⟧.copy_takes_memory (λ v. ⊥) }
+{}
