@@ -12,7 +12,7 @@ const NOTIFICATION: &str =
 fn a_recorded_notification_is_built_again(rt: HostRuntime) {
     let want = decoded(&rt, rt.alloc(), NOTIFICATION);
     let body = decoded(&rt, rt.alloc(), "0200000008000100feffffff0800020001000000");
-    let bytes = notification(rt.alloc(), 80u16, NlmF::empty(), body).expect(&rt, "memory");
+    let bytes = notification(rt.alloc(), 80u16, NlmF::empty(), 0, 0, body).expect(&rt, "memory");
     assert_bytes(&rt, "0001", bytes.as_slice(), want.as_slice());
 }
 
