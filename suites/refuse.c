@@ -56,7 +56,7 @@ void rattle_dealloc(void *p)
 /* Runs the test with this request refused: returns in a new process, and there alone. */
 static bool starts(long number, int *status)
 {
-	pid_t run = fork(); /* what the test prints of itself is printed once, by the process that waits */
+	pid_t run = fork();
 
 	if (run == 0) {
 		left = number;
@@ -87,5 +87,7 @@ __attribute__((constructor)) static void sweep(int argc, char **argv)
 		fprintf(stderr, "failed with its request %ld refused\n", number);
 	}
 	fprintf(stderr, "refused %ld requests\n", number - 2);
-	exit(failed != 0);
+	if (failed)
+		exit(1);
+	/* the test itself: what it prints is read by whoever runs it, and what the other runs printed is not */
 }
