@@ -1,23 +1,23 @@
-#define _GNU_SOURCE
 #include "host.h"
 #include <errno.h>
+#include <limits.h>
 #include <linux/netlink.h>
 #include <stdio.h>
 #include <stdlib.h>
 #include <string.h>
-#include <sys/socket.h>
-#include <unistd.h>
 
-/* The kernel fills the datagrams of a dump up to this many bytes. */
-#define ROOM 32768u
+/* So many requests may be given up before what is there is received, so that those are forgotten that are answered. */
+#define CROWD 256
 
-/* The longest request, in bytes. */
-#define REQUEST_ROOM 2048
-
-static int32_t failed(struct host *host) {
-    host->fault = errno;
-    return NELI_LINK;
-}
+/* Messages that stand side by side and are for the same; or the end of a datagram that cannot be read. */
+struct run {
+    size_t start, end;
+    uint64_t count;
+    struct owners owners;
+    bool is_fault;
+    bool has_end; /* whether the answer of request `number` ends with the last of them */
+    uint32_t number;
+};
 
 static bool is_grown(uint8_t **bytes, size_t *room, size_t wanted) {
     if (wanted <= *room) return true;
@@ -28,123 +28,225 @@ static bool is_grown(uint8_t **bytes, size_t *room, size_t wanted) {
     return true;
 }
 
-static int bind_to(int fd, uint32_t *port) {
-    struct sockaddr_nl address = {.nl_family = AF_NETLINK};
-    socklen_t size = sizeof address;
-    if (bind(fd, (struct sockaddr *)&address, size) < 0) return -1;
-    if (getsockname(fd, (struct sockaddr *)&address, &size) < 0) return -1;
-    *port = address.nl_pid;
-    return 0;
-}
-
-static int set_options(int fd, const uint32_t *groups, size_t count) {
-    int one = 1;
-    if (setsockopt(fd, SOL_NETLINK, NETLINK_PKTINFO, &one, sizeof one) < 0) return -1;
-    /* An old kernel has no extended acknowledgements, and answers without. */
-    (void)setsockopt(fd, SOL_NETLINK, NETLINK_EXT_ACK, &one, sizeof one);
-    for (size_t i = 0; i < count; i++)
-        if (setsockopt(fd, SOL_NETLINK, NETLINK_ADD_MEMBERSHIP, &groups[i], sizeof groups[i]) < 0) return -1;
-    return 0;
+static int32_t failed(struct host *host, int fault) {
+    host->fault = fault;
+    return NELI_LINK;
 }
 
 int32_t host_open(struct host *host, int family, const uint32_t *groups, size_t count) {
-    *host = (struct host){.fd = socket(AF_NETLINK, SOCK_RAW | SOCK_CLOEXEC, family)};
-    if (host->fd < 0 || bind_to(host->fd, &host->port) < 0 || set_options(host->fd, groups, count) < 0)
-        return failed(host);
-    return neli_router_new(&host->router, host->port);
+    *host = (struct host){.ledger.is_settled = true};
+    int32_t code = link_open(&host->link, family, groups, count);
+    if (code != NELI_OK) return failed(host, host->link.fault);
+    host->ledger.port = host->link.port;
+    return neli_router_new(&host->router, host->link.port);
 }
 
 void host_close(struct host *host) {
-    if (host->fd >= 0) close(host->fd);
+    link_close(&host->link);
     neli_router_free(&host->router);
-    free(host->datagram);
+    ledger_free(&host->ledger);
+    free(host->heard.at);
+    free(host->unheard.at);
+    free(host->unasked);
+    free(host->request);
     free(host->item);
-    *host = (struct host){.fd = -1};
-}
-
-/* The group of a datagram, which the control message tells. */
-static uint32_t group_of(struct msghdr *header) {
-    for (struct cmsghdr *it = CMSG_FIRSTHDR(header); it != NULL; it = CMSG_NXTHDR(header, it)) {
-        struct nl_pktinfo info;
-        if (it->cmsg_level != SOL_NETLINK || it->cmsg_type != NETLINK_PKTINFO) continue;
-        memcpy(&info, CMSG_DATA(it), sizeof info);
-        return info.group;
-    }
-    return 0;
-}
-
-/* Receives a datagram: its length as it was sent, or -1. */
-static ssize_t receive(struct host *host, int flags, struct sockaddr_nl *from, uint32_t *group) {
-    union {
-        struct cmsghdr aligned;
-        uint8_t bytes[CMSG_SPACE(sizeof(struct nl_pktinfo))];
-    } control;
-    struct iovec slice = {host->datagram, flags & MSG_PEEK ? 0 : host->room};
-    struct msghdr header = {
-        .msg_name = from,
-        .msg_namelen = sizeof *from,
-        .msg_iov = &slice,
-        .msg_iovlen = 1,
-        .msg_control = &control,
-        .msg_controllen = sizeof control,
-    };
-    ssize_t length;
-    do
-        length = recvmsg(host->fd, &header, flags | MSG_TRUNC);
-    while (length < 0 && errno == EINTR);
-    *group = length < 0 ? 0 : group_of(&header);
-    return length;
+    *host = (struct host){.link.fd = -1, .link.stop = -1};
 }
 
 int32_t host_receive(struct host *host, size_t *length, uint32_t *group) {
-    struct sockaddr_nl from;
-    do {
-        ssize_t next = receive(host, MSG_PEEK, &from, group);
-        if (next < 0) return failed(host);
-        if (!is_grown(&host->datagram, &host->room, (size_t)next > ROOM ? (size_t)next : ROOM)) return NELI_MEMORY;
-        next = receive(host, 0, &from, group);
-        if (next < 0) return failed(host);
-        if ((size_t)next > host->room) {
-            errno = EMSGSIZE;
-            return failed(host);
-        }
-        *length = (size_t)next;
-    } while (from.nl_pid != 0);
+    int64_t end = link_end_of_wait(&host->link);
+    for (;;) {
+        int32_t code = link_receive(&host->link, length, group);
+        if (code == NELI_WAITS) code = link_wait(&host->link, end);
+        else if (code == NELI_OK) return NELI_OK;
+        if (code != NELI_OK) return code == NELI_LINK ? failed(host, host->link.fault) : code;
+    }
+}
+
+/* ---- Losses ---- */
+
+static int32_t reserve_loss(struct losses *losses) {
+    if (losses->count < losses->room) return NELI_OK;
+    size_t room = losses->room * 2 + 4;
+    struct loss *grown = realloc(losses->at, room * sizeof *grown);
+    if (grown == NULL) return NELI_MEMORY;
+    losses->at = grown;
+    losses->room = room;
     return NELI_OK;
 }
 
-int32_t host_send(struct host *host, uint16_t type, uint16_t flags, const void *body, size_t length, size_t *handle) {
-    uint8_t out[REQUEST_ROOM];
-    struct neli_sent sent;
-    int32_t code = neli_router_send(&host->router, type, flags, body, length, out, sizeof out, &sent);
-    if (code != NELI_OK) return code;
-    if (send(host->fd, out, sent.length, 0) < 0) {
-        code = failed(host);
-        neli_router_close(&host->router, sent.handle);
-        return code;
+/* Something is lost here. What is lost at one place is told once, as what came last. */
+static void note_loss(struct losses *losses, int fault) {
+    if (losses->count > 0 && losses->at[losses->count - 1].place == losses->came) losses->count--;
+    losses->at[losses->count++] = (struct loss){losses->came, fault};
+}
+
+/* Takes the loss before the next message, if there is one: its fault, or 0. */
+static int take_loss(struct losses *losses) {
+    if (losses->count == 0 || losses->at[0].place > losses->read) return 0;
+    int fault = losses->at[0].fault;
+    memmove(losses->at, losses->at + 1, --losses->count * sizeof *losses->at);
+    return fault;
+}
+
+/* ---- What comes ---- */
+
+static struct owners owners_of(const struct host *host, const struct open *open, uint32_t group) {
+    struct owners owners = {.is_group = group != 0, .is_unasked = group == 0};
+    if (open == NULL) return owners;
+    owners = (struct owners){.is_group = group != 0 && link_has_joined(&host->link, group)};
+    if (!open->is_given_up) owners.has_request = true, owners.handle = open->handle;
+    return owners;
+}
+
+static bool are_same(const struct owners *one, const struct owners *other) {
+    return one->has_request == other->has_request && one->is_group == other->is_group &&
+           one->is_unasked == other->is_unasked && one->handle == other->handle;
+}
+
+/* The messages of what is held that come next and are for the same. */
+static struct run next_run(const struct host *host) {
+    struct neli_walk walk = host->held.walk;
+    struct run run = {.start = walk.place, .end = walk.place};
+    struct neli_message message;
+    while (walk.place < walk.end && !run.has_end) {
+        if (neli_next_message(host->link.room, walk.end, &walk, &message) != NELI_ITEM) {
+            if (run.count > 0) break;
+            run.is_fault = true;
+            run.end = walk.end;
+            break;
+        }
+        const struct open *open = ledger_request(&host->ledger, &message, host->held.group);
+        struct owners owners = owners_of(host, open, host->held.group);
+        if (run.count > 0 && !are_same(&owners, &run.owners)) break;
+        run.owners = owners;
+        run.count++;
+        run.end = walk.place;
+        run.number = message.number;
+        run.has_end = open != NULL && ledger_ends(open, &message);
     }
+    return run;
+}
+
+/* Keeps what no request has asked for. */
+static int32_t keep_unasked(struct host *host, const struct run *run) {
+    struct neli_walk *walk = &host->unasked_walk;
+    size_t length = run->end - run->start, left = walk->end - walk->place;
+    if (!is_grown(&host->unasked, &host->unasked_room, walk->end + length)) return NELI_MEMORY;
+    if (walk->place > left) {
+        memcpy(host->unasked, host->unasked + walk->place, left);
+        *walk = (struct neli_walk){0, left};
+    }
+    memcpy(host->unasked + walk->end, host->link.room + run->start, length);
+    walk->end += length;
+    host->unheard.came += run->count;
+    return NELI_OK;
+}
+
+static int32_t hand_in_run(struct host *host, const struct run *run) {
+    const uint8_t *bytes = host->link.room + run->start;
+    const uint32_t *group = &host->held.group;
+    size_t length = run->end - run->start;
+    int32_t code = NELI_OK;
+    if (run->owners.has_request && !host->held.is_half) {
+        code = neli_router_datagram(&host->router, bytes, length, NULL, 0);
+        if (code != NELI_OK) return code;
+        host->held.is_half = run->owners.is_group;
+    }
+    if (run->owners.is_group || run->is_fault)
+        code = neli_router_datagram(&host->router, bytes, length, group, *group != 0);
+    if (run->owners.is_unasked && host->keeps_unasked) code = keep_unasked(host, run);
+    if (code != NELI_OK) return code;
+    if (run->owners.is_group) host->heard.came += run->count;
+    if (run->has_end) ledger_end(&host->ledger, ledger_number(&host->ledger, run->number));
+    host->held.walk.place = run->end;
+    host->held.is_half = false;
+    return NELI_OK;
+}
+
+/* Each open request is given the fault, and who reads multicast or what was not asked for, in its place. */
+static int32_t hand_in_fault(struct host *host) {
+    if (reserve_loss(&host->heard) != NELI_OK || reserve_loss(&host->unheard) != NELI_OK) return NELI_MEMORY;
+    int32_t code = neli_router_fault(&host->router, host->last_fault);
+    if (code != NELI_OK) return code;
+    note_loss(&host->heard, host->last_fault);
+    note_loss(&host->unheard, host->last_fault);
+    ledger_note_loss(&host->ledger);
+    host->held.is_fault = false;
+    return NELI_OK;
+}
+
+/* Receives what is there, and hands it in; NELI_WAITS where nothing is there. */
+static int32_t take_in(struct host *host) {
+    struct held *held = &host->held;
+    if (!held->is_datagram && !held->is_fault) {
+        *held = (struct held){0};
+        int32_t code = link_receive(&host->link, &held->walk.end, &held->group);
+        if (code == NELI_WAITS) ledger_note_quiet(&host->ledger);
+        if (code != NELI_OK && code != NELI_LINK) return code;
+        held->is_datagram = code == NELI_OK;
+        held->is_fault = code == NELI_LINK;
+        if (held->is_fault) host->last_fault = host->link.fault;
+    }
+    if (held->is_fault) return hand_in_fault(host);
+    while (held->walk.place < held->walk.end) {
+        struct run run = next_run(host);
+        int32_t code = hand_in_run(host, &run);
+        if (code != NELI_OK) return code;
+    }
+    held->is_datagram = false;
+    return NELI_OK;
+}
+
+/* Takes in what is there, until no dump runs, what was given up has its answer, and nothing is dropped any more. */
+static int32_t settle(struct host *host) {
+    int32_t code = NELI_OK;
+    while (code == NELI_OK && !host->ledger.is_settled) code = take_in(host);
+    return code == NELI_WAITS ? NELI_OK : code;
+}
+
+/* ---- Requests ---- */
+
+/* A request, in `request`. */
+static int32_t write_request(struct host *host, uint16_t type, uint16_t flags, const void *body, size_t length,
+                             struct neli_sent *sent) {
+    int32_t code = neli_router_send(&host->router, type, flags, body, length, host->request, host->request_room, sent);
+    if (code != NELI_ROOM) return code;
+    if (!is_grown(&host->request, &host->request_room, sent->length)) return NELI_MEMORY;
+    return neli_router_send(&host->router, type, flags, body, length, host->request, host->request_room, sent);
+}
+
+int32_t host_send(struct host *host, uint16_t type, uint16_t flags, const void *body, size_t length, size_t *handle) {
+    struct neli_sent sent;
+    uint32_t number;
+    int32_t code = ledger_reserve(&host->ledger);
+    bool is_dump = (flags & NLM_F_DUMP) == NLM_F_DUMP;
+    if (code == NELI_OK && (is_dump || host->ledger.is_congested || host->ledger.count > CROWD)) code = settle(host);
+    if (code == NELI_OK) code = write_request(host, type, flags, body, length, &sent);
+    if (code != NELI_OK) return code;
+    memcpy(&number, host->request + offsetof(struct nlmsghdr, nlmsg_seq), sizeof number);
+    if (ledger_number(&host->ledger, number) != NULL) {
+        neli_router_close(&host->router, sent.handle);
+        neli_router_set_number(&host->router, number);
+        return NELI_IN_USE;
+    }
+    if (link_send(&host->link, host->request, sent.length) != NELI_OK) {
+        neli_router_close(&host->router, sent.handle);
+        return failed(host, host->link.fault);
+    }
+    ledger_add(&host->ledger, number, flags, sent.handle);
     *handle = sent.handle;
     return NELI_OK;
 }
 
-/* Hands in what is held. What the router has no memory for is held on. */
-static int32_t hand_in_held(struct host *host) {
-    int32_t code = host->is_held
-        ? neli_router_datagram(&host->router, host->datagram, host->length, &host->group, host->group != 0)
-        : neli_router_fault(&host->router, host->fault);
-    if (code != NELI_MEMORY) host->is_held = host->is_fault_held = false;
-    return code;
+int32_t host_close_request(struct host *host, size_t handle) {
+    struct open *open = ledger_handle(&host->ledger, handle);
+    if (open != NULL) ledger_give_up(&host->ledger, open);
+    if (host->taken == handle) host->is_taken = false;
+    return neli_router_close(&host->router, handle);
 }
 
-/* Hands in the next datagram, or the socket's fault. */
-static int32_t hand_in(struct host *host) {
-    if (host->is_held || host->is_fault_held) return hand_in_held(host);
-    int32_t code = host_receive(host, &host->length, &host->group);
-    if (code != NELI_OK && (code != NELI_LINK || host->fault == EAGAIN)) return code;
-    if (code == NELI_OK) host->is_held = true;
-    else host->is_fault_held = host->is_untold = true;
-    return hand_in_held(host);
-}
+/* ---- What is read ---- */
 
 /* Copies the item that was read last, and finds its message. */
 static int32_t take_item(struct host *host, struct neli_message *message) {
@@ -161,23 +263,116 @@ static int32_t take_item(struct host *host, struct neli_message *message) {
     return code == NELI_ITEM ? NELI_OK : code;
 }
 
+/* The next message that no request has asked for. */
+static int32_t read_unasked(struct host *host, struct neli_message *message) {
+    struct neli_walk walk = host->unasked_walk;
+    size_t length;
+    int fault = take_loss(&host->unheard);
+    if (fault != 0) return failed(host, fault);
+    if (neli_next_message(host->unasked, walk.end, &walk, message) != NELI_ITEM) return NELI_WAITS;
+    length = walk.place - host->unasked_walk.place;
+    if (!is_grown(&host->item, &host->item_room, length)) return NELI_MEMORY;
+    memcpy(host->item, host->unasked + host->unasked_walk.place, length);
+    message->payload -= host->unasked_walk.place;
+    host->item_length = length;
+    host->unasked_walk = walk;
+    host->unheard.read++;
+    return NELI_ITEM;
+}
+
+/* What a handle is given now. */
+static int32_t read_now(struct host *host, size_t handle, struct neli_message *message) {
+    struct neli_item item;
+    bool is_again = host->is_taken && host->taken == handle;
+    int fault = handle == NELI_MULTICAST && !is_again ? take_loss(&host->heard) : 0;
+    if (handle == HOST_UNASKED) return read_unasked(host, message);
+    if (fault != 0) return failed(host, fault);
+    int32_t code = is_again ? host->taken_code : neli_router_read(&host->router, handle, &item);
+    if (code == NELI_LINK) return failed(host, host->last_fault);
+    if (code != NELI_ITEM && code != NELI_KERNEL_ERROR) return code;
+    if (handle == NELI_MULTICAST && !is_again) host->heard.read++;
+    int32_t taken = take_item(host, message);
+    host->is_taken = taken == NELI_MEMORY;
+    host->taken = handle;
+    host->taken_code = code;
+    return taken == NELI_OK ? code : taken;
+}
+
 int32_t host_next(struct host *host, size_t handle, struct neli_message *message) {
+    int64_t end = link_end_of_wait(&host->link);
     for (;;) {
-        struct neli_item item;
-        if (handle == NELI_MULTICAST && host->is_untold) {
-            host->is_untold = false;
-            return NELI_LINK;
-        }
-        int32_t code = neli_router_read(&host->router, handle, &item);
-        if (code == NELI_ITEM || code == NELI_KERNEL_ERROR) {
-            int32_t taken = take_item(host, message);
-            return taken == NELI_OK ? code : taken;
-        }
+        int32_t code = read_now(host, handle, message);
         if (code != NELI_WAITS) return code;
-        code = hand_in(host);
+        code = take_in(host);
+        if (code == NELI_WAITS) {
+            code = link_wait(&host->link, end);
+            if (code == NELI_LINK) return failed(host, host->link.fault);
+        }
         if (code != NELI_OK) return code;
     }
 }
+
+/* ---- A picture ---- */
+
+/* Drops what has come to groups, until nothing is there. */
+static int32_t drop_multicast(struct host *host) {
+    int64_t end = link_end_of_wait(&host->link);
+    int32_t code = NELI_OK;
+    while (code == NELI_OK && !link_is_over(end)) {
+        struct neli_item item;
+        int32_t read;
+        code = take_in(host);
+        do
+            read = neli_router_read(&host->router, NELI_MULTICAST, &item);
+        while (read == NELI_ITEM || read == NELI_KERNEL_ERROR);
+        host->heard.read = host->heard.came;
+        host->heard.count = 0;
+    }
+    if (code == NELI_OK) return failed(host, EAGAIN);
+    return code == NELI_WAITS ? NELI_OK : code;
+}
+
+/* The code of the kernel's answer that is in the item, or 0. */
+static int32_t answer_of(const struct host *host, const struct neli_message *message) {
+    struct neli_answer answer;
+    return neli_get_answer(host->item, host->item_length, message, &answer) == NELI_OK ? answer.code : 0;
+}
+
+/* Takes in a dump. `is_passing` says whether it can be repeated where it was not whole. */
+static int32_t take_dump(struct host *host, uint16_t type, const void *body, size_t length, bool *is_passing,
+                         void (*take)(const struct host *, const struct neli_message *, void *), void *picture) {
+    struct neli_message message;
+    size_t handle;
+    int32_t code = host_send(host, type, NLM_F_DUMP, body, length, &handle), answer = 0;
+    bool is_marked = false;
+    if (code != NELI_OK) return code;
+    take(host, NULL, picture);
+    while (!is_marked && answer == 0 && (code = host_next(host, handle, &message)) == NELI_ITEM) {
+        is_marked = (message.flags & NLM_F_DUMP_INTR) != 0;
+        if (message.type == NLMSG_DONE) answer = answer_of(host, &message);
+        else take(host, &message, picture);
+    }
+    if (code == NELI_KERNEL_ERROR) answer = answer_of(host, &message);
+    bool is_loss = code == NELI_LINK && host->fault != EAGAIN && host->fault != EINTR && host->fault != ECANCELED;
+    *is_passing = is_marked || is_loss || answer == -EBUSY || answer == -ENOBUFS;
+    host_close_request(host, handle);
+    return answer != 0 ? NELI_KERNEL_ERROR : is_marked ? NELI_WAITS : code;
+}
+
+int32_t host_resync(struct host *host, uint16_t type, const void *body, size_t length, int times,
+                    void (*take)(const struct host *host, const struct neli_message *message, void *picture),
+                    void *picture) {
+    int32_t code = NELI_WAITS;
+    bool is_passing = true;
+    for (int i = 0; i < times && is_passing; i++) {
+        is_passing = false;
+        code = drop_multicast(host);
+        if (code == NELI_OK) code = take_dump(host, type, body, length, &is_passing, take, picture);
+    }
+    return code;
+}
+
+/* ---- The item ---- */
 
 bool host_find(const struct host *host, const struct neli_walk *walk, uint16_t number, struct neli_attribute *found) {
     return neli_find_attribute(host->item, host->item_length, walk, number, found) == NELI_ITEM;
@@ -205,7 +400,8 @@ void host_explain(const struct host *host, int32_t code, const struct neli_messa
     struct neli_answer answer;
     bool is_answer = code == NELI_KERNEL_ERROR;
     if (is_answer && neli_get_answer(host->item, host->item_length, message, &answer) == NELI_OK) {
-        snprintf(text, room, "%s", strerror(-answer.code));
+        if (answer.code > -INT_MAX && answer.code < 0) snprintf(text, room, "%s", strerror(-answer.code));
+        else snprintf(text, room, "error %d", answer.code);
         append_words(host, &answer, text, room);
     } else if (code == NELI_LINK) {
         snprintf(text, room, "%s", strerror(host->fault));

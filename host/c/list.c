@@ -49,7 +49,7 @@ static void dump(struct host *host, uint16_t type, const void *body, size_t size
     while ((code = host_next(host, handle, &message)) == NELI_ITEM)
         if (message.type != NLMSG_DONE) print(host, &message);
     if (code != NELI_END) fail(host, "list", code, &message);
-    neli_router_close(&host->router, handle);
+    host_close_request(host, handle);
 }
 
 int main(void) {

@@ -49,7 +49,7 @@ static int index_of(struct host *host, const char *name) {
     if (code == NELI_OK) code = host_next(host, handle, &message);
     if (code != NELI_ITEM || message.payload_length < sizeof link) fail(host, "make", code, &message);
     memcpy(&link, host->item + message.payload, sizeof link);
-    neli_router_close(&host->router, handle);
+    host_close_request(host, handle);
     return link.ifi_index;
 }
 

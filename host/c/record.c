@@ -25,7 +25,7 @@ int main(int argc, char **argv) {
         uint32_t group;
         int32_t code = host_receive(&host, &length, &group);
         if (code != NELI_OK) fail(&host, "record", code, NULL);
-        if (fwrite(host.datagram, 1, length, file) != length) break;
+        if (fwrite(host.link.room, 1, length, file) != length) break;
     }
     host_close(&host);
     bool is_written = ferror(file) == 0;

@@ -78,6 +78,6 @@ int32_t ask(struct host *host, uint16_t type, uint16_t flags, const struct body 
     do
         code = host_next(host, handle, message);
     while (code == NELI_ITEM);
-    neli_router_close(&host->router, handle);
+    host_close_request(host, handle);
     return code;
 }

@@ -1,57 +1,12 @@
-/* The C library against the kernel of this machine. `test NAME` runs one test, which makes and changes links: it wants
- * to be told by NELI_OWN_NAMESPACE that it has a network namespace of its own, as `host/test` gives it. `test` alone
- * prints the names. */
-#define _GNU_SOURCE
-#include "request.h"
+/* The C library against the kernel of this machine. */
+#include "testing.h"
 #include <errno.h>
-#include <linux/if_link.h>
 #include <linux/rtnetlink.h>
-#include <stdio.h>
-#include <stdlib.h>
 #include <string.h>
 #include <sys/socket.h>
-#include <sys/time.h>
 
 /* So many pairs of links are listed in several datagrams. */
 #define MANY 60
-
-#define WANT(claim) want(claim, #claim, __LINE__)
-
-static void want(bool holds, const char *claim, int line) {
-    if (holds) return;
-    printf("line %d: not so: %s\n", line, claim);
-    exit(1);
-}
-
-static const uint32_t link_group = RTNLGRP_LINK;
-
-/* A host of routing, in the group of links or in none. */
-static struct host route_host(bool listens) {
-    struct host host;
-    open_or_fail(&host, NETLINK_ROUTE, &link_group, listens ? 1 : 0);
-    return host;
-}
-
-static void done(struct host *host, uint16_t type, uint16_t flags, struct body body) {
-    struct neli_message message;
-    WANT(ask(host, type, flags, &body, &message) == NELI_END);
-}
-
-static void make_pairs(struct host *host, int count) {
-    for (int i = 0; i < count; i++) {
-        char name[16], peer[16];
-        snprintf(name, sizeof name, "pair%d", i);
-        snprintf(peer, sizeof peer, "peer%d", i);
-        done(host, RTM_NEWLINK, NLM_F_CREATE | NLM_F_EXCL, pair(name, peer));
-    }
-}
-
-static size_t send_dump(struct host *host) {
-    struct ifinfomsg all = {0};
-    size_t handle = 0;
-    WANT(host_send(host, RTM_GETLINK, NLM_F_DUMP, &all, sizeof all, &handle) == NELI_OK);
-    return handle;
-}
 
 /* What one call gives of a message's attributes is what single calls give. */
 static void want_same_attributes(const uint8_t *bytes, size_t length, const struct neli_message *message) {
@@ -88,47 +43,6 @@ static void want_same_messages(const uint8_t *bytes, size_t length) {
     WANT(code == NELI_END && neli_next_message(bytes, length, &single, &message) == NELI_END);
 }
 
-/* How many links are left of a dump, which is read to its end. */
-static int count_links(struct host *host, size_t dump) {
-    struct neli_message message;
-    int32_t code;
-    int count = 0;
-    while ((code = host_next(host, dump, &message)) == NELI_ITEM) count += message.type == RTM_NEWLINK;
-    WANT(code == NELI_END);
-    WANT(neli_router_close(&host->router, dump) == NELI_OK);
-    return count;
-}
-
-static size_t send_question(struct host *host, int index) {
-    struct ifinfomsg link = {.ifi_index = index};
-    size_t handle = 0;
-    WANT(host_send(host, RTM_GETLINK, NLM_F_ACK, &link, sizeof link, &handle) == NELI_OK);
-    return handle;
-}
-
-/* The loopback link comes, and then the acknowledgement. */
-static void want_loopback(struct host *host, size_t handle) {
-    struct neli_message message;
-    struct neli_walk walk;
-    struct neli_attribute name;
-    WANT(host_next(host, handle, &message) == NELI_ITEM && message.type == RTM_NEWLINK);
-    WANT(neli_attributes_of(&message, sizeof(struct ifinfomsg), &walk) == NELI_OK);
-    WANT(host_find(host, &walk, IFLA_IFNAME, &name) && strcmp(host_text(host, &name), "lo") == 0);
-    WANT(host_next(host, handle, &message) == NELI_ITEM && message.type == NLMSG_ERROR);
-    WANT(host_next(host, handle, &message) == NELI_END);
-    WANT(neli_router_close(&host->router, handle) == NELI_OK);
-}
-
-/* A wait for a datagram ends after a fifth of a second, as EAGAIN. */
-static void set_short_wait(struct host *host) {
-    struct timeval wait = {.tv_usec = 200000};
-    WANT(setsockopt(host->fd, SOL_SOCKET, SO_RCVTIMEO, &wait, sizeof wait) == 0);
-}
-
-static void set_buffer(struct host *host, int size) {
-    WANT(setsockopt(host->fd, SOL_SOCKET, SO_RCVBUF, &size, sizeof size) == 0);
-}
-
 static void a_dump_of_many_datagrams(void) {
     struct host host = route_host(false);
     struct ifinfomsg all = {0};
@@ -138,7 +52,7 @@ static void a_dump_of_many_datagrams(void) {
     bool is_done = false;
     make_pairs(&host, MANY);
     WANT(neli_router_send(&host.router, RTM_GETLINK, NLM_F_DUMP, &all, sizeof all, out, sizeof out, &sent) == NELI_OK);
-    WANT(send(host.fd, out, sent.length, 0) == (ssize_t)sent.length);
+    WANT(send(host.link.fd, out, sent.length, 0) == (ssize_t)sent.length);
     while (!is_done) {
         struct neli_message message;
         struct neli_walk walk = {0};
@@ -146,13 +60,13 @@ static void a_dump_of_many_datagrams(void) {
         int32_t code;
         WANT(host_receive(&host, &walk.end, &group) == NELI_OK && group == 0);
         size_t length = walk.end;
-        want_same_messages(host.datagram, length);
-        while ((code = neli_next_message(host.datagram, length, &walk, &message)) == NELI_ITEM) {
+        want_same_messages(host.link.room, length);
+        while ((code = neli_next_message(host.link.room, length, &walk, &message)) == NELI_ITEM) {
             links += message.type == RTM_NEWLINK;
             is_done |= message.type == NLMSG_DONE;
         }
         WANT(code == NELI_END);
-        WANT(neli_router_datagram(&host.router, host.datagram, length, NULL, 0) == NELI_OK);
+        WANT(neli_router_datagram(&host.router, host.link.room, length, NULL, 0) == NELI_OK);
         datagrams++;
     }
     WANT(datagrams > 2 && links == 2 * MANY + 1);
@@ -226,7 +140,7 @@ static void a_buffer_that_ran_over(void) {
     /* The request that was under way is told, or was answered before. */
     while ((code = host_next(&host, waiting, &message)) == NELI_ITEM) continue;
     WANT(code == NELI_END || (code == NELI_LINK && host.fault == ENOBUFS));
-    WANT(neli_router_close(&host.router, waiting) == NELI_OK);
+    WANT(host_close_request(&host, waiting) == NELI_OK);
     set_short_wait(&host);
     while ((code = host_next(&host, NELI_MULTICAST, &message)) == NELI_ITEM ||
            (code == NELI_LINK && host.fault == ENOBUFS))
@@ -244,17 +158,17 @@ static void another_sender_is_passed_over(void) {
     struct host other = route_host(false), host = route_host(true);
     struct neli_message message;
     struct ifinfomsg up = {.ifi_index = 1, .ifi_flags = 1, .ifi_change = 1};
-    struct sockaddr_nl to = {.nl_family = AF_NETLINK, .nl_pid = host.port};
+    struct sockaddr_nl to = {.nl_family = AF_NETLINK, .nl_pid = host.link.port};
     struct neli_writer writer = {0};
     uint8_t forged[64];
     size_t open;
     set_short_wait(&host);
     /* A request without ACK, which is not answered, so that its number stays open. */
     WANT(host_send(&host, RTM_SETLINK, 0, &up, sizeof up, &open) == NELI_OK);
-    WANT(neli_begin_message(forged, sizeof forged, &writer, RTM_NEWLINK, 0, 0, host.port) == NELI_OK);
+    WANT(neli_begin_message(forged, sizeof forged, &writer, RTM_NEWLINK, 0, 0, host.link.port) == NELI_OK);
     WANT(neli_put_bytes(forged, sizeof forged, &writer, &up, sizeof up) == NELI_OK);
     WANT(neli_end_message(forged, sizeof forged, &writer) == NELI_OK);
-    WANT(sendto(other.fd, forged, writer.end, 0, (struct sockaddr *)&to, sizeof to) == (ssize_t)writer.end);
+    WANT(sendto(other.link.fd, forged, writer.end, 0, (struct sockaddr *)&to, sizeof to) == (ssize_t)writer.end);
     WANT(host_next(&host, open, &message) == NELI_LINK && host.fault == EAGAIN);
     WANT(host_next(&host, NELI_MULTICAST, &message) == NELI_ITEM && message.type == RTM_NEWLINK);
     host_close(&other);
@@ -282,10 +196,7 @@ static void nothing_that_is_wrong_crosses(void) {
     WANT(neli_router_free(&router) == NELI_OK && neli_router_read(&router, 0, &item) == NELI_STATE);
 }
 
-static const struct {
-    const char *name;
-    void (*run)(void);
-} tests[] = {
+static const struct test tests[] = {
     {"a_dump_of_many_datagrams", a_dump_of_many_datagrams},
     {"two_requests_in_the_other_order", two_requests_in_the_other_order},
     {"a_refusal_with_text_and_offset", a_refusal_with_text_and_offset},
@@ -296,10 +207,5 @@ static const struct {
 };
 
 int main(int argc, char **argv) {
-    if (argc > 1 && getenv("NELI_OWN_NAMESPACE") == NULL) return 2;
-    for (size_t i = 0; i < sizeof tests / sizeof *tests; i++) {
-        if (argc < 2) puts(tests[i].name);
-        else if (strcmp(argv[1], tests[i].name) == 0) return tests[i].run(), 0;
-    }
-    return argc < 2 ? 0 : 2;
+    return run_tests(argc, argv, tests, sizeof tests / sizeof *tests);
 }

@@ -1,0 +1,61 @@
+/* The requests of a router whose answers may still come, and whom a message is for. `host.c` stands on it. */
+#ifndef LEDGER_H
+#define LEDGER_H
+
+#include "neli.h"
+
+/* A request that the kernel may still answer, or whose handle is open. */
+struct open {
+    uint32_t number;
+    uint16_t flags;
+    bool is_given_up; /* whether nobody reads its answer any more; its handle is closed then */
+    bool is_ended;    /* whether the kernel has sent the last message of its answer */
+    size_t handle;
+};
+
+struct ledger {
+    uint32_t port;
+    struct open *open;
+    size_t count, room;
+    bool is_settled;   /* whether no dump runs, and the kernel may answer nothing that was given up */
+    bool is_congested; /* whether something was lost, and the socket was not seen empty since */
+};
+
+/* Whom a message is for. Nobody, where its request was given up. */
+struct owners {
+    bool has_request, is_group, is_unasked;
+    size_t handle;
+};
+
+void ledger_free(struct ledger *ledger);
+
+/* Has room for one more request, or answers NELI_MEMORY. */
+int32_t ledger_reserve(struct ledger *ledger);
+
+/* A request was sent, for which there is room. */
+void ledger_add(struct ledger *ledger, uint32_t number, uint16_t flags, size_t handle);
+
+/* The request with this number, or that with this open handle; NULL where there is none. */
+struct open *ledger_number(const struct ledger *ledger, uint32_t number);
+struct open *ledger_handle(const struct ledger *ledger, size_t handle);
+
+/* Nobody reads this request any more. Its number stays until its answer has ended. */
+void ledger_give_up(struct ledger *ledger, struct open *open);
+
+/* Its answer has ended, or it was not sent. */
+void ledger_end(struct ledger *ledger, struct open *open);
+
+/* Something was lost. From then on the kernel drops all that is for the socket, replies too, until it is empty. */
+void ledger_note_loss(struct ledger *ledger);
+
+/* Nothing is left in the socket. The kernel answers while a request is sent, and goes on with a dump whenever the socket
+ * is received from; so no dump runs, and what was given up is answered, or will never be. */
+void ledger_note_quiet(struct ledger *ledger);
+
+/* The request whose answer a message that came to a group, or to none, which is 0, is part of; NULL where it is none. */
+struct open *ledger_request(const struct ledger *ledger, const struct neli_message *message, uint32_t group);
+
+/* Whether a message is the last one of its request's answer. */
+bool ledger_ends(const struct open *open, const struct neli_message *message);
+
+#endif

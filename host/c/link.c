@@ -1,0 +1,189 @@
+#define _GNU_SOURCE
+#include "link.h"
+#include <errno.h>
+#include <linux/netlink.h>
+#include <poll.h>
+#include <stdlib.h>
+#include <string.h>
+#include <sys/eventfd.h>
+#include <sys/socket.h>
+#include <time.h>
+#include <unistd.h>
+
+/* The room that a datagram is received into. The kernel fills a dump's up to 32 KiB, and a message of its own may be
+ * longer. Of what is not used there is no memory. */
+#define ROOM (1u << 20)
+
+/* The room for a padding. */
+#define PADDING 3
+
+static int32_t failed(struct link *link) {
+    link->fault = errno;
+    return NELI_LINK;
+}
+
+static int bind_to(int fd, uint32_t *port) {
+    struct sockaddr_nl address = {.nl_family = AF_NETLINK};
+    socklen_t size = sizeof address;
+    if (bind(fd, (struct sockaddr *)&address, size) < 0) return -1;
+    if (getsockname(fd, (struct sockaddr *)&address, &size) < 0) return -1;
+    *port = address.nl_pid;
+    return 0;
+}
+
+static int set_options(int fd, const uint32_t *groups, size_t count) {
+    int one = 1;
+    if (setsockopt(fd, SOL_NETLINK, NETLINK_PKTINFO, &one, sizeof one) < 0) return -1;
+    /* An old kernel has no extended acknowledgements, and answers without. */
+    (void)setsockopt(fd, SOL_NETLINK, NETLINK_EXT_ACK, &one, sizeof one);
+    for (size_t i = 0; i < count; i++)
+        if (setsockopt(fd, SOL_NETLINK, NETLINK_ADD_MEMBERSHIP, &groups[i], sizeof groups[i]) < 0) return -1;
+    return 0;
+}
+
+int32_t link_open(struct link *link, int family, const uint32_t *groups, size_t count) {
+    *link = (struct link){.fd = socket(AF_NETLINK, SOCK_RAW | SOCK_CLOEXEC, family), .stop = -1, .wait = -1};
+    if (link->fd < 0 || bind_to(link->fd, &link->port) < 0 || set_options(link->fd, groups, count) < 0)
+        return failed(link);
+    link->stop = eventfd(0, EFD_CLOEXEC | EFD_NONBLOCK);
+    return link->stop < 0 ? failed(link) : NELI_OK;
+}
+
+void link_close(struct link *link) {
+    if (link->fd >= 0) close(link->fd);
+    if (link->stop >= 0) close(link->stop);
+    free(link->room);
+    *link = (struct link){.fd = -1, .stop = -1};
+}
+
+int32_t link_send(struct link *link, const uint8_t *bytes, size_t length) {
+    ssize_t sent;
+    do
+        sent = send(link->fd, bytes, length, 0);
+    while (sent < 0 && errno == EINTR);
+    return sent < 0 ? failed(link) : NELI_OK;
+}
+
+/* The group of a datagram, which the control message tells. */
+static uint32_t group_of(struct msghdr *header) {
+    for (struct cmsghdr *it = CMSG_FIRSTHDR(header); it != NULL; it = CMSG_NXTHDR(header, it)) {
+        struct nl_pktinfo info;
+        if (it->cmsg_level != SOL_NETLINK || it->cmsg_type != NETLINK_PKTINFO) continue;
+        memcpy(&info, CMSG_DATA(it), sizeof info);
+        return info.group;
+    }
+    return 0;
+}
+
+/* Receives what is there: its length as it was sent, or -1. */
+static ssize_t receive(const struct link *link, struct sockaddr_nl *from, uint32_t *group) {
+    union {
+        struct cmsghdr aligned;
+        uint8_t bytes[CMSG_SPACE(sizeof(struct nl_pktinfo))];
+    } control;
+    struct iovec slice = {link->room, link->size - PADDING};
+    struct msghdr header = {
+        .msg_name = from,
+        .msg_namelen = sizeof *from,
+        .msg_iov = &slice,
+        .msg_iovlen = 1,
+        .msg_control = &control,
+        .msg_controllen = sizeof control,
+    };
+    ssize_t length;
+    do
+        length = recvmsg(link->fd, &header, MSG_TRUNC | MSG_DONTWAIT);
+    while (length < 0 && errno == EINTR);
+    *group = length < 0 ? 0 : group_of(&header);
+    return length;
+}
+
+static bool has_room(struct link *link, size_t size) {
+    uint8_t *room = malloc(size);
+    if (room == NULL) return false;
+    free(link->room);
+    link->room = room;
+    link->size = size;
+    return true;
+}
+
+/* The length of a datagram with the last padding, where a message is whole but for that. */
+static size_t completed(const struct link *link, size_t length) {
+    struct neli_walk walk = {0, length};
+    struct neli_message message;
+    uint32_t stated;
+    size_t end = (length + PADDING) & ~(size_t)PADDING;
+    if (end == length) return length;
+    while (neli_next_message(link->room, length, &walk, &message) == NELI_ITEM) continue;
+    if (length - walk.place < sizeof(struct nlmsghdr)) return length;
+    memcpy(&stated, link->room + walk.place, sizeof stated);
+    if (stated < sizeof(struct nlmsghdr) || stated > length - walk.place || stated + PADDING < end - walk.place)
+        return length;
+    memset(link->room + length, 0, end - length);
+    return end;
+}
+
+int32_t link_receive(struct link *link, size_t *length, uint32_t *group) {
+    struct sockaddr_nl from;
+    if (link->room == NULL && !has_room(link, ROOM + PADDING)) return NELI_MEMORY;
+    do {
+        from = (struct sockaddr_nl){0};
+        ssize_t received = receive(link, &from, group);
+        if (received < 0) return errno == EAGAIN ? NELI_WAITS : failed(link);
+        *length = (size_t)received;
+    } while (from.nl_pid != 0);
+    if (*length > link->size - PADDING) {
+        (void)has_room(link, *length + PADDING);
+        errno = EMSGSIZE;
+        return failed(link);
+    }
+    *length = completed(link, *length);
+    return NELI_OK;
+}
+
+static int64_t milliseconds(void) {
+    struct timespec time;
+    clock_gettime(CLOCK_MONOTONIC, &time);
+    return (int64_t)time.tv_sec * 1000 + time.tv_nsec / 1000000;
+}
+
+int64_t link_end_of_wait(const struct link *link) {
+    return link->wait < 0 ? -1 : milliseconds() + link->wait;
+}
+
+bool link_is_over(int64_t end) {
+    return end >= 0 && milliseconds() >= end;
+}
+
+/* How many milliseconds are left, for `poll`. */
+static int left_until(int64_t end) {
+    if (end < 0) return -1;
+    int64_t left = end - milliseconds();
+    return left < 0 ? 0 : (int)left;
+}
+
+int32_t link_wait(struct link *link, int64_t end) {
+    struct pollfd both[] = {{.fd = link->fd, .events = POLLIN}, {.fd = link->stop, .events = POLLIN}};
+    for (;;) {
+        int left = left_until(end), found = poll(both, 2, left);
+        if (found < 0 && (errno != EINTR || link->ends_by_signals)) return failed(link);
+        if (found > 0 && both[1].revents == 0) return NELI_OK;
+        if (found < 0 || (found == 0 && left != 0)) continue;
+        errno = found == 0 ? EAGAIN : ECANCELED;
+        return failed(link);
+    }
+}
+
+void link_stop(const struct link *link) {
+    uint64_t one = 1;
+    int before = errno;
+    if (write(link->stop, &one, sizeof one) < 0) errno = before;
+}
+
+bool link_has_joined(const struct link *link, uint32_t group) {
+    uint32_t words[64] = {0};
+    socklen_t size = sizeof words;
+    if (group == 0 || group > 32 * 64) return false;
+    if (getsockopt(link->fd, SOL_NETLINK, NETLINK_LIST_MEMBERSHIPS, words, &size) < 0) return false;
+    return words[(group - 1) / 32] >> (group - 1) % 32 & 1;
+}

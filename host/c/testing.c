@@ -1,0 +1,97 @@
+#include "testing.h"
+#include <errno.h>
+#include <linux/if_link.h>
+#include <linux/rtnetlink.h>
+#include <stdio.h>
+#include <stdlib.h>
+#include <string.h>
+#include <sys/socket.h>
+
+static const uint32_t link_group = RTNLGRP_LINK;
+
+void want(bool holds, const char *claim, const char *file, int line) {
+    if (holds) return;
+    printf("%s, line %d: not so: %s\n", file, line, claim);
+    exit(1);
+}
+
+int run_tests(int argc, char **argv, const struct test *tests, size_t count) {
+    if (argc > 1 && getenv("NELI_OWN_NAMESPACE") == NULL) return 2;
+    for (size_t i = 0; i < count; i++) {
+        if (argc < 2) puts(tests[i].name);
+        else if (strcmp(argv[1], tests[i].name) == 0) return tests[i].run(), 0;
+    }
+    return argc < 2 ? 0 : 2;
+}
+
+struct host route_host(bool listens) {
+    struct host host;
+    open_or_fail(&host, NETLINK_ROUTE, &link_group, listens ? 1 : 0);
+    return host;
+}
+
+void done(struct host *host, uint16_t type, uint16_t flags, struct body body) {
+    struct neli_message message;
+    WANT(ask(host, type, flags, &body, &message) == NELI_END);
+}
+
+void make_pairs(struct host *host, int count) {
+    for (int i = 0; i < count; i++) {
+        char name[16], peer[16];
+        snprintf(name, sizeof name, "pair%d", i);
+        snprintf(peer, sizeof peer, "peer%d", i);
+        done(host, RTM_NEWLINK, NLM_F_CREATE | NLM_F_EXCL, pair(name, peer));
+    }
+}
+
+void set_loopback(struct host *host, bool is_up) {
+    done(host, RTM_SETLINK, 0, link_body(1, is_up));
+}
+
+size_t send_dump(struct host *host) {
+    struct ifinfomsg all = {0};
+    size_t handle = 0;
+    WANT(host_send(host, RTM_GETLINK, NLM_F_DUMP, &all, sizeof all, &handle) == NELI_OK);
+    return handle;
+}
+
+size_t send_question(struct host *host, int index) {
+    struct ifinfomsg link = {.ifi_index = index};
+    size_t handle = 0;
+    WANT(host_send(host, RTM_GETLINK, NLM_F_ACK, &link, sizeof link, &handle) == NELI_OK);
+    return handle;
+}
+
+int count_links(struct host *host, size_t dump) {
+    struct neli_message message;
+    int32_t code;
+    int count = 0;
+    while ((code = host_next(host, dump, &message)) == NELI_ITEM) count += message.type == RTM_NEWLINK;
+    WANT(code == NELI_END);
+    WANT(host_close_request(host, dump) == NELI_OK);
+    return count;
+}
+
+void want_loopback(struct host *host, size_t handle) {
+    struct neli_message message;
+    struct neli_walk walk;
+    struct neli_attribute name;
+    WANT(host_next(host, handle, &message) == NELI_ITEM && message.type == RTM_NEWLINK);
+    WANT(neli_attributes_of(&message, sizeof(struct ifinfomsg), &walk) == NELI_OK);
+    WANT(host_find(host, &walk, IFLA_IFNAME, &name) && strcmp(host_text(host, &name), "lo") == 0);
+    WANT(host_next(host, handle, &message) == NELI_ITEM && message.type == NLMSG_ERROR);
+    WANT(host_next(host, handle, &message) == NELI_END);
+    WANT(host_close_request(host, handle) == NELI_OK);
+}
+
+void set_short_wait(struct host *host) {
+    host->link.wait = 200;
+}
+
+void set_buffer(struct host *host, int size) {
+    WANT(setsockopt(host->link.fd, SOL_SOCKET, SO_RCVBUF, &size, sizeof size) == 0);
+}
+
+bool is_over(const struct host *host, int32_t code, int fault) {
+    return code == NELI_LINK && host->fault == fault;
+}

@@ -1,0 +1,51 @@
+/* What the tests in C share. A claim that does not hold ends the program with status 1. */
+#ifndef TESTING_H
+#define TESTING_H
+
+#include "request.h"
+
+#define WANT(claim) want(claim, #claim, __FILE__, __LINE__)
+
+void want(bool holds, const char *claim, const char *file, int line);
+
+struct test {
+    const char *name;
+    void (*run)(void);
+};
+
+/* `test NAME` runs one test, which makes and changes links: it wants to be told by NELI_OWN_NAMESPACE that it has a
+ * network namespace of its own, as `host/test` gives it. `test` alone prints the names. The status of the program. */
+int run_tests(int argc, char **argv, const struct test *tests, size_t count);
+
+/* A host of routing, in the group of links or in none. */
+struct host route_host(bool listens);
+
+/* Has something done. */
+void done(struct host *host, uint16_t type, uint16_t flags, struct body body);
+
+/* Makes pairs of links. */
+void make_pairs(struct host *host, int count);
+
+/* Sets the loopback link up or down. */
+void set_loopback(struct host *host, bool is_up);
+
+/* Asks for all links, or for one. */
+size_t send_dump(struct host *host);
+size_t send_question(struct host *host, int index);
+
+/* How many links are left of a dump, which is read to its end and closed. */
+int count_links(struct host *host, size_t dump);
+
+/* The loopback link comes, and then the acknowledgement; the handle is closed. */
+void want_loopback(struct host *host, size_t handle);
+
+/* A wait ends after a fifth of a second, as EAGAIN. */
+void set_short_wait(struct host *host);
+
+/* Sets the size of the socket's buffer, which the kernel doubles. */
+void set_buffer(struct host *host, int size);
+
+/* Whether a code says that a wait is over, with this number. */
+bool is_over(const struct host *host, int32_t code, int fault);
+
+#endif

@@ -1,0 +1,462 @@
+/* The layer over the socket under trouble: what is closed early, lost, echoed, never answered or not asked for. */
+#define _GNU_SOURCE
+#include "testing.h"
+#include <errno.h>
+#include <limits.h>
+#include <linux/if_addr.h>
+#include <linux/if_link.h>
+#include <linux/rtnetlink.h>
+#include <malloc.h>
+#include <signal.h>
+#include <stdio.h>
+#include <stdlib.h>
+#include <string.h>
+#include <sys/socket.h>
+#include <sys/time.h>
+#include <sys/wait.h>
+#include <time.h>
+#include <unistd.h>
+
+/* A request that is never answered: a change without ACK. */
+static size_t send_unanswered(struct host *host) {
+    struct body body = link_body(1, true);
+    size_t handle = 0;
+    WANT(host_send(host, RTM_SETLINK, 0, body.bytes, body.writer.end, &handle) == NELI_OK);
+    return handle;
+}
+
+static void rest(long milliseconds) {
+    struct timespec time = {milliseconds / 1000, milliseconds % 1000 * 1000000};
+    nanosleep(&time, NULL);
+}
+
+static int64_t milliseconds(void) {
+    struct timespec time;
+    clock_gettime(CLOCK_MONOTONIC, &time);
+    return (int64_t)time.tv_sec * 1000 + time.tv_nsec / 1000000;
+}
+
+static struct body mtu_body(int index, uint32_t mtu) {
+    struct body body = link_body(index, true);
+    put_attribute(&body, IFLA_MTU, &mtu, sizeof mtu);
+    return body;
+}
+
+/* ---- Closed early ---- */
+
+static void a_handle_that_is_closed_unread(void) {
+    struct host host = route_host(false);
+    struct neli_message message;
+    WANT(host_close_request(&host, send_question(&host, 1)) == NELI_OK);
+    for (int i = 0; i < 100; i++) {
+        want_loopback(&host, send_question(&host, 1));
+        WANT(host_close_request(&host, send_question(&host, 1)) == NELI_OK);
+        size_t half = send_question(&host, 1);
+        WANT(host_next(&host, half, &message) == NELI_ITEM);
+        WANT(host_close_request(&host, half) == NELI_OK);
+    }
+    WANT(host_close_request(&host, send_dump(&host)) == NELI_OK);
+    want_loopback(&host, send_question(&host, 1));
+    host_close(&host);
+}
+
+/* The answers of a request end with a loss, and the kernel's replies come all the same. */
+static void a_handle_that_is_closed_after_a_loss(void) {
+    struct host other = route_host(false), host = route_host(true);
+    struct neli_message message;
+    int32_t code;
+    set_buffer(&host, 1);
+    for (int i = 0; i < 100; i++) set_loopback(&other, i % 2 == 0);
+    set_buffer(&host, 1 << 20);
+    size_t dump = send_dump(&host);
+    while ((code = host_next(&host, dump, &message)) == NELI_ITEM) continue;
+    WANT(is_over(&host, code, ENOBUFS));
+    WANT(host_close_request(&host, dump) == NELI_OK);
+    for (int i = 0; i < 100; i++) want_loopback(&host, send_question(&host, 1));
+    host_close(&other);
+    host_close(&host);
+}
+
+static void a_number_that_may_still_be_answered(void) {
+    struct host host = route_host(false);
+    struct ifinfomsg link = {.ifi_index = 1};
+    size_t handle = send_question(&host, 1);
+    WANT(host_close_request(&host, handle) == NELI_OK);
+    WANT(neli_router_set_number(&host.router, 0) == NELI_OK);
+    WANT(host_send(&host, RTM_GETLINK, NLM_F_ACK, &link, sizeof link, &handle) == NELI_IN_USE);
+    WANT(neli_router_set_number(&host.router, 1) == NELI_OK);
+    want_loopback(&host, send_question(&host, 1));
+    WANT(neli_router_set_number(&host.router, 0) == NELI_OK);
+    want_loopback(&host, send_question(&host, 1));
+    host_close(&host);
+}
+
+static void a_dump_that_is_broken_off(void) {
+    struct host host = route_host(false);
+    struct neli_message message;
+    make_pairs(&host, 60);
+    for (int i = 0; i < 20; i++) {
+        size_t dump = send_dump(&host);
+        WANT(host_next(&host, dump, &message) == NELI_ITEM);
+        WANT(host_close_request(&host, dump) == NELI_OK);
+    }
+    size_t first = send_dump(&host), second = send_dump(&host);
+    WANT(count_links(&host, second) == 121);
+    WANT(count_links(&host, first) == 121);
+    host_close(&host);
+}
+
+/* ---- What is kept ---- */
+
+size_t __sanitizer_get_current_allocated_bytes(void) __attribute__((weak));
+
+static size_t allocated(void) {
+    if (__sanitizer_get_current_allocated_bytes != NULL) return __sanitizer_get_current_allocated_bytes();
+    struct mallinfo2 all = mallinfo2();
+    return all.uordblks + all.hblkhd;
+}
+
+static void what_nobody_reads_is_not_kept(void) {
+    struct host other = route_host(false), host = route_host(true);
+    struct neli_message message;
+    set_short_wait(&host);
+    set_loopback(&host, true);
+    WANT(host_next(&host, NELI_MULTICAST, &message) == NELI_ITEM);
+    WANT(host_close_request(&host, send_unanswered(&host)) == NELI_OK);
+    size_t before = 0;
+    for (int i = 0; i < 3000; i++) {
+        done(&other, RTM_SETLINK, 0, mtu_body(1, 1000u + (uint32_t)i));
+        WANT(host_next(&host, NELI_MULTICAST, &message) == NELI_ITEM);
+        if (i == 100) before = allocated();
+    }
+    WANT(allocated() < before + 100000);
+    for (int i = 0; i < 3000; i++) WANT(host_close_request(&host, send_unanswered(&host)) == NELI_OK);
+    WANT(host.ledger.count < 1000);
+    WANT(is_over(&host, host_next(&host, NELI_MULTICAST, &message), EAGAIN) && host.ledger.count == 0);
+    host_close(&other);
+    host_close(&host);
+}
+
+/* ---- Echoes ---- */
+
+static size_t send_address(struct host *host, uint16_t flags, uint8_t last) {
+    struct ifaddrmsg address = {.ifa_family = AF_INET, .ifa_prefixlen = 24, .ifa_index = 1};
+    struct body body = {0};
+    uint8_t local[] = {203, 0, 113, last};
+    size_t handle = 0;
+    put(&body, &address, sizeof address);
+    put_attribute(&body, IFA_LOCAL, local, sizeof local);
+    WANT(host_send(host, RTM_NEWADDR, flags | NLM_F_CREATE | NLM_F_EXCL, body.bytes, body.writer.end, &handle) == 0);
+    return handle;
+}
+
+/* An address comes, and then nothing more, or the acknowledgement. */
+static void want_echo(struct host *host, size_t handle, bool has_ack) {
+    struct neli_message message;
+    WANT(host_next(host, handle, &message) == NELI_ITEM && message.type == RTM_NEWADDR);
+    if (has_ack) WANT(host_next(host, handle, &message) == NELI_ITEM && message.type == NLMSG_ERROR);
+    WANT(host_next(host, handle, &message) == NELI_END);
+    WANT(host_close_request(host, handle) == NELI_OK);
+}
+
+static void an_echo_reaches_its_request(void) {
+    static const uint32_t groups[] = {RTNLGRP_IPV4_IFADDR};
+    struct host deaf = route_host(false), host;
+    struct neli_message message;
+    set_short_wait(&deaf);
+    want_echo(&deaf, send_address(&deaf, NLM_F_ECHO, 1), false);
+    want_echo(&deaf, send_address(&deaf, NLM_F_ECHO | NLM_F_ACK, 2), true);
+    WANT(is_over(&deaf, host_next(&deaf, NELI_MULTICAST, &message), EAGAIN));
+
+    open_or_fail(&host, NETLINK_ROUTE, groups, 1);
+    set_short_wait(&host);
+    want_echo(&host, send_address(&host, NLM_F_ECHO | NLM_F_ACK, 3), true);
+    WANT(host_next(&host, NELI_MULTICAST, &message) == NELI_ITEM && message.type == RTM_NEWADDR);
+    /* Without ECHO what the request causes is a notification alone, though it has the request's number. */
+    size_t quiet = send_address(&host, NLM_F_ACK, 4);
+    WANT(host_next(&host, quiet, &message) == NELI_ITEM && message.type == NLMSG_ERROR);
+    WANT(host_next(&host, NELI_MULTICAST, &message) == NELI_ITEM && message.type == RTM_NEWADDR);
+    WANT(is_over(&host, host_next(&host, NELI_MULTICAST, &message), EAGAIN));
+    host_close(&host);
+    host_close(&deaf);
+}
+
+/* ---- Losses ---- */
+
+static void a_loss_stands_where_it_came(void) {
+    struct host other = route_host(false), host = route_host(true);
+    struct neli_message message;
+    set_short_wait(&host);
+    set_loopback(&other, true);
+    want_loopback(&host, send_question(&host, 1));
+    set_buffer(&host, 1);
+    for (int i = 0; i < 100; i++) set_loopback(&other, i % 2 == 0);
+    size_t told = send_question(&host, 1);
+    WANT(is_over(&host, host_next(&host, told, &message), ENOBUFS));
+    /* That a wait is over is no fault of the socket, and changes nothing of what is told of one. */
+    WANT(host_close_request(&host, told) == NELI_OK);
+    WANT(is_over(&host, host_next(&host, send_unanswered(&host), &message), EAGAIN));
+    WANT(host_next(&host, NELI_MULTICAST, &message) == NELI_ITEM && message.type == RTM_NEWLINK);
+    WANT(is_over(&host, host_next(&host, NELI_MULTICAST, &message), ENOBUFS));
+    WANT(host_next(&host, NELI_MULTICAST, &message) == NELI_ITEM);
+    host_close(&other);
+    host_close(&host);
+}
+
+/* A picture: the MTU of each link, by its index. */
+struct picture {
+    uint32_t mtu[4096];
+};
+
+static void take(const struct host *host, const struct neli_message *message, void *of) {
+    struct picture *picture = of;
+    struct ifinfomsg link;
+    struct neli_walk walk;
+    struct neli_attribute found;
+    if (message == NULL) {
+        *picture = (struct picture){0};
+        return;
+    }
+    WANT(neli_attributes_of(message, sizeof link, &walk) == NELI_OK);
+    memcpy(&link, host->item + message->payload, sizeof link);
+    uint32_t *mtu = &picture->mtu[(unsigned)link.ifi_index % 4096];
+    *mtu = 0;
+    if (message->type == RTM_NEWLINK && host_find(host, &walk, IFLA_MTU, &found))
+        WANT(neli_get_u32(host->item + found.payload, found.payload_length, 0, mtu) == NELI_OK);
+}
+
+/* Makes and removes links, and changes the MTU of others, as fast as it can. */
+static pid_t storm(int first, int rounds) {
+    pid_t child = fork();
+    if (child != 0) return child;
+    struct host host = route_host(false);
+    for (int i = first; i < first + rounds; i++) {
+        char name[16], peer[16];
+        snprintf(name, sizeof name, "a%d", i);
+        snprintf(peer, sizeof peer, "b%d", i);
+        done(&host, RTM_NEWLINK, NLM_F_CREATE | NLM_F_EXCL, pair(name, peer));
+        for (int j = 0; j < 30; j++) done(&host, RTM_SETLINK, 0, mtu_body(1, 1000u + (uint32_t)(i * 30 + j)));
+        struct body gone = link_body(0, false);
+        put_text(&gone, IFLA_IFNAME, name);
+        if (i % 3 != 0) done(&host, RTM_DELLINK, 0, gone);
+    }
+    host_close(&host);
+    _exit(0);
+}
+
+static void want_right_picture(int buffer, int first) {
+    static struct picture picture, truth;
+    struct ifinfomsg all = {0};
+    struct host host = route_host(true);
+    struct neli_message message;
+    int32_t code = NELI_OK;
+    int status, losses = 0;
+    set_buffer(&host, buffer);
+    host.link.wait = 1000;
+    WANT(host_resync(&host, RTM_GETLINK, &all, sizeof all, 5, take, &picture) == NELI_OK);
+    pid_t child = storm(first, 30);
+    do {
+        code = host_next(&host, NELI_MULTICAST, &message);
+        if (code == NELI_ITEM) take(&host, &message, &picture), rest(1);
+        if (code != NELI_LINK || host.fault == EAGAIN) continue;
+        losses++;
+        code = host_resync(&host, RTM_GETLINK, &all, sizeof all, 1000, take, &picture);
+        WANT(code == NELI_OK);
+    } while (code == NELI_ITEM || code == NELI_OK);
+    WANT(is_over(&host, code, EAGAIN) && waitpid(child, &status, 0) == child && status == 0);
+    WANT(losses > 0);
+    set_buffer(&host, 1 << 20);
+    WANT(host_resync(&host, RTM_GETLINK, &all, sizeof all, 5, take, &truth) == NELI_OK);
+    WANT(memcmp(&picture, &truth, sizeof truth) == 0);
+    host_close(&host);
+}
+
+static void a_picture_is_right_after_a_storm(void) {
+    struct host host = route_host(false);
+    make_pairs(&host, 30);
+    host_close(&host);
+    for (int i = 0; i < 3; i++) want_right_picture(8000, 100 * i);
+}
+
+static void a_picture_by_a_larger_buffer(void) {
+    struct host host = route_host(false);
+    make_pairs(&host, 30);
+    host_close(&host);
+    for (int i = 0; i < 3; i++) want_right_picture(20000, 100 * i);
+}
+
+/* ---- Waits ---- */
+
+static void a_wait_has_an_end(void) {
+    struct host host = route_host(true);
+    struct neli_message message;
+    pid_t child = fork();
+    if (child == 0) {
+        struct host other = route_host(false);
+        for (int i = 0;; i++) {
+            set_loopback(&other, i % 2 == 0);
+            rest(20);
+        }
+    }
+    host.link.wait = 300;
+    size_t handle = send_unanswered(&host);
+    int64_t before = milliseconds();
+    WANT(is_over(&host, host_next(&host, handle, &message), EAGAIN));
+    int64_t after = milliseconds();
+    kill(child, SIGKILL);
+    waitpid(child, NULL, 0);
+    WANT(after - before >= 295 && after - before < 600);
+    host_close(&host);
+}
+
+static struct host *stopped;
+
+static void on_alarm(int number) {
+    (void)number;
+    if (stopped != NULL) link_stop(&stopped->link);
+}
+
+static void set_alarm(void) {
+    struct itimerval time = {.it_value.tv_usec = 100000};
+    signal(SIGALRM, on_alarm);
+    WANT(setitimer(ITIMER_REAL, &time, NULL) == 0);
+}
+
+static void a_wait_is_stopped(void) {
+    struct host host = route_host(true);
+    struct neli_message message;
+    set_alarm();
+    host.link.wait = 300;
+    int64_t before = milliseconds();
+    WANT(is_over(&host, host_next(&host, NELI_MULTICAST, &message), EAGAIN) && milliseconds() - before >= 295);
+    host.link.wait = -1;
+    host.link.ends_by_signals = true;
+    set_alarm();
+    WANT(is_over(&host, host_next(&host, NELI_MULTICAST, &message), EINTR));
+    host.link.ends_by_signals = false;
+    stopped = &host;
+    set_alarm();
+    WANT(is_over(&host, host_next(&host, NELI_MULTICAST, &message), ECANCELED));
+    want_loopback(&host, send_question(&host, 1));
+    WANT(is_over(&host, host_next(&host, NELI_MULTICAST, &message), ECANCELED));
+    host_close(&host);
+}
+
+/* ---- Not asked for, and other small things ---- */
+
+/* A question behind the router's back: its answer has a number that no request has. */
+static void ask_by_hand(struct host *host, uint32_t number) {
+    struct ifinfomsg link = {.ifi_index = 1};
+    struct neli_writer writer = {0};
+    uint8_t out[64];
+    uint16_t flags = NLM_F_REQUEST | NLM_F_ACK;
+    WANT(neli_begin_message(out, sizeof out, &writer, RTM_GETLINK, flags, number, 0) == NELI_OK);
+    WANT(neli_put_bytes(out, sizeof out, &writer, &link, sizeof link) == NELI_OK);
+    WANT(neli_end_message(out, sizeof out, &writer) == NELI_OK);
+    WANT(send(host->link.fd, out, writer.end, 0) == (ssize_t)writer.end);
+}
+
+static void what_was_not_asked_for_ends_nothing(void) {
+    struct host host = route_host(false);
+    struct neli_message message;
+    ask_by_hand(&host, 4711);
+    want_loopback(&host, send_question(&host, 1));
+    set_short_wait(&host);
+    WANT(is_over(&host, host_next(&host, HOST_UNASKED, &message), EAGAIN));
+    host.keeps_unasked = true;
+    for (uint32_t i = 0; i < 10; i++) ask_by_hand(&host, 4711 + i);
+    want_loopback(&host, send_question(&host, 1));
+    for (uint32_t i = 0; i < 10; i++) {
+        WANT(host_next(&host, HOST_UNASKED, &message) == NELI_ITEM);
+        WANT(message.type == RTM_NEWLINK && message.number == 4711 + i);
+        WANT(host_next(&host, HOST_UNASKED, &message) == NELI_ITEM && message.type == NLMSG_ERROR);
+    }
+    WANT(is_over(&host, host_next(&host, HOST_UNASKED, &message), EAGAIN));
+    host_close(&host);
+}
+
+/* A host over a socket pair, whose other end plays the kernel. */
+static int play_kernel(struct host *host) {
+    int both[2];
+    *host = route_host(false);
+    WANT(close(host->link.fd) == 0 && socketpair(AF_UNIX, SOCK_DGRAM, 0, both) == 0);
+    host->link.fd = both[0];
+    set_short_wait(host);
+    return both[1];
+}
+
+/* Plays a message to the host, without so many bytes of its padding, and then of its body. */
+static void play(int kernel, const struct host *host, uint16_t type, uint32_t number, const void *body, size_t length,
+                 size_t cut) {
+    struct neli_writer writer = {0};
+    uint8_t out[128];
+    WANT(neli_begin_message(out, sizeof out, &writer, type, 0, number, host->link.port) == NELI_OK);
+    WANT(neli_put_bytes(out, sizeof out, &writer, body, length) == NELI_OK);
+    memcpy(out, &(uint32_t){(uint32_t)(16 + length)}, sizeof(uint32_t));
+    WANT(send(kernel, out, writer.end - cut, 0) == (ssize_t)(writer.end - cut));
+}
+
+static void an_error_with_any_code(void) {
+    struct host host;
+    struct neli_message message;
+    char text[64];
+    int kernel = play_kernel(&host);
+    int32_t error[5] = {INT32_MIN, 16, 0, 0, 0};
+    size_t handle = send_question(&host, 1);
+    play(kernel, &host, NLMSG_ERROR, 0, error, sizeof error, 0);
+    WANT(host_next(&host, handle, &message) == NELI_KERNEL_ERROR);
+    host_explain(&host, NELI_KERNEL_ERROR, &message, text, sizeof text);
+    WANT(strcmp(text, "error -2147483648") == 0);
+    host_close(&host);
+    close(kernel);
+}
+
+static void a_padding_that_was_left_out(void) {
+    struct host host;
+    struct neli_message message;
+    int kernel = play_kernel(&host);
+    size_t handle = send_question(&host, 1), other = send_question(&host, 1);
+    play(kernel, &host, RTM_NEWLINK, 0, "17 bytes, or more", 17, 3);
+    WANT(host_next(&host, handle, &message) == NELI_ITEM && message.length == 33);
+    WANT(memcmp(host.item + message.payload, "17 bytes, or more\0\0", 20) == 0);
+    /* What ends before its last byte is a fault all the same, and everyone is told. */
+    play(kernel, &host, RTM_NEWLINK, 0, "17 bytes, or more", 17, 4);
+    WANT(host_next(&host, other, &message) < NELI_OK);
+    host_close(&host);
+    close(kernel);
+}
+
+static void a_request_of_many_bytes(void) {
+    struct host host = route_host(false);
+    static struct {
+        struct ifinfomsg link;
+        uint16_t length, type;
+        uint8_t payload[40000];
+    } body = {.link.ifi_index = 1, .length = 40004, .type = 4000};
+    size_t handle;
+    WANT(host_send(&host, RTM_GETLINK, NLM_F_ACK, &body, sizeof body, &handle) == NELI_OK);
+    want_loopback(&host, handle);
+    host_close(&host);
+}
+
+static const struct test tests[] = {
+    {"a_handle_that_is_closed_unread", a_handle_that_is_closed_unread},
+    {"a_handle_that_is_closed_after_a_loss", a_handle_that_is_closed_after_a_loss},
+    {"a_number_that_may_still_be_answered", a_number_that_may_still_be_answered},
+    {"a_dump_that_is_broken_off", a_dump_that_is_broken_off},
+    {"what_nobody_reads_is_not_kept", what_nobody_reads_is_not_kept},
+    {"an_echo_reaches_its_request", an_echo_reaches_its_request},
+    {"a_loss_stands_where_it_came", a_loss_stands_where_it_came},
+    {"a_picture_is_right_after_a_storm", a_picture_is_right_after_a_storm},
+    {"a_picture_by_a_larger_buffer", a_picture_by_a_larger_buffer},
+    {"a_wait_has_an_end", a_wait_has_an_end},
+    {"a_wait_is_stopped", a_wait_is_stopped},
+    {"what_was_not_asked_for_ends_nothing", what_was_not_asked_for_ends_nothing},
+    {"an_error_with_any_code", an_error_with_any_code},
+    {"a_padding_that_was_left_out", a_padding_that_was_left_out},
+    {"a_request_of_many_bytes", a_request_of_many_bytes},
+};
+
+int main(int argc, char **argv) {
+    return run_tests(argc, argv, tests, sizeof tests / sizeof *tests);
+}
