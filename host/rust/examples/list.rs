@@ -9,15 +9,20 @@ use neli::router::synchronous::NlRouter;
 use neli::rtnl::{Ifaddrmsg, IfaddrmsgBuilder, Ifinfomsg, IfinfomsgBuilder};
 use neli::utils::Groups;
 use std::error::Error;
+use std::ffi::CString;
+use std::io::{self, Write};
 use std::net::Ipv4Addr;
 
 fn print_link(link: &Ifinfomsg) -> Result<(), RouterError> {
     let attributes = link.rtattrs().get_attr_handle();
-    let name: String = attributes.get_attr_payload_as_with_len(Ifla::Ifname)?;
+    // The kernel takes any bytes as a name.
+    let name: CString = attributes.get_attr_payload_as(Ifla::Ifname)?;
     let mtu: u32 = attributes.get_attr_payload_as(Ifla::Mtu)?;
     let state = if link.ifi_flags().contains(Iff::UP) { "up" } else { "down" };
-    println!("link {} {name} mtu {mtu} {state}", link.ifi_index());
-    Ok(())
+    let line =
+        [format!("link {} ", link.ifi_index()).as_bytes(), name.as_bytes(), format!(" mtu {mtu} {state}\n").as_bytes()]
+            .concat();
+    Ok(io::stdout().write_all(&line)?)
 }
 
 fn print_address(address: &Ifaddrmsg) -> Result<(), RouterError> {

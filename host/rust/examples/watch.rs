@@ -10,6 +10,7 @@ use neli::rtnl::{Ifaddrmsg, Ifinfomsg, Rtmsg};
 use neli::types::Buffer;
 use neli::utils::Groups;
 use std::error::Error;
+use std::ffi::CString;
 use std::net::Ipv4Addr;
 
 /// `RTNLGRP_LINK`, `RTNLGRP_IPV4_IFADDR` and `RTNLGRP_IPV4_ROUTE` of `linux/rtnetlink.h`.
@@ -17,8 +18,9 @@ const GROUPS: [u32; 3] = [1, 5, 7];
 
 fn link(bytes: &[u8]) -> Result<String, DeError> {
     let body = Ifinfomsg::from_bytes(bytes)?;
-    let name: String = body.rtattrs().get_attr_handle().get_attr_payload_as_with_len(Ifla::Ifname)?;
-    Ok(format!("{} {name}", body.ifi_index()))
+    // The kernel takes any bytes as a name.
+    let name: CString = body.rtattrs().get_attr_handle().get_attr_payload_as(Ifla::Ifname)?;
+    Ok(format!("{} {}", body.ifi_index(), name.to_string_lossy()))
 }
 
 fn address(bytes: &[u8]) -> Result<String, DeError> {

@@ -111,7 +111,8 @@ pub enum RouterError {
     De(DeError),
     /// A request cannot be written.
     Ser(SerError),
-    /// A message came with a sequence number or a port that no request has.
+    /// A message came with a sequence number or a port that no request has. A router over a socket takes such messages
+    /// out, so that this ends no request of it.
     BadSeqOrPid,
     /// An acknowledgement was asked for, and something else came.
     NoAck,
@@ -121,7 +122,7 @@ pub enum RouterError {
     ClosedChannel,
     /// The next sequence number belongs to a request that is not closed.
     SeqInUse,
-    /// The proved library found no memory; the router is as before.
+    /// The proved library found no memory. Nothing is lost: the same call can be made again.
     Memory,
     /// In words: what was looked for is not there.
     Msg(String),
@@ -136,7 +137,7 @@ impl RouterError {
     /// The number by which the kernel refuses, above 0, where it does.
     pub fn errno(&self) -> Option<i32> {
         match self {
-            RouterError::Nlmsgerr(answer) => Some(-answer.error()),
+            RouterError::Nlmsgerr(answer) => answer.error().checked_neg().filter(|it| *it > 0),
             _ => None,
         }
     }

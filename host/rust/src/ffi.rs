@@ -2,7 +2,7 @@
 //! library that std links and does not offer. What it hands out is safe.
 #![allow(unsafe_code)]
 
-use std::ffi::{c_int, c_uint, c_void};
+use std::ffi::{c_int, c_uint, c_ulong, c_void};
 use std::io;
 use std::os::fd::{AsRawFd, FromRawFd, OwnedFd, RawFd};
 
@@ -15,6 +15,7 @@ pub const KERNEL_ERROR: i32 = 3;
 pub const MEMORY: i32 = -3;
 pub const ROOM: i32 = -4;
 pub const HANDLE: i32 = -6;
+pub const IN_USE: i32 = -7;
 pub const STRAY: i32 = -8;
 pub const NO_ACK: i32 = -9;
 pub const UNEXPECTED_ACK: i32 = -10;
@@ -104,14 +105,6 @@ struct RawRouter {
 unsafe extern "C" {
     fn neli_c_error_text(code: i32, out: *mut u8, room: usize, length: *mut usize) -> i32;
     fn neli_c_next_message(bytes: *const u8, length: usize, walk: *mut Walk, message: *mut Message) -> i32;
-    fn neli_c_next_messages(
-        bytes: *const u8,
-        length: usize,
-        walk: *mut Walk,
-        messages: *mut Message,
-        room: usize,
-        count: *mut usize,
-    ) -> i32;
     fn neli_c_next_attributes(
         bytes: *const u8,
         length: usize,
@@ -179,15 +172,6 @@ pub fn error_text(code: i32) -> String {
 pub fn next_message(bytes: &[u8], walk: &mut Walk, message: &mut Message) -> i32 {
     // SAFETY: pointer and length are those of one slice, and the others are exclusive borrows; nothing is kept.
     unsafe { neli_c_next_message(bytes.as_ptr(), bytes.len(), walk, message) }
-}
-
-/// The next messages of a walk over these bytes, as many as there is room for: the code, and those that are given.
-pub fn next_messages<'m>(bytes: &[u8], walk: &mut Walk, room: &'m mut [Message]) -> (i32, &'m [Message]) {
-    let mut count = 0;
-    let (at, length) = (room.as_mut_ptr(), room.len());
-    // SAFETY: each pointer and its length are those of one slice, and all but `bytes` are exclusive borrows.
-    let code = unsafe { neli_c_next_messages(bytes.as_ptr(), bytes.len(), walk, at, length, &mut count) };
-    (code, room.get(..count).unwrap_or_default())
 }
 
 /// The next attributes of a walk over these bytes, as many as there is room for: the code, and those that are given.
@@ -311,8 +295,11 @@ const SOCK_CLOEXEC: c_int = 0o2_000_000;
 const SOL_NETLINK: c_int = 270;
 const NETLINK_PKTINFO: c_int = 3;
 const NETLINK_LIST_MEMBERSHIPS: c_int = 9;
-const MSG_PEEK: c_int = 2;
 const MSG_TRUNC: c_int = 0x20;
+const MSG_DONTWAIT: c_int = 0x40;
+const POLLIN: i16 = 1;
+const EFD_CLOEXEC: c_int = 0o2_000_000;
+const EFD_NONBLOCK: c_int = 0o4000;
 
 /// `struct sockaddr_nl`.
 #[repr(C)]
@@ -356,6 +343,14 @@ struct Control {
     pad: u32,
 }
 
+/// `struct pollfd`.
+#[repr(C)]
+struct Watched {
+    fd: c_int,
+    events: i16,
+    found: i16,
+}
+
 /// The bytes of a `struct cmsghdr` and a `struct nl_pktinfo` without the padding.
 const CONTROL_SIZE: usize = size_of::<Control>() - size_of::<u32>();
 
@@ -368,6 +363,9 @@ unsafe extern "C" {
     fn sendto(fd: c_int, bytes: *const u8, length: usize, flags: c_int, address: *const Address, size: c_uint)
     -> isize;
     fn recvmsg(fd: c_int, header: *mut Header, flags: c_int) -> isize;
+    fn poll(watched: *mut Watched, count: c_ulong, milliseconds: c_int) -> c_int;
+    fn eventfd(count: c_uint, flags: c_int) -> c_int;
+    fn write(fd: c_int, bytes: *const c_void, length: usize) -> isize;
 }
 
 fn checked(result: c_int) -> io::Result<c_int> {
@@ -411,23 +409,15 @@ pub fn port_of(fd: RawFd) -> io::Result<u32> {
 
 /// Sets an option of 4 bytes of the netlink level.
 pub fn set_netlink_option(fd: RawFd, name: c_int, value: c_int) -> io::Result<()> {
-    set_option(fd, SOL_NETLINK, name, &value)
+    set_option(fd, SOL_NETLINK, name, value)
 }
 
-/// Sets an option whose value is of this type, which has no padding and no pointer.
-pub fn set_option<T: Plain>(fd: RawFd, level: c_int, name: c_int, value: &T) -> io::Result<()> {
-    // SAFETY: pointer and size are those of `value`, all of whose bytes are there.
-    let result = unsafe { setsockopt(fd, level, name, std::ptr::from_ref(value).cast(), size_of::<T>() as c_uint) };
+/// Sets an option of 4 bytes.
+pub fn set_option(fd: RawFd, level: c_int, name: c_int, value: c_int) -> io::Result<()> {
+    // SAFETY: pointer and size are those of `value`.
+    let result = unsafe { setsockopt(fd, level, name, (&raw const value).cast(), size_of::<c_int>() as c_uint) };
     checked(result).map(|_| ())
 }
-
-/// What an option of a socket may have as its value.
-pub trait Plain: Copy {}
-
-impl Plain for c_int {}
-
-/// `struct timeval`.
-impl Plain for [i64; 2] {}
 
 /// An option of 4 bytes of the netlink level.
 pub fn netlink_option(fd: RawFd, name: c_int) -> io::Result<c_int> {
@@ -462,17 +452,9 @@ pub fn send(fd: RawFd, bytes: &[u8], port: u32) -> io::Result<usize> {
     counted(unsafe { sendto(fd, bytes.as_ptr(), bytes.len(), 0, &address, ADDRESS_SIZE) })
 }
 
-/// Receives a datagram into these bytes; one that is longer loses its rest, and its whole length is given all the same.
+/// Receives the datagram that is there into these bytes, and does not wait for one. One that is longer loses its rest,
+/// and its whole length is given all the same.
 pub fn receive(fd: RawFd, bytes: &mut [u8]) -> io::Result<Received> {
-    receive_by(fd, bytes, 0)
-}
-
-/// The length of the datagram that comes next, which stays where it is.
-pub fn next_length(fd: RawFd) -> io::Result<usize> {
-    receive_by(fd, &mut [], MSG_PEEK).map(|it| it.length)
-}
-
-fn receive_by(fd: RawFd, bytes: &mut [u8], flags: c_int) -> io::Result<Received> {
     let mut from = Address::default();
     let mut control = Control::default();
     let mut slice = Slice { base: bytes.as_mut_ptr().cast(), length: bytes.len() };
@@ -486,11 +468,33 @@ fn receive_by(fd: RawFd, bytes: &mut [u8], flags: c_int) -> io::Result<Received>
         flags: 0,
     };
     // SAFETY: each pointer of the header is to a value of this function, or to the exclusive slice, with its size.
-    let length = counted(unsafe { recvmsg(fd, &mut header, flags | MSG_TRUNC) })?;
+    let length = counted(unsafe { recvmsg(fd, &mut header, MSG_TRUNC | MSG_DONTWAIT) })?;
     let is_group = header.control_size >= CONTROL_SIZE
         && control.size >= CONTROL_SIZE
         && (control.level, control.kind) == (SOL_NETLINK, NETLINK_PKTINFO);
     Ok(Received { length, port: from.port, group: if is_group { control.group } else { 0 } })
+}
+
+/// A counter of the kernel, which can be waited for: at first 0, which can't be read.
+pub fn event() -> io::Result<OwnedFd> {
+    // SAFETY: no pointer is passed, and the new descriptor is this function's alone.
+    unsafe { Ok(OwnedFd::from_raw_fd(checked(eventfd(0, EFD_CLOEXEC | EFD_NONBLOCK))?)) }
+}
+
+/// Makes a counter readable.
+pub fn signal(event: RawFd) -> io::Result<usize> {
+    let one: u64 = 1;
+    // SAFETY: pointer and size are those of `one`.
+    counted(unsafe { write(event, (&raw const one).cast(), size_of::<u64>()) })
+}
+
+/// Waits until one of two descriptors can be read, at most so many milliseconds, or without end below 0: whether one
+/// can.
+pub fn wait(fds: [RawFd; 2], milliseconds: c_int) -> io::Result<bool> {
+    let mut watched = fds.map(|fd| Watched { fd, events: POLLIN, found: 0 });
+    // SAFETY: pointer and count are those of one array of this function.
+    let found = checked(unsafe { poll(watched.as_mut_ptr(), 2, milliseconds) })?;
+    Ok(found > 0)
 }
 
 #[cfg(test)]

@@ -7,7 +7,7 @@ const HEADER: &str = include_str!("../../../include/neli.h");
 const DECLARED: &str = include_str!("ffi.rs");
 
 /// The codes that this crate names.
-const CODES: [(&str, i32); 11] = [
+const CODES: [(&str, i32); 12] = [
     ("NELI_ITEM", super::ITEM),
     ("NELI_END", super::END),
     ("NELI_WAITS", super::WAITS),
@@ -15,6 +15,7 @@ const CODES: [(&str, i32); 11] = [
     ("NELI_MEMORY", super::MEMORY),
     ("NELI_ROOM", super::ROOM),
     ("NELI_HANDLE", super::HANDLE),
+    ("NELI_IN_USE", super::IN_USE),
     ("NELI_STRAY", super::STRAY),
     ("NELI_NO_ACK", super::NO_ACK),
     ("NELI_UNEXPECTED_ACK", super::UNEXPECTED_ACK),

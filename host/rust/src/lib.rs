@@ -44,6 +44,7 @@ pub mod types;
 pub mod utils;
 
 use err::{DeError, SerError};
+use std::ffi::{CStr, CString};
 
 /// The examples of the page on this crate are built.
 #[cfg(doctest)]
@@ -126,8 +127,15 @@ impl ToBytes for String {
 /// As far as the first zero byte, which has to be there.
 impl FromBytes for String {
     fn from_bytes(bytes: &[u8]) -> Result<Self, DeError> {
-        let text = std::ffi::CStr::from_bytes_until_nul(bytes).map_err(|_| DeError::Utf8)?;
+        let text = CStr::from_bytes_until_nul(bytes).map_err(|_| DeError::Utf8)?;
         text.to_str().map(str::to_owned).map_err(|_| DeError::Utf8)
+    }
+}
+
+/// As far as the first zero byte, which has to be there: a text that need not be UTF-8, as the name of a link.
+impl FromBytes for CString {
+    fn from_bytes(bytes: &[u8]) -> Result<Self, DeError> {
+        CStr::from_bytes_until_nul(bytes).map(CStr::to_owned).map_err(|_| DeError::Utf8)
     }
 }
 

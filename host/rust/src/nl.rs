@@ -234,6 +234,16 @@ impl<T: NlType, P> Nlmsghdr<T, P> {
     }
 }
 
+impl<T: NlType, P> Nlmsghdr<T, P> {
+    /// What the end of a dump says that failed.
+    pub(crate) fn failed_end(&self) -> Option<Nlmsgerr<u16>> {
+        match &self.nl_payload {
+            NlPayload::DumpExtAck(answer) if answer.error != 0 => Some(answer.clone().with_number()),
+            _ => None,
+        }
+    }
+}
+
 fn answer_in<T: NlType>(bytes: &[u8], head: &ffi::Message) -> Result<Nlmsgerr<T>, DeError> {
     let mut found = ffi::Answer::default();
     done(ffi::get_answer(bytes, head, &mut found))?;

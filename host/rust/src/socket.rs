@@ -11,20 +11,25 @@ pub mod synchronous {
     use crate::nl::{NlBufferIter, NlType, Nlmsghdr};
     use crate::utils::{Groups, NetlinkBitArray};
     use std::ffi::c_int;
-    use std::io;
+    use std::io::{self, ErrorKind};
     use std::os::fd::{AsFd, AsRawFd, BorrowedFd, OwnedFd, RawFd};
-    use std::time::Duration;
+    use std::sync::{Mutex, MutexGuard, PoisonError};
+    use std::time::{Duration, Instant};
 
     const SOL_SOCKET: c_int = 1;
     const SO_RCVBUF: c_int = 8;
-    const SO_RCVTIMEO: c_int = 20;
     const ADD_MEMBERSHIP: c_int = 1;
     const DROP_MEMBERSHIP: c_int = 2;
     const EXT_ACK: c_int = 11;
     const GET_STRICT_CHECK: c_int = 12;
 
-    /// The room that a dump is asked for with: the kernel fills up to this much.
-    const ROOM: usize = 32 * 1024;
+    /// The room that a datagram is received into. The kernel fills a dump's up to 32 KiB, and a message of its own may
+    /// be longer. Of what is not used there is no memory.
+    pub(crate) const ROOM: usize = 1 << 20;
+
+    /// `EAGAIN` and `ECANCELED`, by which a wait ends whose time is over, and one that was stopped.
+    const AGAIN: i32 = 11;
+    const CANCELED: i32 = 125;
 
     /// The kernel's port.
     const KERNEL: u32 = 0;
@@ -37,6 +42,45 @@ pub mod synchronous {
     pub struct NlSocketHandle {
         fd: OwnedFd,
         port: u32,
+        /// Readable once the waits are stopped.
+        stop: OwnedFd,
+        waits: Mutex<Waits>,
+        /// What is received lies here before it is copied; at first there is none.
+        room: Mutex<Vec<u8>>,
+    }
+
+    /// What ends a wait.
+    #[derive(Clone, Copy, Debug, Default)]
+    struct Waits {
+        timeout: Option<Duration>,
+        ends_by_signals: bool,
+        is_stopped: bool,
+    }
+
+    /// A wait that has begun.
+    #[derive(Clone, Copy, Debug)]
+    pub(crate) struct Wait {
+        until: Option<Instant>,
+        ends_by_signals: bool,
+    }
+
+    impl Wait {
+        /// How much of its time is left, none of one without end; refused where it is over.
+        pub(crate) fn left(&self) -> io::Result<Option<Duration>> {
+            let Some(until) = self.until else { return Ok(None) };
+            let left = until.saturating_duration_since(Instant::now());
+            if left.is_zero() { Err(io::Error::from_raw_os_error(AGAIN)) } else { Ok(Some(left)) }
+        }
+    }
+
+    /// Whether an error says that a wait was stopped.
+    pub(crate) fn is_stop(error: &io::Error) -> bool {
+        error.raw_os_error() == Some(CANCELED)
+    }
+
+    /// Whether an error says that a wait is over, and nothing of the socket.
+    pub(crate) fn is_end_of_wait(error: &io::Error) -> bool {
+        matches!(error.kind(), ErrorKind::WouldBlock | ErrorKind::Interrupted) || is_stop(error)
     }
 
     impl NlSocketHandle {
@@ -44,7 +88,8 @@ pub mod synchronous {
         pub fn connect(family: NlFamily, port: Option<u32>, groups: Groups) -> Result<Self, SocketError> {
             let fd = ffi::open(family.into(), port.unwrap_or(0))?;
             let port = ffi::port_of(fd.as_raw_fd())?;
-            let socket = NlSocketHandle { fd, port };
+            let (stop, waits, room) = (ffi::event()?, Mutex::default(), Mutex::default());
+            let socket = NlSocketHandle { fd, port, stop, waits, room };
             // A kernel that knows no extended acknowledgements answers without.
             let _old_kernel = socket.enable_ext_ack(true);
             socket.add_mcast_membership(groups)?;
@@ -99,15 +144,57 @@ pub mod synchronous {
         /// Sets the size of the buffer in which the kernel keeps what was not received yet. It doubles the number.
         pub fn set_recv_buffer_size(&self, size: usize) -> Result<(), SocketError> {
             let size = c_int::try_from(size).unwrap_or(c_int::MAX);
-            Ok(ffi::set_option(self.as_raw_fd(), SOL_SOCKET, SO_RCVBUF, &size)?)
+            Ok(ffi::set_option(self.as_raw_fd(), SOL_SOCKET, SO_RCVBUF, size)?)
         }
 
-        /// How long a call waits for a datagram before it is refused as `WouldBlock`; without end for none.
+        /// How long a call waits, from its beginning on, before it is refused as `WouldBlock`; without end for none. A
+        /// wait that has begun keeps its time.
         pub fn set_recv_timeout(&self, timeout: Option<Duration>) -> Result<(), SocketError> {
-            let wait = timeout.map_or(Duration::ZERO, |it| it.max(Duration::from_micros(1)));
-            let seconds = i64::try_from(wait.as_secs()).unwrap_or(i64::MAX);
-            let value = [seconds, i64::from(wait.subsec_micros())];
-            Ok(ffi::set_option(self.as_raw_fd(), SOL_SOCKET, SO_RCVTIMEO, &value)?)
+            self.waits().timeout = timeout;
+            Ok(())
+        }
+
+        /// Whether a signal ends a wait, as `Interrupted`. At first it goes on. Of several threads that wait at one
+        /// router, it ends the wait of the one that watches the socket, if that one gets the signal.
+        pub fn end_waits_by_signals(&self, ends: bool) {
+            self.waits().ends_by_signals = ends;
+        }
+
+        /// Ends every wait that is under way, and each later one, with the system's `ECANCELED`. What is there can be
+        /// received all the same.
+        pub fn stop(&self) {
+            self.waits().is_stopped = true;
+            // The counter holds more than can be written here, and is read by nobody.
+            let _written = ffi::signal(self.stop.as_raw_fd());
+        }
+
+        fn waits(&self) -> MutexGuard<'_, Waits> {
+            self.waits.lock().unwrap_or_else(PoisonError::into_inner)
+        }
+
+        /// A wait that begins now.
+        pub(crate) fn begin_wait(&self) -> Wait {
+            let waits = *self.waits();
+            let until = waits.timeout.and_then(|it| Instant::now().checked_add(it));
+            Wait { until, ends_by_signals: waits.ends_by_signals }
+        }
+
+        /// Refused where the waits are stopped.
+        pub(crate) fn want_unstopped(&self) -> io::Result<()> {
+            if self.waits().is_stopped { Err(io::Error::from_raw_os_error(CANCELED)) } else { Ok(()) }
+        }
+
+        /// Waits until there may be something to be received; refused where the wait is over.
+        pub(crate) fn wait(&self, wait: &Wait) -> io::Result<()> {
+            loop {
+                self.want_unstopped()?;
+                let left = wait.left()?.map_or(-1, |it| c_int::try_from(it.as_millis() + 1).unwrap_or(c_int::MAX));
+                match ffi::wait([self.as_raw_fd(), self.stop.as_raw_fd()], left) {
+                    Ok(true) => return self.want_unstopped(),
+                    Err(error) if error.kind() != ErrorKind::Interrupted || wait.ends_by_signals => return Err(error),
+                    _ => {}
+                }
+            }
         }
 
         /// Sends a message to the kernel, as it is.
@@ -124,7 +211,7 @@ pub mod synchronous {
         pub fn send_bytes_to(&self, datagram: &[u8], port: u32) -> Result<(), SocketError> {
             loop {
                 match ffi::send(self.as_raw_fd(), datagram, port) {
-                    Err(error) if error.kind() == io::ErrorKind::Interrupted => {}
+                    Err(error) if error.kind() == ErrorKind::Interrupted => {}
                     sent => return Ok(sent.map(|_| ())?),
                 }
             }
@@ -147,39 +234,60 @@ pub mod synchronous {
             Ok((messages.collect::<Result<_, _>>()?, groups))
         }
 
-        /// The next datagram, whole, in place of what `room` held; and the groups that it came to.
+        /// The next datagram, whole, in place of what `room` held; and the groups that it came to. Refused as
+        /// `Truncated` where it has more than a mebibyte; then it is lost, and the next one may be as long.
         pub fn recv_bytes(&self, room: &mut Vec<u8>) -> Result<Groups, SocketError> {
+            let wait = self.begin_wait();
             loop {
-                match ffi::next_length(self.as_raw_fd()) {
-                    Ok(length) => room.resize(length.max(ROOM), 0),
-                    Err(error) if error.kind() == io::ErrorKind::Interrupted => continue,
-                    Err(error) => return Err(error.into()),
+                let mut kept = self.room.lock().unwrap_or_else(PoisonError::into_inner);
+                if let Some((length, group)) = self.received_into(&mut kept)? {
+                    room.clear();
+                    room.extend_from_slice(&kept[..length]);
+                    return Ok(Groups::new_groups(&[group]));
                 }
-                if let Some((length, groups)) = self.received(room)? {
-                    room.truncate(length);
-                    return Ok(groups);
-                }
+                drop(kept);
+                self.wait(&wait)?;
             }
         }
 
         /// The next datagram, into these bytes, as its length, and the groups that it came to. Refused as `Truncated`
         /// where it is longer; then it is lost.
         pub fn recv_into(&self, room: &mut [u8]) -> Result<(usize, Groups), SocketError> {
+            let wait = self.begin_wait();
             loop {
-                if let Some(received) = self.received(room)? {
-                    return Ok(received);
+                if let Some((length, group)) = self.received(room)? {
+                    return Ok((length, Groups::new_groups(&[group])));
                 }
+                self.wait(&wait)?;
             }
         }
 
-        /// A datagram of the kernel; none where another sender's was passed over, or a signal came.
-        fn received(&self, room: &mut [u8]) -> Result<Option<(usize, Groups)>, SocketError> {
-            match ffi::receive(self.as_raw_fd(), room) {
-                Ok(it) if it.port != KERNEL => Ok(None),
-                Ok(it) if it.length > room.len() => Err(SocketError::Truncated { length: it.length, room: room.len() }),
-                Ok(it) => Ok(Some((it.length, Groups::new_groups(&[it.group])))),
-                Err(error) if error.kind() == io::ErrorKind::Interrupted => Ok(None),
-                Err(error) => Err(error.into()),
+        /// The datagram that is there, as its length and its group, in a room that is large enough but for the first
+        /// that is longer than any before, and has more than `ROOM` bytes.
+        pub(crate) fn received_into(&self, room: &mut Vec<u8>) -> Result<Option<(usize, u32)>, SocketError> {
+            if room.is_empty() {
+                *room = vec![0; ROOM];
+            }
+            let received = self.received(room);
+            if let Err(SocketError::Truncated { length, .. }) = received {
+                *room = vec![0; length];
+            }
+            received
+        }
+
+        /// The datagram of the kernel that is there, as its length and its group; none where nothing is there.
+        fn received(&self, room: &mut [u8]) -> Result<Option<(usize, u32)>, SocketError> {
+            loop {
+                match ffi::receive(self.as_raw_fd(), room) {
+                    Ok(it) if it.port != KERNEL => {}
+                    Ok(it) if it.length > room.len() => {
+                        return Err(SocketError::Truncated { length: it.length, room: room.len() });
+                    }
+                    Ok(it) => return Ok(Some((it.length, it.group))),
+                    Err(error) if error.kind() == ErrorKind::Interrupted => {}
+                    Err(error) if error.kind() == ErrorKind::WouldBlock => return Ok(None),
+                    Err(error) => return Err(error.into()),
+                }
             }
         }
     }

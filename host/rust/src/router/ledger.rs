@@ -1,0 +1,154 @@
+//! The requests whose answers may still come, and whom a message is for.
+
+use crate::consts::nl::NlmF;
+use crate::ffi;
+use std::collections::HashMap;
+
+/// Types of messages: an error or an acknowledgement, and the end of a dump.
+const ERROR: u16 = 2;
+const DONE: u16 = 3;
+
+/// A request that the kernel may still answer, or whose handle is open.
+#[derive(Debug)]
+struct Open {
+    /// The handle of the library's router; none where nobody reads the answer any more.
+    handle: Option<usize>,
+    flags: NlmF,
+    /// Whether the kernel has sent the last message of its answer.
+    is_ended: bool,
+}
+
+impl Open {
+    fn is_dump(&self) -> bool {
+        self.flags.contains(NlmF::DUMP)
+    }
+
+    /// Whether this message is the last one of the answer.
+    fn ends_with(&self, message: &ffi::Message) -> bool {
+        let awaits_ack = self.flags.contains(NlmF::ACK) && !self.is_dump();
+        matches!(message.kind, ERROR | DONE) || (message.flags & NlmF::MULTI.bits() == 0 && !awaits_ack)
+    }
+}
+
+/// Whom a message is for. Nobody, where its request was given up.
+#[derive(Clone, Copy, Debug, Default, PartialEq, Eq)]
+pub(super) struct Owners {
+    /// The handle of its request.
+    pub(super) request: Option<usize>,
+    /// Who listens to groups.
+    pub(super) is_group: bool,
+    /// Who asks for what no request has asked for.
+    pub(super) is_unasked: bool,
+}
+
+/// The requests of a router, by their numbers.
+#[derive(Debug)]
+pub(super) struct Ledger {
+    port: u32,
+    open: HashMap<u32, Open>,
+    /// Whether no dump runs, and the kernel may answer nothing that was given up.
+    is_settled: bool,
+    /// Whether something was lost, and the socket was not seen empty since.
+    is_congested: bool,
+}
+
+impl Ledger {
+    pub(super) fn new(port: u32) -> Self {
+        Ledger { port, open: HashMap::new(), is_settled: true, is_congested: false }
+    }
+
+    /// Whether no dump runs, and the kernel may answer nothing that was given up.
+    pub(super) fn is_settled(&self) -> bool {
+        self.is_settled
+    }
+
+    /// How many requests there are.
+    pub(super) fn count(&self) -> usize {
+        self.open.len()
+    }
+
+    /// Whether a request has this number whose answer may still come.
+    pub(super) fn has(&self, number: u32) -> bool {
+        self.open.contains_key(&number)
+    }
+
+    /// A request was sent.
+    pub(super) fn add(&mut self, number: u32, handle: usize, flags: NlmF) {
+        let open = Open { handle: Some(handle), flags, is_ended: false };
+        self.is_settled &= !open.is_dump();
+        self.open.insert(number, open);
+    }
+
+    /// Nobody reads this request any more: the handle that is to be closed. Its number stays until its answer has
+    /// ended.
+    pub(super) fn give_up(&mut self, number: u32) -> Option<usize> {
+        let open = self.open.get_mut(&number)?;
+        let handle = open.handle.take();
+        if open.is_ended {
+            self.open.remove(&number);
+        } else {
+            self.is_settled = false;
+        }
+        handle
+    }
+
+    /// A request was not sent: the handle that is to be closed.
+    pub(super) fn take_back(&mut self, number: u32) -> Option<usize> {
+        self.open.remove(&number)?.handle
+    }
+
+    /// Whether something was lost, and the socket was not seen empty since.
+    pub(super) fn is_congested(&self) -> bool {
+        self.is_congested
+    }
+
+    /// Something was lost. From then on the kernel drops all that is for the socket, replies too, until it is empty.
+    pub(super) fn note_loss(&mut self) {
+        self.is_congested = true;
+        self.is_settled = false;
+    }
+
+    /// Nothing is left in the socket. The kernel answers while a request is sent, and goes on with a dump whenever the
+    /// socket is received from; so no dump runs, and what was given up is answered, or will never be.
+    pub(super) fn note_quiet(&mut self) {
+        self.is_congested = false;
+        if std::mem::replace(&mut self.is_settled, true) {
+            return;
+        }
+        self.open.retain(|_, it| it.handle.is_some());
+        for dump in self.open.values_mut().filter(|it| it.is_dump()) {
+            dump.is_ended = true;
+        }
+    }
+
+    /// Whom a message is for that came to a group, or to none, which is 0. `is_joined` says whether the socket is in
+    /// that group: the kernel sends its copy to one who asked with ECHO in the group's name, whether or not.
+    pub(super) fn owners(&self, message: &ffi::Message, group: u32, is_joined: impl FnOnce() -> bool) -> Owners {
+        let open = self.open.get(&message.number).filter(|_| message.port == self.port);
+        match open {
+            Some(open) if group == 0 => Owners { request: open.handle, ..Owners::default() },
+            Some(open) if open.flags.contains(NlmF::ECHO) => {
+                Owners { request: open.handle, is_group: is_joined(), is_unasked: false }
+            }
+            _ => Owners { request: None, is_group: group != 0, is_unasked: group == 0 },
+        }
+    }
+
+    /// Whether a message is the last one of its request's answer.
+    pub(super) fn ends(&self, message: &ffi::Message, group: u32) -> bool {
+        message.port == self.port
+            && self
+                .open
+                .get(&message.number)
+                .is_some_and(|it| (group == 0 || it.flags.contains(NlmF::ECHO)) && it.ends_with(message))
+    }
+
+    /// The answer of this request has ended.
+    pub(super) fn note_end(&mut self, number: u32) {
+        let Some(open) = self.open.get_mut(&number) else { return };
+        open.is_ended = true;
+        if open.handle.is_none() {
+            self.open.remove(&number);
+        }
+    }
+}

@@ -1,0 +1,95 @@
+//! Names of generic netlink: what the controller says of families and groups.
+
+use super::synchronous::{NlRouter, NlRouterReceiverHandle};
+use crate::consts::genl::{CtrlAttr, CtrlAttrMcastGrp, CtrlCmd};
+use crate::consts::nl::{GenlId, NlmF};
+use crate::err::{BuildError, RouterError};
+use crate::genl::{AttrTypeBuilder, GenlAttrHandle, Genlmsghdr, GenlmsghdrBuilder, NlattrBuilder};
+use crate::nl::NlPayload;
+use crate::types::{Buffer, GenlBuffer};
+
+type Controller = Genlmsghdr<CtrlCmd, CtrlAttr>;
+
+impl NlRouter {
+    fn ask_controller(
+        &self,
+        flags: NlmF,
+        attributes: GenlBuffer<CtrlAttr, Buffer>,
+    ) -> Result<NlRouterReceiverHandle<GenlId, Controller>, RouterError> {
+        let body = GenlmsghdrBuilder::default()
+            .cmd(CtrlCmd::Getfamily)
+            .version(2)
+            .attrs(attributes)
+            .build()
+            .map_err(|error| RouterError::new(error.to_string()))?;
+        self.send(GenlId::Ctrl, flags, NlPayload::Payload(body))
+    }
+
+    /// The bodies in which the controller tells of a family.
+    fn get_genl_family(&self, name: &str) -> Result<Vec<Controller>, RouterError> {
+        let words = |error: BuildError| RouterError::new(error.to_string());
+        let kind = AttrTypeBuilder::default().nla_type(CtrlAttr::FamilyName).build().map_err(words)?;
+        let asked = NlattrBuilder::default().nla_type(kind).nla_payload(name).build().map_err(words)?;
+        let replies = self.ask_controller(NlmF::ACK, [asked].into_iter().collect())?;
+        let mut bodies = Vec::new();
+        for reply in replies {
+            bodies.extend(reply?.get_payload().cloned());
+        }
+        Ok(bodies)
+    }
+
+    /// The number of a family of generic netlink.
+    pub fn resolve_genl_family(&self, family: &str) -> Result<u16, RouterError> {
+        let bodies = self.get_genl_family(family)?;
+        let id = |body: &Controller| body.attrs().get_attr_handle().get_attr_payload_as(CtrlAttr::FamilyId).ok();
+        bodies.iter().find_map(id).ok_or_else(|| RouterError::new(format!("no family {family}")))
+    }
+
+    /// The number of a multicast group of a family of generic netlink.
+    pub fn resolve_nl_mcast_group(&self, family: &str, group: &str) -> Result<u32, RouterError> {
+        for body in self.get_genl_family(family)? {
+            for (name, id) in groups_of(&body)? {
+                if name == group {
+                    return Ok(id);
+                }
+            }
+        }
+        Err(RouterError::new(format!("no group {group} of family {family}")))
+    }
+
+    /// The multicast groups of a family of generic netlink, by name and number.
+    pub fn list_nl_mcast_groups(&self, family: &str) -> Result<Vec<(String, u32)>, RouterError> {
+        let mut groups = Vec::new();
+        for body in self.get_genl_family(family)? {
+            groups.extend(groups_of(&body)?);
+        }
+        Ok(groups)
+    }
+
+    /// The names of the family and the group of generic netlink that have this group's number.
+    pub fn lookup_id(&self, id: u32) -> Result<(String, String), RouterError> {
+        let mut found = None;
+        for reply in self.ask_controller(NlmF::DUMP, GenlBuffer::new())? {
+            let Some(body) = reply?.get_payload().cloned() else { continue };
+            let attributes = body.attrs().get_attr_handle();
+            let family: String = attributes.get_attr_payload_as_with_len(CtrlAttr::FamilyName)?;
+            let group = groups_of(&body)?.into_iter().find(|(_, number)| *number == id);
+            found = group.map(|(name, _)| (family, name)).or(found);
+        }
+        found.ok_or_else(|| RouterError::new(format!("no group {id}")))
+    }
+}
+
+/// The groups that the controller tells of in a body.
+fn groups_of(body: &Controller) -> Result<Vec<(String, u32)>, RouterError> {
+    let attributes = body.attrs().get_attr_handle();
+    let Some(list) = attributes.get_attribute(CtrlAttr::McastGroups) else { return Ok(Vec::new()) };
+    let groups: GenlAttrHandle<'_, u16> = list.get_attr_handle()?;
+    let mut found = Vec::new();
+    for group in groups.iter() {
+        let fields = group.get_attr_handle::<CtrlAttrMcastGrp>()?;
+        let name = fields.get_attr_payload_as_with_len(CtrlAttrMcastGrp::Name)?;
+        found.push((name, fields.get_attr_payload_as(CtrlAttrMcastGrp::Id)?));
+    }
+    Ok(found)
+}

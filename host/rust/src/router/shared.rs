@@ -1,0 +1,119 @@
+//! What a router and its handles share, and how they wait.
+
+use super::state::{State, Step};
+use crate::consts::nl::NlmF;
+use crate::err::RouterError;
+use crate::socket::synchronous::{NlSocketHandle, Wait};
+use std::io;
+use std::sync::{Arc, Condvar, Mutex, MutexGuard, PoisonError};
+
+/// One of the threads that wait watches the socket. Whoever is in a call receives what is there, under the lock, so that
+/// it is taken in in the order in which the socket gave it, and wakes those whom it is for.
+#[derive(Debug)]
+pub(super) struct Shared {
+    pub(super) socket: NlSocketHandle,
+    state: Mutex<State>,
+}
+
+impl Shared {
+    pub(super) fn over(socket: NlSocketHandle) -> Result<Self, RouterError> {
+        let state = Mutex::new(State::new(socket.pid())?);
+        Ok(Shared { socket, state })
+    }
+
+    pub(super) fn state(&self) -> MutexGuard<'_, State> {
+        self.state.lock().unwrap_or_else(PoisonError::into_inner)
+    }
+
+    /// Sends a request: its number and its handle. The kernel runs one dump on a socket at a time, so one goes out when
+    /// the one before has ended.
+    pub(super) fn send(&self, kind: u16, flags: NlmF, body: &[u8]) -> Result<(u32, usize), RouterError> {
+        let is_dump = flags.contains(NlmF::DUMP);
+        let mut state = self.state();
+        state.settle(&self.socket, is_dump)?;
+        let (bytes, number, handle) = state.request(kind, flags, body)?;
+        let sent = if is_dump {
+            self.socket.send_bytes(&bytes)
+        } else {
+            drop(state);
+            let sent = self.socket.send_bytes(&bytes);
+            state = self.state();
+            sent
+        };
+        match sent {
+            Ok(()) => Ok((number, handle)),
+            Err(error) => {
+                state.take_back(number);
+                Err(error.into())
+            }
+        }
+    }
+
+    /// The bytes of the next item of a handle, or none after the last. It waits until something comes.
+    pub(super) fn next(&self, handle: usize, bell: &Arc<Condvar>) -> Result<Option<Vec<u8>>, RouterError> {
+        let wait = self.socket.begin_wait();
+        let mut state = self.state();
+        let next = loop {
+            match state.read(handle) {
+                Step::Item(bytes) => break Ok(Some(bytes)),
+                Step::Error(error) => break Err(error),
+                Step::End => break Ok(None),
+                Step::Waits => {}
+            }
+            let waited;
+            match state.receive(&self.socket) {
+                Ok(true) => continue,
+                Ok(false) => (state, waited) = self.wait(state, handle, bell, &wait),
+                Err(error) => break Err(error),
+            }
+            if let Err(error) = waited {
+                break Err(error.into());
+            }
+        };
+        state.pass_on_watch();
+        next
+    }
+
+    /// Waits until something has come for a handle, or at the socket; refused where the wait is over.
+    fn wait<'s>(
+        &'s self,
+        mut state: MutexGuard<'s, State>,
+        handle: usize,
+        bell: &Arc<Condvar>,
+        wait: &Wait,
+    ) -> (MutexGuard<'s, State>, io::Result<()>) {
+        if !state.is_watched {
+            state.is_watched = true;
+            drop(state);
+            let waited = self.socket.wait(wait);
+            state = self.state();
+            state.is_watched = false;
+            return (state, waited);
+        }
+        let left = match wait.left() {
+            Ok(left) => left,
+            Err(error) => return (state, Err(error)),
+        };
+        state.bells.insert(handle, Arc::clone(bell));
+        state = match left {
+            Some(left) => bell.wait_timeout(state, left).unwrap_or_else(PoisonError::into_inner).0,
+            None => bell.wait(state).unwrap_or_else(PoisonError::into_inner),
+        };
+        state.bells.remove(&handle);
+        (state, Ok(()))
+    }
+
+    /// Drops what comes to groups until nothing is there.
+    pub(super) fn drop_multicast(&self) -> Result<(), RouterError> {
+        let wait = self.socket.begin_wait();
+        let mut state = self.state();
+        loop {
+            let is_more = state.receive(&self.socket)?;
+            state.drop_multicast();
+            if !is_more {
+                return Ok(());
+            }
+            wait.left()?;
+        }
+    }
+}

@@ -1,0 +1,471 @@
+//! What a router keeps: it takes in what the socket gives, and each handle reads its share.
+
+use super::ledger::{Ledger, Owners};
+use crate::consts::nl::NlmF;
+use crate::err::{RouterError, SocketError, refused};
+use crate::ffi;
+use crate::socket::synchronous::NlSocketHandle;
+use std::collections::{HashMap, VecDeque};
+use std::io;
+use std::ops::Range;
+use std::sync::{Arc, Condvar};
+
+/// The handle of what comes to groups.
+pub(super) const MULTICAST: usize = 0;
+
+/// The handle of what no request has asked for, which the library's router does not have.
+pub(super) const UNASKED: usize = usize::MAX;
+
+/// `EMSGSIZE`, by which the router is told of a datagram that was cut.
+const CUT: i32 = 90;
+
+/// So many requests may be given up before what is there is received, so that those are forgotten that are answered.
+const CROWD: usize = 256;
+
+/// A fault of the socket, which can be told more than once.
+#[derive(Clone, Copy, Debug)]
+pub(super) enum Fault {
+    System(i32),
+    Cut { length: usize, room: usize },
+}
+
+impl Fault {
+    fn number(self) -> i32 {
+        match self {
+            Fault::System(number) => number,
+            Fault::Cut { .. } => CUT,
+        }
+    }
+
+    fn error(self) -> RouterError {
+        RouterError::Socket(match self {
+            Fault::System(number) => SocketError::Io(io::Error::from_raw_os_error(number)),
+            Fault::Cut { length, room } => SocketError::Truncated { length, room },
+        })
+    }
+}
+
+/// What was received and is not handed in yet. A part of it stays where the library has no memory.
+#[derive(Clone, Copy, Debug)]
+enum Held {
+    /// The rest of the datagram in the room; `is_half` says that its first run has gone to its request, and not yet to
+    /// multicast.
+    Datagram {
+        walk: ffi::Walk,
+        group: u32,
+        is_half: bool,
+    },
+    Fault(Fault),
+}
+
+/// Messages that stand side by side and are for the same; or the end of a datagram that cannot be read.
+#[derive(Debug)]
+struct Run {
+    bytes: Range<usize>,
+    count: u64,
+    owners: Owners,
+    is_fault: bool,
+    /// The request whose answer ends with the last of them.
+    ended: Option<u32>,
+}
+
+/// Where among the messages for multicast something was lost.
+#[derive(Debug, Default)]
+struct Losses {
+    came: u64,
+    read: u64,
+    /// Each with the count of messages that came before it.
+    at: VecDeque<(u64, Fault)>,
+}
+
+impl Losses {
+    /// Something is lost here. What is lost at one place is told once, as what came last.
+    fn note(&mut self, fault: Fault) {
+        if self.at.back().is_some_and(|(place, _)| *place == self.came) {
+            self.at.pop_back();
+        }
+        self.at.push_back((self.came, fault));
+    }
+
+    /// The loss before the next message.
+    fn next(&mut self) -> Option<Fault> {
+        let (place, _) = self.at.front()?;
+        if *place <= self.read { self.at.pop_front().map(|(_, fault)| fault) } else { None }
+    }
+}
+
+/// What comes of a read.
+pub(super) enum Step {
+    Item(Vec<u8>),
+    Error(RouterError),
+    End,
+    Waits,
+}
+
+#[derive(Debug)]
+pub(super) struct State {
+    router: ffi::Router,
+    ledger: Ledger,
+    /// Whether a thread waits at the socket. The others that wait have a bell each, by their handles.
+    pub(super) is_watched: bool,
+    pub(super) bells: HashMap<usize, Arc<Condvar>>,
+    room: Vec<u8>,
+    held: Option<Held>,
+    /// The fault of the socket that came last.
+    fault: Option<Fault>,
+    losses: Losses,
+    /// What no request has asked for, where somebody reads it.
+    unasked: Option<VecDeque<Result<Vec<u8>, Fault>>>,
+    /// The handle whose item was read last, where there was no memory for its bytes; and what was fetched since for
+    /// handles that have not read again.
+    unfetched: Option<usize>,
+    fetched: HashMap<usize, Vec<u8>>,
+}
+
+impl State {
+    pub(super) fn new(port: u32) -> Result<Self, RouterError> {
+        Ok(State {
+            router: ffi::Router::new(port).map_err(|_| RouterError::Memory)?,
+            ledger: Ledger::new(port),
+            is_watched: false,
+            bells: HashMap::new(),
+            room: Vec::new(),
+            held: None,
+            fault: None,
+            losses: Losses::default(),
+            unasked: None,
+            unfetched: None,
+            fetched: HashMap::new(),
+        })
+    }
+
+    pub(super) fn set_number(&mut self, number: u32) {
+        self.router.set_number(number);
+    }
+
+    /// A request, as bytes; with its number and its handle.
+    pub(super) fn request(
+        &mut self,
+        kind: u16,
+        flags: NlmF,
+        body: &[u8],
+    ) -> Result<(Vec<u8>, u32, usize), RouterError> {
+        let mut out = vec![0; 16 + body.len().next_multiple_of(4)];
+        let mut sent = ffi::Sent::default();
+        match self.router.send(kind, flags.bits(), body, &mut out, &mut sent) {
+            ffi::END => {}
+            ffi::MEMORY => return Err(RouterError::Memory),
+            ffi::IN_USE => return Err(RouterError::SeqInUse),
+            code => return Err(RouterError::Ser(refused(code).into())),
+        }
+        let number = u32::from_ne_bytes([out[8], out[9], out[10], out[11]]);
+        if self.ledger.has(number) {
+            self.router.close(sent.handle);
+            self.router.set_number(number);
+            return Err(RouterError::SeqInUse);
+        }
+        self.ledger.add(number, sent.handle, flags);
+        Ok((out, number, sent.handle))
+    }
+
+    /// Nobody reads this request any more.
+    pub(super) fn give_up(&mut self, number: u32) {
+        if let Some(handle) = self.ledger.give_up(number) {
+            self.close(handle);
+        }
+    }
+
+    /// A request was not sent.
+    pub(super) fn take_back(&mut self, number: u32) {
+        if let Some(handle) = self.ledger.take_back(number) {
+            self.close(handle);
+        }
+    }
+
+    pub(super) fn close(&mut self, handle: usize) {
+        self.router.close(handle);
+        self.fetched.remove(&handle);
+        self.unfetched.take_if(|it| *it == handle);
+    }
+
+    /// What no request has asked for is kept from now on: not where it was kept before.
+    pub(super) fn keep_unasked(&mut self) -> bool {
+        let is_new = self.unasked.is_none();
+        self.unasked.get_or_insert_default();
+        is_new
+    }
+
+    /// It is kept no longer.
+    pub(super) fn drop_unasked(&mut self) {
+        self.unasked = None;
+    }
+
+    /// Makes the socket ready for a request: before a dump, after a loss and where many requests were given up, it takes
+    /// in what is there, until no dump runs, what was given up has its answer, and nothing is dropped any more.
+    pub(super) fn settle(&mut self, socket: &NlSocketHandle, is_dump: bool) -> Result<(), RouterError> {
+        if is_dump || self.ledger.is_congested() || self.ledger.count() > CROWD {
+            while !self.ledger.is_settled() && self.receive(socket)? {}
+        }
+        Ok(())
+    }
+
+    /// Drops what waits for multicast.
+    pub(super) fn drop_multicast(&mut self) {
+        let mut item = ffi::Item::default();
+        while matches!(self.router.read(MULTICAST, &mut item), ffi::ITEM | ffi::KERNEL_ERROR) {}
+        self.fetched.remove(&MULTICAST);
+        self.unfetched = None;
+        self.losses = Losses::default();
+    }
+
+    // ---- What comes
+
+    /// Receives what is there, hands it in, and wakes those whom it is for: whether something was there.
+    pub(super) fn receive(&mut self, socket: &NlSocketHandle) -> Result<bool, RouterError> {
+        if self.held.is_none() {
+            self.held = match socket.received_into(&mut self.room) {
+                Ok(Some((length, group))) => {
+                    let end = completed(&mut self.room, length);
+                    Some(Held::Datagram { walk: ffi::Walk { place: 0, end }, group, is_half: false })
+                }
+                Ok(None) => {
+                    self.ledger.note_quiet();
+                    return Ok(false);
+                }
+                Err(SocketError::Truncated { length, room }) => Some(Held::Fault(Fault::Cut { length, room })),
+                Err(SocketError::Io(error)) => match error.raw_os_error() {
+                    Some(number) => Some(Held::Fault(Fault::System(number))),
+                    None => return Err(error.into()),
+                },
+                Err(error) => return Err(error.into()),
+            };
+        }
+        self.hand_in(socket)?;
+        Ok(true)
+    }
+
+    /// Hands in what is held. Where the library has no memory, the rest is held on.
+    fn hand_in(&mut self, socket: &NlSocketHandle) -> Result<(), RouterError> {
+        while let Some(held) = self.held {
+            match held {
+                Held::Fault(fault) => {
+                    taken(self.router.fault(fault.number()))?;
+                    self.held = None;
+                    self.note_fault(fault);
+                }
+                Held::Datagram { walk, .. } if walk.place == walk.end => self.held = None,
+                Held::Datagram { walk, group, is_half } => {
+                    let run = self.next_run(walk, group, socket);
+                    self.hand_in_run(&run, group, is_half)?;
+                    let walk = ffi::Walk { place: run.bytes.end, end: walk.end };
+                    self.held = Some(Held::Datagram { walk, group, is_half: false });
+                    self.note_run(&run);
+                }
+            }
+        }
+        Ok(())
+    }
+
+    /// The messages that come next and are for the same.
+    fn next_run(&self, walk: ffi::Walk, group: u32, socket: &NlSocketHandle) -> Run {
+        let mut run =
+            Run { bytes: walk.place..walk.place, count: 0, owners: Owners::default(), is_fault: false, ended: None };
+        let mut next = walk;
+        let mut message = ffi::Message::default();
+        let is_joined = || socket.list_mcast_membership().is_ok_and(|it| it.is_set(group as usize));
+        while next.place < next.end && run.ended.is_none() {
+            let is_message = ffi::next_message(&self.room, &mut next, &mut message) == ffi::ITEM;
+            if !is_message {
+                run.is_fault = run.count == 0;
+                next.place = next.end;
+            }
+            let owners = if is_message { self.ledger.owners(&message, group, is_joined) } else { Owners::default() };
+            if run.count > 0 && (!is_message || owners != run.owners) {
+                return run;
+            }
+            run.owners = owners;
+            run.count += u64::from(is_message);
+            run.bytes.end = next.place;
+            run.ended = (is_message && self.ledger.ends(&message, group)).then_some(message.number);
+        }
+        run
+    }
+
+    fn hand_in_run(&mut self, run: &Run, group: u32, is_half: bool) -> Result<(), RouterError> {
+        let bytes = &self.room[run.bytes.clone()];
+        if run.owners.request.is_some() && !is_half {
+            taken(self.router.datagram(bytes, &[]))?;
+        }
+        if run.owners.is_group {
+            if let Some(Held::Datagram { is_half, .. }) = &mut self.held {
+                *is_half = run.owners.request.is_some();
+            }
+            taken(self.router.datagram(bytes, &[group]))?;
+        }
+        if run.is_fault {
+            let groups = if group == 0 { &[][..] } else { &[group] };
+            taken(self.router.datagram(bytes, groups))?;
+        }
+        Ok(())
+    }
+
+    /// A run was handed in.
+    fn note_run(&mut self, run: &Run) {
+        if run.is_fault {
+            return self.ring_all();
+        }
+        if let Some(number) = run.ended {
+            self.ledger.note_end(number);
+        }
+        if let Some(handle) = run.owners.request {
+            self.ring(handle);
+        }
+        if run.owners.is_group {
+            self.losses.came += run.count;
+            self.ring(MULTICAST);
+        }
+        if let (true, Some(unasked)) = (run.owners.is_unasked, &mut self.unasked) {
+            let mut walk = ffi::Walk { place: run.bytes.start, end: run.bytes.end };
+            let mut message = ffi::Message::default();
+            let mut start = walk.place;
+            while ffi::next_message(&self.room, &mut walk, &mut message) == ffi::ITEM {
+                unasked.push_back(Ok(self.room[start..walk.place].to_vec()));
+                start = walk.place;
+            }
+            self.ring(UNASKED);
+        }
+    }
+
+    /// A fault was handed in: each open request is given it, and who listens, in its place.
+    fn note_fault(&mut self, fault: Fault) {
+        self.fault = Some(fault);
+        self.losses.note(fault);
+        self.ledger.note_loss();
+        if let Some(unasked) = &mut self.unasked {
+            if unasked.back().is_some_and(Result::is_err) {
+                unasked.pop_back();
+            }
+            unasked.push_back(Err(fault));
+        }
+        self.ring_all();
+    }
+
+    fn ring(&self, handle: usize) {
+        if let Some(bell) = self.bells.get(&handle) {
+            bell.notify_one();
+        }
+    }
+
+    fn ring_all(&self) {
+        self.bells.values().for_each(|it| it.notify_one());
+    }
+
+    /// One who leaves has another one watch the socket, where nobody does.
+    pub(super) fn pass_on_watch(&self) {
+        if let (false, Some(bell)) = (self.is_watched, self.bells.values().next()) {
+            bell.notify_one();
+        }
+    }
+
+    // ---- What is read
+
+    /// What a handle is given now.
+    pub(super) fn read(&mut self, handle: usize) -> Step {
+        if let Some(owner) = self.unfetched.take() {
+            match self.item(owner) {
+                Ok(bytes) => _ = self.fetched.insert(owner, bytes),
+                Err(error) => return Step::Error(error),
+            }
+        }
+        if let Some(bytes) = self.fetched.remove(&handle) {
+            return Step::Item(bytes);
+        }
+        match handle {
+            UNASKED => match self.unasked.as_mut().map(VecDeque::pop_front) {
+                Some(Some(next)) => next.map_or_else(|it| Step::Error(it.error()), Step::Item),
+                Some(None) => Step::Waits,
+                None => Step::Error(RouterError::ClosedChannel),
+            },
+            MULTICAST => match self.losses.next() {
+                Some(fault) => Step::Error(fault.error()),
+                None => self.read_router(MULTICAST),
+            },
+            handle => self.read_router(handle),
+        }
+    }
+
+    fn read_router(&mut self, handle: usize) -> Step {
+        let mut item = ffi::Item::default();
+        match self.router.read(handle, &mut item) {
+            ffi::WAITS => Step::Waits,
+            ffi::END => Step::End,
+            ffi::ITEM | ffi::KERNEL_ERROR => {
+                self.losses.read += u64::from(handle == MULTICAST);
+                self.item(handle).map_or_else(Step::Error, Step::Item)
+            }
+            code => Step::Error(self.error(code)),
+        }
+    }
+
+    /// The bytes of the item that was read last, for this handle. Where there is no memory, the next read fetches it.
+    fn item(&mut self, handle: usize) -> Result<Vec<u8>, RouterError> {
+        let mut bytes = vec![0; 1024];
+        let mut length = 0;
+        let mut code = self.router.item(&mut bytes, &mut length);
+        if code == ffi::ROOM {
+            bytes.resize(length, 0);
+            code = self.router.item(&mut bytes, &mut length);
+        }
+        match code {
+            ffi::END => {
+                bytes.truncate(length);
+                Ok(bytes)
+            }
+            ffi::MEMORY => {
+                self.unfetched = Some(handle);
+                Err(RouterError::Memory)
+            }
+            code => Err(RouterError::De(refused(code).into())),
+        }
+    }
+
+    fn error(&self, code: i32) -> RouterError {
+        match code {
+            ffi::MEMORY => RouterError::Memory,
+            ffi::STRAY => RouterError::BadSeqOrPid,
+            ffi::NO_ACK => RouterError::NoAck,
+            ffi::UNEXPECTED_ACK => RouterError::UnexpectedAck,
+            ffi::HANDLE => RouterError::ClosedChannel,
+            ffi::LINK => self.fault.map_or(RouterError::ClosedChannel, Fault::error),
+            code => RouterError::De(refused(code).into()),
+        }
+    }
+}
+
+/// Whether the library has taken something in.
+fn taken(code: i32) -> Result<(), RouterError> {
+    match code {
+        ffi::END => Ok(()),
+        ffi::MEMORY => Err(RouterError::Memory),
+        code => Err(RouterError::De(refused(code).into())),
+    }
+}
+
+/// Completes the padding of the last message of a datagram, which a sender may leave out: the datagram's end.
+fn completed(room: &mut Vec<u8>, length: usize) -> usize {
+    if length.is_multiple_of(4) {
+        return length;
+    }
+    let mut walk = ffi::Walk { place: 0, end: length };
+    let mut message = ffi::Message::default();
+    while ffi::next_message(&room[..length], &mut walk, &mut message) == ffi::ITEM {}
+    let Some((head, _)) = room[walk.place..length].split_first_chunk::<16>() else { return length };
+    let stated = u32::from_ne_bytes([head[0], head[1], head[2], head[3]]) as usize;
+    let end = length.next_multiple_of(4);
+    if stated < 16 || stated > length - walk.place || walk.place + stated.next_multiple_of(4) != end {
+        return length;
+    }
+    room.resize(room.len().max(end), 0);
+    room[length..end].fill(0);
+    end
+}
