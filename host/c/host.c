@@ -91,11 +91,17 @@ static int take_loss(struct losses *losses) {
 
 /* ---- What comes ---- */
 
-static struct owners owners_of(const struct host *host, const struct open *open, uint32_t group) {
-    struct owners owners = {.is_group = group != 0, .is_unasked = group == 0};
-    if (open == NULL) return owners;
-    owners = (struct owners){.is_group = group != 0 && link_has_joined(&host->link, group)};
-    if (!open->is_given_up) owners.has_request = true, owners.handle = open->handle;
+/* Whom a message is for, the answer to `open` if it is one. The kernel sends its copy to one who asked with ECHO in the
+ * group's name, whether or not the socket is in it. */
+static struct owners owners_of(const struct host *host, const struct open *open, const struct neli_message *message) {
+    uint32_t group = host->held.group;
+    bool is_own = message->port == host->link.port;
+    struct owners owners = {
+        .has_request = open != NULL && !open->is_given_up,
+        .is_group = group != 0 && (!is_own || link_has_joined(&host->link, group)),
+        .is_unasked = group == 0 && open == NULL,
+    };
+    if (owners.has_request) owners.handle = open->handle;
     return owners;
 }
 
@@ -117,7 +123,7 @@ static struct run next_run(const struct host *host) {
             break;
         }
         const struct open *open = ledger_request(&host->ledger, &message, host->held.group);
-        struct owners owners = owners_of(host, open, host->held.group);
+        struct owners owners = owners_of(host, open, &message);
         if (run.count > 0 && !are_same(&owners, &run.owners)) break;
         run.owners = owners;
         run.count++;

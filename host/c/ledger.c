@@ -71,7 +71,6 @@ void ledger_note_quiet(struct ledger *ledger) {
 
 struct open *ledger_request(const struct ledger *ledger, const struct neli_message *message, uint32_t group) {
     struct open *open = message->port == ledger->port ? ledger_number(ledger, message->number) : NULL;
-    /* The kernel sends its copy to one who asked with ECHO in the group's name, whether or not the socket is in it. */
     bool is_answer = open != NULL && (group == 0 || (open->flags & NLM_F_ECHO) != 0);
     return is_answer ? open : NULL;
 }

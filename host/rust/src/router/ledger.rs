@@ -124,23 +124,24 @@ impl Ledger {
     /// Whom a message is for that came to a group, or to none, which is 0. `is_joined` says whether the socket is in
     /// that group: the kernel sends its copy to one who asked with ECHO in the group's name, whether or not.
     pub(super) fn owners(&self, message: &ffi::Message, group: u32, is_joined: impl FnOnce() -> bool) -> Owners {
-        let open = self.open.get(&message.number).filter(|_| message.port == self.port);
-        match open {
-            Some(open) if group == 0 => Owners { request: open.handle, ..Owners::default() },
-            Some(open) if open.flags.contains(NlmF::ECHO) => {
-                Owners { request: open.handle, is_group: is_joined(), is_unasked: false }
-            }
-            _ => Owners { request: None, is_group: group != 0, is_unasked: group == 0 },
+        let is_own = message.port == self.port;
+        let open = self.answered(message, group);
+        Owners {
+            request: open.and_then(|it| it.handle),
+            is_group: group != 0 && (!is_own || is_joined()),
+            is_unasked: group == 0 && open.is_none(),
         }
+    }
+
+    /// The request whose answer a message is part of.
+    fn answered(&self, message: &ffi::Message, group: u32) -> Option<&Open> {
+        let open = self.open.get(&message.number).filter(|_| message.port == self.port)?;
+        (group == 0 || open.flags.contains(NlmF::ECHO)).then_some(open)
     }
 
     /// Whether a message is the last one of its request's answer.
     pub(super) fn ends(&self, message: &ffi::Message, group: u32) -> bool {
-        message.port == self.port
-            && self
-                .open
-                .get(&message.number)
-                .is_some_and(|it| (group == 0 || it.flags.contains(NlmF::ECHO)) && it.ends_with(message))
+        self.answered(message, group).is_some_and(|it| it.ends_with(message))
     }
 
     /// The answer of this request has ended.
