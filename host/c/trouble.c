@@ -439,6 +439,66 @@ static void a_request_of_many_bytes(void) {
     host_close(&host);
 }
 
+/* ---- Refused memory, by the linker's --wrap ---- */
+
+static unsigned left_to_refusal;
+
+void *__real_malloc(size_t size);
+void *__real_realloc(void *at, size_t size);
+void *__wrap_malloc(size_t size);
+void *__wrap_realloc(void *at, size_t size);
+
+static bool is_refused(void) {
+    return left_to_refusal > 0 && --left_to_refusal == 0;
+}
+
+void *__wrap_malloc(size_t size) {
+    return is_refused() ? NULL : __real_malloc(size);
+}
+
+void *__wrap_realloc(void *at, size_t size) {
+    return is_refused() ? NULL : __real_realloc(at, size);
+}
+
+/* The next item, and again where memory ran out. */
+static int32_t next_again(struct host *host, size_t handle, struct neli_message *message) {
+    int32_t code = host_next(host, handle, message);
+    return code == NELI_MEMORY ? host_next(host, handle, message) : code;
+}
+
+/* Whichever allocation is refused, the same call can be made again, and nothing is lost. */
+static void memory_that_is_refused_once(void) {
+    static const uint32_t groups[] = {RTNLGRP_IPV4_IFADDR};
+    struct ifinfomsg link = {.ifi_index = 1};
+    bool was_refused = true;
+    for (unsigned k = 1; was_refused; k++) {
+        struct host host;
+        struct neli_message message;
+        size_t question;
+        WANT(k < 200);
+        open_or_fail(&host, NETLINK_ROUTE, groups, 1);
+        host.link.wait = 200;
+        host.keeps_unasked = true;
+        size_t echo = send_address(&host, NLM_F_ECHO | NLM_F_ACK, (uint8_t)k);
+        left_to_refusal = k;
+        ask_by_hand(&host, 4711);
+        int32_t code = host_send(&host, RTM_GETLINK, NLM_F_ACK, &link, sizeof link, &question);
+        if (code == NELI_MEMORY) code = host_send(&host, RTM_GETLINK, NLM_F_ACK, &link, sizeof link, &question);
+        WANT(code == NELI_OK);
+        WANT(next_again(&host, question, &message) == NELI_ITEM && message.type == RTM_NEWLINK);
+        WANT(next_again(&host, question, &message) == NELI_ITEM && message.type == NLMSG_ERROR);
+        WANT(next_again(&host, question, &message) == NELI_END);
+        WANT(next_again(&host, echo, &message) == NELI_ITEM && message.type == RTM_NEWADDR);
+        WANT(next_again(&host, echo, &message) == NELI_ITEM && message.type == NLMSG_ERROR);
+        WANT(next_again(&host, NELI_MULTICAST, &message) == NELI_ITEM && message.type == RTM_NEWADDR);
+        WANT(next_again(&host, HOST_UNASKED, &message) == NELI_ITEM && message.type == RTM_NEWLINK);
+        WANT(next_again(&host, HOST_UNASKED, &message) == NELI_ITEM && message.type == NLMSG_ERROR);
+        was_refused = left_to_refusal == 0;
+        left_to_refusal = 0;
+        host_close(&host);
+    }
+}
+
 static const struct test tests[] = {
     {"a_handle_that_is_closed_unread", a_handle_that_is_closed_unread},
     {"a_handle_that_is_closed_after_a_loss", a_handle_that_is_closed_after_a_loss},
@@ -455,6 +515,7 @@ static const struct test tests[] = {
     {"an_error_with_any_code", an_error_with_any_code},
     {"a_padding_that_was_left_out", a_padding_that_was_left_out},
     {"a_request_of_many_bytes", a_request_of_many_bytes},
+    {"memory_that_is_refused_once", memory_that_is_refused_once},
 };
 
 int main(int argc, char **argv) {

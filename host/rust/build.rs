@@ -2,7 +2,7 @@
 //!
 //! `NELI_C` is the folder of `libneli_c.a`, `RATTLE_C` that of `liblibc_c.a`. Without them the library is looked for
 //! where `host/library` leaves it, and the heap beside the page that `rt doc` names. The numbers are those that the
-//! suite `constants` prints, and `./check` compares.
+//! suite `constants` prints, and `./check` compares: the file `constants` here.
 
 use std::collections::BTreeMap;
 use std::path::{Path, PathBuf};
@@ -66,7 +66,7 @@ fn main() {
     let top = here.join("../..");
     link("NELI_C", "neli_c", || top.join("crates/neli_c/out"));
     link("RATTLE_C", "libc_c", kit);
-    let table = top.join("suites/constants/stdout");
+    let table = here.join("constants");
     println!("cargo::rerun-if-changed={}", table.display());
     let text = fs::read_to_string(&table).unwrap_or_else(|error| panic!("{}: {error}", table.display()));
     let out = PathBuf::from(env::var("OUT_DIR").expect("cargo says where to write"));

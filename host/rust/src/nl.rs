@@ -393,3 +393,22 @@ impl<T: NlType, P: ToBytes> ToBytes for Nlmsghdr<T, P> {
         Ok(())
     }
 }
+
+#[cfg(test)]
+mod tests {
+    use super::Nlmsghdr;
+    use crate::err::RouterError;
+    use crate::types::Buffer;
+
+    #[test]
+    fn an_error_may_have_any_code() {
+        for (code, number) in [(-19, Some(19)), (19, None), (i32::MIN, None)] {
+            let words = [36, 2, 0, 0, code as u32, 16, 16, 0, 0];
+            let bytes: Vec<u8> = words.iter().flat_map(|it| it.to_ne_bytes()).collect();
+            let answer = Nlmsghdr::<u16, Buffer>::of_bytes(&bytes).expect("is read").into_err().expect("is an error");
+            let error = RouterError::Nlmsgerr(answer);
+            assert_eq!(error.errno(), number);
+            assert!(!error.to_string().is_empty());
+        }
+    }
+}

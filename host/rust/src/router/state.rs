@@ -453,7 +453,7 @@ fn taken(code: i32) -> Result<(), RouterError> {
 
 /// Completes the padding of the last message of a datagram, which a sender may leave out: the datagram's end.
 fn completed(room: &mut Vec<u8>, length: usize) -> usize {
-    if length.is_multiple_of(4) {
+    if length % 4 == 0 {
         return length;
     }
     let mut walk = ffi::Walk { place: 0, end: length };
@@ -468,4 +468,24 @@ fn completed(room: &mut Vec<u8>, length: usize) -> usize {
     room.resize(room.len().max(end), 0);
     room[length..end].fill(0);
     end
+}
+
+#[cfg(test)]
+mod tests {
+    use super::completed;
+
+    /// A message of 17 bytes of payload, as many bytes of which came as are said.
+    fn end_of(came: usize) -> usize {
+        let mut room = vec![9; 64];
+        room[..4].copy_from_slice(&33u32.to_ne_bytes());
+        let end = completed(&mut room, came);
+        assert!(room[came..end].iter().all(|it| *it == 0));
+        end
+    }
+
+    #[test]
+    fn a_last_padding_is_completed() {
+        assert_eq!((end_of(33), end_of(34), end_of(35), end_of(36)), (36, 36, 36, 36));
+        assert_eq!((end_of(31), end_of(32), end_of(37)), (31, 32, 37));
+    }
 }
