@@ -62,7 +62,7 @@ int32_t host_open(struct host *host, int family, const uint32_t *groups, size_t 
 /* Closes both. */
 void host_close(struct host *host);
 
-/* Waits for a datagram of the kernel, whole, which is then in `link.room`. `group` is the group that it came to, or 0. */
+/* Waits for a datagram of the kernel, which is then in `link.room`. `group` is the group that it came to, or 0. */
 int32_t host_receive(struct host *host, size_t *length, uint32_t *group);
 
 /* Sends a request, whose replies are read by `handle`. A dump goes out when the one before has ended, and what comes of
@@ -70,8 +70,8 @@ int32_t host_receive(struct host *host, size_t *length, uint32_t *group);
 int32_t host_send(struct host *host, uint16_t type, uint16_t flags, const void *body, size_t length, size_t *handle);
 
 /* The next item of a handle, which may wait for datagrams. At NELI_ITEM and NELI_KERNEL_ERROR `message` is the header
- * of what is in `item`. NELI_LINK of NELI_MULTICAST and of HOST_UNASKED says that something was lost at this place; more
- * comes. At NELI_MEMORY nothing is lost, if the next item that is read is this handle's. */
+ * of what is in `item`. NELI_LINK of NELI_MULTICAST and of HOST_UNASKED says that something was lost at this place;
+ * more comes. At NELI_MEMORY nothing is lost, if the next item that is read is this handle's. */
 int32_t host_next(struct host *host, size_t handle, struct neli_message *message);
 
 /* Closes the handle of a request, at any time: what still comes for it is nobody's, and is not kept. */

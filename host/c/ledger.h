@@ -48,11 +48,11 @@ void ledger_end(struct ledger *ledger, struct open *open);
 /* Something was lost. From then on the kernel drops all that is for the socket, replies too, until it is empty. */
 void ledger_note_loss(struct ledger *ledger);
 
-/* Nothing is left in the socket. The kernel answers while a request is sent, and goes on with a dump whenever the socket
- * is received from; so no dump runs, and what was given up is answered, or will never be. */
+/* Nothing is left in the socket. The kernel answers while a request is sent, and goes on with a dump whenever the
+ * socket is received from; so no dump runs, and what was given up is answered, or will never be. */
 void ledger_note_quiet(struct ledger *ledger);
 
-/* The request whose answer a message that came to a group, or to none, which is 0, is part of; NULL where it is none. */
+/* The request whose answer a message is part of that came to a group, or to none, which is 0; NULL where it is none. */
 struct open *ledger_request(const struct ledger *ledger, const struct neli_message *message, uint32_t group);
 
 /* Whether a message is the last one of its request's answer. */

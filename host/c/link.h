@@ -12,7 +12,7 @@ struct link {
     int fd, stop; /* the socket, and what can be read once the waits are stopped */
     uint32_t port;
     int fault;
-    int wait;             /* how many milliseconds a call waits, from its beginning on; without end below 0, as at first */
+    int wait;             /* how many milliseconds a call waits in all; without end below 0, as at first */
     bool ends_by_signals; /* whether a signal ends a wait; at first it goes on */
     uint8_t *room;        /* the datagram that was received last */
     size_t size;
@@ -26,8 +26,8 @@ void link_close(struct link *link);
 int32_t link_send(struct link *link, const uint8_t *bytes, size_t length);
 
 /* Receives the datagram of the kernel that is there into `room`; another sender's is passed over. `group` is the group
- * that it came to, or 0. NELI_WAITS where nothing is there. One of more than a mebibyte is NELI_LINK with EMSGSIZE: it is
- * lost, and the next one may be as long. A last padding that was left out is there. */
+ * that it came to, or 0. NELI_WAITS where nothing is there. One of more than a mebibyte is NELI_LINK with EMSGSIZE: it
+ * is lost, and the next one may be as long. A last padding that was left out is there. */
 int32_t link_receive(struct link *link, size_t *length, uint32_t *group);
 
 /* When a wait that begins now is over, for `link_wait`. */

@@ -58,8 +58,8 @@ static inline size_t padded(size_t length) {
     return (length + 3) / 4 * 4;
 }
 
-/* The model of a frame: where bytes begin with one whose header has so many bytes and states this length, NELI_ITEM, and
- * the size of the frame with its padding; else why not. */
+/* The model of a frame: where bytes begin with one whose header has so many bytes and states this length, NELI_ITEM,
+ * and the size of the frame with its padding; else why not. */
 static inline int32_t frame(size_t left, size_t head, size_t stated, size_t *size) {
     if (left == 0) return NELI_END;
     if (left < head) return NELI_SHORT;

@@ -176,8 +176,8 @@ static size_t written(struct script *script, uint8_t *to) {
     memset(to, 0, padded(length));
     for (size_t i = 16; i < length; i++) to[i] = next_byte(script);
     uint32_t number = choice < 240 ? handle->number : next_byte(script);
-    uint32_t words[] = {(uint32_t)length, types[choice % 4] | (uint32_t)(flags & 2) << 16 | (uint32_t)(flags & 12) << 22,
-                        number, flags & 0xf0 ? PORT : next_byte(script)};
+    uint32_t kind = types[choice % 4] | (uint32_t)(flags & 2) << 16 | (uint32_t)(flags & 12) << 22;
+    uint32_t words[] = {(uint32_t)length, kind, number, flags & 0xf0 ? PORT : next_byte(script)};
     if (flags == 255) words[0] = next_byte(script);
     memcpy(to, words, sizeof words);
     if (choice % 4 == 0 && length >= 36 && flags & 16) memset(to + 16, 0, 4);
@@ -216,7 +216,8 @@ static void want_item(const struct delivery *it, int32_t wanted, const struct ne
     uint8_t *to = out + ROOM - room;
     int32_t code;
     if (wanted == NELI_KERNEL_ERROR) {
-        WANT(item->type == 2 && item->number == u32_at(it->bytes + 8) && (uint32_t)item->error == u32_at(it->bytes + 16));
+        WANT(item->type == 2 && item->number == u32_at(it->bytes + 8));
+        WANT((uint32_t)item->error == u32_at(it->bytes + 16));
         return;
     }
     CALLED(code, neli_router_item(&router, to, room - 1, &length));

@@ -14,7 +14,8 @@ static void try_values(const uint8_t *bytes, size_t length, size_t place) {
     uint64_t eight, be_eight, model = 0;
     size_t found, left = place < length ? length - place : 0;
     for (size_t i = 0; i < 8 && i < left; i++) model |= (uint64_t)bytes[place + i] << 8 * i;
-    WANT(neli_get_u8(bytes, length, place, &one) == (left < 1 ? NELI_SHORT : NELI_OK) && (left < 1 || one == (uint8_t)model));
+    WANT(neli_get_u8(bytes, length, place, &one) == (left < 1 ? NELI_SHORT : NELI_OK));
+    WANT(left < 1 || one == (uint8_t)model);
     WANT(neli_get_u16(bytes, length, place, &two) == (left < 2 ? NELI_SHORT : NELI_OK));
     WANT(neli_get_be16(bytes, length, place, &be_two) == (left < 2 ? NELI_SHORT : NELI_OK));
     WANT(left < 2 || (two == (uint16_t)model && be_two == __builtin_bswap16(two)));
@@ -34,7 +35,7 @@ static bool is_attribute(const struct neli_attribute *it, const uint8_t *bytes, 
            it->flags == (type & 0xc000) && it->payload == place + 4 && it->payload_length == it->length - 4u;
 }
 
-/* A walk over attributes: each by a call of its own, several at once, and the first with the number that the last has. */
+/* A walk over attributes: each by a call of its own, several at once, and the first one with its number. */
 static void try_attributes(const uint8_t *bytes, size_t length, struct neli_walk walk, int depth) {
     struct neli_walk model = walk, several = walk, start = walk, inner;
     struct neli_attribute one = {0}, found, kept[SEVERAL], *many = (void *)(out + ROOM - SEVERAL * sizeof one);
@@ -85,7 +86,8 @@ static void try_answer(const uint8_t *bytes, size_t length, const struct neli_me
     WANT(neli_get_answer(bytes, length, message, &answer) == wanted);
     if (wanted != NELI_OK) return;
     WANT((uint32_t)answer.code == u32_at(payload));
-    WANT(message->type == 3 || (answer.echo_length == u32_at(payload + 4) && answer.echo_number == u32_at(payload + 12)));
+    if (message->type == 2) WANT(answer.echo_length == u32_at(payload + 4));
+    if (message->type == 2) WANT(answer.echo_number == u32_at(payload + 12));
     WANT(answer.attributes.place == message->payload + place && answer.attributes.end == message->payload + left);
     try_attributes(bytes, length, answer.attributes, 1);
 }

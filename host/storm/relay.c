@@ -1,7 +1,7 @@
 /* `relay FD SEED` passes requests from a socket pair on to the kernel, and what the kernel sends back: by the seed it
- * loses datagrams, with and without the fault that the kernel would report, repeats them, and gives them in another order;
- * and it changes a link now and then, so that there are notifications. After so many requests it passes on all as it is.
- * `shim.c` says how what it writes looks. */
+ * loses datagrams, with and without the fault that the kernel would report, repeats them, and gives them in another
+ * order; and it changes a link now and then, so that there are notifications. After so many requests it passes on all
+ * as it is. `shim.c` says how what it writes looks. */
 #define _GNU_SOURCE
 #include <errno.h>
 #include <linux/if_link.h>

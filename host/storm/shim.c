@@ -1,9 +1,9 @@
-/* Puts a relay between a program and the kernel: loaded before the C library (LD_PRELOAD), it gives the program's first
- * netlink socket as one end of a socket pair, whose other end has the program `$NELI_RELAY` by the seed `$NELI_SEED`. What
- * the program sends and what its socket gives is written into the file `$NELI_LOG`, as it happens.
+/* Puts a relay between a program and the kernel: loaded before the C library (LD_PRELOAD), it gives the program's
+ * first netlink socket as one end of a socket pair, whose other end has the program `$NELI_RELAY` by the seed
+ * `$NELI_SEED`. What the program sends and what its socket gives is written into the file `$NELI_LOG`, as it happens.
  *
- * On the pair a datagram begins with four bytes: its group, or FAULT, and then four bytes with the number in errno.h. In
- * the file each record begins with its kind (1 sent, 2 given, 3 a fault), its group or number, and its length. */
+ * On the pair a datagram begins with four bytes: its group, or FAULT, and then four bytes with the number in errno.h.
+ * In the file each record begins with its kind (1 sent, 2 given, 3 a fault), its group or number, and its length. */
 #define _GNU_SOURCE
 #include <dlfcn.h>
 #include <errno.h>

@@ -1,8 +1,8 @@
 /* `storm SEED` asks, reads and closes by a seed, over a socket that `shim.c` gives; and says what it was given, a line
- * each: `sent NUMBER`, `item NUMBER TYPE`, `over NUMBER CODE` of a request, `group NUMBER MTU` and `lost ERRNO` of what
- * came to groups, `slow MILLISECONDS` of a wait that was too long. When nothing comes any more it reads what is left, and
- * says `left NUMBER` of a request that may have more to come, and `open COUNT` of those that are still kept. `check`
- * compares it with what the socket gave. */
+ * each: `sent NUMBER`, `item NUMBER TYPE`, `over NUMBER CODE` of a request, `group NUMBER MTU` and `lost ERRNO` of
+ * what came to groups, `slow MILLISECONDS` of a wait that was too long. When nothing comes any more it reads what is
+ * left, and says `left NUMBER` of a request that may have more to come, and `open COUNT` of those that are still kept.
+ * `check` compares it with what the socket gave. */
 #define _GNU_SOURCE
 #include "host.h"
 #include <errno.h>
@@ -114,7 +114,8 @@ static uint32_t mtu_of(const struct neli_message *message) {
     struct neli_walk walk;
     struct neli_attribute found;
     uint32_t value = 0;
-    if (neli_attributes_of(message, sizeof(struct ifinfomsg), &walk) == NELI_OK && host_find(&host, &walk, IFLA_MTU, &found))
+    if (neli_attributes_of(message, sizeof(struct ifinfomsg), &walk) == NELI_OK &&
+        host_find(&host, &walk, IFLA_MTU, &found))
         (void)neli_get_u32(host.item + found.payload, found.payload_length, 0, &value);
     return value;
 }

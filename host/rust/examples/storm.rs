@@ -1,5 +1,5 @@
-//! `storm SEED` asks, reads and drops handles by a seed, and says what it was given: `host/storm/storm.c` in Rust, where
-//! the lines are explained. `host/test` runs it over a relay that loses, repeats and reorders.
+//! `storm SEED` asks, reads and drops handles by a seed, and says what it was given: `host/storm/storm.c` in Rust,
+//! where the lines are explained. `host/test` runs it over a relay that loses, repeats and reorders.
 
 use neli::consts::nl::NlmF;
 use neli::consts::rtnl::{Ifa, Ifla, RtAddrFamily, RtScope, Rtm};

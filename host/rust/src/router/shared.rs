@@ -7,8 +7,8 @@ use crate::socket::synchronous::{NlSocketHandle, Wait};
 use std::io;
 use std::sync::{Arc, Condvar, Mutex, MutexGuard, PoisonError};
 
-/// One of the threads that wait watches the socket. Whoever is in a call receives what is there, under the lock, so that
-/// it is taken in in the order in which the socket gave it, and wakes those whom it is for.
+/// One of the threads that wait watches the socket. Whoever is in a call receives what is there, under the lock, so
+/// that it is taken in in the order in which the socket gave it, and wakes those whom it is for.
 #[derive(Debug)]
 pub(super) struct Shared {
     pub(super) socket: NlSocketHandle,

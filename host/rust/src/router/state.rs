@@ -200,8 +200,8 @@ impl State {
         self.unasked = None;
     }
 
-    /// Makes the socket ready for a request: before a dump, after a loss and where many requests were given up, it takes
-    /// in what is there, until no dump runs, what was given up has its answer, and nothing is dropped any more.
+    /// Makes the socket ready for a request: before a dump, after a loss and where many requests were given up, it
+    /// takes in what is there, until no dump runs, what was given up has its answer, and nothing is dropped any more.
     pub(super) fn settle(&mut self, socket: &NlSocketHandle, is_dump: bool) -> Result<(), RouterError> {
         if is_dump || self.ledger.is_congested() || self.ledger.count() > CROWD {
             while !self.ledger.is_settled() && self.receive(socket)? {}
