@@ -225,10 +225,16 @@ static void take(const struct host *host, const struct neli_message *message, vo
         WANT(neli_get_u32(host->item + found.payload, found.payload_length, 0, mtu) == NELI_OK);
 }
 
-/* Makes and removes links, and changes the MTU of others, as fast as it can. */
+/* Makes and removes links, and changes the MTU of another, as fast as it can. It comes back when it is under way. */
 static pid_t storm(int first, int rounds) {
+    int both[2];
+    char byte;
+    WANT(pipe(both) == 0);
     pid_t child = fork();
-    if (child != 0) return child;
+    if (child != 0) {
+        WANT(read(both[0], &byte, 1) == 1 && close(both[0]) == 0 && close(both[1]) == 0);
+        return child;
+    }
     struct host host = route_host(false);
     for (int i = first; i < first + rounds; i++) {
         char name[16], peer[16];
@@ -239,6 +245,7 @@ static pid_t storm(int first, int rounds) {
         struct body gone = link_body(0, false);
         put_text(&gone, IFLA_IFNAME, name);
         if (i % 3 != 0) done(&host, RTM_DELLINK, 0, gone);
+        if (i == first + 8) WANT(write(both[1], "", 1) == 1);
     }
     host_close(&host);
     _exit(0);
@@ -249,22 +256,25 @@ static void want_right_picture(int buffer, int first) {
     struct ifinfomsg all = {0};
     struct host host = route_host(true);
     struct neli_message message;
-    int32_t code = NELI_OK;
+    int32_t code;
     int status, losses = 0;
+    bool is_over_yet = false, was_over;
     set_buffer(&host, buffer);
-    host.link.wait = 1000;
+    host.link.wait = 300;
     WANT(host_resync(&host, RTM_GETLINK, &all, sizeof all, 5, take, &picture) == NELI_OK);
     pid_t child = storm(first, 30);
     do {
+        was_over = is_over_yet;
+        if (!is_over_yet) is_over_yet = waitpid(child, &status, WNOHANG) == child;
         code = host_next(&host, NELI_MULTICAST, &message);
         if (code == NELI_ITEM) take(&host, &message, &picture), rest(1);
-        if (code != NELI_LINK || host.fault == EAGAIN) continue;
-        losses++;
-        code = host_resync(&host, RTM_GETLINK, &all, sizeof all, 1000, take, &picture);
-        WANT(code == NELI_OK);
-    } while (code == NELI_ITEM || code == NELI_OK);
-    WANT(is_over(&host, code, EAGAIN) && waitpid(child, &status, 0) == child && status == 0);
-    WANT(losses > 0);
+        else if (!is_over(&host, code, EAGAIN)) {
+            WANT(is_over(&host, code, ENOBUFS));
+            losses++;
+            WANT(host_resync(&host, RTM_GETLINK, &all, sizeof all, 1000, take, &picture) == NELI_OK);
+        }
+    } while (!was_over || !is_over(&host, code, EAGAIN));
+    WANT(status == 0 && losses > 0);
     set_buffer(&host, 1 << 20);
     WANT(host_resync(&host, RTM_GETLINK, &all, sizeof all, 5, take, &truth) == NELI_OK);
     WANT(memcmp(&picture, &truth, sizeof truth) == 0);
@@ -305,7 +315,7 @@ static void a_wait_has_an_end(void) {
     int64_t after = milliseconds();
     kill(child, SIGKILL);
     waitpid(child, NULL, 0);
-    WANT(after - before >= 295 && after - before < 600);
+    WANT(after - before >= 295 && after - before < 1500);
     host_close(&host);
 }
 

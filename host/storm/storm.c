@@ -18,7 +18,7 @@
 #define REQUESTS 8
 #define STEPS 250
 #define SHORT 3
-#define LONG 100
+#define LONG 300
 
 static const uint32_t groups[] = {RTNLGRP_LINK};
 static struct host host;
@@ -49,7 +49,7 @@ static int32_t next(size_t handle, int wait, struct neli_message *message) {
     host.link.wait = wait;
     int32_t code = host_next(&host, handle, message);
     int64_t took = milliseconds() - start;
-    if (took > wait + 500) printf("slow %lld\n", (long long)took);
+    if (took > wait + 3000) printf("slow %lld\n", (long long)took);
     return code;
 }
 

@@ -17,7 +17,7 @@ use std::time::{Duration, Instant};
 const REQUESTS: usize = 8;
 const STEPS: usize = 250;
 const SHORT: Duration = Duration::from_millis(3);
-const LONG: Duration = Duration::from_millis(100);
+const LONG: Duration = Duration::from_millis(300);
 
 type Handle = NlRouterReceiverHandle<u16, Buffer>;
 
@@ -102,7 +102,7 @@ impl Storm {
         self.router.socket().set_recv_timeout(Some(wait)).ok()?;
         let start = Instant::now();
         let next = self.open[at].1.next();
-        if start.elapsed() > wait + Duration::from_millis(500) {
+        if start.elapsed() > wait + Duration::from_secs(3) {
             println!("slow {}", start.elapsed().as_millis());
         }
         next.map(|it| it.map(|it| *it.nl_type()).map_err(|it| code_of(&it)))
