@@ -9,6 +9,9 @@
 /* So many requests may be given up before what is there is received, so that those are forgotten that are answered. */
 #define CROWD 256
 
+/* So many faults in a row, without end, are those of a socket that is gone. */
+#define FAULTS 8
+
 /* Messages that stand side by side and are for the same; or the end of a datagram that cannot be read. */
 struct run {
     size_t start, end;
@@ -178,6 +181,7 @@ static int32_t hand_in_fault(struct host *host) {
     note_loss(&host->heard, host->last_fault);
     note_loss(&host->unheard, host->last_fault);
     ledger_note_loss(&host->ledger);
+    host->faults++;
     host->held.is_fault = false;
     return NELI_OK;
 }
@@ -189,6 +193,7 @@ static int32_t take_in(struct host *host) {
         *held = (struct held){0};
         int32_t code = link_receive(&host->link, &held->walk.end, &held->group);
         if (code == NELI_WAITS) ledger_note_quiet(&host->ledger);
+        if (code != NELI_LINK) host->faults = 0;
         if (code != NELI_OK && code != NELI_LINK) return code;
         held->is_datagram = code == NELI_OK;
         held->is_fault = code == NELI_LINK;
@@ -207,7 +212,7 @@ static int32_t take_in(struct host *host) {
 /* Takes in what is there, until no dump runs, what was given up has its answer, and nothing is dropped any more. */
 static int32_t settle(struct host *host) {
     int32_t code = NELI_OK;
-    while (code == NELI_OK && !host->ledger.is_settled) code = take_in(host);
+    while (code == NELI_OK && !host->ledger.is_settled && host->faults < FAULTS) code = take_in(host);
     return code == NELI_WAITS ? NELI_OK : code;
 }
 
@@ -324,7 +329,7 @@ int32_t host_next(struct host *host, size_t handle, struct neli_message *message
 static int32_t drop_multicast(struct host *host) {
     int64_t end = link_end_of_wait(&host->link);
     int32_t code = NELI_OK;
-    while (code == NELI_OK && !link_is_over(end)) {
+    while (code == NELI_OK && !link_is_over(end) && host->faults < FAULTS) {
         struct neli_item item;
         int32_t read;
         code = take_in(host);
@@ -334,7 +339,7 @@ static int32_t drop_multicast(struct host *host) {
         host->heard.read = host->heard.came;
         host->heard.count = 0;
     }
-    if (code == NELI_OK) return failed(host, EAGAIN);
+    if (code == NELI_OK) return failed(host, link_is_over(end) ? EAGAIN : host->last_fault);
     return code == NELI_WAITS ? NELI_OK : code;
 }
 

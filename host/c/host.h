@@ -40,6 +40,7 @@ struct host {
     struct ledger ledger;
     int fault;      /* why NELI_LINK; 0 at first */
     int last_fault; /* the one that was handed in last */
+    int faults;     /* how many came in a row */
     struct held held;
     struct losses heard, unheard; /* of what comes to groups, and of what no request has asked for */
     bool keeps_unasked;

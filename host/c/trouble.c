@@ -436,6 +436,22 @@ static void a_padding_that_was_left_out(void) {
     close(kernel);
 }
 
+/* A program may have closed what is not its own. */
+static void a_socket_that_is_gone(void) {
+    static struct picture picture;
+    struct host host = route_host(true);
+    struct ifinfomsg all = {0};
+    struct neli_message message;
+    size_t dump, open = send_question(&host, 1);
+    WANT(host_close_request(&host, send_question(&host, 1)) == NELI_OK && close(host.link.fd) == 0);
+    WANT(is_over(&host, host_send(&host, RTM_GETLINK, NLM_F_DUMP, &all, sizeof all, &dump), EBADF));
+    WANT(is_over(&host, host_next(&host, open, &message), EBADF));
+    WANT(is_over(&host, host_next(&host, NELI_MULTICAST, &message), EBADF));
+    WANT(is_over(&host, host_resync(&host, RTM_GETLINK, &all, sizeof all, 3, take, &picture), EBADF));
+    host.link.fd = -1;
+    host_close(&host);
+}
+
 static void a_request_of_many_bytes(void) {
     struct host host = route_host(false);
     static struct {
@@ -524,6 +540,7 @@ static const struct test tests[] = {
     {"what_was_not_asked_for_ends_nothing", what_was_not_asked_for_ends_nothing},
     {"an_error_with_any_code", an_error_with_any_code},
     {"a_padding_that_was_left_out", a_padding_that_was_left_out},
+    {"a_socket_that_is_gone", a_socket_that_is_gone},
     {"a_request_of_many_bytes", a_request_of_many_bytes},
     {"memory_that_is_refused_once", memory_that_is_refused_once},
 };

@@ -109,10 +109,11 @@ impl Shared {
         let mut state = self.state();
         loop {
             let is_more = state.receive(&self.socket)?;
-            state.drop_multicast();
+            state.drop_multicast()?;
             if !is_more {
                 return Ok(());
             }
+            state.last_fault().map_or(Ok(()), Err)?;
             wait.left()?;
         }
     }

@@ -22,6 +22,9 @@ const CUT: i32 = 90;
 /// So many requests may be given up before what is there is received, so that those are forgotten that are answered.
 const CROWD: usize = 256;
 
+/// So many faults in a row, without end, are those of a socket that is gone.
+const FAULTS: u32 = 8;
+
 /// A fault of the socket, which can be told more than once.
 #[derive(Clone, Copy, Debug)]
 pub(super) enum Fault {
@@ -111,8 +114,9 @@ pub(super) struct State {
     pub(super) bells: HashMap<usize, Arc<Condvar>>,
     room: Vec<u8>,
     held: Option<Held>,
-    /// The fault of the socket that came last.
+    /// The fault of the socket that came last, and how many came in a row.
     fault: Option<Fault>,
+    faults: u32,
     losses: Losses,
     /// What no request has asked for, where somebody reads it.
     unasked: Option<VecDeque<Result<Vec<u8>, Fault>>>,
@@ -132,6 +136,7 @@ impl State {
             room: Vec::new(),
             held: None,
             fault: None,
+            faults: 0,
             losses: Losses::default(),
             unasked: None,
             unfetched: None,
@@ -204,18 +209,25 @@ impl State {
     /// takes in what is there, until no dump runs, what was given up has its answer, and nothing is dropped any more.
     pub(super) fn settle(&mut self, socket: &NlSocketHandle, is_dump: bool) -> Result<(), RouterError> {
         if is_dump || self.ledger.is_congested() || self.ledger.count() > CROWD {
-            while !self.ledger.is_settled() && self.receive(socket)? {}
+            while !self.ledger.is_settled() && self.faults < FAULTS && self.receive(socket)? {}
         }
         Ok(())
     }
 
     /// Drops what waits for multicast.
-    pub(super) fn drop_multicast(&mut self) {
-        let mut item = ffi::Item::default();
-        while matches!(self.router.read(MULTICAST, &mut item), ffi::ITEM | ffi::KERNEL_ERROR) {}
-        self.fetched.remove(&MULTICAST);
-        self.unfetched = None;
-        self.losses = Losses::default();
+    pub(super) fn drop_multicast(&mut self) -> Result<(), RouterError> {
+        loop {
+            match self.read(MULTICAST) {
+                Step::Item(_) | Step::Error(RouterError::Socket(_)) => {}
+                Step::Error(error) => return Err(error),
+                Step::End | Step::Waits => return Ok(()),
+            }
+        }
+    }
+
+    /// The fault that a socket gives without end which is gone.
+    pub(super) fn last_fault(&self) -> Option<RouterError> {
+        self.fault.filter(|_| self.faults >= FAULTS).map(Fault::error)
     }
 
     // ---- What comes
@@ -225,10 +237,12 @@ impl State {
         if self.held.is_none() {
             self.held = match socket.received_into(&mut self.room) {
                 Ok(Some((length, group))) => {
+                    self.faults = 0;
                     let end = completed(&mut self.room, length);
                     Some(Held::Datagram { walk: ffi::Walk { place: 0, end }, group, is_half: false })
                 }
                 Ok(None) => {
+                    self.faults = 0;
                     self.ledger.note_quiet();
                     return Ok(false);
                 }
@@ -339,6 +353,7 @@ impl State {
     /// A fault was handed in: each open request is given it, and who listens, in its place.
     fn note_fault(&mut self, fault: Fault) {
         self.fault = Some(fault);
+        self.faults += 1;
         self.losses.note(fault);
         self.ledger.note_loss();
         if let Some(unasked) = &mut self.unasked {
