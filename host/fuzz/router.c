@@ -12,7 +12,6 @@ enum kind { MESSAGE, STRAY, REFUSED, LOST };
 /* What waits for a handle: a message, with its padding, or a fault. */
 struct delivery {
     enum kind kind;
-    int32_t refusal;
     uint8_t bytes[96];
     size_t length;
 };
@@ -66,69 +65,77 @@ static bool has_number(const struct handle *handle) {
     return handle->is_open && handle != &handles[NELI_MULTICAST];
 }
 
-static void deliver(struct handle *handle, enum kind kind, int32_t refusal, const uint8_t *bytes, size_t length) {
+static void deliver(struct handle *handle, enum kind kind, const uint8_t *bytes, size_t length) {
     WANT(handle->count < WAITING);
     struct delivery *it = &handle->waits[handle->count++];
-    *it = (struct delivery){.kind = kind, .refusal = refusal, .length = length};
+    *it = (struct delivery){.kind = kind, .length = length};
     if (length > 0) memcpy(it->bytes, bytes, length);
 }
 
-static void deliver_all(enum kind kind, int32_t refusal, const uint8_t *bytes, size_t length) {
+static void deliver_all(enum kind kind, const uint8_t *bytes, size_t length) {
     for (size_t i = 0; i < handle_count; i++)
-        if (has_number(&handles[i])) deliver(&handles[i], kind, refusal, bytes, length);
+        if (has_number(&handles[i])) deliver(&handles[i], kind, bytes, length);
 }
 
 static void deliver_message(const uint8_t *at, size_t length, bool is_group) {
     if (is_group) {
-        if (handles[NELI_MULTICAST].is_open) deliver(&handles[NELI_MULTICAST], MESSAGE, 0, at, length);
+        if (handles[NELI_MULTICAST].is_open) deliver(&handles[NELI_MULTICAST], MESSAGE, at, length);
         return;
     }
     for (size_t i = 0; i < handle_count; i++)
         if (has_number(&handles[i]) && u32_at(at + 12) == PORT && handles[i].number == u32_at(at + 8))
-            return deliver(&handles[i], MESSAGE, 0, at, length);
-    deliver_all(STRAY, 0, at, length);
+            return deliver(&handles[i], MESSAGE, at, length);
+    deliver_all(STRAY, at, length);
 }
 
+/* Whether bytes are attributes to their end. */
+static bool are_attributes(const uint8_t *at, size_t left) {
+    size_t size = 0;
+    int32_t code;
+    while ((code = frame(left, 4, stated_at(at, left, 4), &size)) == NELI_ITEM) at += size, left -= size;
+    return code == NELI_END;
+}
+
+/* Whether a message can be read: what its type says of its payload. */
+static bool is_readable(const uint8_t *at) {
+    uint32_t type = u16_at(at + 4), flags = u16_at(at + 6);
+    size_t left = u32_at(at) - 16;
+    const uint8_t *payload = at + 16;
+    if (type == 3 && flags & 2 && left > 0) return left >= 4 && are_attributes(payload + 4, left - 4);
+    if (type != 2) return true;
+    if (left < 20) return false;
+    size_t echoed = u32_at(payload + 4), place = 4 + padded(echoed);
+    if (flags & 0x100) return !(flags & 0x200) || are_attributes(payload + 20, left - 20);
+    if (u32_at(payload) == 0) return true;
+    if (echoed < 16 || echoed > left - 4) return false;
+    return place >= left || are_attributes(payload + place, left - place);
+}
+
+/* A code that says why bytes cannot be read. */
+#define UNREADABLE 4711
+
+static bool is_unreadable(int32_t code) {
+    return code == NELI_SHORT || code == NELI_LENGTH || code == NELI_BYTES;
+}
+
+/* A datagram ends at the first message that cannot be read, which every handle with a number is told. */
 static void deliver_datagram(const uint8_t *bytes, size_t length, bool is_group) {
     size_t size = 0;
     for (size_t place = 0;; place += size) {
         size_t left = length - place;
         int32_t code = frame(left, 16, stated_at(bytes + place, left, 16), &size);
         if (code == NELI_END) return;
-        if (code != NELI_ITEM) return deliver_all(REFUSED, code, NULL, 0);
+        if (code != NELI_ITEM || !is_readable(bytes + place)) return deliver_all(REFUSED, NULL, 0);
         deliver_message(bytes + place, size, is_group);
     }
 }
 
-/* Why attributes cannot be read, or NELI_OK. */
-static int32_t attributes_code(const uint8_t *at, size_t left) {
-    size_t size = 0;
-    int32_t code;
-    while ((code = frame(left, 4, stated_at(at, left, 4), &size)) == NELI_ITEM) at += size, left -= size;
-    return code;
-}
-
-/* Why a message cannot be read, or NELI_OK. */
-static int32_t reading(const uint8_t *at) {
-    uint32_t type = u16_at(at + 4), flags = u16_at(at + 6);
-    size_t left = u32_at(at) - 16;
-    const uint8_t *payload = at + 16;
-    if (type == 3 && flags & 2 && left > 0) return left < 4 ? NELI_SHORT : attributes_code(payload + 4, left - 4);
-    if (type != 2) return NELI_OK;
-    if (left < 20) return NELI_SHORT;
-    size_t echoed = u32_at(payload + 4), place = 4 + padded(echoed);
-    if (flags & 0x100) return flags & 0x200 ? attributes_code(payload + 20, left - 20) : NELI_OK;
-    if (u32_at(payload) == 0) return NELI_OK;
-    if (echoed < 16 || echoed > left - 4) return NELI_LENGTH;
-    return place < left ? attributes_code(payload + place, left - place) : NELI_OK;
-}
-
-/* The code of the handle's next item, by the reply rule. */
+/* The code of the handle's next item, by the reply rule, or UNREADABLE. */
 static int32_t answer(struct handle *handle, const struct delivery *it) {
     uint32_t type = u16_at(it->bytes + 4), flags = u16_at(it->bytes + 6);
-    int32_t code = it->kind == LOST ? NELI_LINK : it->kind == REFUSED ? it->refusal : reading(it->bytes);
     handle->is_ended = true;
-    if (code != NELI_OK) return code;
+    if (it->kind == LOST) return NELI_LINK;
+    if (it->kind == REFUSED) return UNREADABLE;
     if (it->kind == STRAY) return NELI_STRAY;
     if (type == 2 && u32_at(it->bytes + 16) == 0) return handle->needs_ack ? NELI_ITEM : NELI_UNEXPECTED_ACK;
     if (handle->has_single) return NELI_NO_ACK;
@@ -208,24 +215,29 @@ static void try_fault(struct script *script) {
         if (handles[i].count + 8 > WAITING) return;
     CALLED(code, neli_router_fault(&router, number));
     WANT(code == NELI_OK);
-    if (number != 11) deliver_all(LOST, 0, NULL, 0);
+    if (number != 11) deliver_all(LOST, NULL, 0);
 }
 
+/* The item that was read, and its bytes. Those of an answer are written anew, as far as it was read. */
 static void want_item(const struct delivery *it, int32_t wanted, const struct neli_item *item) {
-    size_t length = 0, room = padded(u32_at(it->bytes));
-    uint8_t *to = out + ROOM - room;
+    size_t length = 0, size = padded(u32_at(it->bytes));
     int32_t code;
+    CALLED(code, neli_router_item(&router, out, 0, &length));
+    WANT(code == NELI_ROOM && length >= 16 && length % 4 == 0 && length <= size);
+    uint8_t *to = out + ROOM - length;
+    CALLED(code, neli_router_item(&router, to, length, &length));
+    WANT(code == NELI_OK && u32_at(to) == length && u16_at(to + 4) == item->type);
     if (wanted == NELI_KERNEL_ERROR) {
-        WANT(item->type == 2 && item->number == u32_at(it->bytes + 8));
-        WANT((uint32_t)item->error == u32_at(it->bytes + 16));
+        /* Number and port are those of the request, which the error repeats. */
+        WANT(item->type == 2 && (uint32_t)item->error == u32_at(it->bytes + 16));
+        WANT(item->number == u32_at(it->bytes + 28) && item->port == u32_at(it->bytes + 32));
         return;
     }
-    CALLED(code, neli_router_item(&router, to, room - 1, &length));
-    WANT(code == NELI_ROOM && length >= 16 && length <= room);
-    CALLED(code, neli_router_item(&router, to, room, &length));
-    WANT(code == NELI_OK && item->type == u16_at(it->bytes + 4) && item->flags == u16_at(it->bytes + 6));
+    WANT(item->type == u16_at(it->bytes + 4) && item->flags == u16_at(it->bytes + 6));
     WANT(item->number == u32_at(it->bytes + 8) && item->port == u32_at(it->bytes + 12));
-    if (item->type != 2) WANT(memcmp(to, it->bytes, u32_at(it->bytes)) == 0);
+    bool is_answer = item->type == 2 || (item->type == 3 && item->flags & 2);
+    /* The length of another is that with its padding. */
+    if (!is_answer) WANT(length == size && memcmp(to + 4, it->bytes + 4, u32_at(it->bytes) - 4) == 0);
 }
 
 static void try_read(struct script *script) {
@@ -244,7 +256,7 @@ static void try_read(struct script *script) {
         return;
     }
     wanted = answer(handle, &first);
-    WANT(code == wanted);
+    WANT(wanted == UNREADABLE ? is_unreadable(code) : code == wanted);
     memmove(handle->waits, handle->waits + 1, --handle->count * sizeof first);
     if (code == NELI_ITEM || code == NELI_KERNEL_ERROR) want_item(&first, wanted, &item);
 }
