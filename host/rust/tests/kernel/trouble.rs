@@ -123,7 +123,14 @@ fn what_nobody_reads_is_not_kept() {
     alone(|| {
         let (other, _) = router(&[]);
         let (router, mut multicast) = router(&[LINK_GROUP]);
+        // What is dropped unread is told of a loss, and never answered.
         drop(unanswered(&router));
+        router.socket().set_recv_buffer_size(1).expect("the buffer is made small");
+        (0..100).for_each(|at| set_loopback(&other, at % 2 == 0));
+        router.socket().set_recv_buffer_size(1 << 20).expect("the buffer is made large");
+        assert!(multicast.find(Result::is_err).is_some(), "something is lost");
+        wait_shortly(&router);
+        assert!(multicast.find(Result::is_err).is_some(), "and then nothing is there");
         let mut before = 0;
         for at in 0..6000 {
             set_mtu(&other, 1000 + at);
