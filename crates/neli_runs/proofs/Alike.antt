@@ -1,6 +1,6 @@
 -- Histories in which the same requests were sent and the same handles closed, and what is right after them.
-use Rattle.std.proofs.Common.{ℕ, zero, suc, ◌≡◌, Bool, true, false, ◌&&◌, All, List, [], ◌∷◌, ◌++◌, Option, Some, None}
-use Rattle.std.proofs.Common.{Result, refl, sym, ap, subst, ◌∙◌, arith}
+use Rattle.std.proofs.Common.{ℕ, zero, suc, ◌≡◌, ◌↔◌, Bool, true, false, ◌&&◌, All, List, [], ◌∷◌, ◌++◌, Option, Some}
+use Rattle.std.proofs.Common.{None, Result, refl, sym, ap, subst, ◌∙◌, arith}
 use Rattle.std.specs.Prelude.{◌==◌}
 use Rattle.std.proofs.lemmas.Bool.Decides.{nat_tests}
 use Rattle.std.proofs.lemmas.List.Elements.{All-head, All-tail}
@@ -134,17 +134,17 @@ module _ {ST SP RT RP : Type 0} where
 
   -- ---- histories after which the same is right
 
-  -- they are alike, each handle was delivered the same, and those that pass were given the same items
+  -- they are alike, and each handle that passes was delivered the same and given the same items
   pub record IsSameFor (port : ℕ) (Passes : ℕ → Type 0) (h h' : History ST SP RT RP) : Type 0 where
     pub alike : IsAlike h h'
-    pub delivered : (k : ℕ) → deliveries port k h ≡ deliveries port k h'
+    pub delivered : (k : ℕ) → Passes k → deliveries port k h ≡ deliveries port k h'
     pub given : (k : ℕ) → Passes k → items_of k h ≡ items_of k h'
 
   module _ (port : ℕ) (Passes : ℕ → Type 0) where
     pub same-back : (h h' : History ST SP RT RP) → IsSameFor port Passes h h' → IsSameFor port Passes h' h
     same-back h h' s = record {
       alike = alike-back h h' s.alike;
-      delivered = λ k. sym (s.delivered k);
+      delivered = λ k p. sym (s.delivered k p);
       given = λ k p. sym (s.given k p);
     }
 
@@ -152,7 +152,7 @@ module _ {ST SP RT RP : Type 0} where
         → IsSameFor port Passes (e ∷ h) (e ∷ h')
     same-more e h h' s = record {
       alike = alike-more e h h' s.alike;
-      delivered = λ k. deliveries-after port k (e ∷ []) h h' s.alike (s.delivered k);
+      delivered = λ k p. deliveries-after port k (e ∷ []) h h' s.alike (s.delivered k p);
       given = λ k p. ap (with_item e.1 (reads k e.0)) (s.given k p);
     }
 
@@ -174,6 +174,16 @@ module _ {ST SP RT RP : Type 0} where
         respects h h' s c o (All-head Kind c cs kinds) each.0,
         each-same ((c, o) ∷ h) ((c, o) ∷ h') cs os (same-more (c, o) h h' s) (All-tail Kind c cs kinds) each.1,
       )
+
+      -- and the other way round, after more that came in both
+      pub each-after : (h h' later : History ST SP RT RP) (cs : List (Command ST SP)) (os : List (Outcome ST SP RT RP))
+          → IsSameFor port Passes h h' → All Kind cs
+          → EachAfter Said (later ++ h) cs os ↔ EachAfter Said (later ++ h') cs os
+      each-after h h' later cs os s kinds =
+          let same = same-after later h h' s in (
+            each-same (later ++ h) (later ++ h') cs os same kinds,
+            each-same (later ++ h') (later ++ h) cs os (same-back (later ++ h) (later ++ h') same) kinds,
+          )
 
     module _ (number : ST → ℕ) (wire : SP → Wire) (size : SP → ℕ) where
       pub sent-same : (h h' : History ST SP RT RP) → IsSameFor port Passes h h'
@@ -208,7 +218,7 @@ module _ {ST SP K P V : Type 0} (port : ℕ) (Passes : ℕ → Type 0) (type_of 
     subst (λ n. IsNextAnswer type_of number view size read n (is_numbered k) (deliveries port k h')
         (items_of k h') is.0) (s.alike.needs k)
         (subst (λ ds. IsNextAnswer type_of number view size read (needs_of k h) (is_numbered k) ds (items_of k h') is.0)
-        (s.delivered k)
+        (s.delivered k passes)
         (subst (λ xs. IsNextAnswer type_of number view size read (needs_of k h) (is_numbered k)
         (deliveries port k h) xs is.0) (s.given k passes) is.1)),
     is.2,

@@ -4,6 +4,7 @@ mod Places
 mod Readings
 mod Later
 mod OtherReads
+mod Notifications
 mod Regrouping
 mod Requests
 mod Steps

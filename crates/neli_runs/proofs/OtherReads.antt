@@ -14,12 +14,12 @@ use Rattle.neli_runs.specs.Deliveries.{deliveries}
 use Rattle.neli_runs.specs.History.{History, is_handle_open, is_sent, items_of, reads, with_item}
 use Rattle.neli_runs.specs.Outcomes.{EachAfter}
 use Rattle.neli_runs.specs.laws.Deliveries.{deliveries-more}
-use Rattle.neli_runs.proofs.Alike.{IsAlike, IsSameFor, ReadsOnly, each-same, same-after, same-back}
+use Rattle.neli_runs.proofs.Alike.{IsAlike, IsSameFor, ReadsOnly, each-after}
 
 another : (j k : ℕ) → k ≢ j → (j == k) ≡ false
 another j k other = grind (arith, nat_tests)
 
-nothing-added : (live : Bool) (ds : List Delivery) → ds ++ (if live then [] else []) ≡ ds
+pub nothing-added : (live : Bool) (ds : List Delivery) → ds ++ (if live then [] else []) ≡ ds
 nothing-added true ds = append-nil ds
 nothing-added false ds = append-nil ds
 
@@ -53,7 +53,7 @@ module _ {ST SP RT RP : Type 0} (port j : ℕ) where
       → IsSameFor port (λ k. k ≢ j) h ((command.Read j, o) ∷ h)
   same-read o h unsent = record {
     alike = alike-read o h unsent;
-    delivered = λ k. sym (deliveries-more port k (command.Read j, o) h
+    delivered = λ k other. sym (deliveries-more port k (command.Read j, o) h
         ∙ nothing-added (is_handle_open k h) (deliveries port k h));
     given = λ k other. sym (ap (λ theirs. with_item o theirs (items_of k h)) (another j k other)
         ∙ items-kept o (items_of k h));
@@ -68,9 +68,5 @@ module _ {ST SP RT RP : Type 0} (port j : ℕ) where
         → EachAfter Said (later ++ before) commands outcomes ↔ EachAfter Said
         (later ++ (command.Read j, o) ∷ before) commands outcomes
     each-read o before later commands outcomes unsent kinds =
-        let same = same-after port (λ k. k ≢ j) later before ((command.Read j, o) ∷ before)
-        (same-read o before unsent) in (
-          each-same port (λ k. k ≢ j) Kind Said respects _ _ commands outcomes same kinds,
-          each-same port (λ k. k ≢ j) Kind Said respects _ _ commands outcomes
-              (same-back port (λ k. k ≢ j) _ _ same) kinds,
-        )
+        each-after port (λ k. k ≢ j) Kind Said respects before ((command.Read j, o) ∷ before) later commands outcomes
+        (same-read o before unsent) kinds

@@ -181,7 +181,7 @@ module _ {ST SP RT RP : Type 0} where
       → IsSameFor port (λ k. ⊤) (history_with groups bs before) (history_with groups cs before)
   regrouped-same port groups bs cs before r = record {
     alike = regrouped-alike groups bs cs before [];
-    delivered = λ k. regrouped-deliveries port k groups bs cs before [] r;
+    delivered = λ k _. regrouped-deliveries port k groups bs cs before [] r;
     given = λ k _. items-came k groups bs before ∙ sym (items-came k groups cs before);
   }
 

@@ -1,6 +1,6 @@
 //! Laws of runs, over the definitions alone. The calls do nothing: their contracts are the laws.
 
-ghost use Rattle.std.specs.Prelude.{◌≡◌, ◌≢◌, ◌<◌, ◌↔◌, ◌++◌, ◌∷◌, ℕ, Bool, false, List, Ok};
+ghost use Rattle.std.specs.Prelude.{◌≡◌, ◌≢◌, ◌<◌, ◌↔◌, ◌++◌, ◌∷◌, ℕ, suc, Bool, false, List, Ok};
 ghost use Rattle.neli_consts.specs.declared.nlm_f.NlmF.{NlmF as Flags};
 ghost use Rattle.neli_reader.specs.Agreement.{untyped_layout};
 ghost use Rattle.neli_reader.specs.Cuts.{cut_of, messages_before};
@@ -108,6 +108,38 @@ where
         (later ++ before) commands outcomes
         ↔ EachAfter (IsAnswered RT.wire_value RT.wire_number RP.view RP.wire_length RP.read port)
         (later ++ (Command.Read j, o) ∷ before) commands outcomes) }
+{}
+
+/// A notification changes nothing for those who asked, whatever numbers and ports its messages have: where a datagram
+/// without a fault came to groups at some point of a history, or did not, each handle with a number is delivered the
+/// same, and the same is right for a run to answer to the commands that come later, of which none reads multicast.
+pub fn notifications_leave_outcomes<ST, SP, RT, RP>()
+where
+    ST: NlType,
+    SP: ToBytes,
+    RT: NlType,
+    RP: FromBytesWithInput + Size,
+    ensures deliveries { (port k group : ℕ) (groups : List ℕ) (b : Bytes)
+        (before later : History ST SP RT RP) → IsWhole untyped_layout b.items
+        → deliveries port (suc k)
+        (later ++ (Command.Datagram b (group ∷ groups), Outcome.Done) ∷ before)
+        ≡ deliveries port (suc k) (later ++ before) }
+    // What is sent is the same even where they read multicast.
+    ensures sent { (port group : ℕ) (groups : List ℕ) (b : Bytes)
+        (before later : History ST SP RT RP) (commands : List (Command ST SP))
+        (outcomes : List (Outcome ST SP RT RP)) → IsWhole untyped_layout b.items
+        → (EachAfter (IsSent ST.wire_number SP.wire SP.Size.wire_length port)
+        (later ++ before) commands outcomes
+        ↔ EachAfter (IsSent ST.wire_number SP.wire SP.Size.wire_length port)
+        (later ++ (Command.Datagram b (group ∷ groups), Outcome.Done) ∷ before) commands outcomes) }
+    ensures read { (port group : ℕ) (groups : List ℕ) (b : Bytes)
+        (before later : History ST SP RT RP) (commands : List (Command ST SP))
+        (outcomes : List (Outcome ST SP RT RP)) → IsWhole untyped_layout b.items
+        → NoneReads 0 commands
+        → (EachAfter (IsAnswered RT.wire_value RT.wire_number RP.view RP.wire_length RP.read port)
+        (later ++ before) commands outcomes
+        ↔ EachAfter (IsAnswered RT.wire_value RT.wire_number RP.view RP.wire_length RP.read port)
+        (later ++ (Command.Datagram b (group ∷ groups), Outcome.Done) ∷ before) commands outcomes) }
 {}
 
 /// Bytes without a fault and bytes after them have the messages of both, and then the fault of the later ones, if
