@@ -22,6 +22,7 @@
 //!
 //! - [`Route`]: to whom an entry goes.
 //! - [`Places`]: the entries and the places.
+//! - [`laws`]: `==` of routes is equality.
 //!
 //! `specs/Routes.antt` says who waits for which entries, `specs/Places.antt` what the fields hold.
 #![tactic(auto)]
@@ -31,6 +32,7 @@ mod chains;
 mod counts;
 mod entry;
 mod forgetting;
+pub mod laws;
 mod passing;
 mod place;
 mod places;
