@@ -14,11 +14,13 @@
 //!
 //! - [`Span`]: which bytes of which datagram.
 //! - [`Datagrams`]: the kept datagrams, and how many bytes they are.
+//! - [`laws`]: `==` of spans is equality.
 //!
 //! `specs/Spans.antt` says when spans name the kept datagrams, and which bytes a span means.
 #![tactic(auto)]
 
 mod datagrams;
+pub mod laws;
 mod part;
 mod span;
 
