@@ -101,7 +101,7 @@ static struct owners owners_of(const struct host *host, const struct open *open,
     bool is_own = message->port == host->link.port;
     struct owners owners = {
         .has_request = open != NULL && !open->is_given_up,
-        .is_group = group != 0 && (!is_own || link_has_joined(&host->link, group)),
+        .is_group = group != 0 && !host->is_deaf && (!is_own || link_has_joined(&host->link, group)),
         .is_unasked = group == 0 && open == NULL,
     };
     if (owners.has_request) owners.handle = open->handle;
@@ -178,8 +178,8 @@ static int32_t hand_in_fault(struct host *host) {
     if (reserve_loss(&host->heard) != NELI_OK || reserve_loss(&host->unheard) != NELI_OK) return NELI_MEMORY;
     int32_t code = neli_router_fault(&host->router, host->last_fault);
     if (code != NELI_OK) return code;
-    note_loss(&host->heard, host->last_fault);
-    note_loss(&host->unheard, host->last_fault);
+    if (!host->is_deaf) note_loss(&host->heard, host->last_fault);
+    if (host->keeps_unasked) note_loss(&host->unheard, host->last_fault);
     ledger_note_loss(&host->ledger);
     host->faults++;
     host->held.is_fault = false;
@@ -254,6 +254,10 @@ int32_t host_close_request(struct host *host, size_t handle) {
     struct open *open = ledger_handle(&host->ledger, handle);
     if (open != NULL) ledger_give_up(&host->ledger, open);
     if (host->taken == handle) host->is_taken = false;
+    if (handle == NELI_MULTICAST) {
+        host->is_deaf = true;
+        host->heard.count = 0;
+    }
     return neli_router_close(&host->router, handle);
 }
 

@@ -43,6 +43,7 @@ struct host {
     int faults;     /* how many came in a row */
     struct held held;
     struct losses heard, unheard; /* of what comes to groups, and of what no request has asked for */
+    bool is_deaf; /* whether the handle of multicast is closed */
     bool keeps_unasked;
     uint8_t *unasked; /* what no request has asked for: bytes `unasked_walk` */
     size_t unasked_room;
@@ -75,7 +76,8 @@ int32_t host_send(struct host *host, uint16_t type, uint16_t flags, const void *
  * more comes. At NELI_MEMORY nothing is lost, if the next item that is read is this handle's. */
 int32_t host_next(struct host *host, size_t handle, struct neli_message *message);
 
-/* Closes the handle of a request, at any time: what still comes for it is nobody's, and is not kept. */
+/* Closes the handle of a request, at any time: what still comes for it is nobody's, and is not kept. Or that of
+ * multicast. */
 int32_t host_close_request(struct host *host, size_t handle);
 
 /* Takes in the whole picture after NELI_LINK of NELI_MULTICAST: a dump that nothing was lost of and that the kernel has

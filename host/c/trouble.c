@@ -133,6 +133,13 @@ static void what_nobody_reads_is_not_kept(void) {
     for (int i = 0; i < 3000; i++) WANT(host_close_request(&host, send_unanswered(&host)) == NELI_OK);
     WANT(host.ledger.count < 1000);
     WANT(is_over(&host, host_next(&host, NELI_MULTICAST, &message), EAGAIN) && host.ledger.count == 0);
+    WANT(host_close_request(&host, NELI_MULTICAST) == NELI_OK);
+    before = allocated();
+    for (int i = 0; i < 1000; i++) {
+        done(&other, RTM_SETLINK, 0, mtu_body(1, 5000u + (uint32_t)i));
+        want_loopback(&host, send_question(&host, 1));
+    }
+    WANT(allocated() < before + 100000);
     host_close(&other);
     host_close(&host);
 }

@@ -117,7 +117,8 @@ pub(super) struct State {
     /// The fault of the socket that came last, and how many came in a row.
     fault: Option<Fault>,
     faults: u32,
-    losses: Losses,
+    /// What was lost of what comes to groups, as long as somebody reads that.
+    losses: Option<Losses>,
     /// What no request has asked for, where somebody reads it.
     unasked: Option<VecDeque<Result<Vec<u8>, Fault>>>,
     /// The handle whose item was read last, where there was no memory for its bytes; and what was fetched since for
@@ -137,7 +138,7 @@ impl State {
             held: None,
             fault: None,
             faults: 0,
-            losses: Losses::default(),
+            losses: Some(Losses::default()),
             unasked: None,
             unfetched: None,
             fetched: HashMap::new(),
@@ -189,6 +190,7 @@ impl State {
 
     pub(super) fn close(&mut self, handle: usize) {
         self.router.close(handle);
+        self.losses.take_if(|_| handle == MULTICAST);
         self.fetched.remove(&handle);
         self.unfetched.take_if(|it| *it == handle);
     }
@@ -310,7 +312,7 @@ impl State {
         if run.owners.request.is_some() && !is_half {
             taken(self.router.datagram(bytes, &[]))?;
         }
-        if run.owners.is_group {
+        if run.owners.is_group && self.losses.is_some() {
             if let Some(Held::Datagram { is_half, .. }) = &mut self.held {
                 *is_half = run.owners.request.is_some();
             }
@@ -334,8 +336,8 @@ impl State {
         if let Some(handle) = run.owners.request {
             self.ring(handle);
         }
-        if run.owners.is_group {
-            self.losses.came += run.count;
+        if let (true, Some(losses)) = (run.owners.is_group, &mut self.losses) {
+            losses.came += run.count;
             self.ring(MULTICAST);
         }
         if let (true, Some(unasked)) = (run.owners.is_unasked, &mut self.unasked) {
@@ -354,7 +356,9 @@ impl State {
     fn note_fault(&mut self, fault: Fault) {
         self.fault = Some(fault);
         self.faults += 1;
-        self.losses.note(fault);
+        if let Some(losses) = &mut self.losses {
+            losses.note(fault);
+        }
         self.ledger.note_loss();
         if let Some(unasked) = &mut self.unasked {
             if unasked.back().is_some_and(Result::is_err) {
@@ -401,7 +405,7 @@ impl State {
                 Some(None) => Step::Waits,
                 None => Step::Error(RouterError::ClosedChannel),
             },
-            MULTICAST => match self.losses.next() {
+            MULTICAST => match self.losses.as_mut().and_then(Losses::next) {
                 Some(fault) => Step::Error(fault.error()),
                 None => self.read_router(MULTICAST),
             },
@@ -415,7 +419,9 @@ impl State {
             ffi::WAITS => Step::Waits,
             ffi::END => Step::End,
             ffi::ITEM | ffi::KERNEL_ERROR => {
-                self.losses.read += u64::from(handle == MULTICAST);
+                if let (MULTICAST, Some(losses)) = (handle, &mut self.losses) {
+                    losses.read += 1;
+                }
                 self.item(handle).map_or_else(Step::Error, Step::Item)
             }
             code => Step::Error(self.error(code)),
