@@ -40,9 +40,9 @@ impl<'b> Dump<'b> {
         }
     }
 
-    /// One message more, with the request's number and port, and with these flags and MULTI. A kernel marks with DUMP_INTR
-    /// (0x10) the message at which it finds that the table changed while it was dumped, and no later one, and with
-    /// DUMP_FILTERED (0x20) each message of a dump that it filtered as was asked.
+    /// One message more, with the request's number and port, and with these flags and MULTI. A kernel marks with
+    /// DUMP_INTR (0x10) the message at which it finds that the table changed while it was dumped, and no later one, and
+    /// with DUMP_FILTERED (0x20) each message of a dump that it filtered as was asked.
     ///
     /// Refused as `Msg` where the message's length passes 32 bits, then as the body is refused, then as `Msg` where the
     /// message alone is longer than a datagram may be; or as `Memory`. A refusal leaves the dump as it was. A kernel
@@ -116,8 +116,8 @@ impl<'b> Dump<'b> {
     }
 
     /// The datagrams, after one message more, the end: of type 3 (`NLMSG_DONE`), with these flags and MULTI, the code,
-    /// which is 0 where all went well and below 0 where the dump failed, as -19 for `ENODEV`, and attributes. The end may
-    /// be marked too, as [`Dump::push`] says.
+    /// which is 0 where all went well and below 0 where the dump failed, as -19 for `ENODEV`, and attributes. The end
+    /// may be marked too, as [`Dump::push`] says.
     ///
     /// Refused as [`Dump::push`] is.
     pub fn finish(

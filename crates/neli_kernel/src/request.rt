@@ -126,17 +126,17 @@ impl<'b> Request<'b> {
         self.header.nl_flags().contains(NlmF::ACK)
     }
 
-    /// Whether it wants a dump, as generic netlink reads it: both bits of `NLM_F_DUMP` are set. Only in requests that get
-    /// something do they mean this.
+    /// Whether it wants a dump, as generic netlink reads it: both bits of `NLM_F_DUMP` are set. Only in requests that
+    /// get something do they mean this.
     pub fn wants_dump(&self) -> bool
         ensures { result ≡ has_flags self.now 768 }
     {
         self.header.nl_flags().contains(NlmF::DUMP)
     }
 
-    /// Whether it wants a dump, as routing netlink reads it: its type is one that gets something, which is 2 modulo 4, as
-    /// `RTM_GETLINK`, 18, and a bit of `NLM_F_DUMP` is set, both or one of them. In other types these bits have other
-    /// meanings, as EXCL (0x200) where something is made.
+    /// Whether it wants a dump, as routing netlink reads it: its type is one that gets something, which is 2 modulo 4,
+    /// as `RTM_GETLINK`, 18, and a bit of `NLM_F_DUMP` is set, both or one of them. In other types these bits have
+    /// other meanings, as EXCL (0x200) where something is made.
     pub fn wants_routing_dump(&self) -> bool
         ensures { result ≡ wants_routing_dump self.now }
     {

@@ -76,7 +76,8 @@ module _ {K P : Type 0} (number_of : K → ℕ) (needs numbered : Bool) where
         lt_suc (single_place number_of numbered xs) i,
       ) refl
 
-  pub quiet-suc : (x : Item K P) (xs : List (Item K P)) (i : ℕ) → ends_alone x ≡ false → is_single number_of numbered x ≡ false
+  pub quiet-suc : (x : Item K P) (xs : List (Item K P)) (i : ℕ) → ends_alone x ≡ false
+      → is_single number_of numbered x ≡ false
       → answer_of (x ∷ xs) (suc i) ≡ answer_of xs i
   quiet-suc x xs i alone single = quiet-suc-at x xs i (slice_get xs i) alone single
 
@@ -168,7 +169,8 @@ ended IsRead true r is = is
 ended IsRead false r is = is
 
 module _ {U K P : Type 0} (number_of : K → ℕ) (needs : Bool) (IsRead : U → Item K P → Type 0) where
-  pub quiet-turn : (u : U) (us later : List U) → IsQuiet number_of needs IsRead u → InTurn number_of needs IsRead us later
+  pub quiet-turn : (u : U) (us later : List U) → IsQuiet number_of needs IsRead u
+      → InTurn number_of needs IsRead us later
       → InTurn number_of needs IsRead (u ∷ us) later
   quiet-turn u us later quiet rest given r ([], are, were, is, none) =
       absurd (past-waits number_of needs (length given) (length (us ++ later)) r is none)

@@ -151,9 +151,9 @@ where
         → ReadsGive RT.wire_value RT.wire_number RP.view RP.wire_length RP.read asked.port us x }
 {}
 
-/// What comes after a whole answer is not given: where the messages that came for a handle are a whole answer and others
-/// after it, each read is answered as if these had not come. So where no acknowledgement is needed, of several messages
-/// without MULTI the first is given, or of a dump those before it too, and then the end.
+/// What comes after a whole answer is not given: where the messages that came for a handle are a whole answer and
+/// others after it, each read is answered as if these had not come. So where no acknowledgement is needed, of several
+/// messages without MULTI the first is given, or of a dump those before it too, and then the end.
 pub fn messages_after_an_answer_are_not_given<ST, SP, RT, RP>()
 where
     RT: NlType,
@@ -191,11 +191,11 @@ where
 {}
 
 /// Multicast gets every message of every datagram that came to groups, each once, in order, and nothing else, whatever
-/// is sent, answered, read or closed meanwhile and whatever faults the link has; of a datagram with a fault the messages
-/// before it. So where its handle, 0, is not closed, each read of it is answered by the next of these messages, as the
-/// caller's types, and past the last of them by a wait; an acknowledgement, an error and a message that can't be read
-/// are given as errors, and after one of these the end. Where all these datagrams are notifications of the simulator, of
-/// whatever numbers and ports, these are their messages.
+/// is sent, answered, read or closed meanwhile and whatever faults the link has; of a datagram with a fault the
+/// messages before it. So where its handle, 0, is not closed, each read of it is answered by the next of these
+/// messages, as the caller's types, and past the last of them by a wait; an acknowledgement, an error and a message
+/// that can't be read are given as errors, and after one of these the end. Where all these datagrams are notifications
+/// of the simulator, of whatever numbers and ports, these are their messages.
 pub fn notifications_are_heard<ST, SP, RT, RP, T, P>()
 where
     RT: NlType,
