@@ -1,6 +1,7 @@
-//! That each law on notifications, marks and control messages can be called at real types. The calls do nothing when
-//! they run.
+//! That each law on notifications, marks, control messages and what comes after an answer can be called at real types.
+//! The calls do nothing when they run.
 
+use neli::router::synchronous::laws::notifications_leave_outcomes;
 use neli::simulator::laws::{
     control_messages_are_replies, dump_keeps_its_marks, marks_are_given,
     messages_after_an_answer_are_not_given, notification_is_delivered, notifications_are_heard,
@@ -17,4 +18,5 @@ fn more_laws_are_called() {
     notification_is_delivered::<u16, Buffer>();
     notifications_are_heard::<u16, Buffer, u16, Buffer, u16, Buffer>();
     unacknowledged_reply_is_an_error::<u16, Buffer>();
+    notifications_leave_outcomes::<u16, Buffer, u16, Buffer>();
 }

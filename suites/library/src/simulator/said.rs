@@ -137,9 +137,9 @@ fn marks_and_codes_are_given(rt: HostRuntime) -> Result<(), Fail> {
         for datagram in dump.finish(alloc, NlmF::from(end), code, ext_ack(&rt, alloc, NOTHING))? {
             router.processing_loop(&datagram, &Groups::empty(alloc))?;
         }
-        let (items, told) = given(alloc, &mut router, &mut handle)?;
+        let (items, last) = given(alloc, &mut router, &mut handle)?;
         assert_eq!(rt; items.as_slice(), want, "at {row}");
-        assert_eq!(rt; told, Some(code), "at {row}");
+        assert_eq!(rt; last, Some(code), "at {row}");
     }
     Ok(())
 }
