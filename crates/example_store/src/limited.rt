@@ -94,4 +94,8 @@ impl<const LIMIT: usize> Deliveries for Limited<LIMIT> {
     fn drop_first(&mut self, whose: Option<u32>) {
         self.log.drop_first(whose);
     }
+
+    fn clear(&mut self, whose: Option<u32>) {
+        self.log.clear(whose);
+    }
 }

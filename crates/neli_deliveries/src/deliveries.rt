@@ -1,6 +1,7 @@
 //! What a store of deliveries has to keep.
 
 ghost use Rattle.std.specs.Prelude.{true, ◌≡◌, ℕ, List, [], ◌∷◌, Option, None, Some, IsOk, IfOk, OnOk, OnErr, is_some};
+ghost use Rattle.std.specs.Prelude.{option_map};
 ghost use Rattle.neli_reader.specs.Cuts.{cut_of};
 ghost use Rattle.neli_reader.specs.Agreement.{untyped_layout};
 ghost use Rattle.neli_deliveries.specs.Lists.{ListsGain, Opens, SameLists, SameListsBut};
@@ -98,5 +99,12 @@ pub trait Deliveries: Sized + Drop {
         ensures port { port_of self.new ≡ port_of self.old }
         ensures taken { (d : Waiting) (ds : List Waiting) → pending self.old whose ≡ Some (d ∷ ds)
             → pending self.new whose ≡ Some ds }
+        ensures others { SameListsBut whose (pending self.old) (pending self.new) };
+
+    /// Takes away all that waits in a list, which stays open if it is. It takes no memory.
+    fn clear(&mut self, whose: Option<u32>)
+        ensures port { port_of self.new ≡ port_of self.old }
+        ensures cleared { pending self.new whose
+            ≡ option_map (λ _. []) (pending self.old whose) }
         ensures others { SameListsBut whose (pending self.old) (pending self.new) };
 }

@@ -327,3 +327,30 @@ awaited_open s ds es h = awaited_same (items_of s.places) (pending_of s)
 pub keeps_once_none : (s : Store) (ds : List (Entry Delivery)) → AreAwaited (items_of s.places) ds []
     → KeepsEachOnce s s ds
 keeps_once_none s ds h = ([], awaited_open s ds [] h, sym (append-nil (entries_read s)))
+
+-- ---- a list is emptied
+
+-- how many wait
+abbrev pub waiting_count : {A : Type 0} → Option (List A) → ℕ
+waiting_count None = 0
+waiting_count (Some xs) = length xs
+
+-- something waits where an item does
+pub something_waits : {A B C : Type 0} (f : A → B) (g : C → A) (first : Option C) (o : Option (List A))
+    → option_map g first ≡ first_of o → is_some first ≡ true
+    → (d : B) × (ds : List B) × (option_map (map f) o ≡ Some (d ∷ ds))
+something_waits f g None o e is = cc
+something_waits f g (Some c) None e is = cc
+something_waits f g (Some c) (Some []) e is = cc
+something_waits f g (Some c) (Some (x ∷ xs)) e is = (f x, map f xs, refl)
+
+-- nothing waits where no item does
+pub nothing_waits : {A B C : Type 0} (f : A → B) (g : C → A) (first : Option C) (o : Option (List A))
+    (old : Option (List B)) → option_map g first ≡ first_of o → is_some first ≡ false
+    → is_some (option_map (map f) o) ≡ is_some old → option_map (map f) o ≡ option_map (λ _. []) old
+nothing_waits f g (Some c) o old e none is = cc
+nothing_waits f g None None None e none there = refl
+nothing_waits f g None None (Some xs) e none is = cc
+nothing_waits f g None (Some []) None e none is = cc
+nothing_waits f g None (Some []) (Some xs) e none there = refl
+nothing_waits f g None (Some (x ∷ xs)) old e none is = cc

@@ -1,7 +1,7 @@
 //! The log as a store of deliveries.
 
 ghost use Rattle.std.specs.Prelude.{◌≡◌, ◌↔◌, ◌≤◌, ◌+◌, ℕ, List, [], ◌∷◌, Option, None, Some, IsOk, OnErr};
-ghost use Rattle.std.specs.Prelude.{OnOk, true};
+ghost use Rattle.std.specs.Prelude.{OnOk, option_map, true};
 ghost use Rattle.neli_deliveries.specs.Lists.{ListsGain, Opens, SameLists, SameListsBut};
 ghost use Rattle.neli_deliveries.specs.declared.delivery.Delivery.{Delivery as Waiting};
 ghost use Rattle.neli_deliveries.specs.Deliveries.{fault_share, is_would_block};
@@ -153,5 +153,16 @@ impl Deliveries for Log {
         ensures fewer { KeepsNoMore self.old self.new }
     {
         self.store.drop_first(whose);
+    }
+
+    /// No entry and no byte more is kept than before.
+    fn clear(&mut self, whose: Option<u32>)
+        ensures port { self.new.port ≡ self.old.port }
+        ensures cleared { pending_of self.new whose
+            ≡ option_map (λ _. []) (pending_of self.old whose) }
+        ensures others { SameListsBut whose (pending_of self.old) (pending_of self.new) }
+        ensures fewer { KeepsNoMore self.old self.new }
+    {
+        self.store.clear(whose);
     }
 }

@@ -1,7 +1,7 @@
 //! The parts of a log, and what is done to them.
 
 ghost use Rattle.std.specs.Prelude.{◌≡◌, ◌↔◌, ◌++◌, ◌+◌, ◌≤◌, ℕ, List, [], ◌∷◌, Option, None, Some, IfOk, IsOk};
-ghost use Rattle.std.specs.Prelude.{OnErr, OnOk, is_some, length, map, true};
+ghost use Rattle.std.specs.Prelude.{OnErr, OnOk, is_some, length, map, option_map, true};
 ghost use Rattle.neli_deliveries.specs.Lists.{ListsGain, Opens, SameLists, SameListsBut};
 ghost use Rattle.neli_deliveries.specs.declared.delivery.Delivery.{Delivery as Waiting};
 ghost use Rattle.neli_deliveries.specs.Deliveries.{fault_share, head_of, is_would_block};
@@ -118,6 +118,21 @@ impl Store {
     {
         self.places.pass(whose);
         self.trim();
+    }
+
+    /// Takes away all that waits in a list, if it is open.
+    pub(crate) fn clear(&mut self, whose: Option<u32>)
+        requires { IsTrimmedAndBacked self.old }
+        ensures port { self.new.port ≡ self.old.port }
+        ensures cleared { pending_of self.new whose
+            ≡ option_map (λ _. []) (pending_of self.old whose) }
+        ensures others { SameListsBut whose (pending_of self.old) (pending_of self.new) }
+        ensures fewer { KeepsNoMore self.old self.new }
+        ensures log { IsTrimmedAndBacked self.new }
+    {
+        while self.places.first(whose).is_some() {
+            self.drop_first(whose);
+        }
     }
 
     /// Keeps these entries, whose spans are of these bytes.

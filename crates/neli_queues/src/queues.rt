@@ -186,4 +186,19 @@ impl Deliveries for Queues {
             }
         }
     }
+
+    fn clear(&mut self, whose: Option<u32>) {
+        match whose {
+            None => {
+                if let Some(list) = &mut self.multicast {
+                    list.clear();
+                }
+            }
+            Some(number) => {
+                if let Some(list) = self.numbers.get_mut(&number) {
+                    list.clear();
+                }
+            }
+        }
+    }
 }
