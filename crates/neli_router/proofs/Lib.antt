@@ -1,2 +1,3 @@
 mod Families
 mod Sends
+mod Settling

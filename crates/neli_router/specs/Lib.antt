@@ -1,3 +1,6 @@
+pub mod GivenUp
+pub mod Listening
 pub mod Requests
 pub mod Rule
 pub mod Sends
+pub mod Verdicts

@@ -4,19 +4,27 @@
 //! - [`NlRouter`]: sends, takes datagrams and faults of the link in, gives a handle its next item.
 //! - [`NlRouterReceiverHandle`]: who asked; by its sequence number, or none for multicast.
 //! - [`Reply`]: what a read answers: an item, the end, or a wait.
+//! - [`Verdict`]: how an answer stands: whether what was given is all of it.
 //!
 //! `specs/Rule.antt` says where a handle's answers end and what each of them is; `specs/Sends.antt`
 //! what a request is as bytes, and for which three causes it is refused; `specs/Requests.antt` what
-//! the two requests to the controller of generic netlink are.
+//! the two requests to the controller of generic netlink are; `specs/Verdicts.antt` how an answer stands, and
+//! `specs/GivenUp.antt` what is kept of one that was given up.
 #![tactic(auto)]
 
+mod given_up;
 mod handle;
+mod listening;
 mod reply;
 mod requests;
 mod router;
 mod rule;
+mod verdict;
 
+pub use given_up::GivenUp;
 pub use handle::{HandleState, NlRouterReceiverHandle};
+pub use listening::{Missed, Notice};
 pub use neli_deliveries::{Deliveries, Delivery};
 pub use reply::Reply;
 pub use router::NlRouter;
+pub use verdict::{Heard, Loss, Verdict};

@@ -4,7 +4,8 @@ ghost use Rattle.std.specs.Prelude.{false, ◌≡◌, ◌≤◌, Some, Ok, IfOk,
 ghost use Rattle.neli_router.specs.Requests.{FamilyTakesMemory, families_request, families_sent, family_request};
 ghost use Rattle.neli_router.specs.Requests.{family_sent, getfamily, name_attribute, sent_to_controller};
 ghost use Rattle.neli_router.specs.Sends.{RefusesSend, asks, number_after};
-ghost use Rattle.neli_deliveries.specs.Lists.{Opens, SameLists};
+ghost use Rattle.neli_router.specs.Verdicts.{begun, heard_of};
+ghost use Rattle.neli_deliveries.specs.Lists.{Opens, SameLists, SameListsBut};
 
 use crate::{Deliveries, NlRouter, NlRouterReceiverHandle};
 use neli_attr::{AttrType, Buffer, BuildError, GenlBuffer, Nlattr, NlattrBuilder};
@@ -63,6 +64,14 @@ impl<D: Deliveries> NlRouter<D> {
             (D.pending self.old.deliveries) (D.pending self.new.deliveries)) }
         ensures err { OnErr result ((self.new.next_seq ≡ self.old.next_seq)
             × (SameLists (D.pending self.old.deliveries) (D.pending self.new.deliveries))) }
+        ensures heard { OnOk result
+            ((heard_of self.new.heard (Some self.old.next_seq) ≡ Some begun)
+            × SameListsBut (Some self.old.next_seq)
+            (heard_of self.old.heard) (heard_of self.new.heard)) }
+        ensures unheard { OnErr result
+            (SameLists (heard_of self.old.heard) (heard_of self.new.heard)) }
+        ensures given_up { self.new.given_up ≡ self.old.given_up }
+        ensures missed { self.new.missed ≡ self.old.missed }
     {
         let number = self.next_seq;
         if self.deliveries.is_open(Some(number)) {
@@ -110,6 +119,14 @@ impl<D: Deliveries> NlRouter<D> {
             (D.pending self.old.deliveries) (D.pending self.new.deliveries)) }
         ensures err { OnErr result ((self.new.next_seq ≡ self.old.next_seq)
             × (SameLists (D.pending self.old.deliveries) (D.pending self.new.deliveries))) }
+        ensures heard { OnOk result
+            ((heard_of self.new.heard (Some self.old.next_seq) ≡ Some begun)
+            × SameListsBut (Some self.old.next_seq)
+            (heard_of self.old.heard) (heard_of self.new.heard)) }
+        ensures unheard { OnErr result
+            (SameLists (heard_of self.old.heard) (heard_of self.new.heard)) }
+        ensures given_up { self.new.given_up ≡ self.old.given_up }
+        ensures missed { self.new.missed ≡ self.old.missed }
     {
         let body = getfamily(alloc, GenlBuffer::new(alloc));
         self.send(alloc, GenlId::Ctrl, NlmF::DUMP, NlPayload::Payload(body))

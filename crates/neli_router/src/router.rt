@@ -1,7 +1,7 @@
 //! The router's calls.
 
 ghost use Rattle.std.specs.Prelude.{true, false, ◌≡◌, ◌||◌, ℕ, List, [], ◌∷◌, None, Some, Ok, Err, IsOk, IfOk, IfErr};
-ghost use Rattle.std.specs.Prelude.{OnOk, OnErr, is_some};
+ghost use Rattle.std.specs.Prelude.{Option, OnOk, OnErr, is_some, option_map};
 ghost use Rattle.neli_reader.specs.Cuts.{cut_of};
 ghost use Rattle.neli_reader.specs.Agreement.{untyped_layout};
 ghost use Rattle.neli_deliveries.specs.Lists.{ListsGain, Opens, SameLists, SameListsBut};
@@ -10,18 +10,24 @@ ghost use Rattle.neli_deliveries.specs.Deliveries.{fault_share, is_would_block, 
 ghost use Rattle.neli_deliveries.specs.Readings.{IsReading, Item as Given};
 ghost use Rattle.neli_router.specs.declared.reply.Reply.TheVariants as reply;
 ghost use Rattle.neli_router.specs.Rule.{ends_at, has_number, is_single, item_of};
+ghost use Rattle.neli_router.specs.GivenUp.{still_open};
+ghost use Rattle.neli_router.specs.Verdicts.{begun, heard_after, heard_of, heard_with, verdict_by};
 ghost use Rattle.neli_router.specs.Sends.{RefusesSend, TakesMemory, asks, number_after, frame_or_refusal};
 
 use crate::rule::{answer, needs_acknowledgement};
-use crate::{Deliveries, HandleState, NlRouterReceiverHandle, Reply};
+use crate::verdict::is_last;
+use crate::{
+    Deliveries, GivenUp, HandleState, Heard, Loss, Missed, NlRouterReceiverHandle, Reply, Verdict,
+};
 use neli_consts::{NlType, NlmF};
 use neli_genl::Genlmsghdr;
 use neli_log::Log;
-use neli_reader::{NlPayload, NlmsghdrBuilder, RouterError, SocketError};
+use neli_reader::{NlPayload, Nlmsghdr, NlmsghdrBuilder, RouterError, SocketError};
 use neli_util::Groups;
 use neli_wire::implementing::length_refusal;
 use neli_wire::{FromBytesWithInput, MsgError, NoMemory, Size, ToBytes};
 use std::alloc::Global;
+use std::collections::HashMap;
 
 /// A router: it gives each request a sequence number, and a reply that came to no group to the
 /// handle that asked.
@@ -33,6 +39,12 @@ use std::alloc::Global;
 pub struct NlRouter<D = Log> {
     pub(crate) deliveries: D,
     pub(crate) next_seq: u32,
+    /// What was heard of the answer to each request that is open, and was not given up.
+    pub(crate) heard: HashMap<u32, Heard>,
+    /// The numbers that were given up, and are open.
+    pub(crate) given_up: Vec<GivenUp>,
+    /// What was missed of multicast, and not told yet.
+    pub(crate) missed: Option<Missed>,
 }
 
 impl<D: Deliveries> NlRouter<D> {
@@ -45,12 +57,18 @@ impl<D: Deliveries> NlRouter<D> {
         ensures next_seq { result.0.next_seq ≡ 0 }
         ensures multicast { D.pending result.0.deliveries None ≡ Some [] }
         ensures numbers { (q : ℕ) → D.pending result.0.deliveries (Some q) ≡ None }
+        ensures heard { (w : Option ℕ) → heard_of result.0.heard w ≡ None }
+        ensures given_up { result.0.given_up.items ≡ [] }
+        ensures missed { result.0.missed ≡ None }
         ensures handle { result.1
             ≡ record { number = None; needs_ack = false; single_given = false; ended = false } }
     {
         let router = NlRouter {
             deliveries: D::new(alloc, pid),
             next_seq: 0,
+            heard: HashMap::new(alloc),
+            given_up: Vec::new(alloc),
+            missed: None,
         };
         let handle = NlRouterReceiverHandle::new(HandleState {
             number: None,
@@ -79,6 +97,9 @@ impl<D: Deliveries> NlRouter<D> {
     pub fn set_next_seq(&mut self, number: u32)
         ensures next_seq { self.new.next_seq ≡ number }
         ensures deliveries { self.new.deliveries ≡ self.old.deliveries }
+        ensures heard { self.new.heard ≡ self.old.heard }
+        ensures given_up { self.new.given_up ≡ self.old.given_up }
+        ensures missed { self.new.missed ≡ self.old.missed }
     {
         self.next_seq = number;
     }
@@ -117,6 +138,15 @@ impl<D: Deliveries> NlRouter<D> {
             (D.pending self.old.deliveries) (D.pending self.new.deliveries)) }
         ensures err { OnErr result ((self.new.next_seq ≡ self.old.next_seq)
             × (SameLists (D.pending self.old.deliveries) (D.pending self.new.deliveries))) }
+        // Nothing is heard of the answer yet.
+        ensures heard { OnOk result
+            ((heard_of self.new.heard (Some self.old.next_seq) ≡ Some begun)
+            × SameListsBut (Some self.old.next_seq)
+            (heard_of self.old.heard) (heard_of self.new.heard)) }
+        ensures unheard { OnErr result
+            (SameLists (heard_of self.old.heard) (heard_of self.new.heard)) }
+        ensures given_up { self.new.given_up ≡ self.old.given_up }
+        ensures missed { self.new.missed ≡ self.old.missed }
     {
         let number = self.next_seq;
         if self.deliveries.is_open(Some(number)) {
@@ -124,6 +154,10 @@ impl<D: Deliveries> NlRouter<D> {
         }
         let bytes = frame(alloc, nl_type, nl_flags, number, self.pid(), nl_payload)?;
         self.deliveries.open(number)?;
+        let Ok(_) = self.heard.insert(number, Heard::begun()) else {
+            self.deliveries.close(Some(number));
+            return Err(RouterError::Memory);
+        };
         self.next_seq = number.wrapping_add(1);
         let handle = NlRouterReceiverHandle::new(HandleState {
             number: Some(number),
@@ -150,6 +184,9 @@ impl<D: Deliveries> NlRouter<D> {
         ensures err { OnErr result (SameLists
             (D.pending self.old.deliveries) (D.pending self.new.deliveries)) }
         ensures empty { bytes.now ≡ [] → IsOk result }
+        ensures heard { self.new.heard ≡ self.old.heard }
+        ensures given_up { self.new.given_up ≡ self.old.given_up }
+        ensures missed { self.new.missed ≡ self.old.missed }
     {
         self.deliveries.datagram(bytes, groups)
     }
@@ -168,6 +205,9 @@ impl<D: Deliveries> NlRouter<D> {
             (D.pending self.old.deliveries) (D.pending self.new.deliveries)) }
         ensures would_block { is_would_block error ≡ true → IsOk result }
         ensures unawaited { ((q : ℕ) → D.pending self.old.deliveries (Some q) ≡ None) → IsOk result }
+        ensures heard { self.new.heard ≡ self.old.heard }
+        ensures given_up { self.new.given_up ≡ self.old.given_up }
+        ensures missed { self.new.missed ≡ self.old.missed }
     {
         self.deliveries.fault(error)
     }
@@ -209,6 +249,21 @@ impl<D: Deliveries> NlRouter<D> {
         ensures others { SameListsBut handle.old.number
             (D.pending self.old.deliveries) (D.pending self.new.deliveries) }
         ensures err { OnErr result ((handle.new ≡ handle.old) × (self.new ≡ self.old)) }
+        // Beside `gives`: what is heard by that item, for `verdict`.
+        ensures heard { handle.old.ended ≡ false → (d : Waiting) (ds : List Waiting)
+            → D.pending self.old.deliveries handle.old.number ≡ Some (d ∷ ds)
+            → IfOk result (λ given. (item : Given T P)
+            × IsReading T.wire_value P.view P.wire_length P.read d item
+            × (given ≡ reply.Item (item_of T.wire_number handle.old.needs_ack
+            (has_number handle.old.number) handle.old.single_given item))
+            × (heard_of self.new.heard handle.old.number
+            ≡ option_map (heard_with T.wire_number handle.old.needs_ack
+            (has_number handle.old.number) handle.old.single_given item)
+            (heard_of self.old.heard handle.old.number))) }
+        ensures unheard { SameListsBut handle.old.number
+            (heard_of self.old.heard) (heard_of self.new.heard) }
+        ensures given_up { self.new.given_up ≡ self.old.given_up }
+        ensures missed { self.new.missed ≡ self.old.missed }
     {
         let state = handle.state();
         if state.ended {
@@ -225,7 +280,9 @@ impl<D: Deliveries> NlRouter<D> {
             None => Ok(Reply::Waits),
             Some(item) => {
                 self.deliveries.drop_first(state.number);
+                let last = is_last(state.needs_ack, &item);
                 let (after, given) = answer(state, item);
+                hear(&mut self.heard, state.number, after.ended, last, &given);
                 handle.set_state(after);
                 Ok(Reply::Item(given))
             }
@@ -243,8 +300,69 @@ impl<D: Deliveries> NlRouter<D> {
         ensures closed { D.pending self.new.deliveries handle.number ≡ None }
         ensures others { SameListsBut handle.number
             (D.pending self.old.deliveries) (D.pending self.new.deliveries) }
+        ensures unheard { heard_of self.new.heard handle.number ≡ None }
+        ensures heard { SameListsBut handle.number
+            (heard_of self.old.heard) (heard_of self.new.heard) }
+        ensures given_up { self.new.given_up.items
+            ≡ still_open (D.pending self.new.deliveries) self.old.given_up.items }
+        ensures missed { self.new.missed ≡ self.old.missed }
     {
         self.deliveries.close(handle.state().number);
+        if let Some(number) = handle.state().number {
+            let _ = self.heard.remove(&number);
+        }
+        self.forget_closed();
+    }
+
+    /// How the answer to a request stands, by what was read of it: `Pending` until it has ended, unless a message
+    /// is marked; then one that stays, the first that holds: `Interrupted` where a message that was given is marked
+    /// `NLM_F_DUMP_INTR`; `Failed` where the other side answered with an error or ended a dump with one; `Lost` where
+    /// anything else came in place of a message; `Complete`.
+    ///
+    /// A handle that is not open here, or was given up, is `Lost(Closed)`; that of multicast is `Pending`. It takes no
+    /// memory.
+    pub fn verdict<RT, RP>(&self, handle: &NlRouterReceiverHandle<RT, RP>) -> Verdict
+        ensures { result ≡ verdict_by handle.now.number
+            (heard_of self.now.heard handle.now.number) }
+    {
+        match handle.state().number {
+            None => Verdict::Pending,
+            Some(number) => match self.heard.get(&number) {
+                None => Verdict::Lost(Loss::Closed),
+                Some(heard) => heard.verdict,
+            },
+        }
+    }
+
+    /// What was heard of the answer to a request, by what was read of it: its verdict, and whether the other side did
+    /// filter. Nothing of multicast, and of a handle that is not open here. It takes no memory.
+    pub fn heard<RT, RP>(&self, handle: &NlRouterReceiverHandle<RT, RP>) -> Option<Heard>
+        ensures { result ≡ heard_of self.now.heard handle.now.number }
+    {
+        match handle.state().number {
+            None => None,
+            Some(number) => self.heard.get(&number).copied(),
+        }
+    }
+}
+
+/// Hears one item more of the answer to a request, which is given, and at which the answer ends or not; `last` says
+/// whether it is the other side's last.
+fn hear<T, P>(
+    all: &mut HashMap<u32, Heard>,
+    whose: Option<u32>,
+    ended: bool,
+    last: bool,
+    item: &Result<Nlmsghdr<T, P>, RouterError<T, P>>,
+)
+    ensures heard { heard_of all.new whose
+        ≡ option_map (heard_after ended last item.now) (heard_of all.old whose) }
+    ensures others { SameListsBut whose (heard_of all.old) (heard_of all.new) }
+{
+    if let Some(number) = whose {
+        if let Some(heard) = all.get_mut(&number) {
+            *heard = heard.with(ended, last, item);
+        }
     }
 }
 

@@ -1,0 +1,17 @@
+use Rattle.std.proofs.Common.{ap, rules}
+use Rattle.neli_router.proofs.Settling.{heard-by}
+use Rattle.neli_router.specs.Rule.{has_number}
+use Rattle.neli_router.specs.Verdicts.{heard_of}
+use Rattle.neli_router.proofs.router.NlRouter.next_typed.Goals as goal
+
+pub returns-in-Some-clause-heard : goal.returns-in-Some-clause-heard
+returns-in-Some-clause-heard g c = λ e d ds p. (
+  c.in-Some.item,
+  search rules,
+  search rules,
+  heard-by g.T.Constant.wire_number c.args.handle.now.needs_ack (has_number c.args.handle.now.number)
+      c.args.handle.now.single_given c.answer-given.result.0.ended c.is_last-last.result c.in-Some.item
+      c.answer-given.result.1 (heard_of c.args.self.now.heard c.args.handle.now.number)
+      (heard_of c.hear.new.all c.args.handle.now.number) (search rules) (search rules) (search rules)
+      (rw c.state-state.ensures at c.hear.ensures.heard),
+)

@@ -1,0 +1,325 @@
+//! Giving up: a handle is left, and its number stays open until its answer has come to its end.
+
+ghost use Rattle.std.specs.Prelude.{true, false, ◌≡◌, ◌||◌, ◌++◌, ◌∷◌, [], ℕ, Bool, List, None, Some, IsOk, IfOk};
+ghost use Rattle.std.specs.Prelude.{Option, OnErr, OnOk, is_some, option_map, if◌then◌else◌};
+ghost use Rattle.std.specs.List.{list_any};
+ghost use Rattle.neli_reader.specs.Agreement.{untyped_layout};
+ghost use Rattle.neli_reader.specs.Cuts.{cut_of};
+ghost use Rattle.neli_lent.specs.Messages.{message_said, messages_in};
+ghost use Rattle.neli_deliveries.specs.Lists.{SameLists, SameListsBut};
+ghost use Rattle.neli_deliveries.specs.declared.delivery.Delivery.{Delivery as Waiting};
+ghost use Rattle.neli_deliveries.specs.Deliveries.{datagram_share, fault_share, is_would_block};
+ghost use Rattle.neli_router.specs.GivenUp.{Finishes, IsLeft, ends_it, given_up, has_end, is_given_up, kept_of};
+ghost use Rattle.neli_router.specs.GivenUp.{still_open, ungrouped};
+ghost use Rattle.neli_router.specs.Listening.{missed_with};
+ghost use Rattle.neli_router.specs.Verdicts.{has_finished, heard_of, is_last};
+
+use crate::listening::missed_with;
+use crate::verdict::{ends_exchange, is_last};
+use crate::{Deliveries, NlRouter, NlRouterReceiverHandle};
+use neli_attr::Buffer;
+use neli_lent::{LentMessage, LentMessages};
+use neli_reader::{Nlmsghdr, RouterError, SocketError};
+use neli_util::Groups;
+use neli_wire::NoMemory;
+use std::alloc::Global;
+
+/// A number that was given up: it is open until the last message of its answer comes.
+#[derive(Clone, Copy, Debug, PartialEq, Eq)]
+pub struct GivenUp {
+    pub(crate) number: u32,
+    pub(crate) needs_ack: bool,
+}
+
+/// Whether a message is the last that answers this request.
+fn ends_it(port: u32, request: &GivenUp, message: &LentMessage<'_, u16>) -> bool
+    ensures { result ≡ ends_it port request.now (message_said message.now) }
+{
+    *message.nl_pid() == port
+        && *message.nl_seq() == request.number
+        && ends_exchange(request.needs_ack, *message.nl_type(), *message.nl_flags())
+}
+
+/// Whether the last message that answers this request is among those of these bytes.
+fn has_end(port: u32, request: &GivenUp, bytes: &[u8]) -> bool
+    ensures { result ≡ list_any (ends_it port request.now) (messages_in (λ n. n) bytes.now).0 }
+{
+    for item in LentMessages::<u16>::new(bytes) {
+        if let Ok(message) = item {
+            if ends_it(port, request, &message) {
+                return true;
+            }
+        }
+    }
+    false
+}
+
+/// Takes away what came for a request that was given up with these bytes, and its list too where its answer has come to
+/// its end.
+fn settle_one<D: Deliveries>(deliveries: &mut D, request: &GivenUp, bytes: &[u8])
+    ensures port { D.port_of deliveries.new ≡ D.port_of deliveries.old }
+    ensures kept { (w : Option ℕ) → D.pending deliveries.new w
+        ≡ kept_of (D.port_of deliveries.old) (request.now ∷ []) (messages_in (λ n. n) bytes.now).0 w
+        (D.pending deliveries.old w) }
+{
+    let whose = Some(request.number);
+    if has_end(deliveries.port(), request, bytes) {
+        deliveries.close(whose);
+    } else {
+        deliveries.clear(whose);
+    }
+}
+
+/// The same of each of these requests.
+fn settle_each<D: Deliveries>(deliveries: &mut D, given_up: &[GivenUp], bytes: &[u8])
+    ensures port { D.port_of deliveries.new ≡ D.port_of deliveries.old }
+    ensures kept { (w : Option ℕ) → D.pending deliveries.new w
+        ≡ kept_of (D.port_of deliveries.old) given_up.now (messages_in (λ n. n) bytes.now).0 w
+        (D.pending deliveries.old w) }
+{
+    for request in given_up {
+        settle_one(deliveries, request, bytes);
+    }
+}
+
+/// Whether one of the two holds.
+fn either(one: bool, other: bool) -> bool
+    ensures { result ≡ (one || other) }
+{
+    one || other
+}
+
+/// Whether an item, which is let go of, is the last of the other side's answer.
+fn was_last(needs_ack: bool, item: Result<Nlmsghdr<u16, Buffer>, RouterError<u16, Buffer>>) -> bool
+    ensures { result ≡ is_last (λ n. n) needs_ack item }
+{
+    is_last(needs_ack, &item)
+}
+
+/// Takes away all that waits for a number, and returns whether the last message of its answer was there.
+///
+/// Refused only where memory runs out, and then some of it is taken away.
+fn finishes<D: Deliveries>(
+    deliveries: &mut D,
+    alloc: Global,
+    number: u32,
+    needs_ack: bool,
+) -> Result<bool, NoMemory>
+    ensures port { D.port_of deliveries.new ≡ D.port_of deliveries.old }
+    ensures others { SameListsBut (Some number) (D.pending deliveries.old) (D.pending deliveries.new) }
+    ensures ok { (ds : List Waiting) → D.pending deliveries.old (Some number) ≡ Some ds
+        → IfOk result (λ last. Finishes needs_ack ds last
+        × (D.pending deliveries.new (Some number) ≡ Some [])) }
+{
+    let whose = Some(number);
+    let mut last = false;
+    while let Some(item) = deliveries.first::<u16, Buffer>(alloc, whose)? {
+        last = either(last, was_last(needs_ack, item));
+        deliveries.drop_first(whose);
+    }
+    Ok(last)
+}
+
+impl<D: Deliveries> NlRouter<D> {
+    /// Lets go of the numbers given up that are not open any more.
+    pub(crate) fn forget_closed(&mut self)
+        ensures deliveries { self.new.deliveries ≡ self.old.deliveries }
+        ensures next_seq { self.new.next_seq ≡ self.old.next_seq }
+        ensures heard { self.new.heard ≡ self.old.heard }
+        ensures missed { self.new.missed ≡ self.old.missed }
+        ensures given_up { self.new.given_up.items
+            ≡ still_open (D.pending self.old.deliveries) self.old.given_up.items }
+    {
+        let deliveries = &self.deliveries;
+        self.given_up
+            .retain(|request| deliveries.is_open(Some(request.number)));
+    }
+
+    /// Keeps nothing of what came for the requests that were given up with these bytes, and closes those whose answer
+    /// has come to its end.
+    fn settle(&mut self, bytes: &[u8])
+        ensures port { D.port_of self.new.deliveries ≡ D.port_of self.old.deliveries }
+        ensures next_seq { self.new.next_seq ≡ self.old.next_seq }
+        ensures heard { self.new.heard ≡ self.old.heard }
+        ensures missed { self.new.missed ≡ self.old.missed }
+        ensures kept { (w : Option ℕ) → D.pending self.new.deliveries w
+            ≡ kept_of (D.port_of self.old.deliveries) self.old.given_up.items
+            (messages_in (λ n. n) bytes.now).0 w (D.pending self.old.deliveries w) }
+        ensures given_up { self.new.given_up.items
+            ≡ still_open (D.pending self.new.deliveries) self.old.given_up.items }
+    {
+        settle_each(&mut self.deliveries, &self.given_up, bytes);
+        self.forget_closed();
+    }
+
+    /// Takes in a datagram that came to these groups, as [`NlRouter::processing_loop`] does, but keeps nothing of it for
+    /// the requests that were given up; the number of one is closed where the last message of its answer is in it.
+    ///
+    /// Refused only where memory runs out, and then nothing is handed to anybody.
+    pub fn receive(&mut self, bytes: &[u8], groups: &Groups) -> Result<(), NoMemory>
+        ensures port { D.port_of self.new.deliveries ≡ D.port_of self.old.deliveries }
+        ensures next_seq { self.new.next_seq ≡ self.old.next_seq }
+        ensures heard { self.new.heard ≡ self.old.heard }
+        ensures missed { self.new.missed ≡ self.old.missed }
+        // Whatever was given up, the others get what they get of `processing_loop`.
+        ensures others { OnOk result ((w : Option ℕ)
+            → is_given_up self.old.given_up.items w ≡ false
+            → D.pending self.new.deliveries w
+            ≡ option_map (λ ds. ds ++ datagram_share (D.port_of self.old.deliveries)
+            (λ q. is_some (D.pending self.old.deliveries (Some q))) w
+            (cut_of untyped_layout bytes.now) groups.now) (D.pending self.old.deliveries w)) }
+        ensures given_up { OnOk result ((q : ℕ)
+            → is_given_up self.old.given_up.items (Some q) ≡ true
+            → D.pending self.new.deliveries (Some q)
+            ≡ (if has_end (D.port_of self.old.deliveries) self.old.given_up.items
+            (ungrouped groups.now (messages_in (λ n. n) bytes.now).0) q then None
+            else option_map (λ _. []) (D.pending self.old.deliveries (Some q)))) }
+        ensures left { OnOk result (self.new.given_up.items
+            ≡ still_open (D.pending self.new.deliveries) self.old.given_up.items) }
+        ensures err { OnErr result ((self.new.given_up ≡ self.old.given_up)
+            × SameLists (D.pending self.old.deliveries) (D.pending self.new.deliveries)) }
+        ensures empty { bytes.now ≡ [] → IsOk result }
+    {
+        self.processing_loop(bytes, groups)?;
+        if groups.is_empty() {
+            self.settle(bytes);
+        } else {
+            self.settle(&[]);
+        }
+        Ok(())
+    }
+
+    /// Takes in a fault of the link, as [`NlRouter::error_handling`] does, but keeps nothing of it for the requests that
+    /// were given up, which stay so: the other side may still answer them.
+    ///
+    /// Refused only where memory runs out, and then nothing is handed to anybody; that the link would block never is,
+    /// nor any fault where no number is open.
+    pub fn link_failed(&mut self, error: SocketError) -> Result<(), NoMemory>
+        ensures port { D.port_of self.new.deliveries ≡ D.port_of self.old.deliveries }
+        ensures next_seq { self.new.next_seq ≡ self.old.next_seq }
+        ensures heard { self.new.heard ≡ self.old.heard }
+        ensures others { OnOk result ((w : Option ℕ)
+            → is_given_up self.old.given_up.items w ≡ false
+            → D.pending self.new.deliveries w ≡ option_map (λ ds. ds ++ fault_share w error)
+            (D.pending self.old.deliveries w)) }
+        ensures given_up { OnOk result ((q : ℕ)
+            → is_given_up self.old.given_up.items (Some q) ≡ true
+            → D.pending self.new.deliveries (Some q)
+            ≡ option_map (λ _. []) (D.pending self.old.deliveries (Some q))) }
+        ensures left { OnOk result (self.new.given_up.items
+            ≡ still_open (D.pending self.new.deliveries) self.old.given_up.items) }
+        ensures missed { OnOk result (self.new.missed ≡ missed_with self.old.missed error) }
+        ensures err { OnErr result ((self.new.given_up ≡ self.old.given_up)
+            × (self.new.missed ≡ self.old.missed)
+            × SameLists (D.pending self.old.deliveries) (D.pending self.new.deliveries)) }
+        ensures would_block { is_would_block error ≡ true → IsOk result }
+        ensures unawaited { ((q : ℕ) → D.pending self.old.deliveries (Some q) ≡ None) → IsOk result }
+    {
+        let missed = missed_with(self.missed, &error);
+        self.error_handling(error)?;
+        self.missed = missed;
+        self.settle(&[]);
+        Ok(())
+    }
+
+    /// Whether the last message of the answer to a request was read.
+    fn has_finished(&self, number: u32) -> bool
+        ensures { result ≡ has_finished (heard_of self.now.heard (Some number)) }
+    {
+        match self.heard.get(&number) {
+            None => false,
+            Some(heard) => heard.finished,
+        }
+    }
+
+    /// Takes away all that waits for a number that is open, and says whether the last message of its answer has come; where
+    /// not, the number is among those given up.
+    ///
+    /// Refused only where memory runs out, and then some of what waits is taken away.
+    fn leave(&mut self, alloc: Global, number: u32, needs_ack: bool) -> Result<bool, NoMemory>
+        ensures port { D.port_of self.new.deliveries ≡ D.port_of self.old.deliveries }
+        ensures next_seq { self.new.next_seq ≡ self.old.next_seq }
+        ensures missed { self.new.missed ≡ self.old.missed }
+        ensures heard { self.new.heard ≡ self.old.heard }
+        ensures others { SameListsBut (Some number)
+            (D.pending self.old.deliveries) (D.pending self.new.deliveries) }
+        ensures ok { (ds : List Waiting) → D.pending self.old.deliveries (Some number) ≡ Some ds
+            → IfOk result (λ finished. (last : Bool) × Finishes needs_ack ds last
+            × (finished ≡ (has_finished (heard_of self.old.heard (Some number)) || last))
+            × (D.pending self.new.deliveries (Some number) ≡ Some [])) }
+        ensures given_up { IfOk result (λ finished. self.new.given_up.items
+            ≡ (if finished then self.old.given_up.items
+            else self.old.given_up.items ++ given_up number needs_ack ∷ [])) }
+        ensures err { OnErr result (self.new.given_up.items ≡ self.old.given_up.items) }
+    {
+        let before = self.has_finished(number);
+        let last = finishes(&mut self.deliveries, alloc, number, needs_ack)?;
+        let finished = either(before, last);
+        if !finished {
+            self.given_up.push(GivenUp { number, needs_ack })?;
+        }
+        Ok(finished)
+    }
+
+    /// Gives a handle up: its number stays open until the last message of its answer has come, and of what waits and
+    /// still comes for it nothing is kept, where datagrams are handed in by [`NlRouter::receive`] and faults of the
+    /// link by [`NlRouter::link_failed`]. So what is on its way is no other request's stray. Where that message came
+    /// already the number is closed, as is the handle of multicast.
+    ///
+    /// The last message is an acknowledgement or an error; or, where no acknowledgement was asked for, a message without
+    /// `NLM_F_MULTI`, or the end of a dump. No fault ends what the other side still sends. A handle that was given a
+    /// message that can't be read as the caller's types is closed at once, where no acknowledgement was asked for.
+    ///
+    /// Refused only where memory runs out, and then the handle is closed.
+    pub fn give_up<RT, RP>(
+        &mut self,
+        alloc: Global,
+        handle: NlRouterReceiverHandle<RT, RP>,
+    ) -> Result<(), NoMemory>
+        ensures port { D.port_of self.new.deliveries ≡ D.port_of self.old.deliveries }
+        ensures next_seq { self.new.next_seq ≡ self.old.next_seq }
+        ensures missed { self.new.missed ≡ self.old.missed }
+        ensures multicast { handle.number ≡ None
+            → (IsOk result) × (D.pending self.new.deliveries None ≡ None) }
+        ensures closed { D.pending self.old.deliveries handle.number ≡ None
+            → (IsOk result) × (D.pending self.new.deliveries handle.number ≡ None) }
+        ensures ok { (q : ℕ) (ds : List Waiting) → handle.number ≡ Some q
+            → D.pending self.old.deliveries (Some q) ≡ Some ds
+            → OnOk result ((last : Bool) × Finishes handle.needs_ack ds last
+            × IsLeft q handle.needs_ack
+            (has_finished (heard_of self.old.heard (Some q)) || last) self.old.given_up.items
+            (D.pending self.new.deliveries) self.new.given_up.items) }
+        ensures others { SameListsBut handle.number
+            (D.pending self.old.deliveries) (D.pending self.new.deliveries) }
+        ensures unheard { heard_of self.new.heard handle.number ≡ None }
+        ensures heard { SameListsBut handle.number
+            (heard_of self.old.heard) (heard_of self.new.heard) }
+        ensures err { OnErr result ((D.pending self.new.deliveries handle.number ≡ None)
+            × (self.new.given_up.items
+            ≡ still_open (D.pending self.new.deliveries) self.old.given_up.items)) }
+    {
+        let state = handle.state();
+        let Some(number) = state.number else {
+            self.close(handle);
+            return Ok(());
+        };
+        if !self.deliveries.is_open(state.number) {
+            self.close(handle);
+            return Ok(());
+        }
+        match self.leave(alloc, number, state.needs_ack) {
+            Ok(finished) => {
+                if finished {
+                    self.close(handle);
+                } else {
+                    let _ = self.heard.remove(&number);
+                }
+                Ok(())
+            }
+            Err(error) => {
+                self.close(handle);
+                Err(error)
+            }
+        }
+    }
+}

@@ -1,0 +1,157 @@
+//! Listening: reads of multicast that go on, whatever comes.
+
+ghost use Rattle.std.specs.Prelude.{true, false, ◌≡◌, ◌∷◌, ◌++◌, [], ℕ, List, Option, None, Some, Ok, IfOk};
+ghost use Rattle.std.specs.Prelude.{OnErr, OnOk, option_map};
+ghost use Rattle.neli_deliveries.specs.Lists.{SameLists, SameListsBut};
+ghost use Rattle.neli_deliveries.specs.declared.delivery.Delivery.{Delivery as Waiting};
+ghost use Rattle.neli_deliveries.specs.Deliveries.{fault_share, is_would_block};
+ghost use Rattle.neli_router.specs.GivenUp.{is_given_up, still_open};
+ghost use Rattle.neli_router.specs.Listening.{IsNotice, fault_kind, missed_with};
+ghost use Rattle.neli_router.specs.declared.listening.Missed.{Missed as Lost};
+ghost use Rattle.neli_reader.specs.SocketError.TheVariants as socket;
+ghost use Rattle.neli_router.specs.declared.listening.Missed.TheVariants as missed;
+ghost use Rattle.neli_router.specs.declared.listening.Notice.TheVariants as notice;
+ghost use Rattle.std.specs.declared.io.ErrorKind.TheVariants as kind;
+
+use crate::{Deliveries, NlRouter};
+use neli_attr::Buffer;
+use neli_consts::NlType;
+use neli_reader::{Nlmsghdr, RouterError, SocketError};
+use neli_wire::{FromBytesWithInput, NoMemory, Size};
+use std::alloc::Global;
+use std::io::ErrorKind;
+
+/// Why messages to groups may be lost.
+#[derive(Clone, Copy, Debug, PartialEq, Eq)]
+pub enum Missed {
+    /// The socket's buffer ran over, which `ENOBUFS` says.
+    Overrun,
+    /// Another fault of the link.
+    Fault(ErrorKind),
+}
+
+/// What a read of multicast gives that goes on after it, whatever it is.
+#[derive(Debug, Drop)]
+pub enum Notice<T, P> {
+    /// The next message.
+    Message(Nlmsghdr<T, P>),
+    /// The next message, which can't be read as the caller's types: its header and its bytes as they came.
+    Untyped(Result<Nlmsghdr<u16, Buffer>, RouterError<u16, Buffer>>),
+    /// The link failed since the last such notice, so messages may be lost.
+    Missed(Missed),
+    /// No message is here yet.
+    Waits,
+    /// Multicast is closed.
+    Closed,
+}
+
+/// Whether the link would only block.
+fn would_block(error: &SocketError) -> bool
+    ensures { result ≡ is_would_block error.now }
+{
+    matches!(error, SocketError::Io(ErrorKind::WouldBlock))
+}
+
+/// What is missed by a fault of the link, after what was missed before; an overrun is said before any other.
+pub(crate) fn missed_with(missed: Option<Missed>, error: &SocketError) -> Option<Missed>
+    ensures { result ≡ missed_with missed error.now }
+{
+    if would_block(error) {
+        return missed;
+    }
+    match missed {
+        Some(Missed::Overrun) => missed,
+        _ => Some(Missed::Fault(kind_of(error))),
+    }
+}
+
+/// The kind of a fault of the link; `Other` of one that says none.
+fn kind_of(error: &SocketError) -> ErrorKind
+    ensures { result ≡ fault_kind error.now }
+{
+    match error {
+        SocketError::Io(kind) => *kind,
+        _ => ErrorKind::Other,
+    }
+}
+
+impl<D: Deliveries> NlRouter<D> {
+    /// Takes in that the socket's buffer ran over, as `ENOBUFS` says: messages are lost. A request is told it as a fault
+    /// of the link, whose kind is `Other`; who listens by its name, [`Missed::Overrun`].
+    ///
+    /// Refused only where memory runs out, and then nothing is handed to anybody.
+    pub fn link_overran(&mut self) -> Result<(), NoMemory>
+        ensures port { D.port_of self.new.deliveries ≡ D.port_of self.old.deliveries }
+        ensures next_seq { self.new.next_seq ≡ self.old.next_seq }
+        ensures heard { self.new.heard ≡ self.old.heard }
+        ensures others { OnOk result ((w : Option ℕ)
+            → is_given_up self.old.given_up.items w ≡ false
+            → D.pending self.new.deliveries w
+            ≡ option_map (λ ds. ds ++ fault_share w (socket.Io kind.Other))
+            (D.pending self.old.deliveries w)) }
+        ensures given_up { OnOk result ((q : ℕ)
+            → is_given_up self.old.given_up.items (Some q) ≡ true
+            → D.pending self.new.deliveries (Some q)
+            ≡ option_map (λ _. []) (D.pending self.old.deliveries (Some q))) }
+        ensures left { OnOk result (self.new.given_up.items
+            ≡ still_open (D.pending self.new.deliveries) self.old.given_up.items) }
+        ensures missed { OnOk result (self.new.missed ≡ Some missed.Overrun) }
+        ensures err { OnErr result ((self.new.given_up ≡ self.old.given_up)
+            × (self.new.missed ≡ self.old.missed)
+            × SameLists (D.pending self.old.deliveries) (D.pending self.new.deliveries)) }
+    {
+        self.link_failed(SocketError::Io(ErrorKind::Other))?;
+        self.missed = Some(Missed::Overrun);
+        Ok(())
+    }
+
+    /// What comes to groups next, read as these types: for who goes on, whatever comes. A message that can't be read as
+    /// them is given as it came, and a fault of the link since the last read is told once, before what waits.
+    ///
+    /// Refused only where memory runs out, and then the router is as it was.
+    pub fn listen<T: NlType, P: FromBytesWithInput + Size + Drop>(
+        &mut self,
+        alloc: Global,
+    ) -> Result<Notice<T, P>, NoMemory>
+        ensures port { D.port_of self.new.deliveries ≡ D.port_of self.old.deliveries }
+        ensures next_seq { self.new.next_seq ≡ self.old.next_seq }
+        ensures heard { self.new.heard ≡ self.old.heard }
+        ensures given_up { self.new.given_up ≡ self.old.given_up }
+        ensures missed { (m : Lost) → self.old.missed ≡ Some m
+            → (result ≡ Ok (notice.Missed m)) × (self.new.missed ≡ None)
+            × (self.new.deliveries ≡ self.old.deliveries) }
+        ensures closed { self.old.missed ≡ None → D.pending self.old.deliveries None ≡ None
+            → (result ≡ Ok notice.Closed) × (self.new ≡ self.old) }
+        ensures waits { self.old.missed ≡ None → D.pending self.old.deliveries None ≡ Some []
+            → (result ≡ Ok notice.Waits) × (self.new ≡ self.old) }
+        ensures gives { self.old.missed ≡ None → (d : Waiting) (ds : List Waiting)
+            → D.pending self.old.deliveries None ≡ Some (d ∷ ds)
+            → IfOk result (λ given. IsNotice T.wire_value P.view P.wire_length P.read d given
+            × (D.pending self.new.deliveries None ≡ Some ds) × (self.new.missed ≡ None)) }
+        ensures others { SameListsBut None
+            (D.pending self.old.deliveries) (D.pending self.new.deliveries) }
+        ensures err { OnErr result (self.new ≡ self.old) }
+    {
+        if let Some(missed) = self.missed {
+            self.missed = None;
+            return Ok(Notice::Missed(missed));
+        }
+        if !self.deliveries.is_open(None) {
+            return Ok(Notice::Closed);
+        }
+        match self.deliveries.first(alloc, None)? {
+            None => Ok(Notice::Waits),
+            Some(Ok(message)) => {
+                self.deliveries.drop_first(None);
+                Ok(Notice::Message(message))
+            }
+            Some(Err(_)) => match self.deliveries.first(alloc, None)? {
+                None => Ok(Notice::Waits),
+                Some(item) => {
+                    self.deliveries.drop_first(None);
+                    Ok(Notice::Untyped(item))
+                }
+            },
+        }
+    }
+}

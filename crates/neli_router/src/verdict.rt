@@ -1,0 +1,194 @@
+//! What is known of an answer by what was read of it: whether all of it was given.
+
+ghost use Rattle.std.specs.Prelude.{◌≡◌};
+ghost use Rattle.neli_router.specs.Verdicts.{begun, end_code, ends_exchange, error_verdict, heard_after, is_flagged};
+ghost use Rattle.neli_router.specs.Verdicts.{fault_verdict, is_last, item_verdict, last_verdict};
+
+use bitflags::Flags;
+use neli_consts::{NLMSG_DONE, NLMSG_ERROR, NlType, NlmF};
+use neli_reader::{NlPayload, Nlmsghdr, RouterError, SocketError};
+
+/// How an answer stands. All but [`Verdict::Pending`] are final.
+#[derive(Clone, Copy, Debug, PartialEq, Eq)]
+pub enum Verdict {
+    /// It has not ended yet, and no message of it is marked as interrupted.
+    Pending,
+    /// It has ended well: what was given is all of it.
+    Complete,
+    /// A message of it, its end included, has the flag `NLM_F_DUMP_INTR`: what is listed changed while it was listed,
+    /// so entries may lack or stand there twice. Ask again.
+    Interrupted,
+    /// The other side answered with an error, or ended a dump with one: the code, as -19 for `ENODEV`.
+    Failed(i32),
+    /// It did not come to its end.
+    Lost(Loss),
+}
+
+/// What ended an answer before its end.
+#[derive(Clone, Copy, Debug, PartialEq, Eq)]
+pub enum Loss {
+    /// The link failed.
+    Link,
+    /// A datagram could not be read to its end.
+    Datagram,
+    /// A message came with a sequence number or a port that no request has.
+    Stray,
+    /// A message could not be read as the caller's types.
+    Unreadable,
+    /// Something else came in place of the acknowledgement.
+    NoAck,
+    /// An acknowledgement came that was not asked for.
+    UnexpectedAck,
+    /// The handle is not open here.
+    Closed,
+}
+
+/// What was heard of an answer so far.
+#[derive(Clone, Copy, Debug, PartialEq, Eq)]
+pub struct Heard {
+    /// How it stands.
+    pub verdict: Verdict,
+    /// A message that was given has the flag `NLM_F_DUMP_FILTERED`: the other side did filter as it was asked to.
+    pub filtered: bool,
+    /// The other side's last message of it was read, whatever ended the answer.
+    pub finished: bool,
+}
+
+/// Whether a message with this type and these flags is the last that answers a request: an acknowledgement or an error;
+/// or, where no acknowledgement was asked for, one without `NLM_F_MULTI`, or the end of a dump.
+pub(crate) fn ends_exchange(needs_ack: bool, number: u16, flags: NlmF) -> bool
+    ensures { result ≡ ends_exchange needs_ack number flags }
+{
+    number == NLMSG_ERROR || (!needs_ack && (!flags.contains(NlmF::MULTI) || number == NLMSG_DONE))
+}
+
+/// Whether an item is the last of the other side's answer.
+pub(crate) fn is_last<T: NlType, P>(
+    needs_ack: bool,
+    item: &Result<Nlmsghdr<T, P>, RouterError<T, P>>,
+) -> bool
+    ensures { result ≡ is_last T.wire_number needs_ack item.now }
+{
+    match item {
+        Ok(message) => {
+            ends_exchange(
+                needs_ack,
+                message.nl_type().to_number(),
+                *message.nl_flags(),
+            )
+        }
+        Err(RouterError::Socket(_)) => false,
+        Err(RouterError::BadSeqOrPid(_)) => false,
+        Err(_) => !needs_ack,
+    }
+}
+
+/// Whether an item is a message with this flag.
+fn has_flag<T, P>(flag: NlmF, item: &Result<Nlmsghdr<T, P>, RouterError<T, P>>) -> bool
+    ensures { result ≡ is_flagged flag.0 item.now }
+{
+    match item {
+        Ok(message) => message.nl_flags().contains(flag),
+        Err(_) => false,
+    }
+}
+
+/// By a fault of the link, or of a datagram.
+fn fault_verdict(error: &SocketError) -> Verdict
+    ensures { result ≡ fault_verdict error.now }
+{
+    match error {
+        SocketError::De(_) => Verdict::Lost(Loss::Datagram),
+        _ => Verdict::Lost(Loss::Link),
+    }
+}
+
+/// By what came in place of a message.
+fn error_verdict<T, P>(error: &RouterError<T, P>) -> Verdict
+    ensures { result ≡ error_verdict error.now }
+{
+    match error {
+        RouterError::Nlmsgerr(answer) => Verdict::Failed(*answer.error()),
+        RouterError::Capped(answer) => Verdict::Failed(*answer.error()),
+        RouterError::Socket(error) => fault_verdict(error),
+        RouterError::BadSeqOrPid(_) => Verdict::Lost(Loss::Stray),
+        RouterError::NoAck => Verdict::Lost(Loss::NoAck),
+        RouterError::UnexpectedAck => Verdict::Lost(Loss::UnexpectedAck),
+        RouterError::ClosedChannel => Verdict::Lost(Loss::Closed),
+        _ => Verdict::Lost(Loss::Unreadable),
+    }
+}
+
+/// The code of the end of a dump; 0 of any other message.
+fn end_code<T, P>(payload: &NlPayload<T, P>) -> i32
+    ensures { result ≡ end_code payload.now }
+{
+    match payload {
+        NlPayload::DumpExtAck(end) => *end.error(),
+        _ => 0,
+    }
+}
+
+/// By the item that ends an answer.
+fn last_verdict<T, P>(item: &Result<Nlmsghdr<T, P>, RouterError<T, P>>) -> Verdict
+    ensures { result ≡ last_verdict item.now }
+{
+    match item {
+        Ok(message) => {
+            let code = end_code(message.nl_payload());
+            if code == 0 {
+                Verdict::Complete
+            } else {
+                Verdict::Failed(code)
+            }
+        }
+        Err(error) => error_verdict(error),
+    }
+}
+
+/// By an item that is given, at which the answer ends or not.
+fn item_verdict<T, P>(ended: bool, item: &Result<Nlmsghdr<T, P>, RouterError<T, P>>) -> Verdict
+    ensures { result ≡ item_verdict ended item.now }
+{
+    if has_flag(NlmF::DUMP_INTR, item) {
+        Verdict::Interrupted
+    } else if ended {
+        last_verdict(item)
+    } else {
+        Verdict::Pending
+    }
+}
+
+impl Heard {
+    /// Nothing was heard yet.
+    pub(crate) fn begun() -> Heard
+        ensures { result ≡ begun }
+    {
+        Heard {
+            verdict: Verdict::Pending,
+            filtered: false,
+            finished: false,
+        }
+    }
+
+    /// What is heard with one item more, which is given, and at which the answer ends or not; `last` says whether it is
+    /// the other side's last.
+    pub(crate) fn with<T, P>(
+        self,
+        ended: bool,
+        last: bool,
+        item: &Result<Nlmsghdr<T, P>, RouterError<T, P>>,
+    ) -> Heard
+        ensures { result ≡ heard_after ended last item.now self }
+    {
+        let verdict = match self.verdict {
+            Verdict::Pending => item_verdict(ended, item),
+            verdict => verdict,
+        };
+        Heard {
+            verdict,
+            filtered: self.filtered || has_flag(NlmF::DUMP_FILTERED, item),
+            finished: self.finished || last,
+        }
+    }
+}
