@@ -10,3 +10,4 @@ mod Requests
 mod Steps
 mod Walks
 mod Runs
+mod Verdicts

@@ -3,9 +3,12 @@ pub use Rattle.neli_router.specs.declared.reply.Reply
 pub use Rattle.neli_router.specs.Requests
 pub use Rattle.neli_router.specs.Rule
 pub use Rattle.neli_router.specs.Sends
+pub use Rattle.neli_router.specs.Verdicts
+pub use Rattle.neli_router.specs.GivenUp
 pub mod Deliveries
 pub mod History
 pub mod OtherReads
 pub mod Outcomes
 pub mod Regrouping
+pub mod Whole
 pub mod laws

@@ -1,6 +1,6 @@
 //! Laws of runs, over the definitions alone. The calls do nothing: their contracts are the laws.
 
-ghost use Rattle.std.specs.Prelude.{◌≡◌, ◌≢◌, ◌<◌, ◌↔◌, ◌++◌, ◌∷◌, ℕ, suc, Bool, false, List, Ok};
+ghost use Rattle.std.specs.Prelude.{◌≡◌, ◌≢◌, ◌<◌, ◌↔◌, ◌++◌, ◌∷◌, ℕ, suc, Bool, false, [], List, Ok, length, nat_lt};
 ghost use Rattle.neli_consts.specs.declared.nlm_f.NlmF.{NlmF as Flags};
 ghost use Rattle.neli_reader.specs.Agreement.{untyped_layout};
 ghost use Rattle.neli_reader.specs.Cuts.{cut_of, messages_before};
@@ -11,14 +11,17 @@ ghost use Rattle.neli_deliveries.specs.declared.delivery.Delivery.{Delivery as W
 ghost use Rattle.neli_deliveries.specs.Readings.{Item};
 ghost use Rattle.neli_router.specs.declared.reply.Reply.{Reply as Answer};
 ghost use Rattle.neli_router.specs.declared.reply.Reply.TheVariants as reply;
-ghost use Rattle.neli_router.specs.Rule.{answer};
+ghost use Rattle.neli_router.specs.Rule.{answer, ends_at, item_of, last_place, single_place};
+ghost use Rattle.neli_router.specs.Verdicts.{given_of, verdict, verdict_with};
+ghost use Rattle.neli_router.specs.declared.verdict.Verdict.TheVariants as stands;
 ghost use Rattle.neli_router.specs.Sends.{frame_or_refusal, request};
 ghost use Rattle.neli_runs.specs.Deliveries.{deliveries};
 ghost use Rattle.neli_runs.specs.History.{History, is_handle_open, is_open, is_sent, items_of, needs_of};
 ghost use Rattle.neli_runs.specs.History.{list_of_handle};
 ghost use Rattle.neli_runs.specs.OtherReads.{NoneReads};
-ghost use Rattle.neli_runs.specs.Outcomes.{EachAfter, IsAnswered, IsNextAnswer, IsSent, outcome_of};
+ghost use Rattle.neli_runs.specs.Outcomes.{AreReadings, EachAfter, IsAnswered, IsNextAnswer, IsSent, outcome_of};
 ghost use Rattle.neli_runs.specs.Regrouping.{Bytes, IsRegrouped, IsWhole, history_with};
+ghost use Rattle.neli_runs.specs.Whole.{IsWholeAnswer};
 
 use crate::{Command, Outcome};
 use neli_consts::NlType;
@@ -192,4 +195,45 @@ where
         (history_with groups bs before) commands outcomes
         → EachAfter (IsAnswered RT.wire_value RT.wire_number RP.view RP.wire_length RP.read port)
         (history_with groups cs before) commands outcomes }
+{}
+
+/// A verdict is one of all that was read: nothing was read at first, and then it is pending; and one item more, of a
+/// handle whose answers have not ended, makes of it and of the items given what `NlRouter::next_typed` makes of them.
+pub fn verdicts_follow_reads<RT: NlType, RP>()
+    ensures none { (needs numbered : Bool)
+        → verdict {K = RT} {P = RP} RT.wire_number needs numbered [] ≡ stands.Pending }
+    ensures verdict { (needs numbered : Bool) (items : List (Item RT RP)) (x : Item RT RP)
+        → nat_lt (last_place RT.wire_number needs numbered items) (length items) ≡ false
+        → verdict RT.wire_number needs numbered (items ++ x ∷ [])
+        ≡ verdict_with (verdict RT.wire_number needs numbered items)
+        (ends_at RT.wire_number needs numbered
+        (nat_lt (single_place RT.wire_number numbered items) (length items)) x)
+        (item_of RT.wire_number needs numbered
+        (nat_lt (single_place RT.wire_number numbered items) (length items)) x) }
+    ensures given { (needs numbered : Bool) (items : List (Item RT RP)) (x : Item RT RP)
+        → nat_lt (last_place RT.wire_number needs numbered items) (length items) ≡ false
+        → given_of RT.wire_number needs numbered (items ++ x ∷ [])
+        ≡ given_of RT.wire_number needs numbered items
+        ++ item_of RT.wire_number needs numbered
+        (nat_lt (single_place RT.wire_number numbered items) (length items)) x ∷ [] }
+{}
+
+/// A verdict but pending is final: no delivery that comes later changes it. So what was interrupted is never complete.
+pub fn verdicts_stay<RT: NlType, RP>()
+    ensures { (needs numbered : Bool) (items more : List (Item RT RP))
+        → verdict RT.wire_number needs numbered items ≢ stands.Pending
+        → verdict RT.wire_number needs numbered (items ++ more)
+        ≡ verdict RT.wire_number needs numbered items }
+{}
+
+/// Where the verdict is `Complete`, the items given are all messages of the answer, each once, in order and as it was
+/// read, none of them marked as interrupted, and the end came with code 0.
+pub fn complete_answers_are_whole<RT, RP>()
+where
+    RT: NlType,
+    RP: FromBytesWithInput + Size,
+    ensures { (needs numbered : Bool) (ds : List Waiting) (items : List (Item RT RP))
+        → AreReadings RT.wire_value RP.view RP.wire_length RP.read ds items
+        → verdict RT.wire_number needs numbered items ≡ stands.Complete
+        → IsWholeAnswer RT.wire_value RT.wire_number RP.view RP.wire_length RP.read needs numbered ds items }
 {}

@@ -14,5 +14,8 @@ mod session;
 mod whole_run;
 
 pub use command::{Command, Outcome};
-pub use neli_router::{Deliveries, Delivery, HandleState, NlRouter, NlRouterReceiverHandle, Reply};
+pub use neli_router::{
+    Deliveries, Delivery, GivenUp, HandleState, Heard, Loss, Missed, NlRouter,
+    NlRouterReceiverHandle, Notice, Reply, Verdict,
+};
 pub use whole_run::run;
