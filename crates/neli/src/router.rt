@@ -9,7 +9,7 @@ pub mod synchronous {
         lookup_id, resolve_genl_family, resolve_nl_mcast_group,
     };
     pub use neli_runs::{
-        Command, Deliveries, Delivery, HandleState, NlRouter, NlRouterReceiverHandle, Outcome,
-        Reply, laws, run,
+        Command, Deliveries, Delivery, GivenUp, HandleState, Heard, Loss, Missed, NlRouter,
+        NlRouterReceiverHandle, Notice, Outcome, Reply, Verdict, laws, run,
     };
 }

@@ -15,6 +15,7 @@
 //! - [`conversations`]: conversations with a kernel, as they were recorded.
 //! - [`random`]: scripts that a generator makes, over both stores. [`entries`]: what the log keeps.
 //! - [`out_of_memory`]: each allocation of a run refused in turn. [`limited`]: a store with a limit.
+//! - [`verdicts`]: how answers stand, requests that are given up, and listening that goes on.
 //! - [`laws`]: the laws of runs, called. [`support`]: what the tests share.
 
 mod answers;
@@ -36,3 +37,4 @@ mod script;
 mod steps;
 mod strays;
 mod support;
+mod verdicts;
