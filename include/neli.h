@@ -31,6 +31,7 @@ enum neli_code {
     NELI_ITEM = 1,            /* a message, an attribute or an item was given */
     NELI_WAITS = 2,           /* no item is here yet: receive a datagram, hand it in, and read again */
     NELI_KERNEL_ERROR = 3,    /* the kernel answered with an error: its code is in the item */
+    NELI_INTERRUPTED = 4,     /* of a verdict: what was listed changed meanwhile; ask again */
     NELI_SHORT = -1,          /* the bytes end before the header, the padding or the number does */
     NELI_LENGTH = -2,         /* a length does not fit: below its header, past the bytes, or past its field */
     NELI_MEMORY = -3,         /* memory ran out; everything is as before */
@@ -122,6 +123,12 @@ struct neli_item {
     int32_t error; /* the code of an error, an acknowledgement or the end of a dump; 0 elsewhere */
 };
 
+/* How an answer stands, beside the code that neli_router_verdict answers. */
+struct neli_verdict {
+    int32_t error; /* the code of the kernel's error, or of the dump that failed, as -19 for ENODEV; 0 elsewhere */
+    uint8_t filtered; /* 1 where the kernel did filter what it listed (NLM_F_DUMP_FILTERED), else 0 */
+};
+
 /* ---- The exports ---- */
 
 int32_t neli_c_error_text(int32_t code, uint8_t *out, size_t room, size_t *length);
@@ -164,6 +171,8 @@ int32_t neli_c_router_datagram(struct neli_router *router, const uint8_t *bytes,
 int32_t neli_c_router_fault(struct neli_router *router, int32_t error_number);
 int32_t neli_c_router_read(struct neli_router *router, size_t handle, struct neli_item *item);
 int32_t neli_c_router_item(struct neli_router *router, uint8_t *out, size_t room, size_t *length);
+int32_t neli_c_router_verdict(struct neli_router *router, size_t handle, struct neli_verdict *verdict);
+int32_t neli_c_router_give_up(struct neli_router *router, size_t handle);
 int32_t neli_c_router_close(struct neli_router *router, size_t handle);
 
 /* ---- Pointers and lengths ---- */
@@ -428,8 +437,32 @@ static inline int32_t neli_router_item(struct neli_router *router, uint8_t *out,
     return neli_c_router_item(router, neli_write_at(out), room, length);
 }
 
-/* Closes a handle: what waits for it is given up; NELI_HANDLE where it is not open. Its number is that of the next
- * handle that is opened, but for NELI_MULTICAST, which is not opened again. */
+/* How the answer to the request of a handle stands, by what was read of it: whether what was given is all of it.
+ *   NELI_WAITS          it has not ended
+ *   NELI_OK             it has ended well, and all of it was given
+ *   NELI_INTERRUPTED    a message of it, its end included, is marked with NLM_F_DUMP_INTR: what was listed changed
+ *                       meanwhile, so entries may lack or stand there twice; told as soon as that message is read
+ *   NELI_KERNEL_ERROR   the kernel answered with an error, or ended a dump with one: the code is in `verdict`
+ *   NELI_LINK, NELI_BYTES, NELI_STRAY, NELI_NO_ACK, NELI_UNEXPECTED_ACK   what else ended it
+ *   NELI_HANDLE         the handle is not open, and then `verdict` stays; or its number is not
+ * All but NELI_WAITS are final. That of NELI_MULTICAST is NELI_WAITS. The router is as it was. */
+static inline int32_t neli_router_verdict(struct neli_router *router, size_t handle, struct neli_verdict *verdict) {
+    if (router == NULL || verdict == NULL) return NELI_NULL;
+    return neli_c_router_verdict(router, handle, verdict);
+}
+
+/* Gives a handle up before its answer has ended: its sequence number stays in use until the last message of the answer
+ * has come, and nothing is kept of what waits and still comes for it. So this is no stray, which would end every other
+ * request. The handle's number is that of the next that is opened, as after neli_router_close. NELI_HANDLE where it is
+ * not open; at NELI_MEMORY it is closed, as by neli_router_close. NELI_MULTICAST is closed. */
+static inline int32_t neli_router_give_up(struct neli_router *router, size_t handle) {
+    if (router == NULL) return NELI_NULL;
+    return neli_c_router_give_up(router, handle);
+}
+
+/* Closes a handle: what waits for it is given up, and what still comes for it is a stray, which ends every other
+ * request: neli_router_give_up is for a handle whose answer has not ended. NELI_HANDLE where it is not open. The handle's
+ * number is that of the next that is opened, but for NELI_MULTICAST, which is not opened again. */
 static inline int32_t neli_router_close(struct neli_router *router, size_t handle) {
     if (router == NULL) return NELI_NULL;
     return neli_c_router_close(router, handle);

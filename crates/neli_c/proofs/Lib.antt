@@ -1,5 +1,6 @@
 pub mod AsBox
 pub mod Frames
+pub mod Hears
 pub mod FreePlaces
 pub mod Moves
 pub mod Opened

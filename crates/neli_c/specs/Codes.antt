@@ -15,6 +15,10 @@ waits = pos 2
 abbrev pub kernel_error : ℤ
 kernel_error = pos 3
 
+-- what was listed changed meanwhile
+abbrev pub interrupted : ℤ
+interrupted = pos 4
+
 -- the bytes end too early; a length does not fit; memory ran out; the room is too small
 abbrev pub short : ℤ
 short = negsuc 0

@@ -7,5 +7,6 @@ pub mod Sessions
 pub mod Several
 pub mod Slots
 pub mod Texts
+pub mod Verdicts
 pub mod Walks
 pub mod Writes

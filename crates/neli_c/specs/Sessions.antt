@@ -21,6 +21,8 @@ use Rattle.neli_log.specs.Log.{pending_of}
 use Rattle.neli_router.specs.declared.handle.HandleState.{HandleState}
 use Rattle.neli_router.specs.declared.reply.Reply.{Reply}
 use Rattle.neli_router.specs.declared.reply.Reply.TheVariants as reply
+use Rattle.neli_lent.specs.Messages.{Lent, messages_in}
+use Rattle.neli_router.specs.GivenUp.{has_end, is_given_up, still_open, ungrouped}
 use Rattle.neli_router.specs.Rule.{ends_at, has_number, is_single, item_of}
 use Rattle.neli_router.specs.Sends.{asks, frame_or_refusal, number_after}
 use Rattle.neli_deliveries.specs.Readings.{IsReading, Item}
@@ -74,16 +76,26 @@ SetsNumber number s t =
     (t.router.next_seq ≡ number) × (t.router.deliveries ≡ s.router.deliveries) × (t.handles.items ≡ s.handles.items)
     × (t.freed ≡ s.freed) × (t.held ≡ s.held)
 
--- each handle gets its share of the datagram; or memory ran out, and what waits is the same, but never at no bytes that
--- came to no group
+-- of the requests that were given up nothing waits after these messages, and where the last message of its answer is one
+-- of them a request is closed
+abbrev pub Settles : List (Lent ℕ) → Session → Session → Type 0
+Settles messages s t =
+    ((q : ℕ) → is_given_up s.router.given_up.items (Some q) ≡ true → pending t (Some q)
+    ≡ (if has_end s.router.deliveries.port s.router.given_up.items messages q then None
+    else option_map (λ _. []) (pending s (Some q))))
+    × (t.router.given_up.items ≡ still_open (pending t) s.router.given_up.items)
+
+-- each handle gets its share of the datagram, and what was given up nothing; or memory ran out, and what waits is the
+-- same, but never at no bytes that came to no group
 abbrev pub TakesDatagram : ℤ → List ℕ → List ℕ → Session → Session → Type 0
 TakesDatagram code bytes groups s t =
     ((code ≡ ok) ⊎ (code ≡ memory))
-    × (code ≡ ok → (w : Option ℕ) → pending t w
+    × (code ≡ ok → (w : Option ℕ) → is_given_up s.router.given_up.items w ≡ false → pending t w
     ≡ option_map (λ ds. ds ++ datagram_share s.router.deliveries.port (is_open s) w (cut_of untyped_layout bytes)
     (without_zeros groups)) (pending s w))
-    × (code ≡ memory → (w : Option ℕ) → pending t w ≡ pending s w)
-    × KeepsRest s t × (bytes ≡ [] → groups ≡ [] → code ≡ ok)
+    × (code ≡ ok → Settles (ungrouped (without_zeros groups) (messages_in (λ n. n) bytes).0) s t)
+    × (code ≡ memory → (t.router.given_up ≡ s.router.given_up) × ((w : Option ℕ) → pending t w ≡ pending s w))
+    × KeepsRest s t × (t.router.heard ≡ s.router.heard) × (bytes ≡ [] → groups ≡ [] → code ≡ ok)
 
 -- the link's fault of a number of errno.h, negated or not: EAGAIN (11), ECONNRESET (104), or another one
 abbrev pub fault_kind : ℤ → ErrorKind
@@ -91,15 +103,18 @@ fault_kind n =
     if nat_eq (unsigned_abs n) 11 then kind.WouldBlock
     else (if nat_eq (unsigned_abs n) 104 then kind.ConnectionReset else kind.Other)
 
--- each handle gets its share of the fault; or memory ran out, and what waits is the same, but never where the link would
+-- each handle gets its share of the fault, and what was given up nothing; or memory ran out, and what waits is the same, but never where the link would
 -- block
 abbrev pub TakesFault : ℤ → ℤ → Session → Session → Type 0
 TakesFault code errno s t =
     ((code ≡ ok) ⊎ (code ≡ memory))
-    × (code ≡ ok → (w : Option ℕ) → pending t w ≡ option_map (λ ds. ds ++ fault_share w (socket.Io (fault_kind errno)))
-    (pending s w))
-    × (code ≡ memory → (w : Option ℕ) → pending t w ≡ pending s w)
-    × KeepsRest s t × (fault_kind errno ≡ kind.WouldBlock → code ≡ ok)
+    × (code ≡ ok → (w : Option ℕ) → is_given_up s.router.given_up.items w ≡ false → pending t w
+    ≡ option_map (λ ds. ds ++ fault_share w (socket.Io (fault_kind errno))) (pending s w))
+    × (code ≡ ok → ((q : ℕ) → is_given_up s.router.given_up.items (Some q) ≡ true → pending t (Some q)
+    ≡ option_map (λ _. []) (pending s (Some q)))
+    × (t.router.given_up.items ≡ still_open (pending t) s.router.given_up.items))
+    × (code ≡ memory → (t.router.given_up ≡ s.router.given_up) × ((w : Option ℕ) → pending t w ≡ pending s w))
+    × KeepsRest s t × (t.router.heard ≡ s.router.heard) × (fault_kind errno ≡ kind.WouldBlock → code ≡ ok)
     × (((q : ℕ) → pending s (Some q) ≡ None) → code ≡ ok)
 
 -- the bytes of the held message are written where there is room, and `length` is how many there are

@@ -9,6 +9,8 @@ pub const ITEM: i32 = 1;
 pub const WAITS: i32 = 2;
 /// The kernel answered with an error.
 pub const KERNEL_ERROR: i32 = 3;
+/// What was listed changed meanwhile.
+pub const INTERRUPTED: i32 = 4;
 
 /// The bytes end too early.
 pub const SHORT: i32 = -1;

@@ -6,10 +6,12 @@ ghost use Rattle.std.specs.Prelude.{◌≡◌, ◌≢◌, ◌⊎◌, IfSome, IsS
 ghost use Rattle.neli_c.specs.Codes.{memory, ok, state};
 ghost use Rattle.neli_c.specs.Sessions.{ClosesHandle, IsNew, ReadsPlace, RefusesRequest, SaysNeeded, SendsNothing};
 ghost use Rattle.neli_c.specs.Sessions.{SendsRequest, SetsNumber, TakesDatagram, TakesFault, WritesItem};
+ghost use Rattle.neli_c.specs.Verdicts.{GivesUpHandle, HearsHandle, TellsVerdict};
+ghost use Rattle.neli_c.specs.Slots.{handle_at};
 
 use crate::code::{MEMORY, OK, STATE};
 use crate::opaque::NeliRouter;
-use crate::session::{NeliItem, NeliSent, Session};
+use crate::session::{NeliItem, NeliSent, NeliVerdict, Session};
 use std::alloc::Global;
 
 /// Opens a router for the port of the caller's socket.
@@ -158,6 +160,8 @@ pub extern "C" fn neli_c_router_read(
         → (result ≡ state) × (router.new.place.value ≡ None) × (item.new ≡ item.old) }
     ensures open { IfSome router.old.place.value (λ s. IsSome router.new.place.value
         × IfSome router.new.place.value (λ t. ReadsPlace result handle s t item.old item.new)) }
+    ensures heard { IfSome router.old.place.value (λ s. IfSome router.new.place.value
+        (λ t. IfSome (handle_at handle s.handles.items) (λ h. HearsHandle h s t))) }
 {
     let Some(mut session) = router.take(alloc) else {
         return STATE;
@@ -188,6 +192,57 @@ pub extern "C" fn neli_c_router_item(
         return STATE;
     };
     let code = session.item(alloc, out, size);
+    router.put(session);
+    code
+}
+
+/// How the answer to the request of a handle stands, by what was read of it; all but `WAITS` are final.
+///
+/// Answers `WAITS` while it has not ended; `OK` where all of it was given; `INTERRUPTED` where a message of it, its end
+/// included, is marked with `NLM_F_DUMP_INTR`, as soon as it is read; `KERNEL_ERROR` where the kernel answered with an
+/// error, or ended a dump with one, whose code is in `verdict`; `LINK`, `BYTES`, `STRAY`, `NO_ACK` or `UNEXPECTED_ACK` for
+/// what else ended it; `HANDLE` where the handle is not open, and then `verdict` stays. The router is as it was.
+#[unsafe(no_mangle)]
+pub extern "C" fn neli_c_router_verdict(
+    alloc: Global,
+    router: &mut NeliRouter,
+    handle: usize,
+    verdict: &mut NeliVerdict,
+) -> i32
+    ensures closed { router.old.place.value ≡ None
+        → (result ≡ state) × (router.new.place.value ≡ None) × (verdict.new ≡ verdict.old) }
+    ensures same { router.new.place.value ≡ router.old.place.value }
+    ensures open { IfSome router.old.place.value
+        (λ s. TellsVerdict result handle s verdict.old verdict.new) }
+{
+    let Some(session) = router.take(alloc) else {
+        return STATE;
+    };
+    let code = session.verdict(handle, verdict);
+    router.put(session);
+    code
+}
+
+/// Gives a handle up: its number stays in use until the last message of its answer has come, and nothing is kept of what
+/// waits and still comes for it, so that this is no other request's stray. Its place may be given to a later request.
+///
+/// Answers `OK`; `HANDLE` where the handle is not open; `MEMORY`, and then the handle is closed, as
+/// `neli_c_router_close` does it.
+#[unsafe(no_mangle)]
+pub extern "C" fn neli_c_router_give_up(
+    alloc: Global,
+    router: &mut NeliRouter,
+    handle: usize,
+) -> i32
+    ensures closed { router.old.place.value ≡ None
+        → (result ≡ state) × (router.new.place.value ≡ None) }
+    ensures open { IfSome router.old.place.value (λ s. IsSome router.new.place.value
+        × IfSome router.new.place.value (GivesUpHandle result handle s)) }
+{
+    let Some(mut session) = router.take(alloc) else {
+        return STATE;
+    };
+    let code = session.give_up(alloc, handle);
     router.put(session);
     code
 }

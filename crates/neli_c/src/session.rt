@@ -1,27 +1,28 @@
 //! A router with the handles that it gave, and the item that was read last.
 
 ghost use Rattle.std.specs.Prelude.{◌≡◌, ◌≢◌, ◌<◌, ℕ, IfOk, IfSome, IsNone, IsSome, List, ◌∷◌, Some, None, length};
-ghost use Rattle.std.specs.Prelude.{slice_get, slice_set, nat_le, vec_capacity, vec_len, if◌then◌else◌};
+ghost use Rattle.std.specs.Prelude.{option_map, slice_get, slice_set, nat_le, vec_capacity, vec_len, if◌then◌else◌};
 ghost use Rattle.neli_router.specs.declared.handle.HandleState.{HandleState};
 ghost use Rattle.neli_c.specs.Codes.{no_handle, ok, room};
 ghost use Rattle.neli_c.specs.Sessions.{ClosesHandle, HasFree, Holds, IsNew, ReadsHandle, RefusesRequest, SaysNeeded};
 ghost use Rattle.neli_c.specs.Sessions.{SendsNothing, SendsRequest, SetsNumber, TakesDatagram, TakesFault, WritesItem};
 ghost use Rattle.neli_c.specs.Sessions.{error_code, error_flags, error_message, fault_kind, item_code, item_message};
 ghost use Rattle.neli_c.specs.Sessions.{item_shown, reply_code, socket_code};
+ghost use Rattle.neli_c.specs.Verdicts.{GivesUpHandle, HearsHandle, TellsVerdict, filtered_byte, verdict_code, verdict_error};
 ghost use Rattle.neli_c.specs.Slots.{AreFree, handle_at, later_places, next_place, put_at};
 ghost use Rattle.neli_c.specs.declared.session.Slot.TheVariants as slot;
 ghost use Rattle.neli_c.specs.Writes.{put_first};
 
 use crate::code::{
-    BYTES, HANDLE, IN_USE, ITEM, KERNEL_ERROR, LENGTH, LINK, MEMORY, NO_ACK, OK, ROOM, STRAY,
-    UNEXPECTED_ACK, WAITS,
+    BYTES, HANDLE, IN_USE, INTERRUPTED, ITEM, KERNEL_ERROR, LENGTH, LINK, MEMORY, NO_ACK, OK, ROOM,
+    STRAY, UNEXPECTED_ACK, WAITS,
 };
 use crate::lent::code_of;
 use neli_attr::Buffer;
 use neli_consts::NlmF;
 use neli_log::Log;
 use neli_reader::{NlPayload, Nlmsghdr, NlmsghdrBuilder, RouterError, SocketError};
-use neli_router::{NlRouter, NlRouterReceiverHandle, Reply};
+use neli_router::{Heard, Loss, NlRouter, NlRouterReceiverHandle, Reply, Verdict};
 use neli_util::Groups;
 use neli_wire::{Constant, NoMemory, ToBytes};
 use std::alloc::Global;
@@ -56,6 +57,16 @@ pub struct NeliItem {
     pub error: i32,
 }
 
+/// How an answer stands, beside the code that says it.
+#[repr(C)]
+#[derive(Clone, Copy)]
+pub struct NeliVerdict {
+    /// The code of the kernel's error, or of the dump that failed; 0 elsewhere.
+    pub error: i32,
+    /// 1 where the kernel did filter what it listed, else 0.
+    pub filtered: u8,
+}
+
 /// What stands at a place of a handle.
 #[derive(Drop)]
 pub enum Slot {
@@ -72,6 +83,16 @@ pub struct Session {
     handles: Vec<Slot>,
     freed: usize,
     held: Option<Message>,
+}
+
+/// The handle at a place, if there is one.
+fn handle_of(handles: &[Slot], k: usize) -> Option<&Handle>
+    ensures { option_map (λ h. h.now) result ≡ handle_at k handles.now }
+{
+    match handles.get(k) {
+        Some(Slot::Open(handle)) => Some(handle),
+        _ => None,
+    }
 }
 
 /// Takes the handle out of a place, if there is one, and names the free place that comes after it.
@@ -194,6 +215,45 @@ fn of_error<T, P>(error: &RouterError<T, P>) -> i32
         RouterError::Memory => MEMORY,
         RouterError::Io(_) => LINK,
         RouterError::Msg(_) => LENGTH,
+    }
+}
+
+/// The code of how an answer stands.
+fn of_verdict(verdict: Verdict) -> i32
+    ensures { result ≡ verdict_code verdict }
+{
+    match verdict {
+        Verdict::Pending => WAITS,
+        Verdict::Complete => OK,
+        Verdict::Interrupted => INTERRUPTED,
+        Verdict::Failed(_) => KERNEL_ERROR,
+        Verdict::Lost(Loss::Link) => LINK,
+        Verdict::Lost(Loss::Datagram) => BYTES,
+        Verdict::Lost(Loss::Stray) => STRAY,
+        Verdict::Lost(Loss::Unreadable) => BYTES,
+        Verdict::Lost(Loss::NoAck) => NO_ACK,
+        Verdict::Lost(Loss::UnexpectedAck) => UNEXPECTED_ACK,
+        Verdict::Lost(Loss::Closed) => HANDLE,
+    }
+}
+
+/// The kernel's code where it failed; 0 elsewhere.
+fn verdict_error(verdict: Verdict) -> i32
+    ensures { result ≡ verdict_error verdict }
+{
+    match verdict {
+        Verdict::Failed(code) => code,
+        _ => 0,
+    }
+}
+
+/// 1 where what was heard says that the kernel did filter, else 0.
+fn filtered_byte(heard: Option<Heard>) -> u8
+    ensures { result ≡ filtered_byte heard }
+{
+    match heard {
+        None => 0,
+        Some(heard) => { if heard.filtered { 1 } else { 0 } }
     }
 }
 
@@ -399,7 +459,7 @@ impl Session {
         let Ok(groups) = Groups::new_groups(alloc, groups) else {
             return MEMORY;
         };
-        match self.router.processing_loop(bytes, &groups) {
+        match self.router.receive(bytes, &groups) {
             Ok(()) => OK,
             Err(_) => MEMORY,
         }
@@ -409,7 +469,7 @@ impl Session {
     pub fn fault(&mut self, errno: i32) -> i32
         ensures { TakesFault result errno self.old self.new }
     {
-        match self.router.error_handling(SocketError::Io(kind_of(errno))) {
+        match self.router.link_failed(SocketError::Io(kind_of(errno))) {
             Ok(()) => OK,
             Err(_) => MEMORY,
         }
@@ -424,6 +484,8 @@ impl Session {
             × (self.new.freed ≡ self.old.freed)
             × ((ks : List ℕ) → HasFree self.old ks → HasFree self.new ks)
             × ReadsHandle result h after self.old self.new item.old item.new) }
+        ensures heard { IfSome (handle_at k self.old.handles.items)
+            (λ h. HearsHandle h self.old self.new) }
     {
         let Some(mut handle) = take(&mut self.handles, k, 0) else {
             return HANDLE;
@@ -446,6 +508,34 @@ impl Session {
         match message.to_bytes(&mut bytes) {
             Ok(()) => copy(&bytes, out, size),
             Err(_) => MEMORY,
+        }
+    }
+
+    /// How the answer to the request of a handle stands, by what was read of it.
+    pub fn verdict(&self, k: usize, verdict: &mut NeliVerdict) -> i32
+        ensures { TellsVerdict result k self.now verdict.old verdict.new }
+    {
+        let Some(handle) = handle_of(&self.handles, k) else {
+            return HANDLE;
+        };
+        let stands = self.router.verdict(handle);
+        *verdict = NeliVerdict {
+            error: verdict_error(stands),
+            filtered: filtered_byte(self.router.heard(handle)),
+        };
+        of_verdict(stands)
+    }
+
+    /// Gives a handle up; its place is the next that is given, but that of multicast.
+    pub fn give_up(&mut self, alloc: Global, k: usize) -> i32
+        ensures { GivesUpHandle result k self.old self.new }
+    {
+        match free(&mut self.handles, &mut self.freed, k) {
+            Some(handle) => match self.router.give_up(alloc, handle) {
+                Ok(()) => OK,
+                Err(_) => MEMORY,
+            },
+            None => HANDLE,
         }
     }
 

@@ -6,6 +6,7 @@ use Rattle.neli_c.specs.declared.session.Slot.{Slot}
 use Rattle.neli_c.specs.declared.session.Slot.TheVariants as slot
 use Rattle.neli_c.specs.Slots.{AreFree}
 use Rattle.neli_c.proofs.FreePlaces.{free-read}
+use Rattle.neli_c.proofs.Hears.{hears}
 use Rattle.neli_c.proofs.Replies.{of-value, reads}
 use Rattle.neli_c.proofs.session.Session.read.Goals as goal
 
@@ -32,3 +33,17 @@ returns-clause-some c =
         held = c.hold.new.held;
       }) _ _ _ _ code c.hold.ensures.held r.port r.next_seq r.ended r.closed r.waits r.gives r.others r.err,
     )
+
+pub returns-clause-heard : goal.returns-clause-heard
+returns-clause-heard c =
+    let s = c.args.self.now in
+    let h : HandleState = c.in-Some.handle in
+    let after : HandleState = c.next_typed-answer.new.handle in
+    let r = c.next_typed-answer.ensures in
+    of-value _ _ h c.in-Some.ensures.taken
+    (hears h after s (record {
+      router = c.next_typed-answer.new.self;
+      handles = c.take.new.handles;
+      freed = s.freed;
+      held = c.hold.new.held;
+    }) _ r.heard r.unheard r.given_up r.err)
