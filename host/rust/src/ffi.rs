@@ -366,6 +366,7 @@ unsafe extern "C" {
     fn poll(watched: *mut Watched, count: c_ulong, milliseconds: c_int) -> c_int;
     fn eventfd(count: c_uint, flags: c_int) -> c_int;
     fn write(fd: c_int, bytes: *const c_void, length: usize) -> isize;
+    fn read(fd: c_int, bytes: *mut c_void, length: usize) -> isize;
 }
 
 fn checked(result: c_int) -> io::Result<c_int> {
@@ -481,6 +482,13 @@ pub fn event() -> io::Result<OwnedFd> {
     unsafe { Ok(OwnedFd::from_raw_fd(checked(eventfd(0, EFD_CLOEXEC | EFD_NONBLOCK))?)) }
 }
 
+/// Makes a counter unreadable.
+pub fn reset(event: RawFd) {
+    let mut count: u64 = 0;
+    // SAFETY: pointer and size are those of `count`. A counter that was not readable is as it was.
+    unsafe { read(event, (&raw mut count).cast(), size_of::<u64>()) };
+}
+
 /// Makes a counter readable.
 pub fn signal(event: RawFd) -> io::Result<usize> {
     let one: u64 = 1;
@@ -488,12 +496,12 @@ pub fn signal(event: RawFd) -> io::Result<usize> {
     counted(unsafe { write(event, (&raw const one).cast(), size_of::<u64>()) })
 }
 
-/// Waits until one of two descriptors can be read, at most so many milliseconds, or without end below 0: whether one
-/// can.
-pub fn wait(fds: [RawFd; 2], milliseconds: c_int) -> io::Result<bool> {
+/// Waits until one of three descriptors can be read, at most so many milliseconds, or without end below 0: whether one
+/// can. Below 0 there is no descriptor.
+pub fn wait(fds: [RawFd; 3], milliseconds: c_int) -> io::Result<bool> {
     let mut watched = fds.map(|fd| Watched { fd, events: POLLIN, found: 0 });
     // SAFETY: pointer and count are those of one array of this function.
-    let found = checked(unsafe { poll(watched.as_mut_ptr(), 2, milliseconds) })?;
+    let found = checked(unsafe { poll(watched.as_mut_ptr(), 3, milliseconds) })?;
     Ok(found > 0)
 }
 

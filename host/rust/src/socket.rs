@@ -184,12 +184,13 @@ pub mod synchronous {
             if self.waits().is_stopped { Err(io::Error::from_raw_os_error(CANCELED)) } else { Ok(()) }
         }
 
-        /// Waits until there may be something to be received; refused where the wait is over.
-        pub(crate) fn wait(&self, wait: &Wait) -> io::Result<()> {
+        /// Waits until there may be something to be received, or `wake` is readable, if it is no negative number; refused
+        /// where the wait is over.
+        pub(crate) fn wait(&self, wait: &Wait, wake: RawFd) -> io::Result<()> {
             loop {
                 self.want_unstopped()?;
                 let left = wait.left()?.map_or(-1, |it| c_int::try_from(it.as_millis() + 1).unwrap_or(c_int::MAX));
-                match ffi::wait([self.as_raw_fd(), self.stop.as_raw_fd()], left) {
+                match ffi::wait([self.as_raw_fd(), self.stop.as_raw_fd(), wake], left) {
                     Ok(true) => return self.want_unstopped(),
                     Err(error) if error.kind() != ErrorKind::Interrupted || wait.ends_by_signals => return Err(error),
                     _ => {}
@@ -246,7 +247,7 @@ pub mod synchronous {
                     return Ok(Groups::new_groups(&[group]));
                 }
                 drop(kept);
-                self.wait(&wait)?;
+                self.wait(&wait, -1)?;
             }
         }
 
@@ -258,7 +259,7 @@ pub mod synchronous {
                 if let Some((length, group)) = self.received(room)? {
                     return Ok((length, Groups::new_groups(&[group])));
                 }
-                self.wait(&wait)?;
+                self.wait(&wait, -1)?;
             }
         }
 

@@ -82,12 +82,12 @@ impl Shared {
         bell: &Arc<Condvar>,
         wait: &Wait,
     ) -> (MutexGuard<'s, State>, io::Result<()>) {
-        if !state.is_watched {
-            state.is_watched = true;
+        if state.watcher.is_none() {
+            let wake = state.begin_watch(handle);
             drop(state);
-            let waited = self.socket.wait(wait);
+            let waited = self.socket.wait(wait, wake);
             state = self.state();
-            state.is_watched = false;
+            state.end_watch();
             return (state, waited);
         }
         let left = match wait.left() {

@@ -8,6 +8,7 @@ use crate::socket::synchronous::NlSocketHandle;
 use std::collections::{HashMap, VecDeque};
 use std::io;
 use std::ops::Range;
+use std::os::fd::{AsRawFd, OwnedFd, RawFd};
 use std::sync::{Arc, Condvar};
 
 /// The handle of what comes to groups.
@@ -109,8 +110,12 @@ pub(super) enum Step {
 pub(super) struct State {
     router: ffi::Router,
     ledger: Ledger,
-    /// Whether a thread waits at the socket. The others that wait have a bell each, by their handles.
-    pub(super) is_watched: bool,
+    /// The handle whose reader waits at the socket, where one does.
+    pub(super) watcher: Option<usize>,
+    /// What wakes that reader, where another one has received what is for it; and whether it is readable.
+    wake: OwnedFd,
+    is_woken: bool,
+    /// The bells of the others that wait, by their handles.
     pub(super) bells: HashMap<usize, Arc<Condvar>>,
     room: Vec<u8>,
     held: Option<Held>,
@@ -132,7 +137,9 @@ impl State {
         Ok(State {
             router: ffi::Router::new(port).map_err(|_| RouterError::Memory)?,
             ledger: Ledger::new(port),
-            is_watched: false,
+            watcher: None,
+            wake: ffi::event()?,
+            is_woken: false,
             bells: HashMap::new(),
             room: Vec::new(),
             held: None,
@@ -369,19 +376,46 @@ impl State {
         self.ring_all();
     }
 
-    fn ring(&self, handle: usize) {
+    fn ring(&mut self, handle: usize) {
         if let Some(bell) = self.bells.get(&handle) {
             bell.notify_one();
         }
+        if self.watcher == Some(handle) {
+            self.wake_watcher();
+        }
     }
 
-    fn ring_all(&self) {
+    fn ring_all(&mut self) {
         self.bells.values().for_each(|it| it.notify_one());
+        if self.watcher.is_some() {
+            self.wake_watcher();
+        }
+    }
+
+    fn wake_watcher(&mut self) {
+        if !std::mem::replace(&mut self.is_woken, true) {
+            // The counter is not readable, so there is room in it.
+            let _written = ffi::signal(self.wake.as_raw_fd());
+        }
+    }
+
+    /// The reader of this handle waits at the socket from now on: what wakes it.
+    pub(super) fn begin_watch(&mut self, handle: usize) -> RawFd {
+        self.watcher = Some(handle);
+        self.wake.as_raw_fd()
+    }
+
+    /// It does so no longer.
+    pub(super) fn end_watch(&mut self) {
+        self.watcher = None;
+        if std::mem::take(&mut self.is_woken) {
+            ffi::reset(self.wake.as_raw_fd());
+        }
     }
 
     /// One who leaves has another one watch the socket, where nobody does.
     pub(super) fn pass_on_watch(&self) {
-        if let (false, Some(bell)) = (self.is_watched, self.bells.values().next()) {
+        if let (None, Some(bell)) = (self.watcher, self.bells.values().next()) {
             bell.notify_one();
         }
     }

@@ -331,6 +331,23 @@ fn each_wait_has_its_end() {
 }
 
 #[test]
+fn who_waits_at_the_socket_is_given_what_another_receives() {
+    alone(|| {
+        const MANY: usize = 2000;
+        let (router, multicast) = router(&[LINK_GROUP]);
+        let (heard, count) = channel();
+        // It waits at the socket, and what comes for it is mostly received by who asks.
+        let news = thread::spawn(move || {
+            let is_well = multicast.take(MANY).all(|it| it.is_ok());
+            heard.send(is_well).expect("the test waits for it");
+        });
+        (0..MANY).for_each(|at| set_loopback(&router, at % 2 == 0));
+        assert!(count.recv_timeout(Duration::from_secs(20)).expect("all of it comes"));
+        news.join().expect("the thread ends");
+    });
+}
+
+#[test]
 fn threads_that_wait_cost_a_request_nothing() {
     alone(|| {
         let (router, _) = router(&[]);
