@@ -2,7 +2,7 @@
 //!
 //! `NELI_C` is the folder of `libneli_c.a`, `RATTLE_C` that of `liblibc_c.a`. Without them the library is looked for
 //! where `host/library` leaves it, and the heap beside the page that `rt doc` names. The numbers are those that the
-//! suite `constants` prints, and `./check` compares: the file `constants` here.
+//! suite `constants` prints, and `./check` compares.
 
 use std::collections::BTreeMap;
 use std::path::{Path, PathBuf};
@@ -66,11 +66,23 @@ fn main() {
     let top = here.join("../..");
     link("NELI_C", "neli_c", || top.join("crates/neli_c/out"));
     link("RATTLE_C", "libc_c", kit);
-    let table = here.join("constants");
+    let table = shared(&here, "constants", "suites/constants/stdout");
+    shared(&here, "neli.h", "include/neli.h");
+    shared(&here, "CALLING.md", "docs/CALLING.md");
     println!("cargo::rerun-if-changed={}", table.display());
     let text = fs::read_to_string(&table).unwrap_or_else(|error| panic!("{}: {error}", table.display()));
     let out = PathBuf::from(env::var("OUT_DIR").expect("cargo says where to write"));
     fs::write(out.join("consts.rs"), written(&tables(&text))).expect("the constants are written");
+}
+
+/// A file that this crate shares with the repository: beside the crate where it was packed, else where it stands. Code
+/// finds it by the variable `NELI_FILE_` with its name.
+fn shared(here: &Path, name: &str, place: &str) -> PathBuf {
+    let packed = here.join(name);
+    let file = if packed.is_file() { packed } else { here.join("../..").join(place) };
+    let variable: String = name.chars().map(|c| if c.is_alphanumeric() { c.to_ascii_uppercase() } else { '_' }).collect();
+    println!("cargo::rustc-env=NELI_FILE_{variable}={}", file.display());
+    file
 }
 
 /// Has a static library linked: from the folder that a variable names, or else from a place where it is looked for.

@@ -3,7 +3,7 @@
 use super::{Answer, Attribute, Item, Message, RawRouter, Sent, Walk, Writer};
 use std::mem::offset_of;
 
-const HEADER: &str = include_str!("../neli.h");
+const HEADER: &str = include_str!(env!("NELI_FILE_NELI_H"));
 const DECLARED: &str = include_str!("ffi.rs");
 
 /// The codes that this crate names.

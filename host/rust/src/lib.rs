@@ -48,7 +48,7 @@ use std::ffi::{CStr, CString};
 
 /// The examples of the page on this crate are built.
 #[cfg(doctest)]
-#[doc = include_str!("../CALLING.md")]
+#[doc = include_str!(env!("NELI_FILE_CALLING_MD"))]
 struct Page;
 
 /// What is written as a payload.

@@ -7,6 +7,7 @@ use super::script::bytes_of;
 use super::support::assert_is_at;
 use neli::consts::nl::NlmF;
 use neli::err::{RouterError, SocketError};
+use neli::genl::Genlmsghdr;
 use neli::nl::NlPayload;
 use neli::router::synchronous::laws::{
     complete_answers_are_whole, verdicts_follow_reads, verdicts_stay,
@@ -292,7 +293,10 @@ const SHORT: &str = "12000000100000000000000000000000aabb0000";
 
 /// What was given of multicast, in a word.
 fn notice<D: Deliveries>(rt: &impl Abort, alloc: Global, router: &mut NlRouter<D>) -> &'static str {
-    match router.listen::<u16, u32>(alloc).expect(rt, "memory") {
+    match router
+        .listen::<u16, Genlmsghdr<u8, u16>>(alloc)
+        .expect(rt, "memory")
+    {
         Notice::Message(_) => "a message",
         Notice::Untyped(Ok(_)) => "as it came",
         Notice::Untyped(Err(_)) => "refused",
@@ -303,7 +307,7 @@ fn notice<D: Deliveries>(rt: &impl Abort, alloc: Global, router: &mut NlRouter<D
     }
 }
 
-/// One notification cannot be read as a number of 32 bits, and those after it come all the same.
+/// One notification has no room for a generic header, and those after it come all the same.
 fn listens<D: Deliveries>(rt: &impl Abort, alloc: Global) {
     let (mut router, multicast) = NlRouter::<D>::new(alloc, 7);
     let groups = Groups::new_groups(alloc, &[1]).expect(rt, "memory");
