@@ -100,7 +100,10 @@ fn process_events(rt: HostRuntime) {
 }
 
 /// Reads a message of the connector from all of the bytes.
-fn read<P: FromBytesWithInput>(alloc: Global, bytes: &[u8]) -> Result<CnMsg<P>, DeError> {
+fn connector_message<P: FromBytesWithInput>(
+    alloc: Global,
+    bytes: &[u8],
+) -> Result<CnMsg<P>, DeError> {
     CnMsg::from_bytes_with_input(alloc, &mut Cursor::new(bytes), bytes.len())
 }
 
@@ -118,7 +121,7 @@ fn program_of(event: &ProcEvent) -> Option<(i32, i32)> {
 #[test]
 fn the_fields_of_a_process_event(rt: HostRuntime) {
     let bytes = decoded(&rt, rt.alloc(), EXEC);
-    let m: CnMsg<ProcEventHeader> = read(rt.alloc(), &bytes).expect(&rt, "an event");
+    let m: CnMsg<ProcEventHeader> = connector_message(rt.alloc(), &bytes).expect(&rt, "an event");
     let header = (*m.idx(), *m.val(), *m.seq(), *m.len());
     let want = (CnMsgIdx::Proc, CnMsgVal::Proc, 643, 40);
     assert_is_at(&rt, "its message", header, want);
@@ -126,7 +129,7 @@ fn the_fields_of_a_process_event(rt: HostRuntime) {
     let fields = (event.cpu, event.timestamp_ns, program_of(&event.event));
     let want = (1, 2504390882488, Some((5759, 5759)));
     assert_is_at(&rt, "its fields", fields, want);
-    let m: CnMsg<Vec<u8>> = read(rt.alloc(), &bytes).expect(&rt, "bytes");
+    let m: CnMsg<Vec<u8>> = connector_message(rt.alloc(), &bytes).expect(&rt, "bytes");
     assert_is_at(&rt, "bytes", m.payload().len(), 24);
 }
 
@@ -136,7 +139,7 @@ fn a_process_event_that_is_cut(rt: HostRuntime) {
     let bytes = decoded(&rt, rt.alloc(), EXEC);
     for k in 0..44usize {
         let part = bytes.get(..k).expect(&rt, "a part");
-        let refused = refusal_in(read::<ProcEventHeader>(rt.alloc(), part));
+        let refused = refusal_in(connector_message::<ProcEventHeader>(rt.alloc(), part));
         let count = if k < 20 { k } else { k - 20 };
         assert_is_at(
             &rt,

@@ -61,7 +61,7 @@ fn a_type_with_a_flag(rt: HostRuntime) {
 
 // Bits without a name are read, and `From` leaves them out.
 #[test]
-fn flags(rt: HostRuntime) {
+fn sets_of_flags(rt: HostRuntime) {
     let read = Ntf::from_bytes(rt.alloc(), &mut Cursor::new(b"\xff"));
     let read = read.expect(&rt, "flags").bits();
     let bits = (Ntf::from(0xff).bits(), read);

@@ -6,7 +6,7 @@ use std::alloc::Global;
 use std::process::Abort;
 
 #[test]
-fn groups(rt: HostRuntime) {
+fn lists_of_groups(rt: HostRuntime) {
     let alloc = rt.alloc();
     let highest = Groups::new_bitmask(alloc, 0x8000_0000).expect(&rt, "memory");
     let list = highest.into_groups();
@@ -53,15 +53,17 @@ fn numbers_in_bit_arrays(rt: HostRuntime) {
 
 #[test]
 fn bit_arrays_resized(rt: HostRuntime) {
-    let mut array = array(&rt, rt.alloc(), 33);
-    assert_is_at(&rt, "33 bits", array.len(), 8);
+    let alloc = rt.alloc();
+    let mut long = array(&rt, alloc, 33);
+    assert_is_at(&rt, "33 bits", long.len(), 8);
     for (bytes, length) in [(1, 4), (9, 12)] {
-        array.resize(bytes).expect(&rt, "memory");
-        assert_is_at(&rt, "bytes", array.len(), length);
+        long.resize(bytes).expect(&rt, "memory");
+        assert_is_at(&rt, "bytes", long.len(), length);
     }
-    array.resize_bits(32).expect(&rt, "memory");
-    for (bits, length) in [(32, 4), (33, 8), (1, 4)] {
-        array.resize_bits(bits).expect(&rt, "memory");
-        assert_is_at(&rt, "bits", array.len(), length);
+    let mut short = array(&rt, alloc, 32);
+    assert_is_at(&rt, "32 bits", short.len(), 4);
+    for (bits, length) in [(33, 8), (1, 4)] {
+        short.resize_bits(bits).expect(&rt, "memory");
+        assert_is_at(&rt, "bits", short.len(), length);
     }
 }

@@ -17,14 +17,14 @@ type Raw = Nlmsghdr<u16, Buffer>;
 type Typed = Nlmsghdr<NlTypeWrapper, Vec<u8>>;
 
 /// The message of these digits.
-fn raw(rt: &impl Abort, alloc: Global, digits: &str) -> Raw {
+fn raw_message(rt: &impl Abort, alloc: Global, digits: &str) -> Raw {
     let bytes = decoded(rt, alloc, digits);
     Nlmsghdr::from_bytes(alloc, &mut Cursor::new(&bytes)).expect(rt, "a message")
 }
 
 /// It, with known types.
-fn typed(rt: &impl Abort, alloc: Global, digits: &str) -> Typed {
-    let typed = raw(rt, alloc, digits).to_typed(alloc);
+fn typed_message(rt: &impl Abort, alloc: Global, digits: &str) -> Typed {
+    let typed = raw_message(rt, alloc, digits).to_typed(alloc);
     typed.ok().expect(rt, "a typed message")
 }
 
@@ -56,7 +56,7 @@ fn assert_bad<T: NlType, P>(
 
 #[test]
 fn an_error_with_its_echo(rt: HostRuntime) {
-    let message = raw(&rt, rt.alloc(), ERROR);
+    let message = raw_message(&rt, rt.alloc(), ERROR);
     let answer = error_in(&rt, &message);
     assert_bad(&rt, rt.alloc(), "an error", answer);
     let echo = (*answer.nlmsg().nl_type(), answer.nlmsg().nl_payload().len());
@@ -66,7 +66,7 @@ fn an_error_with_its_echo(rt: HostRuntime) {
 // The echo's length is reckoned anew, and rounded up.
 #[test]
 fn a_retyped_error(rt: HostRuntime) {
-    let message = typed(&rt, rt.alloc(), ERROR);
+    let message = typed_message(&rt, rt.alloc(), ERROR);
     let answer = error_in(&rt, &message);
     assert_bad(&rt, rt.alloc(), "an error", answer);
     let echo = answer.nlmsg();
@@ -80,7 +80,7 @@ fn a_retyped_error(rt: HostRuntime) {
 
 #[test]
 fn an_error_taken_out_once(rt: HostRuntime) {
-    let mut message = typed(&rt, rt.alloc(), ERROR);
+    let mut message = typed_message(&rt, rt.alloc(), ERROR);
     let taken = message.get_err().expect(&rt, "an error");
     assert_bad(&rt, rt.alloc(), "an error", &taken);
     let is_empty = matches!(message.nl_payload(), NlPayload::Empty);
@@ -96,7 +96,7 @@ fn an_error_taken_out_once(rt: HostRuntime) {
 
 #[test]
 fn another_payload_put_in(rt: HostRuntime) {
-    let mut message = typed(&rt, rt.alloc(), ERROR);
+    let mut message = typed_message(&rt, rt.alloc(), ERROR);
     let body = b"12345".to_vec(rt.alloc()).expect(&rt, "memory");
     let put = message.set_payload(NlPayload::Payload(body));
     assert_is_at(

@@ -79,7 +79,7 @@ fn error_given(error: &RouterError<u16, Buffer>) -> Given {
 }
 
 /// What a reply is.
-fn given(reply: Reply<u16, Buffer>) -> Given {
+fn given_by(reply: Reply<u16, Buffer>) -> Given {
     match &reply {
         Reply::Item(Ok(_)) => Given::Message,
         Reply::Item(Err(error)) => error_given(error),
@@ -95,7 +95,7 @@ fn read<D: Deliveries>(
     router: &mut NlRouter<D>,
     handle: &mut Handle,
 ) -> Given {
-    given(router.next_typed(alloc, handle).expect(rt, "memory"))
+    given_by(router.next_typed(alloc, handle).expect(rt, "memory"))
 }
 
 /// Asserts that so many entries are kept, and so many bytes of datagrams.

@@ -5,7 +5,7 @@ use neli::{BeU64, Cursor, FromBytesWithInputBorrowed};
 
 // The highest byte first, and a number below zero.
 #[test]
-fn numbers(rt: HostRuntime) {
+fn numbers_written(rt: HostRuntime) {
     let alloc = rt.alloc();
     let number = BeU64::new(571987654);
     assert_written(&rt, alloc, "the highest first", &number, "000000002217d6c6");
@@ -20,7 +20,7 @@ const TEXTS: [Read; 3] = [
 ];
 
 #[test]
-fn texts(rt: HostRuntime) {
+fn owned_texts(rt: HostRuntime) {
     for row in &TEXTS {
         assert_read::<String>(&rt, rt.alloc(), row);
     }
