@@ -80,7 +80,8 @@ fn main() {
 fn shared(here: &Path, name: &str, place: &str) -> PathBuf {
     let packed = here.join(name);
     let file = if packed.is_file() { packed } else { here.join("../..").join(place) };
-    let variable: String = name.chars().map(|c| if c.is_alphanumeric() { c.to_ascii_uppercase() } else { '_' }).collect();
+    let variable: String =
+        name.chars().map(|c| if c.is_alphanumeric() { c.to_ascii_uppercase() } else { '_' }).collect();
     println!("cargo::rustc-env=NELI_FILE_{variable}={}", file.display());
     file
 }
