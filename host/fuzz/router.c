@@ -12,7 +12,7 @@ enum kind { MESSAGE, STRAY, REFUSED, LOST };
 /* What waits for a handle: a message, with its padding, or a fault. */
 struct delivery {
     enum kind kind;
-    uint8_t bytes[96];
+    uint8_t bytes[256]; /* a length of one byte is the largest that a script states */
     size_t length;
 };
 
@@ -66,7 +66,7 @@ static bool has_number(const struct handle *handle) {
 }
 
 static void deliver(struct handle *handle, enum kind kind, const uint8_t *bytes, size_t length) {
-    WANT(handle->count < WAITING);
+    WANT(handle->count < WAITING && length <= sizeof handle->waits->bytes);
     struct delivery *it = &handle->waits[handle->count++];
     *it = (struct delivery){.kind = kind, .length = length};
     if (length > 0) memcpy(it->bytes, bytes, length);
