@@ -313,6 +313,14 @@ static int32_t read_now(struct host *host, size_t handle, struct neli_message *m
     return taken == NELI_OK ? code : taken;
 }
 
+int32_t host_verdict(struct host *host, size_t handle, struct neli_verdict *verdict) {
+    if (host->is_taken && host->taken == handle) {
+        *verdict = (struct neli_verdict){0};
+        return NELI_WAITS;
+    }
+    return neli_router_verdict(&host->router, handle, verdict);
+}
+
 int32_t host_next(struct host *host, size_t handle, struct neli_message *message) {
     int64_t end = link_end_of_wait(&host->link);
     for (;;) {
@@ -353,37 +361,43 @@ static int32_t answer_of(const struct host *host, const struct neli_message *mes
     return neli_get_answer(host->item, host->item_length, message, &answer) == NELI_OK ? answer.code : 0;
 }
 
-/* Takes in a dump. `is_passing` says whether it can be repeated where it was not whole. */
-static int32_t take_dump(struct host *host, uint16_t type, const void *body, size_t length, bool *is_passing,
-                         void (*take)(const struct host *, const struct neli_message *, void *), void *picture) {
-    struct neli_message message;
-    size_t handle;
-    int32_t code = host_send(host, type, NLM_F_DUMP, body, length, &handle), answer = 0;
-    bool is_marked = false;
-    if (code != NELI_OK) return code;
-    take(host, NULL, picture);
-    while (!is_marked && answer == 0 && (code = host_next(host, handle, &message)) == NELI_ITEM) {
-        is_marked = (message.flags & NLM_F_DUMP_INTR) != 0;
-        if (message.type == NLMSG_DONE) answer = answer_of(host, &message);
-        else take(host, &message, picture);
-    }
-    if (code == NELI_KERNEL_ERROR) answer = answer_of(host, &message);
-    bool is_loss = code == NELI_LINK && host->fault != EAGAIN && host->fault != EINTR && host->fault != ECANCELED;
-    *is_passing = is_marked || is_loss || answer == -EBUSY || answer == -ENOBUFS;
-    host_close_request(host, handle);
-    return answer != 0 ? NELI_KERNEL_ERROR : is_marked ? NELI_WAITS : code;
+/* Whether a dump that came out so may come out well when it is asked for again. */
+static bool is_passing(const struct host *host, int32_t code, const struct neli_message *last) {
+    if (code == NELI_INTERRUPTED) return true;
+    if (code == NELI_LINK) return host->fault != EAGAIN && host->fault != EINTR && host->fault != ECANCELED;
+    int32_t answer = code == NELI_KERNEL_ERROR ? answer_of(host, last) : 0;
+    return answer == -EBUSY || answer == -ENOBUFS;
 }
 
-int32_t host_resync(struct host *host, uint16_t type, const void *body, size_t length, int times,
-                    void (*take)(const struct host *host, const struct neli_message *message, void *picture),
-                    void *picture) {
-    int32_t code = NELI_WAITS;
-    bool is_passing = true;
-    for (int i = 0; i < times && is_passing; i++) {
-        is_passing = false;
+/* Asks for a list once. */
+static int32_t take_dump(struct host *host, const struct dump *dump, struct neli_message *last) {
+    struct neli_verdict verdict;
+    size_t handle;
+    uint16_t flags = dump->flags | NLM_F_DUMP;
+    int32_t code = host_send(host, dump->type, flags, dump->body, dump->length, &handle);
+    if (code != NELI_OK) return code;
+    dump->take(host, NULL, dump->list);
+    while ((code = host_next(host, handle, last)) == NELI_ITEM)
+        if (last->type != NLMSG_DONE) dump->take(host, last, dump->list);
+    if (code == NELI_END) code = host_verdict(host, handle, &verdict);
+    host_close_request(host, handle);
+    return code;
+}
+
+int32_t host_dump(struct host *host, const struct dump *dump, struct neli_message *last) {
+    int32_t code = take_dump(host, dump, last);
+    for (int i = 1; i < dump->times && is_passing(host, code, last); i++) code = take_dump(host, dump, last);
+    return code;
+}
+
+int32_t host_resync(struct host *host, const struct dump *dump, struct neli_message *last) {
+    int32_t code;
+    int i = 0;
+    do {
         code = drop_multicast(host);
-        if (code == NELI_OK) code = take_dump(host, type, body, length, &is_passing, take, picture);
-    }
+        if (code != NELI_OK) return code;
+        code = take_dump(host, dump, last);
+    } while (++i < dump->times && is_passing(host, code, last));
     return code;
 }
 

@@ -80,14 +80,35 @@ int32_t host_next(struct host *host, size_t handle, struct neli_message *message
  * multicast. */
 int32_t host_close_request(struct host *host, size_t handle);
 
-/* Takes in the whole picture after NELI_LINK of NELI_MULTICAST: a dump that nothing was lost of and that the kernel has
- * not marked as interrupted. What had come to groups before is dropped, since the picture has it; what comes from then
- * on is read as before, and is to be applied to the picture. `take` is called with a message that is NULL where the
- * picture begins anew, and then with each message of the dump; the dump is repeated where something is lost again, so
- * many times in all. NELI_OK; or why the last one was not whole, NELI_WAITS where it was marked. */
-int32_t host_resync(struct host *host, uint16_t type, const void *body, size_t length, int times,
-                    void (*take)(const struct host *host, const struct neli_message *message, void *picture),
-                    void *picture);
+/* How the answer to a request stands, by what was read of it: whether what `host_next` gave is all of it. A code of
+ * `neli_router_verdict`, whose words hold here; NELI_WAITS also where the item that was read last had no memory yet. It
+ * is asked for before the handle is closed. */
+int32_t host_verdict(struct host *host, size_t handle, struct neli_verdict *verdict);
+
+/* A list to ask for. `take` is called with a message that is NULL where the list begins, also where it begins anew, and
+ * then with each message of it. */
+struct dump {
+    uint16_t type, flags; /* flags beside NLM_F_DUMP */
+    const void *body;
+    size_t length;
+    int times; /* how many times it is asked for in all, and once at least */
+    void (*take)(const struct host *host, const struct neli_message *message, void *list);
+    void *list;
+};
+
+/* Asks for a list, and again, as a new request, while the kernel marks it as interrupted, is busy with another dump, or
+ * something of it is lost; at most so many times. After the last, the list is what came:
+ *   NELI_OK             it is complete
+ *   NELI_INTERRUPTED    what is listed changed meanwhile, so entries may lack or stand there twice
+ *   NELI_KERNEL_ERROR   the kernel refused it, or ended it with an error: `last` is its message, for `host_explain`
+ *   NELI_LINK           something of it was lost, or the wait is over, as `fault` says
+ * or another code of `host_send` and `host_next`. */
+int32_t host_dump(struct host *host, const struct dump *dump, struct neli_message *last);
+
+/* Takes in the whole picture after NELI_LINK of NELI_MULTICAST, by a dump that is repeated as by `host_dump`. What had
+ * come to groups before each is dropped, since the picture has it; what comes from then on is read as before, and is to
+ * be applied to the picture. Its codes are those of `host_dump`. */
+int32_t host_resync(struct host *host, const struct dump *dump, struct neli_message *last);
 
 /* The first attribute with this number among those that are left of a walk over the item. */
 bool host_find(const struct host *host, const struct neli_walk *walk, uint16_t number, struct neli_attribute *found);

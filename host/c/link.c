@@ -56,6 +56,12 @@ void link_close(struct link *link) {
     *link = (struct link){.fd = -1, .stop = -1};
 }
 
+int32_t link_set_strict(struct link *link) {
+    int one = 1;
+    if (setsockopt(link->fd, SOL_NETLINK, NETLINK_GET_STRICT_CHK, &one, sizeof one) < 0) return failed(link);
+    return NELI_OK;
+}
+
 int32_t link_send(struct link *link, const uint8_t *bytes, size_t length) {
     ssize_t sent;
     do

@@ -22,6 +22,10 @@ struct link {
 int32_t link_open(struct link *link, int family, const uint32_t *groups, size_t count);
 void link_close(struct link *link);
 
+/* Has the kernel look at all fields of a dump's request, and refuse those that it does not know: only so does it list
+ * what belongs to one link. */
+int32_t link_set_strict(struct link *link);
+
 /* Sends a datagram to the kernel. */
 int32_t link_send(struct link *link, const uint8_t *bytes, size_t length);
 

@@ -1,4 +1,7 @@
-/* Lists links and their IPv4 addresses, as `link 1 lo mtu 65536 up` and `address 1 127.0.0.1/8`. */
+/* Lists links and their IPv4 addresses, as `link 1 lo mtu 65536 up` and `address 1 127.0.0.1/8`; `list INDEX` the
+ * addresses of that link alone. What changes while it is listed is asked for again. The status says whether all of it
+ * is there: 0; 2 where it still changed, 3 where the kernel ended the list with an error, 4 where some was lost, with a
+ * line on stderr. What came is printed all the same. */
 #include "request.h"
 #include <arpa/inet.h>
 #include <linux/if_addr.h>
@@ -6,14 +9,35 @@
 #include <linux/rtnetlink.h>
 #include <net/if.h>
 #include <stdio.h>
+#include <stdlib.h>
 #include <string.h>
 
-static void print_link(const struct host *host, const struct neli_message *message) {
+/* How many times a list is asked for that changes meanwhile. */
+#define TIMES 5
+
+/* The lines of a list. */
+struct lines {
+    char *text;
+    size_t size;
+    FILE *out;
+};
+
+/* An empty list, which takes the place of what came before. */
+static void begin(struct lines *lines) {
+    rewind(lines->out);
+}
+
+static void put_link(const struct host *host, const struct neli_message *message, void *list) {
+    struct lines *lines = list;
     struct ifinfomsg link;
     struct neli_walk walk;
     struct neli_attribute attributes[16], name = {0}, mtu = {0};
     size_t count;
     uint32_t bytes;
+    if (message == NULL) {
+        begin(lines);
+        return;
+    }
     if (neli_attributes_of(message, sizeof link, &walk) != NELI_OK) return;
     while (neli_next_attributes(host->item, host->item_length, &walk, attributes, 16, &count) == NELI_ITEM)
         for (size_t i = 0; i < count; i++) {
@@ -24,41 +48,56 @@ static void print_link(const struct host *host, const struct neli_message *messa
     if (neli_get_u32(host->item + mtu.payload, mtu.payload_length, 0, &bytes) != NELI_OK) return;
     memcpy(&link, host->item + message->payload, sizeof link);
     const char *state = link.ifi_flags & IFF_UP ? "up" : "down";
-    printf("link %d %s mtu %u %s\n", link.ifi_index, host_text(host, &name), bytes, state);
+    fprintf(lines->out, "link %d %s mtu %u %s\n", link.ifi_index, host_text(host, &name), bytes, state);
 }
 
-static void print_address(const struct host *host, const struct neli_message *message) {
+static void put_address(const struct host *host, const struct neli_message *message, void *list) {
+    struct lines *lines = list;
     struct ifaddrmsg address;
     struct neli_walk walk;
     struct neli_attribute local;
     char text[INET_ADDRSTRLEN];
+    if (message == NULL) {
+        begin(lines);
+        return;
+    }
     if (neli_attributes_of(message, sizeof address, &walk) != NELI_OK) return;
     if (!host_find(host, &walk, IFA_LOCAL, &local) || local.payload_length != 4) return;
     memcpy(&address, host->item + message->payload, sizeof address);
     inet_ntop(AF_INET, host->item + local.payload, text, sizeof text);
-    printf("address %u %s/%u\n", address.ifa_index, text, address.ifa_prefixlen);
+    fprintf(lines->out, "address %u %s/%u\n", address.ifa_index, text, address.ifa_prefixlen);
 }
 
-/* Asks for all of something, and prints each. */
-static void dump(struct host *host, uint16_t type, const void *body, size_t size,
-                 void (*print)(const struct host *, const struct neli_message *)) {
-    struct neli_message message;
-    size_t handle;
-    int32_t code = host_send(host, type, NLM_F_DUMP, body, size, &handle);
-    if (code != NELI_OK) fail(host, "list", code, NULL);
-    while ((code = host_next(host, handle, &message)) == NELI_ITEM)
-        if (message.type != NLMSG_DONE) print(host, &message);
-    if (code != NELI_END) fail(host, "list", code, &message);
-    host_close_request(host, handle);
+/* Asks for a list, and prints it: the status that says whether all of it is there. */
+static enum status print_list(struct host *host, struct dump dump) {
+    struct neli_message last;
+    struct lines lines = {0};
+    lines.out = open_memstream(&lines.text, &lines.size);
+    if (lines.out == NULL) fail(host, "list", NELI_MEMORY, NULL);
+    dump.times = TIMES;
+    dump.list = &lines;
+    int32_t code = host_dump(host, &dump, &last);
+    if (fclose(lines.out) != 0) fail(host, "list", NELI_MEMORY, NULL);
+    fwrite(lines.text, 1, lines.size, stdout);
+    free(lines.text);
+    if (code != NELI_OK) say(host, "list", code, &last);
+    return status_of(code);
 }
 
-int main(void) {
+int main(int argc, char **argv) {
     struct host host;
     struct ifinfomsg links = {0};
     struct ifaddrmsg addresses = {.ifa_family = AF_INET};
     open_or_fail(&host, NETLINK_ROUTE, NULL, 0);
-    dump(&host, RTM_GETLINK, &links, sizeof links, print_link);
-    dump(&host, RTM_GETADDR, &addresses, sizeof addresses, print_address);
+    if (argc > 1) {
+        addresses.ifa_index = (uint32_t)strtoul(argv[1], NULL, 10);
+        int32_t code = link_set_strict(&host.link);
+        if (code != NELI_OK) fail(&host, "list", code, NULL);
+    }
+    struct dump of_links = {.type = RTM_GETLINK, .body = &links, .length = sizeof links, .take = put_link};
+    struct dump of_addresses = {
+        .type = RTM_GETADDR, .body = &addresses, .length = sizeof addresses, .take = put_address};
+    enum status one = argc > 1 ? STATUS_COMPLETE : print_list(&host, of_links), other = print_list(&host, of_addresses);
     host_close(&host);
-    return 0;
+    return one != STATUS_COMPLETE ? (int)one : (int)other;
 }

@@ -1,5 +1,6 @@
 /* `make add NAME PEER ADDRESS/BITS NET/BITS` makes a pair of links, sets both up, and gives the first an address and a
- * route; `make del` with the same words takes route, address and links away. It says why the kernel refuses. */
+ * route; `make del` with the same words takes route, address and links away. It says why the kernel
+ * refuses, and ends with status 3 then, and with 4 where it was not answered: it may be done or not. */
 #include "request.h"
 #include <arpa/inet.h>
 #include <linux/if_addr.h>
@@ -25,7 +26,7 @@ static struct net net_of(const char *text) {
     int parts = sscanf(text, "%15[0-9.]/%u", address, &bits);
     if (parts != 2 || bits > 32 || inet_pton(AF_INET, address, &net.address) != 1) {
         fprintf(stderr, "make: %s is no address/bits\n", text);
-        exit(1);
+        exit(STATUS_NOT_BEGUN);
     }
     net.bits = (uint8_t)bits;
     return net;
@@ -35,7 +36,7 @@ static struct net net_of(const char *text) {
 static void do_it(struct host *host, uint16_t type, uint16_t flags, const struct body *body) {
     struct neli_message message;
     int32_t code = ask(host, type, flags, body, &message);
-    if (code != NELI_END) fail(host, "make", code, &message);
+    if (code != NELI_OK) fail(host, "make", code, &message);
 }
 
 /* The index of the link with this name. */
@@ -111,7 +112,7 @@ int main(int argc, char **argv) {
     bool is_add = argc == 6 && strcmp(argv[1], "add") == 0;
     if (!is_add && (argc != 6 || strcmp(argv[1], "del") != 0)) {
         fputs("usage: make add|del NAME PEER ADDRESS/BITS NET/BITS\n", stderr);
-        return 1;
+        return STATUS_NOT_BEGUN;
     }
     open_or_fail(&host, NETLINK_ROUTE, NULL, 0);
     (is_add ? add : del)(&host, argv + 2);

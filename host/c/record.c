@@ -1,5 +1,6 @@
 /* `record FILE COUNT` writes the next COUNT datagrams of changes of links, addresses and routes into a file, one after
- * the other. The padding of their messages is there, so the file is a list of messages: `neli_tool list < FILE`. */
+ * the other. The padding of their messages is there, so the file is a list of messages: `neli_tool list < FILE`.
+ * It ends with status 4 where some were lost. */
 #include "request.h"
 #include <errno.h>
 #include <linux/rtnetlink.h>
@@ -15,7 +16,7 @@ int main(int argc, char **argv) {
     if (file == NULL) {
         if (argc == 3) fprintf(stderr, "record: %s\n", strerror(errno));
         else fputs("usage: record FILE COUNT\n", stderr);
-        return 1;
+        return STATUS_NOT_BEGUN;
     }
     open_or_fail(&host, NETLINK_ROUTE, groups, sizeof groups / sizeof *groups);
     puts("recording");
@@ -31,7 +32,7 @@ int main(int argc, char **argv) {
     bool is_written = ferror(file) == 0;
     if (fclose(file) != 0 || !is_written) {
         fprintf(stderr, "record: %s\n", strerror(errno));
-        return 1;
+        return STATUS_NOT_BEGUN;
     }
-    return 0;
+    return STATUS_COMPLETE;
 }

@@ -8,20 +8,44 @@
 #include <stdlib.h>
 #include <string.h>
 
-void fail(const struct host *host, const char *what, int32_t code, const struct neli_message *message) {
+enum status status_of(int32_t code) {
+    switch (code) {
+    case NELI_OK: return STATUS_COMPLETE;
+    case NELI_INTERRUPTED: return STATUS_INTERRUPTED;
+    case NELI_KERNEL_ERROR: return STATUS_FAILED;
+    case NELI_LINK:
+    case NELI_BYTES:
+    case NELI_SHORT:
+    case NELI_LENGTH:
+    case NELI_STRAY:
+    case NELI_NO_ACK:
+    case NELI_UNEXPECTED_ACK: return STATUS_LOST;
+    default: return STATUS_NOT_BEGUN;
+    }
+}
+
+void say(const struct host *host, const char *what, int32_t code, const struct neli_message *message) {
     char text[512];
     host_explain(host, code, message, text, sizeof text);
     fprintf(stderr, "%s: %s\n", what, text);
-    exit(1);
+}
+
+void fail(const struct host *host, const char *what, int32_t code, const struct neli_message *message) {
+    say(host, what, code, message);
+    exit(status_of(code));
 }
 
 void open_or_fail(struct host *host, int family, const uint32_t *groups, size_t count) {
     int32_t code = host_open(host, family, groups, count);
-    if (code != NELI_OK) fail(host, "a netlink socket", code, NULL);
+    if (code == NELI_OK) return;
+    say(host, "a netlink socket", code, NULL);
+    exit(STATUS_NOT_BEGUN);
 }
 
 static void written(int32_t code) {
-    if (code != NELI_OK) fail(NULL, "a request", code, NULL);
+    if (code == NELI_OK) return;
+    say(NULL, "a request", code, NULL);
+    exit(STATUS_NOT_BEGUN);
 }
 
 void put(struct body *body, const void *bytes, size_t length) {
@@ -72,12 +96,14 @@ struct body link_body(int index, bool is_up) {
 }
 
 int32_t ask(struct host *host, uint16_t type, uint16_t flags, const struct body *body, struct neli_message *message) {
+    struct neli_verdict verdict;
     size_t handle;
     int32_t code = host_send(host, type, flags | NLM_F_ACK, body->bytes, body->writer.end, &handle);
     if (code != NELI_OK) return code;
     do
         code = host_next(host, handle, message);
     while (code == NELI_ITEM);
+    if (code == NELI_END) code = host_verdict(host, handle, &verdict);
     host_close_request(host, handle);
     return code;
 }

@@ -1,4 +1,5 @@
-/* Bodies of requests, and having something done. A program that cannot go on says why and ends with status 1. */
+/* Bodies of requests, having something done, and how a program ends: with a status that says whether what it was given
+ * is all of the kernel's answer, and a line of why it is not. */
 #ifndef REQUEST_H
 #define REQUEST_H
 
@@ -10,10 +11,25 @@ struct body {
     struct neli_writer writer;
 };
 
-/* Ends the program after `what: ` and the meaning of a code. */
+/* How a program ends. */
+enum status {
+    STATUS_COMPLETE = 0,
+    STATUS_NOT_BEGUN = 1,   /* the words of the call, the socket or memory; nothing is known of an answer */
+    STATUS_INTERRUPTED = 2, /* what was listed changed meanwhile, however often it was asked for */
+    STATUS_FAILED = 3,      /* the kernel refused, or ended a list with an error */
+    STATUS_LOST = 4         /* the link failed, or what came is no answer: some is missing */
+};
+
+/* The status for a code of a verdict, or of a call. */
+enum status status_of(int32_t code);
+
+/* A line on stderr, `what: ` and the meaning of a code. */
+void say(const struct host *host, const char *what, int32_t code, const struct neli_message *message);
+
+/* Ends the program with that line and the status of the code. */
 void fail(const struct host *host, const char *what, int32_t code, const struct neli_message *message);
 
-/* Opens a host, or ends the program. */
+/* Opens a host, or ends the program with STATUS_NOT_BEGUN. */
 void open_or_fail(struct host *host, int family, const uint32_t *groups, size_t count);
 
 /* Appends a header, or bytes with padding. */

@@ -1,4 +1,5 @@
-/* `resolve FAMILY` prints the number of a family of generic netlink, and those of its multicast groups. */
+/* `resolve FAMILY` prints the number of a family of generic netlink, and those of its multicast groups. It ends
+ * with status 3 where there is none, and 4 where its answer was lost. */
 #include "request.h"
 #include <linux/genetlink.h>
 #include <linux/netlink.h>
@@ -35,10 +36,11 @@ int main(int argc, char **argv) {
     struct body body = {0};
     struct genlmsghdr ask = {.cmd = CTRL_CMD_GETFAMILY, .version = 2};
     struct neli_message message;
+    struct neli_verdict verdict;
     size_t handle;
     if (argc != 2) {
         fputs("usage: resolve FAMILY\n", stderr);
-        return 1;
+        return STATUS_NOT_BEGUN;
     }
     open_or_fail(&host, NETLINK_GENERIC, NULL, 0);
     put(&body, &ask, sizeof ask);
@@ -47,7 +49,8 @@ int main(int argc, char **argv) {
     if (code != NELI_OK) fail(&host, "resolve", code, NULL);
     while ((code = host_next(&host, handle, &message)) == NELI_ITEM)
         if (message.type == GENL_ID_CTRL) print_family(&host, &message, argv[1]);
-    if (code != NELI_END) fail(&host, "resolve", code, &message);
+    if (code == NELI_END) code = host_verdict(&host, handle, &verdict);
+    if (code != NELI_OK) fail(&host, "resolve", code, &message);
     host_close(&host);
     return 0;
 }

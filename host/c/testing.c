@@ -44,6 +44,12 @@ void make_pairs(struct host *host, int count) {
     }
 }
 
+void remove_link(struct host *host, const char *name) {
+    struct body body = link_body(0, false);
+    put_text(&body, IFLA_IFNAME, name);
+    done(host, RTM_DELLINK, 0, body);
+}
+
 void set_loopback(struct host *host, bool is_up) {
     done(host, RTM_SETLINK, 0, link_body(1, is_up));
 }

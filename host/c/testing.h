@@ -26,6 +26,9 @@ void done(struct host *host, uint16_t type, uint16_t flags, struct body body);
 /* Makes pairs of links. */
 void make_pairs(struct host *host, int count);
 
+/* Removes a link by its name; of a pair both ends. */
+void remove_link(struct host *host, const char *name);
+
 /* Sets the loopback link up or down. */
 void set_loopback(struct host *host, bool is_up);
 

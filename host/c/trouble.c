@@ -64,13 +64,14 @@ static void a_handle_that_is_closed_unread(void) {
 static void a_handle_that_is_closed_after_a_loss(void) {
     struct host other = route_host(false), host = route_host(true);
     struct neli_message message;
+    struct neli_verdict verdict;
     int32_t code;
     set_buffer(&host, 1);
     for (int i = 0; i < 100; i++) set_loopback(&other, i % 2 == 0);
     set_buffer(&host, 1 << 20);
     size_t dump = send_dump(&host);
     while ((code = host_next(&host, dump, &message)) == NELI_ITEM) continue;
-    WANT(is_over(&host, code, ENOBUFS));
+    WANT(is_over(&host, code, ENOBUFS) && host_verdict(&host, dump, &verdict) == NELI_LINK);
     WANT(host_close_request(&host, dump) == NELI_OK);
     for (int i = 0; i < 100; i++) want_loopback(&host, send_question(&host, 1));
     host_close(&other);
@@ -232,6 +233,15 @@ static void take(const struct host *host, const struct neli_message *message, vo
         WANT(neli_get_u32(host->item + found.payload, found.payload_length, 0, mtu) == NELI_OK);
 }
 
+/* A picture by a dump, which is taken at most so many times. */
+static int32_t resync(struct host *host, int times, struct picture *picture) {
+    static const struct ifinfomsg all;
+    struct neli_message last;
+    struct dump dump = {.type = RTM_GETLINK, .body = &all, .length = sizeof all, .times = times, .take = take};
+    dump.list = picture;
+    return host_resync(host, &dump, &last);
+}
+
 /* Makes and removes links, and changes the MTU of another, as fast as it can. It comes back when it is under way. */
 static pid_t storm(int first, int rounds) {
     int both[2];
@@ -249,9 +259,7 @@ static pid_t storm(int first, int rounds) {
         snprintf(peer, sizeof peer, "b%d", i);
         done(&host, RTM_NEWLINK, NLM_F_CREATE | NLM_F_EXCL, pair(name, peer));
         for (int j = 0; j < 30; j++) done(&host, RTM_SETLINK, 0, mtu_body(1, 1000u + (uint32_t)(i * 30 + j)));
-        struct body gone = link_body(0, false);
-        put_text(&gone, IFLA_IFNAME, name);
-        if (i % 3 != 0) done(&host, RTM_DELLINK, 0, gone);
+        if (i % 3 != 0) remove_link(&host, name);
         if (i == first + 8) WANT(write(both[1], "", 1) == 1);
     }
     host_close(&host);
@@ -260,7 +268,6 @@ static pid_t storm(int first, int rounds) {
 
 static void want_right_picture(int buffer, int first) {
     static struct picture picture, truth;
-    struct ifinfomsg all = {0};
     struct host host = route_host(true);
     struct neli_message message;
     int32_t code;
@@ -268,7 +275,7 @@ static void want_right_picture(int buffer, int first) {
     bool is_over_yet = false, was_over;
     set_buffer(&host, buffer);
     host.link.wait = 300;
-    WANT(host_resync(&host, RTM_GETLINK, &all, sizeof all, 5, take, &picture) == NELI_OK);
+    WANT(resync(&host, 5, &picture) == NELI_OK);
     pid_t child = storm(first, 30);
     do {
         was_over = is_over_yet;
@@ -278,12 +285,12 @@ static void want_right_picture(int buffer, int first) {
         else if (!is_over(&host, code, EAGAIN)) {
             WANT(is_over(&host, code, ENOBUFS));
             losses++;
-            WANT(host_resync(&host, RTM_GETLINK, &all, sizeof all, 1000, take, &picture) == NELI_OK);
+            WANT(resync(&host, 1000, &picture) == NELI_OK);
         }
     } while (!was_over || !is_over(&host, code, EAGAIN));
     WANT(status == 0 && losses > 0);
     set_buffer(&host, 1 << 20);
-    WANT(host_resync(&host, RTM_GETLINK, &all, sizeof all, 5, take, &truth) == NELI_OK);
+    WANT(resync(&host, 5, &truth) == NELI_OK);
     WANT(memcmp(&picture, &truth, sizeof truth) == 0);
     host_close(&host);
 }
@@ -455,7 +462,7 @@ static void a_socket_that_is_gone(void) {
     WANT(is_over(&host, host_send(&host, RTM_GETLINK, NLM_F_DUMP, &all, sizeof all, &dump), EBADF));
     WANT(is_over(&host, host_next(&host, open, &message), EBADF));
     WANT(is_over(&host, host_next(&host, NELI_MULTICAST, &message), EBADF));
-    WANT(is_over(&host, host_resync(&host, RTM_GETLINK, &all, sizeof all, 3, take, &picture), EBADF));
+    WANT(is_over(&host, resync(&host, 3, &picture), EBADF));
     host.link.fd = -1;
     host_close(&host);
 }

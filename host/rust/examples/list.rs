@@ -1,4 +1,9 @@
-//! Lists links and their IPv4 addresses, as `link 1 lo mtu 65536 up` and `address 1 127.0.0.1/8`.
+//! Lists links and their IPv4 addresses, as `link 1 lo mtu 65536 up` and `address 1 127.0.0.1/8`; `list INDEX` the
+//! addresses of that link alone. What changes while it is listed is asked for again. The status says whether all of it
+//! is there: 0; 2 where it still changed, 3 where the kernel ended the list with an error, 4 where some was lost, with a
+//! line on stderr. What came is printed all the same.
+
+mod status;
 
 use neli::consts::nl::NlmF;
 use neli::consts::rtnl::{Ifa, Iff, Ifla, RtAddrFamily, RtScope, Rtm};
@@ -8,10 +13,13 @@ use neli::nl::NlPayload;
 use neli::router::synchronous::NlRouter;
 use neli::rtnl::{Ifaddrmsg, IfaddrmsgBuilder, Ifinfomsg, IfinfomsgBuilder};
 use neli::utils::Groups;
-use std::error::Error;
 use std::ffi::CString;
 use std::io::{self, Write};
 use std::net::Ipv4Addr;
+use std::process::ExitCode;
+
+/// How many times a list is asked for that changes meanwhile.
+const TIMES: usize = 5;
 
 fn print_link(link: &Ifinfomsg) -> Result<(), RouterError> {
     let attributes = link.rtattrs().get_attr_handle();
@@ -31,24 +39,44 @@ fn print_address(address: &Ifaddrmsg) -> Result<(), RouterError> {
     Ok(())
 }
 
-fn main() -> Result<(), Box<dyn Error>> {
-    let (router, _multicast) = NlRouter::connect(NlFamily::Route, None, Groups::empty())?;
-
+fn list_links(router: &NlRouter) -> status::Result<u8> {
     let all = IfinfomsgBuilder::default().ifi_family(RtAddrFamily::Unspecified).build()?;
-    let links = router.send::<_, _, Rtm, Ifinfomsg>(Rtm::Getlink, NlmF::DUMP, NlPayload::Payload(all))?;
-    for link in links {
-        link?.get_payload().map_or(Ok(()), print_link)?;
+    let links = router.dump::<_, _, Rtm, Ifinfomsg>(Rtm::Getlink, NlmF::empty(), NlPayload::Payload(all), TIMES)?;
+    for link in &links.messages {
+        link.get_payload().map_or(Ok(()), print_link)?;
     }
+    Ok(status::of_dump("list", &links))
+}
 
-    let all = IfaddrmsgBuilder::default()
+/// Of all links, or of the one with this index.
+fn list_addresses(router: &NlRouter, index: u32) -> status::Result<u8> {
+    let asked = IfaddrmsgBuilder::default()
         .ifa_family(RtAddrFamily::Inet)
         .ifa_prefixlen(0)
         .ifa_scope(RtScope::Universe)
-        .ifa_index(0)
+        .ifa_index(index)
         .build()?;
-    let addresses = router.send::<_, _, Rtm, Ifaddrmsg>(Rtm::Getaddr, NlmF::DUMP, NlPayload::Payload(all))?;
-    for address in addresses {
-        address?.get_payload().map_or(Ok(()), print_address)?;
+    let addresses =
+        router.dump::<_, _, Rtm, Ifaddrmsg>(Rtm::Getaddr, NlmF::empty(), NlPayload::Payload(asked), TIMES)?;
+    for address in &addresses.messages {
+        address.get_payload().map_or(Ok(()), print_address)?;
     }
-    Ok(())
+    Ok(status::of_dump("list", &addresses))
+}
+
+fn run() -> status::Result<u8> {
+    let index = std::env::args().nth(1).map(|it| it.parse::<u32>()).transpose()?;
+    let (router, _multicast) = NlRouter::connect(NlFamily::Route, None, Groups::empty()).map_err(status::not_begun)?;
+    if let Some(index) = index {
+        // Only so does the kernel look at the index.
+        router.enable_strict_checking(true)?;
+        return list_addresses(&router, index);
+    }
+    let links = list_links(&router)?;
+    let addresses = list_addresses(&router, 0)?;
+    Ok(if links == status::COMPLETE { addresses } else { links })
+}
+
+fn main() -> ExitCode {
+    status::end("list", run())
 }

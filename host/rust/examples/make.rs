@@ -1,5 +1,8 @@
 //! `make add NAME PEER ADDRESS/BITS NET/BITS` makes a pair of links, sets both up, and gives the first an address
-//! and a route; `make del` with the same words takes route, address and links away. It says why the kernel refuses.
+//! and a route; `make del` with the same words takes route, address and links away. It says why the kernel refuses, and
+//! ends with status 3 then, and with 4 where it was not answered: it may be done or not.
+
+mod status;
 
 use neli::ToBytes;
 use neli::consts::nl::NlmF;
@@ -13,11 +16,9 @@ use neli::rtnl::{
 };
 use neli::types::Buffer;
 use neli::utils::Groups;
-use std::error::Error;
+use status::Result;
 use std::net::Ipv4Addr;
 use std::process::ExitCode;
-
-type Result<T> = std::result::Result<T, Box<dyn Error>>;
 
 /// `192.0.2.1/24` as an address and its bits.
 fn net(text: &str) -> Result<([u8; 4], u8)> {
@@ -116,7 +117,7 @@ fn del(router: &NlRouter, [name, _, local, to]: [&str; 4]) -> Result<()> {
 }
 
 fn run(words: &[&str]) -> Result<()> {
-    let (router, _multicast) = NlRouter::connect(NlFamily::Route, None, Groups::empty())?;
+    let (router, _multicast) = NlRouter::connect(NlFamily::Route, None, Groups::empty()).map_err(status::not_begun)?;
     match *words {
         ["add", name, peer, local, to] => add(&router, [name, peer, local, to]),
         ["del", name, peer, local, to] => del(&router, [name, peer, local, to]),
@@ -127,11 +128,5 @@ fn run(words: &[&str]) -> Result<()> {
 fn main() -> ExitCode {
     let words: Vec<String> = std::env::args().skip(1).collect();
     let words: Vec<&str> = words.iter().map(String::as_str).collect();
-    match run(&words) {
-        Ok(()) => ExitCode::SUCCESS,
-        Err(error) => {
-            eprintln!("make: {error}");
-            ExitCode::FAILURE
-        }
-    }
+    status::end("make", run(&words).map(|()| status::COMPLETE))
 }

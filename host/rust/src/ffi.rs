@@ -12,6 +12,7 @@ pub const ITEM: i32 = 1;
 pub const END: i32 = 0;
 pub const WAITS: i32 = 2;
 pub const KERNEL_ERROR: i32 = 3;
+pub const INTERRUPTED: i32 = 4;
 pub const MEMORY: i32 = -3;
 pub const ROOM: i32 = -4;
 pub const HANDLE: i32 = -6;
@@ -94,6 +95,14 @@ pub struct Item {
     pub error: i32,
 }
 
+/// `struct neli_verdict`.
+#[repr(C)]
+#[derive(Clone, Copy, Debug, Default)]
+pub struct Verdict {
+    pub error: i32,
+    pub filtered: u8,
+}
+
 /// `struct neli_router`.
 #[repr(C)]
 #[derive(Debug)]
@@ -156,6 +165,7 @@ unsafe extern "C" {
     fn neli_c_router_fault(router: *mut RawRouter, error_number: i32) -> i32;
     fn neli_c_router_read(router: *mut RawRouter, handle: usize, item: *mut Item) -> i32;
     fn neli_c_router_item(router: *mut RawRouter, out: *mut u8, room: usize, length: *mut usize) -> i32;
+    fn neli_c_router_verdict(router: *mut RawRouter, handle: usize, verdict: *mut Verdict) -> i32;
     fn neli_c_router_close(router: *mut RawRouter, handle: usize) -> i32;
 }
 
@@ -271,6 +281,12 @@ impl Router {
     pub fn item(&mut self, out: &mut [u8], length: &mut usize) -> i32 {
         // SAFETY: the router is open, and borrowed exclusively; pointer and length are those of one exclusive slice.
         unsafe { neli_c_router_item(&mut self.0, out.as_mut_ptr(), out.len(), length) }
+    }
+
+    /// How the answer to the request of a handle stands.
+    pub fn verdict(&mut self, handle: usize, verdict: &mut Verdict) -> i32 {
+        // SAFETY: the router is open, and borrowed exclusively, as `verdict` is.
+        unsafe { neli_c_router_verdict(&mut self.0, handle, verdict) }
     }
 
     /// Closes a handle.

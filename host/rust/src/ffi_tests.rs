@@ -1,17 +1,18 @@
 //! What `ffi.rs` declares is what `include/neli.h` declares.
 
-use super::{Answer, Attribute, Item, Message, RawRouter, Sent, Walk, Writer};
+use super::{Answer, Attribute, Item, Message, RawRouter, Sent, Verdict, Walk, Writer};
 use std::mem::offset_of;
 
 const HEADER: &str = include_str!(env!("NELI_FILE_NELI_H"));
 const DECLARED: &str = include_str!("ffi.rs");
 
 /// The codes that this crate names.
-const CODES: [(&str, i32); 12] = [
+const CODES: [(&str, i32); 13] = [
     ("NELI_ITEM", super::ITEM),
     ("NELI_END", super::END),
     ("NELI_WAITS", super::WAITS),
     ("NELI_KERNEL_ERROR", super::KERNEL_ERROR),
+    ("NELI_INTERRUPTED", super::INTERRUPTED),
     ("NELI_MEMORY", super::MEMORY),
     ("NELI_ROOM", super::ROOM),
     ("NELI_HANDLE", super::HANDLE),
@@ -39,6 +40,7 @@ fn rust_type(c: &str) -> String {
         "struct neli_writer" => "Writer",
         "struct neli_sent" => "Sent",
         "struct neli_item" => "Item",
+        "struct neli_verdict" => "Verdict",
         "struct neli_router" => "RawRouter",
         other => panic!("{other}"),
     };
@@ -94,6 +96,7 @@ fn structs_are_laid_out_as_in_c() {
         (size_of::<Writer>(), 16),
         (size_of::<Sent>(), 16),
         (size_of::<Item>(), 16),
+        (size_of::<Verdict>(), 8),
         (size_of::<RawRouter>(), 16),
     ];
     for (found, wanted) in sizes {
@@ -103,5 +106,6 @@ fn structs_are_laid_out_as_in_c() {
     assert_eq!((offset_of!(Attribute, number), offset_of!(Attribute, payload)), (4, 8));
     assert_eq!((offset_of!(Answer, echo_number), offset_of!(Answer, attributes)), (12, 24));
     assert_eq!((offset_of!(Item, number), offset_of!(Item, error)), (4, 12));
+    assert_eq!(offset_of!(Verdict, filtered), 4);
     assert_eq!(offset_of!(RawRouter, state), 8);
 }

@@ -235,6 +235,11 @@ impl<T: NlType, P> Nlmsghdr<T, P> {
 }
 
 impl<T: NlType, P> Nlmsghdr<T, P> {
+    /// Whether it is the end of a dump.
+    pub(crate) fn is_done(&self) -> bool {
+        self.nl_type.into() == DONE
+    }
+
     /// What the end of a dump says that failed.
     pub(crate) fn failed_end(&self) -> Option<Nlmsgerr<u16>> {
         match &self.nl_payload {

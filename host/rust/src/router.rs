@@ -5,3 +5,4 @@ mod names;
 mod shared;
 mod state;
 pub mod synchronous;
+mod verdict;

@@ -1,6 +1,6 @@
 //! Names of generic netlink: what the controller says of families and groups.
 
-use super::synchronous::{NlRouter, NlRouterReceiverHandle};
+use super::synchronous::{NlRouter, NlRouterReceiverHandle, Verdict};
 use crate::consts::genl::{CtrlAttr, CtrlAttrMcastGrp, CtrlCmd};
 use crate::consts::nl::{GenlId, NlmF};
 use crate::err::{BuildError, RouterError};
@@ -69,14 +69,19 @@ impl NlRouter {
     /// The names of the family and the group of generic netlink that have this group's number.
     pub fn lookup_id(&self, id: u32) -> Result<(String, String), RouterError> {
         let mut found = None;
-        for reply in self.ask_controller(NlmF::DUMP, GenlBuffer::new())? {
+        let mut replies = self.ask_controller(NlmF::DUMP, GenlBuffer::new())?;
+        for reply in &mut replies {
             let Some(body) = reply?.get_payload().cloned() else { continue };
             let attributes = body.attrs().get_attr_handle();
             let family: String = attributes.get_attr_payload_as_with_len(CtrlAttr::FamilyName)?;
             let group = groups_of(&body)?.into_iter().find(|(_, number)| *number == id);
             found = group.map(|(name, _)| (family, name)).or(found);
         }
-        found.ok_or_else(|| RouterError::new(format!("no group {id}")))
+        match (found, replies.verdict()) {
+            (Some(names), _) => Ok(names),
+            (None, Verdict::Complete) => Err(RouterError::new(format!("no group {id}"))),
+            (None, _) => Err(RouterError::new("the list of families is not complete")),
+        }
     }
 }
 

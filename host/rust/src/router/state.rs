@@ -1,6 +1,7 @@
 //! What a router keeps: it takes in what the socket gives, and each handle reads its share.
 
 use super::ledger::{Ledger, Owners};
+use super::verdict::Verdict;
 use crate::consts::nl::NlmF;
 use crate::err::{RouterError, SocketError, refused};
 use crate::ffi;
@@ -445,6 +446,17 @@ impl State {
             },
             handle => self.read_router(handle),
         }
+    }
+
+    /// How the answer to the request of a handle stands, and whether the kernel did filter it. An item that was read and
+    /// not given yet, for want of memory, counts as one to come.
+    pub(super) fn verdict(&mut self, handle: usize) -> (Verdict, bool) {
+        if self.unfetched == Some(handle) || self.fetched.contains_key(&handle) {
+            return (Verdict::Pending, false);
+        }
+        let mut told = ffi::Verdict::default();
+        let code = self.router.verdict(handle, &mut told);
+        (Verdict::of(code, told.error), told.filtered != 0)
     }
 
     fn read_router(&mut self, handle: usize) -> Step {

@@ -6,6 +6,7 @@
 
 use super::shared::Shared;
 use super::state::{MULTICAST, UNASKED};
+pub use super::verdict::{Dump, Loss, Verdict};
 use crate::consts::nl::NlmF;
 use crate::consts::socket::NlFamily;
 use crate::err::{RouterError, SocketError};
@@ -16,9 +17,6 @@ use crate::utils::{Groups, NetlinkBitArray};
 use crate::{FromBytes, ToBytes};
 use std::marker::PhantomData;
 use std::sync::{Arc, Condvar};
-
-/// The errors of the kernel after which a dump can be asked for again: `EBUSY` and `ENOBUFS`.
-const PASSING: [i32; 2] = [16, 105];
 
 /// A router over a socket of its own. Handles can outlive it.
 #[derive(Clone, Debug)]
@@ -117,6 +115,35 @@ impl NlRouter {
         Ok(NlRouterReceiverHandle::new(&self.shared, handle, Of::Request(number)))
     }
 
+    /// A list, to its end. It is asked for again, as a new request, while the kernel marks it as interrupted, is busy
+    /// with another dump, or something of it is lost: at most `times` times, and once at least. What the last one gave
+    /// is given, with the verdict on it, whichever that is. These flags are added to `DUMP`.
+    ///
+    /// Refused where nothing can be sent, and where the wait is over or memory runs out before the list has ended.
+    pub fn dump<ST, SP, RT, RP>(
+        &self,
+        nl_type: ST,
+        nl_flags: NlmF,
+        nl_payload: NlPayload<ST, SP>,
+        times: usize,
+    ) -> Result<Dump<RT, RP>, RouterError>
+    where
+        ST: NlType,
+        SP: ToBytes,
+        RT: NlType,
+        RP: FromBytes,
+    {
+        let (kind, body) = (nl_type.into(), nl_payload.body()?);
+        let mut dump = dump_once(&self.shared, kind, nl_flags, &body)?;
+        for _ in 1..times {
+            if !dump.is_passing() {
+                break;
+            }
+            dump = dump_once(&self.shared, kind, nl_flags, &body)?;
+        }
+        Ok(dump)
+    }
+
     /// The handle of what the kernel sends to the socket's own port though no request has asked for it, as the packets
     /// of a queue of netfilter. It is kept from now on until the handle is dropped; refused as `ClosedChannel` where
     /// another handle has it.
@@ -149,13 +176,15 @@ pub struct NlRouterReceiverHandle<T, P> {
     /// Wakes the one who waits at this handle.
     bell: Arc<Condvar>,
     is_stopped: bool,
+    /// The verdict, once a message could not be read as the caller's types, which the library does not see.
+    spoilt: Option<Verdict>,
     of: PhantomData<fn() -> (T, P)>,
 }
 
 impl<T, P> NlRouterReceiverHandle<T, P> {
     fn new(shared: &Arc<Shared>, handle: usize, whose: Of) -> Self {
         let (shared, bell) = (Arc::clone(shared), Arc::new(Condvar::new()));
-        NlRouterReceiverHandle { shared, handle, whose, bell, is_stopped: false, of: PhantomData }
+        NlRouterReceiverHandle { shared, handle, whose, bell, is_stopped: false, spoilt: None, of: PhantomData }
     }
 
     /// The next reply, read as these types; none after the last. A request that the kernel refuses is an error. Of
@@ -174,7 +203,10 @@ impl<T, P> NlRouterReceiverHandle<T, P> {
         };
         let message = match Nlmsghdr::of_bytes(&bytes) {
             Ok(message) => message,
-            Err(error) => return Some(Err(error.into())),
+            Err(error) => {
+                self.spoilt = Some(self.verdict().unreadable());
+                return Some(Err(error.into()));
+            }
         };
         if !matches!(self.whose, Of::Request(_)) || message.get_err().is_none() {
             return Some(Ok(message));
@@ -182,11 +214,29 @@ impl<T, P> NlRouterReceiverHandle<T, P> {
         message.into_err().map(|answer| Err(RouterError::Nlmsgerr(answer)))
     }
 
-    /// The whole picture after a loss was reported: the messages of a dump that nothing was lost of and that the kernel
-    /// has not marked as interrupted, in the handle of what comes to groups. What had come to groups before is dropped,
-    /// since the picture has it; what comes from then on is read as before, and is to be applied to the picture.
+    /// How the answer to its request stands, by what was given of it: whether that is all. It is told as soon as it is
+    /// known, so that a list that is to be asked for again need not be read to its end. Of what comes to groups, and of
+    /// what was not asked for, it is always `Pending`.
     ///
-    /// The dump is repeated where something is lost again, so many times in all; then the last error is given, and
+    /// An iterator that is to be asked afterwards is lent to the loop: `for reply in &mut replies`.
+    pub fn verdict(&self) -> Verdict {
+        match self.whose {
+            Of::Request(_) => self.spoilt.unwrap_or_else(|| self.shared.state().verdict(self.handle).0),
+            Of::Groups | Of::Unasked => Verdict::Pending,
+        }
+    }
+
+    /// Whether a message that was given says that the kernel did filter as it was asked to, by the flag
+    /// `NLM_F_DUMP_FILTERED`. One that cannot filter lists everything.
+    pub fn is_filtered(&self) -> bool {
+        matches!(self.whose, Of::Request(_)) && self.shared.state().verdict(self.handle).1
+    }
+
+    /// The whole picture after a loss was reported: the messages of a dump that is complete, in the handle of what comes
+    /// to groups. What had come to groups before is dropped, since the picture has it; what comes from then on is read
+    /// as before, and is to be applied to the picture.
+    ///
+    /// It is asked for at most so many times, as by [`NlRouter::dump`]; then the last error is given, and
     /// `ClosedChannel` by a handle of something else.
     pub fn resync<ST, SP, RT, RP>(
         &mut self,
@@ -200,52 +250,55 @@ impl<T, P> NlRouterReceiverHandle<T, P> {
         RT: NlType,
         RP: FromBytes,
     {
-        let mut last = RouterError::ClosedChannel;
         if self.whose != Of::Groups {
-            return Err(last);
+            return Err(RouterError::ClosedChannel);
         }
         let (kind, body) = (nl_type.into(), nl_payload.body()?);
-        for _ in 0..times {
+        for left in (0..times.max(1)).rev() {
             self.shared.drop_multicast()?;
-            match self.dump(kind, &body) {
-                Ok(Some(messages)) => return Ok(messages),
-                Ok(None) => last = RouterError::new("the kernel marks the dump as interrupted"),
-                Err(error) if is_passing(&error) => last = error,
-                Err(error) => return Err(error),
+            let dump = dump_once(&self.shared, kind, NlmF::empty(), &body)?;
+            if dump.verdict == Verdict::Complete {
+                return Ok(dump.messages);
+            }
+            if left == 0 || !dump.is_passing() {
+                return Err(dump.into_error());
             }
         }
-        Err(last)
-    }
-
-    /// The messages of a dump, to its end; none where one is marked as interrupted.
-    fn dump<RT, RP>(&self, kind: u16, body: &[u8]) -> Result<Option<Vec<Nlmsghdr<RT, RP>>>, RouterError>
-    where
-        RT: NlType,
-        RP: FromBytes,
-    {
-        let (number, handle) = self.shared.send(kind, NlmF::DUMP, body)?;
-        let replies = NlRouterReceiverHandle::<RT, RP>::new(&self.shared, handle, Of::Request(number));
-        let mut messages = Vec::new();
-        for reply in replies {
-            let message = reply?;
-            if message.nl_flags().contains(NlmF::DUMP_INTR) {
-                return Ok(None);
-            }
-            if let Some(answer) = message.failed_end() {
-                return Err(RouterError::Nlmsgerr(answer));
-            }
-            messages.push(message);
-        }
-        Ok(Some(messages))
+        Err(RouterError::ClosedChannel)
     }
 }
 
-/// Whether a dump that was refused so can be asked for again.
-fn is_passing(error: &RouterError) -> bool {
+/// A dump that is asked for once, read to its end. Refused where the wait is over or memory runs out, since it has not
+/// ended then.
+fn dump_once<RT, RP>(shared: &Arc<Shared>, kind: u16, flags: NlmF, body: &[u8]) -> Result<Dump<RT, RP>, RouterError>
+where
+    RT: NlType,
+    RP: FromBytes,
+{
+    let (number, handle) = shared.send(kind, flags | NlmF::DUMP, body)?;
+    let mut replies = NlRouterReceiverHandle::<RT, RP>::new(shared, handle, Of::Request(number));
+    let (mut messages, mut first_error) = (Vec::new(), None);
+    for reply in &mut replies {
+        let error = match reply {
+            Ok(message) if message.is_done() => message.failed_end().map(RouterError::Nlmsgerr),
+            Ok(message) => {
+                messages.push(message);
+                None
+            }
+            Err(error) if is_unended(&error) => return Err(error),
+            Err(error) => Some(error),
+        };
+        first_error = first_error.or(error);
+    }
+    let (verdict, is_filtered) = (replies.verdict(), replies.is_filtered());
+    Ok(Dump { messages, verdict, is_filtered, error: first_error })
+}
+
+/// Whether an error says nothing of an answer, which may go on.
+fn is_unended(error: &RouterError) -> bool {
     match error {
-        RouterError::Socket(SocketError::Io(error)) => !is_end_of_wait(error),
-        RouterError::Socket(SocketError::Truncated { .. }) => true,
-        error => error.errno().is_some_and(|it| PASSING.contains(&it)),
+        RouterError::Socket(SocketError::Io(error)) => is_end_of_wait(error),
+        error => matches!(error, RouterError::Memory),
     }
 }
 

@@ -3,6 +3,7 @@
 mod links;
 mod space;
 mod trouble;
+mod verdict;
 
 use links::{LINK_GROUP, ask, dump, link, make_pairs, name, named, names, router, set_loopback};
 use neli::ToBytes;

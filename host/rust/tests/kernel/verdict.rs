@@ -1,0 +1,160 @@
+//! Whether what was given is all of an answer: dumps that are complete, interrupted or fail.
+
+use crate::links::{Links, ask, dump, link, make_pairs, names, router, set_loopback};
+use crate::space::alone;
+use neli::FromBytes;
+use neli::consts::nl::NlmF;
+use neli::consts::rtnl::{Ifla, RtAddrFamily, RtScope, Rtm};
+use neli::err::{DeError, RouterError};
+use neli::nl::NlPayload;
+use neli::router::synchronous::{Dump, Loss, NlRouter, NlRouterReceiverHandle, Verdict};
+use neli::rtnl::{Ifaddrmsg, IfaddrmsgBuilder, Ifinfomsg, RtattrBuilder};
+use std::sync::atomic::{AtomicUsize, Ordering};
+
+/// `NLMSG_DONE` of `linux/netlink.h`.
+const DONE: u16 = 3;
+
+/// `ENODEV` of `errno.h`, negated.
+const NO_DEVICE: i32 = -19;
+
+/// So many pairs of links are listed in several datagrams.
+const MANY: usize = 150;
+
+/// A router, and so many links that it lists them in many datagrams, one of which has room in its socket.
+fn with_many_links() -> NlRouter {
+    make_pairs(MANY);
+    let (router, _) = router(&[]);
+    router.socket().set_recv_buffer_size(8000).expect("the buffer is made small");
+    router
+}
+
+/// Removes a link, and its other end.
+fn remove(name: &str) {
+    let name = RtattrBuilder::default().rta_type(Ifla::Ifname).rta_payload(name).build().expect("a name");
+    let gone = link(0).rtattrs([name].into_iter().collect()).build().expect("a link");
+    ask(&router(&[]).0, Rtm::Dellink, NlmF::empty(), gone).expect("a link is removed");
+}
+
+/// A link is removed between two receives: the kernel marks the first message of the datagram that it fills next.
+#[test]
+fn a_dump_is_interrupted() {
+    alone(|| {
+        let router = with_many_links();
+        let mut links = dump(&router);
+        assert_eq!(links.verdict(), Verdict::Pending);
+        let (mut came, mut marked) = (0, 0);
+        while let Some(message) = links.next() {
+            let message = message.expect("a dump has no error");
+            if came == 0 {
+                remove("pair140");
+            }
+            came += 1;
+            let is_marked = message.nl_flags().contains(NlmF::DUMP_INTR);
+            assert!(!is_marked || *message.nl_type() != Rtm::from(DONE));
+            marked += usize::from(is_marked);
+            assert_eq!(links.verdict(), if marked > 0 { Verdict::Interrupted } else { Verdict::Pending });
+        }
+        assert_eq!((marked, links.verdict(), links.is_filtered()), (1, Verdict::Interrupted, false));
+    });
+}
+
+/// How many lists were begun, and at how many of them a link is still to be removed.
+static BEGUN: AtomicUsize = AtomicUsize::new(0);
+static REMOVALS: AtomicUsize = AtomicUsize::new(0);
+
+/// A link. While the first of a list is read, which is the loopback link, another one is removed.
+struct Removing;
+
+impl FromBytes for Removing {
+    fn from_bytes(bytes: &[u8]) -> Result<Self, DeError> {
+        if *Ifinfomsg::from_bytes(bytes)?.ifi_index() == 1 {
+            BEGUN.fetch_add(1, Ordering::Relaxed);
+            let left = REMOVALS.fetch_update(Ordering::Relaxed, Ordering::Relaxed, |it| it.checked_sub(1));
+            if let Ok(left) = left {
+                remove(&format!("pair{}", MANY - left));
+            }
+        }
+        Ok(Removing)
+    }
+}
+
+/// Asks for all links, some of which are removed: the list, and how often it was begun.
+fn list(router: &NlRouter, times: usize, removals: usize) -> (Dump<Rtm, Removing>, usize) {
+    BEGUN.store(0, Ordering::Relaxed);
+    REMOVALS.store(removals, Ordering::Relaxed);
+    let all = NlPayload::Payload(link(0).build().expect("a link"));
+    let listed = router.dump(Rtm::Getlink, NlmF::empty(), all, times).expect("a dump is asked for");
+    (listed, BEGUN.load(Ordering::Relaxed))
+}
+
+#[test]
+fn a_dump_is_repeated() {
+    alone(|| {
+        let router = with_many_links();
+        let (whole, begun) = list(&router, 3, 0);
+        assert_eq!((whole.verdict, begun, whole.messages.len()), (Verdict::Complete, 1, 2 * MANY + 1));
+        let (repeated, begun) = list(&router, 3, 1);
+        assert_eq!((repeated.verdict, begun, repeated.messages.len()), (Verdict::Complete, 2, 2 * MANY - 1));
+        let (marked, begun) = list(&router, 2, 3);
+        assert_eq!((marked.verdict, begun), (Verdict::Interrupted, 2));
+        assert!(marked.error.is_none() && marked.messages.len() > 2 * MANY - 10);
+        let (marked, begun) = list(&router, 0, 1);
+        assert_eq!((marked.verdict, begun), (Verdict::Interrupted, 1));
+    });
+}
+
+/// The addresses of a link.
+fn addresses(router: &NlRouter, index: u32) -> Dump<Rtm, Ifaddrmsg> {
+    let asked = IfaddrmsgBuilder::default()
+        .ifa_family(RtAddrFamily::Inet)
+        .ifa_prefixlen(0)
+        .ifa_scope(RtScope::Universe)
+        .ifa_index(index)
+        .build();
+    let asked = NlPayload::Payload(asked.expect("an address"));
+    router.dump(Rtm::Getaddr, NlmF::empty(), asked, 3).expect("a dump is asked for")
+}
+
+/// The kernel ends the list of a link that is not there with NLMSG_DONE and ENODEV, where it looks at the index.
+#[test]
+fn a_dump_fails_at_its_end() {
+    alone(|| {
+        let (router, _) = router(&[]);
+        set_loopback(&router, true);
+        let all = addresses(&router, 4711);
+        assert_eq!((all.verdict, all.messages.len(), all.is_filtered), (Verdict::Complete, 1, false));
+        router.enable_strict_checking(true).expect("the kernel looks at all fields");
+        let one = addresses(&router, 1);
+        assert_eq!((one.verdict, one.messages.len(), one.is_filtered), (Verdict::Complete, 1, true));
+        let none = addresses(&router, 4711);
+        assert_eq!((none.verdict, none.messages.len()), (Verdict::Failed(NO_DEVICE), 0));
+        assert_eq!(none.error.as_ref().and_then(RouterError::errno), Some(-NO_DEVICE));
+    });
+}
+
+/// A request that is no dump.
+fn asked<P>(router: &NlRouter, index: i32) -> NlRouterReceiverHandle<Rtm, P> {
+    let body = NlPayload::Payload(link(index).build().expect("a link"));
+    router.send(Rtm::Getlink, NlmF::ACK, body).expect("a link is asked for")
+}
+
+#[test]
+fn other_answers_have_a_verdict() {
+    alone(|| {
+        let (router, multicast) = router(&[]);
+        let mut there: Links = asked(&router, 1);
+        assert!(there.next().is_some_and(|it| it.is_ok()));
+        assert_eq!(there.verdict(), Verdict::Pending);
+        assert!(there.next().is_some_and(|it| it.is_ok()) && there.next().is_none());
+        assert_eq!((there.verdict(), multicast.verdict()), (Verdict::Complete, Verdict::Pending));
+        let mut not_there: Links = asked(&router, 4711);
+        assert!(not_there.next().is_some_and(|it| it.is_err()));
+        assert_eq!(not_there.verdict(), Verdict::Failed(NO_DEVICE));
+        // A link is no u16, and what follows comes all the same.
+        let mut unreadable = asked::<u16>(&router, 1);
+        assert!(matches!(unreadable.next(), Some(Err(RouterError::De(_)))));
+        assert!(unreadable.next().is_some_and(|it| it.is_ok()) && unreadable.next().is_none());
+        assert_eq!(unreadable.verdict(), Verdict::Lost(Loss::Unreadable));
+        assert_eq!(names(asked(&router, 1)), ["lo"]);
+    });
+}
