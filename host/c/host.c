@@ -31,20 +31,20 @@ static bool is_grown(uint8_t **bytes, size_t *room, size_t wanted) {
     return true;
 }
 
-static int32_t failed(struct host *host, int fault) {
+static int32_t failed(struct neli_host *host, int fault) {
     host->fault = fault;
     return NELI_LINK;
 }
 
-int32_t host_open(struct host *host, int family, const uint32_t *groups, size_t count) {
-    *host = (struct host){.ledger.is_settled = true};
+int32_t host_begin(struct neli_host *host, int family, const uint32_t *groups, size_t count) {
+    *host = (struct neli_host){.ledger.is_settled = true};
     int32_t code = link_open(&host->link, family, groups, count);
     if (code != NELI_OK) return failed(host, host->link.fault);
     host->ledger.port = host->link.port;
     return neli_router_new(&host->router, host->link.port);
 }
 
-void host_close(struct host *host) {
+void host_end(struct neli_host *host) {
     link_close(&host->link);
     neli_router_free(&host->router);
     ledger_free(&host->ledger);
@@ -53,10 +53,10 @@ void host_close(struct host *host) {
     free(host->unasked);
     free(host->request);
     free(host->item);
-    *host = (struct host){.link.fd = -1, .link.stop = -1};
+    *host = (struct neli_host){.link.fd = -1, .link.stop = -1};
 }
 
-int32_t host_receive(struct host *host, size_t *length, uint32_t *group) {
+int32_t neli_host_receive(struct neli_host *host, size_t *length, uint32_t *group) {
     int64_t end = link_end_of_wait(&host->link);
     for (;;) {
         int32_t code = link_receive(&host->link, length, group);
@@ -96,7 +96,8 @@ static int take_loss(struct losses *losses) {
 
 /* Whom a message is for, the answer to `open` if it is one. The kernel sends its copy to one who asked with ECHO in the
  * group's name, whether or not the socket is in it. */
-static struct owners owners_of(const struct host *host, const struct open *open, const struct neli_message *message) {
+static struct owners owners_of(const struct neli_host *host, const struct open *open,
+                               const struct neli_message *message) {
     uint32_t group = host->held.group;
     bool is_own = message->port == host->link.port;
     struct owners owners = {
@@ -114,7 +115,7 @@ static bool are_same(const struct owners *one, const struct owners *other) {
 }
 
 /* The messages of what is held that come next and are for the same. */
-static struct run next_run(const struct host *host) {
+static struct run next_run(const struct neli_host *host) {
     struct neli_walk walk = host->held.walk;
     struct run run = {.start = walk.place, .end = walk.place};
     struct neli_message message;
@@ -138,7 +139,7 @@ static struct run next_run(const struct host *host) {
 }
 
 /* Keeps what no request has asked for. */
-static int32_t keep_unasked(struct host *host, const struct run *run) {
+static int32_t keep_unasked(struct neli_host *host, const struct run *run) {
     struct neli_walk *walk = &host->unasked_walk;
     size_t length = run->end - run->start, left = walk->end - walk->place;
     if (!is_grown(&host->unasked, &host->unasked_room, walk->end + length)) return NELI_MEMORY;
@@ -152,7 +153,7 @@ static int32_t keep_unasked(struct host *host, const struct run *run) {
     return NELI_OK;
 }
 
-static int32_t hand_in_run(struct host *host, const struct run *run) {
+static int32_t hand_in_run(struct neli_host *host, const struct run *run) {
     const uint8_t *bytes = host->link.room + run->start;
     const uint32_t *group = &host->held.group;
     size_t length = run->end - run->start;
@@ -174,7 +175,7 @@ static int32_t hand_in_run(struct host *host, const struct run *run) {
 }
 
 /* Each open request is given the fault, and who reads multicast or what was not asked for, in its place. */
-static int32_t hand_in_fault(struct host *host) {
+static int32_t hand_in_fault(struct neli_host *host) {
     if (reserve_loss(&host->heard) != NELI_OK || reserve_loss(&host->unheard) != NELI_OK) return NELI_MEMORY;
     int32_t code = neli_router_fault(&host->router, host->last_fault);
     if (code != NELI_OK) return code;
@@ -187,7 +188,7 @@ static int32_t hand_in_fault(struct host *host) {
 }
 
 /* Receives what is there, and hands it in; NELI_WAITS where nothing is there. */
-static int32_t take_in(struct host *host) {
+static int32_t take_in(struct neli_host *host) {
     struct held *held = &host->held;
     if (!held->is_datagram && !held->is_fault) {
         *held = (struct held){0};
@@ -210,7 +211,7 @@ static int32_t take_in(struct host *host) {
 }
 
 /* Takes in what is there, until no dump runs, what was given up has its answer, and nothing is dropped any more. */
-static int32_t settle(struct host *host) {
+int32_t host_settle(struct neli_host *host) {
     int32_t code = NELI_OK;
     while (code == NELI_OK && !host->ledger.is_settled && host->faults < FAULTS) code = take_in(host);
     return code == NELI_WAITS ? NELI_OK : code;
@@ -219,7 +220,7 @@ static int32_t settle(struct host *host) {
 /* ---- Requests ---- */
 
 /* A request, in `request`. */
-static int32_t write_request(struct host *host, uint16_t type, uint16_t flags, const void *body, size_t length,
+static int32_t write_request(struct neli_host *host, uint16_t type, uint16_t flags, const void *body, size_t length,
                              struct neli_sent *sent) {
     int32_t code = neli_router_send(&host->router, type, flags, body, length, host->request, host->request_room, sent);
     if (code != NELI_ROOM) return code;
@@ -227,12 +228,14 @@ static int32_t write_request(struct host *host, uint16_t type, uint16_t flags, c
     return neli_router_send(&host->router, type, flags, body, length, host->request, host->request_room, sent);
 }
 
-int32_t host_send(struct host *host, uint16_t type, uint16_t flags, const void *body, size_t length, size_t *handle) {
+int32_t neli_host_send(struct neli_host *host, uint16_t type, uint16_t flags, const void *body, size_t length,
+                       size_t *handle) {
     struct neli_sent sent;
     uint32_t number;
-    int32_t code = ledger_reserve(&host->ledger);
+    int32_t code = ledger_reserve(&host->ledger, 1);
     bool is_dump = (flags & NLM_F_DUMP) == NLM_F_DUMP;
-    if (code == NELI_OK && (is_dump || host->ledger.is_congested || host->ledger.count > CROWD)) code = settle(host);
+    if (code == NELI_OK &&
+        (is_dump || host->ledger.is_congested || host->ledger.count > CROWD)) code = host_settle(host);
     if (code == NELI_OK) code = write_request(host, type, flags, body, length, &sent);
     if (code != NELI_OK) return code;
     memcpy(&number, host->request + offsetof(struct nlmsghdr, nlmsg_seq), sizeof number);
@@ -250,7 +253,7 @@ int32_t host_send(struct host *host, uint16_t type, uint16_t flags, const void *
     return NELI_OK;
 }
 
-int32_t host_close_request(struct host *host, size_t handle) {
+int32_t neli_host_close_request(struct neli_host *host, size_t handle) {
     struct open *open = ledger_handle(&host->ledger, handle);
     if (open != NULL) ledger_give_up(&host->ledger, open);
     if (host->taken == handle) host->is_taken = false;
@@ -264,7 +267,7 @@ int32_t host_close_request(struct host *host, size_t handle) {
 /* ---- What is read ---- */
 
 /* Copies the item that was read last, and finds its message. */
-static int32_t take_item(struct host *host, struct neli_message *message) {
+static int32_t take_item(struct neli_host *host, struct neli_message *message) {
     size_t length = 0;
     int32_t code = neli_router_item(&host->router, host->item, host->item_room, &length);
     if (code == NELI_ROOM) {
@@ -279,7 +282,7 @@ static int32_t take_item(struct host *host, struct neli_message *message) {
 }
 
 /* The next message that no request has asked for. */
-static int32_t read_unasked(struct host *host, struct neli_message *message) {
+static int32_t read_unasked(struct neli_host *host, struct neli_message *message) {
     struct neli_walk walk = host->unasked_walk;
     size_t length;
     int fault = take_loss(&host->unheard);
@@ -296,11 +299,11 @@ static int32_t read_unasked(struct host *host, struct neli_message *message) {
 }
 
 /* What a handle is given now. */
-static int32_t read_now(struct host *host, size_t handle, struct neli_message *message) {
+static int32_t read_now(struct neli_host *host, size_t handle, struct neli_message *message) {
     struct neli_item item;
     bool is_again = host->is_taken && host->taken == handle;
     int fault = handle == NELI_MULTICAST && !is_again ? take_loss(&host->heard) : 0;
-    if (handle == HOST_UNASKED) return read_unasked(host, message);
+    if (handle == NELI_HOST_UNASKED) return read_unasked(host, message);
     if (fault != 0) return failed(host, fault);
     int32_t code = is_again ? host->taken_code : neli_router_read(&host->router, handle, &item);
     if (code == NELI_LINK) return failed(host, host->last_fault);
@@ -313,7 +316,7 @@ static int32_t read_now(struct host *host, size_t handle, struct neli_message *m
     return taken == NELI_OK ? code : taken;
 }
 
-int32_t host_verdict(struct host *host, size_t handle, struct neli_verdict *verdict) {
+int32_t neli_host_verdict(struct neli_host *host, size_t handle, struct neli_verdict *verdict) {
     if (host->is_taken && host->taken == handle) {
         *verdict = (struct neli_verdict){0};
         return NELI_WAITS;
@@ -321,7 +324,7 @@ int32_t host_verdict(struct host *host, size_t handle, struct neli_verdict *verd
     return neli_router_verdict(&host->router, handle, verdict);
 }
 
-int32_t host_next(struct host *host, size_t handle, struct neli_message *message) {
+int32_t neli_host_next(struct neli_host *host, size_t handle, struct neli_message *message) {
     int64_t end = link_end_of_wait(&host->link);
     for (;;) {
         int32_t code = read_now(host, handle, message);
@@ -338,7 +341,7 @@ int32_t host_next(struct host *host, size_t handle, struct neli_message *message
 /* ---- A picture ---- */
 
 /* Drops what has come to groups, until nothing is there. */
-static int32_t drop_multicast(struct host *host) {
+static int32_t drop_multicast(struct neli_host *host) {
     int64_t end = link_end_of_wait(&host->link);
     int32_t code = NELI_OK;
     while (code == NELI_OK && !link_is_over(end) && host->faults < FAULTS) {
@@ -356,13 +359,13 @@ static int32_t drop_multicast(struct host *host) {
 }
 
 /* The code of the kernel's answer that is in the item, or 0. */
-static int32_t answer_of(const struct host *host, const struct neli_message *message) {
+static int32_t answer_of(const struct neli_host *host, const struct neli_message *message) {
     struct neli_answer answer;
     return neli_get_answer(host->item, host->item_length, message, &answer) == NELI_OK ? answer.code : 0;
 }
 
 /* Whether a dump that came out so may come out well when it is asked for again. */
-static bool is_passing(const struct host *host, int32_t code, const struct neli_message *last) {
+static bool is_passing(const struct neli_host *host, int32_t code, const struct neli_message *last) {
     if (code == NELI_INTERRUPTED) return true;
     if (code == NELI_LINK) return host->fault != EAGAIN && host->fault != EINTR && host->fault != ECANCELED;
     int32_t answer = code == NELI_KERNEL_ERROR ? answer_of(host, last) : 0;
@@ -370,27 +373,27 @@ static bool is_passing(const struct host *host, int32_t code, const struct neli_
 }
 
 /* Asks for a list once. */
-static int32_t take_dump(struct host *host, const struct dump *dump, struct neli_message *last) {
+static int32_t take_dump(struct neli_host *host, const struct neli_dump *dump, struct neli_message *last) {
     struct neli_verdict verdict;
     size_t handle;
     uint16_t flags = dump->flags | NLM_F_DUMP;
-    int32_t code = host_send(host, dump->type, flags, dump->body, dump->length, &handle);
+    int32_t code = neli_host_send(host, dump->type, flags, dump->body, dump->length, &handle);
     if (code != NELI_OK) return code;
     dump->take(host, NULL, dump->list);
-    while ((code = host_next(host, handle, last)) == NELI_ITEM)
+    while ((code = neli_host_next(host, handle, last)) == NELI_ITEM)
         if (last->type != NLMSG_DONE) dump->take(host, last, dump->list);
-    if (code == NELI_END) code = host_verdict(host, handle, &verdict);
-    host_close_request(host, handle);
+    if (code == NELI_END) code = neli_host_verdict(host, handle, &verdict);
+    neli_host_close_request(host, handle);
     return code;
 }
 
-int32_t host_dump(struct host *host, const struct dump *dump, struct neli_message *last) {
+int32_t neli_host_dump(struct neli_host *host, const struct neli_dump *dump, struct neli_message *last) {
     int32_t code = take_dump(host, dump, last);
     for (int i = 1; i < dump->times && is_passing(host, code, last); i++) code = take_dump(host, dump, last);
     return code;
 }
 
-int32_t host_resync(struct host *host, const struct dump *dump, struct neli_message *last) {
+int32_t neli_host_resync(struct neli_host *host, const struct neli_dump *dump, struct neli_message *last) {
     int32_t code;
     int i = 0;
     do {
@@ -403,29 +406,31 @@ int32_t host_resync(struct host *host, const struct dump *dump, struct neli_mess
 
 /* ---- The item ---- */
 
-bool host_find(const struct host *host, const struct neli_walk *walk, uint16_t number, struct neli_attribute *found) {
+bool neli_host_find(const struct neli_host *host, const struct neli_walk *walk, uint16_t number,
+                    struct neli_attribute *found) {
     return neli_find_attribute(host->item, host->item_length, walk, number, found) == NELI_ITEM;
 }
 
-const char *host_text(const struct host *host, const struct neli_attribute *attribute) {
+const char *neli_host_text(const struct neli_host *host, const struct neli_attribute *attribute) {
     const uint8_t *payload = host->item + attribute->payload;
     size_t length;
     return neli_text_length(payload, attribute->payload_length, &length) == NELI_OK ? (const char *)payload : NULL;
 }
 
 /* What the kernel says of its refusal, appended to the text. */
-static void append_words(const struct host *host, const struct neli_answer *answer, char *text, size_t room) {
+static void append_words(const struct neli_host *host, const struct neli_answer *answer, char *text, size_t room) {
     struct neli_attribute found;
     size_t used = strlen(text);
     uint32_t offset;
-    if (host_find(host, &answer->attributes, NELI_ANSWER_TEXT, &found) && host_text(host, &found) != NULL)
-        used += (size_t)snprintf(text + used, room - used, ": %s", host_text(host, &found));
-    if (used < room && host_find(host, &answer->attributes, NELI_ANSWER_OFFSET, &found) &&
+    if (neli_host_find(host, &answer->attributes, NELI_ANSWER_TEXT, &found) && neli_host_text(host, &found) != NULL)
+        used += (size_t)snprintf(text + used, room - used, ": %s", neli_host_text(host, &found));
+    if (used < room && neli_host_find(host, &answer->attributes, NELI_ANSWER_OFFSET, &found) &&
         neli_get_u32(host->item + found.payload, found.payload_length, 0, &offset) == NELI_OK)
         snprintf(text + used, room - used, ", at byte %u of the request", offset);
 }
 
-void host_explain(const struct host *host, int32_t code, const struct neli_message *message, char *text, size_t room) {
+void neli_host_explain(const struct neli_host *host, int32_t code, const struct neli_message *message, char *text,
+                       size_t room) {
     struct neli_answer answer;
     bool is_answer = code == NELI_KERNEL_ERROR;
     if (is_answer && neli_get_answer(host->item, host->item_length, message, &answer) == NELI_OK) {

@@ -11,9 +11,9 @@ static bool is_dump(uint16_t flags) {
     return (flags & NLM_F_DUMP) == NLM_F_DUMP;
 }
 
-int32_t ledger_reserve(struct ledger *ledger) {
-    if (ledger->count < ledger->room) return NELI_OK;
-    size_t room = ledger->room * 2 + 8;
+int32_t ledger_reserve(struct ledger *ledger, size_t count) {
+    if (ledger->room - ledger->count >= count) return NELI_OK;
+    size_t room = ledger->room * 2 + count + 7;
     struct open *grown = realloc(ledger->open, room * sizeof *grown);
     if (grown == NULL) return NELI_MEMORY;
     ledger->open = grown;

@@ -29,8 +29,8 @@ struct owners {
 
 void ledger_free(struct ledger *ledger);
 
-/* Has room for one more request, or answers NELI_MEMORY. */
-int32_t ledger_reserve(struct ledger *ledger);
+/* Has room for so many more requests, or answers NELI_MEMORY. */
+int32_t ledger_reserve(struct ledger *ledger, size_t count);
 
 /* A request was sent, for which there is room. */
 void ledger_add(struct ledger *ledger, uint32_t number, uint16_t flags, size_t handle);

@@ -27,7 +27,7 @@ static void begin(struct lines *lines) {
     rewind(lines->out);
 }
 
-static void put_link(const struct host *host, const struct neli_message *message, void *list) {
+static void put_link(const struct neli_host *host, const struct neli_message *message, void *list) {
     struct lines *lines = list;
     struct ifinfomsg link;
     struct neli_walk walk;
@@ -39,19 +39,20 @@ static void put_link(const struct host *host, const struct neli_message *message
         return;
     }
     if (neli_attributes_of(message, sizeof link, &walk) != NELI_OK) return;
-    while (neli_next_attributes(host->item, host->item_length, &walk, attributes, 16, &count) == NELI_ITEM)
+    while (neli_next_attributes(neli_host_item(host), neli_host_item_length(host), &walk, attributes, 16, &count) ==
+           NELI_ITEM)
         for (size_t i = 0; i < count; i++) {
             if (attributes[i].number == IFLA_IFNAME) name = attributes[i];
             if (attributes[i].number == IFLA_MTU) mtu = attributes[i];
         }
-    if (name.number != IFLA_IFNAME || host_text(host, &name) == NULL || mtu.number != IFLA_MTU) return;
-    if (neli_get_u32(host->item + mtu.payload, mtu.payload_length, 0, &bytes) != NELI_OK) return;
-    memcpy(&link, host->item + message->payload, sizeof link);
+    if (name.number != IFLA_IFNAME || neli_host_text(host, &name) == NULL || mtu.number != IFLA_MTU) return;
+    if (neli_get_u32(neli_host_item(host) + mtu.payload, mtu.payload_length, 0, &bytes) != NELI_OK) return;
+    memcpy(&link, neli_host_item(host) + message->payload, sizeof link);
     const char *state = link.ifi_flags & IFF_UP ? "up" : "down";
-    fprintf(lines->out, "link %d %s mtu %u %s\n", link.ifi_index, host_text(host, &name), bytes, state);
+    fprintf(lines->out, "link %d %s mtu %u %s\n", link.ifi_index, neli_host_text(host, &name), bytes, state);
 }
 
-static void put_address(const struct host *host, const struct neli_message *message, void *list) {
+static void put_address(const struct neli_host *host, const struct neli_message *message, void *list) {
     struct lines *lines = list;
     struct ifaddrmsg address;
     struct neli_walk walk;
@@ -62,21 +63,21 @@ static void put_address(const struct host *host, const struct neli_message *mess
         return;
     }
     if (neli_attributes_of(message, sizeof address, &walk) != NELI_OK) return;
-    if (!host_find(host, &walk, IFA_LOCAL, &local) || local.payload_length != 4) return;
-    memcpy(&address, host->item + message->payload, sizeof address);
-    inet_ntop(AF_INET, host->item + local.payload, text, sizeof text);
+    if (!neli_host_find(host, &walk, IFA_LOCAL, &local) || local.payload_length != 4) return;
+    memcpy(&address, neli_host_item(host) + message->payload, sizeof address);
+    inet_ntop(AF_INET, neli_host_item(host) + local.payload, text, sizeof text);
     fprintf(lines->out, "address %u %s/%u\n", address.ifa_index, text, address.ifa_prefixlen);
 }
 
 /* Asks for a list, and prints it: the status that says whether all of it is there. */
-static enum status print_list(struct host *host, struct dump dump) {
+static enum status print_list(struct neli_host *host, struct neli_dump dump) {
     struct neli_message last;
     struct lines lines = {0};
     lines.out = open_memstream(&lines.text, &lines.size);
     if (lines.out == NULL) fail(host, "list", NELI_MEMORY, NULL);
     dump.times = TIMES;
     dump.list = &lines;
-    int32_t code = host_dump(host, &dump, &last);
+    int32_t code = neli_host_dump(host, &dump, &last);
     if (fclose(lines.out) != 0) fail(host, "list", NELI_MEMORY, NULL);
     fwrite(lines.text, 1, lines.size, stdout);
     free(lines.text);
@@ -85,19 +86,19 @@ static enum status print_list(struct host *host, struct dump dump) {
 }
 
 int main(int argc, char **argv) {
-    struct host host;
+    struct neli_host *host;
     struct ifinfomsg links = {0};
     struct ifaddrmsg addresses = {.ifa_family = AF_INET};
     open_or_fail(&host, NETLINK_ROUTE, NULL, 0);
     if (argc > 1) {
         addresses.ifa_index = (uint32_t)strtoul(argv[1], NULL, 10);
-        int32_t code = link_set_strict(&host.link);
-        if (code != NELI_OK) fail(&host, "list", code, NULL);
+        int32_t code = neli_host_set_strict(host);
+        if (code != NELI_OK) fail(host, "list", code, NULL);
     }
-    struct dump of_links = {.type = RTM_GETLINK, .body = &links, .length = sizeof links, .take = put_link};
-    struct dump of_addresses = {
+    struct neli_dump of_links = {.type = RTM_GETLINK, .body = &links, .length = sizeof links, .take = put_link};
+    struct neli_dump of_addresses = {
         .type = RTM_GETADDR, .body = &addresses, .length = sizeof addresses, .take = put_address};
-    enum status one = argc > 1 ? STATUS_COMPLETE : print_list(&host, of_links), other = print_list(&host, of_addresses);
-    host_close(&host);
+    enum status one = argc > 1 ? STATUS_COMPLETE : print_list(host, of_links), other = print_list(host, of_addresses);
+    neli_host_close(host);
     return one != STATUS_COMPLETE ? (int)one : (int)other;
 }

@@ -33,24 +33,24 @@ static struct net net_of(const char *text) {
 }
 
 /* Has something done, or ends the program. */
-static void do_it(struct host *host, uint16_t type, uint16_t flags, const struct body *body) {
+static void do_it(struct neli_host *host, uint16_t type, uint16_t flags, const struct body *body) {
     struct neli_message message;
     int32_t code = ask(host, type, flags, body, &message);
     if (code != NELI_OK) fail(host, "make", code, &message);
 }
 
 /* The index of the link with this name. */
-static int index_of(struct host *host, const char *name) {
+static int index_of(struct neli_host *host, const char *name) {
     struct body body = link_body(0, false);
     struct neli_message message;
     struct ifinfomsg link;
     size_t handle;
     put_text(&body, IFLA_IFNAME, name);
-    int32_t code = host_send(host, RTM_GETLINK, 0, body.bytes, body.writer.end, &handle);
-    if (code == NELI_OK) code = host_next(host, handle, &message);
+    int32_t code = neli_host_send(host, RTM_GETLINK, 0, body.bytes, body.writer.end, &handle);
+    if (code == NELI_OK) code = neli_host_next(host, handle, &message);
     if (code != NELI_ITEM || message.payload_length < sizeof link) fail(host, "make", code, &message);
-    memcpy(&link, host->item + message.payload, sizeof link);
-    host_close_request(host, handle);
+    memcpy(&link, neli_host_item(host) + message.payload, sizeof link);
+    neli_host_close_request(host, handle);
     return link.ifi_index;
 }
 
@@ -80,7 +80,7 @@ static struct body route_body(int index, const char *text) {
     return body;
 }
 
-static void add(struct host *host, char **words) {
+static void add(struct neli_host *host, char **words) {
     struct body links = pair(words[0], words[1]);
     do_it(host, RTM_NEWLINK, NEW, &links);
     int index = index_of(host, words[0]);
@@ -97,7 +97,7 @@ static void add(struct host *host, char **words) {
     printf("route %s\n", words[3]);
 }
 
-static void del(struct host *host, char **words) {
+static void del(struct neli_host *host, char **words) {
     int index = index_of(host, words[0]);
     struct body route = route_body(index, words[3]), address = address_body(index, words[2]);
     struct body link = link_body(index, false);
@@ -108,14 +108,14 @@ static void del(struct host *host, char **words) {
 }
 
 int main(int argc, char **argv) {
-    struct host host;
+    struct neli_host *host;
     bool is_add = argc == 6 && strcmp(argv[1], "add") == 0;
     if (!is_add && (argc != 6 || strcmp(argv[1], "del") != 0)) {
         fputs("usage: make add|del NAME PEER ADDRESS/BITS NET/BITS\n", stderr);
         return STATUS_NOT_BEGUN;
     }
     open_or_fail(&host, NETLINK_ROUTE, NULL, 0);
-    (is_add ? add : del)(&host, argv + 2);
-    host_close(&host);
+    (is_add ? add : del)(host, argv + 2);
+    neli_host_close(host);
     return 0;
 }

@@ -11,7 +11,7 @@
 static const uint32_t groups[] = {RTNLGRP_LINK, RTNLGRP_IPV4_IFADDR, RTNLGRP_IPV4_ROUTE};
 
 int main(int argc, char **argv) {
-    struct host host;
+    struct neli_host *host;
     FILE *file = argc == 3 ? fopen(argv[1], "wb") : NULL;
     if (file == NULL) {
         if (argc == 3) fprintf(stderr, "record: %s\n", strerror(errno));
@@ -24,11 +24,11 @@ int main(int argc, char **argv) {
     for (unsigned long left = strtoul(argv[2], NULL, 10); left > 0; left--) {
         size_t length;
         uint32_t group;
-        int32_t code = host_receive(&host, &length, &group);
-        if (code != NELI_OK) fail(&host, "record", code, NULL);
-        if (fwrite(host.link.room, 1, length, file) != length) break;
+        int32_t code = neli_host_receive(host, &length, &group);
+        if (code != NELI_OK) fail(host, "record", code, NULL);
+        if (fwrite(neli_host_datagram(host), 1, length, file) != length) break;
     }
-    host_close(&host);
+    neli_host_close(host);
     bool is_written = ferror(file) == 0;
     if (fclose(file) != 0 || !is_written) {
         fprintf(stderr, "record: %s\n", strerror(errno));

@@ -24,21 +24,21 @@ enum status status_of(int32_t code) {
     }
 }
 
-void say(const struct host *host, const char *what, int32_t code, const struct neli_message *message) {
+void say(const struct neli_host *host, const char *what, int32_t code, const struct neli_message *message) {
     char text[512];
-    host_explain(host, code, message, text, sizeof text);
+    neli_host_explain(host, code, message, text, sizeof text);
     fprintf(stderr, "%s: %s\n", what, text);
 }
 
-void fail(const struct host *host, const char *what, int32_t code, const struct neli_message *message) {
+void fail(const struct neli_host *host, const char *what, int32_t code, const struct neli_message *message) {
     say(host, what, code, message);
     exit(status_of(code));
 }
 
-void open_or_fail(struct host *host, int family, const uint32_t *groups, size_t count) {
-    int32_t code = host_open(host, family, groups, count);
+void open_or_fail(struct neli_host **host, int family, const uint32_t *groups, size_t count) {
+    int32_t code = neli_host_open(host, family, groups, count);
     if (code == NELI_OK) return;
-    say(host, "a netlink socket", code, NULL);
+    say(*host, "a netlink socket", code, NULL);
     exit(STATUS_NOT_BEGUN);
 }
 
@@ -95,15 +95,16 @@ struct body link_body(int index, bool is_up) {
     return body;
 }
 
-int32_t ask(struct host *host, uint16_t type, uint16_t flags, const struct body *body, struct neli_message *message) {
+int32_t ask(struct neli_host *host, uint16_t type, uint16_t flags, const struct body *body,
+            struct neli_message *message) {
     struct neli_verdict verdict;
     size_t handle;
-    int32_t code = host_send(host, type, flags | NLM_F_ACK, body->bytes, body->writer.end, &handle);
+    int32_t code = neli_host_send(host, type, flags | NLM_F_ACK, body->bytes, body->writer.end, &handle);
     if (code != NELI_OK) return code;
     do
-        code = host_next(host, handle, message);
+        code = neli_host_next(host, handle, message);
     while (code == NELI_ITEM);
-    if (code == NELI_END) code = host_verdict(host, handle, &verdict);
-    host_close_request(host, handle);
+    if (code == NELI_END) code = neli_host_verdict(host, handle, &verdict);
+    neli_host_close_request(host, handle);
     return code;
 }

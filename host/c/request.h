@@ -3,7 +3,7 @@
 #ifndef REQUEST_H
 #define REQUEST_H
 
-#include "host.h"
+#include "neli_host.h"
 
 /* A body that is being written: a header, and attributes. */
 struct body {
@@ -24,13 +24,13 @@ enum status {
 enum status status_of(int32_t code);
 
 /* A line on stderr, `what: ` and the meaning of a code. */
-void say(const struct host *host, const char *what, int32_t code, const struct neli_message *message);
+void say(const struct neli_host *host, const char *what, int32_t code, const struct neli_message *message);
 
 /* Ends the program with that line and the status of the code. */
-void fail(const struct host *host, const char *what, int32_t code, const struct neli_message *message);
+void fail(const struct neli_host *host, const char *what, int32_t code, const struct neli_message *message);
 
 /* Opens a host, or ends the program with STATUS_NOT_BEGUN. */
-void open_or_fail(struct host *host, int family, const uint32_t *groups, size_t count);
+void open_or_fail(struct neli_host **host, int family, const uint32_t *groups, size_t count);
 
 /* Appends a header, or bytes with padding. */
 void put(struct body *body, const void *bytes, size_t length);
@@ -52,6 +52,7 @@ struct body pair(const char *name, const char *peer);
 struct body link_body(int index, bool is_up);
 
 /* Sends a request, and waits for the kernel's word: NELI_OK that it is done, or why not. */
-int32_t ask(struct host *host, uint16_t type, uint16_t flags, const struct body *body, struct neli_message *message);
+int32_t ask(struct neli_host *host, uint16_t type, uint16_t flags, const struct body *body,
+            struct neli_message *message);
 
 #endif

@@ -44,59 +44,59 @@ static void want_same_messages(const uint8_t *bytes, size_t length) {
 }
 
 static void a_dump_of_many_datagrams(void) {
-    struct host host = route_host(false);
+    struct neli_host *host = route_host(false);
     struct ifinfomsg all = {0};
     struct neli_sent sent;
     uint8_t out[64];
     int datagrams = 0, links = 0;
     bool is_done = false;
-    make_pairs(&host, MANY);
-    WANT(neli_router_send(&host.router, RTM_GETLINK, NLM_F_DUMP, &all, sizeof all, out, sizeof out, &sent) == NELI_OK);
-    WANT(send(host.link.fd, out, sent.length, 0) == (ssize_t)sent.length);
+    make_pairs(host, MANY);
+    WANT(neli_router_send(&host->router, RTM_GETLINK, NLM_F_DUMP, &all, sizeof all, out, sizeof out, &sent) == NELI_OK);
+    WANT(send(host->link.fd, out, sent.length, 0) == (ssize_t)sent.length);
     while (!is_done) {
         struct neli_message message;
         struct neli_walk walk = {0};
         uint32_t group;
         int32_t code;
-        WANT(host_receive(&host, &walk.end, &group) == NELI_OK && group == 0);
+        WANT(neli_host_receive(host, &walk.end, &group) == NELI_OK && group == 0);
         size_t length = walk.end;
-        want_same_messages(host.link.room, length);
-        while ((code = neli_next_message(host.link.room, length, &walk, &message)) == NELI_ITEM) {
+        want_same_messages(host->link.room, length);
+        while ((code = neli_next_message(host->link.room, length, &walk, &message)) == NELI_ITEM) {
             links += message.type == RTM_NEWLINK;
             is_done |= message.type == NLMSG_DONE;
         }
         WANT(code == NELI_END);
-        WANT(neli_router_datagram(&host.router, host.link.room, length, NULL, 0) == NELI_OK);
+        WANT(neli_router_datagram(&host->router, host->link.room, length, NULL, 0) == NELI_OK);
         datagrams++;
     }
     WANT(datagrams > 2 && links == 2 * MANY + 1);
-    WANT(count_links(&host, sent.handle) == 2 * MANY + 1);
-    host_close(&host);
+    WANT(count_links(host, sent.handle) == 2 * MANY + 1);
+    neli_host_close(host);
 }
 
 static void two_requests_in_the_other_order(void) {
-    struct host host = route_host(false);
+    struct neli_host *host = route_host(false);
     struct neli_message message;
     struct neli_answer answer;
-    size_t first = send_question(&host, 1), second = send_question(&host, 4711);
-    WANT(host_next(&host, second, &message) == NELI_KERNEL_ERROR);
-    WANT(neli_get_answer(host.item, host.item_length, &message, &answer) == NELI_OK && answer.code == -ENODEV);
-    WANT(host_next(&host, second, &message) == NELI_END);
-    want_loopback(&host, first);
-    host_close(&host);
+    size_t first = send_question(host, 1), second = send_question(host, 4711);
+    WANT(neli_host_next(host, second, &message) == NELI_KERNEL_ERROR);
+    WANT(neli_get_answer(host->item, host->item_length, &message, &answer) == NELI_OK && answer.code == -ENODEV);
+    WANT(neli_host_next(host, second, &message) == NELI_END);
+    want_loopback(host, first);
+    neli_host_close(host);
 }
 
 static void a_refusal_with_text_and_offset(void) {
-    struct host host = route_host(false);
+    struct neli_host *host = route_host(false);
     struct neli_message message;
     char text[256];
     struct body body = link_body(0, false);
     size_t info = begin_nest(&body, IFLA_LINKINFO);
     put_text(&body, IFLA_INFO_KIND, "nope");
     end_nest(&body, info);
-    int32_t code = ask(&host, RTM_NEWLINK, NLM_F_CREATE | NLM_F_EXCL, &body, &message);
+    int32_t code = ask(host, RTM_NEWLINK, NLM_F_CREATE | NLM_F_EXCL, &body, &message);
     WANT(code == NELI_KERNEL_ERROR);
-    host_explain(&host, code, &message, text, sizeof text);
+    neli_host_explain(host, code, &message, text, sizeof text);
     WANT(strcmp(text, "Operation not supported: Unknown device type") == 0);
 
     /* The name takes 8 bytes after the headers, so that the other attribute lies at byte 40. */
@@ -104,75 +104,75 @@ static void a_refusal_with_text_and_offset(void) {
     body = link_body(1, false);
     put_text(&body, IFLA_IFNAME, "lo");
     put_attribute(&body, IFLA_MTU, &mtu, sizeof mtu);
-    code = ask(&host, RTM_SETLINK, 0, &body, &message);
+    code = ask(host, RTM_SETLINK, 0, &body, &message);
     WANT(code == NELI_KERNEL_ERROR);
-    host_explain(&host, code, &message, text, sizeof text);
+    neli_host_explain(host, code, &message, text, sizeof text);
     WANT(strstr(text, ", at byte 40 of the request") != NULL);
-    host_close(&host);
+    neli_host_close(host);
 }
 
 static void a_notification_while_a_dump_runs(void) {
-    struct host other = route_host(false), host = route_host(true);
+    struct neli_host *other = route_host(false), *host = route_host(true);
     struct neli_message message;
-    make_pairs(&other, MANY);
-    while (host_next(&host, NELI_MULTICAST, &message) == NELI_ITEM && message.type == RTM_NEWLINK) {
+    make_pairs(other, MANY);
+    while (neli_host_next(host, NELI_MULTICAST, &message) == NELI_ITEM && message.type == RTM_NEWLINK) {
         struct ifinfomsg link;
-        memcpy(&link, host.item + message.payload, sizeof link);
+        memcpy(&link, host->item + message.payload, sizeof link);
         if (link.ifi_index == 2 * MANY + 1) break;
     }
-    size_t dump = send_dump(&host);
-    WANT(host_next(&host, dump, &message) == NELI_ITEM && message.type == RTM_NEWLINK);
-    done(&other, RTM_SETLINK, 0, link_body(1, true));
-    WANT(count_links(&host, dump) == 2 * MANY);
-    WANT(host_next(&host, NELI_MULTICAST, &message) == NELI_ITEM && message.type == RTM_NEWLINK);
-    host_close(&other);
-    host_close(&host);
+    size_t dump = send_dump(host);
+    WANT(neli_host_next(host, dump, &message) == NELI_ITEM && message.type == RTM_NEWLINK);
+    done(other, RTM_SETLINK, 0, link_body(1, true));
+    WANT(count_links(host, dump) == 2 * MANY);
+    WANT(neli_host_next(host, NELI_MULTICAST, &message) == NELI_ITEM && message.type == RTM_NEWLINK);
+    neli_host_close(other);
+    neli_host_close(host);
 }
 
 static void a_buffer_that_ran_over(void) {
-    struct host other = route_host(false), host = route_host(true);
+    struct neli_host *other = route_host(false), *host = route_host(true);
     struct neli_message message;
     int32_t code;
     int lost = 0;
-    set_buffer(&host, 1);
-    size_t waiting = send_question(&host, 1);
-    for (int i = 0; i < 100; i++) done(&other, RTM_SETLINK, 0, link_body(1, i % 2 == 0));
+    set_buffer(host, 1);
+    size_t waiting = send_question(host, 1);
+    for (int i = 0; i < 100; i++) done(other, RTM_SETLINK, 0, link_body(1, i % 2 == 0));
     /* The request that was under way is told, or was answered before. */
-    while ((code = host_next(&host, waiting, &message)) == NELI_ITEM) continue;
-    WANT(code == NELI_END || (code == NELI_LINK && host.fault == ENOBUFS));
-    WANT(host_close_request(&host, waiting) == NELI_OK);
-    set_short_wait(&host);
-    while ((code = host_next(&host, NELI_MULTICAST, &message)) == NELI_ITEM ||
-           (code == NELI_LINK && host.fault == ENOBUFS))
+    while ((code = neli_host_next(host, waiting, &message)) == NELI_ITEM) continue;
+    WANT(code == NELI_END || (code == NELI_LINK && host->fault == ENOBUFS));
+    WANT(neli_host_close_request(host, waiting) == NELI_OK);
+    set_short_wait(host);
+    while ((code = neli_host_next(host, NELI_MULTICAST, &message)) == NELI_ITEM ||
+           (code == NELI_LINK && host->fault == ENOBUFS))
         lost += code == NELI_LINK;
-    WANT(code == NELI_LINK && host.fault == EAGAIN && lost == 1);
-    set_buffer(&host, 1 << 20);
-    WANT(count_links(&host, send_dump(&host)) == 1);
-    done(&other, RTM_SETLINK, 0, link_body(1, true));
-    WANT(host_next(&host, NELI_MULTICAST, &message) == NELI_ITEM);
-    host_close(&other);
-    host_close(&host);
+    WANT(code == NELI_LINK && host->fault == EAGAIN && lost == 1);
+    set_buffer(host, 1 << 20);
+    WANT(count_links(host, send_dump(host)) == 1);
+    done(other, RTM_SETLINK, 0, link_body(1, true));
+    WANT(neli_host_next(host, NELI_MULTICAST, &message) == NELI_ITEM);
+    neli_host_close(other);
+    neli_host_close(host);
 }
 
 static void another_sender_is_passed_over(void) {
-    struct host other = route_host(false), host = route_host(true);
+    struct neli_host *other = route_host(false), *host = route_host(true);
     struct neli_message message;
     struct ifinfomsg up = {.ifi_index = 1, .ifi_flags = 1, .ifi_change = 1};
-    struct sockaddr_nl to = {.nl_family = AF_NETLINK, .nl_pid = host.link.port};
+    struct sockaddr_nl to = {.nl_family = AF_NETLINK, .nl_pid = host->link.port};
     struct neli_writer writer = {0};
     uint8_t forged[64];
     size_t open;
-    set_short_wait(&host);
+    set_short_wait(host);
     /* A request without ACK, which is not answered, so that its number stays open. */
-    WANT(host_send(&host, RTM_SETLINK, 0, &up, sizeof up, &open) == NELI_OK);
-    WANT(neli_begin_message(forged, sizeof forged, &writer, RTM_NEWLINK, 0, 0, host.link.port) == NELI_OK);
+    WANT(neli_host_send(host, RTM_SETLINK, 0, &up, sizeof up, &open) == NELI_OK);
+    WANT(neli_begin_message(forged, sizeof forged, &writer, RTM_NEWLINK, 0, 0, host->link.port) == NELI_OK);
     WANT(neli_put_bytes(forged, sizeof forged, &writer, &up, sizeof up) == NELI_OK);
     WANT(neli_end_message(forged, sizeof forged, &writer) == NELI_OK);
-    WANT(sendto(other.link.fd, forged, writer.end, 0, (struct sockaddr *)&to, sizeof to) == (ssize_t)writer.end);
-    WANT(host_next(&host, open, &message) == NELI_LINK && host.fault == EAGAIN);
-    WANT(host_next(&host, NELI_MULTICAST, &message) == NELI_ITEM && message.type == RTM_NEWLINK);
-    host_close(&other);
-    host_close(&host);
+    WANT(sendto(other->link.fd, forged, writer.end, 0, (struct sockaddr *)&to, sizeof to) == (ssize_t)writer.end);
+    WANT(neli_host_next(host, open, &message) == NELI_LINK && host->fault == EAGAIN);
+    WANT(neli_host_next(host, NELI_MULTICAST, &message) == NELI_ITEM && message.type == RTM_NEWLINK);
+    neli_host_close(other);
+    neli_host_close(host);
 }
 
 static void nothing_that_is_wrong_crosses(void) {

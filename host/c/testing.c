@@ -24,18 +24,18 @@ int run_tests(int argc, char **argv, const struct test *tests, size_t count) {
     return argc < 2 ? 0 : 2;
 }
 
-struct host route_host(bool listens) {
-    struct host host;
+struct neli_host *route_host(bool listens) {
+    struct neli_host *host;
     open_or_fail(&host, NETLINK_ROUTE, &link_group, listens ? 1 : 0);
     return host;
 }
 
-void done(struct host *host, uint16_t type, uint16_t flags, struct body body) {
+void done(struct neli_host *host, uint16_t type, uint16_t flags, struct body body) {
     struct neli_message message;
     WANT(ask(host, type, flags, &body, &message) == NELI_END);
 }
 
-void make_pairs(struct host *host, int count) {
+void make_pairs(struct neli_host *host, int count) {
     for (int i = 0; i < count; i++) {
         char name[16], peer[16];
         snprintf(name, sizeof name, "pair%d", i);
@@ -44,60 +44,60 @@ void make_pairs(struct host *host, int count) {
     }
 }
 
-void remove_link(struct host *host, const char *name) {
+void remove_link(struct neli_host *host, const char *name) {
     struct body body = link_body(0, false);
     put_text(&body, IFLA_IFNAME, name);
     done(host, RTM_DELLINK, 0, body);
 }
 
-void set_loopback(struct host *host, bool is_up) {
+void set_loopback(struct neli_host *host, bool is_up) {
     done(host, RTM_SETLINK, 0, link_body(1, is_up));
 }
 
-size_t send_dump(struct host *host) {
+size_t send_dump(struct neli_host *host) {
     struct ifinfomsg all = {0};
     size_t handle = 0;
-    WANT(host_send(host, RTM_GETLINK, NLM_F_DUMP, &all, sizeof all, &handle) == NELI_OK);
+    WANT(neli_host_send(host, RTM_GETLINK, NLM_F_DUMP, &all, sizeof all, &handle) == NELI_OK);
     return handle;
 }
 
-size_t send_question(struct host *host, int index) {
+size_t send_question(struct neli_host *host, int index) {
     struct ifinfomsg link = {.ifi_index = index};
     size_t handle = 0;
-    WANT(host_send(host, RTM_GETLINK, NLM_F_ACK, &link, sizeof link, &handle) == NELI_OK);
+    WANT(neli_host_send(host, RTM_GETLINK, NLM_F_ACK, &link, sizeof link, &handle) == NELI_OK);
     return handle;
 }
 
-int count_links(struct host *host, size_t dump) {
+int count_links(struct neli_host *host, size_t dump) {
     struct neli_message message;
     int32_t code;
     int count = 0;
-    while ((code = host_next(host, dump, &message)) == NELI_ITEM) count += message.type == RTM_NEWLINK;
+    while ((code = neli_host_next(host, dump, &message)) == NELI_ITEM) count += message.type == RTM_NEWLINK;
     WANT(code == NELI_END);
-    WANT(host_close_request(host, dump) == NELI_OK);
+    WANT(neli_host_close_request(host, dump) == NELI_OK);
     return count;
 }
 
-void want_loopback(struct host *host, size_t handle) {
+void want_loopback(struct neli_host *host, size_t handle) {
     struct neli_message message;
     struct neli_walk walk;
     struct neli_attribute name;
-    WANT(host_next(host, handle, &message) == NELI_ITEM && message.type == RTM_NEWLINK);
+    WANT(neli_host_next(host, handle, &message) == NELI_ITEM && message.type == RTM_NEWLINK);
     WANT(neli_attributes_of(&message, sizeof(struct ifinfomsg), &walk) == NELI_OK);
-    WANT(host_find(host, &walk, IFLA_IFNAME, &name) && strcmp(host_text(host, &name), "lo") == 0);
-    WANT(host_next(host, handle, &message) == NELI_ITEM && message.type == NLMSG_ERROR);
-    WANT(host_next(host, handle, &message) == NELI_END);
-    WANT(host_close_request(host, handle) == NELI_OK);
+    WANT(neli_host_find(host, &walk, IFLA_IFNAME, &name) && strcmp(neli_host_text(host, &name), "lo") == 0);
+    WANT(neli_host_next(host, handle, &message) == NELI_ITEM && message.type == NLMSG_ERROR);
+    WANT(neli_host_next(host, handle, &message) == NELI_END);
+    WANT(neli_host_close_request(host, handle) == NELI_OK);
 }
 
-void set_short_wait(struct host *host) {
+void set_short_wait(struct neli_host *host) {
     host->link.wait = 200;
 }
 
-void set_buffer(struct host *host, int size) {
+void set_buffer(struct neli_host *host, int size) {
     WANT(setsockopt(host->link.fd, SOL_SOCKET, SO_RCVBUF, &size, sizeof size) == 0);
 }
 
-bool is_over(const struct host *host, int32_t code, int fault) {
+bool is_over(const struct neli_host *host, int32_t code, int fault) {
     return code == NELI_LINK && host->fault == fault;
 }

@@ -2,6 +2,7 @@
 #ifndef TESTING_H
 #define TESTING_H
 
+#include "host.h"
 #include "request.h"
 
 #define WANT(claim) want(claim, #claim, __FILE__, __LINE__)
@@ -18,37 +19,37 @@ struct test {
 int run_tests(int argc, char **argv, const struct test *tests, size_t count);
 
 /* A host of routing, in the group of links or in none. */
-struct host route_host(bool listens);
+struct neli_host *route_host(bool listens);
 
 /* Has something done. */
-void done(struct host *host, uint16_t type, uint16_t flags, struct body body);
+void done(struct neli_host *host, uint16_t type, uint16_t flags, struct body body);
 
 /* Makes pairs of links. */
-void make_pairs(struct host *host, int count);
+void make_pairs(struct neli_host *host, int count);
 
 /* Removes a link by its name; of a pair both ends. */
-void remove_link(struct host *host, const char *name);
+void remove_link(struct neli_host *host, const char *name);
 
 /* Sets the loopback link up or down. */
-void set_loopback(struct host *host, bool is_up);
+void set_loopback(struct neli_host *host, bool is_up);
 
 /* Asks for all links, or for one. */
-size_t send_dump(struct host *host);
-size_t send_question(struct host *host, int index);
+size_t send_dump(struct neli_host *host);
+size_t send_question(struct neli_host *host, int index);
 
 /* How many links are left of a dump, which is read to its end and closed. */
-int count_links(struct host *host, size_t dump);
+int count_links(struct neli_host *host, size_t dump);
 
 /* The loopback link comes, and then the acknowledgement; the handle is closed. */
-void want_loopback(struct host *host, size_t handle);
+void want_loopback(struct neli_host *host, size_t handle);
 
 /* A wait ends after a fifth of a second, as EAGAIN. */
-void set_short_wait(struct host *host);
+void set_short_wait(struct neli_host *host);
 
 /* Sets the size of the socket's buffer, which the kernel doubles. */
-void set_buffer(struct host *host, int size);
+void set_buffer(struct neli_host *host, int size);
 
 /* Whether a code says that a wait is over, with this number. */
-bool is_over(const struct host *host, int32_t code, int fault);
+bool is_over(const struct neli_host *host, int32_t code, int fault);
 
 #endif

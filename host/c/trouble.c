@@ -18,10 +18,10 @@
 #include <unistd.h>
 
 /* A request that is never answered: a change without ACK. */
-static size_t send_unanswered(struct host *host) {
+static size_t send_unanswered(struct neli_host *host) {
     struct body body = link_body(1, true);
     size_t handle = 0;
-    WANT(host_send(host, RTM_SETLINK, 0, body.bytes, body.writer.end, &handle) == NELI_OK);
+    WANT(neli_host_send(host, RTM_SETLINK, 0, body.bytes, body.writer.end, &handle) == NELI_OK);
     return handle;
 }
 
@@ -45,66 +45,66 @@ static struct body mtu_body(int index, uint32_t mtu) {
 /* ---- Closed early ---- */
 
 static void a_handle_that_is_closed_unread(void) {
-    struct host host = route_host(false);
+    struct neli_host *host = route_host(false);
     struct neli_message message;
-    WANT(host_close_request(&host, send_question(&host, 1)) == NELI_OK);
+    WANT(neli_host_close_request(host, send_question(host, 1)) == NELI_OK);
     for (int i = 0; i < 100; i++) {
-        want_loopback(&host, send_question(&host, 1));
-        WANT(host_close_request(&host, send_question(&host, 1)) == NELI_OK);
-        size_t half = send_question(&host, 1);
-        WANT(host_next(&host, half, &message) == NELI_ITEM);
-        WANT(host_close_request(&host, half) == NELI_OK);
+        want_loopback(host, send_question(host, 1));
+        WANT(neli_host_close_request(host, send_question(host, 1)) == NELI_OK);
+        size_t half = send_question(host, 1);
+        WANT(neli_host_next(host, half, &message) == NELI_ITEM);
+        WANT(neli_host_close_request(host, half) == NELI_OK);
     }
-    WANT(host_close_request(&host, send_dump(&host)) == NELI_OK);
-    want_loopback(&host, send_question(&host, 1));
-    host_close(&host);
+    WANT(neli_host_close_request(host, send_dump(host)) == NELI_OK);
+    want_loopback(host, send_question(host, 1));
+    neli_host_close(host);
 }
 
 /* The answers of a request end with a loss, and the kernel's replies come all the same. */
 static void a_handle_that_is_closed_after_a_loss(void) {
-    struct host other = route_host(false), host = route_host(true);
+    struct neli_host *other = route_host(false), *host = route_host(true);
     struct neli_message message;
     struct neli_verdict verdict;
     int32_t code;
-    set_buffer(&host, 1);
-    for (int i = 0; i < 100; i++) set_loopback(&other, i % 2 == 0);
-    set_buffer(&host, 1 << 20);
-    size_t dump = send_dump(&host);
-    while ((code = host_next(&host, dump, &message)) == NELI_ITEM) continue;
-    WANT(is_over(&host, code, ENOBUFS) && host_verdict(&host, dump, &verdict) == NELI_LINK);
-    WANT(host_close_request(&host, dump) == NELI_OK);
-    for (int i = 0; i < 100; i++) want_loopback(&host, send_question(&host, 1));
-    host_close(&other);
-    host_close(&host);
+    set_buffer(host, 1);
+    for (int i = 0; i < 100; i++) set_loopback(other, i % 2 == 0);
+    set_buffer(host, 1 << 20);
+    size_t dump = send_dump(host);
+    while ((code = neli_host_next(host, dump, &message)) == NELI_ITEM) continue;
+    WANT(is_over(host, code, ENOBUFS) && neli_host_verdict(host, dump, &verdict) == NELI_LINK);
+    WANT(neli_host_close_request(host, dump) == NELI_OK);
+    for (int i = 0; i < 100; i++) want_loopback(host, send_question(host, 1));
+    neli_host_close(other);
+    neli_host_close(host);
 }
 
 static void a_number_that_may_still_be_answered(void) {
-    struct host host = route_host(false);
+    struct neli_host *host = route_host(false);
     struct ifinfomsg link = {.ifi_index = 1};
-    size_t handle = send_question(&host, 1);
-    WANT(host_close_request(&host, handle) == NELI_OK);
-    WANT(neli_router_set_number(&host.router, 0) == NELI_OK);
-    WANT(host_send(&host, RTM_GETLINK, NLM_F_ACK, &link, sizeof link, &handle) == NELI_IN_USE);
-    WANT(neli_router_set_number(&host.router, 1) == NELI_OK);
-    want_loopback(&host, send_question(&host, 1));
-    WANT(neli_router_set_number(&host.router, 0) == NELI_OK);
-    want_loopback(&host, send_question(&host, 1));
-    host_close(&host);
+    size_t handle = send_question(host, 1);
+    WANT(neli_host_close_request(host, handle) == NELI_OK);
+    WANT(neli_router_set_number(&host->router, 0) == NELI_OK);
+    WANT(neli_host_send(host, RTM_GETLINK, NLM_F_ACK, &link, sizeof link, &handle) == NELI_IN_USE);
+    WANT(neli_router_set_number(&host->router, 1) == NELI_OK);
+    want_loopback(host, send_question(host, 1));
+    WANT(neli_router_set_number(&host->router, 0) == NELI_OK);
+    want_loopback(host, send_question(host, 1));
+    neli_host_close(host);
 }
 
 static void a_dump_that_is_broken_off(void) {
-    struct host host = route_host(false);
+    struct neli_host *host = route_host(false);
     struct neli_message message;
-    make_pairs(&host, 60);
+    make_pairs(host, 60);
     for (int i = 0; i < 20; i++) {
-        size_t dump = send_dump(&host);
-        WANT(host_next(&host, dump, &message) == NELI_ITEM);
-        WANT(host_close_request(&host, dump) == NELI_OK);
+        size_t dump = send_dump(host);
+        WANT(neli_host_next(host, dump, &message) == NELI_ITEM);
+        WANT(neli_host_close_request(host, dump) == NELI_OK);
     }
-    size_t first = send_dump(&host), second = send_dump(&host);
-    WANT(count_links(&host, second) == 121);
-    WANT(count_links(&host, first) == 121);
-    host_close(&host);
+    size_t first = send_dump(host), second = send_dump(host);
+    WANT(count_links(host, second) == 121);
+    WANT(count_links(host, first) == 121);
+    neli_host_close(host);
 }
 
 /* ---- What is kept ---- */
@@ -118,97 +118,98 @@ static size_t allocated(void) {
 }
 
 static void what_nobody_reads_is_not_kept(void) {
-    struct host other = route_host(false), host = route_host(true);
+    struct neli_host *other = route_host(false), *host = route_host(true);
     struct neli_message message;
-    set_short_wait(&host);
-    set_loopback(&host, true);
-    WANT(host_next(&host, NELI_MULTICAST, &message) == NELI_ITEM);
-    WANT(host_close_request(&host, send_unanswered(&host)) == NELI_OK);
+    set_short_wait(host);
+    set_loopback(host, true);
+    WANT(neli_host_next(host, NELI_MULTICAST, &message) == NELI_ITEM);
+    WANT(neli_host_close_request(host, send_unanswered(host)) == NELI_OK);
     size_t before = 0;
     for (int i = 0; i < 3000; i++) {
-        done(&other, RTM_SETLINK, 0, mtu_body(1, 1000u + (uint32_t)i));
-        WANT(host_next(&host, NELI_MULTICAST, &message) == NELI_ITEM);
+        done(other, RTM_SETLINK, 0, mtu_body(1, 1000u + (uint32_t)i));
+        WANT(neli_host_next(host, NELI_MULTICAST, &message) == NELI_ITEM);
         if (i == 100) before = allocated();
     }
     WANT(allocated() < before + 100000);
-    for (int i = 0; i < 3000; i++) WANT(host_close_request(&host, send_unanswered(&host)) == NELI_OK);
-    WANT(host.ledger.count < 1000);
-    WANT(is_over(&host, host_next(&host, NELI_MULTICAST, &message), EAGAIN) && host.ledger.count == 0);
-    WANT(host_close_request(&host, NELI_MULTICAST) == NELI_OK);
+    for (int i = 0; i < 3000; i++) WANT(neli_host_close_request(host, send_unanswered(host)) == NELI_OK);
+    WANT(host->ledger.count < 1000);
+    WANT(is_over(host, neli_host_next(host, NELI_MULTICAST, &message), EAGAIN) && host->ledger.count == 0);
+    WANT(neli_host_close_request(host, NELI_MULTICAST) == NELI_OK);
     before = allocated();
     for (int i = 0; i < 1000; i++) {
-        done(&other, RTM_SETLINK, 0, mtu_body(1, 5000u + (uint32_t)i));
-        want_loopback(&host, send_question(&host, 1));
+        done(other, RTM_SETLINK, 0, mtu_body(1, 5000u + (uint32_t)i));
+        want_loopback(host, send_question(host, 1));
     }
     WANT(allocated() < before + 100000);
-    host_close(&other);
-    host_close(&host);
+    neli_host_close(other);
+    neli_host_close(host);
 }
 
 /* ---- Echoes ---- */
 
-static size_t send_address(struct host *host, uint16_t flags, uint8_t last) {
+static size_t send_address(struct neli_host *host, uint16_t flags, uint8_t last) {
     struct ifaddrmsg address = {.ifa_family = AF_INET, .ifa_prefixlen = 24, .ifa_index = 1};
     struct body body = {0};
     uint8_t local[] = {203, 0, 113, last};
     size_t handle = 0;
     put(&body, &address, sizeof address);
     put_attribute(&body, IFA_LOCAL, local, sizeof local);
-    WANT(host_send(host, RTM_NEWADDR, flags | NLM_F_CREATE | NLM_F_EXCL, body.bytes, body.writer.end, &handle) == 0);
+    WANT(neli_host_send(host, RTM_NEWADDR, flags | NLM_F_CREATE | NLM_F_EXCL, body.bytes, body.writer.end, &handle) ==
+         0);
     return handle;
 }
 
 /* An address comes, and then nothing more, or the acknowledgement. */
-static void want_echo(struct host *host, size_t handle, bool has_ack) {
+static void want_echo(struct neli_host *host, size_t handle, bool has_ack) {
     struct neli_message message;
-    WANT(host_next(host, handle, &message) == NELI_ITEM && message.type == RTM_NEWADDR);
-    if (has_ack) WANT(host_next(host, handle, &message) == NELI_ITEM && message.type == NLMSG_ERROR);
-    WANT(host_next(host, handle, &message) == NELI_END);
-    WANT(host_close_request(host, handle) == NELI_OK);
+    WANT(neli_host_next(host, handle, &message) == NELI_ITEM && message.type == RTM_NEWADDR);
+    if (has_ack) WANT(neli_host_next(host, handle, &message) == NELI_ITEM && message.type == NLMSG_ERROR);
+    WANT(neli_host_next(host, handle, &message) == NELI_END);
+    WANT(neli_host_close_request(host, handle) == NELI_OK);
 }
 
 static void an_echo_reaches_its_request(void) {
     static const uint32_t groups[] = {RTNLGRP_IPV4_IFADDR};
-    struct host deaf = route_host(false), host;
+    struct neli_host *deaf = route_host(false), *host;
     struct neli_message message;
-    set_short_wait(&deaf);
-    want_echo(&deaf, send_address(&deaf, NLM_F_ECHO, 1), false);
-    want_echo(&deaf, send_address(&deaf, NLM_F_ECHO | NLM_F_ACK, 2), true);
-    WANT(is_over(&deaf, host_next(&deaf, NELI_MULTICAST, &message), EAGAIN));
+    set_short_wait(deaf);
+    want_echo(deaf, send_address(deaf, NLM_F_ECHO, 1), false);
+    want_echo(deaf, send_address(deaf, NLM_F_ECHO | NLM_F_ACK, 2), true);
+    WANT(is_over(deaf, neli_host_next(deaf, NELI_MULTICAST, &message), EAGAIN));
 
     open_or_fail(&host, NETLINK_ROUTE, groups, 1);
-    set_short_wait(&host);
-    want_echo(&host, send_address(&host, NLM_F_ECHO | NLM_F_ACK, 3), true);
-    WANT(host_next(&host, NELI_MULTICAST, &message) == NELI_ITEM && message.type == RTM_NEWADDR);
+    set_short_wait(host);
+    want_echo(host, send_address(host, NLM_F_ECHO | NLM_F_ACK, 3), true);
+    WANT(neli_host_next(host, NELI_MULTICAST, &message) == NELI_ITEM && message.type == RTM_NEWADDR);
     /* Without ECHO what the request causes is a notification alone, though it has the request's number. */
-    size_t quiet = send_address(&host, NLM_F_ACK, 4);
-    WANT(host_next(&host, quiet, &message) == NELI_ITEM && message.type == NLMSG_ERROR);
-    WANT(host_next(&host, NELI_MULTICAST, &message) == NELI_ITEM && message.type == RTM_NEWADDR);
-    WANT(is_over(&host, host_next(&host, NELI_MULTICAST, &message), EAGAIN));
-    host_close(&host);
-    host_close(&deaf);
+    size_t quiet = send_address(host, NLM_F_ACK, 4);
+    WANT(neli_host_next(host, quiet, &message) == NELI_ITEM && message.type == NLMSG_ERROR);
+    WANT(neli_host_next(host, NELI_MULTICAST, &message) == NELI_ITEM && message.type == RTM_NEWADDR);
+    WANT(is_over(host, neli_host_next(host, NELI_MULTICAST, &message), EAGAIN));
+    neli_host_close(host);
+    neli_host_close(deaf);
 }
 
 /* ---- Losses ---- */
 
 static void a_loss_stands_where_it_came(void) {
-    struct host other = route_host(false), host = route_host(true);
+    struct neli_host *other = route_host(false), *host = route_host(true);
     struct neli_message message;
-    set_short_wait(&host);
-    set_loopback(&other, true);
-    want_loopback(&host, send_question(&host, 1));
-    set_buffer(&host, 1);
-    for (int i = 0; i < 100; i++) set_loopback(&other, i % 2 == 0);
-    size_t told = send_question(&host, 1);
-    WANT(is_over(&host, host_next(&host, told, &message), ENOBUFS));
+    set_short_wait(host);
+    set_loopback(other, true);
+    want_loopback(host, send_question(host, 1));
+    set_buffer(host, 1);
+    for (int i = 0; i < 100; i++) set_loopback(other, i % 2 == 0);
+    size_t told = send_question(host, 1);
+    WANT(is_over(host, neli_host_next(host, told, &message), ENOBUFS));
     /* That a wait is over is no fault of the socket, and changes nothing of what is told of one. */
-    WANT(host_close_request(&host, told) == NELI_OK);
-    WANT(is_over(&host, host_next(&host, send_unanswered(&host), &message), EAGAIN));
-    WANT(host_next(&host, NELI_MULTICAST, &message) == NELI_ITEM && message.type == RTM_NEWLINK);
-    WANT(is_over(&host, host_next(&host, NELI_MULTICAST, &message), ENOBUFS));
-    WANT(host_next(&host, NELI_MULTICAST, &message) == NELI_ITEM);
-    host_close(&other);
-    host_close(&host);
+    WANT(neli_host_close_request(host, told) == NELI_OK);
+    WANT(is_over(host, neli_host_next(host, send_unanswered(host), &message), EAGAIN));
+    WANT(neli_host_next(host, NELI_MULTICAST, &message) == NELI_ITEM && message.type == RTM_NEWLINK);
+    WANT(is_over(host, neli_host_next(host, NELI_MULTICAST, &message), ENOBUFS));
+    WANT(neli_host_next(host, NELI_MULTICAST, &message) == NELI_ITEM);
+    neli_host_close(other);
+    neli_host_close(host);
 }
 
 /* A picture: the MTU of each link, by its index. */
@@ -216,7 +217,7 @@ struct picture {
     uint32_t mtu[4096];
 };
 
-static void take(const struct host *host, const struct neli_message *message, void *of) {
+static void take(const struct neli_host *host, const struct neli_message *message, void *of) {
     struct picture *picture = of;
     struct ifinfomsg link;
     struct neli_walk walk;
@@ -229,17 +230,17 @@ static void take(const struct host *host, const struct neli_message *message, vo
     memcpy(&link, host->item + message->payload, sizeof link);
     uint32_t *mtu = &picture->mtu[(unsigned)link.ifi_index % 4096];
     *mtu = 0;
-    if (message->type == RTM_NEWLINK && host_find(host, &walk, IFLA_MTU, &found))
+    if (message->type == RTM_NEWLINK && neli_host_find(host, &walk, IFLA_MTU, &found))
         WANT(neli_get_u32(host->item + found.payload, found.payload_length, 0, mtu) == NELI_OK);
 }
 
 /* A picture by a dump, which is taken at most so many times. */
-static int32_t resync(struct host *host, int times, struct picture *picture) {
+static int32_t resync(struct neli_host *host, int times, struct picture *picture) {
     static const struct ifinfomsg all;
     struct neli_message last;
-    struct dump dump = {.type = RTM_GETLINK, .body = &all, .length = sizeof all, .times = times, .take = take};
+    struct neli_dump dump = {.type = RTM_GETLINK, .body = &all, .length = sizeof all, .times = times, .take = take};
     dump.list = picture;
-    return host_resync(host, &dump, &last);
+    return neli_host_resync(host, &dump, &last);
 }
 
 /* Makes and removes links, and changes the MTU of another, as fast as it can. It comes back when it is under way. */
@@ -252,88 +253,88 @@ static pid_t storm(int first, int rounds) {
         WANT(read(both[0], &byte, 1) == 1 && close(both[0]) == 0 && close(both[1]) == 0);
         return child;
     }
-    struct host host = route_host(false);
+    struct neli_host *host = route_host(false);
     for (int i = first; i < first + rounds; i++) {
         char name[16], peer[16];
         snprintf(name, sizeof name, "a%d", i);
         snprintf(peer, sizeof peer, "b%d", i);
-        done(&host, RTM_NEWLINK, NLM_F_CREATE | NLM_F_EXCL, pair(name, peer));
-        for (int j = 0; j < 30; j++) done(&host, RTM_SETLINK, 0, mtu_body(1, 1000u + (uint32_t)(i * 30 + j)));
-        if (i % 3 != 0) remove_link(&host, name);
+        done(host, RTM_NEWLINK, NLM_F_CREATE | NLM_F_EXCL, pair(name, peer));
+        for (int j = 0; j < 30; j++) done(host, RTM_SETLINK, 0, mtu_body(1, 1000u + (uint32_t)(i * 30 + j)));
+        if (i % 3 != 0) remove_link(host, name);
         if (i == first + 8) WANT(write(both[1], "", 1) == 1);
     }
-    host_close(&host);
+    neli_host_close(host);
     _exit(0);
 }
 
 static void want_right_picture(int buffer, int first) {
     static struct picture picture, truth;
-    struct host host = route_host(true);
+    struct neli_host *host = route_host(true);
     struct neli_message message;
     int32_t code;
     int status, losses = 0;
     bool is_over_yet = false, was_over;
-    set_buffer(&host, buffer);
-    host.link.wait = 300;
-    WANT(resync(&host, 5, &picture) == NELI_OK);
+    set_buffer(host, buffer);
+    host->link.wait = 300;
+    WANT(resync(host, 5, &picture) == NELI_OK);
     pid_t child = storm(first, 30);
     do {
         was_over = is_over_yet;
         if (!is_over_yet) is_over_yet = waitpid(child, &status, WNOHANG) == child;
-        code = host_next(&host, NELI_MULTICAST, &message);
-        if (code == NELI_ITEM) take(&host, &message, &picture), rest(1);
-        else if (!is_over(&host, code, EAGAIN)) {
-            WANT(is_over(&host, code, ENOBUFS));
+        code = neli_host_next(host, NELI_MULTICAST, &message);
+        if (code == NELI_ITEM) take(host, &message, &picture), rest(1);
+        else if (!is_over(host, code, EAGAIN)) {
+            WANT(is_over(host, code, ENOBUFS));
             losses++;
-            WANT(resync(&host, 1000, &picture) == NELI_OK);
+            WANT(resync(host, 1000, &picture) == NELI_OK);
         }
-    } while (!was_over || !is_over(&host, code, EAGAIN));
+    } while (!was_over || !is_over(host, code, EAGAIN));
     WANT(status == 0 && losses > 0);
-    set_buffer(&host, 1 << 20);
-    WANT(resync(&host, 5, &truth) == NELI_OK);
+    set_buffer(host, 1 << 20);
+    WANT(resync(host, 5, &truth) == NELI_OK);
     WANT(memcmp(&picture, &truth, sizeof truth) == 0);
-    host_close(&host);
+    neli_host_close(host);
 }
 
 static void a_picture_is_right_after_a_storm(void) {
-    struct host host = route_host(false);
-    make_pairs(&host, 30);
-    host_close(&host);
+    struct neli_host *host = route_host(false);
+    make_pairs(host, 30);
+    neli_host_close(host);
     for (int i = 0; i < 3; i++) want_right_picture(8000, 100 * i);
 }
 
 static void a_picture_by_a_larger_buffer(void) {
-    struct host host = route_host(false);
-    make_pairs(&host, 30);
-    host_close(&host);
+    struct neli_host *host = route_host(false);
+    make_pairs(host, 30);
+    neli_host_close(host);
     for (int i = 0; i < 3; i++) want_right_picture(20000, 100 * i);
 }
 
 /* ---- Waits ---- */
 
 static void a_wait_has_an_end(void) {
-    struct host host = route_host(true);
+    struct neli_host *host = route_host(true);
     struct neli_message message;
     pid_t child = fork();
     if (child == 0) {
-        struct host other = route_host(false);
+        struct neli_host *other = route_host(false);
         for (int i = 0;; i++) {
-            set_loopback(&other, i % 2 == 0);
+            set_loopback(other, i % 2 == 0);
             rest(20);
         }
     }
-    host.link.wait = 300;
-    size_t handle = send_unanswered(&host);
+    host->link.wait = 300;
+    size_t handle = send_unanswered(host);
     int64_t before = milliseconds();
-    WANT(is_over(&host, host_next(&host, handle, &message), EAGAIN));
+    WANT(is_over(host, neli_host_next(host, handle, &message), EAGAIN));
     int64_t after = milliseconds();
     kill(child, SIGKILL);
     waitpid(child, NULL, 0);
     WANT(after - before >= 295 && after - before < 1500);
-    host_close(&host);
+    neli_host_close(host);
 }
 
-static struct host *stopped;
+static struct neli_host *stopped;
 
 static void on_alarm(int number) {
     (void)number;
@@ -347,29 +348,29 @@ static void set_alarm(void) {
 }
 
 static void a_wait_is_stopped(void) {
-    struct host host = route_host(true);
+    struct neli_host *host = route_host(true);
     struct neli_message message;
     set_alarm();
-    host.link.wait = 300;
+    host->link.wait = 300;
     int64_t before = milliseconds();
-    WANT(is_over(&host, host_next(&host, NELI_MULTICAST, &message), EAGAIN) && milliseconds() - before >= 295);
-    host.link.wait = -1;
-    host.link.ends_by_signals = true;
+    WANT(is_over(host, neli_host_next(host, NELI_MULTICAST, &message), EAGAIN) && milliseconds() - before >= 295);
+    host->link.wait = -1;
+    host->link.ends_by_signals = true;
     set_alarm();
-    WANT(is_over(&host, host_next(&host, NELI_MULTICAST, &message), EINTR));
-    host.link.ends_by_signals = false;
-    stopped = &host;
+    WANT(is_over(host, neli_host_next(host, NELI_MULTICAST, &message), EINTR));
+    host->link.ends_by_signals = false;
+    stopped = host;
     set_alarm();
-    WANT(is_over(&host, host_next(&host, NELI_MULTICAST, &message), ECANCELED));
-    want_loopback(&host, send_question(&host, 1));
-    WANT(is_over(&host, host_next(&host, NELI_MULTICAST, &message), ECANCELED));
-    host_close(&host);
+    WANT(is_over(host, neli_host_next(host, NELI_MULTICAST, &message), ECANCELED));
+    want_loopback(host, send_question(host, 1));
+    WANT(is_over(host, neli_host_next(host, NELI_MULTICAST, &message), ECANCELED));
+    neli_host_close(host);
 }
 
 /* ---- Not asked for, and other small things ---- */
 
 /* A question behind the router's back: its answer has a number that no request has. */
-static void ask_by_hand(struct host *host, uint32_t number) {
+static void ask_by_hand(struct neli_host *host, uint32_t number) {
     struct ifinfomsg link = {.ifi_index = 1};
     struct neli_writer writer = {0};
     uint8_t out[64];
@@ -381,36 +382,37 @@ static void ask_by_hand(struct host *host, uint32_t number) {
 }
 
 static void what_was_not_asked_for_ends_nothing(void) {
-    struct host host = route_host(false);
+    struct neli_host *host = route_host(false);
     struct neli_message message;
-    ask_by_hand(&host, 4711);
-    want_loopback(&host, send_question(&host, 1));
-    set_short_wait(&host);
-    WANT(is_over(&host, host_next(&host, HOST_UNASKED, &message), EAGAIN));
-    host.keeps_unasked = true;
-    for (uint32_t i = 0; i < 10; i++) ask_by_hand(&host, 4711 + i);
-    want_loopback(&host, send_question(&host, 1));
+    ask_by_hand(host, 4711);
+    want_loopback(host, send_question(host, 1));
+    set_short_wait(host);
+    WANT(is_over(host, neli_host_next(host, NELI_HOST_UNASKED, &message), EAGAIN));
+    host->keeps_unasked = true;
+    for (uint32_t i = 0; i < 10; i++) ask_by_hand(host, 4711 + i);
+    want_loopback(host, send_question(host, 1));
     for (uint32_t i = 0; i < 10; i++) {
-        WANT(host_next(&host, HOST_UNASKED, &message) == NELI_ITEM);
+        WANT(neli_host_next(host, NELI_HOST_UNASKED, &message) == NELI_ITEM);
         WANT(message.type == RTM_NEWLINK && message.number == 4711 + i);
-        WANT(host_next(&host, HOST_UNASKED, &message) == NELI_ITEM && message.type == NLMSG_ERROR);
+        WANT(neli_host_next(host, NELI_HOST_UNASKED, &message) == NELI_ITEM && message.type == NLMSG_ERROR);
     }
-    WANT(is_over(&host, host_next(&host, HOST_UNASKED, &message), EAGAIN));
-    host_close(&host);
+    WANT(is_over(host, neli_host_next(host, NELI_HOST_UNASKED, &message), EAGAIN));
+    neli_host_close(host);
 }
 
 /* A host over a socket pair, whose other end plays the kernel. */
-static int play_kernel(struct host *host) {
+static int play_kernel(struct neli_host **host) {
     int both[2];
     *host = route_host(false);
-    WANT(close(host->link.fd) == 0 && socketpair(AF_UNIX, SOCK_DGRAM, 0, both) == 0);
-    host->link.fd = both[0];
-    set_short_wait(host);
+    WANT(close((*host)->link.fd) == 0 && socketpair(AF_UNIX, SOCK_DGRAM, 0, both) == 0);
+    (*host)->link.fd = both[0];
+    set_short_wait(*host);
     return both[1];
 }
 
 /* Plays a message to the host, without so many bytes of its padding, and then of its body. */
-static void play(int kernel, const struct host *host, uint16_t type, uint32_t number, const void *body, size_t length,
+static void play(int kernel, const struct neli_host *host, uint16_t type, uint32_t number, const void *body,
+                 size_t length,
                  size_t cut) {
     struct neli_writer writer = {0};
     uint8_t out[128];
@@ -421,63 +423,63 @@ static void play(int kernel, const struct host *host, uint16_t type, uint32_t nu
 }
 
 static void an_error_with_any_code(void) {
-    struct host host;
+    struct neli_host *host;
     struct neli_message message;
     char text[64];
     int kernel = play_kernel(&host);
     int32_t error[5] = {INT32_MIN, 16, 0, 0, 0};
-    size_t handle = send_question(&host, 1);
-    play(kernel, &host, NLMSG_ERROR, 0, error, sizeof error, 0);
-    WANT(host_next(&host, handle, &message) == NELI_KERNEL_ERROR);
-    host_explain(&host, NELI_KERNEL_ERROR, &message, text, sizeof text);
+    size_t handle = send_question(host, 1);
+    play(kernel, host, NLMSG_ERROR, 0, error, sizeof error, 0);
+    WANT(neli_host_next(host, handle, &message) == NELI_KERNEL_ERROR);
+    neli_host_explain(host, NELI_KERNEL_ERROR, &message, text, sizeof text);
     WANT(strcmp(text, "error -2147483648") == 0);
-    host_close(&host);
+    neli_host_close(host);
     close(kernel);
 }
 
 static void a_padding_that_was_left_out(void) {
-    struct host host;
+    struct neli_host *host;
     struct neli_message message;
     int kernel = play_kernel(&host);
-    size_t handle = send_question(&host, 1), other = send_question(&host, 1);
-    play(kernel, &host, RTM_NEWLINK, 0, "17 bytes, or more", 17, 3);
+    size_t handle = send_question(host, 1), other = send_question(host, 1);
+    play(kernel, host, RTM_NEWLINK, 0, "17 bytes, or more", 17, 3);
     /* The length of an item is that with its padding. */
-    WANT(host_next(&host, handle, &message) == NELI_ITEM && message.length == 36);
-    WANT(memcmp(host.item + message.payload, "17 bytes, or more\0\0", 20) == 0);
+    WANT(neli_host_next(host, handle, &message) == NELI_ITEM && message.length == 36);
+    WANT(memcmp(host->item + message.payload, "17 bytes, or more\0\0", 20) == 0);
     /* What ends before its last byte is a fault all the same, and everyone is told. */
-    play(kernel, &host, RTM_NEWLINK, 0, "17 bytes, or more", 17, 4);
-    WANT(host_next(&host, other, &message) < NELI_OK);
-    host_close(&host);
+    play(kernel, host, RTM_NEWLINK, 0, "17 bytes, or more", 17, 4);
+    WANT(neli_host_next(host, other, &message) < NELI_OK);
+    neli_host_close(host);
     close(kernel);
 }
 
 /* A program may have closed what is not its own. */
 static void a_socket_that_is_gone(void) {
     static struct picture picture;
-    struct host host = route_host(true);
+    struct neli_host *host = route_host(true);
     struct ifinfomsg all = {0};
     struct neli_message message;
-    size_t dump, open = send_question(&host, 1);
-    WANT(host_close_request(&host, send_question(&host, 1)) == NELI_OK && close(host.link.fd) == 0);
-    WANT(is_over(&host, host_send(&host, RTM_GETLINK, NLM_F_DUMP, &all, sizeof all, &dump), EBADF));
-    WANT(is_over(&host, host_next(&host, open, &message), EBADF));
-    WANT(is_over(&host, host_next(&host, NELI_MULTICAST, &message), EBADF));
-    WANT(is_over(&host, resync(&host, 3, &picture), EBADF));
-    host.link.fd = -1;
-    host_close(&host);
+    size_t dump, open = send_question(host, 1);
+    WANT(neli_host_close_request(host, send_question(host, 1)) == NELI_OK && close(host->link.fd) == 0);
+    WANT(is_over(host, neli_host_send(host, RTM_GETLINK, NLM_F_DUMP, &all, sizeof all, &dump), EBADF));
+    WANT(is_over(host, neli_host_next(host, open, &message), EBADF));
+    WANT(is_over(host, neli_host_next(host, NELI_MULTICAST, &message), EBADF));
+    WANT(is_over(host, resync(host, 3, &picture), EBADF));
+    host->link.fd = -1;
+    neli_host_close(host);
 }
 
 static void a_request_of_many_bytes(void) {
-    struct host host = route_host(false);
+    struct neli_host *host = route_host(false);
     static struct {
         struct ifinfomsg link;
         uint16_t length, type;
         uint8_t payload[40000];
     } body = {.link.ifi_index = 1, .length = 40004, .type = 4000};
     size_t handle;
-    WANT(host_send(&host, RTM_GETLINK, NLM_F_ACK, &body, sizeof body, &handle) == NELI_OK);
-    want_loopback(&host, handle);
-    host_close(&host);
+    WANT(neli_host_send(host, RTM_GETLINK, NLM_F_ACK, &body, sizeof body, &handle) == NELI_OK);
+    want_loopback(host, handle);
+    neli_host_close(host);
 }
 
 /* ---- Refused memory, by the linker's --wrap ---- */
@@ -502,9 +504,9 @@ void *__wrap_realloc(void *at, size_t size) {
 }
 
 /* The next item, and again where memory ran out. */
-static int32_t next_again(struct host *host, size_t handle, struct neli_message *message) {
-    int32_t code = host_next(host, handle, message);
-    return code == NELI_MEMORY ? host_next(host, handle, message) : code;
+static int32_t next_again(struct neli_host *host, size_t handle, struct neli_message *message) {
+    int32_t code = neli_host_next(host, handle, message);
+    return code == NELI_MEMORY ? neli_host_next(host, handle, message) : code;
 }
 
 /* Whichever allocation is refused, the same call can be made again, and nothing is lost. */
@@ -513,30 +515,30 @@ static void memory_that_is_refused_once(void) {
     struct ifinfomsg link = {.ifi_index = 1};
     bool was_refused = true;
     for (unsigned k = 1; was_refused; k++) {
-        struct host host;
+        struct neli_host *host;
         struct neli_message message;
         size_t question;
         WANT(k < 200);
         open_or_fail(&host, NETLINK_ROUTE, groups, 1);
-        host.link.wait = 200;
-        host.keeps_unasked = true;
-        size_t echo = send_address(&host, NLM_F_ECHO | NLM_F_ACK, (uint8_t)k);
+        host->link.wait = 200;
+        host->keeps_unasked = true;
+        size_t echo = send_address(host, NLM_F_ECHO | NLM_F_ACK, (uint8_t)k);
         left_to_refusal = k;
-        ask_by_hand(&host, 4711);
-        int32_t code = host_send(&host, RTM_GETLINK, NLM_F_ACK, &link, sizeof link, &question);
-        if (code == NELI_MEMORY) code = host_send(&host, RTM_GETLINK, NLM_F_ACK, &link, sizeof link, &question);
+        ask_by_hand(host, 4711);
+        int32_t code = neli_host_send(host, RTM_GETLINK, NLM_F_ACK, &link, sizeof link, &question);
+        if (code == NELI_MEMORY) code = neli_host_send(host, RTM_GETLINK, NLM_F_ACK, &link, sizeof link, &question);
         WANT(code == NELI_OK);
-        WANT(next_again(&host, question, &message) == NELI_ITEM && message.type == RTM_NEWLINK);
-        WANT(next_again(&host, question, &message) == NELI_ITEM && message.type == NLMSG_ERROR);
-        WANT(next_again(&host, question, &message) == NELI_END);
-        WANT(next_again(&host, echo, &message) == NELI_ITEM && message.type == RTM_NEWADDR);
-        WANT(next_again(&host, echo, &message) == NELI_ITEM && message.type == NLMSG_ERROR);
-        WANT(next_again(&host, NELI_MULTICAST, &message) == NELI_ITEM && message.type == RTM_NEWADDR);
-        WANT(next_again(&host, HOST_UNASKED, &message) == NELI_ITEM && message.type == RTM_NEWLINK);
-        WANT(next_again(&host, HOST_UNASKED, &message) == NELI_ITEM && message.type == NLMSG_ERROR);
+        WANT(next_again(host, question, &message) == NELI_ITEM && message.type == RTM_NEWLINK);
+        WANT(next_again(host, question, &message) == NELI_ITEM && message.type == NLMSG_ERROR);
+        WANT(next_again(host, question, &message) == NELI_END);
+        WANT(next_again(host, echo, &message) == NELI_ITEM && message.type == RTM_NEWADDR);
+        WANT(next_again(host, echo, &message) == NELI_ITEM && message.type == NLMSG_ERROR);
+        WANT(next_again(host, NELI_MULTICAST, &message) == NELI_ITEM && message.type == RTM_NEWADDR);
+        WANT(next_again(host, NELI_HOST_UNASKED, &message) == NELI_ITEM && message.type == RTM_NEWLINK);
+        WANT(next_again(host, NELI_HOST_UNASKED, &message) == NELI_ITEM && message.type == NLMSG_ERROR);
         was_refused = left_to_refusal == 0;
         left_to_refusal = 0;
-        host_close(&host);
+        neli_host_close(host);
     }
 }
 

@@ -12,46 +12,47 @@
 static const uint32_t groups[] = {RTNLGRP_LINK, RTNLGRP_IPV4_IFADDR, RTNLGRP_IPV4_ROUTE};
 
 /* An IPv4 address in an attribute of a message with a body of this size; 0.0.0.0 where it is not there. */
-static const char *address_in(const struct host *host, const struct neli_message *message, size_t size,
+static const char *address_in(const struct neli_host *host, const struct neli_message *message, size_t size,
                               uint16_t number) {
     static char text[INET_ADDRSTRLEN];
     struct neli_walk walk;
     struct neli_attribute found = {0};
     struct in_addr address = {0};
-    if (neli_attributes_of(message, size, &walk) == NELI_OK && host_find(host, &walk, number, &found) &&
+    if (neli_attributes_of(message, size, &walk) == NELI_OK && neli_host_find(host, &walk, number, &found) &&
         found.payload_length == sizeof address)
-        memcpy(&address, host->item + found.payload, sizeof address);
+        memcpy(&address, neli_host_item(host) + found.payload, sizeof address);
     inet_ntop(AF_INET, &address, text, sizeof text);
     return text;
 }
 
-static void print_link(const struct host *host, const struct neli_message *message) {
+static void print_link(const struct neli_host *host, const struct neli_message *message) {
     struct ifinfomsg link;
     struct neli_walk walk;
     struct neli_attribute name;
     if (neli_attributes_of(message, sizeof link, &walk) != NELI_OK) return;
-    if (!host_find(host, &walk, IFLA_IFNAME, &name) || host_text(host, &name) == NULL) return;
-    memcpy(&link, host->item + message->payload, sizeof link);
-    printf("%s %d %s\n", message->type == RTM_NEWLINK ? "Newlink" : "Dellink", link.ifi_index, host_text(host, &name));
+    if (!neli_host_find(host, &walk, IFLA_IFNAME, &name) || neli_host_text(host, &name) == NULL) return;
+    memcpy(&link, neli_host_item(host) + message->payload, sizeof link);
+    printf("%s %d %s\n", message->type == RTM_NEWLINK ? "Newlink" : "Dellink", link.ifi_index,
+           neli_host_text(host, &name));
 }
 
-static void print_address(const struct host *host, const struct neli_message *message) {
+static void print_address(const struct neli_host *host, const struct neli_message *message) {
     struct ifaddrmsg address;
     if (message->payload_length < sizeof address) return;
-    memcpy(&address, host->item + message->payload, sizeof address);
+    memcpy(&address, neli_host_item(host) + message->payload, sizeof address);
     printf("%s %u %s/%u\n", message->type == RTM_NEWADDR ? "Newaddr" : "Deladdr", address.ifa_index,
            address_in(host, message, sizeof address, IFA_LOCAL), address.ifa_prefixlen);
 }
 
-static void print_route(const struct host *host, const struct neli_message *message) {
+static void print_route(const struct neli_host *host, const struct neli_message *message) {
     struct rtmsg route;
     if (message->payload_length < sizeof route) return;
-    memcpy(&route, host->item + message->payload, sizeof route);
+    memcpy(&route, neli_host_item(host) + message->payload, sizeof route);
     printf("%s %s/%u\n", message->type == RTM_NEWROUTE ? "Newroute" : "Delroute",
            address_in(host, message, sizeof route, RTA_DST), route.rtm_dst_len);
 }
 
-static void print_change(const struct host *host, const struct neli_message *message) {
+static void print_change(const struct neli_host *host, const struct neli_message *message) {
     switch (message->type) {
     case RTM_NEWLINK:
     case RTM_DELLINK: print_link(host, message); break;
@@ -64,18 +65,18 @@ static void print_change(const struct host *host, const struct neli_message *mes
 }
 
 int main(int argc, char **argv) {
-    struct host host;
+    struct neli_host *host;
     unsigned long count = argc > 1 ? strtoul(argv[1], NULL, 10) : -1ul;
     open_or_fail(&host, NETLINK_ROUTE, groups, sizeof groups / sizeof *groups);
     setvbuf(stdout, NULL, _IOLBF, 0);
     puts("watching");
     for (unsigned long i = 0; i < count; i++) {
         struct neli_message message;
-        int32_t code = host_next(&host, NELI_MULTICAST, &message);
-        if (code == NELI_ITEM) print_change(&host, &message);
-        else if (code == NELI_LINK) printf("lost some: %s\n", strerror(host.fault));
-        else fail(&host, "watch", code, NULL);
+        int32_t code = neli_host_next(host, NELI_MULTICAST, &message);
+        if (code == NELI_ITEM) print_change(host, &message);
+        else if (code == NELI_LINK) printf("lost some: %s\n", strerror(neli_host_fault(host)));
+        else fail(host, "watch", code, NULL);
     }
-    host_close(&host);
+    neli_host_close(host);
     return 0;
 }

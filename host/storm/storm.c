@@ -21,7 +21,7 @@
 #define LONG 300
 
 static const uint32_t groups[] = {RTNLGRP_LINK};
-static struct host host;
+static struct neli_host *host;
 static uint64_t state;
 static struct {
     size_t handle;
@@ -46,22 +46,22 @@ static int64_t milliseconds(void) {
 /* The next item, within a time. */
 static int32_t next(size_t handle, int wait, struct neli_message *message) {
     int64_t start = milliseconds();
-    host.link.wait = wait;
-    int32_t code = host_next(&host, handle, message);
+    host->link.wait = wait;
+    int32_t code = neli_host_next(host, handle, message);
     int64_t took = milliseconds() - start;
     if (took > wait + 3000) printf("slow %lld\n", (long long)took);
     return code;
 }
 
 static bool is_late(int32_t code) {
-    return code == NELI_LINK && host.fault == EAGAIN;
+    return code == NELI_LINK && host->fault == EAGAIN;
 }
 
 /* Sends a request, if there is room for one. */
 static void ask(uint16_t type, uint16_t flags, const void *body, size_t size) {
     if (count == REQUESTS) return;
-    int32_t code = host_send(&host, type, flags, body, size, &open[count].handle);
-    if (code == NELI_LINK) printf("refused %d\n", host.fault);
+    int32_t code = neli_host_send(host, type, flags, body, size, &open[count].handle);
+    if (code == NELI_LINK) printf("refused %d\n", host->fault);
     if (code != NELI_OK) return;
     open[count].number = number++;
     printf("sent %u\n", open[count++].number);
@@ -93,7 +93,7 @@ static void ask_something(void) {
 }
 
 static void close_at(size_t at) {
-    if (host_close_request(&host, open[at].handle) != NELI_OK) printf("wrong close\n");
+    if (neli_host_close_request(host, open[at].handle) != NELI_OK) printf("wrong close\n");
     open[at] = open[--count];
 }
 
@@ -115,8 +115,8 @@ static uint32_t mtu_of(const struct neli_message *message) {
     struct neli_attribute found;
     uint32_t value = 0;
     if (neli_attributes_of(message, sizeof(struct ifinfomsg), &walk) == NELI_OK &&
-        host_find(&host, &walk, IFLA_MTU, &found))
-        (void)neli_get_u32(host.item + found.payload, found.payload_length, 0, &value);
+        neli_host_find(host, &walk, IFLA_MTU, &found))
+        (void)neli_get_u32(host->item + found.payload, found.payload_length, 0, &value);
     return value;
 }
 
@@ -126,14 +126,14 @@ static bool listen_once(int wait) {
     int32_t code = next(NELI_MULTICAST, wait, &message);
     if (code == NELI_ITEM) printf("group %u %u\n", message.number, mtu_of(&message));
     else if (is_late(code)) return false;
-    else if (code == NELI_LINK) printf("lost %d\n", host.fault);
+    else if (code == NELI_LINK) printf("lost %d\n", host->fault);
     else printf("wrong group %d\n", code);
     return true;
 }
 
 int main(int argc, char **argv) {
     state = (argc > 1 ? strtoull(argv[1], NULL, 10) : 0) * 0x9e3779b97f4a7c15u + 7;
-    if (host_open(&host, NETLINK_ROUTE, groups, 1) != NELI_OK) return 1;
+    if (neli_host_open(&host, NETLINK_ROUTE, groups, 1) != NELI_OK) return 1;
     for (int i = 0; i < STEPS; i++) {
         unsigned what = below(10);
         if (what < 4) ask_something();
@@ -150,7 +150,7 @@ int main(int argc, char **argv) {
         close_at(count - 1);
     }
     while (listen_once(0)) continue;
-    printf("open %zu\n", host.ledger.count);
-    host_close(&host);
+    printf("open %zu\n", host->ledger.count);
+    neli_host_close(host);
     return 0;
 }
