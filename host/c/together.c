@@ -1,0 +1,106 @@
+/* Several requests in one datagram. */
+#include "testing.h"
+#include <errno.h>
+#include <linux/rtnetlink.h>
+#include <stdlib.h>
+#include <string.h>
+
+static const struct ifinfomsg loopback = {.ifi_index = 1}, none = {.ifi_index = 4711}, all;
+
+/* A question for a link that is acknowledged. */
+static struct neli_host_request question(const struct ifinfomsg *link) {
+    return (struct neli_host_request){RTM_GETLINK, NLM_F_ACK, link, sizeof *link};
+}
+
+static struct neli_host_request dump_of_links(void) {
+    return (struct neli_host_request){RTM_GETLINK, NLM_F_DUMP, &all, sizeof all};
+}
+
+static void want_no_such_link(struct neli_host *host, size_t handle) {
+    struct neli_message message;
+    struct neli_verdict verdict;
+    WANT(neli_host_next(host, handle, &message) == NELI_KERNEL_ERROR);
+    WANT(neli_host_verdict(host, handle, &verdict) == NELI_KERNEL_ERROR && verdict.error == -ENODEV);
+    WANT(neli_host_close_request(host, handle) == NELI_OK);
+}
+
+static void each_has_its_answer(void) {
+    struct neli_host *host = route_host(false);
+    struct neli_host_request requests[] = {question(&loopback), question(&none), dump_of_links(), question(&loopback)};
+    size_t handles[4];
+    for (int i = 0; i < 3; i++) {
+        WANT(neli_host_send_all(host, requests, 4, handles) == NELI_OK);
+        want_loopback(host, handles[3]);
+        want_no_such_link(host, handles[1]);
+        WANT(count_links(host, handles[2]) == 1);
+        want_loopback(host, handles[0]);
+    }
+    WANT(neli_host_send_all(host, requests, 0, NULL) == NELI_OK);
+    neli_host_close(host);
+}
+
+/* The kernel does the others, and what comes for one that is closed is nobody's. */
+static void some_are_closed_unread(void) {
+    struct neli_host *host = route_host(false);
+    struct neli_host_request requests[] = {question(&loopback), question(&none), question(&loopback)};
+    size_t handles[3];
+    WANT(neli_host_send_all(host, requests, 3, handles) == NELI_OK);
+    WANT(neli_host_close_request(host, handles[0]) == NELI_OK);
+    WANT(neli_host_close_request(host, handles[1]) == NELI_OK);
+    want_loopback(host, handles[2]);
+    want_loopback(host, send_question(host, 1));
+    neli_host_close(host);
+}
+
+static void a_refusal_sends_none(void) {
+    struct neli_host *host = route_host(false);
+    struct neli_message message;
+    struct neli_host_request requests[] = {question(&loopback), question(&none), question(&loopback)};
+    struct neli_host_request dumps[] = {dump_of_links(), question(&loopback), dump_of_links()};
+    size_t handles[3];
+    size_t open = send_question(host, 1); /* which has the number 0 */
+    WANT(neli_host_send_all(host, dumps, 3, handles) == NELI_KIND);
+    /* The third number is in use. */
+    WANT(neli_router_set_number(&host->router, UINT32_MAX - 1) == NELI_OK);
+    WANT(neli_host_send_all(host, requests, 3, handles) == NELI_IN_USE);
+    want_loopback(host, open);
+    set_short_wait(host);
+    WANT(neli_host_send(host, RTM_GETLINK, 0, &loopback, sizeof loopback, &open) == NELI_OK);
+    WANT(neli_host_next(host, open, &message) == NELI_ITEM && message.number == UINT32_MAX - 1);
+    WANT(neli_host_close_request(host, open) == NELI_OK);
+    want_loopback(host, send_question(host, 1));
+    neli_host_close(host);
+}
+
+/* Requests of 40000 bytes, by an attribute of a number that the kernel does not know and passes over. */
+static void they_may_be_long(void) {
+    enum { LENGTH = 40000 };
+    struct neli_host *host = route_host(false);
+    struct neli_writer writer = {0};
+    uint8_t *body = malloc(LENGTH);
+    uint8_t *payload = calloc(1, LENGTH);
+    size_t handles[3];
+    WANT(body != NULL && payload != NULL);
+    WANT(neli_put_bytes(body, LENGTH, &writer, &loopback, sizeof loopback) == NELI_OK);
+    WANT(neli_put_attribute(body, LENGTH, &writer, 0x3fff, payload, LENGTH - writer.end - 4) == NELI_OK);
+    struct neli_host_request requests[] = {{RTM_GETLINK, NLM_F_ACK, body, writer.end}, question(&none),
+                                           {RTM_GETLINK, NLM_F_ACK, body, writer.end}};
+    WANT(neli_host_send_all(host, requests, 3, handles) == NELI_OK);
+    want_loopback(host, handles[2]);
+    want_no_such_link(host, handles[1]);
+    want_loopback(host, handles[0]);
+    free(body);
+    free(payload);
+    neli_host_close(host);
+}
+
+static const struct test tests[] = {
+    {"each_has_its_answer", each_has_its_answer},
+    {"some_are_closed_unread", some_are_closed_unread},
+    {"a_refusal_sends_none", a_refusal_sends_none},
+    {"they_may_be_long", they_may_be_long},
+};
+
+int main(int argc, char **argv) {
+    return run_tests(argc, argv, tests, sizeof tests / sizeof *tests);
+}
