@@ -1,0 +1,458 @@
+"""Netlink for Python over libneli.so: sockets, requests and their replies, and messages and attributes by bytes.
+
+Messages and attributes are read and written, and each reply is given to the request that it answers, by the proved
+library; the sockets are its C layer, and this file hands on by ctypes. It needs Python 3.8 and nothing else.
+
+    import neli
+    with neli.NetlinkSocket(neli.NETLINK_ROUTE) as sock:
+        for link in sock.dump(neli.RTM_GETLINK, bytes(16)):
+            print(link.get_attr(neli.IFLA_IFNAME).text(), link.get_attr(neli.IFLA_MTU).u32())
+
+Names are those of pyroute2 where it has the same: NetlinkSocket, NetlinkError with `code`, `bind`, `get`, `get_attr`,
+`nlm_request`. NELI_LIBRARY in the environment names another library than libneli.so.0.
+"""
+
+import ctypes
+import errno
+import os
+import struct
+
+__all__ = [
+    "NetlinkError", "NetlinkSocket", "Reply", "Verdict", "Message", "Attribute", "nla", "messages", "version", "stamp",
+]  # and the constants below
+
+# linux/netlink.h, linux/rtnetlink.h, linux/if_link.h, linux/if_addr.h
+NETLINK_ROUTE, NETLINK_NETFILTER, NETLINK_GENERIC = 0, 12, 16
+NLM_F_REQUEST, NLM_F_MULTI, NLM_F_ACK, NLM_F_ECHO, NLM_F_DUMP_INTR = 1, 2, 4, 8, 16
+NLM_F_ROOT, NLM_F_MATCH, NLM_F_DUMP = 0x100, 0x200, 0x300
+NLM_F_REPLACE, NLM_F_EXCL, NLM_F_CREATE, NLM_F_APPEND = 0x100, 0x200, 0x400, 0x800
+NLMSG_ERROR, NLMSG_DONE = 2, 3
+RTM_NEWLINK, RTM_DELLINK, RTM_GETLINK, RTM_SETLINK = 16, 17, 18, 19
+RTM_NEWADDR, RTM_DELADDR, RTM_GETADDR = 20, 21, 22
+RTM_NEWROUTE, RTM_DELROUTE, RTM_GETROUTE = 24, 25, 26
+RTM_NEWNEIGH, RTM_DELNEIGH, RTM_GETNEIGH = 28, 29, 30
+RTNLGRP_LINK, RTNLGRP_NEIGH, RTNLGRP_IPV4_IFADDR, RTNLGRP_IPV4_ROUTE = 1, 3, 5, 7
+IFLA_ADDRESS, IFLA_IFNAME, IFLA_MTU, IFLA_LINKINFO, IFLA_INFO_KIND, IFLA_INFO_DATA, VETH_INFO_PEER = 1, 3, 4, 18, 1, 2, 1
+IFA_ADDRESS, IFA_LOCAL = 1, 2
+RTA_DST, RTA_OIF, RTA_GATEWAY = 1, 4, 5
+GENL_ID_CTRL, CTRL_CMD_GETFAMILY, CTRL_ATTR_FAMILY_ID, CTRL_ATTR_FAMILY_NAME = 16, 3, 1, 2
+
+# neli.h
+OK = END = 0
+ITEM, WAITS, KERNEL_ERROR, INTERRUPTED = 1, 2, 3, 4
+SHORT, LENGTH, MEMORY, ROOM, HANDLE, LINK = -1, -2, -3, -4, -6, -11
+MULTICAST = 0
+NESTED = 0x8000
+
+# The size of the header that attributes of a message of routing stand after, by its type.
+_HEADERS = {16: 16, 20: 8, 24: 12, 28: 12, 32: 12, 36: 20, 40: 20, 44: 20}
+
+
+class _Walk(ctypes.Structure):
+    _fields_ = [("place", ctypes.c_size_t), ("end", ctypes.c_size_t)]
+
+
+class _Message(ctypes.Structure):
+    _fields_ = [("length", ctypes.c_uint32), ("type", ctypes.c_uint16), ("flags", ctypes.c_uint16),
+                ("number", ctypes.c_uint32), ("port", ctypes.c_uint32),
+                ("payload", ctypes.c_size_t), ("payload_length", ctypes.c_size_t)]
+
+
+class _Attribute(ctypes.Structure):
+    _fields_ = [("length", ctypes.c_uint16), ("type", ctypes.c_uint16), ("number", ctypes.c_uint16),
+                ("flags", ctypes.c_uint16), ("payload", ctypes.c_size_t), ("payload_length", ctypes.c_size_t)]
+
+
+class _Answer(ctypes.Structure):
+    _fields_ = [("code", ctypes.c_int32), ("echo_length", ctypes.c_uint32), ("echo_type", ctypes.c_uint16),
+                ("echo_flags", ctypes.c_uint16), ("echo_number", ctypes.c_uint32), ("echo_port", ctypes.c_uint32),
+                ("attributes", _Walk)]
+
+
+class _Writer(ctypes.Structure):
+    _fields_ = [("start", ctypes.c_size_t), ("end", ctypes.c_size_t)]
+
+
+class _Verdict(ctypes.Structure):
+    _fields_ = [("error", ctypes.c_int32), ("filtered", ctypes.c_uint8)]
+
+
+def _library():
+    """The library, with what each call takes."""
+    library = ctypes.CDLL(os.environ.get("NELI_LIBRARY") or "libneli.so.0")
+    pointer, size, u16, i32 = ctypes.c_void_p, ctypes.c_size_t, ctypes.c_uint16, ctypes.c_int32
+    calls = {
+        "neli_version": (ctypes.c_char_p, []),
+        "neli_stamp": (ctypes.c_char_p, []),
+        "neli_c_error_text": (i32, [i32, ctypes.c_char_p, size, pointer]),
+        "neli_c_next_message": (i32, [ctypes.c_char_p, size, pointer, pointer]),
+        "neli_c_next_attributes": (i32, [ctypes.c_char_p, size, pointer, pointer, size, pointer]),
+        "neli_c_get_answer": (i32, [ctypes.c_char_p, size, pointer, pointer]),
+        "neli_c_put_attribute": (i32, [pointer, size, pointer, u16, ctypes.c_char_p, size]),
+        "neli_host_open": (i32, [pointer, ctypes.c_int, pointer, size]),
+        "neli_host_close": (None, [pointer]),
+        "neli_host_fd": (ctypes.c_int, [pointer]),
+        "neli_host_port": (ctypes.c_uint32, [pointer]),
+        "neli_host_fault": (ctypes.c_int, [pointer]),
+        "neli_host_set_wait": (None, [pointer, ctypes.c_int]),
+        "neli_host_set_ends_by_signals": (None, [pointer, ctypes.c_bool]),
+        "neli_host_set_strict": (i32, [pointer]),
+        "neli_host_stop": (None, [pointer]),
+        "neli_host_send": (i32, [pointer, u16, u16, ctypes.c_char_p, size, pointer]),
+        "neli_host_next": (i32, [pointer, size, pointer]),
+        "neli_host_verdict": (i32, [pointer, size, pointer]),
+        "neli_host_close_request": (i32, [pointer, size]),
+        "neli_host_item": (pointer, [pointer]),
+        "neli_host_item_length": (size, [pointer]),
+        "neli_host_explain": (None, [pointer, i32, pointer, ctypes.c_char_p, size]),
+    }
+    for name, (result, parameters) in calls.items():
+        call = getattr(library, name)
+        call.restype, call.argtypes = result, parameters
+    return library
+
+
+_lib = _library()
+
+
+def version():
+    """The version of the library."""
+    return _lib.neli_version().decode()
+
+
+def stamp():
+    """What the library was built from, a line each."""
+    return _lib.neli_stamp().decode()
+
+
+def _text_of(code):
+    out, length = ctypes.create_string_buffer(80), ctypes.c_size_t()
+    _lib.neli_c_error_text(code, out, len(out), ctypes.byref(length))
+    return out.value.decode()
+
+
+class NetlinkError(OSError):
+    """Why a request was refused, or an answer is not whole.
+
+    `code` is a number of errno.h, as of the kernel's error or of the socket; 0 where there is none. `status` is the
+    code of neli.h, and `str` says it in words, with the kernel's own text and offset where it gave them.
+    """
+
+    def __init__(self, code, text, status=KERNEL_ERROR):
+        super().__init__(code, text)
+        self.code, self.status = code, status
+
+    def __str__(self):
+        return self.strerror
+
+
+class Attribute:
+    """An attribute: its `number`, whether it `is_nested`, and its `payload`."""
+
+    def __init__(self, number, flags, payload):
+        self.number, self.is_nested, self.payload = number, bool(flags & NESTED), payload
+
+    def __repr__(self):
+        return f"Attribute({self.number}, {self.payload!r})"
+
+    def __bytes__(self):
+        return self.payload
+
+    def _number(self, form):
+        size = struct.calcsize(form)
+        if len(self.payload) < size:
+            raise ValueError(f"attribute {self.number} has {len(self.payload)} bytes, and not {size}")
+        return struct.unpack_from(form, self.payload)[0]
+
+    def u8(self):
+        return self._number("<B")
+
+    def u16(self):
+        return self._number("<H")
+
+    def u32(self):
+        return self._number("<I")
+
+    def u64(self):
+        return self._number("<Q")
+
+    def text(self):
+        """The text before the first zero byte; bytes that are no UTF-8 are kept, as os.fsdecode keeps them."""
+        text, zero, _ = self.payload.partition(b"\0")
+        if not zero:
+            raise ValueError(f"attribute {self.number} is no text: no zero byte ends it")
+        return os.fsdecode(text)
+
+    def attrs(self):
+        """The attributes that its payload lists."""
+        return _attributes(self.payload, 0, len(self.payload))
+
+    def get_attr(self, number):
+        """The first of them with this number, or None."""
+        return _first(self.attrs(), number)
+
+
+def _first(attributes, number):
+    return next((it for it in attributes if it.number == number), None)
+
+
+def _attributes(data, start, end):
+    walk, room, count = _Walk(start, end), (_Attribute * 32)(), ctypes.c_size_t()
+    found = []
+    while True:
+        code = _lib.neli_c_next_attributes(data, len(data), ctypes.byref(walk), room, len(room), ctypes.byref(count))
+        if code == END:
+            return found
+        if code != ITEM:
+            raise ValueError(_text_of(code))
+        for it in room[: count.value]:
+            found.append(Attribute(it.number, it.flags, data[it.payload : it.payload + it.payload_length]))
+
+
+class Message:
+    """A message: `type`, `flags`, `sequence_number`, `port` and `payload`, with the names of pyroute2 in `header`."""
+
+    def __init__(self, data, read, family=None):
+        self.type, self.flags, self.sequence_number, self.port = read.type, read.flags, read.number, read.port
+        self.payload = data[read.payload : read.payload + read.payload_length]
+        self.family = family
+        self._data, self._read = data, read
+
+    def __repr__(self):
+        return f"Message(type={self.type}, flags={self.flags:#x}, payload={len(self.payload)} bytes)"
+
+    @property
+    def header(self):
+        return {"length": self._read.length, "type": self.type, "flags": self.flags,
+                "sequence_number": self.sequence_number, "pid": self.port}
+
+    @property
+    def is_interrupted(self):
+        """Whether the kernel marked it: what is listed changed meanwhile."""
+        return bool(self.flags & NLM_F_DUMP_INTR)
+
+    def attrs(self, header_size=None):
+        """The attributes after the body's header, which has 4 bytes in generic netlink and else its type's size."""
+        if header_size is None:
+            header_size = 4 if self.family not in (None, NETLINK_ROUTE) else _HEADERS.get(self.type & ~3)
+        if header_size is None:
+            raise ValueError(f"the header of type {self.type} is not known: pass its size")
+        start = (header_size + 3) & ~3
+        if start > len(self.payload):
+            raise ValueError(_text_of(SHORT))
+        return _attributes(self.payload, start, len(self.payload))
+
+    def get_attr(self, number, header_size=None):
+        """The first attribute with this number, or None."""
+        return _first(self.attrs(header_size), number)
+
+
+def messages(data, family=None):
+    """The messages of a datagram; ValueError where it cannot be read to its end."""
+    data, walk, found = bytes(data), _Walk(0, len(data)), []
+    while True:
+        read = _Message()
+        code = _lib.neli_c_next_message(data, len(data), ctypes.byref(walk), ctypes.byref(read))
+        if code == END:
+            return found
+        if code != ITEM:
+            raise ValueError(_text_of(code))
+        found.append(Message(data, read, family))
+
+
+def nla(number, value, nested=False):
+    """The bytes of an attribute with its padding: of bytes, of a text with its zero byte, or of a list of attributes."""
+    if isinstance(value, (list, tuple)):
+        value, nested = b"".join(value), True
+    if isinstance(value, str):
+        value = os.fsencode(value) + b"\0"
+    value, writer = bytes(value), _Writer(0, 0)
+    out = ctypes.create_string_buffer(len(value) + 8)
+    code = _lib.neli_c_put_attribute(out, len(out), ctypes.byref(writer), number | (NESTED if nested else 0), value, len(value))
+    if code != OK:
+        raise ValueError(_text_of(code))
+    return out.raw[: writer.end]
+
+
+class Verdict:
+    """How an answer stands: `is_complete` says that what was given is all of it; else `code` of neli.h says why not."""
+
+    def __init__(self, code, said):
+        self.code, self.error, self.is_filtered = code, said.error, bool(said.filtered)
+
+    is_complete = property(lambda self: self.code == OK)
+    is_pending = property(lambda self: self.code == WAITS)
+    is_interrupted = property(lambda self: self.code == INTERRUPTED)
+
+    def __repr__(self):
+        return f"Verdict({_text_of(self.code) if not self.is_complete else 'complete'!r}, error={self.error})"
+
+
+class Reply:
+    """The answer to a request: an iterator over its messages, without the acknowledgement and the end.
+
+    It raises a NetlinkError where the kernel refuses, and at the end where the answer is not all that there was. It
+    may be closed at any time.
+    """
+
+    def __init__(self, sock, handle):
+        self._sock, self._handle, self._last = sock, handle, None
+
+    def __iter__(self):
+        return self
+
+    def __next__(self):
+        while self._handle is not None:
+            code, message = self._sock._next(self._handle)
+            if code == ITEM and message.type not in (NLMSG_ERROR, NLMSG_DONE):
+                return message
+            if code == END:
+                verdict = self.verdict()
+                self.close()
+                if not verdict.is_complete:
+                    raise self._sock._error(verdict.code, abs(verdict.error))
+            elif code != ITEM:
+                error = self._sock._error(code)
+                if not (code == LINK and error.code in (errno.EAGAIN, errno.ECANCELED)):
+                    self.close()
+                raise error
+        raise StopIteration
+
+    def verdict(self):
+        """Whether what was given is all of the answer; of a closed one the last that was known."""
+        if self._handle is not None:
+            said = _Verdict()
+            code = _lib.neli_host_verdict(self._sock._at, self._handle, ctypes.byref(said))
+            self._last = Verdict(code, said)
+        return self._last
+
+    def close(self):
+        """Gives it up: what still comes for it is nobody's."""
+        if self._handle is not None and self._sock._at:
+            self.verdict()
+            _lib.neli_host_close_request(self._sock._at, self._handle)
+        self._handle = None
+
+
+class NetlinkSocket:
+    """A socket of a netlink family, in these multicast groups, which gives each reply to its request."""
+
+    def __init__(self, family=NETLINK_ROUTE, groups=()):
+        self.family, self._at, self._said = family, None, None
+        self._open(groups)
+
+    def _open(self, groups):
+        groups = list(groups)
+        at, numbers = ctypes.c_void_p(), (ctypes.c_uint32 * max(1, len(groups)))(*groups)
+        code = _lib.neli_host_open(ctypes.byref(at), self.family, numbers, len(groups))
+        self._at = at.value
+        if code != OK:
+            error = self._error(code)
+            self.close()
+            raise error
+        _lib.neli_host_set_ends_by_signals(self._at, True)
+
+    def bind(self, groups=()):
+        """Opens it anew, in these groups; what was open is closed."""
+        self.close()
+        self._open(groups)
+
+    def close(self):
+        at, self._at = self._at, None
+        if at:
+            _lib.neli_host_close(at)
+
+    def __enter__(self):
+        return self
+
+    def __exit__(self, *_):
+        self.close()
+
+    def __del__(self):
+        if getattr(self, "_at", None):
+            self.close()
+
+    def fileno(self):
+        return _lib.neli_host_fd(self._opened())
+
+    @property
+    def port(self):
+        return _lib.neli_host_port(self._opened())
+
+    def settimeout(self, seconds):
+        """How long a call waits in all; None is without end, as at first. Past it is a NetlinkError of EAGAIN."""
+        _lib.neli_host_set_wait(self._opened(), -1 if seconds is None else int(seconds * 1000))
+
+    def set_strict(self):
+        """Has the kernel look at all fields of a dump's request: only so does it list what belongs to one link."""
+        self._well(_lib.neli_host_set_strict(self._opened()))
+
+    def stop(self):
+        """Ends all waits with ECANCELED; any thread may call it."""
+        _lib.neli_host_stop(self._opened())
+
+    def _opened(self):
+        if not self._at:
+            raise ValueError("the socket is closed")
+        return self._at
+
+    def _error(self, code, number=0):
+        """The error of a call, by its code."""
+        text, answer, said = ctypes.create_string_buffer(512), _Answer(), self._said
+        pointer = ctypes.byref(said._read) if said else None
+        if code == KERNEL_ERROR and said:
+            if _lib.neli_c_get_answer(said._data, len(said._data), pointer, ctypes.byref(answer)) == OK:
+                number = -answer.code
+        elif code == LINK and self._at:
+            number = _lib.neli_host_fault(self._at)
+        if self._at and (code != KERNEL_ERROR or said):
+            _lib.neli_host_explain(self._at, code, pointer, text, len(text))
+        words = os.fsdecode(text.value) or (os.strerror(number) if number else _text_of(code))
+        return NetlinkError(number, words, code)
+
+    def _well(self, code):
+        if code != OK:
+            raise self._error(code)
+
+    def _next(self, handle):
+        """The next item of a handle. A signal's handler runs, and the wait goes on where it raises nothing."""
+        while True:
+            read = _Message()
+            code = _lib.neli_host_next(self._opened(), handle, ctypes.byref(read))
+            if code != LINK or _lib.neli_host_fault(self._at) != errno.EINTR:
+                break
+        self._said = None
+        if code in (ITEM, KERNEL_ERROR):
+            data = ctypes.string_at(_lib.neli_host_item(self._at), _lib.neli_host_item_length(self._at))
+            self._said = Message(data, read, self.family)
+        return code, self._said
+
+    def request(self, msg_type, msg_flags=NLM_F_ACK, body=b""):
+        """Sends a request, and gives its Reply. `body` is the header of its type, and attributes of `nla`."""
+        handle, body = ctypes.c_size_t(), bytes(body)
+        self._well(_lib.neli_host_send(self._opened(), msg_type, msg_flags, body, len(body), ctypes.byref(handle)))
+        return Reply(self, handle.value)
+
+    def nlm_request(self, body, msg_type, msg_flags=NLM_F_REQUEST | NLM_F_ACK):
+        """As `request`, with what pyroute2 takes first, and the list of its messages."""
+        return list(self.request(msg_type, msg_flags, body))
+
+    def dump(self, msg_type, body=b"", msg_flags=0, times=5):
+        """The messages of a whole list, which is asked for again where it changed meanwhile, at most so many times.
+
+        A NetlinkError says why it is not whole: `status` is INTERRUPTED where it still changed.
+        """
+        for left in reversed(range(max(1, times))):
+            try:
+                return list(self.request(msg_type, msg_flags | NLM_F_DUMP, body))
+            except NetlinkError as error:
+                is_passing = error.status == INTERRUPTED or error.code in (errno.EBUSY, errno.ENOBUFS)
+                if not left or not is_passing:
+                    raise
+
+    def get(self):
+        """The next message that came to a group. Where some were lost it is a NetlinkError of ENOBUFS; more comes."""
+        code, message = self._next(MULTICAST)
+        if code == ITEM:
+            return message
+        raise self._error(code)
