@@ -11,7 +11,8 @@
  * The calls of this page test pointers, and hand on to the exports of the library, which are declared below as
  * `neli_c_..` and are proved; those want pointers that are not null.
  *
- * Link with libneli_c.a, and with liblibc_c.a of the kit for the router's memory. */
+ * Link with -lneli, which has sockets too (neli_host.h); or, in the repository, with libneli_c.a and, for the router's
+ * memory, liblibc_c.a of the kit. */
 #ifndef NELI_H
 #define NELI_H
 
@@ -22,6 +23,20 @@
 #ifdef __cplusplus
 extern "C" {
 #endif
+
+/* ---- Version ---- */
+
+/* The version of this page, by semver.org: docs/RELEASING.md says what each number promises. */
+#define NELI_VERSION_MAJOR 0
+#define NELI_VERSION_MINOR 1
+#define NELI_VERSION_PATCH 0
+#define NELI_VERSION "0.1.0"
+
+/* The version of the library that a program is linked with, as NELI_VERSION. Of libneli alone, as the next call. */
+const char *neli_version(void);
+
+/* What was built: lines that name the commit, the prover, its verdict and the checksum of all that was proved. */
+const char *neli_stamp(void);
 
 /* ---- Codes ---- */
 

@@ -1,8 +1,10 @@
-//! Links the proved library and the heap of the kit, and writes the tables of numbers as Rust.
+//! Links the proved library, and writes the tables of numbers as Rust.
 //!
-//! `NELI_C` is the folder of `libneli_c.a`, `RATTLE_C` that of `liblibc_c.a`. Without them the library is looked for
-//! where `host/library` leaves it, and the heap beside the page that `rt doc` names. The numbers are those that the
-//! suite `constants` prints, and `./check` compares.
+//! In a clone of the repository, or where `NELI_C` is set, these are two archives: `NELI_C` is the folder of
+//! `libneli_c.a`, `RATTLE_C` that of `liblibc_c.a`, the heap of the kit. Without them the library is looked for where
+//! `host/library` leaves it, and the heap beside the page that `rt doc` names. Elsewhere it is the installed library,
+//! in the folder that `NELI_LIB` or else pkg-config names; the feature `static` links its archive. The numbers are
+//! those that the suite `constants` prints, and `./check` compares.
 
 use std::collections::BTreeMap;
 use std::path::{Path, PathBuf};
@@ -64,8 +66,13 @@ type Rows = Vec<(String, u64)>;
 fn main() {
     let here = PathBuf::from(env::var("CARGO_MANIFEST_DIR").expect("cargo says where the crate is"));
     let top = here.join("../..");
-    link("NELI_C", "neli_c", || top.join("crates/neli_c/out"));
-    link("RATTLE_C", "libc_c", kit);
+    println!("cargo::rerun-if-env-changed=NELI_C");
+    if env::var_os("NELI_C").is_some() || top.join("crates.txt").is_file() {
+        link("NELI_C", "neli_c", || top.join("crates/neli_c/out"));
+        link("RATTLE_C", "libc_c", kit);
+    } else {
+        link_installed();
+    }
     let table = shared(&here, "constants", "suites/constants/stdout");
     shared(&here, "neli.h", "include/neli.h");
     shared(&here, "CALLING.md", "docs/CALLING.md");
@@ -97,6 +104,29 @@ fn link(variable: &str, library: &str, place: impl FnOnce() -> PathBuf) {
     }
     println!("cargo::rustc-link-search=native={}", folder.display());
     println!("cargo::rustc-link-lib=static={library}");
+}
+
+/// Has the library of `./dist` linked, as it is installed.
+fn link_installed() {
+    println!("cargo::rerun-if-env-changed=NELI_LIB");
+    println!("cargo::rerun-if-env-changed=PKG_CONFIG_PATH");
+    let folder = env::var_os("NELI_LIB").map_or_else(folder_by_pkg_config, PathBuf::from);
+    println!("cargo::rustc-link-search=native={}", folder.display());
+    let kind = if env::var_os("CARGO_FEATURE_STATIC").is_some() { "static" } else { "dylib" };
+    println!("cargo::rustc-link-lib={kind}=neli");
+}
+
+/// Where pkg-config says that libneli is; else nowhere, and the linker looks where it always does.
+fn folder_by_pkg_config() -> PathBuf {
+    let program = env::var_os("PKG_CONFIG").unwrap_or_else(|| "pkg-config".into());
+    let said = Command::new(program).args(["--variable=libdir", "neli"]).output();
+    match said {
+        Ok(it) if it.status.success() => PathBuf::from(String::from_utf8_lossy(&it.stdout).trim()),
+        _ => {
+            println!("cargo::warning=pkg-config knows no libneli: install libneli-dev, or set NELI_LIB");
+            PathBuf::from("/usr/lib")
+        }
+    }
 }
 
 /// The kit's folder of C libraries, as its `rt` says.
