@@ -94,11 +94,30 @@ static void they_may_be_long(void) {
     neli_host_close(host);
 }
 
+/* The kernel refuses a datagram that its buffer for what is sent cannot hold, and nothing is open then. */
+static void they_may_be_too_long(void) {
+    enum { LENGTH = 1 << 20 };
+    struct neli_host *host = route_host(false);
+    uint8_t *body = calloc(1, LENGTH);
+    size_t handles[2], one;
+    WANT(body != NULL);
+    struct neli_host_request requests[] = {question(&loopback), {RTM_GETLINK, NLM_F_ACK, body, LENGTH}};
+    for (int i = 0; i < 3; i++) {
+        WANT(is_over(host, neli_host_send_all(host, requests, 2, handles), EMSGSIZE));
+        WANT(is_over(host, neli_host_send(host, RTM_GETLINK, NLM_F_ACK, body, LENGTH, &one), EMSGSIZE));
+        WANT(host->ledger.count == 0);
+    }
+    want_loopback(host, send_question(host, 1));
+    free(body);
+    neli_host_close(host);
+}
+
 static const struct test tests[] = {
     {"each_has_its_answer", each_has_its_answer},
     {"some_are_closed_unread", some_are_closed_unread},
     {"a_refusal_sends_none", a_refusal_sends_none},
     {"they_may_be_long", they_may_be_long},
+    {"they_may_be_too_long", they_may_be_too_long},
 };
 
 int main(int argc, char **argv) {
