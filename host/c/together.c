@@ -112,12 +112,56 @@ static void they_may_be_too_long(void) {
     neli_host_close(host);
 }
 
+/* ---- Refused memory, by the linker's --wrap ---- */
+
+static unsigned left_to_refusal;
+
+void *__real_malloc(size_t size);
+void *__real_realloc(void *at, size_t size);
+void *__wrap_malloc(size_t size);
+void *__wrap_realloc(void *at, size_t size);
+
+static bool is_refused(void) {
+    return left_to_refusal > 0 && --left_to_refusal == 0;
+}
+
+void *__wrap_malloc(size_t size) {
+    return is_refused() ? NULL : __real_malloc(size);
+}
+
+void *__wrap_realloc(void *at, size_t size) {
+    return is_refused() ? NULL : __real_realloc(at, size);
+}
+
+/* Whichever allocation is refused, none is sent, and the same call can be made again. */
+static void memory_that_is_refused(void) {
+    struct neli_host_request requests[] = {question(&loopback), question(&none), question(&loopback)};
+    size_t handles[3];
+    bool was_refused = true;
+    for (unsigned k = 1; was_refused; k++) {
+        struct neli_host *host = route_host(false);
+        WANT(k < 200);
+        left_to_refusal = k;
+        int32_t code = neli_host_send_all(host, requests, 3, handles);
+        was_refused = left_to_refusal == 0;
+        left_to_refusal = 0;
+        WANT(code == (was_refused ? NELI_MEMORY : NELI_OK));
+        WANT(host->ledger.count == (was_refused ? 0 : 3));
+        if (was_refused) WANT(neli_host_send_all(host, requests, 3, handles) == NELI_OK);
+        want_loopback(host, handles[2]);
+        want_no_such_link(host, handles[1]);
+        want_loopback(host, handles[0]);
+        neli_host_close(host);
+    }
+}
+
 static const struct test tests[] = {
     {"each_has_its_answer", each_has_its_answer},
     {"some_are_closed_unread", some_are_closed_unread},
     {"a_refusal_sends_none", a_refusal_sends_none},
     {"they_may_be_long", they_may_be_long},
     {"they_may_be_too_long", they_may_be_too_long},
+    {"memory_that_is_refused", memory_that_is_refused},
 };
 
 int main(int argc, char **argv) {
