@@ -98,7 +98,7 @@ fn a_dump_is_repeated() {
         let (marked, begun) = list(&router, 2, 3);
         assert_eq!((marked.verdict, begun), (Verdict::Interrupted, 2));
         assert!(marked.error.is_none() && marked.messages.len() > 2 * MANY - 10);
-        let (marked, begun) = list(&router, 0, 1);
+        let (marked, begun) = list(&router, 0, 4);
         assert_eq!((marked.verdict, begun), (Verdict::Interrupted, 1));
     });
 }
