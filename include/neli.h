@@ -32,7 +32,8 @@ extern "C" {
 #define NELI_VERSION_PATCH 0
 #define NELI_VERSION "0.1.0"
 
-/* The version of the library that a program is linked with, as NELI_VERSION. Of libneli alone, as the next call. */
+/* The version of the library that a program is linked with, as NELI_VERSION. This call and the next are in libneli, and
+ * not in libneli_c.a. */
 const char *neli_version(void);
 
 /* What was built: lines that name the commit, the prover, its verdict and the checksum of all that was proved. */
