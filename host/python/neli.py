@@ -32,7 +32,8 @@ RTM_NEWADDR, RTM_DELADDR, RTM_GETADDR = 20, 21, 22
 RTM_NEWROUTE, RTM_DELROUTE, RTM_GETROUTE = 24, 25, 26
 RTM_NEWNEIGH, RTM_DELNEIGH, RTM_GETNEIGH = 28, 29, 30
 RTNLGRP_LINK, RTNLGRP_NEIGH, RTNLGRP_IPV4_IFADDR, RTNLGRP_IPV4_ROUTE = 1, 3, 5, 7
-IFLA_ADDRESS, IFLA_IFNAME, IFLA_MTU, IFLA_LINKINFO, IFLA_INFO_KIND, IFLA_INFO_DATA, VETH_INFO_PEER = 1, 3, 4, 18, 1, 2, 1
+IFLA_ADDRESS, IFLA_IFNAME, IFLA_MTU, IFLA_LINKINFO = 1, 3, 4, 18
+IFLA_INFO_KIND, IFLA_INFO_DATA, VETH_INFO_PEER = 1, 2, 1
 IFA_ADDRESS, IFA_LOCAL = 1, 2
 RTA_DST, RTA_OIF, RTA_GATEWAY = 1, 4, 5
 GENL_ID_CTRL, CTRL_CMD_GETFAMILY, CTRL_ATTR_FAMILY_ID, CTRL_ATTR_FAMILY_NAME = 16, 3, 1, 2
@@ -40,7 +41,7 @@ GENL_ID_CTRL, CTRL_CMD_GETFAMILY, CTRL_ATTR_FAMILY_ID, CTRL_ATTR_FAMILY_NAME = 1
 # neli.h
 OK = END = 0
 ITEM, WAITS, KERNEL_ERROR, INTERRUPTED = 1, 2, 3, 4
-SHORT, LENGTH, MEMORY, ROOM, HANDLE, LINK = -1, -2, -3, -4, -6, -11
+SHORT, LENGTH, MEMORY, ROOM, HANDLE, LINK, KIND = -1, -2, -3, -4, -6, -11, -15
 MULTICAST = 0
 NESTED = 0x8000
 
@@ -73,6 +74,11 @@ class _Writer(ctypes.Structure):
     _fields_ = [("start", ctypes.c_size_t), ("end", ctypes.c_size_t)]
 
 
+class _Request(ctypes.Structure):
+    _fields_ = [("type", ctypes.c_uint16), ("flags", ctypes.c_uint16), ("body", ctypes.c_char_p),
+                ("length", ctypes.c_size_t)]
+
+
 class _Verdict(ctypes.Structure):
     _fields_ = [("error", ctypes.c_int32), ("filtered", ctypes.c_uint8)]
 
@@ -99,6 +105,7 @@ def _library():
         "neli_host_set_strict": (i32, [pointer]),
         "neli_host_stop": (None, [pointer]),
         "neli_host_send": (i32, [pointer, u16, u16, ctypes.c_char_p, size, pointer]),
+        "neli_host_send_all": (i32, [pointer, pointer, size, pointer]),
         "neli_host_next": (i32, [pointer, size, pointer]),
         "neli_host_verdict": (i32, [pointer, size, pointer]),
         "neli_host_close_request": (i32, [pointer, size]),
@@ -261,14 +268,14 @@ def messages(data, family=None):
 
 
 def nla(number, value, nested=False):
-    """The bytes of an attribute with its padding: of bytes, of a text with its zero byte, or of a list of attributes."""
+    """An attribute with its padding, as bytes: of bytes, of a text with its zero byte, or of a list of attributes."""
     if isinstance(value, (list, tuple)):
         value, nested = b"".join(value), True
     if isinstance(value, str):
         value = os.fsencode(value) + b"\0"
-    value, writer = bytes(value), _Writer(0, 0)
+    value, writer, kind = bytes(value), _Writer(0, 0), number | (NESTED if nested else 0)
     out = ctypes.create_string_buffer(len(value) + 8)
-    code = _lib.neli_c_put_attribute(out, len(out), ctypes.byref(writer), number | (NESTED if nested else 0), value, len(value))
+    code = _lib.neli_c_put_attribute(out, len(out), ctypes.byref(writer), kind, value, len(value))
     if code != OK:
         raise ValueError(_text_of(code))
     return out.raw[: writer.end]
@@ -432,6 +439,17 @@ class NetlinkSocket:
         handle, body = ctypes.c_size_t(), bytes(body)
         self._well(_lib.neli_host_send(self._opened(), msg_type, msg_flags, body, len(body), ctypes.byref(handle)))
         return Reply(self, handle.value)
+
+    def request_all(self, requests):
+        """Sends requests, each a type, flags and a body, as one datagram, and gives the Reply to each.
+
+        The kernel does them in their order, also past one that it refuses. A refusal to send sends none of them.
+        """
+        requests = [_Request(kind, flags, bytes(body), len(body)) for kind, flags, body in requests]
+        handles = (ctypes.c_size_t * max(1, len(requests)))()
+        array = (_Request * max(1, len(requests)))(*requests)
+        self._well(_lib.neli_host_send_all(self._opened(), array, len(requests), handles))
+        return [Reply(self, it) for it in handles[: len(requests)]]
 
     def nlm_request(self, body, msg_type, msg_flags=NLM_F_REQUEST | NLM_F_ACK):
         """As `request`, with what pyroute2 takes first, and the list of its messages."""

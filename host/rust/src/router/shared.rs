@@ -49,6 +49,28 @@ impl Shared {
         }
     }
 
+    /// Sends requests as one datagram: the number and the handle of each. Where one is refused, none is sent.
+    pub(super) fn send_all(&self, requests: &[(u16, NlmF, Vec<u8>)]) -> Result<Vec<(u32, usize)>, RouterError> {
+        let mut state = self.state();
+        state.settle(&self.socket, true)?;
+        let (mut datagram, mut written) = (Vec::new(), Vec::new());
+        let outcome = requests.iter().try_for_each(|(kind, flags, body)| {
+            let (bytes, number, handle) = state.request(*kind, *flags, body)?;
+            datagram.extend(bytes);
+            written.push((number, handle));
+            Ok(())
+        });
+        let is_empty = datagram.is_empty();
+        match outcome.and_then(|()| if is_empty { Ok(()) } else { Ok(self.socket.send_bytes(&datagram)?) }) {
+            Ok(()) => Ok(written),
+            Err(error) => {
+                written.iter().rev().for_each(|(number, _)| state.take_back(*number));
+                written.first().into_iter().for_each(|(number, _)| state.set_number(*number));
+                Err(error)
+            }
+        }
+    }
+
     /// The bytes of the next item of a handle, or none after the last. It waits until something comes.
     pub(super) fn next(&self, handle: usize, bell: &Arc<Condvar>) -> Result<Option<Vec<u8>>, RouterError> {
         let wait = self.socket.begin_wait();

@@ -115,6 +115,31 @@ impl NlRouter {
         Ok(NlRouterReceiverHandle::new(&self.shared, handle, Of::Request(number)))
     }
 
+    /// Sends requests as one datagram, in their order, and gives the handle of each: the kernel does the first, answers
+    /// it, and goes on with the next.
+    ///
+    /// A refusal sends none of them. One of them at most may be a dump, since the kernel runs one at a time; two are
+    /// refused as `Msg`.
+    pub fn send_all<ST, SP, RT, RP>(
+        &self,
+        requests: impl IntoIterator<Item = (ST, NlmF, NlPayload<ST, SP>)>,
+    ) -> Result<Vec<NlRouterReceiverHandle<RT, RP>>, RouterError>
+    where
+        ST: NlType,
+        SP: ToBytes,
+    {
+        let mut written = Vec::new();
+        for (nl_type, nl_flags, nl_payload) in requests {
+            written.push((nl_type.into(), nl_flags, nl_payload.body()?));
+        }
+        if written.iter().filter(|(_, flags, _)| flags.contains(NlmF::DUMP)).count() > 1 {
+            return Err(RouterError::new("two dumps in one datagram"));
+        }
+        let sent = self.shared.send_all(&written)?;
+        let of_each = |(number, handle)| NlRouterReceiverHandle::new(&self.shared, handle, Of::Request(number));
+        Ok(sent.into_iter().map(of_each).collect())
+    }
+
     /// A list, to its end. It is asked for again, as a new request, while the kernel marks it as interrupted, is busy
     /// with another dump, or something of it is lost: at most `times` times, and once at least. What the last one gave
     /// is given, with the verdict on it, whichever that is. These flags are added to `DUMP`.

@@ -2,6 +2,7 @@
 
 mod links;
 mod space;
+mod together;
 mod trouble;
 mod verdict;
 
