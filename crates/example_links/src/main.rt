@@ -10,7 +10,6 @@
 #![tactic(auto)]
 
 ghost use Rattle.std.specs.Prelude.{◌≡◌, ◌↔◌, IsOk, length, take};
-ghost use Rattle.neli.specs.router.declared.verdict.Verdict.TheVariants as stands;
 
 use neli::Cursor;
 use neli::attr::Attribute;
@@ -108,7 +107,7 @@ fn read_answers(
 
 /// Refused where an answer is not all that was asked for.
 fn want_all(verdict: Verdict) -> Result<(), Trouble>
-    ensures complete { IsOk result ↔ (verdict ≡ stands.Complete) }
+    ensures complete { IsOk result ↔ (verdict ≡ Verdict.Complete) }
 {
     match verdict {
         Verdict::Complete => Ok(()),

@@ -23,7 +23,6 @@ pub use Rattle.neli_queues.specs as queues
 pub use Rattle.neli_places.specs as places
 pub use Rattle.neli_spans.specs as spans
 pub use Rattle.neli_log.specs as log
-pub use Rattle.neli_router.specs as router
 pub use Rattle.neli_runs.specs as runs
 pub use Rattle.neli_resolvers.specs as resolvers
 pub mod laws
