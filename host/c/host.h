@@ -72,8 +72,10 @@ int32_t host_receive(struct host *host, size_t *length, uint32_t *group);
 int32_t host_send(struct host *host, uint16_t type, uint16_t flags, const void *body, size_t length, size_t *handle);
 
 /* The next item of a handle, which may wait for datagrams. At NELI_ITEM and NELI_KERNEL_ERROR `message` is the header
- * of what is in `item`. NELI_LINK of NELI_MULTICAST and of HOST_UNASKED says that something was lost at this place;
- * more comes. At NELI_MEMORY nothing is lost, if the next item that is read is this handle's. */
+ * of what is in `item`. NELI_LINK of NELI_MULTICAST and of HOST_UNASKED says that something was lost at this place,
+ * where `fault` is ENOBUFS because the socket's buffer ran over; NELI_SHORT, NELI_LENGTH and NELI_BYTES of
+ * NELI_MULTICAST that a message cannot be read; more comes. At NELI_MEMORY nothing is lost, if the next item that is
+ * read is this handle's. */
 int32_t host_next(struct host *host, size_t handle, struct neli_message *message);
 
 /* Closes the handle of a request, at any time: what still comes for it is nobody's, and is not kept. Or that of
