@@ -48,6 +48,7 @@ enum neli_code {
     NELI_WAITS = 2,           /* no item is here yet: receive a datagram, hand it in, and read again */
     NELI_KERNEL_ERROR = 3,    /* the kernel answered with an error: its code is in the item */
     NELI_INTERRUPTED = 4,     /* of a verdict: what was listed changed meanwhile; ask again */
+    NELI_OVERRUN = 5,         /* of listening: the socket's buffer ran over (ENOBUFS), so messages may be lost */
     NELI_SHORT = -1,          /* the bytes end before the header, the padding or the number does */
     NELI_LENGTH = -2,         /* a length does not fit: below its header, past the bytes, or past its field */
     NELI_MEMORY = -3,         /* memory ran out; everything is as before */
@@ -186,6 +187,7 @@ int32_t neli_c_router_datagram(struct neli_router *router, const uint8_t *bytes,
                                const uint32_t *groups, size_t group_count);
 int32_t neli_c_router_fault(struct neli_router *router, int32_t error_number);
 int32_t neli_c_router_read(struct neli_router *router, size_t handle, struct neli_item *item);
+int32_t neli_c_router_listen(struct neli_router *router, struct neli_item *item);
 int32_t neli_c_router_item(struct neli_router *router, uint8_t *out, size_t room, size_t *length);
 int32_t neli_c_router_verdict(struct neli_router *router, size_t handle, struct neli_verdict *verdict);
 int32_t neli_c_router_give_up(struct neli_router *router, size_t handle);
@@ -428,8 +430,8 @@ static inline int32_t neli_router_datagram(struct neli_router *router, const uin
     return neli_c_router_datagram(router, neli_read_at(bytes), length, groups != NULL ? groups : none, group_count);
 }
 
-/* Takes in a fault of the link, by its number in errno.h: each open request is given NELI_LINK. EAGAIN gives nobody
- * anything. */
+/* Takes in a fault of the link, by its number in errno.h: each open request is given NELI_LINK, and who listens is told
+ * of it, of ENOBUFS as NELI_OVERRUN. EAGAIN gives nobody anything. */
 static inline int32_t neli_router_fault(struct neli_router *router, int32_t error_number) {
     if (router == NULL) return NELI_NULL;
     return neli_c_router_fault(router, error_number);
@@ -443,6 +445,21 @@ static inline int32_t neli_router_fault(struct neli_router *router, int32_t erro
 static inline int32_t neli_router_read(struct neli_router *router, size_t handle, struct neli_item *item) {
     if (router == NULL || item == NULL) return NELI_NULL;
     return neli_c_router_read(router, handle, item);
+}
+
+/* Reads what comes to groups next, for who goes on listening whatever comes: beside reads of NELI_MULTICAST, whose
+ * handle ends at an error message and at one that cannot be read.
+ *   NELI_ITEM           a message, which `item` shows, as neli_router_read does; an error message is one as well
+ *   NELI_OVERRUN        the socket's buffer ran over since the last call (ENOBUFS was handed in)
+ *   NELI_LINK           the link had another fault since the last call
+ *   NELI_WAITS          no message is here yet
+ *   NELI_SHORT, NELI_LENGTH, NELI_BYTES   a message that cannot be read; it has been read
+ *   NELI_HANDLE         the handle of NELI_MULTICAST is closed
+ * At NELI_OVERRUN and NELI_LINK messages may be lost. Each is told once, before what waits, and an overrun is not
+ * replaced by a later fault. `item` is written at NELI_ITEM. */
+static inline int32_t neli_router_listen(struct neli_router *router, struct neli_item *item) {
+    if (router == NULL || item == NULL) return NELI_NULL;
+    return neli_c_router_listen(router, item);
 }
 
 /* The bytes of the item that was read last, of whatever handle: at NELI_ITEM the message, at NELI_KERNEL_ERROR an error
@@ -477,8 +494,8 @@ static inline int32_t neli_router_give_up(struct neli_router *router, size_t han
 }
 
 /* Closes a handle: what waits for it is given up, and what still comes for it is a stray, which ends every other
- * request: neli_router_give_up is for a handle whose answer has not ended. NELI_HANDLE where it is not open. The handle's
- * number is that of the next that is opened, but for NELI_MULTICAST, which is not opened again. */
+ * request: neli_router_give_up is for a handle whose answer has not ended. NELI_HANDLE where it is not open. The
+ * handle's number is that of the next that is opened, but for NELI_MULTICAST, which is not opened again. */
 static inline int32_t neli_router_close(struct neli_router *router, size_t handle) {
     if (router == NULL) return NELI_NULL;
     return neli_c_router_close(router, handle);

@@ -86,7 +86,9 @@ int32_t neli_host_send_all(struct neli_host *host, const struct neli_host_reques
 
 /* The next item of a handle, which may wait for datagrams. At NELI_ITEM and NELI_KERNEL_ERROR `message` is the header
  * of what `neli_host_item` points to. NELI_LINK of NELI_MULTICAST and of NELI_HOST_UNASKED says that something was lost
- * at this place; more comes. At NELI_MEMORY nothing is lost, if the next item that is read is this handle's. */
+ * at this place, where `neli_host_fault` is ENOBUFS because the socket's buffer ran over; NELI_SHORT, NELI_LENGTH and
+ * NELI_BYTES of NELI_MULTICAST that a message cannot be read; more comes. At NELI_MEMORY nothing is lost, if the next
+ * item that is read is this handle's. */
 int32_t neli_host_next(struct neli_host *host, size_t handle, struct neli_message *message);
 
 /* How the answer to a request stands, by what was read of it: whether what `neli_host_next` gave is all of it. A code of

@@ -298,17 +298,34 @@ static int32_t read_unasked(struct neli_host *host, struct neli_message *message
     return NELI_ITEM;
 }
 
+/* The next item of a handle of the router. Multicast goes on whatever comes, and its losses are told by `heard`, each
+ * in its place. */
+static int32_t read_router(struct neli_host *host, size_t handle) {
+    struct neli_item item;
+    int32_t code;
+    if (handle != NELI_MULTICAST) return neli_router_read(&host->router, handle, &item);
+    do
+        code = neli_router_listen(&host->router, &item);
+    while (code == NELI_LINK || code == NELI_OVERRUN);
+    return code;
+}
+
+/* Whether a message has been read at this code, though it may be one that cannot be read. */
+static bool has_read(int32_t code) {
+    return code == NELI_ITEM || code == NELI_KERNEL_ERROR || code == NELI_SHORT || code == NELI_LENGTH ||
+           code == NELI_BYTES;
+}
+
 /* What a handle is given now. */
 static int32_t read_now(struct neli_host *host, size_t handle, struct neli_message *message) {
-    struct neli_item item;
     bool is_again = host->is_taken && host->taken == handle;
     int fault = handle == NELI_MULTICAST && !is_again ? take_loss(&host->heard) : 0;
     if (handle == NELI_HOST_UNASKED) return read_unasked(host, message);
     if (fault != 0) return failed(host, fault);
-    int32_t code = is_again ? host->taken_code : neli_router_read(&host->router, handle, &item);
+    int32_t code = is_again ? host->taken_code : read_router(host, handle);
     if (code == NELI_LINK) return failed(host, host->last_fault);
+    if (handle == NELI_MULTICAST && !is_again && has_read(code)) host->heard.read++;
     if (code != NELI_ITEM && code != NELI_KERNEL_ERROR) return code;
-    if (handle == NELI_MULTICAST && !is_again) host->heard.read++;
     int32_t taken = take_item(host, message);
     host->is_taken = taken == NELI_MEMORY;
     host->taken = handle;
@@ -345,12 +362,11 @@ static int32_t drop_multicast(struct neli_host *host) {
     int64_t end = link_end_of_wait(&host->link);
     int32_t code = NELI_OK;
     while (code == NELI_OK && !link_is_over(end) && host->faults < FAULTS) {
-        struct neli_item item;
         int32_t read;
         code = take_in(host);
         do
-            read = neli_router_read(&host->router, NELI_MULTICAST, &item);
-        while (read == NELI_ITEM || read == NELI_KERNEL_ERROR);
+            read = read_router(host, NELI_MULTICAST);
+        while (read != NELI_WAITS && read != NELI_HANDLE && read != NELI_MEMORY);
         host->heard.read = host->heard.came;
         host->heard.count = 0;
     }

@@ -196,6 +196,43 @@ static void nothing_that_is_wrong_crosses(void) {
     WANT(neli_router_free(&router) == NELI_OK && neli_router_read(&router, 0, &item) == NELI_STATE);
 }
 
+/* Hands in a message to group 1. */
+static void notify(struct neli_router *router, uint16_t type, const void *body, size_t length) {
+    static const uint32_t group = 1;
+    struct neli_writer writer = {0};
+    uint8_t out[64];
+    WANT(neli_begin_message(out, sizeof out, &writer, type, 0, 0, 0) == NELI_OK);
+    WANT(neli_put_bytes(out, sizeof out, &writer, body, length) == NELI_OK);
+    WANT(neli_end_message(out, sizeof out, &writer) == NELI_OK);
+    WANT(neli_router_datagram(router, out, writer.end, &group, 1) == NELI_OK);
+}
+
+/* Who listens goes on past an error message and faults of the link. */
+static void listening_goes_on(void) {
+    struct neli_router router = NELI_ROUTER_CLOSED;
+    struct neli_item item = {0};
+    static const int32_t error[5] = {-ENODEV, 16, 0, 0, 0};
+    WANT(neli_router_listen(&router, &item) == NELI_STATE);
+    WANT(neli_router_new(&router, 7) == NELI_OK);
+    WANT(neli_router_listen(NULL, &item) == NELI_NULL && neli_router_listen(&router, NULL) == NELI_NULL);
+    WANT(neli_router_listen(&router, &item) == NELI_WAITS);
+    notify(&router, RTM_NEWLINK, "a body", 6);
+    notify(&router, NLMSG_ERROR, error, sizeof error);
+    notify(&router, RTM_DELLINK, "", 0);
+    WANT(neli_router_fault(&router, EAGAIN) == NELI_OK);
+    WANT(neli_router_listen(&router, &item) == NELI_ITEM && item.type == RTM_NEWLINK);
+    WANT(neli_router_fault(&router, ENOBUFS) == NELI_OK && neli_router_fault(&router, ECONNRESET) == NELI_OK);
+    WANT(neli_router_listen(&router, &item) == NELI_OVERRUN);
+    WANT(neli_router_listen(&router, &item) == NELI_ITEM && item.type == NLMSG_ERROR && item.error == -ENODEV);
+    WANT(neli_router_fault(&router, -ECONNRESET) == NELI_OK);
+    WANT(neli_router_listen(&router, &item) == NELI_LINK);
+    WANT(neli_router_listen(&router, &item) == NELI_ITEM && item.type == RTM_DELLINK);
+    WANT(neli_router_listen(&router, &item) == NELI_WAITS);
+    WANT(neli_router_close(&router, NELI_MULTICAST) == NELI_OK);
+    WANT(neli_router_listen(&router, &item) == NELI_HANDLE);
+    WANT(neli_router_free(&router) == NELI_OK);
+}
+
 static const struct test tests[] = {
     {"a_dump_of_many_datagrams", a_dump_of_many_datagrams},
     {"two_requests_in_the_other_order", two_requests_in_the_other_order},
@@ -204,6 +241,7 @@ static const struct test tests[] = {
     {"a_buffer_that_ran_over", a_buffer_that_ran_over},
     {"another_sender_is_passed_over", another_sender_is_passed_over},
     {"nothing_that_is_wrong_crosses", nothing_that_is_wrong_crosses},
+    {"listening_goes_on", listening_goes_on},
 };
 
 int main(int argc, char **argv) {

@@ -1,5 +1,6 @@
 /* `watch [COUNT]` prints changes of links, addresses and routes as they come: as `Newlink 3 veth0`. It goes on where
- * some were lost, and says so. */
+ * some were lost or one cannot be read, and says so, as `lost some: No buffer space available`. At the end of COUNT the
+ * status says whether all are there: 0, or 4 where not. */
 #include "request.h"
 #include <arpa/inet.h>
 #include <linux/if_addr.h>
@@ -64,8 +65,16 @@ static void print_change(const struct neli_host *host, const struct neli_message
     }
 }
 
+/* Why some were lost. */
+static const char *why(const struct neli_host *host, int32_t code) {
+    static char text[128];
+    neli_host_explain(host, code, NULL, text, sizeof text);
+    return text;
+}
+
 int main(int argc, char **argv) {
     struct neli_host *host;
+    enum status status = STATUS_COMPLETE;
     unsigned long count = argc > 1 ? strtoul(argv[1], NULL, 10) : -1ul;
     open_or_fail(&host, NETLINK_ROUTE, groups, sizeof groups / sizeof *groups);
     setvbuf(stdout, NULL, _IOLBF, 0);
@@ -74,9 +83,11 @@ int main(int argc, char **argv) {
         struct neli_message message;
         int32_t code = neli_host_next(host, NELI_MULTICAST, &message);
         if (code == NELI_ITEM) print_change(host, &message);
-        else if (code == NELI_LINK) printf("lost some: %s\n", strerror(neli_host_fault(host)));
+        else if (status_of(code) == STATUS_LOST) printf("lost some: %s\n", why(host, code));
         else fail(host, "watch", code, NULL);
+        if (code != NELI_ITEM) status = STATUS_LOST;
     }
     neli_host_close(host);
-    return 0;
+    if (status != STATUS_COMPLETE) fputs("watch: some were lost\n", stderr);
+    return (int)status;
 }

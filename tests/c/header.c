@@ -249,6 +249,51 @@ static void check_router(void) {
     CHECK(neli_router_read(&router, 1, &item) == NELI_STATE);
 }
 
+/* Ends a dump of port 9: NLMSG_DONE with these flags and MULTI, this number and this code. */
+static int32_t end_dump(struct neli_router *router, uint8_t flags, uint8_t number, int32_t code) {
+    uint8_t end[20] = {20, 0, 0, 0, 3, 0, (uint8_t)(2 | flags), 0, number, 0, 0, 0, 9, 0, 0, 0};
+    memcpy(end + 16, &code, sizeof code);
+    return neli_router_datagram(router, end, sizeof end, NULL, 0);
+}
+
+/* How answers stand, and what is left of one that was given up. */
+static void check_verdicts(void) {
+    struct neli_router router = NELI_ROUTER_CLOSED;
+    struct neli_verdict verdict = {7, 7};
+    struct neli_sent dump, other;
+    struct neli_item item;
+    uint8_t out[16];
+    CHECK(neli_router_verdict(&router, 1, &verdict) == NELI_STATE && neli_router_give_up(&router, 1) == NELI_STATE);
+    CHECK(neli_router_new(&router, 9) == NELI_OK && neli_router_verdict(&router, 1, NULL) == NELI_NULL);
+    CHECK(neli_router_verdict(&router, 1, &verdict) == NELI_HANDLE && verdict.error == 7 && verdict.filtered == 7);
+    CHECK(neli_router_verdict(&router, NELI_MULTICAST, &verdict) == NELI_WAITS);
+    CHECK(neli_router_send(&router, 18, 0x300, NULL, 0, out, sizeof out, &dump) == NELI_OK);
+    CHECK(neli_router_verdict(&router, dump.handle, &verdict) == NELI_WAITS);
+    CHECK(verdict.error == 0 && verdict.filtered == 0);
+    /* DUMP_FILTERED is 0x20, DUMP_INTR 0x10 (linux/netlink.h), and ENODEV 19. */
+    CHECK(end_dump(&router, 0x20, 0, -19) == NELI_OK);
+    CHECK(neli_router_verdict(&router, dump.handle, &verdict) == NELI_WAITS);
+    CHECK(neli_router_read(&router, dump.handle, &item) == NELI_ITEM);
+    CHECK(neli_router_verdict(&router, dump.handle, &verdict) == NELI_KERNEL_ERROR);
+    CHECK(verdict.error == -19 && verdict.filtered == 1);
+    CHECK(neli_router_send(&router, 18, 0x300, NULL, 0, out, sizeof out, &dump) == NELI_OK);
+    CHECK(end_dump(&router, 0x10, 1, -19) == NELI_OK && neli_router_read(&router, dump.handle, &item) == NELI_ITEM);
+    CHECK(neli_router_verdict(&router, dump.handle, &verdict) == NELI_INTERRUPTED && verdict.error == 0);
+    CHECK(neli_router_send(&router, 18, 0x300, NULL, 0, out, sizeof out, &dump) == NELI_OK);
+    CHECK(neli_router_send(&router, 18, 0x300, NULL, 0, out, sizeof out, &other) == NELI_OK);
+    CHECK(neli_router_give_up(NULL, 1) == NELI_NULL && neli_router_give_up(&router, dump.handle) == NELI_OK);
+    CHECK(neli_router_give_up(&router, dump.handle) == NELI_HANDLE);
+    CHECK(neli_router_verdict(&router, dump.handle, &verdict) == NELI_HANDLE);
+    CHECK(neli_router_set_number(&router, 2) == NELI_OK);
+    CHECK(neli_router_send(&router, 18, 0x300, NULL, 0, out, sizeof out, &dump) == NELI_IN_USE);
+    CHECK(end_dump(&router, 0, 2, 0) == NELI_OK);
+    CHECK(neli_router_read(&router, other.handle, &item) == NELI_WAITS);
+    CHECK(neli_router_send(&router, 18, 0x300, NULL, 0, out, sizeof out, &dump) == NELI_OK);
+    CHECK(end_dump(&router, 0, 3, 0) == NELI_OK && neli_router_read(&router, other.handle, &item) == NELI_ITEM);
+    CHECK(neli_router_verdict(&router, other.handle, &verdict) == NELI_OK);
+    CHECK(neli_router_free(&router) == NELI_OK);
+}
+
 /* Handles that were closed are given again, the last one first, and then new ones; the others stay. */
 static void check_handles(void) {
     struct neli_router router = NELI_ROUTER_CLOSED;
@@ -278,6 +323,7 @@ int main(void) {
     check_answer(error_bytes, sizeof error_bytes);
     check_refusals();
     check_router();
+    check_verdicts();
     check_handles();
     printf("header.c: %s\n", failures == 0 ? "each call answers as include/neli.h says" : "failed");
     return failures != 0;

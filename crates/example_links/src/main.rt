@@ -4,10 +4,12 @@
 //! docs/RECORDINGS.md, so the request's port and number are those that the answers name; a program with a socket sends
 //! the request in between. The lines in `stdout` are what pyroute2 reads in them.
 //!
-//! What is refused is said on standard error, after the links before it, and the status is 1.
+//! The status says whether the list is all that was asked for, by the router's verdict: 0; 2 where it changed meanwhile, 3
+//! where the kernel refused it or ended it with an error, 4 where a part of it is not there or can't be read; 1 where
+//! there is no memory. Why is said on standard error, after the links that came.
 #![tactic(auto)]
 
-ghost use Rattle.std.specs.Prelude.{◌≡◌, length, take};
+ghost use Rattle.std.specs.Prelude.{◌≡◌, ◌↔◌, IsOk, length, take};
 
 use neli::Cursor;
 use neli::attr::Attribute;
@@ -17,13 +19,16 @@ use neli::consts::rtnl::{Iff, Ifla, RtAddrFamily, Rtm};
 use neli::err::{DeError, NoMemory, RouterError};
 use neli::lent::LentMessage;
 use neli::nl::{NlPayload, Nlmsghdr};
-use neli::router::synchronous::{Log, NlRouter, NlRouterReceiverHandle, Reply};
+use neli::router::synchronous::{Log, NlRouter, NlRouterReceiverHandle, Reply, Verdict};
 use neli::rtnl::{HardwareAddress, Ifinfomsg, IfinfomsgBuilder, IfinfomsgBuilderError};
 use neli::utils::Groups;
 use std::alloc::Global;
 use std::io::{self, Read};
 use std::process::ExitCode;
 use thiserror::Error;
+
+#[cfg(test)]
+mod tests;
 
 /// Why the links are not listed to the end. Every refusal of the library becomes one by `?`.
 #[derive(Debug, Drop, Error)]
@@ -36,6 +41,12 @@ enum Trouble {
     Answer(#[from] RouterError<Rtm, Ifinfomsg>),
     #[error("the answer does not end")]
     NoEnd,
+    #[error("what is listed changed meanwhile: ask again")]
+    Interrupted,
+    #[error("the kernel ended the list with the code {0}")]
+    Failed(i32),
+    #[error("a part of the answer was lost")]
+    Lost,
     #[error("out of memory")]
     Memory(#[from] NoMemory),
 }
@@ -94,6 +105,31 @@ fn read_answers(
     Err(Trouble::NoEnd)
 }
 
+/// Refused where an answer is not all that was asked for.
+fn want_all(verdict: Verdict) -> Result<(), Trouble>
+    ensures complete { IsOk result ↔ (verdict ≡ Verdict.Complete) }
+{
+    match verdict {
+        Verdict::Complete => Ok(()),
+        Verdict::Pending => Err(Trouble::NoEnd),
+        Verdict::Interrupted => Err(Trouble::Interrupted),
+        Verdict::Failed(code) => Err(Trouble::Failed(code)),
+        Verdict::Lost(_) => Err(Trouble::Lost),
+    }
+}
+
+/// The status that says so.
+fn status_of(trouble: &Trouble) -> u8 {
+    match trouble {
+        Trouble::Build(_) | Trouble::Memory(_) => 1,
+        Trouble::Interrupted => 2,
+        Trouble::Failed(_) => 3,
+        Trouble::Answer(RouterError::Nlmsgerr(_)) => 3,
+        Trouble::Answer(RouterError::Capped(_)) => 3,
+        _ => 4,
+    }
+}
+
 /// Asks for all links, and appends the line of each that the answer has.
 fn read_links(alloc: Global, datagrams: &[u8], lines: &mut Vec<String>) -> Result<(), Trouble>
     ensures kept { take (length lines.old.items) lines.new.items ≡ lines.old.items }
@@ -109,7 +145,8 @@ fn read_links(alloc: Global, datagrams: &[u8], lines: &mut Vec<String>) -> Resul
     // A socket sends the request here, and gives the datagrams.
     let (_request, mut handle) = asked;
     router.processing_loop(datagrams, &Groups::empty(alloc))?;
-    read_answers(alloc, &mut router, &mut handle, lines)
+    read_answers(alloc, &mut router, &mut handle, lines)?;
+    want_all(router.verdict(&handle))
 }
 
 fn main(rt: HostRuntime) -> io::Result<ExitCode> {
@@ -123,7 +160,7 @@ fn main(rt: HostRuntime) -> io::Result<ExitCode> {
     }
     if let Err(error) = read {
         eprintln!(rt; "example_links: {error}")?;
-        return Ok(ExitCode::from(1));
+        return Ok(ExitCode::from(status_of(&error)));
     }
     Ok(ExitCode::from(0))
 }

@@ -2,6 +2,7 @@ pub mod AsBox
 pub mod Frames
 pub mod Hears
 pub mod FreePlaces
+pub mod Listens
 pub mod Moves
 pub mod Opened
 pub mod OutOfPlace

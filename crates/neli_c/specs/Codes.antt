@@ -19,6 +19,10 @@ kernel_error = pos 3
 abbrev pub interrupted : ℤ
 interrupted = pos 4
 
+-- the socket's buffer ran over, so messages to groups may be lost
+abbrev pub overrun : ℤ
+overrun = pos 5
+
 -- the bytes end too early; a length does not fit; memory ran out; the room is too small
 abbrev pub short : ℤ
 short = negsuc 0

@@ -1,6 +1,7 @@
 pub mod AnswersShown
 pub mod Codes
 pub mod Held
+pub mod Listens
 pub mod Lists
 pub mod Reads
 pub mod Sessions

@@ -63,18 +63,19 @@ KeepsRest s t =
 abbrev pub multicast : HandleState
 multicast = record { number = None; needs_ack = false; single_given = false; ended = false }
 
--- a new router of this port: nothing waits for multicast, of which the one handle is, and no number is open
+-- a new router of this port: nothing waits for multicast, of which the one handle is, nothing was missed, and no number
+-- is open
 abbrev pub IsNew : ℕ → Session → Type 0
 IsNew port s =
     (s.router.deliveries.port ≡ port) × (s.router.next_seq ≡ 0) × (pending s None ≡ Some [])
     × ((q : ℕ) → pending s (Some q) ≡ None) × (s.handles.items ≡ slot.Open multicast ∷ []) × HasFree s []
-    × (s.held ≡ None)
+    × (s.held ≡ None) × (s.router.missed ≡ None)
 
 -- the next request has this number; all else is the same
 abbrev pub SetsNumber : ℕ → Session → Session → Type 0
 SetsNumber number s t =
     (t.router.next_seq ≡ number) × (t.router.deliveries ≡ s.router.deliveries) × (t.handles.items ≡ s.handles.items)
-    × (t.freed ≡ s.freed) × (t.held ≡ s.held)
+    × (t.freed ≡ s.freed) × (t.held ≡ s.held) × (t.router.missed ≡ s.router.missed)
 
 -- of the requests that were given up nothing waits after these messages, and where the last message of its answer is one
 -- of them a request is closed
@@ -103,19 +104,23 @@ fault_kind n =
     if nat_eq (unsigned_abs n) 11 then kind.WouldBlock
     else (if nat_eq (unsigned_abs n) 104 then kind.ConnectionReset else kind.Other)
 
--- each handle gets its share of the fault, and what was given up nothing; or memory ran out, and what waits is the same, but never where the link would
--- block
-abbrev pub TakesFault : ℤ → ℤ → Session → Session → Type 0
-TakesFault code errno s t =
+-- each handle gets its share of a fault of this kind, and what was given up nothing; or memory ran out, and what waits is
+-- the same, but never where the link would block, nor where no number is open
+abbrev pub TakesKind : ℤ → ErrorKind → Session → Session → Type 0
+TakesKind code k s t =
     ((code ≡ ok) ⊎ (code ≡ memory))
     × (code ≡ ok → (w : Option ℕ) → is_given_up s.router.given_up.items w ≡ false → pending t w
-    ≡ option_map (λ ds. ds ++ fault_share w (socket.Io (fault_kind errno))) (pending s w))
+    ≡ option_map (λ ds. ds ++ fault_share w (socket.Io k)) (pending s w))
     × (code ≡ ok → ((q : ℕ) → is_given_up s.router.given_up.items (Some q) ≡ true → pending t (Some q)
     ≡ option_map (λ _. []) (pending s (Some q)))
     × (t.router.given_up.items ≡ still_open (pending t) s.router.given_up.items))
     × (code ≡ memory → (t.router.given_up ≡ s.router.given_up) × ((w : Option ℕ) → pending t w ≡ pending s w))
-    × KeepsRest s t × (t.router.heard ≡ s.router.heard) × (fault_kind errno ≡ kind.WouldBlock → code ≡ ok)
+    × KeepsRest s t × (t.router.heard ≡ s.router.heard) × (k ≡ kind.WouldBlock → code ≡ ok)
     × (((q : ℕ) → pending s (Some q) ≡ None) → code ≡ ok)
+
+-- the same of the link's fault of a number of errno.h
+abbrev pub TakesFault : ℤ → ℤ → Session → Session → Type 0
+TakesFault code errno s t = TakesKind code (fault_kind errno) s t
 
 -- the bytes of the held message are written where there is room, and `length` is how many there are
 abbrev pub WritesMessage : ℤ → Wire → List ℕ → List ℕ → ℕ → Type 0

@@ -11,6 +11,8 @@ pub const WAITS: i32 = 2;
 pub const KERNEL_ERROR: i32 = 3;
 /// What was listed changed meanwhile.
 pub const INTERRUPTED: i32 = 4;
+/// The socket's buffer ran over.
+pub const OVERRUN: i32 = 5;
 
 /// The bytes end too early.
 pub const SHORT: i32 = -1;

@@ -7,6 +7,7 @@ ghost use Rattle.neli_c.specs.Codes.{memory, ok, state};
 ghost use Rattle.neli_c.specs.Sessions.{ClosesHandle, IsNew, ReadsPlace, RefusesRequest, SaysNeeded, SendsNothing};
 ghost use Rattle.neli_c.specs.Sessions.{SendsRequest, SetsNumber, TakesDatagram, TakesFault, WritesItem};
 ghost use Rattle.neli_c.specs.Verdicts.{GivesUpHandle, HearsHandle, TellsVerdict};
+ghost use Rattle.neli_c.specs.Listens.{Listens, Misses, MissesSame};
 ghost use Rattle.neli_c.specs.Slots.{handle_at};
 
 use crate::code::{MEMORY, OK, STATE};
@@ -94,6 +95,8 @@ pub extern "C" fn neli_c_router_send(
         × RefusesRequest result body.now s out.old × SaysNeeded result body.now sent.old sent.new)
         × (result ≡ ok → SendsRequest nl_type flags body.now s t out.old out.new sent.new))) }
     ensures unwritten { result ≢ ok → out.new ≡ out.old }
+    ensures missed { IfSome router.old.place.value
+        (λ s. IfSome router.new.place.value (MissesSame s)) }
 {
     let Some(mut session) = router.take(alloc) else {
         return STATE;
@@ -117,6 +120,8 @@ pub extern "C" fn neli_c_router_datagram(
         → (result ≡ state) × (router.new.place.value ≡ None) }
     ensures open { IfSome router.old.place.value (λ s. IsSome router.new.place.value
         × IfSome router.new.place.value (TakesDatagram result bytes.now groups.now s)) }
+    ensures missed { IfSome router.old.place.value
+        (λ s. IfSome router.new.place.value (MissesSame s)) }
 {
     let Some(mut session) = router.take(alloc) else {
         return STATE;
@@ -126,7 +131,8 @@ pub extern "C" fn neli_c_router_datagram(
     code
 }
 
-/// Takes in a fault of the link, by its number in `errno.h`: 11 (`EAGAIN`) gives nobody anything.
+/// Takes in a fault of the link, by its number in `errno.h`: 11 (`EAGAIN`) gives nobody anything, and 105 (`ENOBUFS`) says
+/// that the socket's buffer ran over, which listeners are told by its name.
 ///
 /// Answers `OK`, or `MEMORY`, and then nothing is handed to anybody.
 #[unsafe(no_mangle)]
@@ -135,6 +141,8 @@ pub extern "C" fn neli_c_router_fault(alloc: Global, router: &mut NeliRouter, er
         → (result ≡ state) × (router.new.place.value ≡ None) }
     ensures open { IfSome router.old.place.value (λ s. IsSome router.new.place.value
         × IfSome router.new.place.value (TakesFault result errno s)) }
+    ensures missed { IfSome router.old.place.value (λ s. IsSome router.new.place.value
+        × IfSome router.new.place.value (Misses result errno s)) }
 {
     let Some(mut session) = router.take(alloc) else {
         return STATE;
@@ -162,11 +170,37 @@ pub extern "C" fn neli_c_router_read(
         × IfSome router.new.place.value (λ t. ReadsPlace result handle s t item.old item.new)) }
     ensures heard { IfSome router.old.place.value (λ s. IfSome router.new.place.value
         (λ t. IfSome (handle_at handle s.handles.items) (λ h. HearsHandle h s t))) }
+    ensures missed { IfSome router.old.place.value
+        (λ s. IfSome router.new.place.value (MissesSame s)) }
 {
     let Some(mut session) = router.take(alloc) else {
         return STATE;
     };
     let code = session.read(alloc, handle, item);
+    router.put(session);
+    code
+}
+
+/// Reads what comes to groups next, for who goes on whatever comes. It is read by no handle, and no message ends it.
+///
+/// Answers `ITEM`; `OVERRUN` where the socket's buffer ran over since the last call, or `LINK` where the link had another
+/// fault, which is told once, before what waits: messages may be lost; `WAITS`; `SHORT`, `LENGTH` or `BYTES` for what
+/// cannot be read; `HANDLE` where the handle of multicast is closed, or `MEMORY`, and then the router is as it was.
+#[unsafe(no_mangle)]
+pub extern "C" fn neli_c_router_listen(
+    alloc: Global,
+    router: &mut NeliRouter,
+    item: &mut NeliItem,
+) -> i32
+    ensures closed { router.old.place.value ≡ None
+        → (result ≡ state) × (router.new.place.value ≡ None) × (item.new ≡ item.old) }
+    ensures open { IfSome router.old.place.value (λ s. IsSome router.new.place.value
+        × IfSome router.new.place.value (λ t. Listens result s t item.old item.new)) }
+{
+    let Some(mut session) = router.take(alloc) else {
+        return STATE;
+    };
+    let code = session.listen(alloc, item);
     router.put(session);
     code
 }
@@ -238,6 +272,8 @@ pub extern "C" fn neli_c_router_give_up(
         → (result ≡ state) × (router.new.place.value ≡ None) }
     ensures open { IfSome router.old.place.value (λ s. IsSome router.new.place.value
         × IfSome router.new.place.value (GivesUpHandle result handle s)) }
+    ensures missed { IfSome router.old.place.value
+        (λ s. IfSome router.new.place.value (MissesSame s)) }
 {
     let Some(mut session) = router.take(alloc) else {
         return STATE;
@@ -256,6 +292,8 @@ pub extern "C" fn neli_c_router_close(alloc: Global, router: &mut NeliRouter, ha
         → (result ≡ state) × (router.new.place.value ≡ None) }
     ensures open { IfSome router.old.place.value (λ s. IsSome router.new.place.value
         × IfSome router.new.place.value (ClosesHandle result handle s)) }
+    ensures missed { IfSome router.old.place.value
+        (λ s. IfSome router.new.place.value (MissesSame s)) }
 {
     let Some(mut session) = router.take(alloc) else {
         return STATE;

@@ -1,28 +1,34 @@
 //! A router with the handles that it gave, and the item that was read last.
 
 ghost use Rattle.std.specs.Prelude.{◌≡◌, ◌≢◌, ◌<◌, ℕ, IfOk, IfSome, IsNone, IsSome, List, ◌∷◌, Some, None, length};
-ghost use Rattle.std.specs.Prelude.{option_map, slice_get, slice_set, nat_le, vec_capacity, vec_len, if◌then◌else◌};
+ghost use Rattle.std.specs.Prelude.{nat_eq, nat_le, option_map, slice_get, slice_set, unsigned_abs};
+ghost use Rattle.std.specs.Prelude.{vec_capacity, vec_len, if◌then◌else◌};
 ghost use Rattle.neli_router.specs.declared.handle.HandleState.{HandleState};
 ghost use Rattle.neli_c.specs.Codes.{no_handle, ok, room};
 ghost use Rattle.neli_c.specs.Sessions.{ClosesHandle, HasFree, Holds, IsNew, ReadsHandle, RefusesRequest, SaysNeeded};
-ghost use Rattle.neli_c.specs.Sessions.{SendsNothing, SendsRequest, SetsNumber, TakesDatagram, TakesFault, WritesItem};
+ghost use Rattle.neli_c.specs.Sessions.{SendsNothing, SendsRequest, SetsNumber, TakesDatagram, TakesFault, TakesKind, WritesItem};
 ghost use Rattle.neli_c.specs.Sessions.{error_code, error_flags, error_message, fault_kind, item_code, item_message};
-ghost use Rattle.neli_c.specs.Sessions.{item_shown, reply_code, socket_code};
+ghost use Rattle.neli_c.specs.Sessions.{item_shown, reply_code, shown_of, socket_code};
 ghost use Rattle.neli_c.specs.Verdicts.{GivesUpHandle, HearsHandle, TellsVerdict, filtered_byte, verdict_code, verdict_error};
+ghost use Rattle.neli_router.specs.Listening.{missed_with};
+ghost use Rattle.neli_router.specs.declared.listening.Missed.TheVariants as missed;
+ghost use Rattle.neli_reader.specs.SocketError.TheVariants as socket;
+ghost use Rattle.std.specs.declared.io.ErrorKind.TheVariants as kind;
+ghost use Rattle.neli_c.specs.Listens.{HoldsNotice, Listens, Misses, MissesSame, MissesThen, notice_code};
 ghost use Rattle.neli_c.specs.Slots.{AreFree, handle_at, later_places, next_place, put_at};
 ghost use Rattle.neli_c.specs.declared.session.Slot.TheVariants as slot;
 ghost use Rattle.neli_c.specs.Writes.{put_first};
 
 use crate::code::{
-    BYTES, HANDLE, IN_USE, INTERRUPTED, ITEM, KERNEL_ERROR, LENGTH, LINK, MEMORY, NO_ACK, OK, ROOM,
-    STRAY, UNEXPECTED_ACK, WAITS,
+    BYTES, HANDLE, IN_USE, INTERRUPTED, ITEM, KERNEL_ERROR, LENGTH, LINK, MEMORY, NO_ACK, OK,
+    OVERRUN, ROOM, STRAY, UNEXPECTED_ACK, WAITS,
 };
 use crate::lent::code_of;
 use neli_attr::Buffer;
 use neli_consts::NlmF;
 use neli_log::Log;
 use neli_reader::{NlPayload, Nlmsghdr, NlmsghdrBuilder, RouterError, SocketError};
-use neli_router::{Heard, Loss, NlRouter, NlRouterReceiverHandle, Reply, Verdict};
+use neli_router::{Heard, Loss, Missed, NlRouter, NlRouterReceiverHandle, Notice, Reply, Verdict};
 use neli_util::Groups;
 use neli_wire::{Constant, NoMemory, ToBytes};
 use std::alloc::Global;
@@ -184,6 +190,13 @@ fn kind_of(errno: i32) -> ErrorKind
     }
 }
 
+/// Whether a number of `errno.h`, negated or not, says that the socket's buffer ran over: `ENOBUFS`.
+fn is_overrun(errno: i32) -> bool
+    ensures { result ≡ nat_eq (unsigned_abs errno) 105 }
+{
+    errno.unsigned_abs() == 105
+}
+
 /// The code of a link's or a datagram's fault.
 fn of_socket(error: &SocketError) -> i32
     ensures code { result ≡ socket_code error.now }
@@ -343,6 +356,40 @@ fn shown(message: &Message) -> NeliItem
     }
 }
 
+/// Holds the message of an item, and shows it; an item without one is not shown.
+fn keep(given: Item, held: &mut Option<Message>, item: &mut NeliItem) -> i32
+    ensures code { result ≡ item_code given }
+    ensures held { held.new ≡ item_message given }
+    ensures shown { item.new ≡ shown_of (item_message given) item.old }
+{
+    let (code, message) = split(given);
+    if let Some(message) = &message {
+        *item = shown(message);
+    }
+    *held = message;
+    code
+}
+
+/// Holds the message of a notice, and shows it; without an item both stay.
+fn notice(
+    answer: Result<Notice<u16, Buffer>, NoMemory>,
+    held: &mut Option<Message>,
+    item: &mut NeliItem,
+) -> i32
+    ensures code { result ≡ notice_code answer }
+    ensures held { HoldsNotice answer held.old held.new item.old item.new }
+{
+    match answer {
+        Ok(Notice::Message(message)) => keep(Ok(message), held, item),
+        Ok(Notice::Untyped(given)) => keep(given, held, item),
+        Ok(Notice::Missed(Missed::Overrun)) => OVERRUN,
+        Ok(Notice::Missed(Missed::Fault(_))) => LINK,
+        Ok(Notice::Waits) => WAITS,
+        Ok(Notice::Closed) => HANDLE,
+        Err(_) => MEMORY,
+    }
+}
+
 /// Holds the message that the router answers, and shows it; without an item both stay.
 fn hold(
     answer: Result<Reply<u16, Buffer>, NoMemory>,
@@ -353,14 +400,7 @@ fn hold(
     ensures held { Holds answer held.old held.new item.old item.new }
 {
     match answer {
-        Ok(Reply::Item(given)) => {
-            let (code, message) = split(given);
-            if let Some(message) = &message {
-                *item = shown(message);
-            }
-            *held = message;
-            code
-        }
+        Ok(Reply::Item(given)) => keep(given, held, item),
         Ok(Reply::End) => OK,
         Ok(Reply::Waits) => WAITS,
         Err(_) => MEMORY,
@@ -423,6 +463,7 @@ impl Session {
         ensures refused { result ≢ ok → SendsNothing self.old self.new }
         ensures why { result ≢ ok → RefusesRequest result body.now self.old out.old }
         ensures needed { result ≢ ok → SaysNeeded result body.now sent.old sent.new }
+        ensures missed { MissesSame self.old self.new }
     {
         if body.len() > 0xffff_ffff - 19 {
             return LENGTH;
@@ -454,7 +495,8 @@ impl Session {
 
     /// Takes in a datagram that came to these groups.
     pub fn datagram(&mut self, alloc: Global, bytes: &[u8], groups: &[u32]) -> i32
-        ensures { TakesDatagram result bytes.now groups.now self.old self.new }
+        ensures taken { TakesDatagram result bytes.now groups.now self.old self.new }
+        ensures missed { MissesSame self.old self.new }
     {
         let Ok(groups) = Groups::new_groups(alloc, groups) else {
             return MEMORY;
@@ -467,12 +509,44 @@ impl Session {
 
     /// Takes in a fault of the link, by its number in `errno.h`.
     pub fn fault(&mut self, errno: i32) -> i32
-        ensures { TakesFault result errno self.old self.new }
+        ensures taken { TakesFault result errno self.old self.new }
+        ensures missed { Misses result errno self.old self.new }
     {
-        match self.router.link_failed(SocketError::Io(kind_of(errno))) {
+        if is_overrun(errno) {
+            return self.overran();
+        }
+        self.failed(kind_of(errno))
+    }
+
+    /// Takes in that the socket's buffer ran over.
+    fn overran(&mut self) -> i32
+        ensures taken { TakesKind result kind.Other self.old self.new }
+        ensures missed { MissesThen result (Some missed.Overrun) self.old self.new }
+    {
+        match self.router.link_overran() {
             Ok(()) => OK,
             Err(_) => MEMORY,
         }
+    }
+
+    /// Takes in another fault of the link.
+    fn failed(&mut self, error: ErrorKind) -> i32
+        ensures taken { TakesKind result error self.old self.new }
+        ensures missed { MissesThen result (missed_with self.old.router.missed (socket.Io error))
+            self.old self.new }
+    {
+        match self.router.link_failed(SocketError::Io(error)) {
+            Ok(()) => OK,
+            Err(_) => MEMORY,
+        }
+    }
+
+    /// What comes to groups next, whose message is held until the next one is read.
+    pub fn listen(&mut self, alloc: Global, item: &mut NeliItem) -> i32
+        ensures { Listens result self.old self.new item.old item.new }
+    {
+        let answer = self.router.listen::<u16, Buffer>(alloc);
+        notice(answer, &mut self.held, item)
     }
 
     /// Reads the next item of a handle, whose message is held until the next one is read.
@@ -486,6 +560,7 @@ impl Session {
             × ReadsHandle result h after self.old self.new item.old item.new) }
         ensures heard { IfSome (handle_at k self.old.handles.items)
             (λ h. HearsHandle h self.old self.new) }
+        ensures missed { MissesSame self.old self.new }
     {
         let Some(mut handle) = take(&mut self.handles, k, 0) else {
             return HANDLE;
@@ -528,7 +603,8 @@ impl Session {
 
     /// Gives a handle up; its place is the next that is given, but that of multicast.
     pub fn give_up(&mut self, alloc: Global, k: usize) -> i32
-        ensures { GivesUpHandle result k self.old self.new }
+        ensures given_up { GivesUpHandle result k self.old self.new }
+        ensures missed { MissesSame self.old self.new }
     {
         match free(&mut self.handles, &mut self.freed, k) {
             Some(handle) => match self.router.give_up(alloc, handle) {
@@ -541,7 +617,8 @@ impl Session {
 
     /// Closes a handle; its place is the next that is given, but that of multicast.
     pub fn close(&mut self, k: usize) -> i32
-        ensures { ClosesHandle result k self.old self.new }
+        ensures closed { ClosesHandle result k self.old self.new }
+        ensures missed { MissesSame self.old self.new }
     {
         match free(&mut self.handles, &mut self.freed, k) {
             Some(handle) => {

@@ -16,6 +16,7 @@ fn text_of(code: i32) -> &'static str
         2 => "no item is here yet",
         3 => "the kernel answered with an error",
         4 => "what was listed changed meanwhile",
+        5 => "the socket's buffer ran over",
         -1 => "the bytes end too early",
         -2 => "a length does not fit",
         -3 => "memory ran out",

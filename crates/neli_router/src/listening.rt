@@ -1,7 +1,7 @@
 //! Listening: reads of multicast that go on, whatever comes.
 
 ghost use Rattle.std.specs.Prelude.{true, false, ◌≡◌, ◌∷◌, ◌++◌, [], ℕ, List, Option, None, Some, Ok, IfOk};
-ghost use Rattle.std.specs.Prelude.{OnErr, OnOk, option_map};
+ghost use Rattle.std.specs.Prelude.{IsOk, OnErr, OnOk, option_map};
 ghost use Rattle.neli_deliveries.specs.Lists.{SameLists, SameListsBut};
 ghost use Rattle.neli_deliveries.specs.declared.delivery.Delivery.{Delivery as Waiting};
 ghost use Rattle.neli_deliveries.specs.Deliveries.{fault_share, is_would_block};
@@ -79,7 +79,7 @@ impl<D: Deliveries> NlRouter<D> {
     /// Takes in that the socket's buffer ran over, as `ENOBUFS` says: messages are lost. A request is told it as a fault
     /// of the link, whose kind is `Other`; who listens by its name, [`Missed::Overrun`].
     ///
-    /// Refused only where memory runs out, and then nothing is handed to anybody.
+    /// Refused only where memory runs out, and then nothing is handed to anybody; never where no number is open.
     pub fn link_overran(&mut self) -> Result<(), NoMemory>
         ensures port { D.port_of self.new.deliveries ≡ D.port_of self.old.deliveries }
         ensures next_seq { self.new.next_seq ≡ self.old.next_seq }
@@ -99,6 +99,7 @@ impl<D: Deliveries> NlRouter<D> {
         ensures err { OnErr result ((self.new.given_up ≡ self.old.given_up)
             × (self.new.missed ≡ self.old.missed)
             × SameLists (D.pending self.old.deliveries) (D.pending self.new.deliveries)) }
+        ensures unawaited { ((q : ℕ) → D.pending self.old.deliveries (Some q) ≡ None) → IsOk result }
     {
         self.link_failed(SocketError::Io(ErrorKind::Other))?;
         self.missed = Some(Missed::Overrun);

@@ -1,7 +1,7 @@
 //! Lists links and their IPv4 addresses, as `link 1 lo mtu 65536 up` and `address 1 127.0.0.1/8`; `list INDEX` the
 //! addresses of that link alone. What changes while it is listed is asked for again. The status says whether all of it
-//! is there: 0; 2 where it still changed, 3 where the kernel ended the list with an error, 4 where some was lost, with a
-//! line on stderr. What came is printed all the same.
+//! is there: 0; 2 where it still changed, 3 where the kernel ended the list with an error, 4 where some was lost, with
+//! a line on stderr. What came is printed all the same.
 
 mod status;
 

@@ -1,17 +1,21 @@
 //! `watch [COUNT]` prints changes of links, addresses and routes as they come: as `Newlink 3 veth0`. It goes on where
-//! some were lost, and says so.
+//! some were lost or one cannot be read, and says so, as `lost some: the socket's buffer ran over`. At the end of COUNT
+//! the status says whether all are there: 0, or 4 where not.
+
+mod status;
 
 use neli::FromBytes;
 use neli::consts::rtnl::{Ifa, Ifla, Rta, Rtm};
 use neli::consts::socket::NlFamily;
-use neli::err::{DeError, RouterError};
-use neli::router::synchronous::NlRouter;
+use neli::err::DeError;
+use neli::nl::Nlmsghdr;
+use neli::router::synchronous::{Missed, NlRouter, Notice};
 use neli::rtnl::{Ifaddrmsg, Ifinfomsg, Rtmsg};
 use neli::types::Buffer;
 use neli::utils::Groups;
-use std::error::Error;
 use std::ffi::CString;
 use std::net::Ipv4Addr;
+use std::process::ExitCode;
 
 /// `RTNLGRP_LINK`, `RTNLGRP_IPV4_IFADDR` and `RTNLGRP_IPV4_ROUTE` of `linux/rtnetlink.h`.
 const GROUPS: [u32; 3] = [1, 5, 7];
@@ -35,28 +39,47 @@ fn route(bytes: &[u8]) -> Result<String, DeError> {
     Ok(format!("{}/{}", Ipv4Addr::from(net), body.rtm_dst_len()))
 }
 
-fn main() -> Result<(), Box<dyn Error>> {
+/// The line of a change.
+fn line(message: &Nlmsghdr<Rtm, Buffer>) -> Result<String, DeError> {
+    let bytes = message.get_payload().map_or(&[][..], AsRef::as_ref);
+    let said = match message.nl_type() {
+        Rtm::Newlink | Rtm::Dellink => link(bytes)?,
+        Rtm::Newaddr | Rtm::Deladdr => address(bytes)?,
+        Rtm::Newroute | Rtm::Delroute => route(bytes)?,
+        _ => String::new(),
+    };
+    Ok(format!("{:?} {said}", message.nl_type()))
+}
+
+fn run() -> status::Result<u8> {
     let count = std::env::args().nth(1).map_or(Ok(usize::MAX), |it| it.parse())?;
-    let (_router, mut multicast) = NlRouter::connect(NlFamily::Route, None, Groups::new_groups(&GROUPS))?;
+    let (_router, mut multicast) =
+        NlRouter::connect(NlFamily::Route, None, Groups::new_groups(&GROUPS)).map_err(status::not_begun)?;
     println!("watching");
+    let mut ends_with = status::COMPLETE;
     for _ in 0..count {
-        let message = match multicast.next_typed::<Rtm, Buffer>() {
-            Some(Ok(message)) => message,
-            Some(Err(RouterError::Socket(error))) => {
-                println!("lost some: {error}");
-                continue;
-            }
-            Some(Err(error)) => return Err(error.into()),
-            None => break,
+        let lost = match multicast.listen::<Rtm, Buffer>()? {
+            Notice::Message(message) => match line(&message) {
+                Ok(line) => {
+                    println!("{line}");
+                    continue;
+                }
+                Err(error) => error.to_string(),
+            },
+            Notice::Untyped(Ok(message)) => format!("message {}", message.nl_type()),
+            Notice::Untyped(Err(error)) => error.to_string(),
+            Notice::Missed(Missed::Overrun) => "the socket's buffer ran over".to_owned(),
+            Notice::Missed(Missed::Fault(error)) => error.to_string(),
         };
-        let bytes = message.get_payload().map_or(&[][..], AsRef::as_ref);
-        let said = match message.nl_type() {
-            Rtm::Newlink | Rtm::Dellink => link(bytes)?,
-            Rtm::Newaddr | Rtm::Deladdr => address(bytes)?,
-            Rtm::Newroute | Rtm::Delroute => route(bytes)?,
-            _ => String::new(),
-        };
-        println!("{:?} {said}", message.nl_type());
+        println!("lost some: {lost}");
+        ends_with = status::LOST;
     }
-    Ok(())
+    if ends_with == status::LOST {
+        eprintln!("watch: some were lost");
+    }
+    Ok(ends_with)
+}
+
+fn main() -> ExitCode {
+    status::end("watch", run())
 }

@@ -13,6 +13,9 @@ pub const END: i32 = 0;
 pub const WAITS: i32 = 2;
 pub const KERNEL_ERROR: i32 = 3;
 pub const INTERRUPTED: i32 = 4;
+pub const OVERRUN: i32 = 5;
+pub const SHORT: i32 = -1;
+pub const LENGTH: i32 = -2;
 pub const MEMORY: i32 = -3;
 pub const ROOM: i32 = -4;
 pub const HANDLE: i32 = -6;
@@ -21,6 +24,7 @@ pub const STRAY: i32 = -8;
 pub const NO_ACK: i32 = -9;
 pub const UNEXPECTED_ACK: i32 = -10;
 pub const LINK: i32 = -11;
+pub const BYTES: i32 = -12;
 
 /// `struct neli_walk`: bytes `place` to `end`.
 #[repr(C)]
@@ -164,6 +168,7 @@ unsafe extern "C" {
     ) -> i32;
     fn neli_c_router_fault(router: *mut RawRouter, error_number: i32) -> i32;
     fn neli_c_router_read(router: *mut RawRouter, handle: usize, item: *mut Item) -> i32;
+    fn neli_c_router_listen(router: *mut RawRouter, item: *mut Item) -> i32;
     fn neli_c_router_item(router: *mut RawRouter, out: *mut u8, room: usize, length: *mut usize) -> i32;
     fn neli_c_router_verdict(router: *mut RawRouter, handle: usize, verdict: *mut Verdict) -> i32;
     fn neli_c_router_close(router: *mut RawRouter, handle: usize) -> i32;
@@ -275,6 +280,12 @@ impl Router {
     pub fn read(&mut self, handle: usize, item: &mut Item) -> i32 {
         // SAFETY: the router is open, and borrowed exclusively, as `item` is.
         unsafe { neli_c_router_read(&mut self.0, handle, item) }
+    }
+
+    /// Reads what comes to groups next.
+    pub fn listen(&mut self, item: &mut Item) -> i32 {
+        // SAFETY: the router is open, and borrowed exclusively, as `item` is.
+        unsafe { neli_c_router_listen(&mut self.0, item) }
     }
 
     /// The bytes of the item that was read last.

@@ -7,12 +7,15 @@ const HEADER: &str = include_str!(env!("NELI_FILE_NELI_H"));
 const DECLARED: &str = include_str!("ffi.rs");
 
 /// The codes that this crate names.
-const CODES: [(&str, i32); 13] = [
+const CODES: [(&str, i32); 17] = [
     ("NELI_ITEM", super::ITEM),
     ("NELI_END", super::END),
     ("NELI_WAITS", super::WAITS),
     ("NELI_KERNEL_ERROR", super::KERNEL_ERROR),
     ("NELI_INTERRUPTED", super::INTERRUPTED),
+    ("NELI_OVERRUN", super::OVERRUN),
+    ("NELI_SHORT", super::SHORT),
+    ("NELI_LENGTH", super::LENGTH),
     ("NELI_MEMORY", super::MEMORY),
     ("NELI_ROOM", super::ROOM),
     ("NELI_HANDLE", super::HANDLE),
@@ -21,6 +24,7 @@ const CODES: [(&str, i32); 13] = [
     ("NELI_NO_ACK", super::NO_ACK),
     ("NELI_UNEXPECTED_ACK", super::UNEXPECTED_ACK),
     ("NELI_LINK", super::LINK),
+    ("NELI_BYTES", super::BYTES),
 ];
 
 /// A type of the header, as this crate writes it.

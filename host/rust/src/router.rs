@@ -2,6 +2,7 @@
 
 mod ledger;
 mod names;
+mod notice;
 mod shared;
 mod state;
 pub mod synchronous;

@@ -228,7 +228,7 @@ impl State {
     pub(super) fn drop_multicast(&mut self) -> Result<(), RouterError> {
         loop {
             match self.read(MULTICAST) {
-                Step::Item(_) | Step::Error(RouterError::Socket(_)) => {}
+                Step::Item(_) | Step::Error(RouterError::Socket(_) | RouterError::De(_)) => {}
                 Step::Error(error) => return Err(error),
                 Step::End | Step::Waits => return Ok(()),
             }
@@ -448,8 +448,8 @@ impl State {
         }
     }
 
-    /// How the answer to the request of a handle stands, and whether the kernel did filter it. An item that was read and
-    /// not given yet, for want of memory, counts as one to come.
+    /// How the answer to the request of a handle stands, and whether the kernel did filter it. An item that was read
+    /// and not given yet, for want of memory, counts as one to come.
     pub(super) fn verdict(&mut self, handle: usize) -> (Verdict, bool) {
         if self.unfetched == Some(handle) || self.fetched.contains_key(&handle) {
             return (Verdict::Pending, false);
@@ -461,7 +461,8 @@ impl State {
 
     fn read_router(&mut self, handle: usize) -> Step {
         let mut item = ffi::Item::default();
-        match self.router.read(handle, &mut item) {
+        let code = if handle == MULTICAST { self.listen(&mut item) } else { self.router.read(handle, &mut item) };
+        match code {
             ffi::WAITS => Step::Waits,
             ffi::END => Step::End,
             ffi::ITEM | ffi::KERNEL_ERROR => {
@@ -470,7 +471,24 @@ impl State {
                 }
                 self.item(handle).map_or_else(Step::Error, Step::Item)
             }
-            code => Step::Error(self.error(code)),
+            code => {
+                if let (MULTICAST, ffi::SHORT | ffi::LENGTH | ffi::BYTES, Some(losses)) =
+                    (handle, code, &mut self.losses)
+                {
+                    losses.read += 1;
+                }
+                Step::Error(self.error(code))
+            }
+        }
+    }
+
+    /// What comes to groups next, whatever it is. What was lost is told by `losses`, each in its place.
+    fn listen(&mut self, item: &mut ffi::Item) -> i32 {
+        loop {
+            match self.router.listen(item) {
+                ffi::LINK | ffi::OVERRUN => {}
+                code => return code,
+            }
         }
     }
 

@@ -4,6 +4,7 @@
 //! threads can read handles of one router at a time: one of them waits at the socket, the others until something is for
 //! them.
 
+pub use super::notice::{Missed, Notice};
 use super::shared::Shared;
 use super::state::{MULTICAST, UNASKED};
 pub use super::verdict::{Dump, Loss, Verdict};
@@ -239,6 +240,27 @@ impl<T, P> NlRouterReceiverHandle<T, P> {
         message.into_err().map(|answer| Err(RouterError::Nlmsgerr(answer)))
     }
 
+    /// What comes to groups next, read as these types, for who goes on whatever comes: a message that can't be read as
+    /// them is given as it came, and a loss by its name, each in its place. No message is the last.
+    ///
+    /// Refused where the wait is over or memory runs out, and by a handle of something else, as `ClosedChannel`.
+    pub fn listen<TT: NlType, PP: FromBytes>(&mut self) -> Result<Notice<TT, PP>, RouterError> {
+        if self.whose != Of::Groups {
+            return Err(RouterError::ClosedChannel);
+        }
+        match self.shared.next(self.handle, &self.bell) {
+            Ok(Some(bytes)) => Ok(match Nlmsghdr::of_bytes(&bytes) {
+                Ok(message) => Notice::Message(message),
+                Err(_) => Notice::Untyped(Nlmsghdr::of_bytes(&bytes).map_err(RouterError::De)),
+            }),
+            Ok(None) => Err(RouterError::ClosedChannel),
+            Err(RouterError::De(error)) => Ok(Notice::Untyped(Err(error.into()))),
+            Err(error) if is_unended(&error) => Err(error),
+            Err(RouterError::Socket(error)) => Ok(Notice::Missed(Missed::of(error))),
+            Err(error) => Err(error),
+        }
+    }
+
     /// How the answer to its request stands, by what was given of it: whether that is all. It is told as soon as it is
     /// known, so that a list that is to be asked for again need not be read to its end. Of what comes to groups, and of
     /// what was not asked for, it is always `Pending`.
@@ -257,9 +279,9 @@ impl<T, P> NlRouterReceiverHandle<T, P> {
         matches!(self.whose, Of::Request(_)) && self.shared.state().verdict(self.handle).1
     }
 
-    /// The whole picture after a loss was reported: the messages of a dump that is complete, in the handle of what comes
-    /// to groups. What had come to groups before is dropped, since the picture has it; what comes from then on is read
-    /// as before, and is to be applied to the picture.
+    /// The whole picture after a loss was reported: the messages of a dump that is complete, in the handle of what
+    /// comes to groups. What had come to groups before is dropped, since the picture has it; what comes from then on is
+    /// read as before, and is to be applied to the picture.
     ///
     /// It is asked for at most so many times, as by [`NlRouter::dump`]; then the last error is given, and
     /// `ClosedChannel` by a handle of something else.

@@ -72,8 +72,8 @@ pub struct Dump<T, P> {
     pub messages: Vec<Nlmsghdr<T, P>>,
     /// Whether they are all.
     pub verdict: Verdict,
-    /// Whether the kernel did filter as it was asked to, by the flag `NLM_F_DUMP_FILTERED`. One that cannot filter lists
-    /// everything.
+    /// Whether the kernel did filter as it was asked to, by the flag `NLM_F_DUMP_FILTERED`. One that cannot filter
+    /// lists everything.
     pub is_filtered: bool,
     /// The first error among the replies: why the kernel refuses, in its words, or what was lost.
     pub error: Option<RouterError>,

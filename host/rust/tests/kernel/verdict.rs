@@ -1,15 +1,18 @@
-//! Whether what was given is all of an answer: dumps that are complete, interrupted or fail.
+//! Whether what was given is all: answers that are complete, interrupted or fail, and listening that goes on.
 
-use crate::links::{Links, ask, dump, link, make_pairs, names, router, set_loopback};
+use crate::links::{LINK_GROUP, Links, ask, dump, link, make_pairs, names, router, set_loopback};
 use crate::space::alone;
 use neli::FromBytes;
 use neli::consts::nl::NlmF;
 use neli::consts::rtnl::{Ifla, RtAddrFamily, RtScope, Rtm};
-use neli::err::{DeError, RouterError};
+use neli::err::{DeError, RouterError, SocketError};
 use neli::nl::NlPayload;
-use neli::router::synchronous::{Dump, Loss, NlRouter, NlRouterReceiverHandle, Verdict};
+use neli::router::synchronous::{Dump, Loss, Missed, NlRouter, NlRouterReceiverHandle, Notice, Verdict};
 use neli::rtnl::{Ifaddrmsg, IfaddrmsgBuilder, Ifinfomsg, RtattrBuilder};
+use neli::types::Buffer;
+use std::io::ErrorKind;
 use std::sync::atomic::{AtomicUsize, Ordering};
+use std::time::Duration;
 
 /// `NLMSG_DONE` of `linux/netlink.h`.
 const DONE: u16 = 3;
@@ -58,9 +61,10 @@ fn a_dump_is_interrupted() {
     });
 }
 
-/// How many lists were begun, and at how many of them a link is still to be removed.
+/// How many lists were begun, at how many more of them a link is to be removed, and how many were removed in all.
 static BEGUN: AtomicUsize = AtomicUsize::new(0);
 static REMOVALS: AtomicUsize = AtomicUsize::new(0);
+static REMOVED: AtomicUsize = AtomicUsize::new(0);
 
 /// A link. While the first of a list is read, which is the loopback link, another one is removed.
 struct Removing;
@@ -69,9 +73,8 @@ impl FromBytes for Removing {
     fn from_bytes(bytes: &[u8]) -> Result<Self, DeError> {
         if *Ifinfomsg::from_bytes(bytes)?.ifi_index() == 1 {
             BEGUN.fetch_add(1, Ordering::Relaxed);
-            let left = REMOVALS.fetch_update(Ordering::Relaxed, Ordering::Relaxed, |it| it.checked_sub(1));
-            if let Ok(left) = left {
-                remove(&format!("pair{}", MANY - left));
+            if REMOVALS.fetch_update(Ordering::Relaxed, Ordering::Relaxed, |it| it.checked_sub(1)).is_ok() {
+                remove(&format!("pair{}", REMOVED.fetch_add(1, Ordering::Relaxed)));
             }
         }
         Ok(Removing)
@@ -156,5 +159,43 @@ fn other_answers_have_a_verdict() {
         assert!(unreadable.next().is_some_and(|it| it.is_ok()) && unreadable.next().is_none());
         assert_eq!(unreadable.verdict(), Verdict::Lost(Loss::Unreadable));
         assert_eq!(names(asked(&router, 1)), ["lo"]);
+    });
+}
+
+/// What a listener is given, in a word; nothing where the wait is over.
+fn heard<P: FromBytes>(multicast: &mut NlRouterReceiverHandle<u16, Buffer>) -> &'static str {
+    match multicast.listen::<Rtm, P>() {
+        Ok(Notice::Message(_)) => "a message",
+        Ok(Notice::Untyped(Ok(message))) if *message.nl_type() == u16::from(Rtm::Newlink) => "as it came",
+        Ok(Notice::Untyped(_)) => "unreadable",
+        Ok(Notice::Missed(Missed::Overrun)) => "an overrun",
+        Ok(Notice::Missed(Missed::Fault(_))) => "a fault",
+        Err(RouterError::Socket(SocketError::Io(error))) if error.kind() == ErrorKind::WouldBlock => "",
+        Err(error) => panic!("{error}"),
+    }
+}
+
+#[test]
+fn who_listens_goes_on() {
+    alone(|| {
+        let (other, mut nothing) = router(&[]);
+        let (router, mut multicast) = router(&[LINK_GROUP]);
+        router.socket().set_recv_timeout(Some(Duration::from_millis(200))).expect("a time is set");
+        set_loopback(&other, true);
+        // A link is no u16.
+        assert_eq!(heard::<u16>(&mut multicast), "as it came");
+        router.socket().set_recv_buffer_size(1).expect("the buffer is made small");
+        (0..100).for_each(|at| set_loopback(&other, at % 2 == 1));
+        let all: Vec<_> =
+            std::iter::from_fn(|| Some(heard::<Ifinfomsg>(&mut multicast))).take_while(|it| !it.is_empty()).collect();
+        assert_eq!(all.iter().filter(|it| **it == "an overrun").count(), 1, "{all:?}");
+        assert!(all.iter().all(|it| matches!(*it, "a message" | "an overrun")), "{all:?}");
+        router.socket().set_recv_buffer_size(1 << 20).expect("the buffer is made large");
+        set_loopback(&other, false);
+        assert_eq!(heard::<Ifinfomsg>(&mut multicast), "a message");
+        // Who is in no group waits, and the handle of a request is told that it is none of multicast.
+        other.socket().set_recv_timeout(Some(Duration::from_millis(50))).expect("a time is set");
+        assert_eq!(heard::<Ifinfomsg>(&mut nothing), "");
+        assert!(matches!(dump(&router).listen::<Rtm, Ifinfomsg>(), Err(RouterError::ClosedChannel)));
     });
 }

@@ -1,9 +1,15 @@
 use Rattle.neli_c.specs.Sessions.{ClosesHandle}
-use Rattle.neli_c.proofs.Opened.{carried}
+use Rattle.neli_c.specs.Listens.{MissesSame}
+use Rattle.neli_c.proofs.Opened.{carried, carried-along}
 use Rattle.neli_c.proofs.router.neli_c_router_close.Goals as goal
 
 pub returns-clause-open : goal.returns-clause-open
 returns-clause-open c =
     carried (λ z. ClosesHandle z c.args.handle) c.close-code.result _ _ _ c.deref_mut.result.now _
     (record { sfits = c.close-code.type_inv }) c.in-Some.ensures.taken c.deref_mut.ensures.value c.put.ensures
-    c.close-code.ensures
+    c.close-code.ensures.closed
+
+pub returns-clause-missed : goal.returns-clause-missed
+returns-clause-missed c =
+    carried-along (λ s t. MissesSame s t) _ _ _ c.deref_mut.result.now _ c.in-Some.ensures.taken
+    c.deref_mut.ensures.value c.put.ensures c.close-code.ensures.missed

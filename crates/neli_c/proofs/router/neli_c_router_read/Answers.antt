@@ -2,6 +2,7 @@ use Rattle.neli_c.specs.Sessions.{ReadsPlace}
 use Rattle.std.proofs.Common.{IfSome}
 use Rattle.neli_c.specs.Slots.{handle_at}
 use Rattle.neli_c.specs.Verdicts.{HearsHandle}
+use Rattle.neli_c.specs.Listens.{MissesSame}
 use Rattle.neli_c.proofs.Opened.{carried, carried-along}
 use Rattle.neli_c.proofs.router.neli_c_router_read.Goals as goal
 
@@ -15,3 +16,8 @@ pub returns-clause-heard : goal.returns-clause-heard
 returns-clause-heard c =
     carried-along (λ s t. IfSome (handle_at c.args.handle s.handles.items) (λ h. HearsHandle h s t)) _ _ _
     c.deref_mut.result.now _ c.in-Some.ensures.taken c.deref_mut.ensures.value c.put.ensures c.read-code.ensures.heard
+
+pub returns-clause-missed : goal.returns-clause-missed
+returns-clause-missed c =
+    carried-along (λ s t. MissesSame s t) _ _ _ c.deref_mut.result.now _ c.in-Some.ensures.taken
+    c.deref_mut.ensures.value c.put.ensures c.read-code.ensures.missed

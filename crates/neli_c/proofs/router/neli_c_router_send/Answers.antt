@@ -1,7 +1,8 @@
 use Rattle.std.proofs.Common.{◌≡◌, ◌≢◌}
 use Rattle.neli_c.specs.Codes.{ok}
 use Rattle.neli_c.specs.Sessions.{RefusesRequest, SaysNeeded, SendsNothing, SendsRequest}
-use Rattle.neli_c.proofs.Opened.{carried}
+use Rattle.neli_c.specs.Listens.{MissesSame}
+use Rattle.neli_c.proofs.Opened.{carried, carried-along}
 use Rattle.neli_c.proofs.router.neli_c_router_send.Goals as goal
 
 pub returns-clause-open : goal.returns-clause-open
@@ -16,3 +17,8 @@ returns-clause-open c =
       λ ne. (c.send-code.ensures.refused ne, c.send-code.ensures.why ne, c.send-code.ensures.needed ne),
       c.send-code.ensures.sent,
     )
+
+pub returns-clause-missed : goal.returns-clause-missed
+returns-clause-missed c =
+    carried-along (λ s t. MissesSame s t) _ _ _ c.deref_mut.result.now _ c.in-Some.ensures.taken
+    c.deref_mut.ensures.value c.put.ensures c.send-code.ensures.missed

@@ -2,8 +2,8 @@ use Rattle.std.proofs.Common.{refl}
 use Rattle.neli_c.proofs.Hears.{given-up}
 use Rattle.neli_c.proofs.session.Session.give_up.Goals as goal
 
-pub returns-in-Ok : goal.returns-in-Ok
-returns-in-Ok c =
+pub returns-in-Ok-clause-given_up : goal.returns-in-Ok-clause-given_up
+returns-in-Ok-clause-given_up c =
     let s = c.args.self.now in
     let r = c.in-Ok.ensures in
     given-up c.args.k s (record {
