@@ -2,5 +2,6 @@
 //! scope, `Nlmsghdr::<T, P>::from_span` reads the bytes of one message.
 
 pub use neli_lent::FromSpan;
+pub use neli_msg::laws as laws_of_messages;
 pub use neli_reader::{NlPayload, Nlmsghdr, NlmsghdrBuilder, NlmsghdrBuilderError, laws};
 pub use neli_texts::{BodyLine, LineFields, MessageLine, laws as laws_of_texts};

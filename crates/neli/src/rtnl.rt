@@ -15,16 +15,19 @@ pub use neli_rtnl::{
     RtmsgBuilder, RtmsgBuilderError, Tcmsg, TcmsgBuilder, TcmsgBuilderError,
 };
 
-/// What was built and written is read back, and `==` is equality.
+/// What was built and written is read back, `==` is equality, and what these say of themselves.
 pub mod laws {
     pub use neli_payloads::laws::{
+        addresses_and_counters_are_their_bytes, cache_entries_are_their_fields,
         equality as equality_of_payloads, hardware_text_is_read_back, ifa_cacheinfo_is_read_back,
         rta_cacheinfo_is_read_back, virtual_functions_are_read_back,
+        virtual_functions_are_their_fields, walk_gives_what_is_left,
     };
     pub use neli_rtnl::laws::{
-        equality_of_links, equality_of_routes, fibmsg_is_read_back, ifaddrmsg_is_read_back,
-        ifinfomsg_is_read_back, ifla_vlan_flags_is_read_back, ifla_vlan_qos_mapping_is_read_back,
-        nda_cacheinfo_is_read_back, ndmsg_is_read_back, rtgenmsg_is_read_back, rtmsg_is_read_back,
-        tcmsg_is_read_back,
+        attributes_begin_after_the_fields, bodies_are_read, bodies_are_written, equality_of_links,
+        equality_of_routes, fibmsg_is_read_back, ifaddrmsg_is_read_back, ifinfomsg_is_read_back,
+        ifla_vlan_flags_is_read_back, ifla_vlan_qos_mapping_is_read_back,
+        nda_cacheinfo_is_read_back, ndmsg_is_read_back, payloads_are_their_fields,
+        rtgenmsg_is_read_back, rtmsg_is_read_back, tcmsg_is_read_back,
     };
 }

@@ -4,6 +4,8 @@ use Rattle.neli_wire.specs.DeError.{DeError}
 use Rattle.neli_reader.specs.Framed.{Nlmsghdr}
 use Rattle.neli_reader.specs.RouterError.{RouterError}
 use Rattle.neli_reader.specs.RouterError.TheVariants as router
+use Rattle.neli_reader.specs.Copies.{socket_copy_takes_memory}
+use Rattle.neli_reader.specs.NlPayload.TheVariants as payload
 use Rattle.neli_reader.specs.Retyping.{IsTyped, RefusesTypingMessage}
 use Rattle.neli_deliveries.specs.declared.delivery.Delivery.{Delivery}
 use Rattle.neli_deliveries.specs.declared.delivery.Delivery.TheVariants as delivery
@@ -32,3 +34,21 @@ module _ {K P V : Type 0} (type_of : ℕ → K) (view : P → V) (size : P → �
   IsFirst None item = item ≡ None
   IsFirst (Some d) None = ⊥
   IsFirst (Some d) (Some item) = IsReading d item
+
+-- where memory may run out, by where reading a body takes some
+module _ (takes : List ℕ → Type 0) where
+  -- of a message: where reading its body does; an error or the end of a dump may take some too
+  abbrev pub MessageTakesMemory : Nlmsghdr ℕ (List ℕ) → Type 0
+  MessageTakesMemory u = (bytes : List ℕ) → u.header.message_type ≢ 2 → u.header.message_type ≢ 3
+      → u.payload ≡ payload.Payload bytes → takes bytes
+
+  -- of a delivery: as its message does, or where a fault has a text to copy
+  abbrev pub ReadingTakesMemory : Delivery → Type 0
+  ReadingTakesMemory (delivery.Message u) = MessageTakesMemory u
+  ReadingTakesMemory (delivery.Stray u) = MessageTakesMemory u
+  ReadingTakesMemory (delivery.Fault e) = socket_copy_takes_memory e
+
+  -- of what waits first: none where nothing waits
+  abbrev pub FirstTakesMemory : Option Delivery → Type 0
+  FirstTakesMemory None = ⊥
+  FirstTakesMemory (Some d) = ReadingTakesMemory d

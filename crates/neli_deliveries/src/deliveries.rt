@@ -7,7 +7,7 @@ ghost use Rattle.neli_reader.specs.Agreement.{untyped_layout};
 ghost use Rattle.neli_deliveries.specs.Lists.{ListsGain, Opens, SameLists, SameListsBut};
 ghost use Rattle.neli_deliveries.specs.declared.delivery.Delivery.{Delivery as Waiting};
 ghost use Rattle.neli_deliveries.specs.Deliveries.{fault_share, head_of, is_would_block, datagram_share};
-ghost use Rattle.neli_deliveries.specs.Readings.{IsFirst};
+ghost use Rattle.neli_deliveries.specs.Readings.{FirstTakesMemory, IsFirst};
 
 use neli_consts::NlType;
 use neli_reader::{Nlmsghdr, RouterError, SocketError};
@@ -83,7 +83,8 @@ pub trait Deliveries: Sized + Drop {
     /// What waits first, read as the caller's types, or that nothing waits: a message, or why there
     /// is none.
     ///
-    /// Refused only where memory runs out, and never where nothing waits.
+    /// Refused only where memory runs out, and never where nothing waits; of a message of another type than 2 and 3 only
+    /// where reading its body takes memory, so that a body which is refused is never told as want of memory.
     fn first<T: NlType, P: FromBytesWithInput + Size>(
         &self,
         alloc: Global,
@@ -91,7 +92,9 @@ pub trait Deliveries: Sized + Drop {
     ) -> Result<Option<Result<Nlmsghdr<T, P>, RouterError<T, P>>>, NoMemory>
         ensures first { IfOk result
             (IsFirst T.wire_value P.view P.wire_length P.read (head_of (pending self.now whose))) }
-        ensures nothing { head_of (pending self.now whose) ≡ None → IsOk result };
+        ensures nothing { head_of (pending self.now whose) ≡ None → IsOk result }
+        ensures memory { OnErr result
+            (FirstTakesMemory P.takes_memory (head_of (pending self.now whose))) };
 
     /// Takes away what waits first. It takes no memory.
     fn drop_first(&mut self, whose: Option<u32>)

@@ -1,18 +1,26 @@
-//! Laws of what is lent, over the definitions alone. The calls do nothing: their contracts are the laws.
+//! Laws of what is lent, over the definitions, and what walks and selectors say of themselves. The calls do nothing: their
+//! contracts are the laws.
 
+ghost use Rattle.std.specs.Iterator.{YieldsFirstBy};
 ghost use Rattle.std.specs.Prelude.{◌≡◌, ◌+◌, ℕ, List, [], None, Some, Ok, Err, IsErr, length};
 ghost use Rattle.neli_wire.specs.DeError.{DeError as Refusal};
 ghost use Rattle.neli_wire.specs.Frames.{frame_at};
+ghost use Rattle.neli_attr.specs.AttrType.{AttrType as Field};
 ghost use Rattle.neli_attr.specs.Attributes.{Attr, attributes_in};
 ghost use Rattle.neli_wire.specs.Sizes.{align};
 ghost use Rattle.neli_reader.specs.Messages.{message_layout};
 ghost use Rattle.neli_reader.specs.Framed.{Nlmsghdr as Message};
 ghost use Rattle.neli_reader.specs.Wires.{message_wire, payload_size};
-ghost use Rattle.neli_lent.specs.Attributes.{attributes_at};
-ghost use Rattle.neli_lent.specs.Messages.{Lent, lent_message, owned_reading};
+ghost use Rattle.neli_lent.specs.Attributes.{attribute_said, attributes_at};
+ghost use Rattle.neli_lent.specs.Messages.{Lent, lent_message, message_said, messages_in, owned_reading};
+ghost use Rattle.neli_lent.specs.Walks.{items_of, map_ok};
 ghost use Rattle.neli_lent.specs.Written.{HeaderFits, IsWalked, header_numbered};
+ghost use Rattle.neli_lent.specs.laws.Walks.{StepsOnly};
 
-use neli_consts::NlType;
+use crate::{AttrSelector, LentAttrs, LentMessages};
+use neli_attr::AttrType;
+use neli_consts::{NlAttrType, NlType};
+use neli_consts_attrs::RtaType;
 use neli_wire::{Constant, FromBytesWithInput, ToBytes};
 
 /// Where a message is lent, reading the same bytes as an owned message gives what the lent one becomes, or
@@ -45,4 +53,20 @@ pub fn lent_attributes_are_the_list<K: Constant<Number = u16>>()
     ensures refused { (s : List ℕ) (attrs : List (Attr K (List ℕ))) (e : Refusal)
         → attributes_at K.wire_value (record { before = []; rest = s }) ≡ (attrs, Some e)
         → attributes_in K.wire_value s ≡ Err e }
+{}
+
+/// A step of a walk gives the first of what is left, an attribute or a message or else the fault, and leaves what follows
+/// it; it gives the end where nothing is left.
+pub fn walks_give_what_is_left<K: Constant<Number = u16>, T: NlType>()
+    ensures attributes { StepsOnly ⟦<LentAttrs<'static, K> as Iterator>⟧.next_gives
+        (YieldsFirstBy (map_ok attribute_said) (λ place. items_of (attributes_at K.wire_value place))) }
+    ensures messages { StepsOnly ⟦<LentMessages<'static, T> as Iterator>⟧.next_gives
+        (YieldsFirstBy (map_ok message_said) (λ s. items_of (messages_in T.wire_value s))) }
+{}
+
+/// A generic attribute is looked up by its type without the flags, a routing one by its whole type.
+pub fn attributes_are_looked_up_by_type<T: NlAttrType, R: RtaType>()
+    ensures generic { (t : T) (field : Field T) → ⟦<T as AttrSelector<AttrType<T>>>⟧.selects t field
+        ≡ T.eq field.nla_type t }
+    ensures routing { (t field : R) → ⟦<R as AttrSelector<R>>⟧.selects t field ≡ R.eq field t }
 {}

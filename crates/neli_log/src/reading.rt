@@ -1,11 +1,11 @@
 //! An entry as a caller's types.
 
-ghost use Rattle.std.specs.Prelude.{IfOk};
+ghost use Rattle.std.specs.Prelude.{IfOk, OnErr};
 ghost use Rattle.neli_reader.specs.Messages.{message_from};
 ghost use Rattle.neli_lent.specs.Spans.{IsSpan, Spells};
 ghost use Rattle.neli_deliveries.specs.declared.delivery.Delivery.TheVariants as delivery;
 ghost use Rattle.neli_deliveries.specs.Deliveries.{Untyped};
-ghost use Rattle.neli_deliveries.specs.Readings.{IsReading};
+ghost use Rattle.neli_deliveries.specs.Readings.{IsReading, MessageTakesMemory};
 
 use neli_consts::NlType;
 use neli_lent::FromSpan;
@@ -19,8 +19,10 @@ pub(crate) fn typed<T: NlType, P: FromBytesWithInput + Size>(
     span: &[u8],
 ) -> Result<Result<Nlmsghdr<T, P>, RouterError<T, P>>, NoMemory>
     requires { IsSpan span.now }
-    ensures { (u : Untyped) → Spells span.now u → IfOk result (IsReading T.wire_value P.view
+    ensures value { (u : Untyped) → Spells span.now u → IfOk result (IsReading T.wire_value P.view
         P.wire_length P.read (delivery.Message (message_from u))) }
+    ensures memory { (u : Untyped) → Spells span.now u
+        → OnErr result (MessageTakesMemory P.takes_memory (message_from u)) }
 {
     match Nlmsghdr::<T, P>::from_span(alloc, span) {
         Ok(message) => Ok(Ok(message)),

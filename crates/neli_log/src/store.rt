@@ -5,7 +5,7 @@ ghost use Rattle.std.specs.Prelude.{OnErr, OnOk, is_some, length, map, option_ma
 ghost use Rattle.neli_deliveries.specs.Lists.{ListsGain, Opens, SameLists, SameListsBut};
 ghost use Rattle.neli_deliveries.specs.declared.delivery.Delivery.{Delivery as Waiting};
 ghost use Rattle.neli_deliveries.specs.Deliveries.{fault_share, head_of, is_would_block};
-ghost use Rattle.neli_deliveries.specs.Readings.{IsFirst, IsReading};
+ghost use Rattle.neli_deliveries.specs.Readings.{FirstTakesMemory, IsFirst, IsReading, ReadingTakesMemory};
 ghost use Rattle.neli_places.specs.Places.{pending_of as items_of};
 ghost use Rattle.neli_spans.specs.Spans.{AreSpansOf, next_serial, span_bytes};
 ghost use Rattle.neli_log.specs.Contents.{AreMessages, IsReadable, delivery_of, entry_read, part_of, spans_of};
@@ -219,7 +219,9 @@ impl Store {
         content: &Content,
     ) -> Result<Result<Nlmsghdr<T, P>, RouterError<T, P>>, NoMemory>
         requires { IsReadable self.now.datagrams content.now }
-        ensures { IfOk result (IsReading T.wire_value P.view P.wire_length P.read
+        ensures value { IfOk result (IsReading T.wire_value P.view P.wire_length P.read
+            (delivery_of (span_bytes self.now.datagrams) content.now)) }
+        ensures memory { OnErr result (ReadingTakesMemory P.takes_memory
             (delivery_of (span_bytes self.now.datagrams) content.now)) }
     {
         match content {
@@ -242,6 +244,8 @@ impl Store {
         ensures first { IfOk result (IsFirst T.wire_value P.view P.wire_length P.read
             (head_of (pending_of self.now whose))) }
         ensures nothing { head_of (pending_of self.now whose) ≡ None → IsOk result }
+        ensures memory { OnErr result
+            (FirstTakesMemory P.takes_memory (head_of (pending_of self.now whose))) }
     {
         match self.places.first(whose) {
             None => Ok(None),

@@ -1,9 +1,13 @@
-//! Laws over the definitions alone: what is written of a value is read again as the same, and when two values are
-//! equal. The functions do nothing: their contracts are the laws.
+//! Laws over the definitions: what is written of a value is read again as the same, when two values are equal, and what
+//! payloads say of themselves. The functions do nothing: their contracts are the laws.
 
-ghost use Rattle.std.specs.Prelude.{◌≡◌, ◌≤◌, List, ℕ, Some, length};
+ghost use Rattle.std.specs.Iterator.{YieldsFirstBy};
+ghost use Rattle.std.specs.Prelude.{◌≡◌, ◌+◌, ◌≤◌, List, Ok, ℕ, Some, length};
 ghost use Rattle.neli_wire.specs.Constants.{IsEquality};
 ghost use Rattle.neli_wire.specs.Numbers.{AreBytes};
+ghost use Rattle.neli_wire.specs.laws.Values.{AreReadAs, AreSame, AreWrittenAs, OnlyWhere};
+ghost use Rattle.neli_lent.specs.Walks.{items_of, map_ok};
+ghost use Rattle.neli_lent.specs.laws.Walks.{StepsOnly};
 ghost use Rattle.neli_payloads.specs.declared.ifa_cacheinfo.IfaCacheinfo.{IfaCacheinfo};
 ghost use Rattle.neli_payloads.specs.declared.rta_cacheinfo.RtaCacheinfo.{RtaCacheinfo};
 ghost use Rattle.neli_payloads.specs.declared.vf_guid.VfGuid.{VfGuid};
@@ -12,9 +16,11 @@ ghost use Rattle.neli_payloads.specs.declared.vf_rate.VfRate.{VfRate};
 ghost use Rattle.neli_payloads.specs.declared.vf_setting.VfSetting.{VfSetting};
 ghost use Rattle.neli_payloads.specs.declared.vf_vlan.VfVlan.{VfVlan};
 ghost use Rattle.neli_payloads.specs.declared.vf_vlan_info.VfVlanInfo.{VfVlanInfo};
-ghost use Rattle.neli_payloads.specs.HardwareAddress.{hardware_text};
+ghost use Rattle.neli_payloads.specs.HardwareAddress.{hardware_address, hardware_text};
 ghost use Rattle.neli_payloads.specs.HardwareText.{hardware_parsed};
 ghost use Rattle.neli_payloads.specs.IfaCacheinfo.{IsPlainIfaCacheinfo, ifa_cacheinfo_bytes, ifa_cacheinfo_header};
+ghost use Rattle.neli_payloads.specs.LinkStats64.{link_stats64_of};
+ghost use Rattle.neli_payloads.specs.NextHops.{next_hop_view, next_hops_at};
 ghost use Rattle.neli_payloads.specs.RtaCacheinfo.{IsPlainRtaCacheinfo, rta_cacheinfo_bytes, rta_cacheinfo_header};
 ghost use Rattle.neli_payloads.specs.VfGuid.{IsPlainVfGuid, vf_guid_bytes, vf_guid_header};
 ghost use Rattle.neli_payloads.specs.VfMac.{IsPlainVfMac, vf_mac_bytes, vf_mac_header};
@@ -22,6 +28,8 @@ ghost use Rattle.neli_payloads.specs.VfRate.{IsPlainVfRate, vf_rate_bytes, vf_ra
 ghost use Rattle.neli_payloads.specs.VfSetting.{IsPlainVfSetting, vf_setting_bytes, vf_setting_header};
 ghost use Rattle.neli_payloads.specs.VfVlan.{IsPlainVfVlan, vf_vlan_bytes, vf_vlan_header};
 ghost use Rattle.neli_payloads.specs.VfVlanInfo.{IsPlainVfVlanInfo, vf_vlan_info_bytes, vf_vlan_info_header};
+
+use neli_wire::{FromBytes, FromBytesWithInput, Size, ToBytes};
 
 /// The text that is printed of a hardware address is read as that address.
 pub fn hardware_text_is_read_back()
@@ -86,4 +94,77 @@ pub fn equality()
     ensures vf_vlan_info { IsEquality ⟦<crate::VfVlanInfo as PartialEq>⟧.eq }
     ensures vf_mac { IsEquality ⟦<crate::VfMac as PartialEq>⟧.eq }
     ensures vf_guid { IsEquality ⟦<crate::VfGuid as PartialEq>⟧.eq }
+{}
+
+/// The lifetimes of an address and a route's cache entry are written and read as their fields. A read takes no memory.
+pub fn cache_entries_are_their_fields()
+    ensures ifa_cacheinfo_written { AreSame ⟦<crate::IfaCacheinfo as ToBytes>⟧.wire (λ v. Ok (ifa_cacheinfo_bytes v)) }
+    ensures ifa_cacheinfo_size { AreSame ⟦<crate::IfaCacheinfo as Size>⟧.unpadded_length (λ v. 16) }
+    ensures ifa_cacheinfo_read { AreReadAs ⟦<crate::IfaCacheinfo as FromBytes>⟧.read
+        ⟦<crate::IfaCacheinfo as FromBytes>⟧.takes_memory 16 ifa_cacheinfo_header }
+    ensures ifa_cacheinfo_seen { AreSame ⟦<crate::IfaCacheinfo as FromBytes>⟧.view (λ v. v) }
+    ensures rta_cacheinfo_written { AreSame ⟦<crate::RtaCacheinfo as ToBytes>⟧.wire (λ v. Ok (rta_cacheinfo_bytes v)) }
+    ensures rta_cacheinfo_size { AreSame ⟦<crate::RtaCacheinfo as Size>⟧.unpadded_length (λ v. 32) }
+    ensures rta_cacheinfo_read { AreReadAs ⟦<crate::RtaCacheinfo as FromBytes>⟧.read
+        ⟦<crate::RtaCacheinfo as FromBytes>⟧.takes_memory 32 rta_cacheinfo_header }
+    ensures rta_cacheinfo_seen { AreSame ⟦<crate::RtaCacheinfo as FromBytes>⟧.view (λ v. v) }
+{}
+
+/// What is set for a virtual function is written and read as its fields. A read takes no memory.
+pub fn virtual_functions_are_their_fields()
+    ensures vf_setting_written { AreSame ⟦<crate::VfSetting as ToBytes>⟧.wire (λ v. Ok (vf_setting_bytes v)) }
+    ensures vf_setting_size { AreSame ⟦<crate::VfSetting as Size>⟧.unpadded_length (λ v. 8) }
+    ensures vf_setting_read { AreReadAs ⟦<crate::VfSetting as FromBytes>⟧.read
+        ⟦<crate::VfSetting as FromBytes>⟧.takes_memory 8 vf_setting_header }
+    ensures vf_setting_seen { AreSame ⟦<crate::VfSetting as FromBytes>⟧.view (λ v. v) }
+    ensures vf_rate_written { AreSame ⟦<crate::VfRate as ToBytes>⟧.wire (λ v. Ok (vf_rate_bytes v)) }
+    ensures vf_rate_size { AreSame ⟦<crate::VfRate as Size>⟧.unpadded_length (λ v. 12) }
+    ensures vf_rate_read { AreReadAs ⟦<crate::VfRate as FromBytes>⟧.read
+        ⟦<crate::VfRate as FromBytes>⟧.takes_memory 12 vf_rate_header }
+    ensures vf_rate_seen { AreSame ⟦<crate::VfRate as FromBytes>⟧.view (λ v. v) }
+    ensures vf_vlan_written { AreSame ⟦<crate::VfVlan as ToBytes>⟧.wire (λ v. Ok (vf_vlan_bytes v)) }
+    ensures vf_vlan_size { AreSame ⟦<crate::VfVlan as Size>⟧.unpadded_length (λ v. 12) }
+    ensures vf_vlan_read { AreReadAs ⟦<crate::VfVlan as FromBytes>⟧.read
+        ⟦<crate::VfVlan as FromBytes>⟧.takes_memory 12 vf_vlan_header }
+    ensures vf_vlan_seen { AreSame ⟦<crate::VfVlan as FromBytes>⟧.view (λ v. v) }
+    ensures vf_vlan_info_written { AreSame ⟦<crate::VfVlanInfo as ToBytes>⟧.wire (λ v. Ok (vf_vlan_info_bytes v)) }
+    ensures vf_vlan_info_size { AreSame ⟦<crate::VfVlanInfo as Size>⟧.unpadded_length (λ v. 16) }
+    ensures vf_vlan_info_read { AreReadAs ⟦<crate::VfVlanInfo as FromBytes>⟧.read
+        ⟦<crate::VfVlanInfo as FromBytes>⟧.takes_memory 16 vf_vlan_info_header }
+    ensures vf_vlan_info_seen { AreSame ⟦<crate::VfVlanInfo as FromBytes>⟧.view (λ v. v) }
+    ensures vf_mac_written { AreSame ⟦<crate::VfMac as ToBytes>⟧.wire (λ v. Ok (vf_mac_bytes v)) }
+    ensures vf_mac_size { AreSame ⟦<crate::VfMac as Size>⟧.unpadded_length (λ v. 4 + length v.mac) }
+    ensures vf_mac_read { AreReadAs ⟦<crate::VfMac as FromBytes>⟧.read
+        ⟦<crate::VfMac as FromBytes>⟧.takes_memory 36 vf_mac_header }
+    ensures vf_mac_seen { AreSame ⟦<crate::VfMac as FromBytes>⟧.view (λ v. v) }
+    ensures vf_guid_written { AreSame ⟦<crate::VfGuid as ToBytes>⟧.wire (λ v. Ok (vf_guid_bytes v)) }
+    ensures vf_guid_size { AreSame ⟦<crate::VfGuid as Size>⟧.unpadded_length (λ v. 16) }
+    ensures vf_guid_read { AreReadAs ⟦<crate::VfGuid as FromBytes>⟧.read
+        ⟦<crate::VfGuid as FromBytes>⟧.takes_memory 16 vf_guid_header }
+    ensures vf_guid_seen { AreSame ⟦<crate::VfGuid as FromBytes>⟧.view (λ v. v) }
+{}
+
+/// A hardware address is its bytes, as it is written, read and parsed, and the counters of a link are read as theirs. A
+/// read takes no memory.
+pub fn addresses_and_counters_are_their_bytes()
+    ensures address_written { AreWrittenAs ⟦<crate::HardwareAddress as ToBytes>⟧.wire
+        ⟦<crate::HardwareAddress as Size>⟧.unpadded_length (λ bytes. bytes) }
+    ensures address_read { AreSame ⟦<crate::HardwareAddress as FromBytesWithInput>⟧.read
+        hardware_address }
+    ensures address_seen { AreSame ⟦<crate::HardwareAddress as FromBytesWithInput>⟧.view
+        (λ bytes. bytes) }
+    ensures address_memory { OnlyWhere
+        ⟦<crate::HardwareAddress as FromBytesWithInput>⟧.takes_memory (λ s. ⊥) }
+    ensures counters_read { AreSame ⟦<crate::LinkStats64 as FromBytesWithInput>⟧.read
+        (λ s. Ok (link_stats64_of s)) }
+    ensures counters_seen { AreSame ⟦<crate::LinkStats64 as FromBytesWithInput>⟧.view (λ v. v) }
+    ensures counters_memory { OnlyWhere ⟦<crate::LinkStats64 as FromBytesWithInput>⟧.takes_memory
+        (λ s. ⊥) }
+{}
+
+/// A step of a walk over next hops gives the first of what is left, a next hop or else the fault, and leaves what follows
+/// it; it gives the end where nothing is left.
+pub fn walk_gives_what_is_left()
+    ensures { StepsOnly ⟦<crate::NextHops<'static> as Iterator>⟧.next_gives
+        (YieldsFirstBy (map_ok next_hop_view) (λ place. items_of (next_hops_at place))) }
 {}

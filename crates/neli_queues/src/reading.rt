@@ -1,8 +1,8 @@
 //! A delivery as a caller's types.
 
-ghost use Rattle.std.specs.Prelude.{IfOk};
+ghost use Rattle.std.specs.Prelude.{IfOk, OnErr};
 ghost use Rattle.neli_deliveries.specs.declared.delivery.Delivery.TheVariants as delivery;
-ghost use Rattle.neli_deliveries.specs.Readings.{IsReading};
+ghost use Rattle.neli_deliveries.specs.Readings.{IsReading, MessageTakesMemory, ReadingTakesMemory};
 
 use neli_attr::Buffer;
 use neli_consts::NlType;
@@ -16,8 +16,9 @@ fn typed<T: NlType, P: FromBytesWithInput + Size>(
     alloc: Global,
     message: &Nlmsghdr<u16, Buffer>,
 ) -> Result<Result<Nlmsghdr<T, P>, RouterError<T, P>>, NoMemory>
-    ensures { IfOk result
+    ensures value { IfOk result
         (IsReading T.wire_value P.view P.wire_length P.read (delivery.Message message.now)) }
+    ensures memory { OnErr result (MessageTakesMemory P.takes_memory message.now) }
 {
     match message.to_typed::<T, P>(alloc) {
         Ok(message) => Ok(Ok(message)),
@@ -31,7 +32,9 @@ pub(crate) fn read<T: NlType, P: FromBytesWithInput + Size>(
     alloc: Global,
     delivery: &Delivery,
 ) -> Result<Result<Nlmsghdr<T, P>, RouterError<T, P>>, NoMemory>
-    ensures { IfOk result (IsReading T.wire_value P.view P.wire_length P.read delivery.now) }
+    ensures value { IfOk result
+        (IsReading T.wire_value P.view P.wire_length P.read delivery.now) }
+    ensures memory { OnErr result (ReadingTakesMemory P.takes_memory delivery.now) }
 {
     match delivery {
         Delivery::Message(message) => typed(alloc, message),

@@ -11,6 +11,7 @@
 //! - [`strays`]: in all combinations what comes before and after a close, and numbers that are used again.
 //! - [`handles`]: handles that another router made. [`many`]: thousands of requests, and of deliveries to one handle.
 //! - [`requests`]: requests to the controller of generic netlink, and what comes of its answers.
+//! - [`refused_bodies`]: bodies that are refused as the types that a caller reads them as.
 //! - [`resolvers`]: what the resolvers find in lists of answers, as [`controller`] looks it up.
 //! - [`conversations`]: conversations with a kernel, as they were recorded.
 //! - [`random`]: scripts that a generator makes, over both stores. [`entries`]: what the log keeps.
@@ -31,6 +32,7 @@ mod many;
 mod numbers;
 mod out_of_memory;
 mod random;
+mod refused_bodies;
 mod requests;
 mod resolvers;
 mod script;

@@ -1,18 +1,24 @@
 //! That each law can be called at real types. The calls do nothing when they run.
 
-use neli::connector::laws::{cn_msg_is_read_back, proc_event_is_read_back};
+use neli::connector::laws::{
+    cn_msg_is_its_fields, cn_msg_is_read_back, proc_event_is_its_fields, proc_event_is_read_back,
+};
 use neli::consts::genl::{CtrlAttr, CtrlCmd};
 use neli::consts::rtnl::Rta;
 use neli::genl::NoUserHeader;
-use neli::genl::laws::{equality, genlmsghdr_is_read_back};
+use neli::genl::laws::{
+    equality, genlmsghdr_is_its_fields, genlmsghdr_is_read_back, no_user_header_has_no_bytes,
+};
 use neli::implementing::bodies::laws::{attributes_are_read_back, body_is_read_back};
 use neli::nl::laws_of_texts;
 use neli::rtnl::NdaCacheinfo;
 use neli::rtnl::laws::{
-    equality_of_links, equality_of_routes, fibmsg_is_read_back, ifaddrmsg_is_read_back,
-    ifinfomsg_is_read_back, ifla_vlan_flags_is_read_back, ifla_vlan_qos_mapping_is_read_back,
-    nda_cacheinfo_is_read_back, ndmsg_is_read_back, rtgenmsg_is_read_back, rtmsg_is_read_back,
-    tcmsg_is_read_back,
+    addresses_and_counters_are_their_bytes, attributes_begin_after_the_fields, bodies_are_read,
+    bodies_are_written, cache_entries_are_their_fields, equality_of_links, equality_of_routes,
+    fibmsg_is_read_back, ifaddrmsg_is_read_back, ifinfomsg_is_read_back,
+    ifla_vlan_flags_is_read_back, ifla_vlan_qos_mapping_is_read_back, nda_cacheinfo_is_read_back,
+    ndmsg_is_read_back, payloads_are_their_fields, rtgenmsg_is_read_back, rtmsg_is_read_back,
+    tcmsg_is_read_back, virtual_functions_are_their_fields, walk_gives_what_is_left,
 };
 use neli::types::Buffer;
 
@@ -37,4 +43,16 @@ fn laws_are_called() {
     equality_of_links();
     equality_of_routes();
     laws_of_texts::equality();
+    attributes_begin_after_the_fields();
+    bodies_are_read();
+    bodies_are_written();
+    payloads_are_their_fields();
+    cache_entries_are_their_fields();
+    virtual_functions_are_their_fields();
+    addresses_and_counters_are_their_bytes();
+    walk_gives_what_is_left();
+    genlmsghdr_is_its_fields::<CtrlCmd, CtrlAttr, NoUserHeader>();
+    no_user_header_has_no_bytes();
+    cn_msg_is_its_fields::<Buffer, Buffer, Buffer>();
+    proc_event_is_its_fields();
 }

@@ -4,11 +4,16 @@ use neli::consts::genl::CtrlAttr;
 use neli::consts::rtnl::Ifla;
 use neli::genl::AttrType;
 use neli::lent::laws::{
-    lent_attributes_are_the_list, lent_message_becomes_what_is_read, written_message_is_walked,
+    attributes_are_looked_up_by_type, lent_attributes_are_the_list,
+    lent_message_becomes_what_is_read, walks_give_what_is_left, written_message_is_walked,
 };
 use neli::nl::laws::{
     equality, has_a_cut, has_few_messages, has_one_cut, rewritten_datagram_is_zeroed,
     typed_reading_agrees,
+};
+use neli::nl::laws_of_messages::{
+    answer_is_its_parts, answers_are_read, copies_of_what_takes_none, header_is_its_bytes,
+    message_is_its_frame,
 };
 use neli::types::Buffer;
 
@@ -24,4 +29,11 @@ fn laws_are_called() {
     lent_attributes_are_the_list::<Ifla>();
     written_message_is_walked::<u16, Buffer>();
     equality::<u16, Buffer>();
+    walks_give_what_is_left::<Ifla, u16>();
+    attributes_are_looked_up_by_type::<CtrlAttr, Ifla>();
+    header_is_its_bytes::<u16>();
+    message_is_its_frame::<u16, Buffer, Buffer>();
+    answer_is_its_parts::<()>();
+    answers_are_read::<u16, Buffer>();
+    copies_of_what_takes_none::<u16, Buffer>();
 }

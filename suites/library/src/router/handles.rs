@@ -5,7 +5,7 @@ use super::script::Told::{Closed, Done, End, Message, Sent, Waits};
 use super::script::{Step, Told, assert_told};
 use super::steps::Asker;
 use super::support::assert_is_at;
-use neli::router::synchronous::{Deliveries, Log, NlRouter, Queues};
+use neli::router::synchronous::{Deliveries, HandleState, Log, NlRouter, Queues};
 use std::alloc::Global;
 use std::mem::swap;
 use std::process::Abort;
@@ -65,5 +65,57 @@ fn a_handle_belongs_to_its_router(rt: HostRuntime) {
     for (row, parts) in &SCRIPTS {
         play_in_turn::<Queues>(&rt, rt.alloc(), row, parts);
         play_in_turn::<Log>(&rt, rt.alloc(), row, parts);
+    }
+}
+
+/// What is known of a handle, and what differs from it in one field each.
+#[test]
+fn states_are_equal_field_by_field(rt: HostRuntime) {
+    let state = HandleState {
+        number: Some(7),
+        needs_ack: true,
+        single_given: false,
+        ended: false,
+    };
+    let others = [
+        (
+            "another number",
+            HandleState {
+                number: Some(8),
+                ..state
+            },
+        ),
+        (
+            "multicast",
+            HandleState {
+                number: None,
+                ..state
+            },
+        ),
+        (
+            "no acknowledgement",
+            HandleState {
+                needs_ack: false,
+                ..state
+            },
+        ),
+        (
+            "a reply was given",
+            HandleState {
+                single_given: true,
+                ..state
+            },
+        ),
+        (
+            "ended",
+            HandleState {
+                ended: true,
+                ..state
+            },
+        ),
+    ];
+    assert_is_at(&rt, "the same", state == state, true);
+    for (name, other) in others {
+        assert_is_at(&rt, name, state == other, false);
     }
 }

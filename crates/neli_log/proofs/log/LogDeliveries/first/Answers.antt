@@ -5,3 +5,6 @@ returns-clause-first g c = rw (← c.self.view_is) c.first.ensures.first
 
 pub returns-clause-nothing : goal.returns-clause-nothing
 returns-clause-nothing g c = rw (← c.self.view_is) c.first.ensures.nothing
+
+pub returns-clause-memory : goal.returns-clause-memory
+returns-clause-memory g c = rw (← c.self.view_is) c.first.ensures.memory
