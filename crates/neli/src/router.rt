@@ -8,6 +8,7 @@ pub mod synchronous {
         CtrlError, CtrlItem, find_genl_family, find_genl_family_and_group, find_nl_mcast_group,
         lookup_id, resolve_genl_family, resolve_nl_mcast_group,
     };
+    pub use neli_router::laws as laws_of_handles;
     pub use neli_runs::{
         Command, Deliveries, Delivery, GivenUp, HandleState, Heard, Loss, Missed, NlRouter,
         NlRouterReceiverHandle, Notice, Outcome, Reply, Verdict, laws, run,

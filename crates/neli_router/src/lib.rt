@@ -5,6 +5,7 @@
 //! - [`NlRouterReceiverHandle`]: who asked; by its sequence number, or none for multicast.
 //! - [`Reply`]: what a read answers: an item, the end, or a wait.
 //! - [`Verdict`]: how an answer stands: whether what was given is all of it.
+//! - [`laws`]: `==` of what is known of handles is equality.
 //!
 //! `specs/Rule.antt` says where a handle's answers end and what each of them is; `specs/Sends.antt`
 //! what a request is as bytes, and for which three causes it is refused; `specs/Requests.antt` what
@@ -14,6 +15,7 @@
 
 mod given_up;
 mod handle;
+pub mod laws;
 mod listening;
 mod reply;
 mod requests;

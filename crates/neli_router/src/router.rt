@@ -7,7 +7,7 @@ ghost use Rattle.neli_reader.specs.Agreement.{untyped_layout};
 ghost use Rattle.neli_deliveries.specs.Lists.{ListsGain, Opens, SameLists, SameListsBut};
 ghost use Rattle.neli_deliveries.specs.declared.delivery.Delivery.{Delivery as Waiting};
 ghost use Rattle.neli_deliveries.specs.Deliveries.{fault_share, is_would_block, datagram_share};
-ghost use Rattle.neli_deliveries.specs.Readings.{IsReading, Item as Given};
+ghost use Rattle.neli_deliveries.specs.Readings.{IsReading, Item as Given, ReadingTakesMemory};
 ghost use Rattle.neli_router.specs.declared.reply.Reply.TheVariants as reply;
 ghost use Rattle.neli_router.specs.Rule.{ends_at, has_number, is_single, item_of};
 ghost use Rattle.neli_router.specs.GivenUp.{still_open};
@@ -216,7 +216,8 @@ impl<D: Deliveries> NlRouter<D> {
     /// that it waits. A handle that is not open here is given `ClosedChannel`, and is ended then:
     /// it gives the end in every router.
     ///
-    /// Refused only where memory runs out, and then the router and the handle are as they were.
+    /// Refused only where memory runs out, and then the router and the handle are as they were; of a message of another
+    /// type than 2 and 3 only where reading its body takes memory, so that a body which is refused is an item.
     pub fn next_typed<T: NlType, P: FromBytesWithInput + Size + Drop, RT, RP>(
         &mut self,
         alloc: Global,
@@ -249,6 +250,9 @@ impl<D: Deliveries> NlRouter<D> {
         ensures others { SameListsBut handle.old.number
             (D.pending self.old.deliveries) (D.pending self.new.deliveries) }
         ensures err { OnErr result ((handle.new ≡ handle.old) × (self.new ≡ self.old)) }
+        ensures memory { handle.old.ended ≡ false → (d : Waiting) (ds : List Waiting)
+            → D.pending self.old.deliveries handle.old.number ≡ Some (d ∷ ds)
+            → OnErr result (ReadingTakesMemory P.takes_memory d) }
         // Beside `gives`: what is heard by that item, for `verdict`.
         ensures heard { handle.old.ended ≡ false → (d : Waiting) (ds : List Waiting)
             → D.pending self.old.deliveries handle.old.number ≡ Some (d ∷ ds)

@@ -5,10 +5,12 @@ use neli::router::synchronous::laws::{
     reads_of_others_change_nothing, reads_of_others_leave_outcomes, regrouping_leaves_deliveries,
     regrouping_leaves_outcomes, request_is_one_frame,
 };
+use neli::router::synchronous::laws_of_handles;
 use neli::types::Buffer;
 
 #[test]
 fn laws_are_called() {
+    laws_of_handles::equality();
     answers_only_grow::<u16, Buffer>();
     deliveries_only_grow::<u16, Buffer, u16, Buffer>();
     later_commands_leave_answers::<u16, Buffer, u16, Buffer>();
