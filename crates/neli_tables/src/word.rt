@@ -1,8 +1,8 @@
 //! The first word of a line.
 
 ghost use Rattle.std.specs.Prelude.{◌≡◌, map};
-ghost use Rattle.std.specs.Option.{option_map};
-ghost use Rattle.neli_tables.specs.Words.{word_named, word_seen, words};
+ghost use Rattle.neli_tables.specs.Rows.{row_seen};
+ghost use Rattle.neli_tables.specs.Words.{word_named, words};
 
 use crate::rows::row_named;
 
@@ -39,7 +39,7 @@ pub enum Word {
     Value,
 }
 
-/// Each word and what it says.
+/// Each first word, and what it says.
 static WORDS: [(&[u8], Word); 14] = [
     (b"family", Word::Family),
     (b"group", Word::Group),
@@ -60,12 +60,12 @@ static WORDS: [(&[u8], Word); 14] = [
 /// The whole table.
 #[tactic(auto, unfolding(crate::specs::Words::words))]
 fn word_rows() -> &'static [(&'static [u8], Word)]
-    ensures { map word_seen result.now ≡ words }
+    ensures { map row_seen result.now ≡ words }
 {
     &WORDS
 }
 
-/// What a line with this first word is.
+/// The first word with this name.
 pub(crate) fn word_named(name: &[u8]) -> Option<Word>
     ensures { result ≡ word_named name.now }
 {
