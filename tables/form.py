@@ -19,7 +19,19 @@ SPANS = {'length', 'range', 'mask', 'family', 'version', 'id', 'at'}
 WORDS = {'prefix'}
 MARKS = {'array', 'multi', 'request', 'reply', 'hex', 'by-family'}
 
-SPAN = re.compile(r'^(0x[0-9a-f]{1,16}|\d{1,20})(?:\.\.(0x[0-9a-f]{1,16}|\d{1,20}))?$')
+NUMBER = re.compile('0x([0-9a-f]+)|([0-9]+)')
+
+# Which numbers stand after a name: none, or else one where it says 'one'; a field has a range.
+NUMBERED = {'family': 'maybe', 'group': 'maybe', 'case': 'maybe', 'message': 'one', 'struct': 'one', 'attr': 'one',
+            'value': 'one', 'field': 'range'}
+WITH_KIND = {'message', 'field', 'attr', 'each', 'case', 'else'}
+ANY_NUMBER = set(NUMBERS) | {'uint', 'sint'}
+# The kinds that an option stands beside, and the lines that others stand on.
+BESIDE = {'after': {'nest', 'hops'}, 'by': {'choice'}, 'by-family': {'choice'}, 'enum': ANY_NUMBER | {'bits'},
+          'flags': ANY_NUMBER | {'bits'}, 'array': ANY_NUMBER | {'struct'}, 'range': ANY_NUMBER, 'mask': ANY_NUMBER,
+          'hex': ANY_NUMBER | {'bytes'}, 'length': KINDS}
+ON = {'multi': {'attr'}, 'request': {'message'}, 'reply': {'message'}, 'family': {'message'}, 'version': {'family'},
+      'id': {'family'}, 'at': {'family'}, 'prefix': {'enum', 'flags'}}
 
 
 class Refused(Exception):
@@ -32,17 +44,21 @@ class Refused(Exception):
 
 
 def number(word):
-    return int(word, 16) if word.startswith('0x') else int(word)
+    """The number of a word, or None."""
+    found = NUMBER.fullmatch(word)
+    if not found:
+        return None
+    value = int(found[1], 16) if found[1] else int(found[2])
+    return value if value < 2**64 else None
 
 
 def span_of(word):
     """The numbers of a word, or None."""
-    found = SPAN.match(word)
-    if not found:
+    first, dots, last = word.partition('.')
+    if dots and not last.startswith('.'):
         return None
-    first = number(found[1])
-    last = number(found[2]) if found[2] else first
-    return (first, last) if first <= last < 2**64 else None
+    span = (number(first), number(last[1:]) if dots else number(first))
+    return span if None not in span and span[0] <= span[1] else None
 
 
 class Line:
@@ -100,72 +116,88 @@ def words_of(line):
     return words
 
 
-def line_of(words, at):
+def option_of(word, at, names):
+    """The option that a word says; `names` are the lines that it may refer to, or None where all are taken."""
+    key, equals, value = word.partition('=')
+    refers = NAMING.get(key) or REFERENCES.get(key)
+    if not (refers or key in SPANS or key in WORDS or key in PLAIN or key in MARKS):
+        raise Refused(at, 'no such option')
+    takes = key not in PLAIN and key not in MARKS
+    if takes != bool(equals) or takes != bool(value):
+        raise Refused(at, 'an option without its value, or with one that it does not take')
+    if key in SPANS:
+        value = span_of(value)
+        if value is None:
+            raise Refused(at, 'no number of 64 bits, or a range out of order')
+    if refers and names is not None and (refers, value) not in names:
+        raise Refused(at, 'a name that no such line has')
+    return (key, value) if takes else (key,)
+
+
+def check_number(line, at):
+    numbered = NUMBERED.get(line.word)
+    if line.span is None and numbered in ('one', 'range'):
+        raise Refused(at, 'a number is missing')
+    if line.span is not None and numbered is None:
+        raise Refused(at, 'such a line has no number')
+    if line.span is not None and numbered != 'range' and line.span[0] != line.span[1]:
+        raise Refused(at, 'no number of 64 bits, or a range out of order')
+
+
+def belongs(line, key):
+    """Whether an option stands on such a line."""
+    if key in KINDS:
+        return line.word in WITH_KIND
+    return line.kind in BESIDE[key] if key in BESIDE else line.word in ON[key]
+
+
+def line_of(words, at, names=None):
     if words[0] not in SECTIONS and words[0] not in ROWS:
-        raise Refused(at, 'no such word')
+        raise Refused(at, 'no line begins with this word')
     if len(words) < 2:
         raise Refused(at, 'a name is missing')
     line, rest, seen = Line(words[0], words[1], at=at), words[2:], set()
-    if rest and rest[0][0].isdigit():
+    if rest and '0' <= rest[0][0] <= '9':
         line.span = span_of(rest[0])
         if line.span is None:
-            raise Refused(at, 'no number')
+            raise Refused(at, 'no number of 64 bits, or a range out of order')
         rest = rest[1:]
+    check_number(line, at)
     for word in rest:
-        key, equals, value = word.partition('=')
-        takes = key in NAMING or key in REFERENCES or key in SPANS or key in WORDS
-        if not (takes or key in PLAIN or key in MARKS):
-            raise Refused(at, 'no such word')
-        if takes != bool(value) or takes != bool(equals):
-            raise Refused(at, 'a value is missing, or too many')
-        if key in SPANS:
-            value = span_of(value)
-            if value is None:
-                raise Refused(at, 'no number')
-        if ('kind' if key in KINDS else key) in seen:
-            raise Refused(at, 'said twice')
-        seen.add('kind' if key in KINDS else key)
-        line.options.append((key, value) if takes else (key,))
+        option = option_of(word, at, names)
+        slot = 'kind' if option[0] in KINDS else option[0]
+        if slot in seen:
+            raise Refused(at, 'an option that stands twice')
+        seen.add(slot)
+        line.options.append(option)
+    if not all(belongs(line, option[0]) for option in line.options):
+        raise Refused(at, 'an option that does not belong here')
     return line
 
 
-def read(text):
-    """The sections of a text, each with its rows; raises Refused."""
+def read(text, names=None):
+    """The sections of a text, each with its rows; raises Refused at the first line that is none."""
     sections = []
     for at, line in enumerate(text.split('\n'), 1):
         words = words_of(line)
         if not words:
             continue
-        item = line_of(words, at)
+        item = line_of(words, at, names)
+        if (item.word == 'family') != (not sections):
+            raise Refused(at, 'the family comes first, and once')
         if item.word in ROWS:
-            if not sections or sections[-1].word not in ROWS[item.word]:
-                raise Refused(at, 'in the wrong section')
+            if sections[-1].word not in ROWS[item.word]:
+                raise Refused(at, 'a row that does not belong here')
             sections[-1].rows.append(item)
         else:
-            if (item.word == 'family') != (not sections):
-                raise Refused(at, 'the family comes first, once')
             sections.append(item)
     return sections
 
 
-def resolve(sections):
-    """Looks up every name that a line refers to; raises Refused."""
-    names = {}
-    attributes = {}
-    for section in sections:
-        names.setdefault((section.word, section.name), section)
-        for row in section.rows:
-            if row.word == 'attr':
-                attributes.setdefault(row.name, section)
-    for section in sections:
-        for line in [section] + section.rows:
-            for option in line.options:
-                word = NAMING.get(option[0]) or REFERENCES.get(option[0])
-                if word == 'attr' and option[1] not in attributes:
-                    raise Refused(line.at, f'no attr {option[1]}')
-                if word and word != 'attr' and (word, option[1]) not in names:
-                    raise Refused(line.at, f'no {word} {option[1]}')
-    return names, attributes
+def read_whole(text):
+    """The same, where each name that a line refers to is that of another line."""
+    lines = [words_of(line) for line in text.split('\n')]
+    return read(text, {(words[0], words[1]) for words in lines if len(words) > 1})
 
 
 def write(sections, heading):

@@ -1,0 +1,5 @@
+mod Found
+mod Options
+mod Passed
+mod Places
+mod Texts

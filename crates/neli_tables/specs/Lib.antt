@@ -1,0 +1,10 @@
+pub mod Keys
+pub mod Kinds
+pub mod Lines
+pub mod Names
+pub mod Numbers
+pub mod Refusals
+pub mod Rows
+pub mod Settings
+pub mod Text
+pub mod Words
