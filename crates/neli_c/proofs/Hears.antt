@@ -1,6 +1,6 @@
 -- What is heard of an answer by a read of a session, by what its router hears.
-use Rattle.std.proofs.Common.{◌≡◌, ◌≢◌, ◌⊎◌, ℕ, true, false, List, [], ◌∷◌, length, Option, Some, None, Result, IfSome}
-use Rattle.std.proofs.Common.{Ok, Err, IfOk, OnErr, ap, subst, ◌∙◌, inl, inr, option_map, sym, refl, Bool, ◌||◌, ℤ, slice_set}
+use Rattle.std.proofs.Common.{◌≡◌, ◌≢◌, ◌⊎◌, ℕ, false, List, ◌∷◌, length, Option, Some, None, Result}
+use Rattle.std.proofs.Common.{Ok, Err, IfOk, OnErr, subst, ◌∙◌, inl, inr, option_map, refl, Bool, ◌||◌, ℤ, slice_set}
 use Rattle.neli_deliveries.specs.declared.delivery.Delivery.{Delivery}
 use Rattle.neli_deliveries.specs.Readings.{IsReading, Item}
 use Rattle.neli_router.specs.declared.handle.HandleState.{HandleState}

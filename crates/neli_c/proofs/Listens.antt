@@ -9,7 +9,7 @@ use Rattle.neli_router.specs.declared.listening.Notice.TheVariants as notice
 use Rattle.neli_c.specs.declared.session.NeliItem.{NeliItem}
 use Rattle.neli_c.specs.declared.session.Session.{Session}
 use Rattle.neli_c.specs.Codes.{memory}
-use Rattle.neli_c.specs.Listens.{GivesNotice, HoldsNotice, Listens, missed_code, notice_code}
+use Rattle.neli_c.specs.Listens.{GivesNotice, HoldsNotice, Listens, notice_code}
 use Rattle.neli_c.specs.Sessions.{GivesNothing, pending}
 
 module _ {E : Type 0} (s t : Session) (code : ℤ) (a b : NeliItem) where

@@ -1,6 +1,6 @@
 -- What is kept for requests that were given up, one request more at a time.
 use Rattle.std.proofs.Common.{ℕ, ◌≡◌, ◌≢◌, Bool, true, false, ◌||◌, ◌&&◌, List, [], ◌∷◌, ◌++◌, length, Option, Some, None}
-use Rattle.std.proofs.Common.{Ok, Err, refl, sym, ap, subst, ◌∙◌, inl, inr, ◌⊎◌, option_map, Result, arith, nat_eq}
+use Rattle.std.proofs.Common.{Ok, Err, refl, sym, ap, subst, ◌∙◌, option_map, Result, arith, nat_eq}
 use Rattle.std.specs.Prelude.{if◌then◌else◌, ◌==◌}
 use Rattle.std.specs.List.{list_any}
 use Rattle.std.proofs.lemmas.Bool.{eqb-false, eqb-true, ne_eqb}

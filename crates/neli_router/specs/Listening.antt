@@ -1,5 +1,5 @@
 -- Listening: what a read of multicast gives that goes on.
-use Rattle.std.specs.Prelude.{◌≡◌, ℕ, List, length, if◌then◌else◌, Option, Some, None, Result, Ok, Err}
+use Rattle.std.specs.Prelude.{ℕ, List, length, if◌then◌else◌, Option, Some, Result, Ok, Err}
 use Rattle.std.specs.declared.io.ErrorKind.{ErrorKind}
 use Rattle.std.specs.declared.io.ErrorKind.TheVariants.{Other}
 use Rattle.neli_wire.specs.DeError.{DeError}
@@ -8,7 +8,7 @@ use Rattle.neli_reader.specs.SocketError.{SocketError}
 use Rattle.neli_reader.specs.SocketError.TheVariants as socket
 use Rattle.neli_deliveries.specs.declared.delivery.Delivery.{Delivery}
 use Rattle.neli_deliveries.specs.Deliveries.{is_would_block}
-use Rattle.neli_deliveries.specs.Readings.{IsReading, Item}
+use Rattle.neli_deliveries.specs.Readings.{IsReading}
 use Rattle.neli_router.specs.declared.listening.Missed.{Missed}
 use Rattle.neli_router.specs.declared.listening.Missed.TheVariants as missed
 use Rattle.neli_router.specs.declared.listening.Notice.{Notice}

@@ -1,6 +1,6 @@
 -- The options of a line, one after the other.
 use Rattle.std.proofs.Common.{Bor, get_or, ◌<◌, ◌≡◌, ◌∙◌, ℕ, ◌+◌, Bool, true, false, cond, List, [], ◌∷◌, ◌++◌, length}
-use Rattle.std.proofs.Common.{drop, map, Option, Result, Ok, Err, refl, sym, ap}
+use Rattle.std.proofs.Common.{drop, Option, Result, Ok, Err, ap}
 use Rattle.neli_tables.specs.declared.setting.Setting.{Setting}
 use Rattle.neli_tables.specs.declared.why.Why.{Why}
 use Rattle.neli_tables.specs.declared.why.Why.TheVariants as why

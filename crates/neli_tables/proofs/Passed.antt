@@ -1,6 +1,6 @@
 -- Options that were passed, and those to come.
-use Rattle.std.proofs.Common.{Bor, get_or, ◌<◌, ◌≡◌, ◌∙◌, ℕ, ◌+◌, Bool, true, false, ◌||◌, ◌&&◌, eqb, List, ◌∷◌, length}
-use Rattle.std.proofs.Common.{drop, map, Option, Some, None, refl, sym, ap, arith}
+use Rattle.std.proofs.Common.{Bor, get_or, ◌<◌, ◌≡◌, ◌∙◌, ℕ, ◌+◌, Bool, ◌||◌, ◌&&◌, eqb, List, ◌∷◌, length}
+use Rattle.std.proofs.Common.{drop, map, Option, ap, arith}
 use Rattle.std.proofs.lemmas.List.{drop_more, get_or-map, length-map}
 use Rattle.neli_tables.specs.declared.kind.Kind.{Kind}
 use Rattle.neli_tables.specs.declared.line.Class.{Class}

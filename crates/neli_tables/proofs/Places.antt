@@ -1,6 +1,6 @@
 -- Where lines stand.
-use Rattle.std.proofs.Common.{Bor, get_or, ◌<◌, ◌≡◌, ◌∙◌, ℕ, ◌+◌, Bool, true, false, ◌&&◌, cond, List, [], ◌∷◌, length}
-use Rattle.std.proofs.Common.{drop, map, Option, Ordering, Less, Equal, Greater, Some, None, refl, sym, ap, arith}
+use Rattle.std.proofs.Common.{Bor, get_or, ◌<◌, ◌≡◌, ◌∙◌, ℕ, ◌+◌, ◌&&◌, cond, List, ◌∷◌, length}
+use Rattle.std.proofs.Common.{drop, map, Option, Ordering, Less, Equal, Greater, Some, refl, sym, ap, arith}
 use Rattle.std.specs.Cmp.Lexicographic.{slice_cmp}
 use Rattle.std.specs.Ordering.{is_eq, nat_cmp, ordering_then}
 use Rattle.std.specs.Str.{bytes_eq}

@@ -1,9 +1,8 @@
 -- Lines and their words, one after the other.
-use Rattle.std.proofs.Common.{Bor, get_or, ◌<◌, ◌≡◌, ◌∙◌, ℕ, ◌+◌, Bool, true, false, eqb, cond, List, [], ◌∷◌, ◌++◌}
-use Rattle.std.proofs.Common.{length, drop, map, refl, sym, ap, arith, rules, append_assoc}
+use Rattle.std.proofs.Common.{Bor, get_or, ◌<◌, ◌≡◌, ◌∙◌, ℕ, ◌+◌, true, false, eqb, List, [], ◌∷◌, ◌++◌}
+use Rattle.std.proofs.Common.{length, drop, map, refl, sym, ap, arith, append_assoc}
 use Rattle.std.proofs.lemmas.List.{append-nil, drop_more, get_or-map, length-map}
-use Rattle.neli_tables.specs.declared.text.Worded.{Worded}
-use Rattle.neli_tables.specs.Text.{begins_comment, with_words, words_among, words_in, worded_from, worded_seen}
+use Rattle.neli_tables.specs.Text.{begins_comment, with_words, words_among, words_in, worded_from}
 
 abbrev pub bytes_in : List (Bor (List ℕ)) → List (List ℕ)
 bytes_in parts = map (λ part. part.now) parts

@@ -1,5 +1,5 @@
 -- Numbers, and ranges of them.
-use Rattle.std.specs.Prelude.{ℕ, ◌+◌, ◌-◌, ◌*◌, ◌^◌, Bool, ◌&&◌, ◌==◌, nat_lt, nat_le, if◌then◌else◌, List, length}
+use Rattle.std.specs.Prelude.{ℕ, ◌+◌, ◌-◌, ◌*◌, ◌^◌, ◌&&◌, ◌==◌, nat_lt, nat_le, if◌then◌else◌, List, length}
 use Rattle.std.specs.Prelude.{take, drop, slice_index, Option, Some, None, fold}
 use Rattle.std.specs.List.{position}
 use Rattle.neli_tables.specs.declared.number.Span.{Span}

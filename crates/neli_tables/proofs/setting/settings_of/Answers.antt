@@ -1,4 +1,4 @@
-use Rattle.std.proofs.Common.{◌≡◌, ◌∙◌, sym, ap}
+use Rattle.std.proofs.Common.{◌∙◌, sym}
 use Rattle.std.proofs.lemmas.List.{map-append}
 use Rattle.neli_tables.specs.Names.{finds}
 use Rattle.neli_tables.proofs.Options.{pass_refused, pass_setting, pass_twice}

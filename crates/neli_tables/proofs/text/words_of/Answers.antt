@@ -1,4 +1,4 @@
-use Rattle.std.proofs.Common.{◌≡◌, ◌∙◌, ◌++◌, ◌∷◌, Bor, List, ℕ, [], map, sym, ap}
+use Rattle.std.proofs.Common.{◌∙◌, Bor, List, ℕ, map, sym, ap}
 use Rattle.std.proofs.lemmas.List.{map-append}
 use Rattle.neli_tables.specs.Text.{words_among}
 use Rattle.neli_tables.proofs.Texts.{pass_comment, pass_empty, pass_word}

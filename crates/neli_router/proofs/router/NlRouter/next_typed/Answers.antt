@@ -1,4 +1,4 @@
-use Rattle.std.proofs.Common.{ap, rules}
+use Rattle.std.proofs.Common.{rules}
 use Rattle.neli_router.proofs.Settling.{heard-by}
 use Rattle.neli_router.specs.Rule.{has_number}
 use Rattle.neli_router.specs.Verdicts.{heard_of}
