@@ -2,4 +2,5 @@ mod Found
 mod Options
 mod Passed
 mod Places
+mod Reading
 mod Texts

@@ -5,6 +5,7 @@ pub mod Names
 pub mod Numbers
 pub mod Refusals
 pub mod Rows
+pub mod Schemas
 pub mod Settings
 pub mod Text
 pub mod Words

@@ -1,0 +1,87 @@
+-- The lines of a text, one after the other.
+use Rattle.std.proofs.Common.{Bor, get_or, ◌<◌, ◌≡◌, ◌∙◌, ℕ, ◌+◌, List, [], ◌∷◌, ◌++◌, length, drop, map, Option, Result}
+use Rattle.std.proofs.Common.{Ok, Err, refl, sym, ap, append_assoc}
+use mathlib.Core.Path.{fun_ext}
+use Rattle.std.proofs.lemmas.List.{append-nil}
+use Rattle.neli_tables.specs.declared.text.Worded.{Worded}
+use Rattle.neli_tables.specs.declared.why.Unread.{Unread}
+use Rattle.neli_tables.specs.declared.why.Unread.TheVariants.{Memory, Refused}
+use Rattle.neli_tables.specs.declared.why.Why.{Why}
+use Rattle.neli_tables.specs.declared.word.Word.{Word}
+use Rattle.neli_tables.specs.Lines.{LineSeen, line_seen}
+use Rattle.neli_tables.specs.Refusals.{Reads}
+use Rattle.neli_tables.specs.Schemas.{IsWhyNot, before, error_at, line_at, lines_from, section_after, with_line}
+use Rattle.neli_tables.specs.Text.{worded_seen}
+use Rattle.neli_tables.proofs.Places.{line_left}
+
+abbrev Find : Type 0
+Find = Word → List ℕ → Option ℕ
+
+abbrev Outcome : Type 0
+Outcome = Result (List LineSeen) (ℕ × Why)
+
+pub before_none : (later : Outcome) → later ≡ before [] later
+before_none (Ok others) = refl
+before_none (Err refused) = refl
+
+pub before_all : (lines : List LineSeen) → before lines (Ok []) ≡ Ok lines
+before_all lines = ap Ok (append-nil lines)
+
+before_more : (lines : List LineSeen) (read : LineSeen) (later : Outcome)
+    → before lines (before (read ∷ []) later) ≡ before (lines ++ read ∷ []) later
+before_more lines read (Ok others) = ap Ok (sym (append_assoc lines (read ∷ []) others))
+before_more lines read (Err refused) = refl
+
+-- what follows the next line
+abbrev next : Find → Option Word → ℕ → List (ℕ × List (List ℕ)) → Result LineSeen Why → Outcome
+next find section number others read =
+    with_line number read (λ line. lines_from find (section_after section line.word) others)
+
+-- the next line is this one
+turn : (find : Find) (whole : Outcome) (lines : List LineSeen) (section : Option Word) (worded : List Worded) (i : ℕ)
+    (x : Worded) → whole ≡ before lines (lines_from find section (drop i (map worded_seen worded))) → i < length worded
+    → x ≡ get_or worded i x
+    → whole ≡ before lines (next find section x.number (drop (i + 1) (map worded_seen worded))
+    (line_at find section x.number (worded_seen x).1))
+turn find whole lines section worded i x said within at =
+    said ∙ ap (λ others. before lines (lines_from find section others)) (line_left worded i x within)
+    ∙ ap (λ (y : Worded). before lines (next find section y.number (drop (i + 1) (map worded_seen worded))
+    (line_at find section y.number (worded_seen y).1))) (sym at)
+
+pass_bad : (find : Find) (whole : Outcome) (lines : List LineSeen) (section : Option Word) (worded : List Worded)
+    (i : ℕ) (x : Worded) (w : Why)
+    → whole ≡ before lines (lines_from find section (drop i (map worded_seen worded))) → i < length worded
+    → x ≡ get_or worded i x → line_at find section x.number (worded_seen x).1 ≡ Err w
+    → whole ≡ Err (x.number, w)
+pass_bad find whole lines section worded i x w said within at is =
+    turn find whole lines section worded i x said within at
+    ∙ ap (λ read. before lines (next find section x.number (drop (i + 1) (map worded_seen worded)) read)) is
+
+-- the line of these words is not read
+pub pass_unread : (find : Find) (whole : Outcome) (lines : List LineSeen) (section : Option Word) (worded : List Worded)
+    (i : ℕ) (x : Worded) (words : List (Bor (List ℕ))) (unread : Unread)
+    → whole ≡ before lines (lines_from find section (drop i (map worded_seen worded))) → i < length worded
+    → x ≡ get_or worded i x → words ≡ x.words.items
+    → Reads line_seen (line_at find section x.number (map (λ (word : Bor (List ℕ)). word.now) words)) (Err unread)
+    → IsWhyNot whole (error_at x.number unread)
+pass_unread find whole lines section worded i x words (Refused w) said within at same is =
+    pass_bad find whole lines section worded i x w said within at
+    (sym (ap (λ ws. line_at find section x.number (map (λ (word : Bor (List ℕ)). word.now) ws)) same) ∙ is)
+pass_unread find whole lines section worded i x words Memory said within at same is = is
+
+-- the line is read
+pub pass_read : (find : Find) (whole : Outcome) (lines : List LineSeen) (section : Option Word) (worded : List Worded)
+    (i : ℕ) (x : Worded) (read : LineSeen)
+    → whole ≡ before lines (lines_from find section (drop i (map worded_seen worded))) → i < length worded
+    → x ≡ get_or worded i x → line_at find section x.number (worded_seen x).1 ≡ Ok read
+    → whole ≡ before (lines ++ read ∷ [])
+    (lines_from find (section_after section read.word) (drop (i + 1) (map worded_seen worded)))
+pass_read find whole lines section worded i x read said within at is =
+    turn find whole lines section worded i x said within at
+    ∙ ap (λ r. before lines (next find section x.number (drop (i + 1) (map worded_seen worded)) r)) is
+    ∙ before_more lines read (lines_from find (section_after section read.word) (drop (i + 1) (map worded_seen worded)))
+
+-- the lines of a text, where the places are found
+pub found_so : (find places : Find) (section : Option Word) (lines : List (ℕ × List (List ℕ)))
+    → ((w : Word) (name : List ℕ) → find w name ≡ places w name) → lines_from find section lines ≡ lines_from places section lines
+found_so find places section lines same = ap (λ f. lines_from f section lines) (fun_ext (λ w. fun_ext (λ name. same w name)))
