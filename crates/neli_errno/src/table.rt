@@ -186,7 +186,7 @@ fn row_of(number: u32) -> Option<Row>
     find_row(errno_rows(), number).copied()
 }
 
-/// The error with this number, where the table has it.
+/// The error with this number, if the table has it.
 pub(crate) fn errno_of(number: u32) -> Option<Errno>
     ensures { option_map errno_seen result ≡ errno_of number }
 {
