@@ -414,7 +414,7 @@ fn answer_with<M>(error: i32, nlmsg: M, ext_ack: GenlBuffer<NlmsgerrAttr, Buffer
 impl<M: TryClone> Nlmsgerr<M> {
     /// An equal answer.
     ///
-    /// Refused only where memory runs out: a copy takes some where that of the message does, or for attributes.
+    /// Refused only if memory runs out: a copy takes some where that of the message does, or for attributes.
     pub fn try_clone(&self) -> Result<Self, NoMemory>
         ensures value { IfOk result (λ e. e ≡ self.now) }
         ensures memory { OnErr result (answer_copy_takes_memory M.copy_takes_memory self.now) }
@@ -436,7 +436,7 @@ impl<M: TryClone> TryClone for Nlmsgerr<M> {
 impl Nlmsgerr<NlmsghdrAck<u16>> {
     /// The same acknowledgement with the type that its header's number means.
     ///
-    /// Refused only where memory runs out, and never where there are no attributes.
+    /// Refused only if memory runs out, and never where there are no attributes.
     pub fn to_typed<T: NlType>(&self) -> Result<Nlmsgerr<NlmsghdrAck<T>>, NoMemory>
         ensures value { IfOk result (λ e. e ≡ typed_acknowledgement T.wire_value self.now) }
         ensures memory { OnErr result (0 < length self.now.ext_ack) }

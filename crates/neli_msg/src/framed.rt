@@ -179,7 +179,7 @@ impl<T: NlType, X: Carried<T>> FromBytes for Framed<T, X> {
 impl<T: NlType, X: TryClone> Framed<T, X> {
     /// An equal message.
     ///
-    /// Refused only where memory runs out, and only where a copy of what the message carries takes some.
+    /// Refused only if memory runs out, and only where a copy of what the message carries takes some.
     pub fn try_clone(&self) -> Result<Self, NoMemory>
         ensures value { IfOk result (λ m. m ≡ self.now) }
         ensures memory { OnErr result (X.copy_takes_memory self.now.payload) }

@@ -214,7 +214,7 @@ impl<T: NlType, P: ToBytes> ToBytes for NlPayload<T, P> {
 impl<T: NlType, P: TryClone> NlPayload<T, P> {
     /// An equal payload.
     ///
-    /// Refused only where memory runs out: a copy takes some where that of the body does, or for attributes.
+    /// Refused only if memory runs out: a copy takes some where that of the body does, or for attributes.
     pub fn try_clone(&self) -> Result<Self, NoMemory>
         ensures value { IfOk result (λ p. p ≡ self.now) }
         ensures memory { OnErr result (payload_copy_takes_memory P.copy_takes_memory self.now) }

@@ -49,7 +49,7 @@ pub enum RouterError<T, P> {
 impl<T, P> RouterError<T, P> {
     /// The error in the words that `message` prints, where its type states them.
     ///
-    /// Refused only where memory runs out.
+    /// Refused only if memory runs out.
     pub fn new<D: fmt::Display + Drop>(
         alloc: Global,
         message: D,
@@ -63,7 +63,7 @@ impl<T, P> RouterError<T, P> {
 impl<T: NlType, P: TryClone> RouterError<T, P> {
     /// An equal error.
     ///
-    /// Refused only where memory runs out, and only where the error has a text, attributes, or a message of which a
+    /// Refused only if memory runs out, and only where the error has a text, attributes, or a message of which a
     /// copy takes some.
     pub fn try_clone(&self) -> Result<Self, NoMemory>
         ensures value { IfOk result (λ e. e ≡ self.now) }

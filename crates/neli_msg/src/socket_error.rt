@@ -32,7 +32,7 @@ pub enum SocketError {
 impl SocketError {
     /// The error in the words that `message` prints, where its type states them.
     ///
-    /// Refused only where memory runs out.
+    /// Refused only if memory runs out.
     pub fn new<D: fmt::Display + Drop>(alloc: Global, message: D) -> Result<SocketError, NoMemory>
         ensures { IfOk result (λ e. IfSome (D.output message) (λ text. e ≡ socket.Msg text)) }
     {
@@ -41,7 +41,7 @@ impl SocketError {
 
     /// An equal error.
     ///
-    /// Refused only where memory runs out, and only where the error has a text.
+    /// Refused only if memory runs out, and only where the error has a text.
     pub fn try_clone(&self) -> Result<SocketError, NoMemory>
         ensures value { IfOk result (λ e. e ≡ self.now) }
         ensures memory { OnErr result (socket_copy_takes_memory self.now) }
