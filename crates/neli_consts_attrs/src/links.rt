@@ -77,7 +77,7 @@ pub enum Ifla {
     Carrier,
     /// Identifies the physical port.
     PhysPortId,
-    /// How often the carrier came or went.
+    /// How often the carrier changed.
     CarrierChanges,
     /// Identifies the switch of the port.
     PhysSwitchId,
@@ -101,9 +101,9 @@ pub enum Ifla {
     NewNetnsid,
     /// The namespace that the request is about, now `IFLA_TARGET_NETNSID`.
     IfNetnsid,
-    /// How often the carrier came.
+    /// How often the carrier went up.
     CarrierUpCount,
-    /// How often the carrier went.
+    /// How often the carrier went down.
     CarrierDownCount,
     /// The index of the link in the network namespace that it moves to.
     NewIfindex,

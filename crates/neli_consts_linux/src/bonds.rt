@@ -58,7 +58,7 @@ pub enum IflaBond {
     LpInterval,
     /// How many packets a link sends before the next.
     PacketsPerSlave,
-    /// How often LACP messages are asked for: 0 slow, 1 fast.
+    /// How often LACP messages are requested: 0 slow, 1 fast.
     AdLacpRate,
     /// How an aggregator is chosen.
     AdSelect,

@@ -1,4 +1,4 @@
--- Readings step by step: the header of a frame first, and then what it says follows. The laws of frames tie them to
+-- Readings step by step: the header of a frame first, and then what it states. The laws of frames tie them to
 -- readings by places.
 use Rattle.std.specs.Prelude.{ℕ, ◌-◌, ◌≤◌, List, Result, Ok, Err, nat_lt, if◌then◌else◌}
 use Rattle.neli_wire.specs.Bytes.{Reading, bytes_at}
