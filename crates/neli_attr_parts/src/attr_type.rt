@@ -18,7 +18,8 @@ const NETWORK_ORDER: u16 = 0x4000;
 /// The bits of the type itself (`NLA_TYPE_MASK`).
 const TYPE: u16 = 0x3fff;
 
-/// The type of a generic attribute, as its header has it: two flags and a number of 14 bits.
+/// The type of a generic attribute, `nla_type` of `struct nlattr` (`linux/netlink.h`): two flags and a number of 14
+/// bits, in two bytes.
 ///
 /// A type with a number of 16384 or more sets the bits of the flags when it is written, and is not read back as itself.
 #[derive(Clone, Copy, Debug)]

@@ -158,7 +158,7 @@ pub fn nested_bytes<A: ToBytes>(payload: Buffer, attr: &A) -> Result<(u16, Buffe
     Ok((len, nested))
 }
 
-/// The size of an attribute with this payload, without padding; `usize::MAX` if that is more.
+/// The size of an attribute with this payload, without padding, capped at `usize::MAX`.
 pub fn size_with<P: Size>(payload: &P) -> usize
     ensures { result ≡ min (4 + P.wire_length payload.now) usize.MAX }
 {

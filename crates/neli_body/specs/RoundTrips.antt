@@ -9,7 +9,7 @@ use Rattle.neli_body.specs.Attributes.{Attrs, attrs_of, attrs_view, attrs_wire}
 use Rattle.neli_body.specs.Bodies.{body_of, body_wire}
 use Rattle.neli_body.specs.Headers.{IsNamed}
 
--- a header and what follows it have bytes, which are read as that header, and as the bytes after it are read alone
+-- a header and what follows it have bytes, which are read as that header, and the bytes after it as they are read alone
 abbrev pub ReadsBack : {H V : Type 0} → ℕ → (H → List ℕ) → (List ℕ → H) → (List ℕ → Result V DeError) → H → Wire
     → Type 0
 ReadsBack {V = V} n bytes_of header_of rest_of header rest =

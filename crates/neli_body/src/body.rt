@@ -60,7 +60,7 @@ pub fn write_body<H: FixedHeader, R: ToBytes>(
     undo_on_refusal(buffer, start, outcome)
 }
 
-/// The size of a header and what follows it, in bytes; `usize::MAX` if that is more.
+/// The size of a header and what follows it, in bytes, capped at `usize::MAX`.
 pub fn size_of_body<H: FixedHeader, R: Size>(rest: &R) -> usize
     ensures { result ≡ min (H.width + R.wire_length rest.now) usize.MAX }
 {

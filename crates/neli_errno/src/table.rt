@@ -6,7 +6,7 @@ ghost use Rattle.neli_errno.specs.Errnos.{errno_of, errno_seen, errnos, row_seen
 
 use crate::Errno;
 
-/// A number, its name, and what it means.
+/// A number, its name, and its meaning.
 type Row = (u32, &'static str, &'static str);
 
 /// Every number that has a name.

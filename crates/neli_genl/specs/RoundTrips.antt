@@ -28,8 +28,8 @@ abbrev pub fields_with : {C T H V : Type 0} → Genlmsghdr C T H → V → Attri
 fields_with m header attrs =
     record { cmd = m.cmd; version = m.version; reserved = m.reserved; header = header; attrs = attrs }
 
--- a message has bytes, which are read as its fields, and as its family's header's own bytes and its attributes' own
--- bytes are read
+-- a message has bytes, which are read as its fields, and those of its family's header and of its attributes as they are
+-- read alone
 abbrev pub GenlReadsBack : {C T H V : Type 0} → ℕ → (C → ℕ) → (ℕ → C) → (T → ℕ) → (ℕ → T) → (H → Wire)
     → (List ℕ → Reading V) → Genlmsghdr C T H → Type 0
 GenlReadsBack {T = T} {V = V} width cmd_number cmd_of type_number value_of header_wire header_at m =

@@ -21,16 +21,16 @@ use neli_attr::TryClone;
 use neli_consts::{Cmd, NlAttrType};
 use neli_wire::{FromBytes, FromBytesWithInput, Header, Size, ToBytes, TypeSize};
 
-/// A connector message is written as bytes that are read as its fields and as the payload's own bytes are read, if each
-/// field is read from its number. Bytes that are read as the fields are the bytes that these are written as.
+/// A connector message's wire bytes are read as its fields, and the payload's bytes as they are read alone, if each
+/// field is read from its number. Bytes that are read as the fields are written back as the same bytes.
 pub fn cn_msg_is_read_back<P: ToBytes + FromBytesWithInput>()
     ensures back { (m : Connector P) → IsPlainCnMsg m.header
         → ReadsBack 20 cn_msg_bytes cn_msg_header P.read m.header (P.wire m.payload) }
     ensures bytes { (s : List ℕ) → length s ≡ 20 → AreBytes s → cn_msg_bytes (cn_msg_header s) ≡ s }
 {}
 
-/// A message of generic netlink is written as bytes that are read as its fields, and as the family's header's own bytes
-/// and the attributes' own bytes are read, if the command is read from its number, the other fields fit theirs, and the
+/// The wire bytes of a message of generic netlink are read as its fields, and those of the family's header and of the
+/// attributes as they are read alone, if the command is read from its number, the other fields fit theirs, and the
 /// family's header has a multiple of four bytes. The two bytes without a meaning stay as they are. If that header is
 /// read back from its own bytes too, each attribute's length is that of its header and payload, and each type is read
 /// from its number of 14 bits, the whole is read back.

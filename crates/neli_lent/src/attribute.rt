@@ -18,7 +18,8 @@ use neli_wire::{
 use std::alloc::Global;
 use std::io::ErrorKind;
 
-/// An attribute with a type field of type `K`, whose payload is the bytes that it was read from.
+/// An attribute with a type field of type `K`, whose payload is the bytes that it was read from: a header of 4 bytes,
+/// `struct nlattr` of linux/netlink.h or `struct rtattr` of linux/rtnetlink.h, and the payload.
 #[derive(Clone, Copy, Debug)]
 pub struct LentAttr<'b, K> {
     len: u16,
@@ -127,7 +128,8 @@ impl<'b, K: Constant<Number = u16>> LentAttr<'b, K> {
         read_whole(alloc, self.payload)
     }
 
-    /// The value that the whole payload spells. It borrows the payload, and lives as long as it. It takes no memory.
+    /// The value that the whole payload spells. It borrows the payload's bytes, and lives as long as they do. It takes
+    /// no memory.
     ///
     /// Refused as the type's own read refuses these bytes.
     pub fn get_payload_as_with_len_borrowed<R>(&self) -> Result<R, R::Error>

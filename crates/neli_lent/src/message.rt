@@ -17,7 +17,8 @@ use neli_wire::{Constant, Cursor, DeError, FromBytesWithInput, Header, alignto};
 use std::alloc::Global;
 use std::io::ErrorKind;
 
-/// A message whose payload is the bytes that it was read from, whatever its kind.
+/// A message whose payload is the bytes that it was read from, whatever its kind: `struct nlmsghdr` of linux/netlink.h,
+/// 16 bytes, and the payload.
 #[derive(Clone, Copy, Debug)]
 pub struct LentMessage<'b, T> {
     header: NlmsghdrAck<T>,

@@ -40,7 +40,8 @@ use std::fmt;
 /// (linux/netlink.h).
 const ANSWER_SIZE: usize = 20;
 
-/// An answer: a code, what it answers, and attributes with details (`struct nlmsgerr` of linux/netlink.h).
+/// An answer: a code of four bytes, what it answers, and attributes with details (`struct nlmsgerr` of linux/netlink.h;
+/// RFC 3549 section 2.3.2.2).
 #[derive(Debug, Drop, PartialEq, Eq)]
 pub struct Nlmsgerr<M> {
     error: i32,

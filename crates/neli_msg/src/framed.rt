@@ -24,8 +24,8 @@ use std::alloc::Global;
 use std::fmt::Debug;
 use std::io::ErrorKind;
 
-/// A message: `struct nlmsghdr` of linux/netlink.h and its payload. [`Nlmsghdr`](crate::Nlmsghdr) and
-/// [`NlmsghdrErr`](crate::NlmsghdrErr) are names for it with different payloads.
+/// A message: `struct nlmsghdr` of linux/netlink.h, 16 bytes, and its payload (RFC 3549 section 2.3.2).
+/// [`Nlmsghdr`](crate::Nlmsghdr) and [`NlmsghdrErr`](crate::NlmsghdrErr) are names for it with different payloads.
 #[derive(Debug, Drop, PartialEq, Eq)]
 pub struct Framed<T, X> {
     pub(crate) header: NlmsghdrAck<T>,

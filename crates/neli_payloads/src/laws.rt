@@ -38,7 +38,7 @@ pub fn hardware_text_is_read_back()
 {}
 
 /// The lifetimes of an address are read back, if each field has a number of its size. Bytes that are read as them are
-/// the bytes that they are written as.
+/// written back as the same bytes.
 pub fn ifa_cacheinfo_is_read_back()
     ensures back { (v : IfaCacheinfo) → IsPlainIfaCacheinfo v
         → ifa_cacheinfo_header (ifa_cacheinfo_bytes v) ≡ v }
@@ -46,8 +46,8 @@ pub fn ifa_cacheinfo_is_read_back()
         → ifa_cacheinfo_bytes (ifa_cacheinfo_header s) ≡ s }
 {}
 
-/// A route's cache entry is read back, if each field has a number of its size. Bytes that are read as one are the bytes
-/// that it is written as.
+/// A route's cache entry is read back, if each field has a number of its size. Bytes that are read as one are written
+/// back as the same bytes.
 pub fn rta_cacheinfo_is_read_back()
     ensures back { (v : RtaCacheinfo) → IsPlainRtaCacheinfo v
         → rta_cacheinfo_header (rta_cacheinfo_bytes v) ≡ v }
@@ -56,7 +56,7 @@ pub fn rta_cacheinfo_is_read_back()
 {}
 
 /// The settings of a virtual function are read back, if each field has a number of its size. Bytes that are read as
-/// such a structure are the bytes that it is written as.
+/// such a structure are written back as the same bytes.
 pub fn virtual_functions_are_read_back()
     ensures setting_back { (v : VfSetting) → IsPlainVfSetting v
         → vf_setting_header (vf_setting_bytes v) ≡ v }

@@ -41,9 +41,9 @@ use neli_body::laws::{attributes_are_read_back, body_is_read_back};
 use neli_consts_attrs::{Frattr, Ifa, Ifla, Nda, Rta, RtaType, Tca};
 use neli_wire::{FromBytes, FromBytesWithInput, Header, Size, ToBytes};
 
-/// A route is written as bytes that are read as its fields and as the attributes' own bytes are read, if each field is
-/// read from its number. Bytes that are read as the fields are the bytes that these are written as. If also each
-/// attribute's length is that of its header and payload, and its type is read from its number, the whole is read back.
+/// A route's wire bytes are read as its fields, and the attributes' bytes as they are read alone, if each field is read
+/// from its number. Bytes that are read as the fields are written back as the same bytes. If also each attribute's
+/// length is that of its header and payload, and its type is read from its number, the whole is read back.
 pub fn rtmsg_is_read_back()
     ensures back { (m : Rtmsg) → IsPlainRtmsg m.header
         → ReadsBack 12 rtmsg_bytes rtmsg_header (attrs_of rta_of) m.header
@@ -58,10 +58,9 @@ pub fn rtmsg_is_read_back()
     attributes_are_read_back::<RtmsgHeader, Rta>();
 }
 
-/// A queueing discipline is written as bytes that are read as its fields and as the attributes' own bytes are read, if
-/// each field is read from its number. Bytes that are read as the fields are the bytes that these are written as. If
-/// also each attribute's length is that of its header and payload, and its type is read from its number, the whole is
-/// read back.
+/// A queueing discipline's wire bytes are read as its fields, and the attributes' bytes as they are read alone, if each
+/// field is read from its number. Bytes that are read as the fields are written back as the same bytes. If also each
+/// attribute's length is that of its header and payload, and its type is read from its number, the whole is read back.
 pub fn tcmsg_is_read_back()
     ensures back { (m : Tcmsg) → IsPlainTcmsg m.header
         → ReadsBack 20 tcmsg_bytes tcmsg_header (attrs_of tca_of) m.header
@@ -76,9 +75,9 @@ pub fn tcmsg_is_read_back()
     attributes_are_read_back::<TcmsgHeader, Tca>();
 }
 
-/// A rule is written as bytes that are read as its fields and as the attributes' own bytes are read, if each field is
-/// read from its number. Bytes that are read as the fields are the bytes that these are written as. If also each
-/// attribute's length is that of its header and payload, and its type is read from its number, the whole is read back.
+/// A rule's wire bytes are read as its fields, and the attributes' bytes as they are read alone, if each field is read
+/// from its number. Bytes that are read as the fields are written back as the same bytes. If also each attribute's
+/// length is that of its header and payload, and its type is read from its number, the whole is read back.
 pub fn fibmsg_is_read_back()
     ensures back { (m : Fibmsg) → IsPlainFibmsg m.header
         → ReadsBack 12 fibmsg_bytes fibmsg_header (attrs_of frattr_of) m.header
@@ -93,10 +92,10 @@ pub fn fibmsg_is_read_back()
     attributes_are_read_back::<FibmsgHeader, Frattr>();
 }
 
-/// A request by family is written as bytes that are read as its fields and as the attributes' own bytes are read, if
-/// each field is read from its number. Bytes that are read as the fields are the bytes that these are written as. If
-/// also each attribute's length is that of its header and payload, and its type is read from its number, the whole is
-/// read back.
+/// The wire bytes of a request by family are read as its fields, and the attributes' bytes as they are read alone, if
+/// each field is read from its number. Bytes that are read as the fields are written back as the same bytes. If also
+/// each attribute's length is that of its header and payload, and its type is read from its number, the whole is read
+/// back.
 pub fn rtgenmsg_is_read_back()
     ensures back { (m : Rtgenmsg) → IsPlainRtgenmsg m.header
         → ReadsBack 4 rtgenmsg_bytes rtgenmsg_header (attrs_of ifa_of) m.header
@@ -112,9 +111,9 @@ pub fn rtgenmsg_is_read_back()
     attributes_are_read_back::<RtgenmsgHeader, Ifa>();
 }
 
-/// A link is written as bytes that are read as its fields and as the attributes' own bytes are read, if each field is
-/// read from its number. Bytes that are read as the fields are the bytes that these are written as. If also each
-/// attribute's length is that of its header and payload, and its type is read from its number, the whole is read back.
+/// A link's wire bytes are read as its fields, and the attributes' bytes as they are read alone, if each field is read
+/// from its number. Bytes that are read as the fields are written back as the same bytes. If also each attribute's
+/// length is that of its header and payload, and its type is read from its number, the whole is read back.
 pub fn ifinfomsg_is_read_back()
     ensures back { (m : Ifinfomsg) → IsPlainIfinfomsg m.header
         → ReadsBack 16 ifinfomsg_bytes ifinfomsg_header (attrs_of ifla_of) m.header
@@ -130,9 +129,9 @@ pub fn ifinfomsg_is_read_back()
     attributes_are_read_back::<IfinfomsgHeader, Ifla>();
 }
 
-/// An address is written as bytes that are read as its fields and as the attributes' own bytes are read, if each field
-/// is read from its number. Bytes that are read as the fields are the bytes that these are written as. If also each
-/// attribute's length is that of its header and payload, and its type is read from its number, the whole is read back.
+/// An address's wire bytes are read as its fields, and the attributes' bytes as they are read alone, if each field is
+/// read from its number. Bytes that are read as the fields are written back as the same bytes. If also each attribute's
+/// length is that of its header and payload, and its type is read from its number, the whole is read back.
 pub fn ifaddrmsg_is_read_back()
     ensures back { (m : Ifaddrmsg) → IsPlainIfaddrmsg m.header
         → ReadsBack 8 ifaddrmsg_bytes ifaddrmsg_header (attrs_of ifa_of) m.header
@@ -148,9 +147,9 @@ pub fn ifaddrmsg_is_read_back()
     attributes_are_read_back::<IfaddrmsgHeader, Ifa>();
 }
 
-/// A neighbour is written as bytes that are read as its fields and as the attributes' own bytes are read, if each field
-/// is read from its number. Bytes that are read as the fields are the bytes that these are written as. If also each
-/// attribute's length is that of its header and payload, and its type is read from its number, the whole is read back.
+/// A neighbour's wire bytes are read as its fields, and the attributes' bytes as they are read alone, if each field is
+/// read from its number. Bytes that are read as the fields are written back as the same bytes. If also each attribute's
+/// length is that of its header and payload, and its type is read from its number, the whole is read back.
 pub fn ndmsg_is_read_back()
     ensures back { (m : Ndmsg) → IsPlainNdmsg m.header
         → ReadsBack 12 ndmsg_bytes ndmsg_header (attrs_of nda_of) m.header
@@ -165,8 +164,8 @@ pub fn ndmsg_is_read_back()
     attributes_are_read_back::<NdmsgHeader, Nda>();
 }
 
-/// A neighbour's cache entry is read back, if each field is read from its number. Bytes that are read as one are the
-/// bytes that it is written as.
+/// A neighbour's cache entry is read back, if each field is read from its number. Bytes that are read as one are
+/// written back as the same bytes.
 pub fn nda_cacheinfo_is_read_back()
     ensures back { (v : NdaCacheinfo) → IsPlainNdaCacheinfo v
         → nda_cacheinfo_header (nda_cacheinfo_bytes v) ≡ v }
@@ -175,7 +174,7 @@ pub fn nda_cacheinfo_is_read_back()
 {}
 
 /// A virtual LAN's pair of flags is read back, if each field is read from its number. Bytes that are read as one are
-/// the bytes that it is written as.
+/// written back as the same bytes.
 pub fn ifla_vlan_flags_is_read_back()
     ensures back { (v : IflaVlanFlags) → IsPlainIflaVlanFlags v
         → ifla_vlan_flags_header (ifla_vlan_flags_bytes v) ≡ v }
@@ -183,8 +182,8 @@ pub fn ifla_vlan_flags_is_read_back()
         → ifla_vlan_flags_bytes (ifla_vlan_flags_header s) ≡ s }
 {}
 
-/// A mapping of priorities is read back, if each field is read from its number. Bytes that are read as one are the
-/// bytes that it is written as.
+/// A mapping of priorities is read back, if each field is read from its number. Bytes that are read as one are written
+/// back as the same bytes.
 pub fn ifla_vlan_qos_mapping_is_read_back()
     ensures back { (v : IflaVlanQosMapping) → IsPlainIflaVlanQosMapping v
         → ifla_vlan_qos_mapping_header (ifla_vlan_qos_mapping_bytes v) ≡ v }

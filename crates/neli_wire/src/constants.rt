@@ -19,7 +19,7 @@ pub trait WireNumber: Copy + Debug {
     // How many bytes each number has.
     ghost byte_count: { ℕ };
 
-    // What is a number of the type: a contract's numbers have no bounds.
+    // The type's range: a contract's numbers have no bounds.
     ghost IsInRange: { Self → Type 0 };
 
     // The bytes of a number.

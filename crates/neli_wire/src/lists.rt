@@ -14,7 +14,7 @@ use crate::implementing::{undo_on_refusal, within_input};
 use crate::{Cursor, DeError, FromBytes, FromBytesWithInput, SerError, Size, ToBytes};
 use std::alloc::Global;
 
-/// How many bytes the values take together; `usize::MAX` if that is more.
+/// How many bytes the values take together, capped at `usize::MAX`.
 pub fn size_of_all<T: Size>(items: &[T]) -> usize
     ensures { result ≡ min (sum_by T.wire_length items.now) usize.MAX }
 {

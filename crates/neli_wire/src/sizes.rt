@@ -16,7 +16,7 @@ pub const fn alignto(len: usize) -> usize
     }
 }
 
-/// A size rounded up to four; `usize::MAX` if that is more.
+/// A size rounded up to four, capped at `usize::MAX`.
 pub fn padded_length(size: usize) -> usize
     ensures { result ≡ min (align size) usize.MAX }
 {
@@ -34,7 +34,7 @@ pub fn length_refusal() -> &'static str
     "Length does not fit its field"
 }
 
-/// How many bytes a value takes; `usize::MAX` if that is more.
+/// How many bytes a value takes, capped at `usize::MAX`.
 pub trait Size {
     // The length of a value's wire bytes without padding at its end.
     ghost unpadded_length: { Self → ℕ };
