@@ -5,7 +5,7 @@ use Rattle.std.specs.Prelude.{◌≡◌, ℕ, ◌+◌, ◌*◌, ◌/◌, ◌-◌
 abbrev pub align : ℕ → ℕ
 align n = (n + 3) / 4 * 4
 
--- how many bytes a multiple of four lacks
+-- how many bytes a length lacks to a multiple of four
 abbrev pub gap : ℕ → ℕ
 gap n = align n - n
 
