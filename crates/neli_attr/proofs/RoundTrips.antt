@@ -40,7 +40,7 @@ bind_made : {A B : Type 0} (o : Outcome A) (next : A → Outcome B) (y : B) → 
 bind_made (Ok x) next y e = (x, refl, e)
 bind_made (Err fault) next y e = absurd cc
 
--- a payload that can be built leaves room for its header
+-- a payload of a value that is built leaves room for its header
 payload_in-fits : (w : Wire) (bytes : List ℕ) → payload_in 4 w ≡ Ok bytes → 4 + length bytes < 65536
 payload_in-fits (Err e) bytes h = absurd cc
 payload_in-fits (Ok text) bytes h = by (ltb 65535 (4 + length text)) refl h
@@ -72,7 +72,7 @@ built_rtattr-length {T} wire b a e =
 
 -- ---- nesting
 
--- a payload that an attribute can have is what it was, and leaves room for the header
+-- a payload of a written attribute is unchanged, and leaves room for the header
 attribute_payload-fits : (text payload : List ℕ) → attribute_payload (Ok text) ≡ Ok payload
     → (text ≡ payload) × (4 + length text < 65536)
 attribute_payload-fits text payload h = by (ltb 65535 (4 + length text)) refl h
@@ -98,7 +98,7 @@ attribute_bytes-longer len kind bytes =
       count-unsigned 2 kind,
     )
 
--- what is appended to a list of attributes comes last in it
+-- an attribute appended to a list of attributes is the last in it
 pub nested-last : {K : Type 0} (kind_of : ℕ → K) (kind : ℕ) (old bytes payload : List ℕ) (len : ℕ)
     (attrs : List (Attr K (List ℕ))) → len ≡ 4 + length bytes → kind < 65536
     → nested_payload old (attribute_wire len kind (Ok bytes)) ≡ Ok payload

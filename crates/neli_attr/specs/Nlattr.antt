@@ -1,4 +1,4 @@
--- Generic attributes: what their calls make.
+-- Generic attributes: the results of their calls.
 use Rattle.std.specs.Prelude.{ℕ, ◌+◌, List, Bool, true, codes, length, nat_eq, Ok}
 use Rattle.std.specs.Ordering.{eq_of_both, on}
 use Rattle.neli_wire.specs.Writing.{Wire}
@@ -9,7 +9,7 @@ use Rattle.neli_attr.specs.declared.nlattr.Nlattr.{Nlattr}
 use Rattle.neli_attr.specs.declared.nlattr.NlattrBuilder.{NlattrBuilder}
 use Rattle.neli_attr.specs.Builders.{Outcome, require_field, payload_in, ◌>>>◌}
 
--- an attribute with this type and payload, and the length that goes with it
+-- an attribute with this type and payload, and the length computed from them
 abbrev pub with_length : {T : Type 0} → AttrType T → List ℕ → Nlattr T (List ℕ)
 with_length kind bytes = record { nla_len = 4 + length bytes; nla_type = kind; nla_payload = bytes }
 
@@ -26,7 +26,7 @@ abbrev pub nlattr_eq : {T P : Type 0} → (T → T → Bool) → (P → P → Bo
 nlattr_eq same same_payload = eq_of_both (eq_of_both (on (λ a. a.nla_len) nat_eq)
     (on (λ a. a.nla_type) (attr_type_eq same))) (on (λ a. a.nla_payload) same_payload)
 
--- what a builder makes of its fields
+-- the attribute that a builder makes of its fields
 abbrev pub built_nlattr : {T P : Type 0} → (P → Wire) → NlattrBuilder T P → Outcome (Nlattr T (List ℕ))
 built_nlattr wire b =
     require_field (codes "nla_type") b.nla_type (λ kind.
@@ -39,11 +39,11 @@ built_nlattr wire b =
 abbrev pub nlattr_wire : {T P : Type 0} → (T → ℕ) → (P → Wire) → Nlattr T P → Wire
 nlattr_wire type_number wire a = attribute_wire a.nla_len (number_of type_number a.nla_type) (wire a.nla_payload)
 
--- what an attribute with a payload of bytes says
+-- an attribute with a payload of bytes, as read
 abbrev pub nlattr_says : {T : Type 0} → Nlattr T (List ℕ) → Attr (AttrType T) (List ℕ)
 nlattr_says a = attr a.nla_len a.nla_type a.nla_payload
 
--- the same attribute with the type that its number means
+-- the same attribute with the meaning of its type's number
 abbrev pub typed_attribute : {T : Type 0} → (ℕ → T) → Nlattr ℕ (List ℕ) → Nlattr T (List ℕ)
 typed_attribute value_of a = record {
   nla_len = a.nla_len;

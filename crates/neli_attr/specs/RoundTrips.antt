@@ -1,11 +1,11 @@
--- What is written of an attribute is read again as what is equal to it.
+-- What is written of an attribute is read again as its equal.
 use Rattle.std.specs.Prelude.{◌≡◌, ℕ, List, ◌++◌, Ok}
 use Rattle.neli_wire.specs.Frames.{frame_at}
 use Rattle.neli_attr.specs.AttrType.{AttrType}
 use Rattle.neli_attr.specs.Attributes.{attr, attribute, attribute_wire}
 
--- an attribute of this length, number and payload has bytes, and whatever follows them, they are read as one of
--- this length and payload, with what the number means
+-- an attribute of this length, number and payload has bytes; whatever follows them, they are read as one of this length
+-- and payload, with the number's meaning
 abbrev pub IsReadBack : {K : Type 0} → (ℕ → K) → ℕ → ℕ → List ℕ → Type 0
 IsReadBack kind_of len kind payload =
     (bytes : List ℕ) × (attribute_wire len kind (Ok payload) ≡ Ok bytes)

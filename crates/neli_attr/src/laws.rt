@@ -1,5 +1,5 @@
-//! Laws over the definitions, and what attributes say of themselves. The functions do nothing: their contracts are the
-//! laws.
+//! Laws over the definitions, and what attributes state about themselves. The functions do nothing: their contracts are
+//! the laws.
 //!
 //! A type field is any [`Constant`] of 16 bits: [`crate::AttrType`] for generic attributes, the type itself for
 //! routing ones.
@@ -32,8 +32,8 @@ pub use neli_list::laws::{
 use neli_list::{FrameList, ToTyped, TryClone, TypedPayload};
 use neli_wire::{Constant, FromBytes, FromBytesWithInput, Header, Size, ToBytes};
 
-/// A list of attributes that is read is the frames of its attributes, one after the other, and every such
-/// byte list is read as that list. After frames, the first refusal is that of the list.
+/// A list of attributes that is read is the frames of its attributes, one after the other, and every such byte list is
+/// read as that list. After frames, the first refusal is that of the list.
 pub fn list_is_its_frames<K: Constant<Number = u16>, P: FromBytesWithInput>()
     ensures read { let layout = attribute K.wire_value P.read in
         (s : List ℕ) (attrs : List (Attr K P.Value)) → elements (frame_at layout) s ≡ Ok attrs
@@ -48,9 +48,9 @@ pub fn list_is_its_frames<K: Constant<Number = u16>, P: FromBytesWithInput>()
         ≡ Err (refusal_within (length (front ++ rest)) e) }
 {}
 
-/// A generic attribute that was built is written, and read again as one with its length and its payload's
-/// bytes, and with what its field's number means. That has the field's flags and number, where the number
-/// leaves the two flags' bits alone.
+/// A generic attribute that was built is written, and read again as one with its length and its payload's bytes, and
+/// with the meaning of its field's number. That has the field's flags and number, if the number leaves the bits of the
+/// two flags alone.
 pub fn built_generic_attribute_reads_back<T: NlAttrType, P: ToBytes>()
     ensures read { (b : GenericBuilder T P) (a : Generic T (List ℕ)) → built_nlattr P.wire b ≡ Ok a
         → T.wire_number a.nla_type.nla_type < 65536
@@ -60,8 +60,8 @@ pub fn built_generic_attribute_reads_back<T: NlAttrType, P: ToBytes>()
         → KeepsField T.wire_number t (type_of T.wire_value (number_of T.wire_number t)) }
 {}
 
-/// A routing attribute that was built is written, and read again as one with its length and its payload's
-/// bytes, and with what its type's number means. That has the same number.
+/// A routing attribute that was built is written, and read again as one with its length and its payload's bytes, and
+/// with the meaning of its type's number. That has the same number.
 pub fn built_routing_attribute_reads_back<T: RtaType, P: ToBytes>()
     ensures read { (b : RoutingBuilder T P) (a : Routing T (List ℕ)) → built_rtattr P.wire b ≡ Ok a
         → T.wire_number a.rta_type < 65536
@@ -70,9 +70,8 @@ pub fn built_routing_attribute_reads_back<T: RtaType, P: ToBytes>()
         → T.wire_number (T.wire_value (T.wire_number t)) ≡ T.wire_number t }
 {}
 
-/// Where a payload lists attributes, a further one that is appended to it comes last in that list. The
-/// nested attribute's length has to be that of its header and payload, as it is for each one that was
-/// built or read with a payload of bytes.
+/// Where a payload lists attributes, a further one appended to it is the last in that list. The nested attribute's
+/// length must be that of its header and payload, as in each attribute that was built or read with a payload of bytes.
 pub fn nested_attribute_comes_last<
     K: Constant<Number = u16>,
     S: Constant<Number = u16>,
@@ -87,8 +86,8 @@ pub fn nested_attribute_comes_last<
         ≡ Ok (attrs ++ attr len (K.wire_value (S.wire_number kind)) bytes ∷ []) }
 {}
 
-/// `==` of attributes, of lists and of their parts is true exactly where the two values are equal, field by
-/// field, where the types and payloads in them have such an `==`.
+/// `==` of attributes, of lists and of their parts is true exactly where the two values are equal, field by field, if
+/// the types and payloads in them have such an `==`.
 pub fn equality<T: PartialEq, P: PartialEq>()
     ensures buffer { IsEquality ⟦<Buffer as PartialEq>⟧.eq }
     ensures type_field { IsEquality T.eq → IsEquality ⟦<AttrType<T> as PartialEq>⟧.eq }
@@ -99,8 +98,8 @@ pub fn equality<T: PartialEq, P: PartialEq>()
     ensures list { IsEquality P.eq → IsEquality ⟦<FrameList<P> as PartialEq>⟧.eq }
 {}
 
-/// A generic attribute is found by its type without the flags, and its payload is the bytes that it holds. A copy takes
-/// memory only where there is a byte, a typed one too.
+/// A generic attribute is found by its type without the flags, and its payload is its bytes. A copy takes memory only
+/// if there is a byte, a typed one too.
 pub fn generic_attribute_is_its_fields<T: NlAttrType>()
     ensures kind { AreSame ⟦<Nlattr<T, Buffer> as TypedPayload>⟧.type_of (λ a. a.nla_type.nla_type) }
     ensures bytes { AreSame ⟦<Nlattr<T, Buffer> as TypedPayload>⟧.bytes_of (λ a. a.nla_payload) }
@@ -113,8 +112,7 @@ pub fn generic_attribute_is_its_fields<T: NlAttrType>()
         (λ a. 0 < length a.nla_payload) }
 {}
 
-/// A routing attribute is found by its type, and its payload is the bytes that it holds. A copy takes memory only where
-/// there is a byte.
+/// A routing attribute is found by its type, and its payload is its bytes. A copy takes memory only if there is a byte.
 pub fn routing_attribute_is_its_fields<T: RtaType>()
     ensures kind { AreSame ⟦<Rtattr<T, Buffer> as TypedPayload>⟧.type_of (λ a. a.rta_type) }
     ensures bytes { AreSame ⟦<Rtattr<T, Buffer> as TypedPayload>⟧.bytes_of (λ a. a.rta_payload) }

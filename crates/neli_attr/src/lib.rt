@@ -1,16 +1,16 @@
 //! Attributes: a length, a type and a payload, padded to four bytes.
 //!
-//! - [`Nlattr`]: an attribute of generic netlink, whose type field [`AttrType`] has two flags.
-//!   [`Rtattr`]: one of routing netlink. What both offer of their payload is [`Attribute`].
-//! - [`NlattrBuilder`], [`RtattrBuilder`]: they compute the length, and answer a [`BuildError`].
+//! - [`Nlattr`]: an attribute of generic netlink, whose type field [`AttrType`] has two flags. [`Rtattr`]: one of
+//!   routing netlink. [`Attribute`]: the calls for the payload of both.
+//! - [`NlattrBuilder`], [`RtattrBuilder`]: they compute the length, and return a [`BuildError`].
 //! - [`Buffer`]: bytes, the payload of an attribute that was made or read.
 //! - [`GenlBuffer`], [`RtBuffer`]: lists of attributes.
-//! - [`GenlAttrHandle`], [`RtAttrHandle`]: lists in which attributes are looked up.
-//! - [`laws`]: what holds of lists, of what is built, and of what is nested.
+//! - [`GenlAttrHandle`], [`RtAttrHandle`]: lists with look-ups of attributes.
+//! - [`laws`]: laws of lists, of built attributes, and of nested ones.
 //!
-//! What is read and written is stated in `specs/`: `Attributes`, `TypeField`, `Builders`, `Nlattr`, `Rtattr`
-//! and `RoundTrips`, and for lists and handles `Handles`, `Lookup` and `Payloads`. Lists and handles are those
-//! of `neli_list`; [`Buffer`], [`AttrType`], [`Attribute`] and [`BuildError`] those of `neli_attr_parts`.
+//! `specs/` states what is read and written: `Attributes`, `TypeField`, `Builders`, `Nlattr`, `Rtattr` and
+//! `RoundTrips`, and for lists and handles `Handles`, `Lookup` and `Payloads`. Lists and handles are those of
+//! `neli_list`; [`Buffer`], [`AttrType`], [`Attribute`] and [`BuildError`] those of `neli_attr_parts`.
 #![tactic(auto)]
 
 pub mod laws;

@@ -1,4 +1,4 @@
-//! Generic attributes, lists of them, and handles in which they are looked up.
+//! Generic attributes, lists of them, and handles that find them.
 
 ghost use Rattle.std.specs.Prelude.{◌≡◌, ◌+◌, ◌<◌, ℕ, List, Some, None, Ok, IfOk, IfErr, OnErr, length, map};
 ghost use Rattle.neli_wire.specs.Frames.{frame_at, frame_takes_memory};
@@ -37,13 +37,13 @@ use std::alloc::Global;
 /// A list of generic attributes, one after the other, each with its padding.
 pub type GenlBuffer<T, P> = FrameList<Nlattr<T, P>>;
 
-/// A list of generic attributes, owned or lent, in which attributes are looked up by their type.
+/// A list of generic attributes, owned or lent, with look-ups by type.
 pub type GenlAttrHandle<'a, T> = AttrHandle<'a, GenlBuffer<T, Buffer>, Nlattr<T, Buffer>>;
 
-/// An attribute of generic netlink: two flags and a number are its type.
+/// An attribute of generic netlink: its type is two flags and a number.
 ///
-/// On the wire it is a length of two bytes, which counts these four and the payload and not the padding,
-/// a type of two bytes, the payload, and zeros up to a multiple of four (`linux/netlink.h`, `struct nlattr`).
+/// On the wire it is a length of two bytes, which counts the header of four bytes and the payload but no padding, a
+/// type of two bytes, the payload, and zeros up to a multiple of four (`linux/netlink.h`, `struct nlattr`).
 #[derive(Debug, Drop)]
 pub struct Nlattr<T, P> {
     nla_len: u16,
@@ -75,11 +75,10 @@ impl<T, P> Nlattr<T, P> {
 }
 
 impl<T: NlAttrType> Nlattr<T, Buffer> {
-    /// The attribute with another one after what its payload holds, marked as nested, and the length computed anew.
+    /// Appends another attribute to the payload, marks this one as nested, and computes its length anew.
     ///
-    /// Refused first with the refusal of the nested attribute; then with a `SerError::Msg` where the
-    /// length passes its field. Out of memory may stand in place of either. A refusal gives the
-    /// attribute up.
+    /// Refused first with the refusal of the nested attribute; then with a `SerError::Msg` if the length exceeds 65535.
+    /// `Memory` may replace either. A refusal drops the attribute.
     pub fn nest<S: NlAttrType, P: ToBytes>(self, attr: &Nlattr<S, P>) -> Result<Self, SerError>
         ensures payload { let inner = nlattr_wire S.wire_number P.wire attr.now in
             IfOk result (λ a. nested_payload self.nla_payload inner ≡ Ok a.nla_payload) }
@@ -97,7 +96,7 @@ impl<T: NlAttrType> Nlattr<T, Buffer> {
 
     /// The attributes that the payload lists.
     ///
-    /// Refused as the payload is refused as a list of attributes.
+    /// Refused as the list refuses the payload.
     pub fn get_attr_handle<R: NlAttrType>(
         &self,
         alloc: Global,
@@ -110,8 +109,8 @@ impl<T: NlAttrType> Nlattr<T, Buffer> {
         handle_of_payload(alloc, self.nla_payload.as_ref())
     }
 
-    /// The value that the whole payload spells, made of the payload's own bytes: it lives as long as the
-    /// attribute is lent for this call. It takes no memory.
+    /// The value that the whole payload spells. It borrows the payload, so it lives as long as this borrow of the
+    /// attribute. It takes no memory.
     ///
     /// Refused as the type's own read refuses these bytes.
     pub fn get_payload_as_with_len_borrowed<'a, R>(&'a self) -> Result<R, R::Error>
@@ -126,7 +125,7 @@ impl<T: NlAttrType> Nlattr<T, Buffer> {
 
     /// An equal attribute.
     ///
-    /// Refused only where memory runs out, and never where its payload is empty.
+    /// Refused only if memory runs out, and never where its payload is empty.
     pub fn try_clone(&self) -> Result<Self, NoMemory>
         ensures value { IfOk result (λ a. a ≡ self.now) }
         ensures memory { OnErr result (0 < length self.now.nla_payload) }
@@ -308,7 +307,7 @@ impl<T: NlAttrType, P: ToBytes + Drop> NlattrBuilder<T, P> {
         self
     }
 
-    /// What the payload is the wire bytes of.
+    /// The value whose wire bytes are the payload.
     pub fn nla_payload(mut self, value: P) -> Self
         ensures { result ≡ record self { nla_payload = Some value } }
     {
@@ -316,10 +315,10 @@ impl<T: NlAttrType, P: ToBytes + Drop> NlattrBuilder<T, P> {
         self
     }
 
-    /// The attribute of what was given, with the length of its header and payload.
+    /// Builds the attribute, with the length of its header and payload.
     ///
-    /// Refused where a field is missing, and the first one is named; then where the payload has no wire bytes;
-    /// then where the length passes 65535. Out of memory may stand in place of the last two.
+    /// Refused first with the name of the first missing field; then if the payload has no wire bytes; then if the
+    /// length exceeds 65535. `Memory` may replace the last two.
     pub fn build(self, alloc: Global) -> Result<Nlattr<T, Buffer>, NlattrBuilderError>
         ensures built { IfOk result (λ a. built_nlattr P.wire self ≡ Ok a) }
         ensures refused { IfErr result (IsWhyNot (built_nlattr P.wire self)) }

@@ -1,4 +1,4 @@
-//! Routing attributes, lists of them, and handles in which they are looked up.
+//! Routing attributes, lists of them, and handles that find them.
 
 ghost use Rattle.std.specs.Prelude.{◌≡◌, ◌+◌, ◌<◌, ℕ, List, Some, None, Ok, IfOk, IfErr, OnErr, length, map};
 ghost use Rattle.neli_wire.specs.Frames.{frame_at, frame_takes_memory};
@@ -33,13 +33,13 @@ use std::alloc::Global;
 /// A list of routing attributes, one after the other, each with its padding.
 pub type RtBuffer<T, P> = FrameList<Rtattr<T, P>>;
 
-/// A list of routing attributes, owned or lent, in which attributes are looked up by their type.
+/// A list of routing attributes, owned or lent, with look-ups by type.
 pub type RtAttrHandle<'a, T> = AttrHandle<'a, RtBuffer<T, Buffer>, Rtattr<T, Buffer>>;
 
 /// An attribute of routing netlink: all 16 bits of its type are the number.
 ///
-/// On the wire it is a length of two bytes, which counts these four and the payload and not the padding,
-/// a type of two bytes, the payload, and zeros up to a multiple of four (`linux/rtnetlink.h`, `struct rtattr`).
+/// On the wire it is a length of two bytes, which counts the header of four bytes and the payload but no padding, a
+/// type of two bytes, the payload, and zeros up to a multiple of four (`linux/rtnetlink.h`, `struct rtattr`).
 #[derive(Debug, Drop, PartialEq, Eq)]
 pub struct Rtattr<T, P> {
     rta_len: u16,
@@ -71,11 +71,10 @@ impl<T, P> Rtattr<T, P> {
 }
 
 impl<T: RtaType> Rtattr<T, Buffer> {
-    /// The attribute with another one after what its payload holds, and the length computed anew.
+    /// Appends another attribute to the payload, and computes the length anew.
     ///
-    /// Refused first with the refusal of the nested attribute; then with a `SerError::Msg` where the
-    /// length passes its field. Out of memory may stand in place of either. A refusal gives the
-    /// attribute up.
+    /// Refused first with the refusal of the nested attribute; then with a `SerError::Msg` if the length exceeds 65535.
+    /// `Memory` may replace either. A refusal drops the attribute.
     pub fn nest<S: RtaType, P: ToBytes>(self, attr: &Rtattr<S, P>) -> Result<Self, SerError>
         ensures payload { let inner = rtattr_wire S.wire_number P.wire attr.now in
             IfOk result (λ a. nested_payload self.rta_payload inner ≡ Ok a.rta_payload) }
@@ -93,7 +92,7 @@ impl<T: RtaType> Rtattr<T, Buffer> {
 
     /// The attributes that the payload lists.
     ///
-    /// Refused as the payload is refused as a list of attributes.
+    /// Refused as the list refuses the payload.
     pub fn get_attr_handle<R: RtaType>(&self, alloc: Global) -> Result<RtAttrHandle<'_, R>, DeError>
         ensures value { let attrs = attributes_in R.wire_value self.now.rta_payload in
             IfOk result (λ h. attrs ≡ Ok (map rtattr_says (attrs_in h))) }
@@ -103,8 +102,8 @@ impl<T: RtaType> Rtattr<T, Buffer> {
         handle_of_payload(alloc, self.rta_payload.as_ref())
     }
 
-    /// The value that the whole payload spells, made of the payload's own bytes: it lives as long as the
-    /// attribute is lent for this call. It takes no memory.
+    /// The value that the whole payload spells. It borrows the payload, so it lives as long as this borrow of the
+    /// attribute. It takes no memory.
     ///
     /// Refused as the type's own read refuses these bytes.
     pub fn get_payload_as_with_len_borrowed<'a, R>(&'a self) -> Result<R, R::Error>
@@ -119,7 +118,7 @@ impl<T: RtaType> Rtattr<T, Buffer> {
 
     /// An equal attribute.
     ///
-    /// Refused only where memory runs out, and never where its payload is empty.
+    /// Refused only if memory runs out, and never where its payload is empty.
     pub fn try_clone(&self) -> Result<Self, NoMemory>
         ensures value { IfOk result (λ a. a ≡ self.now) }
         ensures memory { OnErr result (0 < length self.now.rta_payload) }
@@ -269,7 +268,7 @@ impl<T: RtaType, P: ToBytes + Drop> RtattrBuilder<T, P> {
         self
     }
 
-    /// What the payload is the wire bytes of.
+    /// The value whose wire bytes are the payload.
     pub fn rta_payload(mut self, value: P) -> Self
         ensures { result ≡ record self { rta_payload = Some value } }
     {
@@ -277,10 +276,10 @@ impl<T: RtaType, P: ToBytes + Drop> RtattrBuilder<T, P> {
         self
     }
 
-    /// The attribute of what was given, with the length of its header and payload.
+    /// Builds the attribute, with the length of its header and payload.
     ///
-    /// Refused where a field is missing, and the first one is named; then where the payload has no wire bytes;
-    /// then where the length passes 65535. Out of memory may stand in place of the last two.
+    /// Refused first with the name of the first missing field; then if the payload has no wire bytes; then if the
+    /// length exceeds 65535. `Memory` may replace the last two.
     pub fn build(self, alloc: Global) -> Result<Rtattr<T, Buffer>, RtattrBuilderError>
         ensures built { IfOk result (λ a. built_rtattr P.wire self ≡ Ok a) }
         ensures refused { IfErr result (IsWhyNot (built_rtattr P.wire self)) }

@@ -1,5 +1,4 @@
--- Attributes: a header of four bytes, which are the length of the whole and the type, then a payload, and padding to
--- four bytes.
+-- Attributes: a header of four bytes, the length of the whole and the type, then a payload, and padding to four bytes.
 use Rattle.std.specs.Prelude.{ℕ, ◌+◌, List, codes, length, Result, Ok, Err, nat_lt, if◌then◌else◌}
 use Rattle.byteorder.specs.Endian.{little_bytes}
 use Rattle.neli_wire.specs.DeError.{DeError}
@@ -8,12 +7,12 @@ use Rattle.neli_wire.specs.Frames.{Layout, frame_at, number_in}
 use Rattle.neli_wire.specs.Writing.{Wire, ◌+++◌, append_wire, pad_wire}
 use Rattle.neli_wire.specs.laws.Elements.{elements}
 
--- what a header says: the length of the attribute without its padding, and the type
+-- a header: the length of the attribute without its padding, and the type
 pub record Head (K : Type 0) : Type 0 where
   pub len : ℕ
   pub kind : K
 
--- what an attribute says
+-- an attribute's header and payload
 abbrev pub Attr : Type 0 → Type 0 → Type 0
 Attr K V = Head K × V
 
@@ -36,18 +35,18 @@ attribute_wire len kind payload = pad_wire ((Ok (little_bytes 2 len) +++ Ok (lit
 
 -- ---- payloads
 
--- the wire bytes of a payload, which leave room for the header in a length of 16 bits
+-- the wire bytes of a payload that leaves room for the header in a length of 16 bits
 abbrev pub attribute_payload : Wire → Wire
 attribute_payload (Ok bytes) = if nat_lt 65535 (4 + length bytes) then Err (Msg (codes "Length does not fit its field"))
     else Ok bytes
 attribute_payload (Err e) = Err e
 
--- the payload with an attribute's bytes after it, which leaves room for the header in the same way
+-- the payload with an attribute's bytes after it, if that leaves room for the header too
 abbrev pub nested_payload : List ℕ → Wire → Wire
 nested_payload old inner = attribute_payload (append_wire old inner)
 
 -- ---- lists of attributes
 
--- the attributes that bytes list, each with a payload of bytes
+-- the attributes listed in the bytes, each with a payload of bytes
 abbrev pub attributes_in : {K : Type 0} → (ℕ → K) → List ℕ → Result (List (Attr K (List ℕ))) DeError
 attributes_in kind_of = elements (frame_at (attribute kind_of (λ bytes. Ok bytes)))

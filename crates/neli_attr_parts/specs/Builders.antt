@@ -1,4 +1,4 @@
--- Builders: what they make of the fields that they were given, or why they make nothing.
+-- Builders: the value that they make of the given fields, or why they make none.
 use Rattle.std.specs.Prelude.{◌≡◌, ℕ, ◌+◌, List, codes, length, Option}
 use Rattle.std.specs.Prelude.{Some, None, Result, Ok, Err, nat_lt, if◌then◌else◌}
 use Rattle.neli_wire.specs.Messages.{uninitialized}
@@ -8,24 +8,24 @@ use Rattle.neli_wire.specs.SerError.TheVariants as ser
 use Rattle.neli_attr_parts.specs.declared.builders.BuildError.{BuildError}
 use Rattle.neli_attr_parts.specs.declared.builders.BuildError.TheVariants.{UninitializedField, ValidationError, Memory}
 
--- what an error prints
+-- the text that an error prints
 abbrev pub error_text : {of : ℕ} → BuildError of → List ℕ
 error_text (UninitializedField name) = uninitialized name.now
 error_text (ValidationError text) = text.now
 error_text Memory = codes "Out of memory"
 
--- the words of an error, as another error's message; none where memory ran out
+-- the text of an error, as another error's message; none where memory ran out
 abbrev pub message_in : {of : ℕ} → BuildError of → Option (List ℕ)
 message_in (UninitializedField name) = Some (uninitialized name.now)
 message_in (ValidationError text) = Some text.now
 message_in Memory = None
 
--- why nothing can be made of the fields: one is missing, or the value that they would make is not allowed
+-- why no value is made of the fields: one is missing, or the value that they would make is not allowed
 pub data Fault : Type 0 where
   Missing : List ℕ → Fault
   Invalid : List ℕ → Fault
 
--- what is made of the fields, or why nothing can be
+-- the value made of the fields, or why there is none
 abbrev pub Outcome : Type 0 → Type 0
 Outcome A = Result A Fault
 
@@ -34,13 +34,13 @@ abbrev pub require_field : {A B : Type 0} → List ℕ → Option A → (A → O
 require_field name (Some x) next = next x
 require_field name None next = Err (Missing name)
 
--- what is done with a value that can be made
+-- the next step after a value was made; a fault stays
 infixl 10 ◌>>>◌
 abbrev pub ◌>>>◌ : {A B : Type 0} → Outcome A → (A → Outcome B) → Outcome B
 (Ok x) >>> next = next x
 (Err fault) >>> next = Err fault
 
--- the bytes of a payload, which leave room for a header in a length of 16 bits
+-- the bytes of a payload that leaves room for a header in a length of 16 bits
 abbrev pub payload_in : ℕ → Wire → Outcome (List ℕ)
 payload_in header (Ok bytes) = if nat_lt 65535 (header + length bytes)
     then Err (Invalid (codes "Length does not fit its field")) else Ok bytes
@@ -51,13 +51,13 @@ abbrev pub AreGiven : {A : Type 0} → Outcome A → Type 0
 AreGiven (Err (Missing name)) = ⊥
 AreGiven outcome = Unit {0}
 
--- e is why nothing can be made; or memory ran out, which is asked for once all fields were given
+-- e is why no value is made; or memory ran out, which happens only once all fields were given
 abbrev pub IsWhyNot : {A : Type 0} {of : ℕ} → Outcome A → BuildError of → Type 0
 IsWhyNot outcome (UninitializedField name) = outcome ≡ Err (Missing name.now)
 IsWhyNot outcome (ValidationError text) = outcome ≡ Err (Invalid text.now)
 IsWhyNot outcome Memory = AreGiven outcome
 
--- ---- errors by what they were made of
+-- ---- errors by their causes
 
 -- the field of this name is missing
 abbrev pub IsMissing : {of : ℕ} → List ℕ → BuildError of → Type 0
@@ -69,7 +69,7 @@ abbrev pub IsMemory : {of : ℕ} → BuildError of → Type 0
 IsMemory Memory = Unit {0}
 IsMemory e = ⊥
 
--- the value is none, in these words
+-- there is no value, for the reason in these words
 abbrev pub IsInvalid : {of : ℕ} → List ℕ → BuildError of → Type 0
 IsInvalid words (ValidationError text) = text.now ≡ words
 IsInvalid words e = ⊥

@@ -10,11 +10,11 @@ use Rattle.neli_attr_parts.specs.Builders.{Outcome, require_field}
 abbrev pub has : ℕ → ℕ → Bool
 has n bit = not (nat_eq (bit_and n bit) 0)
 
--- a bit by its value where a flag holds
+-- a bit's value if a flag holds, else 0
 abbrev pub bit_where : Bool → ℕ → ℕ
 bit_where flag bit = if flag then bit else 0
 
--- what a field's number says: bit 15 is the nested flag, bit 14 that of network order, the others the type
+-- the meaning of a field's number: bit 15 is the nested flag, bit 14 that of network order, the others the type
 abbrev pub type_of : {T : Type 0} → (ℕ → T) → ℕ → AttrType T
 type_of value_of n = record {
   nla_nested = has n 32768;
@@ -22,7 +22,7 @@ type_of value_of n = record {
   nla_type = value_of (bit_and n 16383);
 }
 
--- the same flags with what the number means
+-- the same flags with the number's meaning
 abbrev pub typed_field : {T : Type 0} → (ℕ → T) → AttrType ℕ → AttrType T
 typed_field value_of t = record {
   nla_nested = t.nla_nested;
@@ -43,7 +43,7 @@ abbrev pub attr_type_eq : {T : Type 0} → (T → T → Bool) → AttrType T →
 attr_type_eq same = eq_of_both (eq_of_both (on (λ t. t.nla_nested) beq) (on (λ t. t.nla_network_order) beq))
     (on (λ t. t.nla_type) same)
 
--- what a builder makes of its fields: flags that were not given are not set
+-- the field that a builder makes: a flag that was not given is not set
 abbrev pub built_attr_type : {T : Type 0} → AttrTypeBuilder T → Outcome (AttrType T)
 built_attr_type b =
     require_field (codes "nla_type") b.nla_type (λ t.

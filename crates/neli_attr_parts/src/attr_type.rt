@@ -18,10 +18,10 @@ const NETWORK_ORDER: u16 = 0x4000;
 /// The bits of the type itself (`NLA_TYPE_MASK`).
 const TYPE: u16 = 0x3fff;
 
-/// The type of a generic attribute, as its header has it: two flags and a number of 14 bits.
+/// The type of a generic attribute, `nla_type` of `struct nlattr` (`linux/netlink.h`): two flags and a number of 14
+/// bits, in two bytes.
 ///
-/// A type with a number of 16384 or more is written with bits that stand for the flags, and is not read
-/// back as itself.
+/// A type with a number of 16384 or more sets the bits of the flags when it is written, and is not read back as itself.
 #[derive(Clone, Copy, Debug)]
 pub struct AttrType<T> {
     nla_nested: bool,
@@ -64,7 +64,7 @@ impl<T> AttrType<T> {
 }
 
 impl AttrType<u16> {
-    /// The same flags with what the number means.
+    /// The same flags with the number's meaning.
     pub fn to_typed<T: NlAttrType>(self) -> AttrType<T>
         ensures { result ≡ typed_field T.wire_value self }
     {
@@ -147,7 +147,7 @@ impl<T: NlAttrType> Constant for AttrType<T> {
 /// Why no type field was built.
 pub type AttrTypeBuilderError = BuildError<{ of::ATTR_TYPE }>;
 
-/// A builder of type fields. Without more, neither flag is set.
+/// A builder of type fields. By default neither flag is set.
 #[derive(Debug, Drop)]
 pub struct AttrTypeBuilder<T> {
     nla_nested: Option<bool>,
@@ -174,7 +174,7 @@ impl<T> Default for AttrTypeBuilder<T> {
 }
 
 impl<T: Drop> AttrTypeBuilder<T> {
-    /// Whether the payload is a list of attributes; it is not where this is not said.
+    /// Whether the payload is a list of attributes; false by default.
     pub fn nla_nested(mut self, value: bool) -> Self
         ensures { result ≡ record self { nla_nested = Some value } }
     {
@@ -182,7 +182,7 @@ impl<T: Drop> AttrTypeBuilder<T> {
         self
     }
 
-    /// Whether the payload is in network byte order; it is not where this is not said.
+    /// Whether the payload is in network byte order; false by default.
     pub fn nla_network_order(mut self, value: bool) -> Self
         ensures { result ≡ record self { nla_network_order = Some value } }
     {
@@ -198,7 +198,7 @@ impl<T: Drop> AttrTypeBuilder<T> {
         self
     }
 
-    /// The type field of what was given. Only the type itself can be missing, and it takes no memory.
+    /// Builds the type field. Only the type itself can be missing. It takes no memory.
     pub fn build(self) -> Result<AttrType<T>, AttrTypeBuilderError>
         ensures built { IfOk result (λ t. built_attr_type self ≡ Ok t) }
         ensures refused { IfErr result (IsWhyNot (built_attr_type self)) }

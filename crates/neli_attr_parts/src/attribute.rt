@@ -1,7 +1,7 @@
 //! What generic and routing attributes have in common for a caller: a payload of bytes.
 //!
-//! Both have one more call, which no trait can hold because its bound names its lifetime:
-//! `get_payload_as_with_len_borrowed`.
+//! Both have one more call, `get_payload_as_with_len_borrowed`, which no trait can hold because its bound names its
+//! lifetime.
 
 ghost use Rattle.std.specs.Prelude.{◌≡◌, ℕ, List, Ok, IfOk, IfErr, OnOk, OnErr, length};
 ghost use Rattle.neli_wire.specs.Refusals.{Refuses};
@@ -14,7 +14,7 @@ use neli_list::{read_first, read_whole};
 use neli_wire::{DeError, FromBytes, FromBytesWithInput, SerError, ToBytes};
 use std::alloc::Global;
 
-/// An attribute with a type of type `T`, of which the payload is bytes.
+/// An attribute with a type of type `T` and a payload of bytes.
 pub trait Attribute<T> {
     // The payload's bytes.
     ghost payload_of: { Self → List ℕ };
@@ -26,11 +26,10 @@ pub trait Attribute<T> {
     fn payload(&self) -> &Buffer
         ensures { result.now ≡ payload_of self.now };
 
-    /// Puts the wire bytes of `payload` in place of the payload, and computes the length anew.
+    /// Replaces the payload with the wire bytes of `payload`, and computes the length anew.
     ///
-    /// Refused first with the payload's own refusal; then with a `SerError::Msg` where four bytes and the
-    /// wire bytes pass the 65535 of the length field. Out of memory may stand in place of either. A refusal
-    /// leaves the attribute as it was.
+    /// Refused first with the payload's own refusal; then with a `SerError::Msg` if four bytes and the wire bytes
+    /// exceed the 65535 of the length field. `Memory` may replace either. A refusal leaves the attribute as it was.
     fn set_payload<P: ToBytes>(&mut self, alloc: Global, payload: &P) -> Result<(), SerError>
         ensures bytes { OnOk result
             (attribute_payload (P.wire payload.now) ≡ Ok (payload_of self.new)) }
@@ -38,7 +37,7 @@ pub trait Attribute<T> {
         ensures refused { IfErr result (RefusesWrite (attribute_payload (P.wire payload.now))) }
         ensures unchanged { OnErr result (self.new ≡ self.old) };
 
-    /// The value that the payload begins with, whatever follows it.
+    /// The value at the front of the payload, whatever follows it.
     ///
     /// Refused as the type's own read refuses these bytes.
     fn get_payload_as<R: FromBytes>(&self, alloc: Global) -> Result<R, DeError>

@@ -43,7 +43,7 @@ impl Buffer {
 
     /// A buffer that holds a copy of these bytes.
     ///
-    /// Refused only where memory runs out, and never where there are no bytes.
+    /// Refused only if memory runs out, and never where there are no bytes.
     pub fn from_slice(alloc: Global, bytes: &[u8]) -> Result<Buffer, NoMemory>
         ensures value { IfOk result (λ b. b ≡ bytes.now) }
         ensures memory { OnErr result (0 < length bytes.now) }
@@ -58,7 +58,7 @@ impl Buffer {
 
     /// Appends bytes.
     ///
-    /// Refused only where memory runs out, and never where there are no bytes; then the buffer is as it was.
+    /// Refused only if memory runs out, and never where there are no bytes; then the buffer is as it was.
     pub fn extend_from_slice(&mut self, bytes: &[u8]) -> Result<(), NoMemory>
         ensures ok { OnOk result (self.new ≡ self.old ++ bytes.now) }
         ensures err { OnErr result (self.new ≡ self.old) }
@@ -70,7 +70,7 @@ impl Buffer {
         Ok(())
     }
 
-    /// How many bytes the buffer holds.
+    /// The number of bytes.
     pub fn len(&self) -> usize
         ensures { result ≡ length self.now }
     {
@@ -91,7 +91,7 @@ impl Buffer {
         self.bytes.as_slice()
     }
 
-    /// The bytes, lent to be changed.
+    /// The bytes, lent mutably.
     pub fn as_mut(&mut self) -> &mut [u8]
         ensures* writes_back { sem 𝓛 (LendsBytes self.entry result) }
         ensures value { result.now ≡ self.old }
@@ -101,7 +101,7 @@ impl Buffer {
 
     /// A buffer that holds the same bytes.
     ///
-    /// Refused only where memory runs out, and never where the buffer holds no byte.
+    /// Refused only if memory runs out, and never where the buffer is empty.
     pub fn try_clone(&self) -> Result<Buffer, NoMemory>
         ensures value { IfOk result (λ b. b ≡ self.now) }
         ensures memory { OnErr result (0 < length self.now) }
@@ -121,7 +121,7 @@ impl TryClone for Buffer {
 impl From<Vec<u8>> for Buffer {
     ghost from_gives = { λ bytes buffer. buffer ≡ bytes.items };
 
-    /// The buffer takes the bytes over, and no memory.
+    /// The buffer takes over the bytes, without memory.
     fn from(bytes: Vec<u8>) -> Buffer {
         Buffer { bytes }
     }
@@ -130,7 +130,7 @@ impl From<Vec<u8>> for Buffer {
 impl From<Buffer> for Vec<u8> {
     ghost from_gives = { λ buffer bytes. bytes.items ≡ buffer };
 
-    /// The list takes the bytes over, and no memory.
+    /// The list takes over the bytes, without memory.
     fn from(buffer: Buffer) -> Vec<u8> {
         let Buffer { bytes } = buffer;
         bytes
@@ -204,7 +204,7 @@ impl FromBytesWithInput for Buffer {
 
     ghost never_short = { read-never_short };
 
-    /// Takes the next `n` bytes as they are. It takes memory only where `n` is above 0.
+    /// Takes the next `n` bytes as they are. It takes memory only if `n` is above 0.
     fn from_bytes_with_input(
         alloc: Global,
         cursor: &mut Cursor<'_>,

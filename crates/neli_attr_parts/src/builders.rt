@@ -1,9 +1,8 @@
-//! Builders: what each of them answers where it makes nothing.
+//! Builders: the errors of those that make no value.
 //!
-//! A builder is a struct of the fields that were given so far. `default` gives none, takes no memory, and
-//! each setter gives one by value. `build` names the first field that is missing, in the order of the
-//! fields; then come the faults of the value that they would make; then out of memory, which may also
-//! stand in place of such a fault.
+//! A builder is a struct of the fields given so far. `default` gives none and takes no memory; each setter gives one by
+//! value. `build` refuses first with the name of the first missing field, in the order of the fields; then with a fault
+//! of the value that they would make; then with `Memory`, which may also replace such a fault.
 
 ghost use Rattle.std.specs.Prelude.{◌≡◌, Some, codes};
 
@@ -78,7 +77,7 @@ pub mod of {
 pub enum BuildError<const OF: u8> {
     /// The field of this name was not given.
     UninitializedField(&'static str),
-    /// No value can be made of the fields, in words.
+    /// The fields make no value; the text says why.
     ValidationError(&'static str),
     /// Memory ran out.
     Memory,
@@ -87,8 +86,7 @@ pub enum BuildError<const OF: u8> {
 impl<const OF: u8> BuildError<OF> {
     ghost use Rattle.neli_attr_parts.specs.Builders.{message_in};
 
-    /// The words that it prints, as the message of an error that is told in words; none where memory ran out. It takes
-    /// no memory.
+    /// The text that it prints, as the message of another error; none where memory ran out. It takes no memory.
     pub fn into_message(self) -> Option<MsgError>
         ensures { result ≡ message_in self.entry }
     {
@@ -135,7 +133,7 @@ impl<const OF: u8> From<SerError> for BuildError<OF> {
 
     ghost from_gives = { IsRefusedPayload };
 
-    /// A payload that was not written. Memory that ran out stays so.
+    /// A payload that was not written. `Memory` stays `Memory`.
     fn from(error: SerError) -> BuildError<OF> {
         match error {
             SerError::Memory => BuildError::Memory,

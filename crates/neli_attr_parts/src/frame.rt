@@ -40,7 +40,7 @@ fn read_fields<K: Constant<Number = u16>, P: FromBytesWithInput>(
     Ok((len, kind, payload))
 }
 
-/// Reads the attribute that the cursor's rest begins with. A refusal leaves the cursor where it was.
+/// Reads the attribute at the cursor. A refusal leaves the cursor where it was.
 ///
 /// Refused as a frame with a header of four bytes is.
 pub fn read_attribute<K: Constant<Number = u16>, P: FromBytesWithInput>(
@@ -58,7 +58,7 @@ pub fn read_attribute<K: Constant<Number = u16>, P: FromBytesWithInput>(
     read_fields(alloc, cursor)
 }
 
-/// Appends an attribute. A refusal leaves some of it after what was there.
+/// Appends an attribute. A refusal leaves some of it appended.
 #[tactic(auto, using(neli_wire::specs::laws::Writing::append_wire_both, neli_wire::specs::laws::Writing::append_wire_zeros))]
 fn write_fields<K: Constant<Number = u16>, P: ToBytes>(
     len: u16,
@@ -112,7 +112,7 @@ pub fn written<P: ToBytes>(alloc: Global, payload: &P) -> Result<Buffer, SerErro
     Ok(Buffer::from(bytes))
 }
 
-/// The length of an attribute with this payload, where it fits its field.
+/// The length of an attribute with this payload, if it fits its field.
 pub fn frame_length(payload: &Buffer) -> Option<u16>
     ensures { let whole = 4 + length payload.now in
         MatchOption result (65535 < whole) (λ len. len ≡ whole) }
@@ -129,7 +129,7 @@ fn too_long() -> SerError
 
 /// The wire bytes of a payload and the length of an attribute with it.
 ///
-/// Refused first as the payload's write is; then with a `SerError::Msg` where the length passes 65535.
+/// Refused first as the payload's write is; then with a `SerError::Msg` if the length exceeds 65535.
 #[tactic(auto, using(crate::specs::laws::Attributes::refused_payload))]
 pub fn payload_bytes<P: ToBytes>(alloc: Global, payload: &P) -> Result<(u16, Buffer), SerError>
     ensures bytes { IfOk result (λ a. attribute_payload (P.wire payload.now) ≡ Ok a.1) }
@@ -141,10 +141,10 @@ pub fn payload_bytes<P: ToBytes>(alloc: Global, payload: &P) -> Result<(u16, Buf
     Ok((len, bytes))
 }
 
-/// The payload with the wire bytes of an attribute after it, and the length of an attribute with that.
+/// The payload with the wire bytes of an attribute after it, and the length of an attribute with both.
 ///
-/// Refused first as the attribute's write is; then with a `SerError::Msg` where the length passes 65535.
-/// A refusal gives the payload up.
+/// Refused first as the attribute's write is; then with a `SerError::Msg` if the length exceeds 65535. A refusal drops
+/// the payload.
 #[tactic(auto, using(crate::specs::laws::Attributes::refused_nested))]
 pub fn nested_bytes<A: ToBytes>(payload: Buffer, attr: &A) -> Result<(u16, Buffer), SerError>
     ensures bytes { IfOk result (λ a. nested_payload payload (A.wire attr.now) ≡ Ok a.1) }
@@ -158,7 +158,7 @@ pub fn nested_bytes<A: ToBytes>(payload: Buffer, attr: &A) -> Result<(u16, Buffe
     Ok((len, nested))
 }
 
-/// The size of an attribute with this payload, without padding; `usize::MAX` where it is larger.
+/// The size of an attribute with this payload, without padding, capped at `usize::MAX`.
 pub fn size_with<P: Size>(payload: &P) -> usize
     ensures { result ≡ min (4 + P.wire_length payload.now) usize.MAX }
 {

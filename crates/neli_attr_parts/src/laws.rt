@@ -1,5 +1,5 @@
-//! What buffers and type fields say of themselves, by their values. The functions do nothing: their contracts are the
-//! laws.
+//! What buffers and type fields state about themselves, by their values. The functions do nothing: their contracts are
+//! the laws.
 
 ghost use Rattle.std.specs.Prelude.{◌≡◌, ◌<◌, Ok, length};
 ghost use Rattle.neli_wire.specs.laws.Values.{AreSame, AreWrittenAs, GivesOnly, OnlyWhere};
@@ -10,8 +10,8 @@ use neli_consts::NlAttrType;
 use neli_list::TryClone;
 use neli_wire::{Constant, FromBytesWithInput, Size, ToBytes};
 
-/// A buffer is its bytes in their order: as it is made, given up, written and read. A read and a copy take memory only
-/// where there is a byte.
+/// A buffer is its bytes in their order: when it is made, turned into them, written and read. A read and a copy take
+/// memory only if there is a byte.
 pub fn buffer_is_its_bytes()
     ensures made { GivesOnly ⟦<Buffer as From<Vec<u8>>>⟧.from_gives (λ bytes buffer. buffer ≡ bytes.items) }
     ensures given_up { GivesOnly ⟦<Vec<u8> as From<Buffer>>⟧.from_gives (λ buffer bytes. bytes.items ≡ buffer) }

@@ -1,11 +1,11 @@
-//! What both kinds of attributes are made of: their payload, their type field, their frame and the
+//! The parts of both kinds of attributes: their payload, their type field, their frame and the
 //! errors of their builders.
 //!
-//! - [`Buffer`]: bytes that a value owns. [`Attribute`]: what an attribute offers of its payload.
+//! - [`Buffer`]: bytes that a value owns. [`Attribute`]: the calls for an attribute's payload.
 //! - [`AttrType`]: the type field of a generic attribute.
-//! - [`BuildError`]: why a builder made nothing, for all builders.
+//! - [`BuildError`]: why a builder made no value, for all builders.
 //! - [`frame`]: how an attribute is read and written, by the type of its type field.
-//! - [`laws`]: what buffers and type fields say of themselves.
+//! - [`laws`]: what buffers and type fields state about themselves.
 #![tactic(auto)]
 
 mod attr_type;

@@ -1,4 +1,4 @@
--- Lists of routing attributes with payloads of bytes, which most bodies of routing netlink end in.
+-- Lists of routing attributes with payloads of bytes, which end most bodies of routing netlink.
 use Rattle.std.specs.Prelude.{ℕ, ◌+◌, List, length, map, sum_by, Result, Ok}
 use Rattle.neli_wire.specs.DeError.{DeError}
 use Rattle.neli_wire.specs.Writing.{Wire, wire_all}
@@ -15,18 +15,18 @@ Attrs T = List (Rtattr T (List ℕ))
 abbrev pub attrs_wire : {T : Type 0} → (T → ℕ) → Attrs T → Wire
 attrs_wire number_of = wire_all (rtattr_wire number_of (λ bytes. Ok bytes))
 
--- how many bytes they are written as
+-- their length on the wire
 abbrev pub attrs_size : {T : Type 0} → Attrs T → ℕ
 attrs_size = sum_by (λ a. align (4 + length a.rta_payload))
 
--- what each of them says
+-- the header and the payload of each
 abbrev pub AttributesRead : Type 0 → Type 0
 AttributesRead T = List (Attr T (List ℕ))
 
--- what a list of attributes says
+-- a list of attributes, as read
 abbrev pub attrs_view : {T : Type 0} → Attrs T → AttributesRead T
 attrs_view = map rtattr_says
 
--- what a whole byte list lists
+-- the attributes listed in a whole byte list
 abbrev pub attrs_of : {T : Type 0} → (ℕ → T) → List ℕ → Result (AttributesRead T) DeError
 attrs_of = attributes_in

@@ -5,13 +5,13 @@ use Rattle.neli_wire.specs.DeError.TheVariants.{InvalidInput}
 use Rattle.neli_wire.specs.Reading.{◌>>=◌}
 use Rattle.neli_wire.specs.Writing.{Wire, ◌+++◌}
 
--- what bytes say: the header in the first n of them, and what the others say
+-- a body as read: the header in the first n bytes, and what follows in the others
 abbrev pub body_of : {H V : Type 0} → ℕ → (List ℕ → H) → (List ℕ → Result V DeError) → List ℕ → Result (H × V) DeError
 body_of n header_of rest_of s =
     if nat_lt (length s) n then Err (InvalidInput (length s))
     else (rest_of (drop n s) >>= λ rest. Ok (header_of (take n s), rest))
 
--- where the header is there, and reading what follows takes memory
+-- there is a whole header, and reading what follows takes memory
 abbrev pub body_takes_memory : ℕ → (List ℕ → Type 0) → List ℕ → Type 0
 body_takes_memory n takes s = (n ≤ length s) × takes (drop n s)
 

@@ -1,4 +1,4 @@
--- What is written of a body is read again as what is equal to it.
+-- What is written of a body is read again as its equal.
 use Rattle.std.specs.Prelude.{◌≡◌, ℕ, ◌+◌, List, ◌++◌, length, Result, Ok}
 use Rattle.std.specs.List.{All}
 use Rattle.neli_attr.specs.declared.rtattr.Rtattr.{Rtattr}
@@ -9,7 +9,7 @@ use Rattle.neli_body.specs.Attributes.{Attrs, attrs_of, attrs_view, attrs_wire}
 use Rattle.neli_body.specs.Bodies.{body_of, body_wire}
 use Rattle.neli_body.specs.Headers.{IsNamed}
 
--- a header and what follows it have bytes, which are read as that header, and as what the others are read as alone
+-- a header and what follows it have bytes, which are read as that header, and the bytes after it as they are read alone
 abbrev pub ReadsBack : {H V : Type 0} → ℕ → (H → List ℕ) → (List ℕ → H) → (List ℕ → Result V DeError) → H → Wire
     → Type 0
 ReadsBack {V = V} n bytes_of header_of rest_of header rest =
@@ -19,7 +19,7 @@ ReadsBack {V = V} n bytes_of header_of rest_of header rest =
 
 -- ---- routing attributes
 
--- the length is that of the header and the payload, and the type is what its number is read as
+-- the length is that of the header and the payload, and the type is read from its number
 pub record IsPlainAttr {T : Type 0} (number_of : T → ℕ) (value_of : ℕ → T) (a : Rtattr T (List ℕ)) : Type 0 where
   pub len : a.rta_len ≡ 4 + length a.rta_payload
   pub fits : FitsBytes 2 a.rta_len

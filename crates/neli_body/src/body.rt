@@ -12,10 +12,10 @@ use neli_wire::implementing::undo_on_refusal;
 use neli_wire::{Cursor, DeError, FromBytesWithInput, SerError, Size, ToBytes};
 use std::alloc::Global;
 
-/// Reads a body from exactly the next `n` bytes: its header, and what all the others spell.
+/// Reads a body from exactly the next `n` bytes: its header, and the rest from all the others.
 ///
-/// `InvalidInput(n)` where there are fewer, or fewer than the header has; then the refusal of what
-/// follows the header. A refusal leaves the cursor where it was.
+/// `InvalidInput(n)` if there are fewer, or `n` is below the header's size; then the refusal of
+/// what follows the header. A refusal leaves the cursor where it was.
 pub fn read_body<H: FixedHeader, R: FromBytesWithInput>(
     alloc: Global,
     cursor: &mut Cursor<'_>,
@@ -60,7 +60,7 @@ pub fn write_body<H: FixedHeader, R: ToBytes>(
     undo_on_refusal(buffer, start, outcome)
 }
 
-/// The size of a header and what follows it, in bytes; `usize::MAX` where it is larger.
+/// The size of a header and what follows it, in bytes, capped at `usize::MAX`.
 pub fn size_of_body<H: FixedHeader, R: Size>(rest: &R) -> usize
     ensures { result ≡ min (H.width + R.wire_length rest.now) usize.MAX }
 {

@@ -19,10 +19,10 @@ pub trait FixedHeader: Debug + Drop {
     // The bytes of a header.
     ghost bytes_of: { Self → List ℕ };
 
-    // The header that as many bytes spell.
+    // The header that this many bytes spell.
     ghost header_of: { List ℕ → Self };
 
-    // Each field has a number of its type, and is what that number is read as.
+    // Each field has a number of its type, and is read from that number.
     ghost IsPlain: { Self → Type 0 };
 
     /// How many bytes each header has.
@@ -33,7 +33,7 @@ pub trait FixedHeader: Debug + Drop {
     fn spell(&self) -> HeaderBytes
         ensures { result ≡ bytes_of self.now };
 
-    /// The header that these bytes spell, of which there are as many as each header has.
+    /// The header that these bytes spell; their number is the header's size.
     fn from_spelling(bytes: &[u8]) -> Self
         requires { length bytes.now ≡ width }
         ensures { result ≡ header_of bytes.now };
@@ -48,8 +48,8 @@ pub trait FixedHeader: Debug + Drop {
         → bytes_of (header_of s) ≡ s };
 }
 
-/// Reads the header that the cursor's rest begins with, and moves past it. `Io(UnexpectedEof)` where the
-/// bytes are not there, and then the cursor stays. It takes no memory.
+/// Reads the header at the cursor, and moves past it. `Io(UnexpectedEof)` if there are too few bytes; then the cursor
+/// stays. It takes no memory.
 pub fn read_fixed<H: FixedHeader>(cursor: &mut Cursor<'_>) -> Result<H, DeError>
     ensures value { IfOk result (λ h. value_at H.width H.header_of cursor.old.rest
         ≡ Ok (h, cursor.new.rest)) }

@@ -44,7 +44,7 @@ impl HeaderBytes {
         &self.bytes[..self.count]
     }
 
-    /// These bytes more; there is room for them.
+    /// Appends these bytes; there must be room for them.
     pub fn bytes(mut self, bytes: &[u8]) -> HeaderBytes
         requires { length self + length bytes.now ≤ 40 }
         ensures { result ≡ self ++ bytes.now }
@@ -56,7 +56,7 @@ impl HeaderBytes {
         self
     }
 
-    /// A number of one byte more; there is room for it.
+    /// Appends a number of one byte; there must be room for it.
     pub fn u8(mut self, value: u8) -> HeaderBytes
         requires { length self + 1 ≤ 40 }
         ensures { result ≡ self ++ little_bytes 1 value }
@@ -66,7 +66,7 @@ impl HeaderBytes {
         self
     }
 
-    /// A number of two bytes more, the lowest first; there is room for it.
+    /// Appends a number of two bytes, the lowest first; there must be room for it.
     pub fn u16(self, value: u16) -> HeaderBytes
         requires { length self + 2 ≤ 40 }
         ensures { result ≡ self ++ little_bytes 2 value }
@@ -74,7 +74,7 @@ impl HeaderBytes {
         self.bytes(&value.to_le_bytes())
     }
 
-    /// A number of four bytes more, the lowest first; there is room for it.
+    /// Appends a number of four bytes, the lowest first; there must be room for it.
     pub fn u32(self, value: u32) -> HeaderBytes
         requires { length self + 4 ≤ 40 }
         ensures { result ≡ self ++ little_bytes 4 value }
@@ -82,7 +82,7 @@ impl HeaderBytes {
         self.bytes(&value.to_le_bytes())
     }
 
-    /// A signed number of four bytes more, the lowest first; there is room for it.
+    /// Appends a signed number of four bytes, the lowest first; there must be room for it.
     pub fn i32(self, value: i32) -> HeaderBytes
         requires { length self + 4 ≤ 40 }
         ensures { result ≡ self ++ signed_bytes w32 4 value }
@@ -90,7 +90,7 @@ impl HeaderBytes {
         self.bytes(&value.to_le_bytes())
     }
 
-    /// A number of eight bytes more, the lowest first; there is room for it.
+    /// Appends a number of eight bytes, the lowest first; there must be room for it.
     pub fn u64(self, value: u64) -> HeaderBytes
         requires { length self + 8 ≤ 40 }
         ensures { result ≡ self ++ little_bytes 8 value }

@@ -9,9 +9,8 @@ use crate::FixedHeader;
 use neli_consts_attrs::RtaType;
 use neli_wire::{FromBytesWithInput, ToBytes};
 
-/// A body is written as bytes that are read as its header and as what the bytes after the header are
-/// read as alone, where each field of the header is what its number is read as. And bytes that are read
-/// as a header are the bytes that it is written as.
+/// A body's wire bytes are read as its header, and the bytes after it as they are read alone, if each field of the
+/// header is read from its number. Bytes that are read as a header are written back as the same bytes.
 pub fn body_is_read_back<H: FixedHeader, R: ToBytes + FromBytesWithInput>()
     ensures back { (h : H) (rest : R) → H.IsPlain h
         → ReadsBack H.width H.bytes_of H.header_of R.read h (R.wire rest) }
@@ -19,10 +18,9 @@ pub fn body_is_read_back<H: FixedHeader, R: ToBytes + FromBytesWithInput>()
         → H.bytes_of (H.header_of s) ≡ s }
 {}
 
-/// A list of routing attributes is written as bytes that are read as the same attributes, where
-/// each attribute's length is that of its header and payload, as it is for each one that was built,
-/// and its type is what its number is read as. So is a header with such a list after it, where each
-/// field of the header is what its number is read as.
+/// A list of routing attributes is read back, if each attribute's length is that of its header and payload, as in each
+/// one that was built, and its type is read from its number. So is a header with such a list after it, if each field of
+/// the header is read from its number.
 pub fn attributes_are_read_back<H: FixedHeader, T: RtaType>()
     ensures back { (attrs : Attrs T) → ArePlainAttrs T.wire_number T.wire_value attrs
         → AreReadBack T.wire_number T.wire_value attrs }

@@ -1,4 +1,4 @@
-//! What the bodies of all families are made of: a header of fixed size, and what follows it.
+//! The parts of all families' bodies: a header of fixed size, and what follows it.
 //!
 //! - [`HeaderBytes`]: the bytes of a header, appended field by field.
 //! - [`numbers`]: the number at a place of a header.

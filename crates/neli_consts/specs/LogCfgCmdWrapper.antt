@@ -10,12 +10,12 @@ abbrev pub log_cfg_cmd_wrapper_number : LogCfgCmdWrapper → ℕ
 log_cfg_cmd_wrapper_number (LogCmd v) = log_cmd_number v
 log_cfg_cmd_wrapper_number (UnrecognizedConst n) = n
 
--- what each table makes of a number, in the order in which they are asked
+-- each table's value for a number, in the order of the tables
 abbrev pub log_cfg_cmd_wrapper_readings : ℕ → List (Bool × LogCfgCmdWrapper)
 log_cfg_cmd_wrapper_readings n =
     reading log_cmd_is_unrecognized LogCmd (log_cmd_of n)
     ∷ []
 
--- what the first table says that has a name for a number, else the number without a name
+-- the value from the first table that has a name for a number, else the number without a name
 abbrev pub log_cfg_cmd_wrapper_of : ℕ → LogCfgCmdWrapper
 log_cfg_cmd_wrapper_of n = first_recognized (log_cfg_cmd_wrapper_readings n) (UnrecognizedConst n)

@@ -23,7 +23,7 @@ nl_attr_type_wrapper_number (Index v) = index_number v
 nl_attr_type_wrapper_number (NlmsgerrAttr v) = nlmsgerr_attr_number v
 nl_attr_type_wrapper_number (UnrecognizedConst n) = n
 
--- what each table makes of a number, in the order in which they are asked
+-- each table's value for a number, in the order of the tables
 abbrev pub nl_attr_type_wrapper_readings : ℕ → List (Bool × NlAttrTypeWrapper)
 nl_attr_type_wrapper_readings n =
     reading ctrl_attr_is_unrecognized CtrlAttr (ctrl_attr_of n)
@@ -34,6 +34,6 @@ nl_attr_type_wrapper_readings n =
     ∷ reading nlmsgerr_attr_is_unrecognized NlmsgerrAttr (nlmsgerr_attr_of n)
     ∷ []
 
--- what the first table says that has a name for a number, else the number without a name
+-- the value from the first table that has a name for a number, else the number without a name
 abbrev pub nl_attr_type_wrapper_of : ℕ → NlAttrTypeWrapper
 nl_attr_type_wrapper_of n = first_recognized (nl_attr_type_wrapper_readings n) (UnrecognizedConst n)

@@ -17,7 +17,7 @@ nl_type_wrapper_number (Rtm v) = rtm_number v
 nl_type_wrapper_number (NetfilterMsg v) = netfilter_msg_number v
 nl_type_wrapper_number (UnrecognizedConst n) = n
 
--- what each table makes of a number, in the order in which they are asked
+-- each table's value for a number, in the order of the tables
 abbrev pub nl_type_wrapper_readings : ℕ → List (Bool × NlTypeWrapper)
 nl_type_wrapper_readings n =
     reading nlmsg_is_unrecognized Nlmsg (nlmsg_of n)
@@ -26,6 +26,6 @@ nl_type_wrapper_readings n =
     ∷ reading netfilter_msg_is_unrecognized NetfilterMsg (netfilter_msg_of n)
     ∷ []
 
--- what the first table says that has a name for a number, else the number without a name
+-- the value from the first table that has a name for a number, else the number without a name
 abbrev pub nl_type_wrapper_of : ℕ → NlTypeWrapper
 nl_type_wrapper_of n = first_recognized (nl_type_wrapper_readings n) (UnrecognizedConst n)

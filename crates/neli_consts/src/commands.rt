@@ -1,4 +1,4 @@
-//! What the number of a command may be read as.
+//! The types that read the number of a command.
 
 ghost use Rattle.std.proofs.Common.{rules};
 ghost use Rattle.std.specs.Prelude.{◌≡◌};
@@ -10,8 +10,8 @@ use crate::CtrlCmd;
 use neli_consts_system::LogCmd;
 use neli_wire::Constant;
 
-/// A command of a family of generic netlink: a value for each number of 8 bits, and each value's
-/// number. What a number means has that number.
+/// A command of a family of generic netlink: it has a value for each number of 8 bits, and each
+/// value has a number. A number's value has that same number.
 pub trait Cmd: PartialEq + Constant<Number = u8> {
     /// The command that a number means.
     fn from_number(number: u8) -> Self
@@ -32,8 +32,8 @@ impl Cmd for u8 {}
 
 impl Cmd for CtrlCmd {}
 
-/// A command of a logging configuration of netfilter: a value for each number of 8 bits, and each
-/// value's number. What a number means has that number.
+/// A command of a logging configuration of netfilter: it has a value for each number of 8 bits, and
+/// each value has a number. A number's value has that same number.
 pub trait LogCfgCmd: PartialEq + Constant<Number = u8> {
     /// The command that a number means.
     fn from_number(number: u8) -> Self
@@ -56,12 +56,12 @@ impl LogCfgCmd for LogCmd {}
 
 impl LogCfgCmd for LogCfgCmdWrapper {}
 
-/// A command of a logging configuration, by the one table that there is.
+/// A command of a logging configuration, by its only table.
 #[derive(Clone, Copy, Debug, PartialEq, Eq)]
 pub enum LogCfgCmdWrapper {
     /// A command of this table.
     LogCmd(LogCmd),
-    /// A number that it has no name for.
+    /// A number for which it has no name.
     UnrecognizedConst(u8),
 }
 

@@ -12,7 +12,7 @@ ghost use Rattle.neli_wire.specs.laws.Constants.{first_with-number};
 use neli_wire::Constant;
 
 /// Types of generic netlink messages that are fixed: `GENL_ID_*` of `linux/genetlink.h`. The kernel
-/// gives every other family a number when it is loaded.
+/// numbers every other family when it is loaded.
 #[derive(Clone, Copy, Debug, PartialEq, Eq)]
 pub enum GenlId {
     /// The controller, which knows the number of each family.
@@ -92,21 +92,21 @@ impl Constant for GenlId {
 pub enum CtrlCmd {
     /// No command: 0 stands for none.
     Unspec,
-    /// Tells of a family.
+    /// Reports a family.
     Newfamily,
-    /// Tells that a family is gone.
+    /// Reports that a family is gone.
     Delfamily,
     /// Asks for families.
     Getfamily,
-    /// Tells of a family's commands.
+    /// Reports a family's commands.
     Newops,
-    /// Tells that commands of a family are gone.
+    /// Reports that commands of a family are gone.
     Delops,
     /// Asks for a family's commands.
     Getops,
-    /// Tells of a multicast group of a family.
+    /// Reports a multicast group of a family.
     NewmcastGrp,
-    /// Tells that a multicast group of a family is gone.
+    /// Reports that a multicast group of a family is gone.
     DelmcastGrp,
     /// Not used by the kernel.
     GetmcastGrp,

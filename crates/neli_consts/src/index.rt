@@ -6,7 +6,7 @@ ghost use Rattle.neli_consts.specs.Index.{index_number, index_of};
 use neli_wire::Constant;
 
 /// The place of an attribute in a list whose elements have no names, as the groups inside
-/// [`crate::CtrlAttr::McastGroups`]. Every number is one.
+/// [`crate::CtrlAttr::McastGroups`]. Every number is a place.
 #[derive(Clone, Copy, Debug, PartialEq, Eq)]
 pub struct Index(u16);
 

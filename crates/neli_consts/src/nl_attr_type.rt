@@ -1,4 +1,4 @@
-//! What the number of an attribute's type may be read as.
+//! The types that read the number of an attribute's type.
 
 ghost use Rattle.std.proofs.Common.{rules};
 ghost use Rattle.std.specs.Prelude.{◌≡◌};
@@ -10,8 +10,8 @@ use crate::{CtrlAttr, CtrlAttrMcastGrp, Index, NlmsgerrAttr};
 use neli_consts_system::{NfLogAttr, NfLogCfg};
 use neli_wire::Constant;
 
-/// A type of attributes: a value for each number of 16 bits, and each value's number. What a number
-/// means has that number. An attribute keeps the lower 14 bits for it.
+/// A type of attributes: it has a value for each number of 16 bits, and each value has a number. A
+/// number's value has that same number. An attribute keeps the lower 14 bits for it.
 pub trait NlAttrType: PartialEq + Constant<Number = u16> {
     /// The type that a number means.
     fn from_number(number: u16) -> Self
@@ -44,9 +44,9 @@ impl NlAttrType for NlmsgerrAttr {}
 
 impl NlAttrType for NlAttrTypeWrapper {}
 
-/// A type of attributes, by the first of these tables that has a name for its number. What
-/// surrounds an attribute decides which table is meant, so a later one is read by its own type.
-/// Every number is an [`Index`]: a `NlmsgerrAttr` or an `UnrecognizedConst` is made by hand alone.
+/// A type of attributes, by the first of these tables that has a name for its number. The
+/// attribute's context decides which table is meant, so read a later one by its own type. Every
+/// number is an [`Index`]: only a program makes a `NlmsgerrAttr` or an `UnrecognizedConst`.
 #[derive(Clone, Copy, Debug, PartialEq, Eq)]
 pub enum NlAttrTypeWrapper {
     /// An attribute of a family.
@@ -61,7 +61,7 @@ pub enum NlAttrTypeWrapper {
     Index(Index),
     /// An attribute of an error or an acknowledgement.
     NlmsgerrAttr(NlmsgerrAttr),
-    /// A number that none of these has a name for.
+    /// A number for which none of these has a name.
     UnrecognizedConst(u16),
 }
 
@@ -85,7 +85,7 @@ impl From<u16> for NlAttrTypeWrapper {
         if !nf_log_cfg.is_unrecognized() {
             return NlAttrTypeWrapper::NfLogCfg(nf_log_cfg);
         }
-        // Every number is an index, so what is listed after it is never asked.
+        // Every number is an index, so no later table is searched.
         NlAttrTypeWrapper::Index(Index::from(number))
     }
 }

@@ -11,13 +11,13 @@ use std::ops::{
     BitAnd, BitAndAssign, BitOr, BitOrAssign, BitXor, BitXorAssign, Not, Sub, SubAssign,
 };
 
-/// The flags of a message: `NLM_F_*` of `linux/netlink.h` (RFC 3549, section 2.3.2). What the bits
-/// from 0x100 on mean depends on the message: whether it asks, makes, or answers with an error.
+/// The flags of a message: `NLM_F_*` of `linux/netlink.h` (RFC 3549, section 2.3.2). The bits from
+/// 0x100 on mean different things in a request that asks, one that makes, and an error.
 #[derive(Clone, Copy, Debug, PartialEq, Eq)]
 pub struct NlmF(u16);
 
 impl NlmF {
-    /// The message asks for something.
+    /// The message is a request.
     pub const REQUEST: NlmF = NlmF(1);
 
     /// It is one of several; [`crate::Nlmsg::Done`] ends them.
@@ -26,13 +26,13 @@ impl NlmF {
     /// An acknowledgement is wanted.
     pub const ACK: NlmF = NlmF(4);
 
-    /// The change that is asked for is to be sent back.
+    /// The change made is to be sent back.
     pub const ECHO: NlmF = NlmF(8);
 
-    /// What is listed changed meanwhile, so the list may be torn.
+    /// The table changed during the dump, so the list may be inconsistent.
     pub const DUMP_INTR: NlmF = NlmF(0x10);
 
-    /// The list was filtered as asked.
+    /// The list was filtered as requested.
     pub const DUMP_FILTERED: NlmF = NlmF(0x20);
 
     /// Asking: the whole table.
@@ -41,25 +41,25 @@ impl NlmF {
     /// Asking: all entries that fit.
     pub const MATCH: NlmF = NlmF(0x200);
 
-    /// Asking: the table as it is at one moment.
+    /// Asking: the table at one moment.
     pub const ATOMIC: NlmF = NlmF(0x400);
 
     /// Asking: [`NlmF::ROOT`] and [`NlmF::MATCH`].
     pub const DUMP: NlmF = NlmF(0x300);
 
-    /// Making: an entry that is there is replaced.
+    /// Making: an existing entry is replaced.
     pub const REPLACE: NlmF = NlmF(0x100);
 
-    /// Making: it is an error that the entry is there.
+    /// Making: an existing entry is an error.
     pub const EXCL: NlmF = NlmF(0x200);
 
-    /// Making: the entry is made where it isn't there.
+    /// Making: an entry that does not exist is made.
     pub const CREATE: NlmF = NlmF(0x400);
 
     /// Making: the entry goes to the end of the list.
     pub const APPEND: NlmF = NlmF(0x800);
 
-    /// Answering: the request comes back without its body.
+    /// Answering: the request is sent back without its body.
     pub const CAPPED: NlmF = NlmF(0x100);
 
     /// Answering: attributes of [`crate::NlmsgerrAttr`] follow.

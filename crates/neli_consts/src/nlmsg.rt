@@ -24,7 +24,7 @@ pub const NLMSG_OVERRUN: u16 = 4;
 /// 3549, section 2.3.2).
 #[derive(Clone, Copy, Debug, PartialEq, Eq)]
 pub enum Nlmsg {
-    /// To be passed over.
+    /// To be skipped.
     Noop,
     /// The answer to a request: an acknowledgement where its code is 0.
     Error,
@@ -106,11 +106,11 @@ pub enum NlmsgerrAttr {
     Unused,
     /// A text that says what was wrong, with a zero at its end.
     Msg,
-    /// Where in the request it was, in bytes, counted from the request's header.
+    /// The place of the error in the request, in bytes, counted from the request's header.
     Offset,
     /// Bytes of the protocol, in an acknowledgement.
     Cookie,
-    /// What the kernel would have taken there.
+    /// What the kernel would have accepted there.
     Policy,
     /// A number without a name.
     UnrecognizedConst(u16),

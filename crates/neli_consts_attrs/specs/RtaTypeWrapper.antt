@@ -28,7 +28,7 @@ rta_type_wrapper_number (IflaVlanQos v) = ifla_vlan_qos_number v
 rta_type_wrapper_number (Frattr v) = frattr_number v
 rta_type_wrapper_number (UnrecognizedConst n) = n
 
--- what each table makes of a number, in the order in which they are asked
+-- each table's value for a number, in the order of the tables
 abbrev pub rta_type_wrapper_readings : ℕ → List (Bool × RtaTypeWrapper)
 rta_type_wrapper_readings n =
     reading ifla_is_unrecognized Ifla (ifla_of n)
@@ -42,6 +42,6 @@ rta_type_wrapper_readings n =
     ∷ reading frattr_is_unrecognized Frattr (frattr_of n)
     ∷ []
 
--- what the first table says that has a name for a number, else the number without a name
+-- the value from the first table that has a name for a number, else the number without a name
 abbrev pub rta_type_wrapper_of : ℕ → RtaTypeWrapper
 rta_type_wrapper_of n = first_recognized (rta_type_wrapper_readings n) (UnrecognizedConst n)

@@ -22,7 +22,8 @@ pub fn equality()
     ensures rta_type_wrapper { IsEquality ⟦<RtaTypeWrapper as PartialEq>⟧.eq }
 {}
 
-/// [`Frattr::Ifname`] is only written: no number is read as it, so it equals nothing that was read.
+/// [`Frattr::Ifname`] is only written: no number is read as it, so it equals no value that was
+/// read.
 pub fn ifname_is_never_read()
     ensures { (number : ℕ) → ⟦<Frattr as PartialEq>⟧.eq frattr.Ifname (frattr_of number) ≡ false }
 {}

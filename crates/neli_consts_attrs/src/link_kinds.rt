@@ -23,7 +23,7 @@ pub enum IflaInfo {
     Xstats,
     /// The kind of its master.
     SlaveKind,
-    /// The attributes that the master's kind has for the link.
+    /// The attributes that the master's kind keeps for the link.
     SlaveData,
     /// A number without a name.
     UnrecognizedConst(u16),
@@ -105,9 +105,9 @@ pub enum IflaVlan {
     Id,
     /// A value and a mask of flags.
     Flags,
-    /// Attributes of [`IflaVlanQos`], for packets that go out.
+    /// Attributes of [`IflaVlanQos`], for outgoing packets.
     EgressQos,
-    /// Attributes of [`IflaVlanQos`], for packets that come in.
+    /// Attributes of [`IflaVlanQos`], for incoming packets.
     IngressQos,
     /// The type of Ethernet frame that carries the tag.
     Protocol,
@@ -188,7 +188,7 @@ impl Constant for IflaVlan {
 pub enum IflaVlanQos {
     /// No attribute: 0 stands for none.
     Unspec,
-    /// A priority and the one that it is turned into.
+    /// A priority and the one that it becomes.
     Mapping,
     /// A number without a name.
     UnrecognizedConst(u16),

@@ -20,7 +20,7 @@ pub enum Ifla {
     Ifname,
     /// The largest packet, in bytes.
     Mtu,
-    /// The index of the link that it stands on.
+    /// The index of the link below it.
     Link,
     /// The queueing discipline, by name.
     Qdisc,
@@ -32,16 +32,16 @@ pub enum Ifla {
     Master,
     /// An event of the wireless extensions.
     Wireless,
-    /// What a protocol keeps of the link.
+    /// A protocol's own data about the link.
     Protinfo,
     /// The length of the queue of packets to send.
     Txqlen,
     /// The memory and the interrupt of the device.
     Map,
     Weight,
-    /// How far the link is able to work (RFC 2863).
+    /// The link's operational state (RFC 2863).
     Operstate,
-    /// How far the link goes up by itself: fully, or to dormant (RFC 2863).
+    /// The state to which the link goes up by itself: up, or dormant (RFC 2863).
     Linkmode,
     /// Attributes of [`IflaInfo`].
     Linkinfo,
@@ -59,37 +59,37 @@ pub enum Ifla {
     VfPorts,
     /// The port of the link itself.
     PortSelf,
-    /// What each address family keeps of the link.
+    /// Each address family's own data about the link.
     AfSpec,
     /// The group that the link belongs to.
     Group,
     /// A descriptor of the network namespace that the link is to move to.
     NetNsFd,
-    /// What else the answer is to hold, as a mask.
+    /// A mask of what else to put in the answer.
     ExtMask,
-    /// How often somebody asked for all packets.
+    /// How many users asked the link to take all packets.
     Promiscuity,
-    /// The number of queues of packets to send.
+    /// The number of transmit queues.
     NumTxQueues,
-    /// The number of queues of packets that come in.
+    /// The number of receive queues.
     NumRxQueues,
     /// Whether the link has a carrier.
     Carrier,
-    /// What tells the physical port from others.
+    /// Identifies the physical port.
     PhysPortId,
-    /// How often the carrier came or went.
+    /// How often the carrier changed.
     CarrierChanges,
-    /// What tells the switch that the port is on from others.
+    /// Identifies the switch of the port.
     PhysSwitchId,
-    /// The network namespace of the link that it stands on.
+    /// The network namespace of the link below it.
     LinkNetnsid,
     /// The name of the physical port.
     PhysPortName,
     /// A protocol keeps the link down.
     ProtoDown,
-    /// The most segments of a packet that is cut when it is sent (GSO).
+    /// The most segments of a packet that is segmented when it is sent (GSO).
     GsoMaxSegs,
-    /// The largest packet that is cut when it is sent (GSO), in bytes.
+    /// The largest packet that is segmented when it is sent (GSO), in bytes.
     GsoMaxSize,
     /// No attribute: it aligns the next one to eight bytes.
     Pad,
@@ -101,15 +101,15 @@ pub enum Ifla {
     NewNetnsid,
     /// The namespace that the request is about, now `IFLA_TARGET_NETNSID`.
     IfNetnsid,
-    /// How often the carrier came.
+    /// How often the carrier went up.
     CarrierUpCount,
-    /// How often the carrier went.
+    /// How often the carrier went down.
     CarrierDownCount,
     /// The index of the link in the network namespace that it moves to.
     NewIfindex,
-    /// The least that [`Ifla::Mtu`] can be.
+    /// The least value of [`Ifla::Mtu`].
     MinMtu,
-    /// The most that [`Ifla::Mtu`] can be.
+    /// The greatest value of [`Ifla::Mtu`].
     MaxMtu,
     /// Attributes [`Ifla::AltIfname`].
     PropList,

@@ -16,9 +16,9 @@ pub enum Nda {
     Dst,
     /// Its address on the link.
     Lladdr,
-    /// When it was confirmed, used and updated, and by how many it is held.
+    /// The times of its confirmation, use and update, and its number of references.
     Cacheinfo,
-    /// How often it was asked.
+    /// How many probes it was sent.
     Probes,
     /// The virtual LAN.
     Vlan,
@@ -26,7 +26,7 @@ pub enum Nda {
     Port,
     /// The network of a tunnel (VXLAN).
     Vni,
-    /// The index of the link that a tunnel goes out by (VXLAN).
+    /// The index of a tunnel's output link (VXLAN).
     Ifindex,
     /// The index of the link's master.
     Master,

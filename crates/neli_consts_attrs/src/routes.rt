@@ -16,17 +16,17 @@ pub enum Rta {
     Dst,
     /// The source address.
     Src,
-    /// The index of the link that packets come in by.
+    /// The index of the input link.
     Iif,
-    /// The index of the link that packets go out by.
+    /// The index of the output link.
     Oif,
     /// The address of the next hop.
     Gateway,
-    /// The metric: of several routes the one with the lowest is taken.
+    /// The metric: of several routes the one with the lowest is used.
     Priority,
     /// The source address to prefer.
     Prefsrc,
-    /// Attributes of the way, as its largest packet.
+    /// Attributes of the path, such as its largest packet.
     Metrics,
     /// The next hops.
     Multipath,
@@ -34,7 +34,7 @@ pub enum Rta {
     Protoinfo,
     /// The realms of the route.
     Flow,
-    /// How the route is used, and when it ends.
+    /// The route's use, and its end.
     Cacheinfo,
     /// No longer used by the kernel.
     Session,
@@ -52,15 +52,15 @@ pub enum Rta {
     Newdst,
     /// The preference of a router.
     Pref,
-    /// How packets are wrapped.
+    /// How packets are encapsulated.
     EncapType,
-    /// The attributes of that wrapping.
+    /// The attributes of that encapsulation.
     Encap,
-    /// In how many seconds the route ends.
+    /// The seconds until the route expires.
     Expires,
     /// No attribute: it aligns the next one to eight bytes.
     Pad,
-    /// The user that a look-up is made for.
+    /// The user of the look-up.
     Uid,
     /// Whether the time to live is carried over, in MPLS.
     TtlPropagate,

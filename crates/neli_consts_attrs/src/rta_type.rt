@@ -1,4 +1,4 @@
-//! What the number of an attribute in a routing message may be read as.
+//! The types that read the number of an attribute in a routing message.
 
 ghost use Rattle.std.proofs.Common.{rules};
 ghost use Rattle.std.specs.Prelude.{◌≡◌};
@@ -9,8 +9,8 @@ ghost use Rattle.neli_wire.specs.laws.Constants.{first_recognized-number, first_
 use crate::{Frattr, Ifa, Ifla, IflaInfo, IflaVlan, IflaVlanQos, Nda, Rta, Tca};
 use neli_wire::Constant;
 
-/// A type of attributes in routing messages: a value for each number of 16 bits, and each value's
-/// number. What a number means has that number.
+/// A type of attributes in routing messages: it has a value for each number of 16 bits, and each
+/// value has a number. A number's value has that same number.
 pub trait RtaType: PartialEq + Constant<Number = u16> {
     /// The type that a number means.
     fn from_number(number: u16) -> Self
@@ -50,8 +50,8 @@ impl RtaType for Frattr {}
 impl RtaType for RtaTypeWrapper {}
 
 /// A type of attributes in routing messages, by the first of these tables that has a name for its
-/// number. The same number stands in several tables: what surrounds an attribute decides which one
-/// is meant, so a later table is read by its own type.
+/// number. The same number stands in several tables; the attribute's context decides which one is
+/// meant, so read a later table by its own type.
 #[derive(Clone, Copy, Debug, PartialEq, Eq)]
 pub enum RtaTypeWrapper {
     /// An attribute of a link.
@@ -72,7 +72,7 @@ pub enum RtaTypeWrapper {
     IflaVlanQos(IflaVlanQos),
     /// An attribute of a routing rule.
     Frattr(Frattr),
-    /// A number that none of these has a name for.
+    /// A number for which none of these has a name.
     UnrecognizedConst(u16),
 }
 

@@ -16,9 +16,9 @@ pub enum Frattr {
     Dst,
     /// The source address.
     Src,
-    /// The name of the link that packets come in by.
+    /// The name of the input link.
     Iifname,
-    /// The older name of [`Frattr::Iifname`], as which 3 is read.
+    /// The older name of [`Frattr::Iifname`]; 3 is read as that one.
     Ifname,
     /// The rule to go on with.
     Goto,
@@ -36,23 +36,23 @@ pub enum Frattr {
     Fwmark,
     /// The realms of a route.
     Flow,
-    /// The key of the tunnel that a packet came by.
+    /// The key of the tunnel that delivered a packet.
     TunId,
-    /// The group of links by which no route is taken.
+    /// The group of links whose routes are ignored.
     SuppressIfgroup,
-    /// Routes with a prefix of at most this length are not taken.
+    /// Routes with a prefix of at most this length are ignored.
     SuppressPrefixlen,
     /// The table's number, where it needs more than a byte.
     Table,
     /// The bits of the mark that count.
     Fwmask,
-    /// The name of the link that packets go out by.
+    /// The name of the output link.
     Oifname,
     /// No attribute: it aligns the next one to eight bytes.
     Pad,
     /// The table is that of the link's layer 3 master, a VRF.
     L3mdev,
-    /// The users whose packets are meant, from the first to the last.
+    /// The users whose packets match, from the first to the last.
     UidRange,
     /// Who made the rule.
     Protocol,

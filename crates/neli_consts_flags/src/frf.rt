@@ -15,19 +15,19 @@ impl Frf {
     /// It holds for the packets that don't fit it.
     pub const INVERT: Frf = FlagSet(2);
 
-    /// The rule that it leads to is not there.
+    /// The target rule does not exist.
     pub const UNRESOLVED: Frf = FlagSet(4);
 
-    /// The link that the packets come in by is not there.
+    /// The input link does not exist.
     pub const IIF_DETACHED: Frf = FlagSet(8);
 
     /// An older name of [`Frf::IIF_DETACHED`].
     pub const DEV_DETACHED: Frf = FlagSet(8);
 
-    /// The link that the packets go out by is not there.
+    /// The output link does not exist.
     pub const OIF_DETACHED: Frf = FlagSet(0x10);
 
-    /// The source address is to be looked for.
+    /// The source address is still to be found.
     pub const FIND_SADDR: Frf = FlagSet(0x10000);
 }
 

@@ -5,15 +5,15 @@ ghost use Rattle.neli_consts_flags.specs.IfaF.{ifa_f_names};
 use crate::{FlagSet, Kind, Of};
 use bitflags::Flag;
 
-/// What an address of a link is for, and how far it has come: `IFA_F_*` of `linux/if_addr.h`, those
-/// of one byte.
+/// The purpose and the state of a link's address: `IFA_F_*` of `linux/if_addr.h`, those of one
+/// byte.
 pub type IfaF = FlagSet<u8, 2>;
 
 impl IfaF {
     /// Not the first address of its network on the link.
     pub const SECONDARY: IfaF = FlagSet(1);
 
-    /// The same bit, with its meaning in version 6: made to be used for a while.
+    /// The same bit, with its meaning in version 6: a temporary address.
     pub const TEMPORARY: IfaF = FlagSet(1);
 
     /// It is not tested for duplicates.
@@ -31,10 +31,10 @@ impl IfaF {
     /// Its preferred time is over.
     pub const DEPRECATED: IfaF = FlagSet(0x20);
 
-    /// It is still tested.
+    /// It is still being tested.
     pub const TENTATIVE: IfaF = FlagSet(0x40);
 
-    /// It has no end of its time.
+    /// It does not expire.
     pub const PERMANENT: IfaF = FlagSet(0x80);
 }
 

@@ -30,10 +30,10 @@ impl Iff {
     /// The link is switched on and can carry packets.
     pub const RUNNING: Iff = FlagSet(0x40);
 
-    /// Addresses are not asked for on it.
+    /// Addresses are not resolved on it.
     pub const NOARP: Iff = FlagSet(0x80);
 
-    /// It takes all packets, whoever they are for.
+    /// It takes all packets, whatever their destination.
     pub const PROMISC: Iff = FlagSet(0x100);
 
     /// It takes all multicast packets.
@@ -54,7 +54,7 @@ impl Iff {
     /// Its medium is chosen by itself.
     pub const AUTOMEDIA: Iff = FlagSet(0x4000);
 
-    /// Its addresses are given up when it goes down.
+    /// It loses its addresses when it goes down.
     pub const DYNAMIC: Iff = FlagSet(0x8000);
 
     /// The driver reports that the layer below is up (`IFF_LOWER_UP`).
@@ -63,7 +63,7 @@ impl Iff {
     /// It waits for an event before it can be used.
     pub const DORMANT: Iff = FlagSet(0x20000);
 
-    /// It gives back the packets that it sent.
+    /// It echoes the packets that it sent.
     pub const ECHO: Iff = FlagSet(0x40000);
 }
 

@@ -2,11 +2,11 @@
 //!
 //! Each set is a number whose bits have names; the names are constants of the type. Some names
 //! share their bits, and one may have none or several. The sets are instances of one type,
-//! [`FlagSet`], so what they can do is written and proved once.
+//! [`FlagSet`], so their calls are written and proved once.
 //!
 //! The calls of a set are those of `bitflags::Flags`. `|`, `&`, `-` and `^` are the union, the
 //! intersection, the difference and the symmetric difference, and `!` gives the named bits that are
-//! not in the set. `From` of a number keeps the named bits alone. By [`neli_wire::Constant`] a set
+//! not in the set. `From` of a number keeps only the named bits. By [`neli_wire::Constant`] a set
 //! is written as its number, and read with all of its bits, also those without a name.
 //!
 //! The kernel's header and the prefix of its names stand with each set; a constant is spelled like

@@ -21,7 +21,7 @@ impl Ntf {
     /// This host answers for it.
     pub const PROXY: Ntf = FlagSet(8);
 
-    /// The entry was learned by somebody else, and the kernel lets it stay.
+    /// Learned outside the kernel, which keeps the entry.
     pub const EXT_LEARNED: Ntf = FlagSet(0x10);
 
     /// The hardware has the entry too.

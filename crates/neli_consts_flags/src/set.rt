@@ -1,4 +1,4 @@
-//! A set of named bits, and what tells one kind of sets from another.
+//! A set of named bits, and what distinguishes one kind of sets from another.
 
 ghost use Rattle.std.specs.Prelude.{⊤, ◌≡◌, ◌-◌, ◌^◌, List, map, refl};
 ghost use Rattle.std.specs.Int.RustNames.{bit_and, bit_or, bit_xor};
@@ -11,20 +11,20 @@ use std::ops::{
     BitAnd, BitAndAssign, BitOr, BitOrAssign, BitXor, BitXorAssign, Not, Sub, SubAssign,
 };
 
-/// A set of bits of a number of type `N`, whose kind says what they are called: [`Iff`](crate::Iff) and the other sets
-/// of this crate are its instances, told apart by `KIND`.
+/// A set of bits of a number of type `N`, whose kind gives the bits their names: [`Iff`](crate::Iff) and the other sets
+/// of this crate are its instances, one for each `KIND`.
 #[derive(Clone, Copy, PartialEq, Eq)]
 pub struct FlagSet<N, const KIND: u8>(pub(crate) N);
 
 /// The kind with this number, for [`Kind`].
 pub struct Of<const KIND: u8>;
 
-/// What the bits of the sets of a kind are called.
+/// The names of the bits of a kind's sets.
 pub trait Kind<N: Bits, const KIND: u8> {
     // Each name and its bits.
     ghost names: { List Row };
 
-    /// What a set of the kind is called, as `Debug` prints it.
+    /// The name of the kind's sets, as `Debug` prints it.
     fn name<'a>() -> &'a str;
 
     /// The named flags, in the order in which the sets print them.

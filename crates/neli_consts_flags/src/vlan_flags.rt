@@ -10,7 +10,7 @@ use bitflags::Flag;
 pub type VlanFlags = FlagSet<u8, 7>;
 
 impl VlanFlags {
-    /// The tag is taken out of the frames that come in.
+    /// Incoming frames lose their tag.
     pub const REORDER_HDR: VlanFlags = FlagSet(1);
 
     /// The network is announced by GVRP.
@@ -22,7 +22,7 @@ impl VlanFlags {
     /// The network is announced by MVRP.
     pub const MVRP: VlanFlags = FlagSet(8);
 
-    /// Its state follows that of the bridge's ports which belong to it.
+    /// Its state follows that of the bridge's ports that belong to it.
     pub const BRIDGE_BINDING: VlanFlags = FlagSet(0x10);
 }
 

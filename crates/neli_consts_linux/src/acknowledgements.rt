@@ -1,4 +1,4 @@
-//! Errors and acknowledgements, with what newer kernels say in them.
+//! Errors and acknowledgements, as newer kernels write them.
 
 ghost use Rattle.std.proofs.Common.{rules};
 ghost use Rattle.std.specs.Prelude.{◌≡◌};
@@ -17,17 +17,17 @@ pub enum NlmsgerrAttr {
     Unused,
     /// A text that says what was wrong, with a zero at its end.
     Msg,
-    /// Where in the request it was, in bytes, counted from the request's header.
+    /// The place of the error in the request, in bytes, counted from the request's header.
     Offs,
     /// Bytes of the protocol, in an acknowledgement.
     Cookie,
-    /// What the kernel would have taken there, attributes of
+    /// What the kernel would have accepted there, attributes of
     /// [`NlPolicyTypeAttr`](crate::NlPolicyTypeAttr).
     Policy,
-    /// The number of an attribute that is missing.
+    /// The number of a missing attribute.
     MissType,
-    /// Where in the request the attribute stands that it is missing in; not there where it is
-    /// missing in the message itself.
+    /// The place in the request of the nest that lacks the attribute; absent where the message
+    /// itself lacks it.
     MissNest,
     /// A number without a name.
     UnrecognizedConst(u16),

@@ -22,7 +22,7 @@ pub enum IflaBond {
     Mode,
     /// The link in use.
     ActiveSlave,
-    /// The time between two looks at the carrier.
+    /// The time between two checks of the carrier.
     Miimon,
     /// How long a link is up before it is used.
     Updelay,
@@ -36,15 +36,15 @@ pub enum IflaBond {
     ArpIpTarget,
     /// Which probes and answers are checked.
     ArpValidate,
-    /// Whether one address has to answer, or all.
+    /// Whether one address must answer, or all.
     ArpAllTargets,
     /// The link that is preferred.
     Primary,
-    /// When the preferred link is taken again.
+    /// When the bond returns to the preferred link.
     PrimaryReselect,
-    /// Whose hardware address the bond has.
+    /// Which link's hardware address the bond has.
     FailOverMac,
-    /// What of a packet chooses its link.
+    /// Which parts of a packet choose its link.
     XmitHashPolicy,
     /// How many reports of multicast groups are sent after a change.
     ResendIgmp,
@@ -52,13 +52,13 @@ pub enum IflaBond {
     NumPeerNotif,
     /// Whether a link that is not in use takes frames too.
     AllSlavesActive,
-    /// How many links have to be up.
+    /// How many links must be up.
     MinLinks,
     /// The time between two learning packets, in seconds.
     LpInterval,
-    /// How many packets go by a link before the next.
+    /// How many packets a link sends before the next.
     PacketsPerSlave,
-    /// How often LACP messages are asked for: 0 slow, 1 fast.
+    /// How often LACP messages are requested: 0 slow, 1 fast.
     AdLacpRate,
     /// How an aggregator is chosen.
     AdSelect,
@@ -76,13 +76,13 @@ pub enum IflaBond {
     PeerNotifDelay,
     /// Whether LACP messages are sent unasked.
     AdLacpActive,
-    /// How many probes may stay without an answer.
+    /// How many probes may remain unanswered.
     MissedMax,
     /// The IPv6 addresses that are probed, numbered attributes.
     NsIp6Target,
     /// Whether collecting and distributing start together.
     CoupledControl,
-    /// Whether questions for neighbours go by all links.
+    /// Whether neighbour requests go out on all links.
     BroadcastNeigh,
     /// A number without a name.
     UnrecognizedConst(u16),
@@ -312,9 +312,9 @@ pub enum IflaBondSlave {
     Prio,
     /// Its priority in LACP.
     ActorPortPrio,
-    /// What churn detection finds of this end.
+    /// The state of churn detection for this end.
     AdChurnActorState,
-    /// What churn detection finds of the other end.
+    /// The state of churn detection for the other end.
     AdChurnPartnerState,
     /// A number without a name.
     UnrecognizedConst(u16),

@@ -23,7 +23,7 @@ pub enum IflaBr {
     MaxAge,
     /// How long a learned address is kept.
     AgeingTime,
-    /// Whether there is a spanning tree, and whose: 0 none, 1 the kernel's, 2 a program's.
+    /// Whether a spanning tree is used, and whose: 0 none, 1 the kernel's, 2 a program's.
     StpState,
     /// The bridge's priority in the spanning tree.
     Priority,
@@ -45,17 +45,17 @@ pub enum IflaBr {
     TopologyChange,
     /// Whether this bridge has seen it change.
     TopologyChangeDetected,
-    /// What is left until the next message.
+    /// The time left until the next message.
     HelloTimer,
-    /// What is left until a change is reported again.
+    /// The time left until a change is reported again.
     TcnTimer,
-    /// What is left of a change of the topology.
+    /// The time left of a change of the topology.
     TopologyChangeTimer,
-    /// What is left until old addresses are dropped.
+    /// The time left until old addresses are dropped.
     GcTimer,
-    /// The hardware address that messages of the spanning tree go to.
+    /// The destination hardware address of the spanning tree's messages.
     GroupAddr,
-    /// Asks that all learned addresses are forgotten; it has no value.
+    /// A request to forget all learned addresses; it has no value.
     FdbFlush,
     /// Whether a multicast router is on the bridge itself: 0 never, 1 as learned, 2 always.
     McastRouter,
@@ -67,7 +67,7 @@ pub enum IflaBr {
     McastQuerier,
     /// Not used since Linux 4.20.
     McastHashElasticity,
-    /// How many multicast groups it may know.
+    /// The greatest number of multicast groups that it keeps.
     McastHashMax,
     /// How many queries are sent when a listener leaves.
     McastLastMemberCnt,
@@ -75,13 +75,13 @@ pub enum IflaBr {
     McastStartupQueryCnt,
     /// The time between queries when a listener leaves.
     McastLastMemberIntvl,
-    /// How long a listener is known without an answer.
+    /// How long a listener is kept without an answer.
     McastMembershipIntvl,
-    /// How long another querier is known without a query.
+    /// How long another querier is kept without a query.
     McastQuerierIntvl,
     /// The time between queries.
     McastQueryIntvl,
-    /// How long listeners may wait with an answer.
+    /// How long listeners may delay an answer.
     McastQueryResponseIntvl,
     /// The time between queries at the start.
     McastStartupQueryIntvl,
@@ -93,15 +93,15 @@ pub enum IflaBr {
     NfCallArptables,
     /// The VLAN of frames without a tag at a new port.
     VlanDefaultPvid,
-    /// Nothing: it aligns what follows to eight bytes.
+    /// Padding that aligns the next attribute to eight bytes.
     Pad,
     /// Whether frames are counted by VLAN.
     VlanStatsEnabled,
     /// Whether queries and answers are counted.
     McastStatsEnabled,
-    /// The version of IGMP that queries have.
+    /// The version of IGMP in queries.
     McastIgmpVersion,
-    /// The version of MLD that queries have.
+    /// The version of MLD in queries.
     McastMldVersion,
     /// Whether frames are counted by VLAN and port.
     VlanStatsPerPort,
@@ -278,9 +278,9 @@ pub enum IflaBrport {
     State,
     /// Its priority in the spanning tree.
     Priority,
-    /// The cost of the path by it.
+    /// The cost of the path through it.
     Cost,
-    /// Whether a frame may leave by the port that it came in by.
+    /// Whether a frame may leave by its input port.
     Mode,
     /// Whether a message of the spanning tree shuts the port.
     Guard,
@@ -294,7 +294,7 @@ pub enum IflaBrport {
     UnicastFlood,
     /// Whether ARP is answered for hosts behind it.
     Proxyarp,
-    /// Whether what the hardware learns is taken over.
+    /// Whether it takes over the addresses that the hardware learns.
     LearningSync,
     /// Whether ARP is answered as Wi-Fi needs it.
     ProxyarpWifi,
@@ -314,21 +314,21 @@ pub enum IflaBrport {
     TopologyChangeAck,
     /// Whether a message waits to be sent.
     ConfigPending,
-    /// What is left until the last message is too old.
+    /// The time left until the last message is too old.
     MessageAgeTimer,
-    /// What is left until the state changes.
+    /// The time left until the state changes.
     ForwardDelayTimer,
-    /// What is left until the next message may be sent.
+    /// The time left until the next message may be sent.
     HoldTimer,
-    /// Asks that the addresses learned at it are forgotten; it has no value.
+    /// A request to forget the addresses learned at it; it has no value.
     Flush,
     /// Whether a multicast router is behind it: 0 never, 1 as learned, 2 always, 3 for a while.
     MulticastRouter,
-    /// Nothing: it aligns what follows to eight bytes.
+    /// Padding that aligns the next attribute to eight bytes.
     Pad,
     /// Whether multicast frames without listeners leave by it.
     McastFlood,
-    /// Whether multicast frames are sent to each listener by itself.
+    /// Whether multicast frames are sent to each listener separately.
     McastToUcast,
     /// Whether VLANs are mapped to tunnels.
     VlanTunnel,
@@ -336,9 +336,9 @@ pub enum IflaBrport {
     BcastFlood,
     /// Link-local addresses whose frames are forwarded all the same, a bit for each.
     GroupFwdMask,
-    /// Whether questions for neighbours are answered here and not sent on.
+    /// Whether neighbour requests are answered here and not forwarded.
     NeighSuppress,
-    /// Whether it forwards to ports alone that are not isolated.
+    /// Whether it forwards only to ports that are not isolated.
     Isolated,
     /// The port that takes over when it has no carrier.
     BackupPort,
@@ -350,15 +350,15 @@ pub enum IflaBrport {
     McastEhtHostsLimit,
     /// How many hosts are tracked at it.
     McastEhtHostsCnt,
-    /// Whether hosts must be let in before they may send.
+    /// Whether hosts must be authorized before they may send.
     Locked,
-    /// Whether hosts are let in by their hardware address.
+    /// Whether hosts are authorized by their hardware address.
     Mab,
     /// How many multicast groups are joined at it.
     McastNGroups,
     /// How many may be joined; 0 is no limit.
     McastMaxGroups,
-    /// Whether questions for neighbours are answered here by VLAN.
+    /// Whether neighbour requests are answered here by VLAN.
     NeighVlanSuppress,
     /// The next hop of frames that go to the backup port.
     BackupNhid,

@@ -20,25 +20,25 @@ use neli_wire::Constant;
 pub enum CtrlCmd {
     /// No command: 0 stands for none.
     Unspec,
-    /// Tells of a family.
+    /// Reports a family.
     Newfamily,
-    /// Tells that a family is gone.
+    /// Reports that a family is gone.
     Delfamily,
     /// Asks for families.
     Getfamily,
-    /// Tells of a family's commands.
+    /// Reports a family's commands.
     Newops,
-    /// Tells that commands of a family are gone.
+    /// Reports that commands of a family are gone.
     Delops,
     /// Asks for a family's commands.
     Getops,
-    /// Tells of a multicast group of a family.
+    /// Reports a multicast group of a family.
     NewmcastGrp,
-    /// Tells that a multicast group of a family is gone.
+    /// Reports that a multicast group of a family is gone.
     DelmcastGrp,
     /// Not used by the kernel.
     GetmcastGrp,
-    /// Asks which attributes a family takes, and tells of them.
+    /// Asks which attributes a family takes, and reports them.
     Getpolicy,
     /// A number without a name.
     UnrecognizedConst(u8),
@@ -140,7 +140,7 @@ pub enum CtrlAttr {
     Policy,
     /// The policies of commands, by command, attributes of [`CtrlAttrPolicy`].
     OpPolicy,
-    /// The command whose policy is asked for.
+    /// The command whose policy is requested.
     Op,
     /// A number without a name.
     UnrecognizedConst(u16),
@@ -294,7 +294,7 @@ pub enum CtrlAttrPolicy {
     Unspec,
     /// The number of the policy for a request.
     Do,
-    /// The number of the policy for a request of a dump.
+    /// The number of the policy for a dump request.
     Dump,
     /// A number without a name.
     UnrecognizedConst(u16),

@@ -35,7 +35,7 @@ pub enum Rtnlgrp {
     Ipv6Mroute,
     /// IPv6 routes.
     Ipv6Route,
-    /// What IPv6 knows of links.
+    /// IPv6 data about links.
     Ipv6Ifinfo,
     /// DECnet addresses, of kernels before 6.1.
     DecnetIfaddr,
@@ -71,9 +71,9 @@ pub enum Rtnlgrp {
     Nsid,
     /// MPLS settings of links.
     MplsNetconf,
-    /// IPv4 multicast routes that miss in the table, for a routing daemon alone.
+    /// IPv4 multicast routes missing in the table, for a routing daemon only.
     Ipv4MrouteR,
-    /// IPv6 multicast routes that miss in the table, for a routing daemon alone.
+    /// IPv6 multicast routes missing in the table, for a routing daemon only.
     Ipv6MrouteR,
     /// Next hops.
     Nexthop,

@@ -1,18 +1,16 @@
 //! Numbers of today's kernels that the Rust crate's tables do not have, by name.
 //!
-//! Each table is an enum with a variant for each name and `UnrecognizedConst` for every other
-//! number. A number is read as the first variant that has it, so no number is lost: what it is read
-//! as has that same number. Two values are equal where they are the same variant; an
-//! `UnrecognizedConst` that is made by hand with a named number is equal to no named variant.
+//! Each table is an enum with a variant for each name and `UnrecognizedConst` for every other number. A number is read
+//! as the first variant that has it, and written from there as the same number, so none is lost. Two values are equal
+//! where they are the same variant; a hand-made `UnrecognizedConst` with a named number is equal to no named variant.
 //!
 //! `From` goes both ways. By [`neli_wire::Constant`] each table is written as its number, and read
 //! from it. A table of attributes has [`neli_consts_attrs::RtaType`] or [`neli_consts::NlAttrType`],
 //! one of commands [`neli_consts::Cmd`], so attributes are looked up by it.
 //!
-//! The kernel's header and the prefix of its names stand with each table; a variant is spelled like
-//! the rest of the kernel's name. The tables are those of Linux 6.1 with the names that came later;
-//! an older kernel has fewer. [`CtrlCmd`], [`CtrlAttr`] and [`NlmsgerrAttr`] are tables that the
-//! Rust crate has too, with the names that are not in it.
+//! The kernel's header and the prefix of its names stand with each table; a variant is spelled like the rest of the
+//! kernel's name. The tables are those of Linux 6.1 with later names; an older kernel has fewer. [`CtrlCmd`],
+//! [`CtrlAttr`] and [`NlmsgerrAttr`] are tables of the Rust crate with the names that it lacks.
 //!
 //! - `acknowledgements`: errors and acknowledgements
 //! - `bonds`: bonds and the links in them
@@ -22,7 +20,7 @@
 //! - `macvlans`: `macvlan` and `macvtap`
 //! - `metrics`: metrics of routes
 //! - `next_hops`: next hops of routes
-//! - `policies`: what the kernel says of the attributes that it takes
+//! - `policies`: the kernel's policies for the attributes that it takes
 //! - `virtual_functions`: virtual functions of a link
 //! - `vxlans`: VXLAN tunnels
 #![tactic(auto)]

@@ -19,7 +19,7 @@ pub enum IflaMacvlan {
     Mode,
     /// Flags, a bit for each.
     Flags,
-    /// What is done with the addresses that follow: added, removed, all dropped, or set.
+    /// The change for the addresses that follow: add, remove, drop all, or set.
     MacaddrMode,
     /// A hardware address.
     Macaddr,
@@ -27,11 +27,11 @@ pub enum IflaMacvlan {
     MacaddrData,
     /// How many addresses it takes frames from.
     MacaddrCount,
-    /// The length of the queue for broadcast frames that is asked for.
+    /// The requested length of the queue for broadcast frames.
     BcQueueLen,
-    /// The length of the queue that is used.
+    /// The length of that queue in use.
     BcQueueLenUsed,
-    /// From how many listeners on a multicast frame goes by the queue.
+    /// With this many listeners or more, a multicast frame goes through the queue.
     BcCutoff,
     /// A number without a name.
     UnrecognizedConst(u16),

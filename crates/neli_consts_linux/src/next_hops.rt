@@ -31,7 +31,7 @@ pub enum Nha {
     GroupType,
     /// Packets are dropped; it has no value.
     Blackhole,
-    /// The link that packets go out by.
+    /// The index of the output link.
     Oif,
     /// The address of the gateway.
     Gateway,
@@ -39,23 +39,23 @@ pub enum Nha {
     EncapType,
     /// The attributes of that encapsulation.
     Encap,
-    /// A dump of groups alone; it has no value.
+    /// A dump of groups only; it has no value.
     Groups,
-    /// A dump of those whose link has this master.
+    /// A dump of the next hops whose link has this master.
     Master,
-    /// The next hop is one of a bridge's forwarding table; it has no value.
+    /// The next hop belongs to a bridge's forwarding table; it has no value.
     Fdb,
     /// Attributes of [`NhaResGroup`].
     ResGroup,
     /// Attributes of [`NhaResBucket`].
     ResBucket,
-    /// What the request asks for besides, a bit for each.
+    /// What else the request asks for, a bit for each.
     OpFlags,
     /// The counters of a group, attributes of [`NhaGroupStats`].
     GroupStats,
     /// Whether the hardware counts the packets of the group.
     HwStatsEnable,
-    /// Whether the hardware counts them now.
+    /// Whether the hardware is counting now.
     HwStatsUsed,
     /// A number without a name.
     UnrecognizedConst(u16),
@@ -150,7 +150,7 @@ impl RtaType for Nha {}
 /// `linux/nexthop.h`.
 #[derive(Clone, Copy, Debug, PartialEq, Eq)]
 pub enum NhaResGroup {
-    /// No attribute, or nothing before a number of eight bytes (`NHA_RES_GROUP_PAD`).
+    /// No attribute, or padding before a number of eight bytes (`NHA_RES_GROUP_PAD`).
     Unspec,
     /// How many buckets the group has.
     Buckets,
@@ -227,13 +227,13 @@ impl RtaType for NhaResGroup {}
 /// `linux/nexthop.h`.
 #[derive(Clone, Copy, Debug, PartialEq, Eq)]
 pub enum NhaResBucket {
-    /// No attribute, or nothing before a number of eight bytes (`NHA_RES_BUCKET_PAD`).
+    /// No attribute, or padding before a number of eight bytes (`NHA_RES_BUCKET_PAD`).
     Unspec,
     /// The place of the bucket in its group.
     Index,
     /// How long it has had no packets, in hundredths of a second.
     IdleTime,
-    /// The number of the next hop that it has.
+    /// The number of its next hop.
     NhId,
     /// A number without a name.
     UnrecognizedConst(u16),
@@ -437,7 +437,7 @@ impl RtaType for NhaGroupStatsEntry {}
 /// The value of [`Nha::GroupType`], a kind of group: `NEXTHOP_GRP_TYPE_*` of `linux/nexthop.h`.
 #[derive(Clone, Copy, Debug, PartialEq, Eq)]
 pub enum NexthopGrpType {
-    /// A flow goes by its hash.
+    /// A flow chooses its next hop by its hash.
     Mpath,
     /// A resilient group: flows stay where they are when the group changes.
     Res,

@@ -1,4 +1,4 @@
-//! What the kernel says of the attributes that it takes.
+//! The kernel's policies for the attributes that it takes.
 
 ghost use Rattle.std.proofs.Common.{rules};
 ghost use Rattle.std.specs.Prelude.{◌≡◌};
@@ -33,13 +33,13 @@ pub enum NlPolicyTypeAttr {
     MinLength,
     /// The largest length, in bytes.
     MaxLength,
-    /// The number of the policy for what is nested in it.
+    /// The number of the policy for the attributes nested in it.
     PolicyIdx,
-    /// The highest number of what is nested in it.
+    /// The highest number of the attributes nested in it.
     PolicyMaxtype,
     /// The bits that may be set, of 32.
     Bitfield32Mask,
-    /// Nothing: it aligns what follows to eight bytes.
+    /// Padding that aligns the next attribute to eight bytes.
     Pad,
     /// The bits that may be set, of an unsigned number, in eight bytes.
     Mask,
@@ -128,7 +128,7 @@ impl NlAttrType for NlPolicyTypeAttr {}
 pub enum NetlinkAttributeType {
     /// Not used.
     Invalid,
-    /// No value: it is there or not.
+    /// No value: the attribute is present or absent.
     Flag,
     /// An unsigned number of 8 bits.
     U8,

@@ -9,8 +9,8 @@ use neli_consts_attrs::RtaType;
 use neli_wire::Constant;
 
 /// Attributes of a virtual function, inside each attribute of number 1 (`IFLA_VF_INFO`) in
-/// [`Ifla::VfinfoList`](neli_consts_attrs::Ifla::VfinfoList): `IFLA_VF_*` of `linux/if_link.h`. The types that are
-/// named here are those of `neli_payloads`.
+/// [`Ifla::VfinfoList`](neli_consts_attrs::Ifla::VfinfoList): `IFLA_VF_*` of `linux/if_link.h`. The types named here
+/// are those of `neli_payloads`.
 #[derive(Clone, Copy, Debug, PartialEq, Eq)]
 pub enum IflaVf {
     /// No attribute: 0 stands for none.
@@ -19,13 +19,13 @@ pub enum IflaVf {
     Mac,
     /// The VLAN, a `VfVlan`.
     Vlan,
-    /// The most that it may send, a `VfSetting`.
+    /// The greatest rate that it may send at, a `VfSetting`.
     TxRate,
-    /// Whether the sender's address of its frames is checked, a `VfSetting`.
+    /// Whether the source addresses of its frames are checked, a `VfSetting`.
     Spoofchk,
     /// The state of its link, a `VfSetting`.
     LinkState,
-    /// How much it may send, a `VfRate`.
+    /// The rates that it may send at, a `VfRate`.
     Rate,
     /// Whether it may ask how receive queues are chosen, a `VfSetting`.
     RssQueryEn,

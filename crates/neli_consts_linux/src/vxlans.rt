@@ -30,13 +30,13 @@ pub enum IflaVxlan {
     Learning,
     /// How long a learned address is kept, in seconds.
     Ageing,
-    /// How many addresses may be known.
+    /// The greatest number of learned addresses.
     Limit,
     /// The lowest and the highest source port, in network order.
     PortRange,
     /// Whether ARP is answered here.
     Proxy,
-    /// Whether routes are taken short.
+    /// Whether route short circuit is on.
     Rsc,
     /// Whether unknown hardware addresses are reported.
     L2miss,
@@ -52,7 +52,7 @@ pub enum IflaVxlan {
     UdpCsum,
     /// Whether packets over IPv6 are sent without a checksum.
     UdpZeroCsum6Tx,
-    /// Whether packets over IPv6 are taken without a checksum.
+    /// Whether packets over IPv6 are received without a checksum.
     UdpZeroCsum6Rx,
     /// Whether the other end is to compute checksums.
     RemcsumTx,
@@ -62,7 +62,7 @@ pub enum IflaVxlan {
     Gbp,
     /// Whether checksums are computed in full; it has no value.
     RemcsumNopartial,
-    /// Whether the end and the network are chosen by packet.
+    /// Whether the other end and the network are chosen by packet.
     CollectMetadata,
     /// The flow label of packets over IPv6, in network order.
     Label,
@@ -70,7 +70,7 @@ pub enum IflaVxlan {
     Gpe,
     /// Whether the time to live is that of the packet inside; it has no value.
     TtlInherit,
-    /// Whether packets may be cut: 0 yes, 1 no, 2 as the packet inside says.
+    /// Whether packets may be fragmented: 0 yes, 1 no, 2 as in the packet inside.
     Df,
     /// Whether networks are filtered by number.
     Vnifilter,

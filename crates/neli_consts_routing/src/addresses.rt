@@ -82,7 +82,7 @@ impl Constant for Af {
 /// Address families, as the first byte of a routing body carries them: `AF_*` of `linux/socket.h`.
 #[derive(Clone, Copy, Debug, PartialEq, Eq)]
 pub enum RtAddrFamily {
-    /// Every family, in a request for a dump.
+    /// Every family, in a dump request.
     Unspecified,
     /// Within the host.
     UnixOrLocal,

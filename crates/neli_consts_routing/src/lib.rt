@@ -1,9 +1,9 @@
 //! The numbers of routing messages and of the fields in their bodies, by name.
 //!
 //! Each table is an enum with a variant for each name and `UnrecognizedConst` for every other
-//! number. A number is read as the first variant that has it, so no number is lost: what it is read
-//! as has that same number. Two values are equal where they are the same variant; an
-//! `UnrecognizedConst` that is made by hand with a named number is equal to no named variant.
+//! number. A number is read as the first variant that has it, and written from there as the same
+//! number, so none is lost. Two values are equal where they are the same variant; a hand-made
+//! `UnrecognizedConst` with a named number is equal to no named variant.
 //!
 //! `From` goes both ways, to the number also from a reference. By [`neli_wire::Constant`] each
 //! table is written as its number, and read from it.

@@ -30,7 +30,7 @@ pub enum Arphrd {
     Appletlk,
     /// Frame relay.
     Dlci,
-    /// The number of [`Arphrd::Appletlk`], as which 8 is read. The kernel's own is 19.
+    /// The number of [`Arphrd::Appletlk`], so 8 is read as that variant. The kernel's own is 19.
     Atm,
     /// Metricom's radio (STRIP).
     Metricom,
@@ -42,7 +42,7 @@ pub enum Arphrd {
     Infiniband,
     /// The loopback link.
     Loopback,
-    /// Nothing is known of the kind.
+    /// The kind is unknown.
     Void,
     /// There is no hardware address.
     None,

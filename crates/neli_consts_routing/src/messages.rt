@@ -11,79 +11,79 @@ use neli_wire::Constant;
 /// `Del..`, and answers `Get..` with `New..`.
 #[derive(Clone, Copy, Debug, PartialEq, Eq)]
 pub enum Rtm {
-    /// Makes or changes a link, or tells of one.
+    /// Makes or changes a link, or reports one.
     Newlink,
-    /// Removes a link, or tells that one is gone.
+    /// Removes a link, or reports a removed one.
     Dellink,
     /// Asks for links.
     Getlink,
     /// Changes a link.
     Setlink,
-    /// Adds or changes an address, or tells of one.
+    /// Adds or changes an address, or reports one.
     Newaddr,
-    /// Removes an address, or tells that one is gone.
+    /// Removes an address, or reports a removed one.
     Deladdr,
     /// Asks for addresses.
     Getaddr,
-    /// Adds or changes a route, or tells of one.
+    /// Adds or changes a route, or reports one.
     Newroute,
-    /// Removes a route, or tells that one is gone.
+    /// Removes a route, or reports a removed one.
     Delroute,
     /// Asks for routes, or for the route to an address.
     Getroute,
-    /// Adds or changes a neighbour, or tells of one.
+    /// Adds or changes a neighbour, or reports one.
     Newneigh,
-    /// Removes a neighbour, or tells that one is gone.
+    /// Removes a neighbour, or reports a removed one.
     Delneigh,
     /// Asks for neighbours.
     Getneigh,
-    /// Adds a routing rule, or tells of one.
+    /// Adds a routing rule, or reports one.
     Newrule,
-    /// Removes a routing rule, or tells that one is gone.
+    /// Removes a routing rule, or reports a removed one.
     Delrule,
     /// Asks for routing rules.
     Getrule,
-    /// Adds or changes a queueing discipline, or tells of one.
+    /// Adds or changes a queueing discipline, or reports one.
     Newqdisc,
-    /// Removes a queueing discipline, or tells that one is gone.
+    /// Removes a queueing discipline, or reports a removed one.
     Delqdisc,
     /// Asks for queueing disciplines.
     Getqdisc,
-    /// Adds or changes a class of a queueing discipline, or tells of one.
+    /// Adds or changes a class of a queueing discipline, or reports one.
     Newtclass,
-    /// Removes a class of a queueing discipline, or tells that one is gone.
+    /// Removes a class of a queueing discipline, or reports a removed one.
     Deltclass,
     /// Asks for classes of a queueing discipline.
     Gettclass,
-    /// Adds or changes a filter of packets, or tells of one.
+    /// Adds or changes a filter of packets, or reports one.
     Newtfilter,
-    /// Removes a filter of packets, or tells that one is gone.
+    /// Removes a filter of packets, or reports a removed one.
     Deltfilter,
     /// Asks for filters of packets.
     Gettfilter,
-    /// Adds or changes an action of filters, or tells of one.
+    /// Adds or changes an action of filters, or reports one.
     Newaction,
-    /// Removes an action of filters, or tells that one is gone.
+    /// Removes an action of filters, or reports a removed one.
     Delaction,
     /// Asks for actions of filters.
     Getaction,
-    /// Tells of a prefix that a router announced.
+    /// Reports a prefix that a router announced.
     Newprefix,
     /// Asks for multicast addresses.
     Getmulticast,
     /// Asks for anycast addresses.
     Getanycast,
-    /// Tells of a table of neighbours and its parameters.
+    /// Reports a table of neighbours and its parameters.
     Newneightbl,
     /// Asks for the tables of neighbours.
     Getneightbl,
     /// Changes the parameters of a table of neighbours.
     Setneightbl,
-    /// Tells of options that a router announced, for programs.
+    /// Reports options that a router announced, for programs.
     Newnduseropt,
-    /// Adds or changes a label by which addresses are chosen (RFC 6724), or tells of one.
+    /// Adds or changes a label by which addresses are chosen (RFC 6724), or reports one.
     Newaddrlabel,
-    /// Removes such a label, or tells that one is gone.
+    /// Removes such a label, or reports a removed one.
     Deladdrlabel,
     /// Asks for such labels.
     Getaddrlabel,
@@ -91,19 +91,19 @@ pub enum Rtm {
     Getdcb,
     /// Changes the settings of data center bridging.
     Setdcb,
-    /// Tells of a link's settings of the internet protocol.
+    /// Reports a link's settings of the internet protocol.
     Newnetconf,
     /// Asks for links' settings of the internet protocol.
     Getnetconf,
-    /// Adds an entry to the multicast database of a bridge, or tells of one.
+    /// Adds an entry to the multicast database of a bridge, or reports one.
     Newmdb,
-    /// Removes an entry of the multicast database of a bridge, or tells that one is gone.
+    /// Removes an entry of the multicast database of a bridge, or reports a removed one.
     Delmdb,
     /// Asks for the multicast databases of bridges.
     Getmdb,
-    /// Gives a number to a network namespace, or tells of one.
+    /// Gives a number to a network namespace, or reports one.
     Newnsid,
-    /// Tells that the number of a network namespace is gone.
+    /// Reports that the number of a network namespace is gone.
     Delnsid,
     /// Asks for the numbers of network namespaces.
     Getnsid,

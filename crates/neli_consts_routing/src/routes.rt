@@ -13,7 +13,7 @@ use neli_wire::Constant;
 /// What a route does with a packet: `RTN_*` of `linux/rtnetlink.h`.
 #[derive(Clone, Copy, Debug, PartialEq, Eq)]
 pub enum Rtn {
-    /// Not said.
+    /// Not specified.
     Unspec,
     /// On to a gateway, or to the host itself on a link.
     Unicast,
@@ -27,9 +27,9 @@ pub enum Rtn {
     Multicast,
     /// Dropped without an answer.
     Blackhole,
-    /// Dropped; the sender is told that the host can't be reached.
+    /// Dropped; the sender learns that the host can't be reached.
     Unreachable,
-    /// Dropped; the sender is told that an administrator forbids it.
+    /// Dropped; the sender learns that an administrator forbids it.
     Prohibit,
     /// Not found in this table: the search goes on in the next one.
     Throw,
@@ -123,7 +123,7 @@ impl Constant for Rtn {
 /// Who made a route: `RTPROT_*` of `linux/rtnetlink.h`.
 #[derive(Clone, Copy, Debug, PartialEq, Eq)]
 pub enum Rtprot {
-    /// Not said.
+    /// Not specified.
     Unspec,
     /// A redirect message (ICMP).
     Redirect,
@@ -287,13 +287,13 @@ impl Constant for RtScope {
 /// Routing tables: `RT_TABLE_*` of `linux/rtnetlink.h`.
 #[derive(Clone, Copy, Debug, PartialEq, Eq)]
 pub enum RtTable {
-    /// Not said.
+    /// Not specified.
     Unspec,
-    /// The number is above 255 and stands in an attribute.
+    /// The number is above 255; an attribute has it.
     Compat,
-    /// The last one that is searched, by the kernel's own rules.
+    /// The last table searched, by the kernel's own rules.
     Default,
-    /// Where routes go that name no table.
+    /// The table of routes that name none.
     Main,
     /// Addresses of this host, kept by the kernel.
     Local,

@@ -10,7 +10,7 @@ use neli_wire::Constant;
 /// What a routing rule does with a packet: `FR_ACT_*` of `linux/fib_rules.h`.
 #[derive(Clone, Copy, Debug, PartialEq, Eq)]
 pub enum FrAct {
-    /// Not said.
+    /// Not specified.
     Unspec,
     /// Look it up in the rule's table.
     FrActToTbl,
@@ -24,9 +24,9 @@ pub enum FrAct {
     FrActRes4,
     /// Drop it without an answer.
     FrActBlackhole,
-    /// Drop it; the sender is told that the network can't be reached.
+    /// Drop it; the sender learns that the network can't be reached.
     FrActUnreachable,
-    /// Drop it; the sender is told that an administrator forbids it.
+    /// Drop it; the sender learns that an administrator forbids it.
     FrActProhibit,
     /// One above the last action (`__FR_ACT_MAX`).
     FrActMax,

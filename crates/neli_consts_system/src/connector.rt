@@ -12,7 +12,7 @@ ghost use Rattle.neli_wire.specs.laws.Constants.{first_with-number};
 
 use neli_wire::Constant;
 
-/// Who speaks through the connector: `CN_IDX_*`, `CN_W1_IDX` and the like of `linux/connector.h`.
+/// The users of the connector: `CN_IDX_*`, `CN_W1_IDX` and the like of `linux/connector.h`.
 #[derive(Clone, Copy, Debug, PartialEq, Eq)]
 pub enum CnMsgIdx {
     /// Events of processes.
@@ -114,9 +114,9 @@ impl Constant for CnMsgIdx {
     ghost back_to_number = { λ n _. Prim.search (first_with-number, rules) };
 }
 
-/// The second half of who speaks through the connector: `CN_VAL_*`, `CN_W1_VAL` and the like of
-/// `linux/connector.h`. All of them are 1, so that 1 is read as the first; the [`CnMsgIdx`] beside
-/// it tells them apart.
+/// The second half of a connector user's number: `CN_VAL_*`, `CN_W1_VAL` and the like of
+/// `linux/connector.h`. All of them are 1, so 1 is read as the first; the [`CnMsgIdx`] beside it
+/// distinguishes them.
 #[derive(Clone, Copy, Debug, PartialEq, Eq)]
 pub enum CnMsgVal {
     /// Beside [`CnMsgIdx::Proc`].
@@ -207,7 +207,7 @@ impl Constant for CnMsgVal {
 }
 
 /// What happened to a process: `PROC_EVENT_*` of `linux/cn_proc.h`. Each is a bit of its own, so
-/// that a set of them can be asked for.
+/// that a request can name a set of them.
 #[derive(Clone, Copy, Debug, PartialEq, Eq)]
 pub enum ProcEventType {
     /// Nothing: the answer to a request to listen.
@@ -216,15 +216,15 @@ pub enum ProcEventType {
     Fork,
     /// It runs another program.
     Exec,
-    /// It took another user.
+    /// It changed its user.
     Uid,
-    /// It took another group.
+    /// It changed its group.
     Gid,
     /// It began a session.
     Sid,
-    /// It is traced, or no longer.
+    /// Its tracing began or ended.
     Ptrace,
-    /// It took another name.
+    /// It changed its name.
     Comm,
     /// It ended with a status other than 0.
     NonzeroExit,
@@ -313,7 +313,7 @@ impl Constant for ProcEventType {
     ghost back_to_number = { λ n _. Prim.search (first_with-number, rules) };
 }
 
-/// What a listener asks of the events of processes: `PROC_CN_MCAST_*` of `linux/cn_proc.h`.
+/// A listener's request for events of processes: `PROC_CN_MCAST_*` of `linux/cn_proc.h`.
 #[derive(Clone, Copy, Debug, PartialEq, Eq)]
 pub enum ProcCnMcastOp {
     /// Send them from now on.

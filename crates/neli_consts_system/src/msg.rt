@@ -11,7 +11,7 @@ use std::ops::{
     BitAnd, BitAndAssign, BitOr, BitOrAssign, BitXor, BitXorAssign, Not, Sub, SubAssign,
 };
 
-/// How bytes are sent to a socket or taken from it: `MSG_*` of `linux/socket.h`.
+/// How bytes are sent to a socket or received from it: `MSG_*` of `linux/socket.h`.
 #[derive(Clone, Copy, Debug, PartialEq, Eq)]
 pub struct Msg(u32);
 
@@ -22,7 +22,7 @@ impl Msg {
     /// The bytes stay in the queue.
     pub const PEEK: Msg = Msg(2);
 
-    /// A datagram was longer than its buffer, or its whole length is asked for.
+    /// A datagram was longer than its buffer, or the caller asks for its whole length.
     pub const TRUNC: Msg = Msg(0x20);
 
     /// The call does not wait.
@@ -31,10 +31,10 @@ impl Msg {
     /// The call waits until the buffer is full.
     pub const WAITALL: Msg = Msg(0x100);
 
-    /// What is taken comes from the queue of errors.
+    /// The call receives from the queue of errors.
     pub const ERRQUEUE: Msg = Msg(0x2000);
 
-    /// Descriptors that come with the bytes are closed by `exec`.
+    /// Descriptors received with the bytes are closed by `exec`.
     pub const CMSG_CLOEXEC: Msg = Msg(0x40000000);
 
     /// The set without any bit.

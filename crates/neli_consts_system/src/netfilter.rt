@@ -20,15 +20,15 @@ pub enum NfLogAttr {
     PacketHdr,
     /// Its mark.
     Mark,
-    /// When it came.
+    /// When it arrived.
     Timestamp,
-    /// The link that it came in by.
+    /// The index of its input link.
     IfindexIndev,
-    /// The link that it goes out by.
+    /// The index of its output link.
     IfindexOutdev,
-    /// The port of a bridge that it came in by (`NFULA_IFINDEX_PHYSINDEV`).
+    /// The index of its input port of a bridge (`NFULA_IFINDEX_PHYSINDEV`).
     IfindexPhyindev,
-    /// The port of a bridge that it goes out by (`NFULA_IFINDEX_PHYSOUTDEV`).
+    /// The index of its output port of a bridge (`NFULA_IFINDEX_PHYSOUTDEV`).
     IfindexPhyoutdev,
     /// The hardware address of its sender.
     Hwaddr,
@@ -48,11 +48,11 @@ pub enum NfLogAttr {
     Hwtype,
     /// The header of its frame.
     Hwheader,
-    /// How long that header is.
+    /// The length of that header.
     Hwlen,
     /// Its connection.
     Ct,
-    /// How it stands to its connection.
+    /// Its relation to its connection.
     CtInfo,
     /// A number without a name.
     UnrecognizedConst(u16),
@@ -156,7 +156,7 @@ impl Constant for NfLogAttr {
 pub enum NfLogCfg {
     /// A command, a [`LogCmd`].
     Cmd,
-    /// How much of a packet is copied: a count of bytes and a [`LogCopyMode`].
+    /// How much of a packet is copied: a number of bytes and a [`LogCopyMode`].
     Mode,
     /// The size of the kernel's buffer, in bytes (`NFULA_CFG_NLBUFSIZ`).
     NlBufSize,
@@ -164,7 +164,7 @@ pub enum NfLogCfg {
     Timeout,
     /// How many packets the kernel collects.
     QThresh,
-    /// Flags: what else is told of a packet.
+    /// Flags: what else is logged of a packet.
     Flags,
     /// A number without a name.
     UnrecognizedConst(u16),
@@ -313,11 +313,11 @@ impl Constant for NetfilterMsg {
 pub enum LogCmd {
     /// Take the packets of a group.
     Bind,
-    /// Take them no longer.
+    /// Stop taking them.
     Unbind,
     /// Log the packets of an address family.
     PfBind,
-    /// Log them no longer.
+    /// Stop logging them.
     PfUnbind,
     /// A number without a name.
     UnrecognizedConst(u8),
@@ -393,7 +393,7 @@ pub enum LogCopyMode {
     None,
     /// What is known of the packet, without its bytes.
     Meta,
-    /// The bytes too.
+    /// Its bytes too.
     Packet,
     /// A number without a name.
     UnrecognizedConst(u8),

@@ -125,7 +125,7 @@ pub enum NlFamily {
     Usersock,
     /// No longer used by the kernel.
     Firewall,
-    /// What is known of sockets (`NETLINK_SOCK_DIAG`, once `NETLINK_INET_DIAG`).
+    /// Data about sockets (`NETLINK_SOCK_DIAG`, once `NETLINK_INET_DIAG`).
     SockOrInetDiag,
     /// No longer used by the kernel: logging is [`NlFamily::Netfilter`]'s.
     Nflog,

@@ -1,4 +1,4 @@
--- The texts of refusals, where they are this library's; the standard library has those of an `Io` and a `Utf8`.
+-- The texts of this library's refusals; the standard library states those of an `Io` and a `Utf8`.
 use Rattle.std.specs.Prelude.{ℕ, List, ◌++◌, codes, Option, Some, None}
 use Rattle.std.specs.Fmt.{decimal}
 use Rattle.neli_cursor.specs.declared.errors.SerError.{SerError}

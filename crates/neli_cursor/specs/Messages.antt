@@ -4,7 +4,7 @@ use Rattle.neli_cursor.specs.declared.message.Text.{Text}
 use Rattle.neli_cursor.specs.declared.message.Text.TheVariants.{Fixed, Owned, Uninitialized}
 use Rattle.neli_cursor.specs.declared.message.UninitializedFieldError.{UninitializedFieldError}
 
--- what a missing field of a builder is reported as
+-- the text that reports a builder's missing field
 abbrev pub uninitialized : List ℕ → List ℕ
 uninitialized name = codes "`" ++ name ++ codes "` must be initialized"
 

@@ -1,4 +1,4 @@
--- A place in a byte list, which is what a cursor stands for.
+-- A place in a byte list: the meaning of a cursor.
 use Rattle.std.specs.Prelude.{ℕ, List, ◌++◌, take, drop}
 
 -- the bytes before the place, and those after it

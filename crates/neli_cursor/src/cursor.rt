@@ -9,9 +9,9 @@ use crate::DeError;
 use std::io::ErrorKind;
 use std::marker::Model;
 
-/// A place in bytes that are lent: those before it were read, the rest follows.
+/// A place in lent bytes: those before it were read, the rest follows.
 ///
-/// A read that may be refused half way goes through a second cursor, and moves the first at its end:
+/// For a read that may be refused half way, read through a second cursor and move the first at the end:
 ///
 /// ```text
 /// let mut ahead = cursor.ahead();
@@ -46,7 +46,7 @@ impl<'b> Cursor<'b> {
         Cursor { bytes, position: 0 }
     }
 
-    /// How many bytes stand before the cursor.
+    /// The number of bytes before the cursor.
     pub fn position(&self) -> usize
         ensures value { result ≡ length self.now.before }
         ensures fits { result < 2 ^ 63 }
@@ -54,7 +54,7 @@ impl<'b> Cursor<'b> {
         self.position
     }
 
-    /// Moves to a place by its position, at most after the last byte.
+    /// Moves to a position, at most the end of the bytes.
     pub fn set_position(&mut self, position: usize)
         requires { position ≤ length (whole self.old) }
         ensures before { self.new.before ≡ take position (whole self.old) }
@@ -63,7 +63,7 @@ impl<'b> Cursor<'b> {
         self.position = position;
     }
 
-    /// All the bytes, those before the cursor too.
+    /// All the bytes, also those before the cursor.
     pub fn get_ref(&self) -> &'b [u8]
         ensures { result.now ≡ whole self.now }
     {
@@ -87,8 +87,7 @@ impl<'b> Cursor<'b> {
         }
     }
 
-    /// The next `n` bytes, which the cursor moves past. `Io(UnexpectedEof)` where there are fewer; then
-    /// the cursor stays.
+    /// Returns the next `n` bytes and moves past them. `Io(UnexpectedEof)` if there are fewer; then the cursor stays.
     pub fn bytes(&mut self, n: usize) -> Result<&'b [u8], DeError>
         ensures value { IfOk result (λ b. bytes_at n self.old.rest ≡ Ok (b.now, self.new.rest)) }
         ensures length { IfOk result (λ b. length b.now ≡ n) }
@@ -104,8 +103,7 @@ impl<'b> Cursor<'b> {
         Ok(&rest[..n])
     }
 
-    /// The next `n` bytes for a read with input `n`; the cursor stays. `InvalidInput(n)` where there are
-    /// fewer.
+    /// Returns the next `n` bytes for a read with input `n`; the cursor stays. `InvalidInput(n)` if there are fewer.
     pub fn input(&self, n: usize) -> Result<&'b [u8], DeError>
         ensures within { OnOk result (n ≤ length self.now.rest) }
         ensures value { IfOk result (λ b. b.now ≡ take n self.now.rest) }
@@ -120,7 +118,7 @@ impl<'b> Cursor<'b> {
         Ok(&rest[..n])
     }
 
-    /// Moves past the next `n` bytes, which have to be there.
+    /// Moves past the next `n` bytes, which must exist.
     pub fn advance(&mut self, n: usize)
         requires { n ≤ length self.old.rest }
         ensures { self.new ≡ place_after self.old n }

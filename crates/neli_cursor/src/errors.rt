@@ -1,8 +1,8 @@
-//! Why values are not written or read.
+//! Why a value is not written or read.
 //!
-//! Writing is refused with a [`SerError`], reading with a [`DeError`]. Both can hold a message of the
-//! implementation's own, [`MsgError`]. Out of memory is a variant of each, `Memory`, and where nothing
-//! else can go wrong the error [`NoMemory`].
+//! A refused write returns a [`SerError`], a refused read a [`DeError`]. Both can hold an implementation's own message,
+//! a [`MsgError`]. Each has a variant `Memory` for running out of memory; calls that can fail in no other way return
+//! [`NoMemory`].
 
 ghost use Rattle.std.specs.Prelude.{◌≡◌, ◌++◌, IfOk, IfSome, OnErr, Some, None, codes, string_bytes};
 ghost use Rattle.std.specs.Fmt.{decimal};
@@ -22,7 +22,7 @@ use std::str::Utf8Error;
 use std::string::FromUtf8Error;
 use std::{fmt, io};
 
-/// Bytes that are not UTF-8, as a borrowed or an owned text was to be read.
+/// Bytes that are not UTF-8, where a borrowed or an owned text was read.
 #[derive(Clone, Copy, Debug)]
 pub enum Utf8 {
     /// A borrowed text, `&str`.
@@ -57,9 +57,9 @@ impl Error for NoMemory {}
 /// Why a value was not written.
 #[derive(Debug, Drop)]
 pub enum SerError {
-    /// The value cannot be written, in words.
+    /// The value cannot be written; the message says why.
     Msg(MsgError),
-    /// Whatever the bytes went to failed.
+    /// The destination of the bytes failed.
     Io(ErrorKind),
     /// A text is not UTF-8.
     Utf8(Utf8),
@@ -70,22 +70,22 @@ pub enum SerError {
 /// Why a value was not read.
 #[derive(Debug, Drop)]
 pub enum DeError {
-    /// The bytes cannot be read, in words.
+    /// The bytes cannot be read; the message says why.
     Msg(MsgError),
-    /// Whatever the bytes came from failed; `UnexpectedEof` where they end too early.
+    /// The source of the bytes failed; `UnexpectedEof` where they end too early.
     Io(ErrorKind),
     /// A text is not UTF-8.
     Utf8(Utf8),
-    /// A count of bytes that does not fit what is read: the one that the read names.
+    /// The number of bytes does not fit the value; it is the one that the read names.
     InvalidInput(usize),
     /// Memory ran out.
     Memory,
 }
 
 impl SerError {
-    /// The refusal in the words that `message` prints, where its type states them.
+    /// The refusal with the text that `message` prints, where its type states that text.
     ///
-    /// Refused only where memory runs out.
+    /// Refused only if memory runs out.
     pub fn new<D: fmt::Display + Drop>(alloc: Global, message: D) -> Result<SerError, NoMemory>
         ensures { IfOk result (λ e. IfSome (D.output message) (λ text. e ≡ ser.Msg text)) }
     {
@@ -94,7 +94,7 @@ impl SerError {
 
     /// An equal error.
     ///
-    /// Refused only where memory runs out, and only where the error has a text.
+    /// Refused only if memory runs out, and only where the error has a text.
     pub fn try_clone(&self) -> Result<SerError, NoMemory>
         ensures value { IfOk result (λ e. e ≡ self.now) }
         ensures memory { OnErr result (ser_copy_takes_memory self.now) }
@@ -180,9 +180,9 @@ impl<T: Drop> From<AllocFailed<T>> for SerError {
 }
 
 impl DeError {
-    /// The refusal in the words that `message` prints, where its type states them.
+    /// The refusal with the text that `message` prints, where its type states that text.
     ///
-    /// Refused only where memory runs out.
+    /// Refused only if memory runs out.
     pub fn new<D: fmt::Display + Drop>(alloc: Global, message: D) -> Result<DeError, NoMemory>
         ensures { IfOk result (λ e. IfSome (D.output message) (λ text. e ≡ de.Msg text)) }
     {
@@ -191,7 +191,7 @@ impl DeError {
 
     /// An equal error.
     ///
-    /// Refused only where memory runs out, and only where the error has a text.
+    /// Refused only if memory runs out, and only where the error has a text.
     pub fn try_clone(&self) -> Result<DeError, NoMemory>
         ensures value { IfOk result (λ e. e ≡ self.now) }
         ensures memory { OnErr result (de_copy_takes_memory self.now) }

@@ -1,12 +1,10 @@
-//! What every read and write of the wire layer speaks of: the place in bytes, and why a value is not
-//! written or read.
+//! What all reads and writes of the wire layer share: the place in the bytes, and why a value is not written or read.
 //!
 //! - [`Cursor`]: the place that reads go through.
-//! - [`SerError`], [`DeError`], [`NoMemory`]: why something is not written or read.
+//! - [`SerError`], [`DeError`], [`NoMemory`]: why a value is not written or read.
 //! - [`MsgError`], [`UninitializedFieldError`]: the texts that errors hold.
 //!
-//! What they mean is stated in `specs/`: `Bytes`, `Place`, `Messages`, `ErrorTexts` and
-//! `Refusals`.
+//! Their meaning is stated in `specs/`: `Bytes`, `Place`, `Messages`, `ErrorTexts` and `Refusals`.
 #![tactic(auto)]
 
 mod cursor;

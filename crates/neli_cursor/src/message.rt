@@ -1,4 +1,4 @@
-//! Messages: texts that say what is wrong, fixed or made.
+//! Messages: texts that say what is wrong.
 
 ghost use Rattle.std.specs.Prelude.{◌≡◌, ◌<◌, IfOk, IfSome, OnErr, Some, length};
 ghost use Rattle.neli_cursor.specs.Messages.{uninitialized};
@@ -12,9 +12,9 @@ use std::marker::Model;
 /// How a message keeps its text.
 #[derive(Debug, Drop)]
 enum Text {
-    /// A text of the program's own.
+    /// A text that stands in the program.
     Fixed(&'static str),
-    /// A text that was made.
+    /// A text made at run time.
     Owned(String),
     /// The text that names a missing field.
     Uninitialized(&'static str),
@@ -42,7 +42,7 @@ impl Model for MsgError {
 impl MsgError {
     /// The message that prints what `message` prints, where its type states that.
     ///
-    /// Refused only where memory runs out.
+    /// Refused only if memory runs out.
     pub fn new<D: fmt::Display + Drop>(alloc: Global, message: D) -> Result<MsgError, NoMemory>
         ensures { IfOk result (λ m. IfSome (D.output message) (λ text. m ≡ text)) }
     {
@@ -62,7 +62,7 @@ impl MsgError {
 
     /// A message with the same text.
     ///
-    /// Refused only where memory runs out, and never where the text is empty.
+    /// Refused only if memory runs out, and never where the text is empty.
     pub fn try_clone(&self) -> Result<MsgError, NoMemory>
         ensures value { IfOk result (λ m. m ≡ self.now) }
         ensures memory { OnErr result (0 < length self.now) }
@@ -91,7 +91,7 @@ impl fmt::Display for MsgError {
 
 impl Error for MsgError {}
 
-/// A field that a builder was not given.
+/// A builder's missing field.
 #[derive(Clone, Copy, Debug)]
 pub struct UninitializedFieldError {
     field_name: &'static str,

@@ -1,4 +1,4 @@
--- What a delivery is as a caller's types: a message, or why there is none.
+-- A delivery as the caller's types: a message, or why there is none.
 use Rattle.std.specs.Prelude.{◌≡◌, ◌≢◌, ℕ, List, Option, Some, None, Result, Ok, Err}
 use Rattle.neli_wire.specs.DeError.{DeError}
 use Rattle.neli_reader.specs.Framed.{Nlmsghdr}
@@ -10,13 +10,13 @@ use Rattle.neli_reader.specs.Retyping.{IsTyped, RefusesTypingMessage}
 use Rattle.neli_deliveries.specs.declared.delivery.Delivery.{Delivery}
 use Rattle.neli_deliveries.specs.declared.delivery.Delivery.TheVariants as delivery
 
--- what a handle is given: a message, or an error in its place
+-- what a handle receives: a message, or an error in its place
 abbrev pub Item : Type 0 → Type 0 → Type 0
 Item K P = Result (Nlmsghdr K P) (RouterError K P)
 
--- the caller's types: what the number of a message's type means; what is seen of a body, its size, and its reading
+-- the caller's types: the meaning of a type's number; the view of a body, its size, and its reading
 module _ {K P V : Type 0} (type_of : ℕ → K) (view : P → V) (size : P → ℕ) (read : List ℕ → Result V DeError) where
-  -- e is why u can't be typed: a body's refusal, or that a length passes 32 bits
+  -- e is why u can't be typed: a body's refusal, or a length that exceeds 32 bits
   abbrev pub IsNotTyped : Nlmsghdr ℕ (List ℕ) → RouterError K P → Type 0
   IsNotTyped u e = RefusesTypingMessage type_of view size read u e × (e ≢ router.Memory)
 
@@ -29,7 +29,7 @@ module _ {K P V : Type 0} (type_of : ℕ → K) (view : P → V) (size : P → �
   IsReading (delivery.Stray u) (Ok m) = ⊥
   IsReading (delivery.Fault e) item = item ≡ Err (router.Socket e)
 
-  -- the item is what waits first; there is none where nothing waits
+  -- the item is the first delivery that waits; none if nothing waits
   abbrev pub IsFirst : Option Delivery → Option (Item K P) → Type 0
   IsFirst None item = item ≡ None
   IsFirst (Some d) None = ⊥
@@ -48,7 +48,7 @@ module _ (takes : List ℕ → Type 0) where
   ReadingTakesMemory (delivery.Stray u) = MessageTakesMemory u
   ReadingTakesMemory (delivery.Fault e) = socket_copy_takes_memory e
 
-  -- of what waits first: none where nothing waits
+  -- of the first delivery that waits: none if nothing waits
   abbrev pub FirstTakesMemory : Option Delivery → Type 0
   FirstTakesMemory None = ⊥
   FirstTakesMemory (Some d) = ReadingTakesMemory d

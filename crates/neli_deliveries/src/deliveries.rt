@@ -1,4 +1,4 @@
-//! What a store of deliveries has to keep.
+//! What a store of deliveries must keep.
 
 ghost use Rattle.std.specs.Prelude.{true, ◌≡◌, ℕ, List, [], ◌∷◌, Option, None, Some, IsOk, IfOk, OnOk, OnErr, is_some};
 ghost use Rattle.std.specs.Prelude.{option_map};
@@ -17,13 +17,13 @@ use std::alloc::Global;
 
 /// A list of deliveries for each open sequence number, and one for multicast until that is closed.
 ///
-/// Contracts see a store as its port and, for each number and for multicast (`None`), the list of
-/// what waits there, or that it is not open. How it is kept is the store's own matter.
+/// Contracts see a store as its port and, for each number and for multicast (`None`), the list of its waiting
+/// deliveries, or that it is not open. How it stores them is its own matter.
 pub trait Deliveries: Sized + Drop {
-    /// The port of the router: a message that came to no group and has another one is a stray.
+    /// The port of the router: a message that arrived for no group and has another port is a stray.
     ghost port_of: { Self → ℕ };
 
-    /// What waits for a number, or for multicast; `None` where it is not open.
+    /// The deliveries that wait for a number, or for multicast; `None` if it is not open.
     ghost pending: { Self → Option ℕ → Option (List Waiting) };
 
     /// A store with no open number and an empty list for multicast. It takes no memory.
@@ -42,23 +42,22 @@ pub trait Deliveries: Sized + Drop {
 
     /// Opens an empty list for a number that is not open.
     ///
-    /// Refused only where memory runs out, and then all lists are as they were.
+    /// Refused only if memory runs out; then all lists are as they were.
     fn open(&mut self, number: u32) -> Result<(), NoMemory>
         requires { pending self.old (Some number) ≡ None }
         ensures port { port_of self.new ≡ port_of self.old }
         ensures opened { OnOk result (Opens number (pending self.old) (pending self.new)) }
         ensures err { OnErr result (SameLists (pending self.old) (pending self.new)) };
 
-    /// Takes a list away, with what waits there. It takes no memory.
+    /// Removes a list with its deliveries. It takes no memory.
     fn close(&mut self, whose: Option<u32>)
         ensures port { port_of self.new ≡ port_of self.old }
         ensures closed { pending self.new whose ≡ None }
         ensures others { SameListsBut whose (pending self.old) (pending self.new) };
 
-    /// Hands over what a datagram holds, that came to these groups.
+    /// Delivers the messages and the fault of a datagram that arrived for these groups.
     ///
-    /// Refused only where memory runs out, and then all lists are as they were; an empty datagram
-    /// never is.
+    /// Refused only if memory runs out; then all lists are as they were. An empty datagram is never refused.
     fn datagram(&mut self, bytes: &[u8], groups: &Groups) -> Result<(), NoMemory>
         ensures port { port_of self.new ≡ port_of self.old }
         ensures ok { OnOk result (ListsGain (λ w. datagram_share (port_of self.old)
@@ -68,10 +67,10 @@ pub trait Deliveries: Sized + Drop {
         ensures err { OnErr result (SameLists (pending self.old) (pending self.new)) }
         ensures empty { bytes.now ≡ [] → IsOk result };
 
-    /// Hands a fault of the link to each open number, unless it is that the link would block.
+    /// Delivers a fault of the link to each open number, unless the fault is that the link would block.
     ///
-    /// Refused only where memory runs out, and then all lists are as they were; that the link would
-    /// block never is, nor any fault where no number is open.
+    /// Refused only if memory runs out; then all lists are as they were. A link that would block, and any fault while
+    /// no number is open, is never refused.
     fn fault(&mut self, error: SocketError) -> Result<(), NoMemory>
         ensures port { port_of self.new ≡ port_of self.old }
         ensures ok { OnOk result (ListsGain (λ w. fault_share w error)
@@ -80,11 +79,11 @@ pub trait Deliveries: Sized + Drop {
         ensures would_block { is_would_block error ≡ true → IsOk result }
         ensures unawaited { ((q : ℕ) → pending self.old (Some q) ≡ None) → IsOk result };
 
-    /// What waits first, read as the caller's types, or that nothing waits: a message, or why there
-    /// is none.
+    /// The first delivery that waits, read as the caller's types: a message, or why there is none; or that nothing
+    /// waits.
     ///
-    /// Refused only where memory runs out, and never where nothing waits; of a message of another type than 2 and 3 only
-    /// where reading its body takes memory, so that a body which is refused is never told as want of memory.
+    /// Refused only if memory runs out, and never where nothing waits; for a message of another type than 2 and 3 only
+    /// if reading its body takes memory, so a refused body is never reported as out of memory.
     fn first<T: NlType, P: FromBytesWithInput + Size>(
         &self,
         alloc: Global,
@@ -96,7 +95,7 @@ pub trait Deliveries: Sized + Drop {
         ensures memory { OnErr result
             (FirstTakesMemory P.takes_memory (head_of (pending self.now whose))) };
 
-    /// Takes away what waits first. It takes no memory.
+    /// Removes the first delivery that waits. It takes no memory.
     fn drop_first(&mut self, whose: Option<u32>)
         requires { (d : Waiting) × (ds : List Waiting) × (pending self.old whose ≡ Some (d ∷ ds)) }
         ensures port { port_of self.new ≡ port_of self.old }
@@ -104,7 +103,7 @@ pub trait Deliveries: Sized + Drop {
             → pending self.new whose ≡ Some ds }
         ensures others { SameListsBut whose (pending self.old) (pending self.new) };
 
-    /// Takes away all that waits in a list, which stays open if it is. It takes no memory.
+    /// Removes all deliveries of a list, which stays open if it is. It takes no memory.
     fn clear(&mut self, whose: Option<u32>)
         ensures port { port_of self.new ≡ port_of self.old }
         ensures cleared { pending self.new whose

@@ -1,15 +1,15 @@
-//! What waits for a handle.
+//! A delivery that waits for a handle.
 
 use neli_attr::Buffer;
 use neli_reader::{Nlmsghdr, SocketError};
 
-/// What waits for a handle until it is read.
+/// A delivery that waits for a handle until it is read.
 #[derive(Debug, Drop)]
 pub enum Delivery {
-    /// A message for this handle alone.
+    /// A message for this handle only.
     Message(Nlmsghdr<u16, Buffer>),
-    /// A message that came to no group, and has another port than the router's or a sequence number
-    /// that is not open. Each open number gets it.
+    /// A message that arrived for no group, and has another port than the router's or a sequence
+    /// number that is not open. Each open number gets it.
     Stray(Nlmsghdr<u16, Buffer>),
     /// A datagram could not be read to its end, or the link failed. Each open number gets it.
     Fault(SocketError),

@@ -3,7 +3,7 @@ use Rattle.std.specs.Prelude.{ℕ, List, [], ◌∷◌, ◌++◌, Option, codes,
 use Rattle.std.specs.Borrow.{Bor}
 use Rattle.neli_errno.specs.declared.number.Errno.{Errno}
 
--- a number, its name, and what it means
+-- a number, its name, and its meaning
 abbrev pub Row : Type 0
 Row = ℕ × List ℕ × List ℕ
 
@@ -155,6 +155,6 @@ errnos =
 abbrev pub errno_of : ℕ → Option Row
 errno_of number = find (λ row. nat_eq row.0 number) errnos
 
--- what is printed of a row
+-- the text of a row
 abbrev pub errno_text : Row → List ℕ
 errno_text row = row.1 ++ codes ": " ++ row.2

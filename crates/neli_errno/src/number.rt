@@ -17,7 +17,7 @@ pub struct Errno {
 }
 
 impl Errno {
-    /// The error with this number, as 22 for `EINVAL`; `None` where the number has no name.
+    /// The error with this number, as 22 for `EINVAL`; `None` for a number without a name.
     pub fn from_number(number: u32) -> Option<Errno>
         ensures { option_map errno_seen result ≡ errno_of number }
     {
@@ -38,7 +38,7 @@ impl Errno {
         self.name
     }
 
-    /// What it means, as `Invalid argument`.
+    /// The meaning, as `Invalid argument`.
     pub fn meaning(&self) -> &'static str
         ensures { result.now ≡ self.now.meaning.now }
     {

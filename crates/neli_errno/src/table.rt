@@ -6,7 +6,7 @@ ghost use Rattle.neli_errno.specs.Errnos.{errno_of, errno_seen, errnos, row_seen
 
 use crate::Errno;
 
-/// A number, its name, and what it means.
+/// A number, its name, and its meaning.
 type Row = (u32, &'static str, &'static str);
 
 /// Every number that has a name.
@@ -186,7 +186,7 @@ fn row_of(number: u32) -> Option<Row>
     find_row(errno_rows(), number).copied()
 }
 
-/// The error with this number, where the table has it.
+/// The error with this number, if the table has it.
 pub(crate) fn errno_of(number: u32) -> Option<Errno>
     ensures { option_map errno_seen result ≡ errno_of number }
 {

@@ -23,7 +23,7 @@ use Rattle.neli_wire.specs.Writing.{Wire}
 
 module _ {C T H V : Type 0} (width : ℕ) (cmd_number : C → ℕ) (cmd_of : ℕ → C) (type_number : T → ℕ) (value_of : ℕ
     → T) (header_wire : H → Wire) (header_at : List ℕ → Reading V) (local : IsLocal header_at) where
-  -- a header that its own bytes spell, and then what follows it
+  -- a header that its own bytes spell, and then the bytes after it
   header-before : (header rest : List ℕ) (value : V) → header_at header ≡ Ok (value, [])
       → header_at (header ++ rest) ≡ Ok (value, rest)
   header-before header rest value reads =

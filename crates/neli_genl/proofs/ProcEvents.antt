@@ -23,7 +23,7 @@ use Rattle.neli_genl.specs.declared.proc_event_header.ProcEventHeader.{ProcEvent
 abbrev IsKind : ProcEventType → Type 0
 IsKind = IsNamed 4 proc_event_type_number proc_event_type_of
 
--- each type that an event is written with has a number, and is what that number is read as
+-- each type that an event is written with has a number, and is read from it
 kind-named : (event : ProcEvent) → IsKind (event_kind event)
 kind-named (Ack a) = record { fits = omega arith; named = refl }
 kind-named (Fork a b c d) = record { fits = omega arith; named = refl }

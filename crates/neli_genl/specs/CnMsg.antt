@@ -31,7 +31,7 @@ cn_msg_bytes h =
     ++ little_bytes 4 h.seq ++ little_bytes 4 h.ack ++ little_bytes 2 h.len
     ++ little_bytes 2 h.flags
 
--- each field has a number of its size, and is what that number is read as
+-- each field has a number of its size, and is read from that number
 pub record IsPlainCnMsg (h : CnMsgHeader) : Type 0 where
   pub idx : IsNamed 4 cn_msg_idx_number cn_msg_idx_of h.idx
   pub val : IsNamed 4 cn_msg_val_number cn_msg_val_of h.val
@@ -40,7 +40,7 @@ pub record IsPlainCnMsg (h : CnMsgHeader) : Type 0 where
   pub len : FitsBytes 2 h.len
   pub flags : FitsBytes 2 h.flags
 
--- the header of what was given, with the length of the payload
+-- the header of the given fields, with the length of the payload
 abbrev pub cn_msg_with : {P : Type 0} → CnMsgBuilder P → CnMsgIdx → CnMsgVal → ℕ → CnMsgHeader
 cn_msg_with b idx val len =
     record {
@@ -52,7 +52,7 @@ cn_msg_with b idx val len =
       flags = unwrap_or b.flags 0;
     }
 
--- what a builder makes of its fields: the length is that of the payload's bytes, which fits 16 bits
+-- the message that a builder makes: the length is that of the payload's bytes, which fits 16 bits
 abbrev pub cn_msg_built : {P : Type 0} → (P → ℕ) → CnMsgBuilder P → Outcome (CnMsg P)
 cn_msg_built size b =
     require_field (codes "idx") b.idx (λ idx.

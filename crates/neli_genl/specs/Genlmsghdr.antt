@@ -25,7 +25,7 @@ use Rattle.neli_wire.specs.Writing.{Wire, ◌+++◌, wire_all}
 abbrev pub Attrs : Type 0 → Type 0
 Attrs T = List (Nlattr T (List ℕ))
 
--- what each of them says
+-- the header and the payload of each
 abbrev pub AttributesRead : Type 0 → Type 0
 AttributesRead T = List (Attr (AttrType T) (List ℕ))
 
@@ -33,13 +33,13 @@ AttributesRead T = List (Attr (AttrType T) (List ℕ))
 abbrev pub attrs_wire : {T : Type 0} → (T → ℕ) → Attrs T → Wire
 attrs_wire number_of = wire_all (nlattr_wire number_of (λ bytes. Ok bytes))
 
--- how many bytes they are written as
+-- their length on the wire
 abbrev pub attrs_size : {T : Type 0} → Attrs T → ℕ
 attrs_size = sum_by (λ a. align (4 + length a.nla_payload))
 
 -- ---- the message
 
--- what a message says
+-- a message's fields
 pub record GenlFields (C V A : Type 0) : Type 0 where
   pub cmd : C
   pub version : ℕ
@@ -47,19 +47,19 @@ pub record GenlFields (C V A : Type 0) : Type 0 where
   pub header : V
   pub attrs : A
 
--- what a place in an input of n bytes says: the family's header, and then the attributes to the end
+-- a place in an input of n bytes, as read: the family's header, and then the attributes to the end
 unfoldable pub parts_of : {V A : Type 0} → (List ℕ → Reading V) → (List ℕ → Result A DeError) → ℕ → List ℕ
     → Result (V × A) DeError
 parts_of header_at attrs_of n s =
     map_refusal (refusal_within n) (header_at s) >>= λ header. (attrs_of header.1 >>= λ attrs. Ok (header.0, attrs))
 
--- where reading the family's header takes memory, or what follows does
+-- reading the family's header takes memory, or reading the rest does
 unfoldable pub parts_take_memory : {V : Type 0} → (List ℕ → Reading V) → (List ℕ → Type 0) → (List ℕ → Type 0) → List ℕ
     → Type 0
 parts_take_memory header_at header_takes_memory attrs_take_memory s = header_takes_memory s
     ⊎ IfRead (header_at s) (λ header rest. attrs_take_memory rest)
 
--- what bytes say that begin with the first four: the command at place 0, the version at 1, two reserved bytes at 2, and
+-- bytes that begin with the first four, as read: the command at place 0, the version at 1, two reserved bytes at 2, and
 -- from 4 on the family's header and the attributes
 abbrev pub fields_of : {C V A : Type 0} → (ℕ → C) → (List ℕ → Reading V) → (List ℕ → Result A DeError) → List ℕ
     → Result (GenlFields C V A) DeError
@@ -73,7 +73,7 @@ fields_of cmd_of header_at attrs_of s =
       attrs = parts.1;
     })
 
--- what bytes say, where the family's header has `width` bytes, a multiple of four
+-- bytes as read, where the family's header has `width` bytes, a multiple of four
 abbrev pub genlmsghdr_of : {C V T : Type 0} → ℕ → (ℕ → C) → (ℕ → T) → (List ℕ → Reading V) → List ℕ
     → Result (GenlFields C V (AttributesRead T)) DeError
 genlmsghdr_of width cmd_of value_of header_at s =
@@ -81,7 +81,7 @@ genlmsghdr_of width cmd_of value_of header_at s =
     else if nat_lt (length s) 4 then Err (InvalidInput (length s))
     else fields_of cmd_of header_at (attributes_in (type_of value_of)) s
 
--- where reading the family's header takes memory, or attributes follow it
+-- reading the family's header takes memory, or attributes follow it
 abbrev pub genlmsghdr_takes_memory : {V : Type 0} → ℕ → (List ℕ → Reading V) → (List ℕ → Type 0) → List ℕ → Type 0
 genlmsghdr_takes_memory width header_at header_takes_memory s =
     (width % 4 ≡ 0) × (4 ≤ length s) × parts_take_memory header_at header_takes_memory (λ rest. 0 < length rest)
@@ -97,11 +97,11 @@ genlmsghdr_wire cmd_number type_number header_wire m =
     (Ok (genlmsghdr_bytes (cmd_number m.cmd) m.version m.reserved) +++ header_wire m.header)
     +++ attrs_wire type_number m.attrs
 
--- how many bytes it is written as
+-- its length on the wire
 abbrev pub genlmsghdr_size : {C T H : Type 0} → (H → ℕ) → Genlmsghdr C T H → ℕ
 genlmsghdr_size header_size m = 4 + header_size m.header + attrs_size m.attrs
 
--- what a builder makes of its fields, with a family's header of `width` bytes
+-- the message that a builder makes, with a family's header of `width` bytes
 abbrev pub genlmsghdr_built : {C T H : Type 0} → ℕ → GenlmsghdrBuilder C T H → Outcome (Genlmsghdr C T H)
 genlmsghdr_built width b =
     require_field (codes "cmd") b.cmd (λ cmd.
@@ -111,7 +111,7 @@ genlmsghdr_built width b =
     then Ok (record { cmd = cmd; version = version; reserved = 0; header = header; attrs = unwrap_or b.attrs [] })
     else Err (Invalid (codes "Header size is not a multiple of four")))))
 
--- the same without a header of a family's own
+-- the same without a family's header
 abbrev pub genlmsghdr_plain : {C T H : Type 0} → H → GenlmsghdrBuilder C T H → Outcome (Genlmsghdr C T H)
 genlmsghdr_plain none b =
     require_field (codes "cmd") b.cmd (λ cmd.

@@ -9,15 +9,14 @@ use Rattle.neli_wire.specs.Frames.{number_in}
 use Rattle.neli_wire.specs.Numbers.{FitsBytes, little_bytes}
 use Rattle.neli_wire.specs.Reading.{◌>>=◌}
 
--- what bytes say: the type at place 0, the processor at 4, the time at 8, and the event from 16 on; what follows is
--- skipped
+-- bytes as read: the type at place 0, the processor at 4, the time at 8, and the event from 16 on; the rest is skipped
 abbrev pub proc_event_of : List ℕ → Result ProcEventHeader DeError
 proc_event_of s =
     if nat_lt (length s) 16 then Err (InvalidInput (length s))
     else (event_of (proc_event_type_of (number_in 4 0 s)) s >>= λ event.
     Ok (record { cpu = number_in 4 4 s; timestamp_ns = number_in 8 8 s; event = event }))
 
--- where a message is made of a type without a name
+-- the type has no name, so the refusal's message is made
 abbrev pub proc_event_takes_memory : List ℕ → Type 0
 proc_event_takes_memory s = (16 ≤ length s) × IsUnknown (proc_event_type_of (number_in 4 0 s))
 
@@ -28,7 +27,7 @@ proc_event_bytes h =
     ++ little_bytes 8 h.timestamp_ns
     ++ event_bytes h.event
 
--- how many bytes it takes
+-- its length in bytes
 abbrev pub proc_event_size : ProcEventHeader → ℕ
 proc_event_size h = 16 + event_size h.event
 

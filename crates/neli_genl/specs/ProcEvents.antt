@@ -17,7 +17,7 @@ use Rattle.neli_wire.specs.Numbers.{FitsBytes, little_bytes, signed_bytes, signe
 abbrev pub signed_in : ℕ → List ℕ → ℤ
 signed_in i s = signed_number w32 4 (drop i s)
 
--- an event of this size, where its bytes are there
+-- an event of this size, if there are enough bytes
 abbrev pub event_of_size : ℕ → (List ℕ → ProcEvent) → List ℕ → Result ProcEvent DeError
 event_of_size size event s = if nat_lt (length s) (16 + size) then Err (InvalidInput (length s)) else Ok (event s)
 
@@ -64,7 +64,7 @@ abbrev pub exit_of : List ℕ → Result ProcEvent DeError
 exit_of = event_of_size 24 (λ s. Exit (signed_in 16 s) (signed_in 20 s) (number_in 4 24 s) (number_in 4 28 s)
     (signed_in 32 s) (signed_in 36 s))
 
--- what a type without a name is reported as
+-- the text for a type without a name
 abbrev pub unknown_text : ℕ → List ℕ
 unknown_text n = codes "Unrecognized Proc event type: " ++ decimal n ++ codes " (raw value: " ++ decimal n ++ codes ")"
 
@@ -125,7 +125,7 @@ event_bytes (Coredump a b c d) = four_numbers a b c d
 event_bytes (Exit a b c d e f) = signed_bytes w32 4 a ++ signed_bytes w32 4 b ++ little_bytes 4 c ++ little_bytes 4 d
     ++ signed_bytes w32 4 e ++ signed_bytes w32 4 f
 
--- how many bytes an event takes
+-- the length of an event in bytes
 abbrev pub event_size : ProcEvent → ℕ
 event_size (Ack a) = 4
 event_size (Fork a b c d) = 16

@@ -1,4 +1,4 @@
--- What is written of a message of generic netlink is read again as what is equal to it.
+-- What is written of a message of generic netlink is read again as its equal.
 use Rattle.std.specs.Prelude.{◌≡◌, ℕ, ◌+◌, ◌%◌, ◌^◌, ◌<◌, List, [], ◌++◌, length, Ok}
 use Rattle.std.specs.List.{All}
 use Rattle.neli_attr.specs.Attributes.{attributes_in}
@@ -13,7 +13,7 @@ use Rattle.neli_wire.specs.Bytes.{Reading}
 use Rattle.neli_wire.specs.Numbers.{FitsBytes}
 use Rattle.neli_wire.specs.Writing.{Wire}
 
--- the family's header has a multiple of four bytes, the command is what its number is read as, and the others fit their
+-- the family's header has a multiple of four bytes, the command is read from its number, and the others fit their
 -- fields
 pub record IsPlainGenlmsghdr {C T H : Type 0} (width : ℕ) (cmd_number : C → ℕ) (cmd_of : ℕ
     → C) (m : Genlmsghdr C T H) : Type 0 where
@@ -22,14 +22,14 @@ pub record IsPlainGenlmsghdr {C T H : Type 0} (width : ℕ) (cmd_number : C → 
   pub version : FitsBytes 1 m.version
   pub reserved : FitsBytes 2 m.reserved
 
--- the fields of a message, with what its family's header and its attributes are read as
+-- the fields of a message, with its family's header and its attributes as read
 abbrev pub fields_with : {C T H V : Type 0} → Genlmsghdr C T H → V → AttributesRead T
     → GenlFields C V (AttributesRead T)
 fields_with m header attrs =
     record { cmd = m.cmd; version = m.version; reserved = m.reserved; header = header; attrs = attrs }
 
--- a message has bytes, which are read as its fields, and as what its family's header's own bytes and its attributes'
--- own bytes are read as
+-- a message has bytes, which are read as its fields, and those of its family's header and of its attributes as they are
+-- read alone
 abbrev pub GenlReadsBack : {C T H V : Type 0} → ℕ → (C → ℕ) → (ℕ → C) → (T → ℕ) → (ℕ → T) → (H → Wire)
     → (List ℕ → Reading V) → Genlmsghdr C T H → Type 0
 GenlReadsBack {T = T} {V = V} width cmd_number cmd_of type_number value_of header_wire header_at m =
@@ -42,7 +42,7 @@ GenlReadsBack {T = T} {V = V} width cmd_number cmd_of type_number value_of heade
 
 -- ---- with the attributes
 
--- the length is that of the header and the payload, and the type is what its number of 14 bits is read as
+-- the length is that of the header and the payload, and the type is read from its number of 14 bits
 pub record IsPlainNlattr {T : Type 0} (type_number : T → ℕ) (value_of : ℕ → T) (a : Nlattr T (List ℕ)) : Type 0 where
   pub len : a.nla_len ≡ 4 + length a.nla_payload
   pub fits : FitsBytes 2 a.nla_len
@@ -53,7 +53,7 @@ pub record IsPlainNlattr {T : Type 0} (type_number : T → ℕ) (value_of : ℕ 
 abbrev pub ArePlainNlattrs : {T : Type 0} → (T → ℕ) → (ℕ → T) → Attrs T → Type 0
 ArePlainNlattrs type_number value_of = All (IsPlainNlattr type_number value_of)
 
--- where the family's header is read back from its own bytes, the message has bytes, which are read as the same message
+-- if the family's header is read back from its own bytes, the message has bytes, which are read as the same message
 abbrev pub GenlReadsBackWhole : {C T H V : Type 0} → ℕ → (C → ℕ) → (ℕ → C) → (T → ℕ) → (ℕ → T) → (H → Wire)
     → (List ℕ → Reading V) → (H → V) → Genlmsghdr C T H → Type 0
 GenlReadsBackWhole width cmd_number cmd_of type_number value_of header_wire header_at view m =

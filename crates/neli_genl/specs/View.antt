@@ -1,10 +1,10 @@
--- What is seen of a message of generic netlink.
+-- How contracts see a message of generic netlink.
 use Rattle.std.specs.Prelude.{map}
 use Rattle.neli_attr.specs.Nlattr.{nlattr_says}
 use Rattle.neli_genl.specs.Genlmsghdr.{GenlFields, AttributesRead}
 use Rattle.neli_genl.specs.declared.genlmsghdr.Genlmsghdr.{Genlmsghdr}
 
--- what a message says, by what its family's header says
+-- a message's fields, by the view of its family's header
 abbrev pub says : {C T H V : Type 0} → (H → V) → Genlmsghdr C T H → GenlFields C V (AttributesRead T)
 says view m = record {
   cmd = m.cmd;

@@ -39,14 +39,14 @@ pub struct CnMsg<P> {
 }
 
 impl<P> CnMsg<P> {
-    /// Which part of the kernel the message is of.
+    /// The part of the kernel that the message belongs to.
     pub fn idx(&self) -> &CnMsgIdx
         ensures { result.now ≡ self.now.header.idx }
     {
         &self.header.idx
     }
 
-    /// Which channel of that part.
+    /// The channel of that part.
     pub fn val(&self) -> &CnMsgVal
         ensures { result.now ≡ self.now.header.val }
     {
@@ -60,14 +60,14 @@ impl<P> CnMsg<P> {
         &self.header.seq
     }
 
-    /// The sequence number that is acknowledged.
+    /// The sequence number that this message acknowledges.
     pub fn ack(&self) -> &u32
         ensures { result.now ≡ self.now.header.ack }
     {
         &self.header.ack
     }
 
-    /// How many bytes the payload has, as it was read or computed.
+    /// The number of bytes of the payload, as it was read or computed.
     pub fn len(&self) -> &u16
         ensures { result.now ≡ self.now.header.len }
     {
@@ -92,7 +92,7 @@ impl<P> CnMsg<P> {
 impl<P: TryClone> CnMsg<P> {
     /// An equal message.
     ///
-    /// Refused only where memory runs out, and only where a copy of the payload takes some.
+    /// Refused only if memory runs out, and only where a copy of the payload takes some.
     pub fn try_clone(&self) -> Result<Self, NoMemory>
         ensures value { IfOk result (λ m. m ≡ self.now) }
         ensures memory { OnErr result (P.copy_takes_memory self.now.payload) }
@@ -209,7 +209,7 @@ impl<P: FromBytesWithInput> FromBytesWithInput for CnMsg<P> {
 
     ghost never_short = { body_of-never_short 20 cn_msg_header P.read P.never_short };
 
-    /// Reads a header and its payload. The header's `len` is kept as it was read, and not looked at.
+    /// Reads a header and its payload. The header's `len` is kept as read, and not checked.
     fn from_bytes_with_input(
         alloc: Global,
         cursor: &mut Cursor<'_>,
@@ -258,7 +258,7 @@ impl<P> Default for CnMsgBuilder<P> {
 }
 
 impl<P: Size + Drop> CnMsgBuilder<P> {
-    /// Which part of the kernel the message is of.
+    /// The part of the kernel that the message belongs to.
     pub fn idx(mut self, value: CnMsgIdx) -> Self
         ensures { result ≡ record self { idx = Some value } }
     {
@@ -266,7 +266,7 @@ impl<P: Size + Drop> CnMsgBuilder<P> {
         self
     }
 
-    /// Which channel of that part.
+    /// The channel of that part.
     pub fn val(mut self, value: CnMsgVal) -> Self
         ensures { result ≡ record self { val = Some value } }
     {
@@ -282,7 +282,7 @@ impl<P: Size + Drop> CnMsgBuilder<P> {
         self
     }
 
-    /// The sequence number that is acknowledged. 0 by default.
+    /// The sequence number that this message acknowledges. 0 by default.
     pub fn ack(mut self, value: u32) -> Self
         ensures { result ≡ record self { ack = Some value } }
     {
@@ -306,10 +306,10 @@ impl<P: Size + Drop> CnMsgBuilder<P> {
         self
     }
 
-    /// The message of what was given, with the length of the payload. It takes no memory.
+    /// Builds the message, with the length of the payload. It takes no memory.
     ///
-    /// Refused where `idx`, `val` or the payload was not given: the first that is missing is named. Then
-    /// refused where the payload is written as more than 65535 bytes.
+    /// Refused first if `idx`, `val` or the payload is missing, with the name of the first one; then if the payload is
+    /// written as more than 65535 bytes.
     pub fn build(self) -> Result<CnMsg<P>, CnMsgBuilderError>
         ensures built { IfOk result (λ m. cn_msg_built P.wire_length self ≡ Ok m) }
         ensures refused { IfErr result (λ e. (e ≡ BuildError.Memory → ⊥)

@@ -13,7 +13,7 @@ use neli_wire::DeError;
 use std::alloc::Global;
 use std::fmt;
 
-/// The number of an event type that has no name, as it is reported.
+/// The number of an event type without a name, as the refusal prints it.
 #[derive(Drop)]
 struct UnknownEvent(u32);
 
@@ -29,7 +29,7 @@ impl fmt::Display for UnknownEvent {
     }
 }
 
-/// The refusal of an event type that has no name.
+/// The refusal of an event type without a name.
 fn unknown(alloc: Global, number: u32) -> DeError
     ensures { Refuses (unknown_event number) (Unit {0}) result }
 {
@@ -70,8 +70,7 @@ fn four_in(bytes: &[u8]) -> (i32, i32, i32, i32)
 
 /// The event of a type, in bytes that begin with its header.
 ///
-/// `InvalidInput` of the number of bytes where the event is not there, and a message where the type has
-/// no name.
+/// `InvalidInput` of the number of bytes if they are too few for the event; a message if the type has no name.
 pub(crate) fn read_event(
     alloc: Global,
     kind: ProcEventType,

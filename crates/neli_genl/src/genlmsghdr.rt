@@ -29,8 +29,8 @@ use neli_wire::{
 };
 use std::alloc::Global;
 
-/// A message of generic netlink: `struct genlmsghdr` of `linux/genetlink.h`, 4 bytes, a header of the
-/// family's own, whose size is a multiple of four, and attributes.
+/// A message of generic netlink: `struct genlmsghdr` of `linux/genetlink.h`, 4 bytes, a header of the family's own,
+/// whose size is a multiple of four, and attributes.
 #[derive(Debug, Drop, PartialEq, Eq)]
 pub struct Genlmsghdr<C, T, H = NoUserHeader> {
     cmd: C,
@@ -41,7 +41,7 @@ pub struct Genlmsghdr<C, T, H = NoUserHeader> {
 }
 
 impl<C, T, H> Genlmsghdr<C, T, H> {
-    /// What the family is asked for, or tells.
+    /// What the message asks of the family, or reports from it.
     pub fn cmd(&self) -> &C
         ensures { result.now ≡ self.now.cmd }
     {
@@ -73,7 +73,7 @@ impl<C, T, H> Genlmsghdr<C, T, H> {
 impl<C: Cmd, T: NlAttrType, H: Copy> Genlmsghdr<C, T, H> {
     /// An equal message.
     ///
-    /// Refused only where memory runs out, and never where it has no attributes.
+    /// Refused only if memory runs out, and never where it has no attributes.
     pub fn try_clone(&self) -> Result<Self, NoMemory>
         ensures value { IfOk result (λ m. m ≡ self.now) }
         ensures memory { OnErr result (0 < length self.now.attrs) }
@@ -126,7 +126,7 @@ impl<C: Cmd, T: NlAttrType, H: Size> Size for Genlmsghdr<C, T, H> {
     }
 }
 
-/// Appends a message. A refusal leaves some of it after what was there.
+/// Appends a message. A refusal leaves some of it appended.
 #[tactic(auto, using(neli_wire::specs::laws::Writing::append_wire_both))]
 fn write_fields<C: Cmd, T: NlAttrType, H: ToBytes>(
     message: &Genlmsghdr<C, T, H>,
@@ -219,7 +219,7 @@ fn read_parts<H: FromBytes, A: FromBytesWithInput>(
     Ok((header, attrs))
 }
 
-/// What all of the bytes spell.
+/// The value that all of the bytes spell.
 fn read_rest<A: FromBytesWithInput>(alloc: Global, bytes: &[u8]) -> Result<A, DeError>
     ensures value { IfOk result (λ a. A.read bytes.now ≡ Ok (A.view a)) }
     ensures refused { IfErr result (Refuses (A.read bytes.now) (A.takes_memory bytes.now)) }
@@ -227,8 +227,7 @@ fn read_rest<A: FromBytesWithInput>(alloc: Global, bytes: &[u8]) -> Result<A, De
     A::from_bytes_with_input(alloc, &mut Cursor::new(bytes), bytes.len())
 }
 
-/// The message of bytes that begin with its first four, of which the family's own header has a size that
-/// is allowed.
+/// The message of bytes that begin with its first four; the size of the family's own header is allowed.
 #[tactic(auto, using(neli_wire::specs::laws::Reading::refused_first))]
 fn read_fields<C: Constant<Number = u8>, H: FromBytes, A: FromBytesWithInput>(
     alloc: Global,
@@ -303,7 +302,7 @@ impl<C: Cmd, T: NlAttrType, H: TypeSize> FromBytesWithInput for Genlmsghdr<C, T,
     ghost never_short = { genlmsghdr_of-never_short H.width C.wire_value T.wire_value
         H.FromBytes.read };
 
-    /// Reads a message. `InvalidInput(n)` too where the family's own header is no multiple of four long.
+    /// Reads a message. Also `InvalidInput(n)` if the size of the family's own header is no multiple of four.
     fn from_bytes_with_input(
         alloc: Global,
         cursor: &mut Cursor<'_>,
@@ -347,7 +346,7 @@ impl<C, T, H> Default for GenlmsghdrBuilder<C, T, H> {
 }
 
 impl<C: Cmd, T: NlAttrType, H: Drop> GenlmsghdrBuilder<C, T, H> {
-    /// What the family is asked for, or tells.
+    /// What the message asks of the family, or reports from it.
     pub fn cmd(mut self, value: C) -> Self
         ensures { result ≡ record self { cmd = Some value } }
     {
@@ -363,7 +362,7 @@ impl<C: Cmd, T: NlAttrType, H: Drop> GenlmsghdrBuilder<C, T, H> {
         self
     }
 
-    /// The family's own header. `build` does without.
+    /// The family's own header. `build` needs none.
     pub fn header(mut self, value: H) -> Self
         ensures { result ≡ record self { header = Some value } }
     {
@@ -381,10 +380,10 @@ impl<C: Cmd, T: NlAttrType, H: Drop> GenlmsghdrBuilder<C, T, H> {
 }
 
 impl<C: Cmd, T: NlAttrType, H: TypeSize> GenlmsghdrBuilder<C, T, H> {
-    /// The message of what was given, the family's own header too. It takes no memory.
+    /// Builds the message, with the family's own header. It takes no memory.
     ///
-    /// Refused where the command, the version or the header was not given: the first that is missing is
-    /// named. Then refused where the header is no multiple of four long.
+    /// Refused first if the command, the version or the header is missing, with the name of the first one; then if the
+    /// header's size is no multiple of four.
     pub fn build_with_header(
         self,
         alloc: Global,
@@ -410,9 +409,9 @@ impl<C: Cmd, T: NlAttrType, H: TypeSize> GenlmsghdrBuilder<C, T, H> {
 }
 
 impl<C: Cmd, T: NlAttrType> GenlmsghdrBuilder<C, T, NoUserHeader> {
-    /// The message of what was given, without a header of the family's own. It takes no memory.
+    /// Builds the message, without a header of the family's own. It takes no memory.
     ///
-    /// Refused where the command or the version was not given: the first that is missing is named.
+    /// Refused if the command or the version is missing; the error names the first one.
     pub fn build(self, alloc: Global) -> Result<Genlmsghdr<C, T>, GenlmsghdrBuilderError>
         ensures built { IfOk result (λ m. genlmsghdr_plain (record {}) self ≡ Ok m) }
         ensures refused { IfErr result (λ e. (e ≡ BuildError.Memory → ⊥)

@@ -1,4 +1,4 @@
-//! Laws over the definitions: what is written of a body is read again as what is equal to it, and what bodies say of
+//! Laws over the definitions: what is written of a body is read again as its equal, and what bodies state about
 //! themselves. The functions do nothing: their contracts are the laws.
 
 ghost use Rattle.std.specs.Prelude.{◌≡◌, ◌+◌, ◌<◌, ◌++◌, List, [], Ok, ℕ, length, min};
@@ -21,21 +21,19 @@ use neli_attr::TryClone;
 use neli_consts::{Cmd, NlAttrType};
 use neli_wire::{FromBytes, FromBytesWithInput, Header, Size, ToBytes, TypeSize};
 
-/// A connector message is written as bytes that are read as its fields, and as what the payload's own
-/// bytes are read as, where each field is what its number is read as. And bytes that are read as the
-/// fields are those that they are written as.
+/// A connector message's wire bytes are read as its fields, and the payload's bytes as they are read alone, if each
+/// field is read from its number. Bytes that are read as the fields are written back as the same bytes.
 pub fn cn_msg_is_read_back<P: ToBytes + FromBytesWithInput>()
     ensures back { (m : Connector P) → IsPlainCnMsg m.header
         → ReadsBack 20 cn_msg_bytes cn_msg_header P.read m.header (P.wire m.payload) }
     ensures bytes { (s : List ℕ) → length s ≡ 20 → AreBytes s → cn_msg_bytes (cn_msg_header s) ≡ s }
 {}
 
-/// A message of generic netlink is written as bytes that are read as its fields, and as what the
-/// family's header's own bytes and the attributes' own bytes are read as, where the command is what
-/// its number is read as, the other fields fit theirs, and the family's header has a multiple of
-/// four bytes. The two bytes without a meaning stay as they are. Where that header is read back
-/// from its own bytes too, each attribute's length is that of its header and payload, and each type
-/// is what its number of 14 bits is read as, the whole is read as it was.
+/// The wire bytes of a message of generic netlink are read as its fields, and those of the family's header and of the
+/// attributes as they are read alone, if the command is read from its number, the other fields fit theirs, and the
+/// family's header has a multiple of four bytes. The two bytes without a meaning stay as they are. If that header is
+/// read back from its own bytes too, each attribute's length is that of its header and payload, and each type is read
+/// from its number of 14 bits, the whole is read back.
 pub fn genlmsghdr_is_read_back<C: Cmd, T: NlAttrType, H: TypeSize>()
     ensures back { (m : Generic C T H) → IsPlainGenlmsghdr H.width C.wire_number C.wire_value m
         → GenlReadsBack H.width C.wire_number C.wire_value T.wire_number T.wire_value
@@ -46,8 +44,7 @@ pub fn genlmsghdr_is_read_back<C: Cmd, T: NlAttrType, H: TypeSize>()
         H.ToBytes.wire H.FromBytes.read H.FromBytes.view m }
 {}
 
-/// A process event with its header is written as bytes that are read as the same, where each number
-/// fits its field. What follows those bytes is skipped.
+/// A process event with its header is read back, if each number fits its field. Whatever follows its bytes is skipped.
 pub fn proc_event_is_read_back()
     ensures back { (h : Event) → IsPlainProcEvent h
         → proc_event_of (proc_event_bytes h) ≡ Ok h }
@@ -56,7 +53,7 @@ pub fn proc_event_is_read_back()
 {}
 
 /// `==` of messages of generic netlink and of the connector is true exactly where the two values are equal, field by
-/// field, where the commands, types, headers and payloads in them have such an `==`; so is that of events of processes.
+/// field, if the commands, types, headers and payloads in them have such an `==`; so is that of process events.
 pub fn equality<C: PartialEq, T: PartialEq, H: PartialEq, P: PartialEq>()
     ensures user_header { IsEquality ⟦<NoUserHeader as PartialEq>⟧.eq }
     ensures generic { IsEquality C.eq → IsEquality T.eq → IsEquality H.eq
@@ -68,8 +65,7 @@ pub fn equality<C: PartialEq, T: PartialEq, H: PartialEq, P: PartialEq>()
     neli_consts_system::laws::equality();
 }
 
-/// A family without a header of its own has no bytes there: nothing is written, nothing is read, and this takes no
-/// memory.
+/// A family without a header of its own has no bytes there: nothing is written or read, without memory.
 pub fn no_user_header_has_no_bytes()
     ensures written { AreWrittenAs ⟦<NoUserHeader as ToBytes>⟧.wire
         ⟦<NoUserHeader as Size>⟧.unpadded_length (λ v. []) }
@@ -79,7 +75,8 @@ pub fn no_user_header_has_no_bytes()
 {}
 
 /// The attributes of a message of generic netlink begin after four bytes and the family's own header. It is written and
-/// read so; a read takes memory where there are attributes or that header's does, a copy where there are attributes.
+/// read in this form; a read takes memory if there are attributes or that header's read does, a copy if there are
+/// attributes.
 pub fn genlmsghdr_is_its_fields<C: Cmd, T: NlAttrType, H: TypeSize + Copy>()
     ensures header { ⟦<Genlmsghdr<C, T, H> as Header>⟧.header ≡ min (4 + H.width) usize.MAX }
     ensures written { AreSame ⟦<Genlmsghdr<C, T, H> as ToBytes>⟧.wire
@@ -94,8 +91,8 @@ pub fn genlmsghdr_is_its_fields<C: Cmd, T: NlAttrType, H: TypeSize + Copy>()
         (λ m. 0 < length m.attrs) }
 {}
 
-/// The payload of a connector message begins after 20 bytes. It is written and read so; reads and copies take memory
-/// where those of the payload do.
+/// The payload of a connector message begins after 20 bytes. It is written and read in this form; reads and copies take
+/// memory where those of the payload do.
 pub fn cn_msg_is_its_fields<W: ToBytes, R: FromBytesWithInput, P: TryClone>()
     ensures header { ⟦<CnMsg<W> as Header>⟧.header ≡ 20 }
     ensures written { AreSame ⟦<CnMsg<W> as ToBytes>⟧.wire

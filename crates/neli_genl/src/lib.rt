@@ -1,9 +1,9 @@
 //! Bodies of generic netlink and of the connector.
 //!
-//! - [`Genlmsghdr`]: a command of a family of generic netlink, which may have a header of its own, and
-//!   attributes. [`NoUserHeader`]: the header of a family that has none.
+//! - [`Genlmsghdr`]: a command of a family of generic netlink, which may have a header of its own, and attributes.
+//!   [`NoUserHeader`]: the header of a family that has none.
 //! - [`CnMsg`]: a message of the connector, with a payload of any type.
-//! - [`ProcEventHeader`], [`ProcEvent`]: what the connector tells of processes.
+//! - [`ProcEventHeader`], [`ProcEvent`]: the connector's reports of processes.
 //!
 //! ```text
 //!  0    1    2         4           4 + h              n
@@ -16,8 +16,8 @@
 //!  +---------+---------+---------+---------+----+----+---- - - - -+
 //! ```
 //!
-//! All are read with the number of their bytes: `InvalidInput` of it where a part of fixed size is not
-//! there, then the refusal of what follows. A page of `specs/` for each has its fields by their places.
+//! A read takes the number of the body's bytes: `InvalidInput` of it if a part of fixed size is cut short, then the
+//! refusal of what follows. `specs/` has a page for each, with its fields by their places.
 #![tactic(auto)]
 
 mod cn_msg;

@@ -8,7 +8,7 @@ ghost use Rattle.neli_wire.specs.laws.Writing.{written-length, written-no_memory
 use neli_wire::{Cursor, DeError, FromBytes, SerError, Size, ToBytes, TypeSize};
 use std::alloc::Global;
 
-/// No header of a family's own: no bytes.
+/// No header of the family's own: no bytes.
 #[derive(Clone, Copy, Debug, PartialEq, Eq)]
 pub struct NoUserHeader;
 

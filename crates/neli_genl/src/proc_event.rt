@@ -37,7 +37,7 @@ pub enum ProcEvent {
         /// The number of its process, which all its threads share.
         process_tgid: i32,
     },
-    /// A process has other user numbers, the real one and the effective one.
+    /// A process changed its user numbers, the real one and the effective one.
     Uid {
         /// The number of the thread.
         process_pid: i32,
@@ -48,7 +48,7 @@ pub enum ProcEvent {
         /// The effective user.
         euid: u32,
     },
-    /// A process has other group numbers, the real one and the effective one.
+    /// A process changed its group numbers, the real one and the effective one.
     Gid {
         /// The number of the thread.
         process_pid: i32,
@@ -66,7 +66,7 @@ pub enum ProcEvent {
         /// The number of its process, which all its threads share.
         process_tgid: i32,
     },
-    /// A process is traced, or no longer where the tracer's numbers are 0.
+    /// A process is traced; with a tracer's numbers of 0 no longer.
     Ptrace {
         /// The number of the thread.
         process_pid: i32,
@@ -77,7 +77,7 @@ pub enum ProcEvent {
         /// The tracer's process, or 0.
         tracer_tgid: i32,
     },
-    /// A thread has another name: 16 bytes, with zeros after it.
+    /// A thread changed its name.
     Comm {
         /// The number of the thread.
         process_pid: i32,
@@ -117,7 +117,7 @@ pub enum ProcEvent {
 impl From<&ProcEvent> for ProcEventType {
     ghost from_gives = { λ event kind. kind ≡ event_kind event.now };
 
-    /// The type that the event is written with: `NonzeroExit` for an `Exit` of which the code isn't 0.
+    /// The type that the event is written with: `NonzeroExit` for an `Exit` with a code other than 0.
     fn from(event: &ProcEvent) -> ProcEventType {
         match event {
             ProcEvent::Ack { .. } => ProcEventType::None,
@@ -142,7 +142,7 @@ impl Size for ProcEvent {
 
     ghost rounded = { unpadded-rounded event_size };
 
-    /// The sum of the event's fields, in bytes.
+    /// The size of all the event's fields, in bytes.
     fn unpadded_size(&self) -> usize {
         match self {
             ProcEvent::Ack { .. } => 4,
@@ -245,7 +245,7 @@ fn spell_named(a: i32, b: i32, name: &[u8; 16]) -> HeaderBytes
     HeaderBytes::new().i32(a).i32(b).bytes(name)
 }
 
-/// How many bytes a name has.
+/// The size of a name, in bytes.
 fn name_size(name: &[u8; 16]) -> usize
     ensures size { result ≡ length name.now }
     ensures bound { result ≤ 16 }

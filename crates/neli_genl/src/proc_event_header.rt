@@ -95,7 +95,7 @@ impl ToBytes for ProcEventHeader {
     }
 }
 
-/// The event that bytes say. What follows it is skipped.
+/// Reads the event in these bytes. Whatever follows it is skipped.
 fn read_proc_event(alloc: Global, bytes: &[u8]) -> Result<ProcEventHeader, DeError>
     ensures value { IfOk result (λ h. proc_event_of bytes.now ≡ Ok h) }
     ensures refused { IfErr result

@@ -10,7 +10,7 @@ use Rattle.neli_wire.specs.Reading.{◌>>=◌, exact_reading, exact_takes_memory
 use Rattle.neli_wire.specs.Refusals.{Refuses}
 use Rattle.neli_wire.specs.laws.Reading.{bind_ok, ok_is}
 
--- to read as many bytes as there are is to read them all
+-- reading as many bytes as there are reads them all
 pub whole-value : {V : Type 0} (read : List ℕ → Result V DeError) (n : ℕ) (at s left : List ℕ) (v : V) → at ≡ s
     → n ≡ length s → exact_reading read n at ≡ Ok (v, left) → read s ≡ Ok v
 whole-value {V} read n at s left v is len e =
@@ -21,7 +21,7 @@ whole-value {V} read n at s left v is len e =
     let first : V × List ℕ → V = λ p. p.0 in
     b.1 ∙ ap (λ (x : V). Ok x) (ap first (ok_is (b.0, drop n s) (v, left) b.2))
 
--- a refusal is that of the part that is read first
+-- a refusal of the part that is read first is that of the whole
 err-of : {V W : Type 0} (r : Result V DeError) (f : V → W) (e : DeError)
     → ◌≡◌ {A = Result W DeError} (r >>= λ x. Ok (f x)) (Err e) → r ≡ Err e
 err-of (Ok x) f e is = absurd cc

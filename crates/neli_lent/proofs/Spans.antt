@@ -1,4 +1,4 @@
--- What a span says, and what is lent of it.
+-- The message in a span, and the one lent from it.
 use Rattle.std.proofs.Common.{◌≡◌, ℕ, Bool, true, false, List, [], Result, Ok, Err, refl, sym, ap, ◌∙◌, ◌<◌, ◌+◌, arith}
 use Rattle.std.specs.Prelude.{IsErr, nat_lt}
 use Rattle.std.proofs.lemmas.Bool.Decides.{nat_tests}
@@ -34,7 +34,7 @@ span_lent s u e is refused = by (frame_at untyped_layout s) (owned-refused same 
     by (Ok x) h is = cc
     by (Err d) h is = cc
 
--- what is lent becomes what the span says
+-- the lent message becomes the span's message
 pub span_owned : (s r : List ℕ) (m : Lent ℕ) (u : Message ℕ (List ℕ)) → frame_at (lent_message same) s ≡ Ok (m, r)
     → Spells s u → as_owned same same all m ≡ Ok u
 span_owned s r m u lent is =
@@ -50,7 +50,7 @@ payload_same (payload.Capped e) = refl
 payload_same (payload.DumpExtAck e) = refl
 payload_same payload.Empty = refl
 
--- the owned message is what the span says
+-- the owned message is the span's
 pub span_message : (s r : List ℕ) (m : Lent ℕ) (w : Nlmsghdr ℕ (List ℕ)) → frame_at (lent_message same) s ≡ Ok (m, r)
     → as_owned same same all m ≡ Ok (message_of (λ b. b) w)
     → (u : Message ℕ (List ℕ)) → Spells s u → u ≡ (w.header, w.payload)
@@ -58,7 +58,7 @@ span_message s r m w lent owned u is =
     ok_is u (message_of (λ b. b) w) (sym (span_owned s r m u lent is) ∙ owned)
     ∙ ap (λ (p : NlPayload ℕ (List ℕ)). (w.header, p)) (payload_same w.payload)
 
--- what is lent has the span's header
+-- the lent message has the span's header
 pub span_header : (s r : List ℕ) (m : Lent ℕ) (u : Message ℕ (List ℕ)) → frame_at (lent_message same) s ≡ Ok (m, r)
     → Spells s u → u.0 ≡ m.0
 span_header s r m u lent is =
@@ -72,7 +72,7 @@ pub span_body : (s r : List ℕ) (m : Lent ℕ) → frame_at (lent_message same)
     → (u : Message ℕ (List ℕ)) → Spells s u → u ≡ (m.0, payload.Payload m.1)
 span_body s r m lent body u is = ok_is u (m.0, payload.Payload m.1) (sym (span_owned s r m u lent is) ∙ body)
 
--- a length that is refused is too long
+-- a refused length is too long
 pub length_refused : (n : ℕ) (fault : Fault) → own_length n ≡ Err fault → 4294967295 < align (16 + n)
 length_refused n fault is = by (nat_lt 4294967295 (align (16 + n))) refl is
   where

@@ -14,7 +14,7 @@ use Rattle.neli_reader.specs.laws.Messages.{layout_with-placed}
 use Rattle.neli_lent.specs.Attributes.{attributes_at, lent_attribute}
 use Rattle.neli_lent.specs.Messages.{Lent, lent_message, messages_in}
 
--- so many values before others
+-- this many values before others
 abbrev pub counted_after : ℕ → Result ℕ DeError → Result ℕ DeError
 counted_after n (Ok m) = Ok (n + m)
 counted_after n (Err e) = Err e

@@ -1,4 +1,4 @@
--- Attributes whose payloads are lent: the bytes that they were read from.
+-- Attributes with lent payloads: the bytes that they were read from.
 use Rattle.std.specs.Prelude.{ℕ, List, length, option_map, Ok}
 use Rattle.neli_wire.specs.Frames.{Layout}
 use Rattle.neli_wire.specs.Place.{Place, whole}
@@ -7,15 +7,15 @@ use Rattle.neli_attr.specs.Attributes.{Attr, Head, attr, attribute}
 use Rattle.neli_reader.specs.Cuts.{Cut, cut_of}
 use Rattle.neli_lent.specs.declared.attribute.LentAttr.{LentAttr}
 
--- how they lie: as attributes do, each with its payload's bytes
+-- their layout: that of attributes, each with its payload's bytes
 abbrev pub lent_attribute : {K : Type 0} → (ℕ → K) → Layout (Head K) (List ℕ)
 lent_attribute kind_of = attribute kind_of (λ bytes. Ok bytes)
 
--- what one says
+-- an attribute's header and payload
 abbrev pub attribute_said : {K : Type 0} → LentAttr K → Attr K (List ℕ)
 attribute_said a = attr a.len a.kind a.payload.now
 
--- what is left at a place: the attributes, and the fault after them as the whole list is refused with it
+-- the rest at a place: the attributes, and the fault after them, which refuses the whole list
 unfoldable pub attributes_at : {K : Type 0} → (ℕ → K) → Place → Cut (Attr K (List ℕ))
 attributes_at kind_of place =
     let cut = cut_of (lent_attribute kind_of) place.rest in

@@ -1,4 +1,4 @@
--- Messages whose payloads are lent: the bytes that they were read from.
+-- Messages with lent payloads: the bytes that they were read from.
 use Rattle.std.specs.Prelude.{ℕ, List, Result, Ok}
 use Rattle.neli_wire.specs.Bytes.{Reading}
 use Rattle.neli_wire.specs.DeError.{DeError}
@@ -10,25 +10,25 @@ use Rattle.neli_reader.specs.Kinds.{payload_in, payload_takes_memory}
 use Rattle.neli_reader.specs.Messages.{Message, layout_with}
 use Rattle.neli_lent.specs.declared.message.LentMessage.{LentMessage}
 
--- what one says: its header and its payload's bytes
+-- a message as read: its header and its payload's bytes
 abbrev pub Lent : Type 0 → Type 0
 Lent K = Header K × List ℕ
 
--- what this message says
+-- this message's header and payload
 abbrev pub message_said : {K : Type 0} → LentMessage K → Lent K
 message_said m = (m.header, m.payload.now)
 
--- how they lie: as messages do, each with its payload's bytes whatever its kind
+-- their layout: that of messages, each with its payload's bytes whatever its kind
 abbrev pub lent_message : {K : Type 0} → (ℕ → K) → Layout (Header K) (List ℕ)
 lent_message type_of = layout_with type_of (λ _ bytes. Ok bytes)
 
--- what is left of a datagram: messages, and the fault after them
+-- the rest of a datagram: messages, and the fault after them
 unfoldable pub messages_in : {K : Type 0} → (ℕ → K) → List ℕ → Cut (Lent K)
 messages_in type_of s = cut_of (lent_message type_of) s
 
 -- ---- as an owned message
 
--- what one says as an owned message, its payload read by its kind and a body as `read` does; or that refusal
+-- a lent message as an owned one, its payload read by its kind and a body as `read` does; or that refusal
 abbrev pub as_owned : {K V : Type 0} → (ℕ → K) → (K → ℕ) → (List ℕ → Result V DeError) → Lent K
     → Result (Message K V) DeError
 as_owned type_of number_of read m =

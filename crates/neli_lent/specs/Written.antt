@@ -1,4 +1,4 @@
--- Messages that were written, as a walk reads them.
+-- Written messages, as a walk reads them.
 use Rattle.std.specs.Prelude.{◌≡◌, ◌<◌, ℕ, ◌+◌, List, [], ◌∷◌, ◌++◌, length, None, Ok}
 use Rattle.neli_wire.specs.Writing.{Wire, zeros_for}
 use Rattle.neli_reader.specs.Headers.{Header}
@@ -16,7 +16,7 @@ header_numbered number_of h = record {
   port = h.port;
 }
 
--- what stands in its fields fits them
+-- its fields' values fit them
 pub record HeaderFits (h : Header ℕ) : Type 0 where
   pub len : h.len < 4294967296
   pub message_type : h.message_type < 65536

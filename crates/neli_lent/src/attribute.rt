@@ -1,4 +1,4 @@
-//! An attribute whose payload is lent.
+//! An attribute with a lent payload.
 
 ghost use Rattle.std.specs.Prelude.{◌≡◌, [], Ok, Err, IfOk, IfErr, OnOk, OnErr};
 ghost use Rattle.neli_wire.specs.Frames.{frame_at};
@@ -18,7 +18,8 @@ use neli_wire::{
 use std::alloc::Global;
 use std::io::ErrorKind;
 
-/// An attribute with a type field of type `K`, whose payload is the bytes that it was read from.
+/// An attribute with a type field of type `K`, whose payload is the bytes that it was read from: a header of 4 bytes,
+/// `struct nlattr` of linux/netlink.h or `struct rtattr` of linux/rtnetlink.h, and the payload.
 #[derive(Clone, Copy, Debug)]
 pub struct LentAttr<'b, K> {
     len: u16,
@@ -26,10 +27,10 @@ pub struct LentAttr<'b, K> {
     payload: &'b [u8],
 }
 
-/// A generic attribute whose payload is lent: its type field has two flags beside the type.
+/// A generic attribute with a lent payload: its type field has two flags beside the type.
 pub type LentNlattr<'b, T> = LentAttr<'b, AttrType<T>>;
 
-/// A routing attribute whose payload is lent: its type field is the type.
+/// A routing attribute with a lent payload: its type field is the type.
 pub type LentRtattr<'b, T> = LentAttr<'b, T>;
 
 impl<'b, K> LentAttr<'b, K> {
@@ -56,13 +57,11 @@ impl<'b, K> LentAttr<'b, K> {
 }
 
 impl<'b, K: Constant<Number = u16>> LentAttr<'b, K> {
-    /// Reads the attribute that the cursor's rest begins with; its payload stays where it lies. It takes no
-    /// memory.
+    /// Reads the attribute at the cursor; its payload stays in place. It takes no memory.
     ///
-    /// Refused as an owned attribute with a payload of bytes is: `Io(UnexpectedEof)` where the header is not
-    /// there, `InvalidInput(length)` where the stated length is below 4, `InvalidInput(length - 4)` where it
-    /// passes the bytes, and `Io(UnexpectedEof)` where padding is missing. A refusal leaves the cursor where
-    /// it was.
+    /// Refused as an owned attribute with a payload of bytes is: `Io(UnexpectedEof)` if there is no whole header,
+    /// `InvalidInput(length)` if the stated length is below 4, `InvalidInput(length - 4)` if it exceeds the bytes, and
+    /// `Io(UnexpectedEof)` if padding is missing. A refusal leaves the cursor where it was.
     #[inline]
     #[tactic(auto, unfolding(neli_wire::specs::Frames::frame_at))]
     pub fn lend(cursor: &mut Cursor<'b>) -> Result<Self, DeError>
@@ -95,7 +94,7 @@ impl<'b, K: Constant<Number = u16>> LentAttr<'b, K> {
         Ok(LentAttr { len, kind, payload })
     }
 
-    /// The attributes that the payload lists, lent as this one is.
+    /// The attributes that the payload lists, lent in the same way.
     pub fn get_attrs<S: Constant<Number = u16>>(&self) -> LentAttrs<'b, S>
         ensures before { result.before ≡ [] }
         ensures rest { result.rest ≡ self.now.payload.now }
@@ -103,7 +102,7 @@ impl<'b, K: Constant<Number = u16>> LentAttr<'b, K> {
         LentAttrs::new(self.payload)
     }
 
-    /// The value that the payload begins with, whatever follows it.
+    /// The value at the front of the payload, whatever follows it.
     ///
     /// Refused as the type's own read refuses these bytes.
     pub fn get_payload_as<R: FromBytes>(&self, alloc: Global) -> Result<R, DeError>
@@ -129,8 +128,8 @@ impl<'b, K: Constant<Number = u16>> LentAttr<'b, K> {
         read_whole(alloc, self.payload)
     }
 
-    /// The value that the whole payload spells, made of the payload's own bytes: it lives as long as these.
-    /// It takes no memory.
+    /// The value that the whole payload spells. It borrows the payload's bytes, and lives as long as they do. It takes
+    /// no memory.
     ///
     /// Refused as the type's own read refuses these bytes.
     pub fn get_payload_as_with_len_borrowed<R>(&self) -> Result<R, R::Error>

@@ -1,4 +1,4 @@
-//! Walks over attributes whose payloads are lent.
+//! Walks over attributes with lent payloads.
 
 ghost use Rattle.std.specs.Prelude.{◌≡◌, ◌+◌, ◌≤◌, [], None, IfSome, IsNone, OnErr, OnOk, length};
 ghost use Rattle.std.specs.Iterator.{YieldsFirstBy, item_count};
@@ -15,21 +15,20 @@ use neli_wire::implementing::within_input;
 use neli_wire::{Constant, Cursor, DeError};
 use std::marker::{Model, PhantomData};
 
-/// The attributes that bytes list, one after the other, each with a payload that is lent.
+/// The attributes that bytes list, one after the other, each with a lent payload.
 ///
-/// An iterator of results: after the attributes comes the fault of what is left, if it has one, as an owned
-/// list of these bytes is refused with it; after a fault comes nothing. It takes no memory. Contracts see it
-/// as a place in the bytes.
+/// An iterator of results: after the attributes it returns the fault of the rest, if there is one, which is also an
+/// owned list's refusal of these bytes; then nothing. It takes no memory. Contracts see it as a place in the bytes.
 #[derive(Drop)]
 pub struct LentAttrs<'b, K> {
     cursor: Cursor<'b>,
     of: PhantomData<K>,
 }
 
-/// Generic attributes whose payloads are lent.
+/// Generic attributes with lent payloads.
 pub type LentNlattrs<'b, T> = LentAttrs<'b, AttrType<T>>;
 
-/// Routing attributes whose payloads are lent.
+/// Routing attributes with lent payloads.
 pub type LentRtattrs<'b, T> = LentAttrs<'b, T>;
 
 impl<'b, K> Model for LentAttrs<'b, K> {
@@ -50,7 +49,7 @@ impl<'b, K: Constant<Number = u16>> LentAttrs<'b, K> {
         }
     }
 
-    /// The next attribute, or the fault of what is left, or the end.
+    /// The next attribute, or the fault of the rest, or the end.
     #[inline]
     fn step(&mut self) -> Option<Result<LentAttr<'b, K>, DeError>>
         ensures cut { attributes_at K.wire_value self.old
@@ -86,9 +85,9 @@ impl<'b, K: Constant<Number = u16>> LentAttrs<'b, K> {
         }
     }
 
-    /// The first of the attributes that are left with this type; the walk stays where it is.
+    /// The first of the remaining attributes with this type; the walk stays where it is.
     ///
-    /// Refused with the fault of what is left, where no such attribute stands before it.
+    /// Refused with the fault of the rest, if no such attribute stands before it.
     pub fn get_attribute<S: AttrSelector<K>>(
         &self,
         t: S,
@@ -106,9 +105,9 @@ impl<'b, K: Constant<Number = u16>> LentAttrs<'b, K> {
         Ok(None)
     }
 
-    /// How many attributes are left; the walk stays where it is.
+    /// The number of remaining attributes; the walk stays where it is.
     ///
-    /// Refused with the fault of what is left, if it has one.
+    /// Refused with the fault of the rest, if there is one.
     pub fn try_count(&self) -> Result<usize, DeError>
         ensures { result ≡ count_of (attributes_at K.wire_value self.now) }
     {
@@ -125,12 +124,12 @@ impl<'b, K: Constant<Number = u16>> LentAttrs<'b, K> {
 }
 
 impl<'b, T: RtaType> LentAttrs<'b, T> {
-    /// The first of the attributes that are left whose number is that of this type, whatever its two highest bits are;
-    /// the walk stays where it is. These are the flags `NLA_F_NESTED` and `NLA_F_NET_BYTEORDER`, which a routing
-    /// attribute has in its type and some kernels set.
+    /// The first of the remaining attributes with the number of this type, whatever its two highest bits are; the walk
+    /// stays where it is. These are the flags `NLA_F_NESTED` and `NLA_F_NET_BYTEORDER`; a routing attribute has them in
+    /// its type, and some kernels set them.
     ///
-    /// A type with a number of 16384 or more is never found. Refused with the fault of what is left, where no such
-    /// attribute stands before it.
+    /// A type with a number of 16384 or more is never found. Refused with the fault of the rest, if no such attribute
+    /// stands before it.
     pub fn get_attribute_masked(&self, t: T) -> Result<Option<LentAttr<'b, T>>, DeError>
         ensures { map_found attribute_said result
             ≡ find_in (λ a. is_masked T.wire_number t a.0.kind)

@@ -1,5 +1,5 @@
-//! Laws of what is lent, over the definitions, and what walks and selectors say of themselves. The calls do nothing: their
-//! contracts are the laws.
+//! Laws of lent values, over the definitions, and what walks and selectors state about themselves. The calls do
+//! nothing: their contracts are the laws.
 
 ghost use Rattle.std.specs.Iterator.{YieldsFirstBy};
 ghost use Rattle.std.specs.Prelude.{◌≡◌, ◌+◌, ℕ, List, [], None, Some, Ok, Err, IsErr, length};
@@ -23,8 +23,8 @@ use neli_consts::{NlAttrType, NlType};
 use neli_consts_attrs::RtaType;
 use neli_wire::{Constant, FromBytesWithInput, ToBytes};
 
-/// Where a message is lent, reading the same bytes as an owned message gives what the lent one becomes, or
-/// its refusal, and leaves the same bytes. Where lending is refused, so is reading.
+/// If a message is lent, reading the same bytes as an owned message gives what the lent one becomes, or its refusal,
+/// and leaves the same bytes. If lending is refused, so is reading.
 pub fn lent_message_becomes_what_is_read<T: NlType, P: FromBytesWithInput>()
     ensures read { (s r : List ℕ) (m : Lent T) → frame_at (lent_message T.wire_value) s ≡ Ok (m, r)
         → frame_at (message_layout T.wire_value T.wire_number P.read) s
@@ -33,9 +33,9 @@ pub fn lent_message_becomes_what_is_read<T: NlType, P: FromBytesWithInput>()
         → IsErr (frame_at (message_layout T.wire_value T.wire_number P.read) s) }
 {}
 
-/// A message is written as one frame: where the numbers of its header fit their fields, and it states its own length
-/// rounded up to four, a walk of what is written gives one message, with that header and the payload's bytes and zeros
-/// up to a multiple of four, and no fault.
+/// A message is written as one frame: if the numbers of its header fit their fields, and it states its own length
+/// rounded up to four, a walk over the written bytes gives one message, with that header and the payload's bytes and
+/// zeros up to a multiple of four, and no fault.
 pub fn written_message_is_walked<T: NlType, P: ToBytes>()
     ensures { (m : Message T P) (bytes : List ℕ)
         → HeaderFits (header_numbered T.wire_number m.header)
@@ -44,8 +44,7 @@ pub fn written_message_is_walked<T: NlType, P: ToBytes>()
         → IsWalked T.wire_number P.wire m bytes }
 {}
 
-/// The attributes that are lent one by one are those of the owned list of the same bytes; where a fault comes
-/// after them, the list is refused with that fault.
+/// The attributes lent one by one are those of the owned list of the same bytes; a fault after them refuses that list.
 pub fn lent_attributes_are_the_list<K: Constant<Number = u16>>()
     ensures read { (s : List ℕ) (attrs : List (Attr K (List ℕ)))
         → attributes_at K.wire_value (record { before = []; rest = s }) ≡ (attrs, None)
@@ -55,8 +54,8 @@ pub fn lent_attributes_are_the_list<K: Constant<Number = u16>>()
         → attributes_in K.wire_value s ≡ Err e }
 {}
 
-/// A step of a walk gives the first of what is left, an attribute or a message or else the fault, and leaves what follows
-/// it; it gives the end where nothing is left.
+/// A step of a walk gives the first item of the rest, an attribute or a message or else the fault, and leaves what
+/// follows it; it gives the end if nothing is left.
 pub fn walks_give_what_is_left<K: Constant<Number = u16>, T: NlType>()
     ensures attributes { StepsOnly ⟦<LentAttrs<'static, K> as Iterator>⟧.next_gives
         (YieldsFirstBy (map_ok attribute_said) (λ place. items_of (attributes_at K.wire_value place))) }
@@ -64,7 +63,7 @@ pub fn walks_give_what_is_left<K: Constant<Number = u16>, T: NlType>()
         (YieldsFirstBy (map_ok message_said) (λ s. items_of (messages_in T.wire_value s))) }
 {}
 
-/// A generic attribute is looked up by its type without the flags, a routing one by its whole type.
+/// A generic attribute is found by its type without the flags, a routing one by its whole type.
 pub fn attributes_are_looked_up_by_type<T: NlAttrType, R: RtaType>()
     ensures generic { (t : T) (field : Field T) → ⟦<T as AttrSelector<AttrType<T>>>⟧.selects t field
         ≡ T.eq field.nla_type t }

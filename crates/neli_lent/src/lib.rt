@@ -1,18 +1,18 @@
-//! Messages and attributes that are read without a copy: their payloads are the bytes that they were read from.
+//! Messages and attributes read without a copy: their payloads are the bytes that they were read from.
 //!
 //! - [`LentMessages`] walks the messages of a datagram, and [`LentMessage`] is one: its header, and its
 //!   payload's bytes. It becomes an owned, typed message by `to_nlmsghdr`.
 //! - [`LentAttrs`] walks attributes, generic or routing ones by the type of their type field, and
 //!   [`LentAttr`] is one. [`LentNlattrs`] and [`LentRtattrs`] are names for the two.
-//! - [`FromSpan`]: `Nlmsghdr::<T, P>::from_span` reads the bytes of one message as types of a caller's, with its
-//!   lengths computed.
-//! - [`AttrSelector`]: what an attribute is looked up by.
-//! - [`laws`]: what is lent is what is read as owned values, or refused with it.
+//! - [`FromSpan`]: `Nlmsghdr::<T, P>::from_span` reads the bytes of one message as the caller's types, with its lengths
+//!   computed.
+//! - [`AttrSelector`]: the types that find attributes.
+//! - [`laws`]: lent values are those read as owned values, or refused with them.
 //!
-//! Both walks are iterators over results. They take no allocator, and memory never runs out: an error is the
-//! first fault of the bytes, comes once, and nothing comes after it.
+//! Both walks are iterators over results. They take no allocator, and memory never runs out: the only error is the
+//! first fault of the bytes; it comes once, and nothing after it.
 //!
-//! What a walk gives is stated in `specs/`, by the same frames and cuts as the owned reads.
+//! `specs/` states what a walk gives, by the same frames and cuts as the owned reads.
 #![tactic(auto)]
 
 mod attribute;

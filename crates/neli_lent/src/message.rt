@@ -1,4 +1,4 @@
-//! A message whose payload is lent.
+//! A message with a lent payload.
 
 ghost use Rattle.std.specs.Prelude.{◌≡◌, ◌≢◌, ◌↔◌, [], Ok, Err, IfOk, IfErr, IsTrue, OnOk, OnErr};
 ghost use Rattle.neli_wire.specs.Frames.{frame_at};
@@ -17,7 +17,8 @@ use neli_wire::{Constant, Cursor, DeError, FromBytesWithInput, Header, alignto};
 use std::alloc::Global;
 use std::io::ErrorKind;
 
-/// A message whose payload is the bytes that it was read from, whatever its kind.
+/// A message whose payload is the bytes that it was read from, whatever its kind: `struct nlmsghdr` of linux/netlink.h,
+/// 16 bytes, and the payload.
 #[derive(Clone, Copy, Debug)]
 pub struct LentMessage<'b, T> {
     header: NlmsghdrAck<T>,
@@ -74,10 +75,10 @@ impl<'b, T> LentMessage<'b, T> {
         self.payload
     }
 
-    /// The attributes after a body's fixed header, as those of a link after its `Ifinfomsg`: `B` is the
-    /// body, of which the size of the header counts.
+    /// The attributes after a body's fixed header, as those of a link after its `Ifinfomsg`: `B` is the body, whose
+    /// header's size is used.
     ///
-    /// Refused as `InvalidInput` of the payload's length where that is shorter than the header.
+    /// Refused as `InvalidInput` of the payload's length if that is shorter than the header.
     pub fn get_attrs<B: Header, K: Constant<Number = u16>>(
         &self,
     ) -> Result<LentAttrs<'b, K>, DeError>
@@ -94,13 +95,11 @@ impl<'b, T> LentMessage<'b, T> {
 }
 
 impl<'b, T: NlType> LentMessage<'b, T> {
-    /// Reads the message that the cursor's rest begins with; its payload stays where it lies. It takes no
-    /// memory.
+    /// Reads the message at the cursor; its payload stays in place. It takes no memory.
     ///
-    /// The first fault that holds refuses it: `Io(UnexpectedEof)` where the header is not there,
-    /// `InvalidInput(length)` where the stated length is below 16, `InvalidInput(length - 16)` where it
-    /// passes the bytes; then `Io(UnexpectedEof)` where padding is missing. A refusal leaves the cursor
-    /// where it was.
+    /// The first fault refuses it: `Io(UnexpectedEof)` if there is no whole header, `InvalidInput(length)` if the
+    /// stated length is below 16, `InvalidInput(length - 16)` if it exceeds the bytes; then `Io(UnexpectedEof)` if
+    /// padding is missing. A refusal leaves the cursor where it was.
     #[inline]
     #[tactic(auto, unfolding(neli_wire::specs::Frames::frame_at))]
     pub fn lend(cursor: &mut Cursor<'b>) -> Result<Self, DeError>
@@ -131,8 +130,7 @@ impl<'b, T: NlType> LentMessage<'b, T> {
         Ok(LentMessage { header, payload })
     }
 
-    /// The message as an owned one, its payload read by its kind: the same as reading it as a
-    /// `Nlmsghdr<T, P>` at once.
+    /// The message as an owned one, its payload read by its kind: the same as reading a `Nlmsghdr<T, P>` directly.
     ///
     /// Refused as that payload is refused.
     pub fn to_nlmsghdr<P: FromBytesWithInput>(
@@ -155,8 +153,8 @@ impl<'b, T: NlType> LentMessage<'b, T> {
 }
 
 impl<'b> LentMessage<'b, u16> {
-    /// Whether the type alone says that the payload is a body: so it is for all types but 2 (`NLMSG_ERROR`)
-    /// and 3 (`NLMSG_DONE`). It takes no memory.
+    /// Whether the type alone makes the payload a body: true for all types but 2 (`NLMSG_ERROR`) and 3 (`NLMSG_DONE`).
+    /// It takes no memory.
     pub fn has_plain_body(&self) -> bool
         ensures body { IsTrue result
             → as_owned (λ n. n) (λ n. n) (λ bytes. Ok bytes) (message_said self.now)
@@ -168,7 +166,7 @@ impl<'b> LentMessage<'b, u16> {
         number != NLMSG_ERROR && number != NLMSG_DONE
     }
 
-    /// The same message with the type that its number means. It takes no memory.
+    /// The same message with the meaning of its type's number. It takes no memory.
     pub fn to_typed<T: NlType>(&self) -> LentMessage<'b, T>
         ensures header { result.header ≡ typed_header T.wire_value self.now.header }
         ensures payload { result.payload.now ≡ self.now.payload.now }

@@ -1,4 +1,4 @@
-//! The walk over a datagram's messages, whose payloads are lent.
+//! The walk over a datagram's messages, with lent payloads.
 
 ghost use Rattle.std.specs.Prelude.{◌≡◌, ◌+◌, ◌≤◌, ℕ, List, [], None, IfSome, IsNone, OnOk, OnErr, length};
 ghost use Rattle.std.specs.Iterator.{YieldsFirstBy, item_count};
@@ -10,10 +10,10 @@ use neli_consts::NlType;
 use neli_wire::{Cursor, DeError};
 use std::marker::{Model, PhantomData};
 
-/// The messages of a datagram, one after the other, each with a payload that is lent.
+/// The messages of a datagram, one after the other, each with a lent payload.
 ///
-/// An iterator of results: after the messages comes the fault of what is left, if it has one; after a fault
-/// comes nothing. It takes no memory. Contracts see it as the bytes that it still has to read.
+/// An iterator of results: after the messages it returns the fault of the rest, if there is one; then nothing. It takes
+/// no memory. Contracts see it as the bytes still to be read.
 #[derive(Drop)]
 pub struct LentMessages<'b, T> {
     cursor: Cursor<'b>,
@@ -37,7 +37,7 @@ impl<'b, T: NlType> LentMessages<'b, T> {
         }
     }
 
-    /// The next message, or the fault of what is left, or the end.
+    /// The next message, or the fault of the rest, or the end.
     #[inline]
     fn step(&mut self) -> Option<Result<LentMessage<'b, T>, DeError>>
         ensures cut { messages_in T.wire_value self.old
@@ -59,8 +59,8 @@ impl<'b, T: NlType> LentMessages<'b, T> {
         }
     }
 
-    /// The bytes that it still has to read. What is asked of before [`next`](Iterator::next) tells where a message, or
-    /// the fault, begins: as many bytes before the datagram's end as there are here.
+    /// The bytes still to be read. Call it before [`next`](Iterator::next) to find where that message or fault begins:
+    /// as many bytes before the datagram's end as it returns.
     pub fn rest(&self) -> &'b [u8]
         ensures { result.now ≡ self.now }
     {

@@ -1,4 +1,4 @@
-//! What attributes are looked up by.
+//! The types that find attributes.
 
 ghost use Rattle.std.specs.Prelude.{◌≡◌, Bool};
 ghost use Rattle.neli_attr.specs.Lookup.{is_masked};
@@ -11,14 +11,14 @@ use neli_wire::Constant;
 /// The bits of a type field that are the type itself (`NLA_TYPE_MASK` of `linux/netlink.h`).
 const TYPE_MASK: u16 = 0x3fff;
 
-/// A type by which attributes are looked up whose type field is a `K`.
+/// A type that finds attributes whose type field is a `K`.
 ///
-/// A generic attribute is looked up by its type without the flags, a routing one by its whole type.
+/// A generic attribute is found by its type without the flags, a routing one by its whole type.
 pub trait AttrSelector<K>: Copy {
-    // Whether an attribute with this type field is meant.
+    // Whether an attribute with this type field is selected.
     ghost selects: { Self → K → Bool };
 
-    /// Whether an attribute with this type field is meant.
+    /// Whether an attribute with this type field is selected.
     fn selects(&self, field: &K) -> bool
         ensures { result ≡ selects self.now field.now };
 }
@@ -39,7 +39,7 @@ impl<T: RtaType> AttrSelector<T> for T {
     }
 }
 
-/// A routing type by whose number attributes are looked up, whatever the two flags above it are.
+/// A routing type that finds attributes by its number, whatever the two flags above it are.
 #[derive(Clone, Copy)]
 pub(crate) struct Masked<T>(pub(crate) T);
 

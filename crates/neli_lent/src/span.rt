@@ -1,4 +1,4 @@
-//! A message that is read from its own bytes as types of a caller's.
+//! A message that is read from its own bytes as the caller's types.
 
 ghost use Rattle.std.specs.Prelude.{◌≡◌, ◌≢◌, ℕ, List, Err, Ok, IfOk, IfErr};
 ghost use Rattle.neli_wire.specs.Sizes.{align};
@@ -43,12 +43,12 @@ fn with_body<T: NlType, P: FromBytesWithInput + Size>(
     }
 }
 
-/// What is read of the bytes of one message, from its header to the end of its padding.
+/// A value read from the bytes of one message, from its header to the end of its padding.
 pub trait FromSpan: Sized {
     /// Why the bytes are refused.
     type Error;
 
-    /// The value of these bytes, which are one message that can be read untyped.
+    /// The value of these bytes, which must be one message that can be read untyped.
     fn from_span(alloc: Global, span: &[u8]) -> Result<Self, Self::Error>
         requires { IsSpan span.now };
 }
@@ -56,13 +56,13 @@ pub trait FromSpan: Sized {
 impl<T: NlType, P: FromBytesWithInput + Size> FromSpan for Nlmsghdr<T, P> {
     type Error = RouterError<T, P>;
 
-    /// The message that a span is, from its header to the end of its padding, with the types that numbers mean, and its
-    /// body's or its echoed payload's bytes read as `P`: the same as reading it untyped and retyping that. A body is read
-    /// where it lies.
+    /// The message of a span, from its header to the end of its padding, with the meanings of its numbers, and its
+    /// body's or its echoed payload's bytes read as `P`: the same as reading it untyped and retyping that. A body is
+    /// read in place.
     ///
-    /// Lengths are computed anew. Refused with the refusal of these bytes as [`RouterError::De`], as [`RouterError::Msg`]
-    /// where a length passes 32 bits, or as [`RouterError::Memory`], of a body of another type than 2 and 3 only where reading
-    /// it takes memory.
+    /// Lengths are computed anew. Refused with the refusal of these bytes as [`RouterError::De`], as
+    /// [`RouterError::Msg`] if a length exceeds 32 bits, or as [`RouterError::Memory`]; for a body of another type than
+    /// 2 and 3, that only if reading it takes memory.
     fn from_span(alloc: Global, span: &[u8]) -> Result<Nlmsghdr<T, P>, RouterError<T, P>>
         requires { IsSpan span.now }
         ensures value { (u : Message ℕ (List ℕ)) → Spells span.now u → IfOk result
@@ -75,7 +75,7 @@ impl<T: NlType, P: FromBytesWithInput + Size> FromSpan for Nlmsghdr<T, P> {
         ensures refused { (u : Message ℕ (List ℕ)) → Spells span.now u → IfErr result
             (RefusesTyping (typed_payload T.wire_value P.read u.1)
             (IsMessageTooLong P.view P.wire_length P.read T.wire_value u.1)) }
-        // A body of another type than 2 and 3 is read where it lies.
+        // A body of another type than 2 and 3 is read in place.
         ensures memory { (u : Message ℕ (List ℕ)) (bytes : List ℕ) → Spells span.now u
             → u.0.message_type ≢ 2 → u.0.message_type ≢ 3 → u.1 ≡ payload.Payload bytes
             → result ≡ Err RouterError.Memory → P.takes_memory bytes }
@@ -88,7 +88,7 @@ impl<T: NlType, P: FromBytesWithInput + Size> FromSpan for Nlmsghdr<T, P> {
         if message.has_plain_body() {
             return with_body(alloc, message.header(), message.nl_payload());
         }
-        // All that refuses it is that memory ran out.
+        // Only running out of memory refuses it.
         match message.to_nlmsghdr::<Buffer>(alloc) {
             Ok(message) => message.to_typed(alloc),
             Err(_) => Err(RouterError::Memory),

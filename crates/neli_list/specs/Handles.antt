@@ -1,14 +1,14 @@
--- Handles: attributes in which one is looked up, owned or lent.
+-- Handles: attributes for look-ups, owned or lent.
 use Rattle.std.specs.Prelude.{◌≡◌, List}
 use Rattle.neli_list.specs.declared.handle.AttrHandle.{AttrHandle}
 use Rattle.neli_list.specs.declared.handle.AttrHandle.TheVariants.{Owned, Borrowed}
 
--- the attributes of a handle, where this is what its list holds
+-- the attributes of a handle, by the function that gives those of an owned list
 abbrev pub attrs_by : {O I : Type 0} → (O → List I) → AttrHandle O I → List I
 attrs_by attrs_of (Owned list) = attrs_of list
 attrs_by attrs_of (Borrowed attrs) = attrs.now
 
--- the same where the list is seen as its attributes
+-- the same where an owned list is seen as its attributes
 abbrev pub attrs_in : {I : Type 0} → AttrHandle (List I) I → List I
 attrs_in = attrs_by (λ list. list)
 

@@ -1,4 +1,4 @@
--- Payloads: what their bytes are read as.
+-- Payloads: the values read from their bytes.
 use Rattle.std.specs.Prelude.{◌≡◌, ℕ, List, Result, Ok}
 use Rattle.neli_wire.specs.Bytes.{Reading}
 use Rattle.neli_wire.specs.Refusals.{Refuses}
@@ -8,6 +8,6 @@ use Rattle.neli_wire.specs.DeError.{DeError}
 abbrev pub ReadsFirst : {V : Type 0} → Reading V → V → Type 0
 ReadsFirst reading v = (rest : List ℕ) × (reading ≡ Ok (v, rest))
 
--- e is what the reading's refusal becomes; memory does not run out
+-- e is the error that the reading's refusal becomes; memory does not run out
 abbrev pub RefusesAs : {V E : Type 0} → (DeError → E → Type 0) → Result V DeError → E → Type 0
 RefusesAs becomes reading e = (d : DeError) × becomes d e × Refuses reading ⊥ d

@@ -21,8 +21,8 @@ use std::marker::Model;
 use std::slice::{Iter, IterMut};
 use std::vec::IntoIter;
 
-/// A list of values, written one after the other, each with its own padding. Contracts see it as the
-/// list of its values.
+/// A list of values, written one after the other, each with its own padding. Contracts see it as the list of its
+/// values.
 #[derive(Debug, Drop)]
 pub struct FrameList<I> {
     items: Vec<I>,
@@ -46,7 +46,7 @@ impl<I> FrameList<I> {
         }
     }
 
-    /// The list of these values, which it takes over. It takes no memory.
+    /// The list with these values, which it takes over. It takes no memory.
     pub fn from_list(items: Vec<I>) -> Self
         ensures { result ≡ items.items }
     {
@@ -55,7 +55,7 @@ impl<I> FrameList<I> {
 
     /// Appends a value.
     ///
-    /// Refused only where memory runs out: then the list is as it was, and the value is given up.
+    /// Refused only if memory runs out: then the list is as it was, and the value is dropped.
     pub fn push(&mut self, item: I) -> Result<(), NoMemory>
     where
         I: Drop,
@@ -66,7 +66,7 @@ impl<I> FrameList<I> {
         Ok(())
     }
 
-    /// Takes the last value out, if there is one.
+    /// Removes and returns the last value; `None` for an empty list.
     pub fn pop(&mut self) -> Option<I>
         ensures last { self.old ≡ self.new ++ option_to_list result }
         ensures found { IsSome result ↔ (0 < length self.old) }
@@ -81,7 +81,7 @@ impl<I> FrameList<I> {
         self.items.iter()
     }
 
-    /// The values in their order, to be changed.
+    /// The values in their order, mutable.
     pub fn iter_mut(&mut self) -> IterMut<'_, I>
         ensures* writes_back { sem 𝓛 (LendsIter I.row self.entry result) }
         ensures rest { iter_mut_rest result ≡ self.old }
@@ -89,7 +89,7 @@ impl<I> FrameList<I> {
         self.items.iter_mut()
     }
 
-    /// How many values there are.
+    /// The number of values.
     pub fn len(&self) -> usize
         ensures { result ≡ length self.now }
     {
@@ -110,7 +110,7 @@ impl<I> FrameList<I> {
         self.items.as_slice()
     }
 
-    /// The values, lent to be changed.
+    /// The values, lent mutably.
     pub fn as_mut(&mut self) -> &mut [I]
         ensures* writes_back { sem 𝓛 (LendsList I.row self.entry result) }
         ensures value { result.now ≡ self.old }
@@ -122,7 +122,7 @@ impl<I> FrameList<I> {
 impl<I: TryClone> FrameList<I> {
     /// A list of equal values.
     ///
-    /// Refused only where memory runs out: that of a list without values never is.
+    /// Refused only if memory runs out; a list without values takes none.
     pub fn try_clone(&self) -> Result<Self, NoMemory>
         ensures value { IfOk result (λ list. list ≡ self.now) }
         ensures memory { OnErr result (0 < length self.now) }

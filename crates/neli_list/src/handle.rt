@@ -1,4 +1,4 @@
-//! Attributes that are looked up, owned or lent.
+//! Handles: attributes for look-ups, owned or lent.
 
 ghost use Rattle.std.specs.Prelude.{◌≡◌, ◌<◌, ℕ, List, Ok, IfErr, IfOk, OnErr, length, map};
 ghost use Rattle.std.specs.Option.{option_copied};
@@ -42,26 +42,26 @@ pub trait TypedPayload {
         ensures { result.now ≡ bytes_of self.now };
 }
 
-/// Attributes of one kind, which have attributes of the same kind with types `S` inside their payloads.
+/// Attributes whose payloads can hold attributes of the same kind with types `S`.
 pub trait Retyped<S> {
     /// The same kind of attribute with a type of type `S`.
     type Attr: FromBytes;
 }
 
-/// Attributes of which the type is a number, and which become those with what the number means.
+/// Attributes whose type is a number, and that become attributes with the number's meaning.
 pub trait ToTyped<T> {
     /// The same kind of attribute with a type of type `T`.
     type Typed;
 
-    // The attribute with what the number of its type means.
+    // The attribute with the meaning of its type's number.
     ghost typed: { Self → Self.Typed };
 
     // Where typing takes memory: that of the copied payload.
     ghost typing_takes_memory: { Self → Type 0 };
 
-    /// The same attribute with what the number of its type means.
+    /// The same attribute with the meaning of its type's number.
     ///
-    /// Refused only where memory runs out, and only where typing takes some.
+    /// Refused only if memory runs out, and only where typing takes some.
     fn to_typed(&self) -> Result<Self::Typed, NoMemory>
         ensures value { IfOk result (λ a. a ≡ typed self.now) }
         ensures memory { OnErr result (typing_takes_memory self.now) };
@@ -85,12 +85,12 @@ impl<I> AttrSlice<I> for FrameList<I> {
     }
 }
 
-/// Attributes in which one is looked up: a list of its own, or one that is lent.
+/// Attributes for look-ups: an owned list, or lent attributes.
 #[derive(Drop)]
 pub enum AttrHandle<'a, O, I> {
-    /// A list of its own.
+    /// An owned list.
     Owned(O),
-    /// Attributes that are lent.
+    /// Lent attributes.
     Borrowed(&'a [I]),
 }
 
@@ -105,7 +105,7 @@ impl<'a, O: AttrSlice<I>, I> AttrHandle<'a, O, I> {
         AttrHandle::Owned(owned)
     }
 
-    /// A handle of attributes that are lent to it.
+    /// A handle to lent attributes.
     pub fn new_borrowed(borrowed: &'a [I]) -> Self
         ensures lent { IsLent borrowed.now result }
         ensures attrs { attrs_by O.attrs_of result ≡ borrowed.now }
@@ -134,7 +134,7 @@ impl<'a, O: AttrSlice<I>, I> AttrHandle<'a, O, I> {
 impl<'a, O: AttrSlice<I>, I: TypedPayload> AttrHandle<'a, O, I> {
     ghost use Rattle.neli_list.specs.Handles.{attrs_by, attrs_in};
 
-    /// The first attribute of this type. Types are compared as their `==` compares them.
+    /// The first attribute of this type, by the `==` of types.
     pub fn get_attribute(&self, t: I::Kind) -> Option<&I>
         ensures { option_copied result
             ≡ first_of_type I.type_of I.Kind.eq t (attrs_by O.attrs_of self.now) }
@@ -142,8 +142,8 @@ impl<'a, O: AttrSlice<I>, I: TypedPayload> AttrHandle<'a, O, I> {
         self.get_attrs().iter().find(|attr| *attr.own_type() == t)
     }
 
-    /// The first attribute whose number is that of this type, whatever its two highest bits are. These are the flags
-    /// `NLA_F_NESTED` and `NLA_F_NET_BYTEORDER`, which a routing attribute has in its type and some kernels set.
+    /// The first attribute with the number of this type, whatever its two highest bits are. These are the flags
+    /// `NLA_F_NESTED` and `NLA_F_NET_BYTEORDER`; a routing attribute has them in its type, and some kernels set them.
     ///
     /// A type with a number of 16384 or more is never found.
     pub fn get_attribute_masked(&self, t: I::Kind) -> Option<&I>
@@ -160,7 +160,7 @@ impl<'a, O: AttrSlice<I>, I: TypedPayload> AttrHandle<'a, O, I> {
 
     /// The attributes that the payload of the first attribute of this type lists.
     ///
-    /// Refused with a `DeError::Msg` where there is none; else as the payload is refused as a list.
+    /// Refused with a `DeError::Msg` if no attribute has this type; otherwise as the list refuses the payload.
     pub fn get_nested_attributes<S>(
         &self,
         alloc: Global,
@@ -181,9 +181,9 @@ impl<'a, O: AttrSlice<I>, I: TypedPayload> AttrHandle<'a, O, I> {
         }
     }
 
-    /// The value that the payload of the first attribute of this type begins with.
+    /// The value at the front of the payload of the first attribute of this type.
     ///
-    /// Refused with a `DeError::Msg` where there is none; else as the type's read refuses the payload.
+    /// Refused with a `DeError::Msg` if no attribute has this type; otherwise as the value's read refuses the payload.
     pub fn get_attr_payload_as<R: FromBytes>(
         &self,
         alloc: Global,
@@ -205,7 +205,7 @@ impl<'a, O: AttrSlice<I>, I: TypedPayload> AttrHandle<'a, O, I> {
 
     /// The value that the whole payload of the first attribute of this type spells.
     ///
-    /// Refused with a `DeError::Msg` where there is none; else as the type's read refuses the payload.
+    /// Refused with a `DeError::Msg` if no attribute has this type; otherwise as the value's read refuses the payload.
     pub fn get_attr_payload_as_with_len<R: FromBytesWithInput>(
         &self,
         alloc: Global,
@@ -225,10 +225,10 @@ impl<'a, O: AttrSlice<I>, I: TypedPayload> AttrHandle<'a, O, I> {
         }
     }
 
-    /// The value that the whole payload of the first attribute of this type spells, made of the payload's
-    /// own bytes: it lives as long as the handle is lent for this call. It takes no memory.
+    /// The value that the whole payload of the first attribute of this type spells. It borrows the payload, so it lives
+    /// as long as this borrow of the handle. It takes no memory.
     ///
-    /// Refused with a `DeError::Msg` where there is none; else as the type's read refuses the payload.
+    /// Refused with a `DeError::Msg` if no attribute has this type; otherwise as the value's read refuses the payload.
     pub fn get_attr_payload_as_with_len_borrowed<'b, R>(
         &'b self,
         attr: I::Kind,
@@ -254,7 +254,7 @@ impl<'a, O: AttrSlice<I>, I: TypedPayload> AttrHandle<'a, O, I> {
 impl<I: TypedPayload> FrameList<I> {
     ghost use Rattle.neli_list.specs.Handles.{IsLent};
 
-    /// A handle of these attributes, which are lent to it. It takes no memory.
+    /// A handle that borrows these attributes. It takes no memory.
     pub fn get_attr_handle(&self) -> AttrHandle<'_, FrameList<I>, I>
         ensures { IsLent self.now result }
     {
@@ -265,9 +265,9 @@ impl<I: TypedPayload> FrameList<I> {
 impl<I> FrameList<I> {
     ghost use Rattle.neli_list.specs.Handles.{IsOwner};
 
-    /// A handle of copies of these attributes, of which each type is what its number means.
+    /// A handle with copies of these attributes, each type by its number's meaning.
     ///
-    /// Refused only where memory runs out, and never where there are no attributes.
+    /// Refused only if memory runs out, and never where there are no attributes.
     pub fn get_typed_attr_handle<T>(
         &self,
         alloc: Global,

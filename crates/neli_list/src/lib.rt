@@ -1,11 +1,11 @@
-//! Lists of values that are written and read one after the other, such as attributes and messages, and
-//! handles by which attributes are looked up in them.
+//! Lists of values that are written and read one after the other, such as attributes and messages, and handles that
+//! find attributes in them.
 //!
 //! - [`FrameList`]: the list, of any values. [`TryClone`]: values that are copied with their list.
-//! - [`AttrHandle`]: a list of its own, or one that is lent, in which attributes are looked up.
-//! - [`TypedPayload`], [`Retyped`], [`ToTyped`]: what a handle asks of its attributes.
-//! - [`read_first`], [`read_whole`], [`read_borrowed`]: what a payload is read as.
-//! - [`laws`]: what lists say of themselves.
+//! - [`AttrHandle`]: an owned list or lent attributes, with look-ups.
+//! - [`TypedPayload`], [`Retyped`], [`ToTyped`]: what a handle requires of its attributes.
+//! - [`read_first`], [`read_whole`], [`read_borrowed`]: values read from a payload.
+//! - [`laws`]: what lists state about themselves.
 #![tactic(auto)]
 
 mod frame_list;

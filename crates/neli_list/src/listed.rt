@@ -9,9 +9,9 @@ use crate::{AttrHandle, FrameList, read_whole};
 use neli_wire::{DeError, FromBytes};
 use std::alloc::Global;
 
-/// A handle of the values that a whole payload lists, which it owns.
+/// A handle that owns the values listed by a whole payload.
 ///
-/// Refused as the payload is refused as a list.
+/// Refused as the list refuses the payload.
 pub fn handle_of_payload<'a, I: FromBytes>(
     alloc: Global,
     payload: &[u8],

@@ -7,7 +7,7 @@ ghost use Rattle.neli_list.specs.Payloads.{ReadsFirst, RefusesAs};
 use neli_wire::{Cursor, DeError, FromBytes, FromBytesWithInput, FromBytesWithInputBorrowed};
 use std::alloc::Global;
 
-/// The value that the payload begins with, whatever follows it.
+/// The value at the front of the payload, whatever follows it.
 ///
 /// Refused as the type's own read refuses these bytes.
 pub fn read_first<R: FromBytes>(alloc: Global, payload: &[u8]) -> Result<R, DeError>
@@ -27,7 +27,7 @@ pub fn read_whole<R: FromBytesWithInput>(alloc: Global, payload: &[u8]) -> Resul
     R::from_bytes_with_input(alloc, &mut Cursor::new(payload), payload.len())
 }
 
-/// The value that the whole payload spells, made of the payload's own bytes. It takes no memory.
+/// The value that the whole payload spells, borrowed from the payload. It takes no memory.
 ///
 /// Refused as the type's own read refuses these bytes.
 pub fn read_borrowed<'a, R>(payload: &'a [u8]) -> Result<R, R::Error>

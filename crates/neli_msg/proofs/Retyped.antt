@@ -1,4 +1,4 @@
--- Retyping a whole body, and refusals that are passed on.
+-- Retyping a whole body, and refusals passed on.
 use Rattle.std.proofs.Common.{◌≡◌, ℕ, List, length, Result, Ok, Err, refl, sym, subst, ◌∙◌, arith}
 use Rattle.std.specs.Prelude.{IfErr, IsErrAnd}
 use Rattle.std.proofs.lemmas.Bool.{le-ltb}
@@ -42,7 +42,7 @@ refuses-more one two less more router.UnexpectedAck same f h = h
 refuses-more one two less more router.ClosedChannel same f h = h
 refuses-more one two less more (router.SeqInUse n) same f h = h
 
--- a refusal that is passed on as it is
+-- a refusal passed on unchanged
 pub refuses-passed : {A B T P : Type 0} (r : Result B (RouterError T P)) (e : RouterError T P)
     (one two : Result A DeError) (less more : Type 0) → IsErrAnd r (λ d. d ≡ e) → one ≡ two → (less → more)
     → RefusesTyping one less e → IfErr r (RefusesTyping two more)

@@ -1,4 +1,4 @@
--- The text of an attribute, where it has one.
+-- The text of an attribute, if it has one.
 use Rattle.std.proofs.Common.{◌≡◌, sym, ap, ℕ, List, Some, None, Ok, Err}
 use Rattle.std.specs.Result.{result_ok}
 use Rattle.neli_wire.specs.DeError.{DeError}

@@ -1,4 +1,4 @@
--- Answers: a code, what is answered, and attributes that say more (`struct nlmsgerr` of linux/netlink.h).
+-- Answers: a code, what is answered, and attributes with details (`struct nlmsgerr` of linux/netlink.h).
 use Rattle.std.specs.Prelude.{ℕ, ◌+◌, ◌-◌, ◌<◌, ◌≤◌, ◌⊎◌, ℤ, List, [], ◌++◌, codes}
 use Rattle.std.specs.Prelude.{length, take, drop, map, Result, Ok, Err, IsOk, IsOkAnd, nat_lt, if◌then◌else◌}
 use Rattle.std.specs.Fmt.{signed_decimal}
@@ -37,11 +37,11 @@ ext_ack_in s = attributes_in (field_of nlmsgerr_attr_of) s >>= λ attrs. Ok (map
 
 -- ---- parts
 
--- the bytes after the first n, which have to be there
+-- the bytes after the first n, which must exist
 abbrev pub after : ℕ → List ℕ → Result (List ℕ) DeError
 after n s = if nat_lt (length s) n then Err (InvalidInput (length s)) else Ok (drop n s)
 
--- the code: 0, or the number of an error with its sign turned
+-- the code: 0, or the negated number of an error
 abbrev pub code_in : List ℕ → ℤ
 code_in s = signed_number w32 4 s
 
@@ -53,7 +53,7 @@ answer code answered attrs = record { error = code; nlmsg = answered; ext_ack = 
 abbrev pub echoed_length : List ℕ → ℕ
 echoed_length s = number_in 4 4 s
 
--- how many payload bytes that makes
+-- the number of its payload's bytes
 abbrev pub echoed_count : List ℕ → ℕ
 echoed_count s = echoed_length s - 16
 
@@ -85,29 +85,29 @@ dump_end_in s = do
   attrs ← ext_ack_in rest
   Ok (answer (code_in s) tt attrs)
 
--- the attributes of a tail; none where it is not read
+-- the attributes of a tail; none if it is not read
 abbrev pub tail_in : Tail → List ℕ → Result Attributes DeError
 tail_in Unread s = Ok []
 tail_in Listed s = ext_ack_in s
 
--- where reading a tail takes memory
+-- reading a tail takes memory
 abbrev pub tail_takes_memory : Tail → List ℕ → Type 0
 tail_takes_memory Unread s = ⊥
 tail_takes_memory Listed s = 0 < length s
 
--- where the attributes begin of an answer that echoes a header alone
+-- where the attributes of an answer begin that echoes only a header
 abbrev pub tail_at : Tail → List ℕ → ℕ
 tail_at Unread s = length s
 tail_at Listed s = 20
 
--- an answer that echoes a header alone: a code, the header, and its tail
+-- an answer that echoes only a header: a code, the header, and its tail
 abbrev pub headed_in : {K : Type 0} → (ℕ → K) → Tail → List ℕ → Result (Nlmsgerr (Header K)) DeError
 headed_in type_of tail s = do
   rest ← after 20 s
   attrs ← tail_in tail rest
   Ok (answer (code_in s) (header_in type_of (drop 4 s)) attrs)
 
--- such an answer by itself, without the flags that say what its tail is
+-- such an answer alone, without the flags that decide its tail
 abbrev pub acknowledgement_in : {K : Type 0} → (ℕ → K) → List ℕ → Result (Nlmsgerr (Header K)) DeError
 acknowledgement_in type_of = headed_in type_of Unread
 
@@ -121,21 +121,21 @@ failure_in type_of read s = do
   attrs ← ext_ack_in (after_echo s)
   Ok (answer (code_in s) (echo_with type_of s v) attrs)
 
--- where reading an error takes memory: for the echoed payload; or, where that is read, for attributes after it
+-- reading an error takes memory: for the echoed payload; or, if that is read, for attributes after it
 abbrev pub failure_takes_memory : {V : Type 0} → (List ℕ → Result V DeError) → (List ℕ → Type 0) → List ℕ → Type 0
 failure_takes_memory read takes s = (20 ≤ length s)
     × IsOkAnd (echoed_in s) (λ body. takes body ⊎ (IsOk (read body) × (0 < length (after_echo s))))
 
 -- ---- what contracts see of an error
 
--- the echoed message, over what is seen of its payload
+-- the echoed message, over the view of its payload
 abbrev pub echo_view : {K P V : Type 0} → (P → V) → NlmsghdrErr K P → NlmsghdrErr K V
 echo_view view m = record { header = m.header; payload = record { 0 = view m.payload.0 } }
 
--- the error, over what is seen of that payload
+-- the error, over the view of that payload
 abbrev pub failure_view : {K P V : Type 0} → (P → V) → Nlmsgerr (NlmsghdrErr K P) → Nlmsgerr (NlmsghdrErr K V)
 failure_view view e = answer e.error (echo_view view e.nlmsg) e.ext_ack
 
--- what an answer prints
+-- the text that an answer prints
 abbrev pub answer_text : {M : Type 0} → Nlmsgerr M → List ℕ
 answer_text e = codes "netlink error " ++ signed_decimal e.error

@@ -1,4 +1,4 @@
--- What the builders of messages and of their parts make of the fields that they were given.
+-- The values that the builders of messages and of their parts make of the given fields.
 use Rattle.std.specs.Prelude.{ℕ, ◌+◌, pos, [], codes, Ok, Err, nat_lt, unwrap_or, if◌then◌else◌}
 use Rattle.neli_wire.specs.Sizes.{align}
 use Rattle.neli_attr.specs.Builders.{Outcome, require_field, ◌>>>◌}
@@ -20,7 +20,7 @@ abbrev pub header_with : {K : Type 0} → ℕ → K → NlmF → ℕ → ℕ →
 header_with len message_type flags sequence_number port =
     record { len = len; message_type = message_type; flags = flags; sequence_number = sequence_number; port = port }
 
--- all five fields have to be given
+-- all five fields are required
 abbrev pub built_header : {T : Type 0} → NlmsghdrAckBuilder T → Outcome (Header T)
 built_header b =
     require_field (codes "nl_len") b.nl_len (λ len.
@@ -30,12 +30,12 @@ built_header b =
     require_field (codes "nl_pid") b.nl_pid (λ port.
     Ok (header_with len message_type flags sequence_number port))))))
 
--- the length of a header and a payload of n bytes, rounded up to four, which has to fit 32 bits
+-- the length of a header and a payload of n bytes, rounded up to four, which must fit 32 bits
 abbrev pub own_length : ℕ → Outcome ℕ
 own_length n = if nat_lt 4294967295 (align (16 + n)) then Err (Invalid (codes "Length does not fit its field"))
     else Ok (align (16 + n))
 
--- an echoed message; without more its flags, sequence number and port are 0
+-- an echoed message; by default its flags, sequence number and port are 0
 abbrev pub built_echo : {T P : Type 0} → (P → ℕ) → FramedBuilder T (Echoed P) → Outcome (NlmsghdrErr T P)
 built_echo size b =
     require_field (codes "nl_type") b.header.nl_type (λ message_type.
@@ -47,13 +47,13 @@ built_echo size b =
       payload = payload;
     })))
 
--- an answer; without more its code is 0, and it has no attributes
+-- an answer; by default its code is 0, and it has no attributes
 abbrev pub built_answer : {M : Type 0} → NlmsgerrBuilder M → Outcome (Nlmsgerr M)
 built_answer b =
     require_field (codes "nlmsg") b.nlmsg (λ answered. Ok
     (answer (unwrap_or b.error (pos 0)) answered (unwrap_or b.ext_ack [])))
 
--- a message; without more its sequence number and port are 0
+-- a message; by default its sequence number and port are 0
 abbrev pub built_message : {T P : Type 0} → (P → ℕ) → FramedBuilder T (NlPayload T P) → Outcome (Nlmsghdr T P)
 built_message size b =
     require_field (codes "nl_type") b.header.nl_type (λ message_type.

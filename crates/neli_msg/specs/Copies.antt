@@ -9,7 +9,7 @@ use Rattle.neli_msg.specs.declared.router_error.RouterError.TheVariants as route
 use Rattle.neli_msg.specs.declared.socket_error.SocketError.{SocketError}
 use Rattle.neli_msg.specs.declared.socket_error.SocketError.TheVariants as socket
 
--- an answer: where copying the message that it holds does, or where it has attributes
+-- an answer: where copying its message does, or where it has attributes
 abbrev pub answer_copy_takes_memory : {M : Type 0} → (M → Type 0) → Nlmsgerr M → Type 0
 answer_copy_takes_memory takes e = takes e.nlmsg ⊎ (0 < length e.ext_ack)
 

@@ -1,4 +1,4 @@
--- An answer as a person reads it: its code, the error's name and meaning, and what the attributes say more.
+-- An answer for a person: its code, the error's name and meaning, and the details in its attributes.
 use Rattle.std.specs.Prelude.{ℕ, ℤ, pos, List, [], ◌++◌, codes, length}
 use Rattle.std.specs.Prelude.{Option, Some, None, find, nat_eq, int_lt, unsigned_abs, if◌then◌else◌}
 use Rattle.std.specs.Fmt.{decimal, signed_decimal}
@@ -13,9 +13,9 @@ use Rattle.neli_consts.specs.NlmsgerrAttr.{nlmsgerr_attr_number}
 use Rattle.neli_msg.specs.Answers.{Attributes}
 use Rattle.neli_msg.specs.declared.explained.Explained.{Explained}
 
--- ---- what an answer says
+-- ---- the parts of an answer
 
--- the error whose number is the code with its sign turned
+-- the error whose number is the negated code
 abbrev pub errno_in : ℤ → Option Row
 errno_in code = if int_lt code (pos 0) then errno_of (unsigned_abs code) else None
 
@@ -24,7 +24,7 @@ abbrev pub payload_in : NlmsgerrAttr → Attributes → Option (List ℕ)
 payload_in kind attrs = option_map (λ a. a.nla_payload)
     (find (λ a. nat_eq (nlmsgerr_attr_number a.nla_type.nla_type) (nlmsgerr_attr_number kind)) attrs)
 
--- the text: all bytes but the last, which is a zero, where they are UTF-8
+-- the text: all bytes but the last, which is a zero, if they are UTF-8
 abbrev pub words_in : List ℕ → Option (List ℕ)
 words_in payload = result_ok (owned_text payload)
 
@@ -32,7 +32,7 @@ words_in payload = result_ok (owned_text payload)
 abbrev pub place_in : List ℕ → Option ℕ
 place_in payload = if nat_eq (length payload) 4 then Some (little_number 4 payload) else None
 
--- ---- how it is printed
+-- ---- printing
 
 abbrev pub named_text : Option Row → List ℕ
 named_text None = []
@@ -46,15 +46,15 @@ abbrev pub place_text : Option ℕ → List ℕ
 place_text None = []
 place_text (Some offset) = codes "; offset " ++ decimal offset
 
--- what these parts print
+-- the text of these parts
 abbrev pub parts_text : ℤ → Option Row → Option (List ℕ) → Option ℕ → List ℕ
 parts_text code named words place = signed_decimal code ++ (named_text named ++ (words_text words ++ place_text place))
 
--- what an explained answer prints
+-- the text that an explained answer prints
 abbrev pub explained_text : Explained → List ℕ
 explained_text e = parts_text e.code (option_map errno_seen e.errno) (option_map (λ t. t.now) e.words) e.place
 
--- what an answer of this code and these attributes is explained as
+-- an answer of this code and these attributes, explained
 abbrev pub explanation : ℤ → Attributes → List ℕ
 explanation code attrs = parts_text code (errno_in code) (option_and_then words_in (payload_in Msg attrs))
     (option_and_then place_in (payload_in Offset attrs))

@@ -7,6 +7,6 @@ use Rattle.neli_msg.specs.declared.payload.NlPayload.{NlPayload}
 abbrev pub Nlmsghdr : Type 0 → Type 0 → Type 0
 Nlmsghdr K P = Framed K (NlPayload K P)
 
--- a message that is echoed: it carries a body
+-- an echoed message: it carries a body
 abbrev pub NlmsghdrErr : Type 0 → Type 0 → Type 0
 NlmsghdrErr K P = Framed K (Echoed P)

@@ -10,7 +10,7 @@ use Rattle.neli_msg.specs.declared.header.NlmsghdrAck.{NlmsghdrAck}
 abbrev pub Header : Type 0 → Type 0
 Header = NlmsghdrAck
 
--- the flags that a number spells; all its bits are kept
+-- the flags of a number; all its bits are kept
 abbrev pub flags_of : ℕ → NlmF
 flags_of n = record { 0 = n }
 

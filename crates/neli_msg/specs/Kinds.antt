@@ -1,5 +1,4 @@
--- What a message carries, told by its type, flags, length and code (RFC 3549 section 2.3.2.2; the kernel's
--- `netlink_ack`).
+-- The payload of a message, by its type, flags, length and code (RFC 3549 section 2.3.2.2; the kernel's `netlink_ack`).
 use Rattle.std.specs.Prelude.{ℕ, ◌==◌, ◌<◌, ◌&&◌, Bool, List, length}
 use Rattle.std.specs.Prelude.{drop, Result, Ok, bit_and, nat_eq, nat_le, if◌then◌else◌}
 use Rattle.neli_wire.specs.DeError.{DeError}
@@ -19,7 +18,7 @@ use Rattle.neli_msg.specs.Answers.{failure_view, headed_in, tail_takes_memory}
 abbrev pub is_multi : NlmF → Bool
 is_multi flags = bit_and flags.0 2 == 2
 
--- NLM_F_CAPPED, the bit of value 256, is set: of the answered message the header alone is echoed
+-- NLM_F_CAPPED, the bit of value 256, is set: only the header of the answered message is echoed
 abbrev pub is_capped : NlmF → Bool
 is_capped flags = bit_and flags.0 256 == 256
 
@@ -27,11 +26,11 @@ is_capped flags = bit_and flags.0 256 == 256
 abbrev pub has_attributes : NlmF → Bool
 has_attributes flags = bit_and flags.0 512 == 512
 
--- what stands after a header that is echoed alone: attributes under both flags
+-- what stands after a header echoed alone: attributes under both flags
 abbrev pub tail_of : NlmF → Tail
 tail_of flags = if is_capped flags && has_attributes flags then Listed else Unread
 
--- a code and a header are there, and the code is 0
+-- there are a code and a header, and the code is 0
 abbrev pub is_acknowledged : List ℕ → Bool
 is_acknowledged s = nat_le 20 (length s) && nat_eq (number_in 4 0 s) 0
 
@@ -44,7 +43,7 @@ kind_of number flags s =
     else Body)
 
 module _ {K V : Type 0} (type_of : ℕ → K) (read : List ℕ → Result V DeError) where
-  -- what the bytes of each kind say, or why nothing; `read` is the reading of a body
+  -- the payload of each kind as read, or its refusal; `read` is the reading of a body
   abbrev pub payload_as : Kind → List ℕ → Result (NlPayload K V) DeError
   payload_as Body s = read s >>= λ v. Ok (payload.Payload v)
   payload_as Nothing s = Ok payload.Empty
@@ -53,11 +52,11 @@ module _ {K V : Type 0} (type_of : ℕ → K) (read : List ℕ → Result V DeEr
   payload_as (Capped tail) s = headed_in type_of tail s >>= λ e. Ok (payload.Capped e)
   payload_as Failure s = failure_in type_of read s >>= λ e. Ok (payload.Err e)
 
-  -- what the bytes after a header of this type and these flags say
+  -- the payload read after a header of this type and these flags
   abbrev pub payload_in : ℕ → NlmF → List ℕ → Result (NlPayload K V) DeError
   payload_in number flags s = payload_as (kind_of number flags s) s
 
--- where reading takes memory, by what a body is read as and where that takes some
+-- where reading takes memory, by the reading of a body and where that takes some
 module _ {V : Type 0} (read : List ℕ → Result V DeError) (takes : List ℕ → Type 0) where
   -- each kind
   abbrev pub kind_takes_memory : Kind → List ℕ → Type 0
@@ -72,7 +71,7 @@ module _ {V : Type 0} (read : List ℕ → Result V DeError) (takes : List ℕ �
   abbrev pub payload_takes_memory : ℕ → NlmF → List ℕ → Type 0
   payload_takes_memory number flags s = kind_takes_memory (kind_of number flags s) s
 
--- what contracts see of a payload, over what they see of a body
+-- how contracts see a payload, by the view of a body
 abbrev pub payload_view : {K P V : Type 0} → (P → V) → NlPayload K P → NlPayload K V
 payload_view view (payload.Payload p) = payload.Payload (view p)
 payload_view view (payload.Err e) = payload.Err (failure_view view e)

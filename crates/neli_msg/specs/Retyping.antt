@@ -1,4 +1,4 @@
--- Retyping: an untyped message, of which the type is a number and the body its bytes, as one of other types.
+-- Retyping: an untyped message, whose type is a number and whose body is bytes, as one of other types.
 use Rattle.std.specs.Prelude.{◌≡◌, ◌<◌, ◌+◌, ◌⊎◌, ℕ, List, codes, length, take}
 use Rattle.std.specs.Prelude.{Option, Some, None, Result, Ok, Err, IsOk, nat_lt, if◌then◌else◌}
 use Rattle.neli_wire.specs.DeError.{DeError}
@@ -18,9 +18,9 @@ use Rattle.neli_msg.specs.Headers.{Header}
 use Rattle.neli_msg.specs.Messages.{Message}
 use Rattle.neli_msg.specs.Wires.{message_size, payload_size}
 
--- ---- what the untyped message says as the other types; lengths are as they were
+-- ---- the untyped message in the other types; lengths stay
 
--- a header with the type that its number means
+-- a header with the meaning of its type's number
 abbrev pub typed_header : {K : Type 0} → (ℕ → K) → Header ℕ → Header K
 typed_header type_of h = record {
   len = h.len;
@@ -66,15 +66,15 @@ module _ {K V : Type 0} (type_of : ℕ → K) (read : List ℕ → Result V DeEr
   typed_first n (payload.Payload bytes) = first_as read n bytes >>= λ v. Ok (payload.Payload v)
   typed_first n p = typed_payload p
 
--- the bytes that a payload has for a body are read as one; other payloads have none
+-- if the payload has bytes for a body, they are read as one
 abbrev pub IsRead : {V : Type 0} → (List ℕ → Result V DeError) → NlPayload ℕ (List ℕ) → Type 0
 IsRead read (payload.Payload bytes) = IsOk (read bytes)
 IsRead read (payload.Err e) = IsOk (read e.nlmsg.payload.0)
 IsRead read p = Unit {0}
 
--- where typing takes memory, by what a body is read as and where reading it takes some
+-- where typing takes memory, by the reading of a body and where that takes some
 module _ {V : Type 0} (read : List ℕ → Result V DeError) (takes : List ℕ → Type 0) where
-  -- an error: where reading the echoed bytes does, or these are read and there are attributes to copy
+  -- an error: where reading the echoed bytes does, or if they are read and there are attributes to copy
   abbrev pub failure_typing_takes_memory : Nlmsgerr (NlmsghdrErr ℕ (List ℕ)) → Type 0
   failure_typing_takes_memory e =
       takes e.nlmsg.payload.0 ⊎ (IsOk (read e.nlmsg.payload.0) × (0 < length e.ext_ack))
@@ -93,7 +93,7 @@ module _ {V : Type 0} (read : List ℕ → Result V DeError) (takes : List ℕ �
   first_takes_memory n (payload.Payload bytes) = exact_takes_memory takes n bytes
   first_takes_memory n p = typing_takes_memory p
 
--- how many bytes a body has
+-- the number of a body's bytes
 abbrev pub body_count : {K : Type 0} → NlPayload K (List ℕ) → ℕ
 body_count (payload.Payload bytes) = length bytes
 body_count p = 0
@@ -110,7 +110,7 @@ with_len h len = record {
   port = h.port;
 }
 
--- what is seen of an echoed message, if it stated this length
+-- the view of an echoed message, if it stated this length
 abbrev pub echo_stating : {K P V : Type 0} → ℕ → (P → V) → NlmsghdrErr K P → NlmsghdrErr K V
 echo_stating len view m = record { header = with_len m.header len; payload = record { 0 = view m.payload.0 } }
 
@@ -127,7 +127,7 @@ payload_stating len view (payload.Capped e) = payload.Capped e
 payload_stating len view (payload.DumpExtAck e) = payload.DumpExtAck e
 payload_stating len view payload.Empty = payload.Empty
 
--- the length that an echoed message states; 0 where there is none
+-- the length that an echoed message states; 0 without one
 abbrev pub stated_echo : {K P : Type 0} → NlPayload K P → ℕ
 stated_echo (payload.Err e) = e.nlmsg.header.len
 stated_echo p = 0
@@ -136,14 +136,14 @@ stated_echo p = 0
 abbrev pub HasOwnLength : {K P : Type 0} → (P → ℕ) → NlmsghdrErr K P → Type 0
 HasOwnLength size m = m.header.len ≡ align (16 + size m.payload.0)
 
--- the same where a payload echoes a message
+-- the same for the message that a payload echoes
 abbrev pub HasOwnEcho : {K P : Type 0} → (P → ℕ) → NlPayload K P → Type 0
 HasOwnEcho size (payload.Err e) = HasOwnLength size e.nlmsg
 HasOwnEcho size p = Unit {0}
 
 -- ---- refusals
 
--- e is why a message is not typed: a body's refusal, or that a length passes 32 bits; or memory ran out
+-- e is why a message is not typed: a body's refusal, or a length that exceeds 32 bits; or memory ran out
 abbrev pub RefusesTyping : {A T P : Type 0} → Result A DeError → Type 0 → RouterError T P → Type 0
 RefusesTyping outcome too_long (router.De e) = outcome ≡ Err e
 RefusesTyping outcome too_long (router.Msg text) = (text ≡ codes "Length does not fit its field") × too_long
@@ -151,7 +151,7 @@ RefusesTyping outcome too_long router.Memory = Unit {0}
 RefusesTyping outcome too_long e = ⊥
 
 module _ {P V : Type 0} (view : P → V) (size : P → ℕ) (read : List ℕ → Result V DeError) where
-  -- these bytes are read as a body that makes a message with them too long
+  -- these bytes are read as a body with which the message is too long
   abbrev pub IsTooLong : List ℕ → Type 0
   IsTooLong bytes = (p : P) × (read bytes ≡ Ok (view p)) × (4294967295 < align (16 + size p))
 
@@ -167,22 +167,22 @@ module _ {P V : Type 0} (view : P → V) (size : P → ℕ) (read : List ℕ →
       ≡ Ok (payload_stating (stated_echo u) view p))
       × HasOwnEcho size p × (4294967295 < align (16 + payload_size size p)))
 
--- ---- a message, and a router's error: what it has of a message is retyped, and all else stays
+-- ---- a message, and a router's error: the parts of a message in it are retyped, and all else stays
 
 module _ {K P V : Type 0} (type_of : ℕ → K) (view : P → V) (size : P → ℕ) (read : List ℕ → Result V DeError) where
-  -- m is what the untyped u says, with its lengths computed anew
+  -- m is the untyped u in the other types, with its lengths computed anew
   abbrev pub IsTyped : Nlmsghdr ℕ (List ℕ) → Nlmsghdr K P → Type 0
   IsTyped u m =
       (typed_payload type_of read u.payload ≡ Ok (payload_stating (stated_echo u.payload) view m.payload))
       × (m.header ≡ with_len (typed_header type_of u.header) (align (message_size size m)))
       × HasOwnEcho size m.payload
 
-  -- why is why u can't be typed: a body's refusal, or that a length passes 32 bits; or memory ran out
+  -- why is why u can't be typed: a body's refusal, or a length that exceeds 32 bits; or memory ran out
   abbrev pub RefusesTypingMessage : Nlmsghdr ℕ (List ℕ) → RouterError K P → Type 0
   RefusesTypingMessage u why =
       RefusesTyping (typed_payload type_of read u.payload) (IsMessageTooLong view size read type_of u.payload) why
 
-  -- f is what the untyped e says
+  -- f is the untyped e in the other types
   abbrev pub IsTypedError : RouterError ℕ (List ℕ) → RouterError K P → Type 0
   IsTypedError (router.Nlmsgerr e) (router.Nlmsgerr f) =
       (typed_failure type_of read e ≡ Ok (failure_stating e.nlmsg.header.len view f)) × HasOwnLength size f.nlmsg
@@ -200,7 +200,7 @@ module _ {K P V : Type 0} (type_of : ℕ → K) (view : P → V) (size : P → �
   IsTypedError (router.SeqInUse n) f = f ≡ router.SeqInUse n
   IsTypedError router.Memory f = f ≡ router.Memory
 
-  -- why is why the untyped error can't be typed: its message can't; or memory ran out where there is something to copy
+  -- why is why the untyped error can't be typed: its message can't; or memory ran out if there is something to copy
   abbrev pub RefusesTypingError : RouterError ℕ (List ℕ) → RouterError K P → Type 0
   RefusesTypingError (router.Nlmsgerr e) why =
       RefusesTyping (typed_failure type_of read e) (IsTooLong view size read e.nlmsg.payload.0) why
@@ -222,19 +222,19 @@ module _ {V : Type 0} (read : List ℕ → Result V DeError) (takes : List ℕ �
   error_takes_memory (router.Socket e) = socket_copy_takes_memory e
   error_takes_memory e = ⊥
 
--- ---- parts that are taken out and put in
+-- ---- parts taken out and put in
 
--- the body, where there is one
+-- the body, if there is one
 abbrev pub body_of : {K P : Type 0} → NlPayload K P → Option P
 body_of (payload.Payload p) = Some p
 body_of p = None
 
--- the error, where there is one
+-- the error, if there is one
 abbrev pub failure_of : {K P : Type 0} → NlPayload K P → Option (Nlmsgerr (NlmsghdrErr K P))
 failure_of (payload.Err e) = Some e
 failure_of p = None
 
--- the capped error, where there is one
+-- the capped error, if there is one
 abbrev pub capped_of : {K P : Type 0} → NlPayload K P → Option (Nlmsgerr (Header K))
 capped_of (payload.Capped e) = Some e
 capped_of p = None
@@ -243,16 +243,16 @@ capped_of p = None
 abbrev pub with_payload : {K P : Type 0} → Nlmsghdr K P → ℕ → NlPayload K P → Nlmsghdr K P
 with_payload m len p = record { header = with_len m.header len; payload = p }
 
--- what is left of a message with this payload where its error is taken out: an empty one of 16 bytes
+-- the rest of a message with this payload after its error is taken out: an empty one of 16 bytes
 abbrev pub left_of : {K P : Type 0} → Nlmsghdr K P → NlPayload K P → Nlmsghdr K P
 left_of m (payload.Err e) = with_payload m 16 payload.Empty
 left_of m p = m
 
--- what is left of a message where its error is taken out
+-- the rest of a message after its error is taken out
 abbrev pub without_failure : {K P : Type 0} → Nlmsghdr K P → Nlmsghdr K P
 without_failure m = left_of m m.payload
 
--- the same where its capped error is taken out
+-- the same for its capped error
 abbrev pub left_of_capped : {K P : Type 0} → Nlmsghdr K P → NlPayload K P → Nlmsghdr K P
 left_of_capped m (payload.Capped e) = with_payload m 16 payload.Empty
 left_of_capped m p = m

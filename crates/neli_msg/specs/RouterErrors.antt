@@ -1,4 +1,4 @@
--- Errors of a router: where they come from, and their texts.
+-- Errors of a router: their sources, and their texts.
 use Rattle.std.specs.Prelude.{ℕ, List, ◌++◌, codes, decimal, Option, Some, None}
 use Rattle.std.specs.Option.{option_map}
 use Rattle.neli_wire.specs.DeError.{DeError}
@@ -13,7 +13,7 @@ use Rattle.neli_msg.specs.declared.router_error.RouterError.TheVariants.{Unexpec
 use Rattle.neli_msg.specs.SocketErrors.{socket_text}
 use Rattle.neli_msg.specs.Answers.{answer_text}
 
--- a refusal to read; memory that ran out stays so
+-- a refusal to read; `Memory` stays `Memory`
 abbrev pub de_of : {T P : Type 0} → DeError → RouterError T P
 de_of (de.Msg text) = De (de.Msg text)
 de_of (de.Io kind) = De (de.Io kind)
@@ -21,7 +21,7 @@ de_of (de.Utf8 error) = De (de.Utf8 error)
 de_of (de.InvalidInput n) = De (de.InvalidInput n)
 de_of de.Memory = Memory
 
--- an error of a link; memory that ran out stays so
+-- an error of a link; `Memory` stays `Memory`
 abbrev pub socket_of : {T P : Type 0} → SocketError → RouterError T P
 socket_of (socket.Msg text) = Socket (socket.Msg text)
 socket_of (socket.Ser e) = Socket (socket.Ser e)
@@ -29,12 +29,12 @@ socket_of (socket.De e) = Socket (socket.De e)
 socket_of (socket.Io kind) = Socket (socket.Io kind)
 socket_of socket.Memory = Memory
 
--- words as an error; without words memory ran out
+-- a text as an error; without a text memory ran out
 abbrev pub router_of_message : {T P : Type 0} → Option (List ℕ) → RouterError T P
 router_of_message (Some text) = Msg text
 router_of_message None = Memory
 
--- the text, where it is this library's; the standard library has those of an `Io` and a `Utf8`
+-- the text, where it is this library's; the standard library states those of an `Io` and a `Utf8`
 abbrev pub router_text : {T P : Type 0} → RouterError T P → Option (List ℕ)
 router_text (Msg text) = Some text
 router_text (Io kind) = None

@@ -1,4 +1,4 @@
--- Errors of a link: where they come from, and their texts.
+-- Errors of a link: their sources, and their texts.
 use Rattle.std.specs.Prelude.{ℕ, List, ◌++◌, codes, Option, Some, None}
 use Rattle.std.specs.Option.{option_map}
 use Rattle.neli_wire.specs.SerError.{SerError}
@@ -9,14 +9,14 @@ use Rattle.neli_wire.specs.ErrorTexts.{ser_text, de_text}
 use Rattle.neli_msg.specs.declared.socket_error.SocketError.{SocketError}
 use Rattle.neli_msg.specs.declared.socket_error.SocketError.TheVariants.{Msg, Ser, De, Io, Memory}
 
--- a refusal to write; memory that ran out stays so
+-- a refusal to write; `Memory` stays `Memory`
 abbrev pub of_ser : SerError → SocketError
 of_ser (ser.Msg text) = Ser (ser.Msg text)
 of_ser (ser.Io kind) = Ser (ser.Io kind)
 of_ser (ser.Utf8 error) = Ser (ser.Utf8 error)
 of_ser ser.Memory = Memory
 
--- a refusal to read; memory that ran out stays so
+-- a refusal to read; `Memory` stays `Memory`
 abbrev pub of_de : DeError → SocketError
 of_de (de.Msg text) = De (de.Msg text)
 of_de (de.Io kind) = De (de.Io kind)
@@ -24,12 +24,12 @@ of_de (de.Utf8 error) = De (de.Utf8 error)
 of_de (de.InvalidInput n) = De (de.InvalidInput n)
 of_de de.Memory = Memory
 
--- words as an error; without words memory ran out
+-- a text as an error; without a text memory ran out
 abbrev pub socket_of_message : Option (List ℕ) → SocketError
 socket_of_message (Some text) = Msg text
 socket_of_message None = Memory
 
--- the text, where it is this library's; the standard library has those of an `Io` and a `Utf8`
+-- the text, where it is this library's; the standard library states those of an `Io` and a `Utf8`
 abbrev pub socket_text : SocketError → Option (List ℕ)
 socket_text (Msg text) = Some text
 socket_text (Ser e) = option_map (λ text. codes "Serialization error: " ++ text) (ser_text e)

@@ -24,7 +24,7 @@ attributes_wire = wire_all (nlattr_wire nlmsgerr_attr_number (λ bytes. Ok bytes
 abbrev pub answer_wire : {M : Type 0} → (M → Wire) → Nlmsgerr M → Wire
 answer_wire wire e = (Ok (signed_bytes w32 4 e.error) +++ wire e.nlmsg) +++ attributes_wire e.ext_ack
 
--- the bytes of a header and of what it carries, with zeros up to a multiple of four
+-- the bytes of a header and its payload, with zeros up to a multiple of four
 abbrev pub framed_wire : {K X : Type 0} → (K → ℕ) → (X → Wire) → Framed K X → Wire
 framed_wire number_of wire m = pad_wire (header_wire number_of m.header +++ wire m.payload)
 
@@ -46,7 +46,7 @@ module _ {K P : Type 0} (number_of : K → ℕ) (wire : P → Wire) where
   abbrev pub message_wire : Nlmsghdr K P → Wire
   message_wire = framed_wire number_of payload_wire
 
--- ---- how many bytes that makes
+-- ---- sizes in bytes
 
 -- the size of attributes, each with its padding
 abbrev pub attributes_size : Attributes → ℕ
@@ -56,7 +56,7 @@ attributes_size = sum_by (λ a. align (4 + length a.nla_payload))
 abbrev pub answer_size : {M : Type 0} → (M → ℕ) → Nlmsgerr M → ℕ
 answer_size size e = 4 + size e.nlmsg + attributes_size e.ext_ack
 
--- the size of a header and of what it carries, without their padding
+-- the size of a header and its payload, without their padding
 abbrev pub framed_size : {K X : Type 0} → (X → ℕ) → Framed K X → ℕ
 framed_size size m = 16 + size m.payload
 

@@ -1,4 +1,4 @@
--- What a datagram is when it is read and written again: itself, with zeros for its padding.
+-- A datagram read and written again: itself, with zeros for its padding.
 use Rattle.std.specs.Prelude.{ℕ, zero, suc, ◌+◌, ◌-◌, ◌≤◌, ⊤, List, [], ◌∷◌, ◌++◌, length, take, drop, replicate, Ok}
 use Rattle.neli_wire.specs.Frames.{number_in}
 use Rattle.neli_wire.specs.Sizes.{align}
@@ -21,7 +21,7 @@ use Rattle.neli_msg.specs.Wires.{message_wire}
 abbrev pub zeros_from : ℕ → List ℕ → List ℕ
 zeros_from n s = take n s ++ replicate (length s - n) 0
 
--- bytes that are frames, of which the first states its length, with `zeroed` in place of each; at most `fuel` frames
+-- a list of frames that begin with their lengths, with `zeroed` in place of each; at most `fuel` frames
 unfoldable pub frames_by : (List ℕ → ℕ) → (List ℕ → List ℕ) → ℕ → List ℕ → List ℕ
 frames_by stated zeroed fuel [] = []
 frames_by stated zeroed zero (b ∷ s) = b ∷ s
@@ -29,7 +29,7 @@ frames_by stated zeroed (suc fuel) (b ∷ s) =
     let n = align (stated (b ∷ s)) in
     zeroed (take n (b ∷ s)) ++ frames_by stated zeroed fuel (drop n (b ∷ s))
 
--- the same for all their frames
+-- the same for all frames
 abbrev pub frames_zeroed : (List ℕ → ℕ) → (List ℕ → List ℕ) → List ℕ → List ℕ
 frames_zeroed stated zeroed s = frames_by stated zeroed (length s) s
 
@@ -39,7 +39,7 @@ frames_zeroed stated zeroed s = frames_by stated zeroed (length s) s
 abbrev pub attribute_length : List ℕ → ℕ
 attribute_length s = number_in 2 0 s
 
--- an attribute: what stands after its length is padding
+-- an attribute: the bytes after its length are padding
 abbrev pub attribute_zeroed : List ℕ → List ℕ
 attribute_zeroed frame = zeros_from (attribute_length frame) frame
 
@@ -96,18 +96,18 @@ untyped_wire m = message_wire (λ n. n) (λ bytes. Ok bytes) (message_from m)
 abbrev pub untyped_wires : List (Message ℕ (List ℕ)) → Wire
 untyped_wires = wire_all untyped_wire
 
--- in a message of this length no byte is left unread after a header that is echoed alone, which is 20 bytes after the
--- 16 of its own header
+-- no byte of a message of this length is left unread after a header echoed alone, which is 20 bytes after the 16 of its
+-- own header
 abbrev pub IsAllRead : Tail → ℕ → Type 0
 IsAllRead Unread len = len ≤ 36
 IsAllRead Listed len = ⊤
 
--- the same of each payload
+-- the same for each payload
 abbrev pub HasNoTailIn : Tail → ℕ → NlPayload ℕ (List ℕ) → Type 0
 HasNoTailIn tail len (payload.Ack e) = IsAllRead tail len
 HasNoTailIn tail len (payload.Capped e) = IsAllRead tail len
 HasNoTailIn tail len p = ⊤
 
--- the same of a message
+-- the same for a message
 abbrev pub HasNoTail : Message ℕ (List ℕ) → Type 0
 HasNoTail m = HasNoTailIn (tail_of m.0.flags) m.0.len m.1

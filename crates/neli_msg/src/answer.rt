@@ -36,12 +36,12 @@ use std::alloc::Global;
 use std::error::Error;
 use std::fmt;
 
-/// The size of a code and the header of the message that is answered, in bytes: the kernel's
-/// `struct nlmsgerr` (linux/netlink.h).
+/// The size of a code and the header of the answered message, in bytes: the kernel's `struct nlmsgerr`
+/// (linux/netlink.h).
 const ANSWER_SIZE: usize = 20;
 
-/// An answer: a code, what it answers, and attributes that say more (`struct nlmsgerr` of
-/// linux/netlink.h).
+/// An answer: a code of four bytes, what it answers, and attributes with details (`struct nlmsgerr` of linux/netlink.h;
+/// RFC 3549 section 2.3.2.2).
 #[derive(Debug, Drop, PartialEq, Eq)]
 pub struct Nlmsgerr<M> {
     error: i32,
@@ -50,7 +50,7 @@ pub struct Nlmsgerr<M> {
 }
 
 impl<M> Nlmsgerr<M> {
-    /// The code: 0, or the number of an error with its sign turned, as -22 for `EINVAL`.
+    /// The code: 0, or the negated number of an error, as -22 for `EINVAL`.
     pub fn error(&self) -> &i32
         ensures { result.now ≡ self.now.error }
     {
@@ -64,7 +64,7 @@ impl<M> Nlmsgerr<M> {
         &self.nlmsg
     }
 
-    /// The attributes that say more, such as a text and the place of the fault.
+    /// The attributes with details, such as a text and the place of the fault.
     pub fn ext_ack(&self) -> &GenlBuffer<NlmsgerrAttr, Buffer>
         ensures { result.now ≡ self.now.ext_ack }
     {
@@ -72,7 +72,7 @@ impl<M> Nlmsgerr<M> {
     }
 }
 
-/// The bytes after the first `n`, which have to be there.
+/// The bytes after the first `n`, which must exist.
 fn after(bytes: &[u8], n: usize) -> Result<&[u8], DeError>
     ensures value { IfOk result (λ b. after n bytes.now ≡ Ok b.now) }
     ensures long { OnOk result (n ≤ length bytes.now) }
@@ -84,7 +84,7 @@ fn after(bytes: &[u8], n: usize) -> Result<&[u8], DeError>
     Ok(&bytes[n..])
 }
 
-/// An answer with the code that these bytes begin with.
+/// An answer with the code at the front of these bytes.
 fn answer_of<M>(bytes: &[u8], nlmsg: M, ext_ack: GenlBuffer<NlmsgerrAttr, Buffer>) -> Nlmsgerr<M>
     requires { 4 ≤ length bytes.now }
     ensures { result ≡ answer (code_in bytes.now) nlmsg ext_ack }
@@ -118,7 +118,7 @@ pub(crate) enum Tail {
     Attributes,
 }
 
-/// The attributes of a tail; none where it is not read.
+/// The attributes of a tail; none if it is not read.
 fn read_tail(
     alloc: Global,
     tail: Tail,
@@ -134,7 +134,7 @@ fn read_tail(
     }
 }
 
-/// Reads an answer of which the header alone is echoed: an acknowledgement or a capped error.
+/// Reads an answer that echoes only a header: an acknowledgement or a capped error.
 #[tactic(auto, using(neli_wire::specs::laws::Reading::refused_first))]
 pub(crate) fn read_headed<T: Constant<Number = u16>>(
     alloc: Global,
@@ -151,7 +151,7 @@ pub(crate) fn read_headed<T: Constant<Number = u16>>(
     Ok(answer_of(bytes, header, ext_ack))
 }
 
-/// How many payload bytes the echoed message states; 0 where its length is below the header's.
+/// The number of payload bytes that the echoed message states; 0 if its length is below the header's.
 fn echoed_count(bytes: &[u8]) -> usize
     requires { 20 ≤ length bytes.now }
     ensures count { result ≡ echoed_count bytes.now }
@@ -248,7 +248,7 @@ impl<T: NlType> FromBytesWithInput for Nlmsgerr<NlmsghdrAck<T>> {
 
     ghost never_short = { acknowledgement_in-never_short T.wire_value };
 
-    /// Reads a code and a header; what follows them is passed over.
+    /// Reads a code and a header; whatever follows them is skipped.
     fn from_bytes_with_input(
         alloc: Global,
         cursor: &mut Cursor<'_>,
@@ -359,7 +359,7 @@ impl<M> Default for NlmsgerrBuilder<M> {
 }
 
 impl<M: Drop> NlmsgerrBuilder<M> {
-    /// The code; 0 where this is not said.
+    /// The code. 0 by default.
     pub fn error(mut self, value: i32) -> Self
         ensures { result ≡ record self { error = Some value } }
     {
@@ -375,7 +375,7 @@ impl<M: Drop> NlmsgerrBuilder<M> {
         self
     }
 
-    /// The attributes; none where this is not said.
+    /// The attributes. None by default.
     pub fn ext_ack(mut self, value: GenlBuffer<NlmsgerrAttr, Buffer>) -> Self
         ensures { result ≡ record self { ext_ack = Some value } }
     {
@@ -385,8 +385,8 @@ impl<M: Drop> NlmsgerrBuilder<M> {
 }
 
 impl<M: Drop> NlmsgerrBuilder<M> {
-    /// The answer of what was given. Only what is answered can be missing, and it takes no memory; the
-    /// allocator is that of an empty list of attributes.
+    /// Builds the answer. Only what is answered can be missing. It takes no memory; `alloc` is for an empty list of
+    /// attributes.
     pub fn build(self, alloc: Global) -> Result<Nlmsgerr<M>, NlmsgerrBuilderError>
         ensures built { IfOk result (λ e. built_answer self ≡ Ok e) }
         ensures refused { IfErr result
@@ -414,7 +414,7 @@ fn answer_with<M>(error: i32, nlmsg: M, ext_ack: GenlBuffer<NlmsgerrAttr, Buffer
 impl<M: TryClone> Nlmsgerr<M> {
     /// An equal answer.
     ///
-    /// Refused only where memory runs out: a copy takes some where that of the message does, or for attributes.
+    /// Refused only if memory runs out: a copy takes some where that of the message does, or for attributes.
     pub fn try_clone(&self) -> Result<Self, NoMemory>
         ensures value { IfOk result (λ e. e ≡ self.now) }
         ensures memory { OnErr result (answer_copy_takes_memory M.copy_takes_memory self.now) }
@@ -434,9 +434,9 @@ impl<M: TryClone> TryClone for Nlmsgerr<M> {
 }
 
 impl Nlmsgerr<NlmsghdrAck<u16>> {
-    /// The same acknowledgement with the type that its header's number means.
+    /// The same acknowledgement with the meaning of its header's type number.
     ///
-    /// Refused only where memory runs out, and never where there are no attributes.
+    /// Refused only if memory runs out, and never where there are no attributes.
     pub fn to_typed<T: NlType>(&self) -> Result<Nlmsgerr<NlmsghdrAck<T>>, NoMemory>
         ensures value { IfOk result (λ e. e ≡ typed_acknowledgement T.wire_value self.now) }
         ensures memory { OnErr result (0 < length self.now.ext_ack) }
@@ -449,7 +449,7 @@ impl Nlmsgerr<NlmsghdrAck<u16>> {
 impl Nlmsgerr<NlmsghdrErr<u16, Buffer>> {
     /// The same error with the echoed message typed; its code and its attributes stay.
     ///
-    /// Refused as the echoed message is, or where memory runs out while attributes are copied.
+    /// Refused as the echoed message is, or if memory runs out while attributes are copied.
     pub fn to_typed<T: NlType, P: FromBytesWithInput + Size>(
         &self,
         alloc: Global,

@@ -18,7 +18,7 @@ use neli_wire::{
 };
 use std::alloc::Global;
 
-/// The payload of a message that is echoed: a body, whatever the header says.
+/// The payload of an echoed message: a body, whatever the header says.
 #[derive(Debug, Drop, PartialEq, Eq)]
 pub struct Echoed<P>(pub(crate) P);
 
@@ -26,7 +26,7 @@ pub struct Echoed<P>(pub(crate) P);
 pub type NlmsghdrErr<T, P> = Framed<T, Echoed<P>>;
 
 impl<T, P> Framed<T, Echoed<P>> {
-    /// What the message carried.
+    /// The payload of the message.
     pub fn nl_payload(&self) -> &P
         ensures { result.now ≡ self.now.payload.0 }
     {
@@ -95,7 +95,7 @@ pub type NlmsghdrErrBuilderError = BuildError<{ of::NLMSGHDR_ERR }>;
 pub type NlmsghdrErrBuilder<T, P> = FramedBuilder<T, Echoed<P>>;
 
 impl<T: Drop, P: Drop> FramedBuilder<T, Echoed<P>> {
-    /// What the message carried.
+    /// The payload of the message.
     pub fn nl_payload(mut self, value: P) -> Self
         ensures { result ≡ record self { payload = Some (record { 0 = value }) } }
     {
@@ -105,10 +105,9 @@ impl<T: Drop, P: Drop> FramedBuilder<T, Echoed<P>> {
 }
 
 impl<T: NlType + Drop, P: Size + Drop> FramedBuilder<T, Echoed<P>> {
-    /// The message of what was given, with the length of its header and payload, rounded up to four. It
-    /// takes no memory.
+    /// Builds the message, with the length of its header and payload, rounded up to four. It takes no memory.
     ///
-    /// Refused where a field is missing, or the length passes 32 bits.
+    /// Refused if a field is missing, or the length exceeds 32 bits.
     pub fn build(self) -> Result<NlmsghdrErr<T, P>, NlmsghdrErrBuilderError>
         ensures built { IfOk result (λ m. built_echo P.wire_length self ≡ Ok m) }
         ensures refused { IfErr result
@@ -134,11 +133,11 @@ impl<T: NlType + Drop, P: Size + Drop> FramedBuilder<T, Echoed<P>> {
 }
 
 impl Framed<u16, Echoed<Buffer>> {
-    /// The same message with the type that its number means, and its payload's bytes read as `P`. Its
-    /// length is computed anew.
+    /// The same message with the meaning of its type's number, and its payload's bytes read as `P`. Its length is
+    /// computed anew.
     ///
-    /// Refused with the refusal of these bytes as [`RouterError::De`], as [`RouterError::Msg`] where the
-    /// length passes 32 bits, or as [`RouterError::Memory`] where reading these bytes takes memory.
+    /// Refused with the refusal of these bytes as [`RouterError::De`], as [`RouterError::Msg`] if the length exceeds 32
+    /// bits, or as [`RouterError::Memory`] if reading these bytes takes memory.
     pub fn to_typed<T: NlType, P: FromBytesWithInput + Size>(
         &self,
         alloc: Global,

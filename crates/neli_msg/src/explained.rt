@@ -1,4 +1,4 @@
-//! Answers as a person reads them.
+//! Answers in a form for people.
 
 ghost use Rattle.std.specs.Prelude.{◌≡◌, Err, IfErr, IfOk, Ok, Some, find, nat_eq};
 ghost use Rattle.std.specs.Option.{option_and_then, option_copied, option_map};
@@ -17,11 +17,11 @@ use neli_errno::Errno;
 use neli_wire::{DeError, Utf8};
 use std::{fmt, str};
 
-/// An answer as a person reads it, by [`Nlmsgerr::explained`].
+/// An answer in a form for people, made by [`Nlmsgerr::explained`].
 ///
-/// It prints the code; the name and the meaning of the error with that number, where Linux has one; and
-/// the text and the place of an extended acknowledgement, where the answer has them: as
-/// `-22 EINVAL: Invalid argument; Unknown attribute type; offset 44`.
+/// It prints the code; the name and the meaning of the error with that number, if Linux has one; and the text and the
+/// place of an extended acknowledgement, if the answer has them: as `-22 EINVAL: Invalid argument; Unknown attribute
+/// type; offset 44`.
 #[derive(Clone, Copy, Debug)]
 pub struct Explained<'a> {
     code: i32,
@@ -31,10 +31,9 @@ pub struct Explained<'a> {
 }
 
 impl<M> Nlmsgerr<M> {
-    /// The answer as a person reads it: its code, with the name and the meaning of the error, and of its
-    /// attributes the first text (`NLMSGERR_ATTR_MSG`) and the first offset (`NLMSGERR_ATTR_OFFS`, in bytes
-    /// from the request's header). A text that is not UTF-8, and an offset that has not four bytes, are
-    /// left out. It takes no memory.
+    /// The answer in a form for people: its code, with the name and the meaning of the error, and of its attributes the
+    /// first text (`NLMSGERR_ATTR_MSG`) and the first offset (`NLMSGERR_ATTR_OFFS`, in bytes from the request's
+    /// header). A text that is not UTF-8, and an offset that has not four bytes, are left out. It takes no memory.
     pub fn explained(&self) -> Explained<'_>
         ensures { explained_text result ≡ explanation self.now.error self.now.ext_ack }
     {
@@ -48,7 +47,7 @@ impl<M> Nlmsgerr<M> {
     }
 }
 
-/// The error with the code's number, which a kernel sends with its sign turned.
+/// The error with the code's number, which a kernel sends negated.
 fn errno_of(code: i32) -> Option<Errno>
     ensures { option_map errno_seen result ≡ errno_in code }
 {
@@ -83,7 +82,7 @@ fn payload_of(attrs: &GenlBuffer<NlmsgerrAttr, Buffer>, kind: NlmsgerrAttr) -> O
     )
 }
 
-/// The text of a payload: all of its bytes but the last, which have to be UTF-8.
+/// The text of a payload: all of its bytes but the last, which must be UTF-8.
 fn read_text(payload: &[u8]) -> Result<&str, DeError>
     ensures value { IfOk result (λ t. owned_text payload.now ≡ Ok t.now) }
     ensures refused { IfErr result (λ e. owned_text payload.now ≡ Err e) }
@@ -98,7 +97,7 @@ fn read_text(payload: &[u8]) -> Result<&str, DeError>
     }
 }
 
-/// The text of a payload, where it has one.
+/// The text of a payload, if it has one.
 #[tactic(auto, using(crate::proofs::Words::some_words, crate::proofs::Words::no_words))]
 fn text_in(payload: &[u8]) -> Option<&str>
     ensures { option_map (λ t. t.now) result ≡ words_in payload.now }
@@ -128,7 +127,7 @@ fn words_of(attrs: &GenlBuffer<NlmsgerrAttr, Buffer>) -> Option<&str>
     text_in(payload_of(attrs, NlmsgerrAttr::Msg)?)
 }
 
-/// The place that the attributes say.
+/// The place that the attributes state.
 fn place_of(attrs: &GenlBuffer<NlmsgerrAttr, Buffer>) -> Option<u32>
     ensures { result ≡ option_and_then place_in (payload_in kind.Offset attrs.now) }
 {

@@ -1,4 +1,4 @@
-//! How messages and answers are framed: the parts that they are read and written of, and their length.
+//! The frames of messages and answers: the parts that are read and written, and their length.
 
 ghost use Rattle.std.specs.Prelude.{◌≡◌, ◌<◌, IfOk, IfErr, OnOk, OnErr, MatchOption, ◌+◌, drop, length, min, take};
 ghost use Rattle.neli_wire.specs.Sizes.{align};
@@ -24,14 +24,14 @@ pub(crate) fn read_attributes(
     read_whole(alloc, bytes)
 }
 
-/// The bytes from place `n` on; none where there are fewer.
+/// The bytes from place `n` on; none if there are fewer.
 pub(crate) fn from_place(bytes: &[u8], n: usize) -> &[u8]
     ensures { result.now ≡ drop n bytes.now }
 {
     if n < bytes.len() { &bytes[n..] } else { &[] }
 }
 
-/// Appends two values. A refusal leaves some of them after what was there.
+/// Appends two values. A refusal leaves some of them appended.
 #[tactic(auto, using(neli_wire::specs::laws::Writing::append_wire_both))]
 fn write_both<A: ToBytes, B: ToBytes>(
     first: &A,
@@ -50,7 +50,7 @@ fn write_both<A: ToBytes, B: ToBytes>(
     Ok(())
 }
 
-/// Appends two values and zeros up to a multiple of four. A refusal leaves some of them.
+/// Appends two values and zeros up to a multiple of four. A refusal leaves some of them appended.
 #[tactic(auto, using(neli_wire::specs::laws::Writing::append_wire_zeros))]
 fn write_both_padded<A: ToBytes, B: ToBytes>(
     first: &A,
@@ -89,7 +89,7 @@ pub(crate) fn write_framed<A: ToBytes, B: ToBytes>(
     undo_on_refusal(buffer, start, outcome)
 }
 
-/// Appends three values. A refusal leaves some of them after what was there.
+/// Appends three values. A refusal leaves some of them appended.
 #[tactic(auto, using(neli_wire::specs::laws::Writing::append_wire_both))]
 fn write_each<A: ToBytes, B: ToBytes, C: ToBytes>(
     first: &A,
@@ -127,8 +127,8 @@ pub(crate) fn write_three<A: ToBytes, B: ToBytes, C: ToBytes>(
     undo_on_refusal(buffer, start, outcome)
 }
 
-/// The length of a message with this payload, where it fits its field: the header's 16 bytes and the
-/// payload, rounded up to four.
+/// The length of a message with this payload, if it fits its field: the header's 16 bytes and the payload, rounded up
+/// to four.
 pub(crate) fn frame_length<P: Size>(payload: &P) -> Option<u32>
     ensures { MatchOption result (4294967295 < align (16 + P.wire_length payload.now))
         (λ len. len ≡ align (16 + P.wire_length payload.now)) }

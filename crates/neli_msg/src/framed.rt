@@ -1,4 +1,4 @@
-//! A header and what it carries: what all messages share.
+//! A header and its payload: the form of all messages.
 
 ghost use Rattle.std.specs.Prelude.{◌≡◌, ◌+◌, ◌≤◌, ℕ, List, Result, Ok, Err, Some, IfOk, IfErr, OnOk, OnErr, length, min};
 ghost use Rattle.neli_wire.specs.DeError.{DeError as Refusal};
@@ -24,8 +24,8 @@ use std::alloc::Global;
 use std::fmt::Debug;
 use std::io::ErrorKind;
 
-/// A message: `struct nlmsghdr` of linux/netlink.h and what it carries. [`Nlmsghdr`](crate::Nlmsghdr) and
-/// [`NlmsghdrErr`](crate::NlmsghdrErr) are names for it, told apart by what they carry.
+/// A message: `struct nlmsghdr` of linux/netlink.h, 16 bytes, and its payload (RFC 3549 section 2.3.2).
+/// [`Nlmsghdr`](crate::Nlmsghdr) and [`NlmsghdrErr`](crate::NlmsghdrErr) are names for it with different payloads.
 #[derive(Debug, Drop, PartialEq, Eq)]
 pub struct Framed<T, X> {
     pub(crate) header: NlmsghdrAck<T>,
@@ -33,8 +33,7 @@ pub struct Framed<T, X> {
 }
 
 impl<T, X> Framed<T, X> {
-    /// The length that the message states, in bytes: header and payload; rounded up to four where it was
-    /// computed here.
+    /// The length that the message states, in bytes: header and payload; rounded up to four if it was computed here.
     pub fn nl_len(&self) -> &u32
         ensures { result.now ≡ self.now.header.len }
     {
@@ -110,26 +109,26 @@ impl<T: NlType, X: ToBytes> ToBytes for Framed<T, X> {
     }
 }
 
-/// What a message carries: the header before it says how it is read.
+/// The payload of a message, which is read by the header before it.
 pub trait Carried<T>: Sized + Debug + Drop {
     // What contracts see of it.
     ghost Value: { Type 0 };
 
     ghost view: { Self → Value };
 
-    // What a whole byte list says after this header, or a refusal.
+    // The value of a whole byte list after this header, or a refusal.
     ghost read: { Head T → List ℕ → Result Value Refusal };
 
     // Where a read takes memory.
     ghost takes_memory: { Head T → List ℕ → Type 0 };
 
-    /// Reads what all of these bytes are, after this header.
+    /// Reads all of these bytes, after this header.
     fn read_after(alloc: Global, header: &NlmsghdrAck<T>, bytes: &[u8]) -> Result<Self, DeError>
         ensures value { IfOk result (λ x. read header.now bytes.now ≡ Ok (view x)) }
         ensures refused { IfErr result
             (Refuses (read header.now bytes.now) (takes_memory header.now bytes.now)) };
 
-    // No byte list is refused because memory ran out by itself.
+    // The definition never refuses for lack of memory.
     ghost no_memory: { (h : Head T) (s : List ℕ) → read h s ≡ Err de.Memory → ⊥ };
 }
 
@@ -146,12 +145,11 @@ impl<T: NlType, X: Carried<T>> FromBytes for Framed<T, X> {
 
     ghost no_memory = { layout_with-no_memory T.wire_value X.read X.no_memory };
 
-    /// Reads the message that the cursor's rest begins with. An echoed message is read so by itself, outside
-    /// an error.
+    /// Reads the message at the cursor. An echoed message is read in this way alone, outside an error.
     ///
-    /// The first fault that holds refuses it: `Io(UnexpectedEof)` where the header is not there,
-    /// `InvalidInput(length)` where the stated length is below 16, `InvalidInput(length - 16)` where it
-    /// passes the bytes; then the payload's refusal; then `Io(UnexpectedEof)` where padding is missing.
+    /// The first fault refuses it: `Io(UnexpectedEof)` if there is no whole header, `InvalidInput(length)` if the
+    /// stated length is below 16, `InvalidInput(length - 16)` if it exceeds the bytes; then the payload's refusal; then
+    /// `Io(UnexpectedEof)` if padding is missing.
     #[tactic(auto, using(neli_wire::specs::laws::Reading::refused_first), unfolding(neli_wire::specs::Frames::frame_at))]
     fn from_bytes(alloc: Global, cursor: &mut Cursor<'_>) -> Result<Self, DeError> {
         let rest = cursor.rest();
@@ -179,7 +177,7 @@ impl<T: NlType, X: Carried<T>> FromBytes for Framed<T, X> {
 impl<T: NlType, X: TryClone> Framed<T, X> {
     /// An equal message.
     ///
-    /// Refused only where memory runs out, and only where a copy of what the message carries takes some.
+    /// Refused only if memory runs out, and only where a copy of the payload takes some.
     pub fn try_clone(&self) -> Result<Self, NoMemory>
         ensures value { IfOk result (λ m. m ≡ self.now) }
         ensures memory { OnErr result (X.copy_takes_memory self.now.payload) }
@@ -200,9 +198,9 @@ impl<T: NlType, X: TryClone> TryClone for Framed<T, X> {
     }
 }
 
-/// A builder of messages: of their header, and of what they carry. The length is computed.
-/// [`NlmsghdrBuilder`](crate::NlmsghdrBuilder) and [`NlmsghdrErrBuilder`](crate::NlmsghdrErrBuilder) are names
-/// for it, told apart by what the messages carry.
+/// A builder of messages: of their header, and of their payload. The length is computed.
+/// [`NlmsghdrBuilder`](crate::NlmsghdrBuilder) and [`NlmsghdrErrBuilder`](crate::NlmsghdrErrBuilder) are names for it
+/// with different payloads.
 #[derive(Debug, Drop)]
 pub struct FramedBuilder<T, X> {
     pub(crate) header: NlmsghdrAckBuilder<T>,
@@ -241,7 +239,7 @@ impl<T: Drop, X: Drop> FramedBuilder<T, X> {
         self
     }
 
-    /// The flags of the message. A message that is echoed has none where this is not said.
+    /// The flags of the message. An echoed message has none by default.
     pub fn nl_flags(mut self, value: NlmF) -> Self
         ensures { result ≡ record self { header = record self.header { nl_flags = Some value } } }
     {
@@ -249,7 +247,7 @@ impl<T: Drop, X: Drop> FramedBuilder<T, X> {
         self
     }
 
-    /// The sequence number; 0 where this is not said.
+    /// The sequence number. 0 by default.
     pub fn nl_seq(mut self, value: u32) -> Self
         ensures { result ≡ record self { header = record self.header { nl_seq = Some value } } }
     {
@@ -257,7 +255,7 @@ impl<T: Drop, X: Drop> FramedBuilder<T, X> {
         self
     }
 
-    /// The port; 0 where this is not said.
+    /// The port. 0 by default.
     pub fn nl_pid(mut self, value: u32) -> Self
         ensures { result ≡ record self { header = record self.header { nl_pid = Some value } } }
     {

@@ -23,8 +23,8 @@ use neli_wire::{
 };
 use std::alloc::Global;
 
-/// The header of a message: `struct nlmsghdr` of linux/netlink.h. An acknowledgement carries that of
-/// the message that it answers.
+/// The header of a message: `struct nlmsghdr` of linux/netlink.h, 16 bytes. An acknowledgement carries that of the
+/// message that it answers.
 #[derive(Clone, Copy, Debug, PartialEq, Eq)]
 pub struct NlmsghdrAck<T> {
     pub(crate) len: u32,
@@ -35,8 +35,7 @@ pub struct NlmsghdrAck<T> {
 }
 
 impl<T> NlmsghdrAck<T> {
-    /// The length that the message states, in bytes: header and payload; rounded up to four where it was
-    /// computed here.
+    /// The length that the message states, in bytes: header and payload; rounded up to four if it was computed here.
     pub fn nl_len(&self) -> &u32
         ensures { result.now ≡ self.now.len }
     {
@@ -72,7 +71,7 @@ impl<T> NlmsghdrAck<T> {
     }
 }
 
-/// The header that these bytes begin with.
+/// The header at the front of these bytes.
 pub(crate) fn header_of<T: Constant<Number = u16>>(bytes: &[u8]) -> NlmsghdrAck<T>
     requires { 16 ≤ length bytes.now }
     ensures { result ≡ header_in T.wire_value bytes.now }
@@ -87,7 +86,7 @@ pub(crate) fn header_of<T: Constant<Number = u16>>(bytes: &[u8]) -> NlmsghdrAck<
 }
 
 impl<T: NlType> NlmsghdrAck<T> {
-    /// The header that these bytes begin with; none where there are fewer than 16. It takes no memory.
+    /// The header at the front of these bytes; `None` if there are fewer than 16. It takes no memory.
     pub fn of_bytes(bytes: &[u8]) -> Option<Self>
         ensures { MatchOption result (length bytes.now < 16)
             (λ h. (16 ≤ length bytes.now) × (h ≡ header_in T.wire_value bytes.now)) }
@@ -142,7 +141,7 @@ impl<T: NlType> Size for NlmsghdrAck<T> {
     }
 }
 
-/// Appends a header. A refusal leaves some of it after what was there.
+/// Appends a header. A refusal leaves some of it appended.
 #[tactic(auto, using(neli_wire::specs::laws::Writing::append_wire_both))]
 fn write_fields<T: Constant<Number = u16>>(
     header: &NlmsghdrAck<T>,
@@ -182,7 +181,7 @@ impl<T: NlType> ToBytes for NlmsghdrAck<T> {
 /// Why no header was built.
 pub type NlmsghdrAckBuilderError = BuildError<{ of::NLMSGHDR_ACK }>;
 
-/// A builder of headers. Each field has to be given.
+/// A builder of headers. Each field is required.
 #[derive(Debug, Drop)]
 pub struct NlmsghdrAckBuilder<T> {
     pub(crate) nl_len: Option<u32>,
@@ -258,9 +257,9 @@ impl<T: Drop> NlmsghdrAckBuilder<T> {
 }
 
 impl<T: Drop> NlmsghdrAckBuilder<T> {
-    /// The header of what was given. It takes no memory.
+    /// Builds the header. It takes no memory.
     ///
-    /// Refused where a field is missing; the first one is named.
+    /// Refused if a field is missing; the error names the first one.
     pub fn build(self) -> Result<NlmsghdrAck<T>, NlmsghdrAckBuilderError>
         ensures built { IfOk result (λ h. built_header self ≡ Ok h) }
         ensures refused { IfErr result
@@ -284,7 +283,7 @@ impl<T: Drop> NlmsghdrAckBuilder<T> {
 }
 
 impl NlmsghdrAck<u16> {
-    /// The same header with the type that its number means.
+    /// The same header with the meaning of its type's number.
     pub fn to_typed<T: NlType>(&self) -> NlmsghdrAck<T>
         ensures { result ≡ typed_header T.wire_value self.now }
     {

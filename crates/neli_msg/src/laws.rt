@@ -1,5 +1,5 @@
-//! What headers, messages and answers say of themselves, by their values. The functions do nothing: their contracts are
-//! the laws.
+//! What headers, messages and answers state about themselves, by their values. The functions do nothing: their
+//! contracts are the laws.
 
 ghost use Rattle.std.specs.Prelude.{◌≡◌, ◌<◌, drop, length};
 ghost use Rattle.neli_wire.specs.Frames.{frame_at, frame_takes_memory};
@@ -25,7 +25,7 @@ pub fn header_is_its_bytes<T: NlType>()
     ensures copy { OnlyWhere ⟦<NlmsghdrAck<T> as TryClone>⟧.copy_takes_memory (λ h. ⊥) }
 {}
 
-/// A message is written and read as a frame with a header of 16 bytes, one that is echoed too.
+/// A message is written and read as a frame with a header of 16 bytes, also an echoed one.
 pub fn message_is_its_frame<T: NlType, W: ToBytes, R: FromBytesWithInput>()
     ensures header { ⟦<Nlmsghdr<T, W> as Header>⟧.header ≡ 16 }
     ensures written { AreSame ⟦<Nlmsghdr<T, W> as ToBytes>⟧.wire (message_wire T.wire_number W.wire) }
@@ -50,8 +50,8 @@ pub fn answer_is_its_parts<M: ToBytes>()
     ensures size { AreSame ⟦<Nlmsgerr<M> as Size>⟧.unpadded_length (answer_size M.Size.wire_length) }
 {}
 
-/// An answer is read by what it answers: nothing, a header alone, or a message with its payload. It takes memory only
-/// where attributes follow or the payload does.
+/// An answer is read by what it answers: nothing, only a header, or a message with its payload. It takes memory only if
+/// attributes follow or the payload takes some.
 pub fn answers_are_read<T: NlType, R: FromBytesWithInput>()
     ensures dump_end { AreSame ⟦<Nlmsgerr<()> as FromBytesWithInput>⟧.read dump_end_in }
     ensures dump_end_memory { OnlyWhere ⟦<Nlmsgerr<()> as FromBytesWithInput>⟧.takes_memory

@@ -1,14 +1,14 @@
-//! What messages are made of: their header, their payload by its kind, errors and acknowledgements.
+//! The parts of messages: their header, their payload by its kind, errors and acknowledgements.
 //!
-//! - [`NlmsghdrAck`]: the header that every message begins with, and that an acknowledgement answers.
+//! - [`NlmsghdrAck`]: the header at the front of every message, and in an acknowledgement.
 //! - [`NlmsghdrErr`]: the message that an error answers, as it is echoed.
 //! - [`Nlmsgerr`]: an answer, which is a code, what it answers, and attributes.
-//! - [`Explained`]: an answer as a person reads it.
+//! - [`Explained`]: an answer in a form for people.
 //! - [`NlPayload`]: the payload of a message, by its kind.
-//! - [`Framed`]: a header and what it carries, which all messages are.
-//! - [`laws`]: what these say of themselves.
+//! - [`Framed`]: a header and its payload, the form of all messages.
+//! - [`laws`]: what these state about themselves.
 //!
-//! `specs/Kinds.antt` says on one page which kind a payload is and what its bytes say.
+//! `specs/Kinds.antt` states on one page which kind a payload is and how its bytes are read.
 #![tactic(auto)]
 
 mod answer;

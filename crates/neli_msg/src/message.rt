@@ -27,11 +27,11 @@ use neli_wire::{DeError, FromBytesWithInput, MsgError, SerError, Size, Uninitial
 use std::alloc::Global;
 use std::mem::replace;
 
-/// A message: `struct nlmsghdr` of linux/netlink.h and what it carries.
+/// A message: `struct nlmsghdr` of linux/netlink.h and its payload.
 pub type Nlmsghdr<T, P> = Framed<T, NlPayload<T, P>>;
 
 impl<T, P> Framed<T, NlPayload<T, P>> {
-    /// What the message carries.
+    /// The payload of the message.
     pub fn nl_payload(&self) -> &NlPayload<T, P>
         ensures { result.now ≡ self.now.payload }
     {
@@ -64,7 +64,7 @@ pub type NlmsghdrBuilderError = BuildError<{ of::NLMSGHDR }>;
 pub type NlmsghdrBuilder<T, P> = FramedBuilder<T, NlPayload<T, P>>;
 
 impl<T: Drop, P: Drop> FramedBuilder<T, NlPayload<T, P>> {
-    /// What the message carries.
+    /// The payload of the message.
     pub fn nl_payload(mut self, value: NlPayload<T, P>) -> Self
         ensures { result ≡ record self { payload = Some value } }
     {
@@ -74,10 +74,10 @@ impl<T: Drop, P: Drop> FramedBuilder<T, NlPayload<T, P>> {
 }
 
 impl<T: NlType + Drop, P: Size + Drop> FramedBuilder<T, NlPayload<T, P>> {
-    /// The message of what was given, with the length of its header and payload, rounded up to four: a body
-    /// of 5 bytes is read back as 8, with zeros at its end. It takes no memory.
+    /// Builds the message, with the length of its header and payload, rounded up to four: a body of 5 bytes is read
+    /// back as 8, with zeros at its end. It takes no memory.
     ///
-    /// Refused where a field is missing, or the length passes 32 bits.
+    /// Refused if a field is missing, or the length exceeds 32 bits.
     pub fn build(self) -> Result<Nlmsghdr<T, P>, NlmsghdrBuilderError>
         ensures built { IfOk result (λ m. built_message P.wire_length self ≡ Ok m) }
         ensures refused { IfErr result
@@ -106,7 +106,7 @@ impl<T: NlType + Drop, P: Size + Drop> FramedBuilder<T, NlPayload<T, P>> {
 }
 
 impl<T, P> Framed<T, NlPayload<T, P>> {
-    /// The message of a header and a payload as they are: its length is the one that the header states.
+    /// The message with this header and payload, unchanged: its length is the one that the header states.
     pub fn from_header(header: NlmsghdrAck<T>, payload: NlPayload<T, P>) -> Self
         ensures header { result.header ≡ header }
         ensures payload { result.payload ≡ payload }
@@ -114,7 +114,7 @@ impl<T, P> Framed<T, NlPayload<T, P>> {
         Self { header, payload }
     }
 
-    /// The body, where the message carries one.
+    /// The body, if the message carries one.
     pub fn get_payload(&self) -> Option<&P>
         ensures { option_map (λ p. p.now) result ≡ body_of self.now.payload }
     {
@@ -126,8 +126,7 @@ impl<T, P> Framed<T, NlPayload<T, P>> {
 }
 
 impl<T: NlType, P: Drop> Framed<T, NlPayload<T, P>> {
-    /// Takes an error out: the message is then empty, and states a length of 16. Another message stays as
-    /// it is.
+    /// Takes an error out: the message is then empty, and states a length of 16. Any other message stays as it is.
     pub fn get_err(&mut self) -> Option<Nlmsgerr<NlmsghdrErr<T, P>>>
         ensures error { result ≡ failure_of self.old.payload }
         ensures left { self.new ≡ without_failure self.old }
@@ -144,8 +143,8 @@ impl<T: NlType, P: Drop> Framed<T, NlPayload<T, P>> {
 }
 
 impl<T: NlType, P: Drop> Framed<T, NlPayload<T, P>> {
-    /// Takes a capped error out: the message is then empty, and states a length of 16. Another message stays
-    /// as it is.
+    /// Takes a capped error out: the message is then empty, and states a length of 16. Any other message stays as it
+    /// is.
     pub fn get_capped(&mut self) -> Option<Nlmsgerr<NlmsghdrAck<T>>>
         ensures error { result ≡ capped_of self.old.payload }
         ensures left { self.new ≡ without_capped self.old }
@@ -162,9 +161,9 @@ impl<T: NlType, P: Drop> Framed<T, NlPayload<T, P>> {
 }
 
 impl<T: NlType, P: Size + Drop> Framed<T, NlPayload<T, P>> {
-    /// Puts another payload in place of the message's, and states its own length.
+    /// Replaces the message's payload, and computes its length anew.
     ///
-    /// Refused as `SerError::Msg` where the length passes 32 bits, and then the message is as it was.
+    /// Refused as `SerError::Msg` if the length exceeds 32 bits; then the message is as it was.
     pub fn set_payload(&mut self, payload: NlPayload<T, P>) -> Result<(), SerError>
         ensures set { OnOk result
             (own_length (payload_size P.wire_length payload) ≡ Ok self.new.header.len) }
@@ -185,12 +184,11 @@ impl<T: NlType, P: Size + Drop> Framed<T, NlPayload<T, P>> {
 }
 
 impl Framed<u16, NlPayload<u16, Buffer>> {
-    /// The same message with the types that numbers mean, and its body's or its echoed payload's bytes
-    /// read as `P`. Lengths are computed anew; codes, attributes and a header that is echoed alone stay.
+    /// The same message with the meanings of its numbers, and its body's or its echoed payload's bytes read as `P`.
+    /// Lengths are computed anew; codes, attributes and a header echoed alone stay.
     ///
-    /// Refused with the refusal of these bytes as [`RouterError::De`], as [`RouterError::Msg`] where a length
-    /// passes 32 bits, or as [`RouterError::Memory`], only where reading these bytes takes memory or there are
-    /// attributes to copy.
+    /// Refused with the refusal of these bytes as [`RouterError::De`], as [`RouterError::Msg`] if a length exceeds 32
+    /// bits, or as [`RouterError::Memory`], only if reading these bytes takes memory or there are attributes to copy.
     pub fn to_typed<T: NlType, P: FromBytesWithInput + Size>(
         &self,
         alloc: Global,

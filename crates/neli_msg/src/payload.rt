@@ -1,4 +1,4 @@
-//! What a message carries after its header.
+//! The payload of a message, after its header.
 
 ghost use Rattle.std.specs.Prelude.{◌≡◌, ℕ, List, Ok, Err, IsOk, IfOk, IfErr, OnOk, OnErr, IsTrue, ◌↔◌, length};
 ghost use Rattle.neli_wire.specs.Place.{whole};
@@ -26,12 +26,12 @@ use std::alloc::Global;
 /// The payload of a message, by its kind.
 #[derive(Debug, Drop, PartialEq, Eq)]
 pub enum NlPayload<T, P> {
-    /// An acknowledgement: type 2 (`NLMSG_ERROR`) with code 0. It has the header that it answers, and
-    /// attributes where its flags have both CAPPED and ACK_TLVS; else what follows the header is not read.
+    /// An acknowledgement: type 2 (`NLMSG_ERROR`) with code 0. It has the header that it answers, and attributes if its
+    /// flags have both CAPPED and ACK_TLVS; otherwise what follows the header is not read.
     Ack(Nlmsgerr<NlmsghdrAck<T>>),
-    /// A capped error: type 2 (`NLMSG_ERROR`) with another code and the flag CAPPED, as the kernel sends it
-    /// on a socket with `NETLINK_CAP_ACK`. It has the header of the message that it answers, with the length
-    /// of the whole, and attributes where its flags have ACK_TLVS; else what follows the header is not read.
+    /// A capped error: type 2 (`NLMSG_ERROR`) with another code and the flag CAPPED, as the kernel sends it on a socket
+    /// with `NETLINK_CAP_ACK`. It has the header of the message that it answers, with the length of the whole, and
+    /// attributes if its flags have ACK_TLVS; otherwise what follows the header is not read.
     Capped(Nlmsgerr<NlmsghdrAck<T>>),
     /// The end of a dump: type 3 (`NLMSG_DONE`) with the flag MULTI. It has a code and attributes.
     DumpExtAck(Nlmsgerr<()>),
@@ -121,7 +121,7 @@ fn read_as<T: Constant<Number = u16>, P: FromBytesWithInput>(
     }
 }
 
-/// Reads the payload that these bytes are, after a header of this type and these flags.
+/// Reads these bytes as the payload after a header of this type and these flags.
 pub(crate) fn read_payload<T: Constant<Number = u16>, P: FromBytesWithInput>(
     alloc: Global,
     number: u16,
@@ -138,10 +138,10 @@ pub(crate) fn read_payload<T: Constant<Number = u16>, P: FromBytesWithInput>(
 }
 
 impl<T: Constant<Number = u16>, P: FromBytesWithInput> NlPayload<T, P> {
-    /// Reads the payload that the next `n` bytes are, after a header of this type and these flags.
+    /// Reads the next `n` bytes as the payload after a header of this type and these flags.
     ///
-    /// `InvalidInput(n)` where there are fewer bytes, and then the refusals of the kind in the order of
-    /// its parts. A refusal leaves the cursor where it was.
+    /// `InvalidInput(n)` if there are fewer bytes, and then the refusals of the kind in the order of its parts. A
+    /// refusal leaves the cursor where it was.
     pub fn from_parts(
         alloc: Global,
         cursor: &mut Cursor<'_>,
@@ -214,7 +214,7 @@ impl<T: NlType, P: ToBytes> ToBytes for NlPayload<T, P> {
 impl<T: NlType, P: TryClone> NlPayload<T, P> {
     /// An equal payload.
     ///
-    /// Refused only where memory runs out: a copy takes some where that of the body does, or for attributes.
+    /// Refused only if memory runs out: a copy takes some where that of the body does, or for attributes.
     pub fn try_clone(&self) -> Result<Self, NoMemory>
         ensures value { IfOk result (λ p. p ≡ self.now) }
         ensures memory { OnErr result (payload_copy_takes_memory P.copy_takes_memory self.now) }
@@ -239,7 +239,7 @@ impl<T: NlType, P: TryClone> TryClone for NlPayload<T, P> {
 }
 
 impl NlPayload<u16, Buffer> {
-    /// How many bytes a body has; 0 for the other kinds.
+    /// The number of a body's bytes; 0 for the other kinds.
     pub(crate) fn body_len(&self) -> usize
         ensures { result ≡ body_count self.now }
     {
@@ -249,12 +249,12 @@ impl NlPayload<u16, Buffer> {
         }
     }
 
-    /// The same payload with the types that numbers mean, and the first `n` bytes of a body, or all the
-    /// echoed bytes of an error, read as `P`. Codes, attributes and a header that is echoed alone stay.
+    /// The same payload with the meanings of its numbers, and the first `n` bytes of a body, or all the echoed bytes of
+    /// an error, read as `P`. Codes, attributes and a header echoed alone stay.
     ///
-    /// Refused as [`RouterError::De`] with `InvalidInput(n)` where a body has fewer bytes, else with the
-    /// refusal of these bytes; as [`RouterError::Msg`] where an echoed message's length passes 32 bits; or as
-    /// [`RouterError::Memory`], only where reading these bytes takes memory or there are attributes to copy.
+    /// Refused as [`RouterError::De`] with `InvalidInput(n)` if a body has fewer bytes, otherwise with the refusal of
+    /// these bytes; as [`RouterError::Msg`] if an echoed message's length exceeds 32 bits; or as
+    /// [`RouterError::Memory`], only if reading these bytes takes memory or there are attributes to copy.
     pub fn to_typed<T: NlType, P: FromBytesWithInput + Size>(
         &self,
         alloc: Global,

@@ -1,4 +1,4 @@
-//! What a router reports.
+//! The errors of a router.
 
 ghost use Rattle.std.specs.Prelude.{◌≡◌, Err, IfErr, IfOk, IfSome, OnErr};
 ghost use Rattle.neli_attr.specs.Builders.{message_in};
@@ -17,28 +17,28 @@ use std::error::Error;
 use std::fmt;
 use std::io::ErrorKind;
 
-/// Why a router has no message, or what came in place of one; `T` and `P` are the types of messages.
+/// Why a router has no message, or what arrived in place of one; `T` and `P` are the types of messages.
 #[derive(Debug, Drop)]
 pub enum RouterError<T, P> {
-    /// What went wrong, in words.
+    /// A text says what went wrong.
     Msg(MsgError),
     /// An input or an output failed.
     Io(ErrorKind),
-    /// Bytes are not what they were read as. Out of memory is [`RouterError::Memory`].
+    /// Bytes were not read. Out of memory is [`RouterError::Memory`].
     De(DeError),
     /// The link failed, a datagram could not be read to its end, or a request's payload is not written.
     Socket(SocketError),
-    /// The other side answers with an error.
+    /// The other side answered with an error.
     Nlmsgerr(Nlmsgerr<NlmsghdrErr<T, P>>),
-    /// The other side answers with an error that echoes the header of the request alone.
+    /// The other side answered with an error that echoes only the header of the request.
     Capped(Nlmsgerr<NlmsghdrAck<T>>),
-    /// A message came with a sequence number or a port that no request has.
+    /// A message arrived with a sequence number or a port that no request has.
     BadSeqOrPid(Nlmsghdr<T, P>),
-    /// An acknowledgement was asked for, and something else came.
+    /// An acknowledgement was requested, and something else arrived.
     NoAck,
-    /// An acknowledgement came that was not asked for.
+    /// An acknowledgement arrived that was not requested.
     UnexpectedAck,
-    /// The handle is not open here: of a request, or of multicast.
+    /// The handle is not open here, of a request or of multicast.
     ClosedChannel,
     /// The sequence number belongs to a request that is still open.
     SeqInUse(u32),
@@ -47,9 +47,9 @@ pub enum RouterError<T, P> {
 }
 
 impl<T, P> RouterError<T, P> {
-    /// The error in the words that `message` prints, where its type states them.
+    /// The error with the text that `message` prints, where its type states that text.
     ///
-    /// Refused only where memory runs out.
+    /// Refused only if memory runs out.
     pub fn new<D: fmt::Display + Drop>(
         alloc: Global,
         message: D,
@@ -63,8 +63,8 @@ impl<T, P> RouterError<T, P> {
 impl<T: NlType, P: TryClone> RouterError<T, P> {
     /// An equal error.
     ///
-    /// Refused only where memory runs out, and only where the error has a text, attributes, or a message of which a
-    /// copy takes some.
+    /// Refused only if memory runs out, and only where the error has a text, attributes, or a message whose copy takes
+    /// some.
     pub fn try_clone(&self) -> Result<Self, NoMemory>
         ensures value { IfOk result (λ e. e ≡ self.now) }
         ensures memory { OnErr result (error_copy_takes_memory P.copy_takes_memory self.now) }
@@ -95,13 +95,13 @@ impl<T: NlType, P: TryClone> TryClone for RouterError<T, P> {
 }
 
 impl RouterError<u16, Buffer> {
-    /// The same error as one of other types: what the other side's answer echoes, and a message with a bad
-    /// sequence number or port, are retyped, with lengths computed anew; every other error stays as it is.
+    /// The same error with other types: what the other side's answer echoes, and a message with a bad sequence number
+    /// or port, are retyped, with lengths computed anew; every other error stays as it is.
     ///
-    /// Refused as [`Nlmsgerr::to_typed`] and [`Nlmsghdr::to_typed`] are: with the refusal of the message's
-    /// bytes as [`RouterError::De`], as [`RouterError::Msg`] where a length passes 32 bits, or as
-    /// [`RouterError::Memory`], as they say. `Memory` alone refuses a `Capped` that has attributes, and a `Msg`, a `De`
-    /// and a `Socket` that have a text, which are copied; no other error is refused.
+    /// Refused as [`Nlmsgerr::to_typed`] and [`Nlmsghdr::to_typed`] are: with the refusal of the message's bytes as
+    /// [`RouterError::De`], as [`RouterError::Msg`] if a length exceeds 32 bits, or as [`RouterError::Memory`]. Only
+    /// `Memory` refuses a `Capped` that has attributes, and a `Msg`, a `De` and a `Socket` that have a text, which are
+    /// copied; no other error is refused.
     pub fn to_typed<T: NlType, P: FromBytesWithInput + Size>(
         &self,
         alloc: Global,
@@ -198,7 +198,7 @@ impl<T, P> From<SocketError> for RouterError<T, P> {
 impl<T, P, const OF: u8> From<BuildError<OF>> for RouterError<T, P> {
     ghost from_gives = { λ error e. e ≡ router_of_message (message_in error) };
 
-    /// The words of the builder's error. Memory that ran out stays so.
+    /// The text of the builder's error. `Memory` stays `Memory`.
     fn from(error: BuildError<OF>) -> Self {
         match error.into_message() {
             Some(message) => RouterError::Msg(message),

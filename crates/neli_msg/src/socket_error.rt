@@ -1,4 +1,4 @@
-//! What a reader of messages, or a link below it, reports.
+//! The errors of a reader of messages, or of a link below it.
 
 ghost use Rattle.std.specs.Prelude.{◌≡◌, IfOk, IfSome, OnErr};
 ghost use Rattle.std.specs.IoError.{error_kind};
@@ -17,7 +17,7 @@ use std::{fmt, io};
 /// Why a message was not sent or received.
 #[derive(Debug, Drop)]
 pub enum SocketError {
-    /// What went wrong, in words.
+    /// A text says what went wrong.
     Msg(MsgError),
     /// A message was not written. Out of memory is [`SocketError::Memory`].
     Ser(SerError),
@@ -30,9 +30,9 @@ pub enum SocketError {
 }
 
 impl SocketError {
-    /// The error in the words that `message` prints, where its type states them.
+    /// The error with the text that `message` prints, where its type states that text.
     ///
-    /// Refused only where memory runs out.
+    /// Refused only if memory runs out.
     pub fn new<D: fmt::Display + Drop>(alloc: Global, message: D) -> Result<SocketError, NoMemory>
         ensures { IfOk result (λ e. IfSome (D.output message) (λ text. e ≡ socket.Msg text)) }
     {
@@ -41,7 +41,7 @@ impl SocketError {
 
     /// An equal error.
     ///
-    /// Refused only where memory runs out, and only where the error has a text.
+    /// Refused only if memory runs out, and only where the error has a text.
     pub fn try_clone(&self) -> Result<SocketError, NoMemory>
         ensures value { IfOk result (λ e. e ≡ self.now) }
         ensures memory { OnErr result (socket_copy_takes_memory self.now) }
@@ -113,7 +113,7 @@ impl From<io::Error> for SocketError {
 impl<const OF: u8> From<BuildError<OF>> for SocketError {
     ghost from_gives = { λ error e. e ≡ socket_of_message (message_in error) };
 
-    /// The words of the builder's error. Memory that ran out stays so.
+    /// The text of the builder's error. `Memory` stays `Memory`.
     fn from(error: BuildError<OF>) -> SocketError {
         match error.into_message() {
             Some(message) => SocketError::Msg(message),

@@ -1,4 +1,4 @@
--- Bytes that are kept in an array of 32 whose rest is zeros.
+-- Bytes kept in an array of 32 whose rest is zeros.
 use Rattle.std.proofs.Common.{◌≡◌, ℕ, ◌≤◌, ◌-◌, List, ◌++◌, length, replicate, take, drop, refl, sym, ap, arith}
 use Rattle.std.proofs.Common.{length-append}
 use Rattle.std.proofs.lemmas.List.{take_at, drop-replicate, length-replicate}
@@ -6,7 +6,7 @@ use Rattle.std.proofs.lemmas.List.{take_at, drop-replicate, length-replicate}
 abbrev zeros : ℕ → List ℕ
 zeros n = replicate n 0
 
--- at most 32 bytes and what is left of 32 zeros
+-- at most 32 bytes and the rest of 32 zeros
 pub held_in_zeros : (xs : List ℕ) → length xs ≤ 32 → (length xs ≤ 32)
     × (length (xs ++ drop (length xs) (zeros 32)) ≡ 32)
     × (xs ++ drop (length xs) (zeros 32) ≡ take (length xs) (xs ++ drop (length xs) (zeros 32)) ++ zeros

@@ -1,4 +1,4 @@
--- The bytes of a text, one after the other, where some stand before them already.
+-- The bytes of a text, one after the other, after those that stand already.
 use Rattle.std.proofs.Common.{◌≡◌, ℕ, suc, ◌<◌, false, nat_eq, List, [], ◌∷◌, ◌++◌, drop, length, get_or, Option, Some}
 use Rattle.std.proofs.Common.{None, refl, sym, ap, append_assoc, arith}
 use Rattle.std.specs.Prelude.{option_map}

@@ -1,4 +1,4 @@
--- The text of a hardware address, as it is read: in either case, and as `Display` prints it but for that.
+-- The text of a hardware address, as it is read: as `Display` prints it, but in either case.
 use Rattle.std.specs.Prelude.{ℕ, zero, suc, ◌+◌, ◌-◌, ◌*◌, ◌==◌, ◌&&◌, List, [], ◌∷◌, drop, Option, Some, None, nat_le}
 use Rattle.std.specs.Prelude.{option_map, if◌then◌else◌}
 
@@ -20,18 +20,18 @@ abbrev pub byte_before : List ℕ → Option ℕ
 byte_before (high ∷ low ∷ rest) = byte_of_digits (digit_value high) (digit_value low)
 byte_before text = None
 
--- a byte, and then the end, or a colon and what `later` says of the text after it
+-- a byte, and then the end, or a colon and what `later` reads from the text after it
 abbrev pub with_later : Option ℕ → List ℕ → (List ℕ → Option (List ℕ)) → Option (List ℕ)
 with_later None rest later = None
 with_later (Some b) [] later = Some (b ∷ [])
 with_later (Some b) (c ∷ rest) later = if c == 58 then option_map (λ bs. b ∷ bs) (later rest) else None
 
--- the bytes of a text, one at least and at most so many
+-- the bytes of a text, at least one and at most this many
 unfoldable pub bytes_of_text : ℕ → List ℕ → Option (List ℕ)
 bytes_of_text zero text = None
 bytes_of_text (suc room) text = with_later (byte_before text) (drop 2 text) (bytes_of_text room)
 
--- the address of a text: none of the empty one, and at most 32 bytes
+-- the address of a text: no bytes for the empty one, and at most 32
 abbrev pub hardware_parsed : List ℕ → Option (List ℕ)
 hardware_parsed [] = Some []
 hardware_parsed text = bytes_of_text 32 text

@@ -1,4 +1,4 @@
--- How long an address lasts. `struct ifa_cacheinfo` of linux/if_addr.h.
+-- The lifetimes of an address: `struct ifa_cacheinfo` of linux/if_addr.h.
 use Rattle.std.specs.Prelude.{ℕ, List, ◌++◌}
 use Rattle.neli_wire.specs.Frames.{number_in}
 use Rattle.neli_wire.specs.Numbers.{FitsBytes, little_bytes}

@@ -3,7 +3,7 @@ use Rattle.std.specs.Prelude.{ℕ, ◌+◌, List, length, nat_le, if◌then◌el
 use Rattle.neli_wire.specs.Frames.{number_in}
 use Rattle.neli_payloads.specs.declared.link_stats64.LinkStats64.{LinkStats64}
 
--- the number of the eight bytes from a place on; 0 where they are not there
+-- the number of the eight bytes from a place on; 0 if they are not all there
 abbrev pub count_at : ℕ → List ℕ → ℕ
 count_at place s = if nat_le (place + 8) (length s) then number_in 8 place s else 0
 

@@ -8,7 +8,7 @@ use Rattle.neli_wire.specs.Reading.{refusal_within}
 use Rattle.neli_reader.specs.Cuts.{Cut, cut_of}
 use Rattle.neli_payloads.specs.declared.next_hops.NextHop.{NextHop}
 
--- what stands before the attributes
+-- the fields before the attributes
 pub record HopHead : Type 0 where
   pub len : ℕ
   pub flags : ℕ
@@ -29,11 +29,11 @@ next_hop = record {
   payload_of = λ _ bytes. Ok bytes;
 }
 
--- what one says: its fields, and the bytes of its attributes
+-- a next hop as read: its fields, and the bytes of its attributes
 abbrev pub next_hop_view : NextHop → HopHead × List ℕ
 next_hop_view h = (record { len = h.len; flags = h.flags; hops = h.hops; ifindex = h.ifindex }, h.attributes.now)
 
--- what is left at a place: the next hops, and the fault after them
+-- the rest at a place: the next hops, and the fault after them
 unfoldable pub next_hops_at : Place → Cut (HopHead × List ℕ)
 next_hops_at place =
     let cut = cut_of next_hop place.rest in

@@ -1,4 +1,4 @@
--- What is cached of a route. `struct rta_cacheinfo` of linux/rtnetlink.h.
+-- The cache entry of a route: `struct rta_cacheinfo` of linux/rtnetlink.h.
 use Rattle.std.specs.Prelude.{ℕ, List, ◌++◌, drop, FitsSigned}
 use Rattle.std.specs.Int.{w32}
 use Rattle.neli_wire.specs.Frames.{number_in}

@@ -1,4 +1,4 @@
--- An InfiniBand identity of a virtual function. `struct ifla_vf_guid` of linux/if_link.h.
+-- An InfiniBand identity of a virtual function: `struct ifla_vf_guid` of linux/if_link.h.
 use Rattle.std.specs.Prelude.{ℕ, List, ◌++◌}
 use Rattle.neli_wire.specs.Frames.{number_in}
 use Rattle.neli_wire.specs.Numbers.{FitsBytes, little_bytes}

@@ -1,4 +1,4 @@
--- The hardware address of a virtual function. `struct ifla_vf_mac` of linux/if_link.h.
+-- The hardware address of a virtual function: `struct ifla_vf_mac` of linux/if_link.h.
 use Rattle.std.specs.Prelude.{ℕ, List, ◌++◌, drop}
 use Rattle.neli_wire.specs.Frames.{number_in}
 use Rattle.neli_wire.specs.Numbers.{FitsBytes, little_bytes}

@@ -1,4 +1,4 @@
--- How much a virtual function may send. `struct ifla_vf_rate` of linux/if_link.h.
+-- The rates of a virtual function: `struct ifla_vf_rate` of linux/if_link.h.
 use Rattle.std.specs.Prelude.{ℕ, List, ◌++◌}
 use Rattle.neli_wire.specs.Frames.{number_in}
 use Rattle.neli_wire.specs.Numbers.{FitsBytes, little_bytes}

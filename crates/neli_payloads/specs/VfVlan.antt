@@ -1,4 +1,4 @@
--- The VLAN of a virtual function. `struct ifla_vf_vlan` of linux/if_link.h.
+-- The VLAN of a virtual function: `struct ifla_vf_vlan` of linux/if_link.h.
 use Rattle.std.specs.Prelude.{ℕ, List, ◌++◌}
 use Rattle.neli_wire.specs.Frames.{number_in}
 use Rattle.neli_wire.specs.Numbers.{FitsBytes, little_bytes}

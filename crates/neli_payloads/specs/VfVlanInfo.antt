@@ -1,4 +1,4 @@
--- The VLAN of a virtual function, with its protocol. `struct ifla_vf_vlan_info` of linux/if_link.h.
+-- The VLAN of a virtual function, with its protocol: `struct ifla_vf_vlan_info` of linux/if_link.h.
 use Rattle.std.specs.Prelude.{ℕ, List, ◌++◌, drop}
 use Rattle.neli_wire.specs.Frames.{number_in}
 use Rattle.neli_wire.specs.Numbers.{FitsBytes, big_bytes, big_number, little_bytes}

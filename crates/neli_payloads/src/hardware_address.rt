@@ -15,14 +15,14 @@ use std::alloc::Global;
 use std::fmt;
 use std::marker::Model;
 
-/// The most bytes that the address of a device has (`MAX_ADDR_LEN` of `linux/netdevice.h`).
+/// The most bytes of a device's address (`MAX_ADDR_LEN` of `linux/netdevice.h`).
 const MOST: usize = 32;
 
-/// The address of a device on its link, such as a MAC address: at most 32 bytes, and no byte where the link has no
+/// The address of a device on its link, such as a MAC address: at most 32 bytes, and empty where the link has no
 /// addresses. Contracts see it as the list of its bytes.
 ///
-/// It is the payload of `Ifla::Address`, `Ifla::Broadcast` and `Nda::Lladdr`. It prints as people write it:
-/// `02:42:ac:11:00:02`, and nothing where it has no byte.
+/// It is the payload of `Ifla::Address`, `Ifla::Broadcast` and `Nda::Lladdr`. It prints in the usual form:
+/// `02:42:ac:11:00:02`, and nothing if it is empty.
 #[derive(Clone, Copy)]
 pub struct HardwareAddress {
     bytes: [u8; 32],
@@ -37,7 +37,7 @@ impl Model for HardwareAddress {
 
     ghost view = { λ a. take a.count a.bytes };
 
-    // What is left of the array is zeros.
+    // The rest of the array is zeros.
     ghost invariant = { λ a. (a.count ≤ 32) × (length a.bytes ≡ 32)
         × (a.bytes ≡ take a.count a.bytes ++ replicate (32 - a.count) 0) };
 
@@ -49,7 +49,7 @@ impl Model for HardwareAddress {
 }
 
 impl HardwareAddress {
-    /// The address of these bytes; `None` where they are more than 32.
+    /// The address of these bytes; `None` if they are more than 32.
     pub fn from_bytes(bytes: &[u8]) -> Option<HardwareAddress>
         ensures value { IfSome result (λ a. a ≡ bytes.now) }
         ensures fits { IsSome result ↔ (length bytes.now ≤ 32) }
@@ -70,7 +70,7 @@ impl HardwareAddress {
         &self.bytes[..self.count]
     }
 
-    /// How many bytes it has, at most 32.
+    /// The number of bytes, at most 32.
     pub fn len(&self) -> usize
         ensures value { result ≡ length self.now }
         ensures most { result ≤ 32 }
@@ -191,7 +191,7 @@ impl FromBytesWithInput for HardwareAddress {
 
     ghost never_short = { hardware_address-never_short };
 
-    /// Takes the next `n` bytes as they are; `InvalidInput(n)` where they are more than 32. It takes no memory.
+    /// Takes the next `n` bytes as they are; `InvalidInput(n)` if they are more than 32. It takes no memory.
     fn from_bytes_with_input(
         _alloc: Global,
         cursor: &mut Cursor<'_>,

@@ -1,4 +1,4 @@
-//! Hardware addresses that are read from text.
+//! Hardware addresses read from text.
 
 ghost use Rattle.std.specs.Prelude.{◌≡◌, ◌<◌, ◌≤◌, IfSome, IsNone, None, Some, codes, drop, option_map, take};
 ghost use Rattle.std.specs.Result.{result_ok};
@@ -50,7 +50,7 @@ fn byte_before(text: &[u8]) -> Option<(u8, &[u8])>
     Some((high * 16 + low, rest))
 }
 
-/// Puts the bytes of a text that is not empty into `held`, and gives how many they are; `None` where it is no address.
+/// Puts the bytes of a text that is not empty into `held`, and returns their number; `None` if it is no address.
 fn hold_bytes(text: &[u8], held: &mut [u8; 32]) -> Option<usize>
     ensures value { option_map (λ n. take n held.new) result ≡ bytes_of_text 32 text.now }
     ensures most { IfSome result (λ n. n ≤ 32) }
@@ -77,8 +77,8 @@ impl FromStr for HardwareAddress {
 
     ghost from_str_gives = { λ text r. result_ok r ≡ hardware_parsed text };
 
-    /// The address that a text spells as `Display` prints it, with letters in either case: two hexadecimal digits a
-    /// byte, a colon between two bytes, at most 32 bytes, and none of the empty text. Any other text is refused.
+    /// The address that a text spells as `Display` prints it, with letters in either case: two hexadecimal digits for
+    /// each byte, a colon between two bytes, at most 32 bytes, and none for the empty text. Any other text is refused.
     fn from_str(text: &str) -> Result<HardwareAddress, HardwareAddressError> {
         let text = text.as_bytes();
         let mut held = [0; 32];

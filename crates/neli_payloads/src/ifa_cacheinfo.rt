@@ -1,4 +1,4 @@
-//! How long an address lasts.
+//! The lifetimes of an address.
 
 ghost use Rattle.std.specs.Prelude.{◌≡◌, Ok};
 ghost use Rattle.neli_wire.specs.Reading.{value_at};
@@ -14,13 +14,13 @@ use neli_body::{FixedHeader, HeaderBytes, read_fixed, write_fixed};
 use neli_wire::{Cursor, DeError, FromBytes, SerError, Size, ToBytes};
 use std::alloc::Global;
 
-/// How long an address lasts: `struct ifa_cacheinfo` of `linux/if_addr.h`, 16 bytes, the payload of `Ifa::Cacheinfo`.
+/// The lifetimes of an address: `struct ifa_cacheinfo` of `linux/if_addr.h`, 16 bytes, the payload of `Ifa::Cacheinfo`.
 /// A lifetime of `u32::MAX` has no end.
 #[derive(Clone, Copy, Debug, PartialEq, Eq)]
 pub struct IfaCacheinfo {
-    /// For how many seconds more it is preferred.
+    /// How many seconds longer it is preferred.
     pub ifa_prefered: u32,
-    /// For how many seconds more it is valid.
+    /// How many seconds longer it is valid.
     pub ifa_valid: u32,
     /// When it was made, in hundredths of a second since the machine started.
     pub cstamp: u32,

@@ -1,5 +1,5 @@
-//! Laws over the definitions: what is written of a value is read again as the same, when two values are equal, and what
-//! payloads say of themselves. The functions do nothing: their contracts are the laws.
+//! Laws over the definitions: what is written of a value is read back, where two values are equal, and what payloads
+//! state about themselves. The functions do nothing: their contracts are the laws.
 
 ghost use Rattle.std.specs.Iterator.{YieldsFirstBy};
 ghost use Rattle.std.specs.Prelude.{◌≡◌, ◌+◌, ◌≤◌, List, Ok, ℕ, Some, length};
@@ -31,14 +31,14 @@ ghost use Rattle.neli_payloads.specs.VfVlanInfo.{IsPlainVfVlanInfo, vf_vlan_info
 
 use neli_wire::{FromBytes, FromBytesWithInput, Size, ToBytes};
 
-/// The text that is printed of a hardware address is read as that address.
+/// The printed text of a hardware address is read as that address.
 pub fn hardware_text_is_read_back()
     ensures { (bytes : List ℕ) → length bytes ≤ 32 → AreBytes bytes
         → hardware_parsed (hardware_text bytes) ≡ Some bytes }
 {}
 
-/// The lifetimes of an address are written as bytes that are read as the same, where each field has a number of its
-/// size. And bytes that are read as them are those that they are written as.
+/// The lifetimes of an address are read back, if each field has a number of its size. Bytes that are read as them are
+/// written back as the same bytes.
 pub fn ifa_cacheinfo_is_read_back()
     ensures back { (v : IfaCacheinfo) → IsPlainIfaCacheinfo v
         → ifa_cacheinfo_header (ifa_cacheinfo_bytes v) ≡ v }
@@ -46,8 +46,8 @@ pub fn ifa_cacheinfo_is_read_back()
         → ifa_cacheinfo_bytes (ifa_cacheinfo_header s) ≡ s }
 {}
 
-/// A route's cache entry is written as bytes that are read as the same, where each field has a number of its size.
-/// And bytes that are read as one are those that it is written as.
+/// A route's cache entry is read back, if each field has a number of its size. Bytes that are read as one are written
+/// back as the same bytes.
 pub fn rta_cacheinfo_is_read_back()
     ensures back { (v : RtaCacheinfo) → IsPlainRtaCacheinfo v
         → rta_cacheinfo_header (rta_cacheinfo_bytes v) ≡ v }
@@ -55,8 +55,8 @@ pub fn rta_cacheinfo_is_read_back()
         → rta_cacheinfo_bytes (rta_cacheinfo_header s) ≡ s }
 {}
 
-/// What is set for a virtual function is written as bytes that are read as the same, where each field has a number of
-/// its size. And bytes that are read as such a structure are those that it is written as.
+/// The settings of a virtual function are read back, if each field has a number of its size. Bytes that are read as
+/// such a structure are written back as the same bytes.
 pub fn virtual_functions_are_read_back()
     ensures setting_back { (v : VfSetting) → IsPlainVfSetting v
         → vf_setting_header (vf_setting_bytes v) ≡ v }
@@ -80,7 +80,7 @@ pub fn virtual_functions_are_read_back()
         → vf_guid_bytes (vf_guid_header s) ≡ s }
 {}
 
-/// `==` of the lifetimes of addresses, of routes' cache entries, of counters and of what is set for virtual functions
+/// `==` of the lifetimes of addresses, of routes' cache entries, of counters and of the settings of virtual functions
 /// is true exactly where the two values are equal, field by field; that of addresses of devices, where they have the
 /// same bytes.
 pub fn equality()
@@ -110,7 +110,7 @@ pub fn cache_entries_are_their_fields()
     ensures rta_cacheinfo_seen { AreSame ⟦<crate::RtaCacheinfo as FromBytes>⟧.view (λ v. v) }
 {}
 
-/// What is set for a virtual function is written and read as its fields. A read takes no memory.
+/// The settings of a virtual function are written and read as their fields. A read takes no memory.
 pub fn virtual_functions_are_their_fields()
     ensures vf_setting_written { AreSame ⟦<crate::VfSetting as ToBytes>⟧.wire (λ v. Ok (vf_setting_bytes v)) }
     ensures vf_setting_size { AreSame ⟦<crate::VfSetting as Size>⟧.unpadded_length (λ v. 8) }
@@ -144,8 +144,8 @@ pub fn virtual_functions_are_their_fields()
     ensures vf_guid_seen { AreSame ⟦<crate::VfGuid as FromBytes>⟧.view (λ v. v) }
 {}
 
-/// A hardware address is its bytes, as it is written, read and parsed, and the counters of a link are read as theirs. A
-/// read takes no memory.
+/// A hardware address is its bytes, when it is written, read and parsed, and the counters of a link are read as theirs.
+/// A read takes no memory.
 pub fn addresses_and_counters_are_their_bytes()
     ensures address_written { AreWrittenAs ⟦<crate::HardwareAddress as ToBytes>⟧.wire
         ⟦<crate::HardwareAddress as Size>⟧.unpadded_length (λ bytes. bytes) }
@@ -162,8 +162,8 @@ pub fn addresses_and_counters_are_their_bytes()
         (λ s. ⊥) }
 {}
 
-/// A step of a walk over next hops gives the first of what is left, a next hop or else the fault, and leaves what follows
-/// it; it gives the end where nothing is left.
+/// A step of a walk over next hops gives the first item of the rest, a next hop or else the fault, and leaves what
+/// follows it; it gives the end if nothing is left.
 pub fn walk_gives_what_is_left()
     ensures { StepsOnly ⟦<crate::NextHops<'static> as Iterator>⟧.next_gives
         (YieldsFirstBy (map_ok next_hop_view) (λ place. items_of (next_hops_at place))) }

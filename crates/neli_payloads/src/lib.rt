@@ -1,16 +1,16 @@
-//! Payloads that attributes of links, addresses and routes carry: hardware addresses, counters, cache entries, next
-//! hops and what is set for virtual functions.
+//! Payloads of attributes of links, addresses and routes: hardware addresses, counters, cache entries, next hops and
+//! the settings of virtual functions.
 //!
-//! - [`HardwareAddress`]: the payload of `Ifla::Address`, `Ifla::Broadcast` and `Nda::Lladdr`, which is printed
-//!   and read as text too.
+//! - [`HardwareAddress`]: the payload of `Ifla::Address`, `Ifla::Broadcast` and `Nda::Lladdr`, also printed and read as
+//!   text.
 //! - [`LinkStats64`]: the counters of a link, the payload of `Ifla::Stats64`.
-//! - [`IfaCacheinfo`] and [`RtaCacheinfo`]: how long an address lasts, and what is cached of a route.
+//! - [`IfaCacheinfo`] and [`RtaCacheinfo`]: the lifetimes of an address, and the cache entry of a route.
 //! - [`NextHops`]: a walk over the next hops of a route that has several, the payload of `Rta::Multipath`.
-//! - [`VfSetting`], [`VfRate`], [`VfVlan`], [`VfVlanInfo`], [`VfMac`] and [`VfGuid`]: what is set for a virtual
+//! - [`VfSetting`], [`VfRate`], [`VfVlan`], [`VfVlanInfo`], [`VfMac`] and [`VfGuid`]: the settings of a virtual
 //!   function of a link, the payloads of `IflaVf`. That of `IflaVf::Broadcast` is a [`HardwareAddress`].
-//! - [`laws`]: what is written is read again, and when two values are equal.
+//! - [`laws`]: what is written is read back, and where two values are equal.
 //!
-//! A page of `specs/` for each type has what its bytes are.
+//! `specs/` has a page for each type, with its bytes.
 #![tactic(auto)]
 
 mod hardware_address;

@@ -11,7 +11,8 @@ use std::alloc::Global;
 /// The counters of a link: `struct rtnl_link_stats64` of `linux/if_link.h`, the payload of `Ifla::Stats64`. It is 25
 /// numbers of 64 bits, 200 bytes, in Linux 6.1; older kernels send fewer, and newer ones may send more.
 ///
-/// It is read and not written. A field that the bytes do not have whole is 0, and bytes after the 25 are passed over.
+/// It is read and not written. A field whose eight bytes are not all there is 0, and bytes after the 25 numbers are
+/// skipped.
 #[derive(Clone, Copy, Debug, PartialEq, Eq)]
 pub struct LinkStats64 {
     /// Packets received without an error.
@@ -26,9 +27,9 @@ pub struct LinkStats64 {
     pub rx_errors: u64,
     /// Packets that were not sent because of an error.
     pub tx_errors: u64,
-    /// Packets received and not processed, for want of room or of a protocol.
+    /// Packets received and not processed, for lack of room or of a protocol.
     pub rx_dropped: u64,
-    /// Packets dropped on their way out for want of room.
+    /// Packets dropped on their way out for lack of room.
     pub tx_dropped: u64,
     /// Multicast packets received.
     pub multicast: u64,
@@ -36,21 +37,21 @@ pub struct LinkStats64 {
     pub collisions: u64,
     /// Packets received with a wrong length.
     pub rx_length_errors: u64,
-    /// Packets lost since the receiver's buffer was full.
+    /// Packets lost because the receiver's buffer was full.
     pub rx_over_errors: u64,
     /// Packets received with a wrong checksum.
     pub rx_crc_errors: u64,
     /// Packets received that do not end at a byte.
     pub rx_frame_errors: u64,
-    /// Packets lost since the receiver's queue was full.
+    /// Packets lost because the receiver's queue was full.
     pub rx_fifo_errors: u64,
     /// Packets that the host had no room for.
     pub rx_missed_errors: u64,
     /// Packets whose sending was given up.
     pub tx_aborted_errors: u64,
-    /// Packets not sent for want of a carrier.
+    /// Packets not sent for lack of a carrier.
     pub tx_carrier_errors: u64,
-    /// Packets not sent since the sender's queue ran empty.
+    /// Packets not sent because the sender's queue ran empty.
     pub tx_fifo_errors: u64,
     /// Packets sent without a heartbeat from an old transceiver.
     pub tx_heartbeat_errors: u64,
@@ -62,11 +63,11 @@ pub struct LinkStats64 {
     pub tx_compressed: u64,
     /// Packets dropped because the link is inactive.
     pub rx_nohandler: u64,
-    /// Packets dropped since they were for another host.
+    /// Packets dropped because they were for another host.
     pub rx_otherhost_dropped: u64,
 }
 
-/// The number of eight bytes from this place on, the lowest first; 0 where they are not there.
+/// The number of eight bytes from this place on, the lowest first; 0 if they are not all there.
 fn count_at(bytes: &[u8], place: usize) -> u64
     requires { place + 8 ≤ usize.MAX }
     ensures { result ≡ count_at place bytes.now }
@@ -79,7 +80,7 @@ fn count_at(bytes: &[u8], place: usize) -> u64
 }
 
 impl LinkStats64 {
-    /// The counters that these bytes are, however many there are.
+    /// The counters in these bytes, however many there are.
     pub fn from_bytes(bytes: &[u8]) -> LinkStats64
         ensures { result ≡ link_stats64_of bytes.now }
     {

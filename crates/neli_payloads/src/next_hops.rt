@@ -18,8 +18,8 @@ use std::marker::Model;
 /// The size of a next hop before its attributes, in bytes: `struct rtnexthop` of `linux/rtnetlink.h`.
 const HEADER_SIZE: usize = 8;
 
-/// A next hop of a route: `struct rtnexthop` of `linux/rtnetlink.h`, with its attributes, which are the bytes that it
-/// was read from.
+/// A next hop of a route: `struct rtnexthop` of `linux/rtnetlink.h`, with its attributes, which are the bytes that they
+/// were read from.
 #[derive(Clone, Copy, Debug)]
 pub struct NextHop<'b> {
     len: u16,
@@ -51,7 +51,7 @@ impl<'b> NextHop<'b> {
         self.hops
     }
 
-    /// The number of the link that it goes by.
+    /// The index of its output link.
     pub fn rtnh_ifindex(&self) -> i32
         ensures { result ≡ self.now.ifindex }
     {
@@ -73,11 +73,11 @@ impl<'b> NextHop<'b> {
         LentRtattrs::new(self.attributes)
     }
 
-    /// Reads the next hop that the cursor's rest begins with; its attributes stay where they lie. It takes no memory.
+    /// Reads the next hop at the cursor; its attributes stay in place. It takes no memory.
     ///
-    /// Refused with `Io(UnexpectedEof)` where fewer than 8 bytes are there, `InvalidInput(length)` where the stated
-    /// length is below 8, `InvalidInput(length - 8)` where it passes the bytes, and `Io(UnexpectedEof)` where padding
-    /// is missing. A refusal leaves the cursor where it was.
+    /// Refused with `Io(UnexpectedEof)` if there are fewer than 8 bytes, `InvalidInput(length)` if the stated length is
+    /// below 8, `InvalidInput(length - 8)` if it exceeds the bytes, and `Io(UnexpectedEof)` if padding is missing. A
+    /// refusal leaves the cursor where it was.
     #[tactic(auto, unfolding(neli_wire::specs::Frames::frame_at))]
     pub fn lend(cursor: &mut Cursor<'b>) -> Result<NextHop<'b>, DeError>
         ensures value { IfOk result (λ h. frame_at next_hop cursor.old.rest
@@ -116,8 +116,8 @@ impl<'b> NextHop<'b> {
 /// The next hops that bytes list, one after the other, each with its attributes lent: the payload of
 /// `Rta::Multipath`.
 ///
-/// An iterator of results: after the next hops comes the fault of what is left, if it has one, and after a fault comes
-/// nothing. It takes no memory. Contracts see it as a place in the bytes.
+/// An iterator of results: after the next hops it returns the fault of the rest, if there is one; then nothing. It
+/// takes no memory. Contracts see it as a place in the bytes.
 #[derive(Drop)]
 pub struct NextHops<'b> {
     cursor: Cursor<'b>,
@@ -149,7 +149,7 @@ impl<'b> NextHops<'b> {
         }
     }
 
-    /// The next one, or the fault of what is left, or the end.
+    /// The next one, or the fault of the rest, or the end.
     fn step(&mut self) -> Option<Result<NextHop<'b>, DeError>>
         ensures cut { next_hops_at self.old
             ≡ cut_with (map_item next_hop_view result) (next_hops_at self.new) }

@@ -1,4 +1,4 @@
-//! What is cached of a route.
+//! The cache entry of a route.
 
 ghost use Rattle.std.specs.Prelude.{◌≡◌, Ok};
 ghost use Rattle.neli_wire.specs.Reading.{value_at};
@@ -14,16 +14,17 @@ use neli_body::{FixedHeader, HeaderBytes, read_fixed, write_fixed};
 use neli_wire::{Cursor, DeError, FromBytes, SerError, Size, ToBytes};
 use std::alloc::Global;
 
-/// What is cached of a route: `struct rta_cacheinfo` of `linux/rtnetlink.h`, 32 bytes, the payload of `Rta::Cacheinfo`.
+/// The cache entry of a route: `struct rta_cacheinfo` of `linux/rtnetlink.h`, 32 bytes, the payload of
+/// `Rta::Cacheinfo`.
 #[derive(Clone, Copy, Debug, PartialEq, Eq)]
 pub struct RtaCacheinfo {
-    /// How many hold it.
+    /// The number of references to it.
     pub rta_clntref: u32,
     /// How long ago it was last used, in ticks of the clock that `sysconf(_SC_CLK_TCK)` counts.
     pub rta_lastuse: u32,
-    /// In how many such ticks it expires; 0 where it does not, and below 0 where it has.
+    /// The number of such ticks until it expires; 0 if it does not expire, and negative if it has.
     pub rta_expires: i32,
-    /// The error that its packets are refused with, or 0: a kernel puts the number below 0, in two's complement.
+    /// The error that refuses its packets, or 0: a kernel writes the negated number, in two's complement.
     pub rta_error: u32,
     /// How often it was used.
     pub rta_used: u32,

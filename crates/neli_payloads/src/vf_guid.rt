@@ -15,7 +15,7 @@ use std::alloc::Global;
 
 /// An InfiniBand identity of a virtual function: `struct ifla_vf_guid` of `linux/if_link.h`, 16 bytes, the payload of
 /// `IflaVf::IbNodeGuid` and `IflaVf::IbPortGuid`. The four bytes before the identity have no meaning, since a number of
-/// 64 bits stands at a multiple of 8; they are kept as they were read.
+/// 64 bits is aligned to 8; they are kept as they were read.
 #[derive(Clone, Copy, Debug, PartialEq, Eq)]
 pub struct VfGuid {
     /// The number of the virtual function.

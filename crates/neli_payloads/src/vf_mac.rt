@@ -16,7 +16,7 @@ use std::alloc::Global;
 /// The hardware address of a virtual function: `struct ifla_vf_mac` of `linux/if_link.h`, 36 bytes, the payload of
 /// `IflaVf::Mac`.
 ///
-/// The struct does not say how long the address is: it is as long as the link's own, and zeros follow it. That of an
+/// The struct does not state the address's length: it is that of the link's own, and zeros follow it. That of an
 /// Ethernet link is `HardwareAddress::from_bytes(&mac[..6])`.
 #[derive(Clone, Copy, Debug, PartialEq, Eq)]
 pub struct VfMac {

@@ -1,4 +1,4 @@
-//! How much a virtual function may send.
+//! The rates of a virtual function.
 
 ghost use Rattle.std.specs.Prelude.{◌≡◌, Ok};
 ghost use Rattle.neli_wire.specs.Reading.{value_at};
@@ -13,15 +13,15 @@ use neli_body::{FixedHeader, HeaderBytes, read_fixed, write_fixed};
 use neli_wire::{Cursor, DeError, FromBytes, SerError, Size, ToBytes};
 use std::alloc::Global;
 
-/// How much a virtual function may send: `struct ifla_vf_rate` of `linux/if_link.h`, 12 bytes, the payload of
+/// The rates of a virtual function: `struct ifla_vf_rate` of `linux/if_link.h`, 12 bytes, the payload of
 /// `IflaVf::Rate`.
 #[derive(Clone, Copy, Debug, PartialEq, Eq)]
 pub struct VfRate {
     /// The number of the virtual function.
     pub vf: u32,
-    /// What it may send in any case, in Mbit/s; 0 is no promise.
+    /// The rate that it is guaranteed, in Mbit/s; 0 is no guarantee.
     pub min_tx_rate: u32,
-    /// The most that it may send, in Mbit/s; 0 is no limit.
+    /// The greatest rate that it may send at, in Mbit/s; 0 is no limit.
     pub max_tx_rate: u32,
 }
 

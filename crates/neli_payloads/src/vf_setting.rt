@@ -16,15 +16,15 @@ use std::alloc::Global;
 /// One setting of a virtual function, 8 bytes: the payload of five attributes of `IflaVf`, each by a struct of
 /// `linux/if_link.h` of its own.
 ///
-/// | Attribute | Struct | What `setting` is |
+/// | Attribute | Struct | Meaning of `setting` |
 /// |---|---|---|
-/// | `TxRate` | `ifla_vf_tx_rate` | the most that it may send, in Mbit/s; 0 is no limit |
-/// | `Spoofchk` | `ifla_vf_spoofchk` | whether the sender's address of its frames is checked: 0 or 1 |
+/// | `TxRate` | `ifla_vf_tx_rate` | the greatest rate that it may send at, in Mbit/s; 0 is no limit |
+/// | `Spoofchk` | `ifla_vf_spoofchk` | whether the source addresses of its frames are checked: 0 or 1 |
 /// | `LinkState` | `ifla_vf_link_state` | its link: 0 is as the port's, 1 always up, 2 always down |
 /// | `RssQueryEn` | `ifla_vf_rss_query_en` | whether it may ask how receive queues are chosen: 0 or 1 |
 /// | `Trust` | `ifla_vf_trust` | whether it is trusted: 0 or 1 |
 ///
-/// A kernel puts `u32::MAX` where it is a matter of 0 or 1 and the driver does not say.
+/// A kernel writes `u32::MAX` for a setting of 0 or 1 that the driver does not report.
 #[derive(Clone, Copy, Debug, PartialEq, Eq)]
 pub struct VfSetting {
     /// The number of the virtual function.

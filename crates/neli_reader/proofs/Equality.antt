@@ -1,4 +1,4 @@
--- When `==` is equality: of answers, headers and messages, and of an enum that derives it.
+-- Where `==` is equality: for answers, headers and messages, and for an enum that derives it.
 use Rattle.std.specs.Prelude.{◌≡◌, Bool, true, false, List, [], ◌∷◌, ◌&&◌, nat_eq, refl}
 use Rattle.std.specs.Ordering.{int_eq}
 use Rattle.std.specs.Cmp.{first_so, second_so, signed_Decides}

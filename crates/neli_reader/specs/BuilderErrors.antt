@@ -1,4 +1,4 @@
--- Errors of builders: their texts, and what they become.
+-- Errors of builders: their texts, and the errors that they become.
 use Rattle.std.specs.Prelude.{ℕ, List, Option, Some, None}
 use Rattle.neli_wire.specs.DeError.{DeError}
 use Rattle.neli_wire.specs.DeError.TheVariants as de
@@ -10,7 +10,7 @@ use Rattle.neli_reader.specs.declared.builder_error.BuilderError.TheVariants.{Rt
 use Rattle.neli_reader.specs.declared.builder_error.BuilderError.TheVariants.{Ifaddrmsg, Rtgenmsg, Rtmsg}
 use Rattle.neli_reader.specs.declared.builder_error.BuilderError.TheVariants.{Ndmsg, NdaCacheinfo, Tcmsg}
 
--- the words of an error; none where memory ran out
+-- the text of an error; none where memory ran out
 abbrev pub message_of : BuilderError → Option (List ℕ)
 message_of (Nlmsghdr e) = message_in e
 message_of (Nlmsgerr e) = message_in e
@@ -28,7 +28,7 @@ message_of (Ndmsg e) = message_in e
 message_of (NdaCacheinfo e) = message_in e
 message_of (Tcmsg e) = message_in e
 
--- what it prints
+-- the text that it prints
 abbrev pub builder_text : BuilderError → List ℕ
 builder_text (Nlmsghdr e) = error_text e
 builder_text (Nlmsgerr e) = error_text e
@@ -46,7 +46,7 @@ builder_text (Ndmsg e) = error_text e
 builder_text (NdaCacheinfo e) = error_text e
 builder_text (Tcmsg e) = error_text e
 
--- words as an error; without words memory ran out
+-- a text as an error; without a text memory ran out
 abbrev pub de_of_message : Option (List ℕ) → DeError
 de_of_message (Some text) = de.Msg text
 de_of_message None = de.Memory

@@ -1,5 +1,5 @@
-//! Why a builder made nothing, as one type for fifteen of the builders; those of `CnMsg`, `Fibmsg`,
-//! `IflaVlanFlags` and `IflaVlanQosMapping` have their own error alone.
+//! Why a builder made no value, as one type for fifteen of the builders; those of `CnMsg`,
+//! `Fibmsg`, `IflaVlanFlags` and `IflaVlanQosMapping` have only their own error.
 
 ghost use Rattle.std.specs.Prelude.{◌≡◌, Some};
 ghost use Rattle.neli_msg.specs.RouterErrors.{router_of_message};
@@ -13,7 +13,7 @@ use neli_wire::{DeError, MsgError};
 use std::error::Error;
 use std::fmt;
 
-/// Why a builder made nothing, with the builder that it was.
+/// Why a builder made no value, and which builder.
 #[derive(Debug, Drop)]
 pub enum BuilderError {
     /// That of messages.
@@ -36,7 +36,7 @@ pub enum BuilderError {
     Ifinfomsg(BuildError<{ of::IFINFOMSG }>),
     /// That of address bodies.
     Ifaddrmsg(BuildError<{ of::IFADDRMSG }>),
-    /// That of requests by family alone.
+    /// That of requests by family only.
     Rtgenmsg(BuildError<{ of::RTGENMSG }>),
     /// That of route bodies.
     Rtmsg(BuildError<{ of::RTMSG }>),
@@ -48,7 +48,7 @@ pub enum BuilderError {
     Tcmsg(BuildError<{ of::TCMSG }>),
 }
 
-/// The words of a builder's error; none where memory ran out. They take no memory.
+/// The text of a builder's error; none where memory ran out. It takes no memory.
 fn message_of(error: BuilderError) -> Option<MsgError>
     ensures { result ≡ message_of error }
 {
@@ -220,7 +220,7 @@ impl From<BuildError<{ of::TCMSG }>> for BuilderError {
 impl From<BuilderError> for SocketError {
     ghost from_gives = { λ error e. e ≡ socket_of_message (message_of error) };
 
-    /// The words of the builder's error. Memory that ran out stays so.
+    /// The text of the builder's error. `Memory` stays `Memory`.
     fn from(error: BuilderError) -> SocketError {
         match message_of(error) {
             Some(message) => SocketError::Msg(message),
@@ -232,7 +232,7 @@ impl From<BuilderError> for SocketError {
 impl From<BuilderError> for DeError {
     ghost from_gives = { λ error e. e ≡ de_of_message (message_of error) };
 
-    /// The words of the builder's error. Memory that ran out stays so.
+    /// The text of the builder's error. `Memory` stays `Memory`.
     fn from(error: BuilderError) -> DeError {
         match message_of(error) {
             Some(message) => DeError::Msg(message),
@@ -244,7 +244,7 @@ impl From<BuilderError> for DeError {
 impl<T, P> From<BuilderError> for RouterError<T, P> {
     ghost from_gives = { λ error e. e ≡ router_of_message (message_of error) };
 
-    /// The words of the builder's error. Memory that ran out stays so.
+    /// The text of the builder's error. `Memory` stays `Memory`.
     fn from(error: BuilderError) -> Self {
         match message_of(error) {
             Some(message) => RouterError::Msg(message),

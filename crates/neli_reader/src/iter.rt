@@ -17,7 +17,7 @@ pub type NlBuffer<T, P> = FrameList<Nlmsghdr<T, P>>;
 
 /// The messages of a datagram, one after the other, read as `Nlmsghdr<T, P>`.
 ///
-/// Contracts see it as the bytes that it still has to read.
+/// Contracts see it as the bytes still to be read.
 #[derive(Drop)]
 pub struct NlBufferIter<'b, T, P> {
     cursor: Cursor<'b>,
@@ -41,8 +41,8 @@ impl<'b, T: NlType, P: FromBytesWithInput> NlBufferIter<'b, T, P> {
         }
     }
 
-    /// The next message, or the fault that the rest has. After a fault, as after the last message, the
-    /// answer is None. Where memory runs out nothing is taken, and the same call can be made again.
+    /// Returns the next message, or the fault of the rest. After a fault, and after the last message, it returns
+    /// `None`. If memory runs out nothing is taken, and the call can be repeated.
     pub fn next(&mut self, alloc: Global) -> Option<Result<Nlmsghdr<T, P>, SocketError>>
         ensures next { IsNext (message_layout T.wire_value T.wire_number P.read)
             (frame_takes_memory (message_layout T.wire_value T.wire_number P.read)
@@ -58,15 +58,15 @@ impl<'b, T: NlType, P: FromBytesWithInput> NlBufferIter<'b, T, P> {
         self.next_typed(alloc)
     }
 
-    /// The bytes that it still has to read. What is asked of before `next` tells where a message, or the fault, begins:
-    /// as many bytes before the datagram's end as there are here.
+    /// The bytes still to be read. Call it before `next` to find where that message or fault begins: as many bytes
+    /// before the datagram's end as it returns.
     pub fn rest(&self) -> &'b [u8]
         ensures { result.now ≡ self.now }
     {
         self.cursor.rest()
     }
 
-    /// What `next` answers, read as other types.
+    /// The same as `next`, read as other types.
     pub fn next_typed<T2: NlType, P2: FromBytesWithInput>(
         &mut self,
         alloc: Global,
@@ -99,7 +99,7 @@ impl<'b, T: NlType, P: FromBytesWithInput> NlBufferIter<'b, T, P> {
     }
 }
 
-/// The fault that a reader gave; it gives no other error but that memory ran out.
+/// The fault that a reader returned; its only other error is that memory ran out.
 fn fault_of(error: SocketError) -> Result<DeError, NoMemory>
     ensures fault { IfOk result (λ fault. error ≡ SocketError.De fault) }
     ensures memory { OnErr result ((fault : DeError) → error ≢ SocketError.De fault) }
@@ -112,8 +112,8 @@ fn fault_of(error: SocketError) -> Result<DeError, NoMemory>
 
 /// All the messages of a datagram, and the fault after them, if there is one.
 ///
-/// Refused only where memory runs out. A datagram of fewer than the 16 bytes of a header does not ask for any; where its
-/// first message is refused, memory is asked for only where reading that takes some.
+/// Refused only if memory runs out. A datagram of fewer bytes than the 16 of a header takes no memory; if its first
+/// message is refused, only reading that message may take some.
 pub fn cut<T: NlType, P: FromBytesWithInput>(
     alloc: Global,
     bytes: &[u8],

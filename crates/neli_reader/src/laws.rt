@@ -16,30 +16,30 @@ use neli_consts::NlType;
 use neli_msg::{NlPayload, Nlmsgerr, Nlmsghdr, NlmsghdrAck, NlmsghdrErr};
 use neli_wire::FromBytesWithInput;
 
-/// Each byte list is the frames of messages, one after the other, and then nothing or what has a fault.
+/// Each byte list is the frames of messages, one after the other, and then nothing or a rest that has a fault.
 pub fn has_a_cut<T: NlType, P: FromBytesWithInput>()
     ensures { (b : List ℕ) → Cuts (message_layout T.wire_value T.wire_number P.read) b
         (cut_of (message_layout T.wire_value T.wire_number P.read) b).0
         (cut_of (message_layout T.wire_value T.wire_number P.read) b).1 }
 {}
 
-/// No byte list is that in two ways.
+/// No byte list is cut in two ways.
 pub fn has_one_cut<T: NlType, P: FromBytesWithInput>()
     ensures { (b : List ℕ) (ms ns : List (Message T P.Value)) (f g : Option Refusal)
         → Cuts (message_layout T.wire_value T.wire_number P.read) b ms f
         → Cuts (message_layout T.wire_value T.wire_number P.read) b ns g → (ms ≡ ns) × (f ≡ g) }
 {}
 
-/// A message takes 16 bytes at least, so a datagram of n bytes has at most n / 16 of them.
+/// A message takes at least 16 bytes, so a datagram of n bytes has at most n / 16 messages.
 pub fn has_few_messages<T: NlType, P: FromBytesWithInput>()
     ensures { (b : List ℕ) (ms : List (Message T P.Value)) (f : Option Refusal)
         → Cuts (message_layout T.wire_value T.wire_number P.read) b ms f
         → length ms ≤ length b / 16 }
 {}
 
-/// A message that is read untyped, wherever it stands in a datagram, is read as other types exactly as
-/// retyping says: with the same header but for its type, the same codes and attributes, and the body's or
-/// the echoed bytes as `P` reads them, with `P`'s refusal. Where it is refused untyped, it is refused.
+/// A message that is read untyped, wherever it stands in a datagram, is read as other types exactly as retyping states:
+/// with the same header but for its type, the same codes and attributes, and the body's or the echoed bytes as `P`
+/// reads them, with `P`'s refusal. If it is refused untyped, it is refused typed.
 pub fn typed_reading_agrees<T: NlType, P: FromBytesWithInput>()
     ensures typed { (s r : List ℕ) (m : Message ℕ (List ℕ)) → AreBytes s
         → frame_at untyped_layout s ≡ Ok (m, r)
@@ -51,11 +51,11 @@ pub fn typed_reading_agrees<T: NlType, P: FromBytesWithInput>()
         → IsOk (typed_message T.wire_value P.read m) ↔ AreRead P.read m }
 {}
 
-/// Where a datagram has no fault, and no message in it has a tail that is not read, which an acknowledgement
-/// or a capped error has after the header that it echoes where its flags are not both CAPPED and ACK_TLVS, its
-/// messages are written as the same bytes, with zeros for the padding: after each message, after each
-/// attribute of an error, an acknowledgement or the end of a dump, and after an echoed payload. So written,
-/// it is as long as it was, and is read as the same messages.
+/// If a datagram has no fault, and no message in it has an unread tail, its messages are written as the same bytes,
+/// with zeros for the padding: after each message, after each attribute of an error, an acknowledgement or the end of a
+/// dump, and after an echoed payload. An acknowledgement or a capped error has an unread tail if bytes follow the
+/// echoed header and its flags are not both CAPPED and ACK_TLVS. The bytes so written are as many as before, and are
+/// read as the same messages.
 pub fn rewritten_datagram_is_zeroed()
     ensures written { (b : List ℕ) (ms : List (Message ℕ (List ℕ))) → AreBytes b
         → Cuts untyped_layout b ms None → All HasNoTail ms
@@ -66,7 +66,7 @@ pub fn rewritten_datagram_is_zeroed()
         → Cuts untyped_layout b ms None → length (datagram_zeroed b) ≡ length b }
 {}
 
-/// `==` of messages and their parts is true exactly where the two values are equal, field by field, where the types and
+/// `==` of messages and their parts is true exactly where the two values are equal, field by field, if the types and
 /// bodies in them have such an `==`.
 pub fn equality<T: PartialEq, P: PartialEq>()
     ensures header { IsEquality T.eq → IsEquality ⟦<NlmsghdrAck<T> as PartialEq>⟧.eq }

@@ -10,21 +10,21 @@
 //!  +-------+-------+-------+-------+-------+----- - - - -+- - - - +
 //! ```
 //!
-//! The length counts the header and the payload, and not the padding, so L is the length less 16. The
-//! number is the sequence number. A datagram is such messages, one after the other.
+//! The length counts the header and the payload but no padding, so L is the length less 16. The number is the sequence
+//! number. A datagram is such messages, one after the other.
 //!
-//! - [`Nlmsghdr`] is a message, [`NlPayload`] what it carries by its kind, and [`Nlmsgerr`] an error, an
-//!   acknowledgement or the end of a dump; [`NlmsghdrErr`] and [`NlmsghdrAck`] are what these answer.
+//! - [`Nlmsghdr`] is a message, [`NlPayload`] its payload by its kind, and [`Nlmsgerr`] an error, an acknowledgement or
+//!   the end of a dump; [`NlmsghdrErr`] and [`NlmsghdrAck`] are what these answer.
 //! - [`NlBufferIter`] reads the messages of a datagram one by one, [`cut`] reads all of them, and
 //!   [`NlBuffer`] is a list of messages.
-//! - [`SocketError`] is what a reader, or a link below it, reports, [`RouterError`] what a router does, and
-//!   [`BuilderError`] why a builder made nothing, for most builders.
-//! - [`laws`] says that each byte list has one cut, how many messages it can have, that reading a
-//!   message as other types agrees with retyping it, and what of a datagram is written again.
+//! - [`SocketError`] is an error of a reader, or of a link below it, [`RouterError`] one of a router, and
+//!   [`BuilderError`] why a builder made no value, for most builders.
+//! - [`laws`]: each byte list has one cut, the greatest number of its messages, reading a message as other types agrees
+//!   with retyping it, and which bytes of a datagram are written again.
 //!
-//! `specs/Kinds.antt` of `neli_msg` says on one page which kind a payload is; `specs/Messages.antt` how
-//! a message lies in bytes; `specs/Cuts.antt` what a whole datagram means. What stands in `neli_msg`
-//! is re-exported here.
+//! In `neli_msg`, `specs/Kinds.antt` states on one page which kind a payload is, and `specs/Messages.antt` how a
+//! message lies in bytes; here `specs/Cuts.antt` states what a whole datagram means. This crate re-exports the items of
+//! `neli_msg`.
 #![tactic(auto)]
 
 mod builder_error;

@@ -39,7 +39,7 @@ fibmsg_bytes h =
     ++ little_bytes 1 h.pad2 ++ little_bytes 1 (fr_act_number h.fib_action)
     ++ little_bytes 4 h.fib_flags.0
 
--- each field has a number of its size, and is what that number is read as
+-- each field has a number of its size, and is read from that number
 pub record IsPlainFibmsg (h : FibmsgHeader) : Type 0 where
   pub fib_family : IsNamed 1 rt_addr_family_number rt_addr_family_of h.fib_family
   pub fib_dst_len : FitsBytes 1 h.fib_dst_len

@@ -32,7 +32,7 @@ ifaddrmsg_bytes h =
     ++ little_bytes 1 h.ifa_flags.0 ++ little_bytes 1 (rt_scope_number h.ifa_scope)
     ++ little_bytes 4 h.ifa_index
 
--- each field has a number of its size, and is what that number is read as
+-- each field has a number of its size, and is read from that number
 pub record IsPlainIfaddrmsg (h : IfaddrmsgHeader) : Type 0 where
   pub ifa_family : IsNamed 1 rt_addr_family_number rt_addr_family_of h.ifa_family
   pub ifa_prefixlen : FitsBytes 1 h.ifa_prefixlen

@@ -39,7 +39,7 @@ ifinfomsg_bytes h =
     ++ little_bytes 2 (arphrd_number h.ifi_type) ++ signed_bytes w32 4 h.ifi_index
     ++ little_bytes 4 h.ifi_flags.0 ++ little_bytes 4 h.ifi_change.0
 
--- each field has a number of its size, and is what that number is read as
+-- each field has a number of its size, and is read from that number
 pub record IsPlainIfinfomsg (h : IfinfomsgHeader) : Type 0 where
   pub ifi_family : IsNamed 1 rt_addr_family_number rt_addr_family_of h.ifi_family
   pub padding : FitsBytes 1 h.padding
@@ -64,22 +64,22 @@ ifinfomsg_built b =
       rtattrs = unwrap_or b.rtattrs [];
     }))
 
--- the flags of a builder: those that were given, else none
+-- the flags of a builder; none by default
 abbrev pub flags_or_none : Option (FlagSet ℕ 3) → ℕ
 flags_or_none flags = (unwrap_or flags (record { 0 = 0 })).0
 
--- the bits that have names, but UP
+-- all bits with names except UP
 abbrev pub named_but_up : ℕ
 named_but_up = bit_and (2 ^ 32 - 1 - 1) (known_bits iff_names)
 
--- `up` sets UP in the flags and in those that are to be changed
+-- `up` sets UP in the flags and in those to be changed
 abbrev pub ifinfomsg_up : IfinfomsgBuilder → IfinfomsgBuilder
 ifinfomsg_up b = record b {
   ifi_flags = Some (record { 0 = bit_or (flags_or_none b.ifi_flags) 1 });
   ifi_change = Some (record { 0 = bit_or (flags_or_none b.ifi_change) 1 });
 }
 
--- `down` takes UP and the bits without a name out of the flags, and sets UP in those that are to be changed
+-- `down` clears UP and the bits without a name in the flags, and sets UP in those to be changed
 abbrev pub ifinfomsg_down : IfinfomsgBuilder → IfinfomsgBuilder
 ifinfomsg_down b = record b {
   ifi_flags = Some (record { 0 = bit_and (flags_or_none b.ifi_flags) named_but_up });

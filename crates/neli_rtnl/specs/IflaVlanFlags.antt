@@ -1,4 +1,4 @@
--- The flags of a virtual network, after `struct ifla_vlan_flags` of linux/if_link.h, with one byte for each field here.
+-- The flags of a virtual LAN, after `struct ifla_vlan_flags` of linux/if_link.h, with one byte for each field here.
 use Rattle.std.specs.Prelude.{ℕ, List, ◌++◌, codes, Ok}
 use Rattle.neli_wire.specs.Frames.{number_in}
 use Rattle.neli_wire.specs.Numbers.{FitsBytes, little_bytes}
@@ -18,7 +18,7 @@ abbrev pub ifla_vlan_flags_bytes : IflaVlanFlags → List ℕ
 ifla_vlan_flags_bytes h =
     little_bytes 1 h.flags.0 ++ little_bytes 1 h.mask.0
 
--- each field has a number of its size, and is what that number is read as
+-- each field has a number of its size, and is read from that number
 pub record IsPlainIflaVlanFlags (h : IflaVlanFlags) : Type 0 where
   pub flags : FitsBytes 1 h.flags.0
   pub mask : FitsBytes 1 h.mask.0

@@ -1,4 +1,4 @@
--- How a virtual network maps priorities: `struct ifla_vlan_qos_mapping` of linux/if_link.h.
+-- How a virtual LAN maps priorities: `struct ifla_vlan_qos_mapping` of linux/if_link.h.
 use Rattle.std.specs.Prelude.{ℕ, List, ◌++◌, codes, Ok}
 use Rattle.neli_wire.specs.Frames.{number_in}
 use Rattle.neli_wire.specs.Numbers.{FitsBytes, little_bytes}
@@ -18,7 +18,7 @@ abbrev pub ifla_vlan_qos_mapping_bytes : IflaVlanQosMapping → List ℕ
 ifla_vlan_qos_mapping_bytes h =
     little_bytes 4 h.from ++ little_bytes 4 h.to
 
--- each field has a number of its size, and is what that number is read as
+-- each field has a number of its size, and is read from that number
 pub record IsPlainIflaVlanQosMapping (h : IflaVlanQosMapping) : Type 0 where
   pub from : FitsBytes 4 h.from
   pub to : FitsBytes 4 h.to

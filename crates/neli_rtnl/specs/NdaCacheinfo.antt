@@ -21,7 +21,7 @@ nda_cacheinfo_bytes h =
     little_bytes 4 h.ndm_confirmed ++ little_bytes 4 h.ndm_used ++ little_bytes 4 h.ndm_updated
     ++ little_bytes 4 h.ndm_refcnt
 
--- each field has a number of its size, and is what that number is read as
+-- each field has a number of its size, and is read from that number
 pub record IsPlainNdaCacheinfo (h : NdaCacheinfo) : Type 0 where
   pub ndm_confirmed : FitsBytes 4 h.ndm_confirmed
   pub ndm_used : FitsBytes 4 h.ndm_used

@@ -35,7 +35,7 @@ ndmsg_bytes h =
     ++ little_bytes 2 h.pad2 ++ signed_bytes w32 4 h.ndm_index ++ little_bytes 2 h.ndm_state.0
     ++ little_bytes 1 h.ndm_flags.0 ++ little_bytes 1 (rtn_number h.ndm_type)
 
--- each field has a number of its size, and is what that number is read as
+-- each field has a number of its size, and is read from that number
 pub record IsPlainNdmsg (h : NdmsgHeader) : Type 0 where
   pub ndm_family : IsNamed 1 rt_addr_family_number rt_addr_family_of h.ndm_family
   pub pad1 : FitsBytes 1 h.pad1

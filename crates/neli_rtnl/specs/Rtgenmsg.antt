@@ -1,4 +1,4 @@
--- Requests by family alone: `struct rtgenmsg` of linux/rtnetlink.h with its three bytes of padding, and attributes.
+-- Requests by family only: `struct rtgenmsg` of linux/rtnetlink.h with its three bytes of padding, and attributes.
 use Rattle.std.specs.Prelude.{ℕ, List, [], ◌++◌, codes, unwrap_or, Ok}
 use Rattle.neli_wire.specs.Frames.{number_in}
 use Rattle.neli_wire.specs.Numbers.{FitsBytes, little_bytes}
@@ -28,7 +28,7 @@ rtgenmsg_bytes h =
     little_bytes 1 (rt_addr_family_number h.rtgen_family) ++ little_bytes 1 h.pad1
     ++ little_bytes 2 h.pad2
 
--- each field has a number of its size, and is what that number is read as
+-- each field has a number of its size, and is read from that number
 pub record IsPlainRtgenmsg (h : RtgenmsgHeader) : Type 0 where
   pub rtgen_family : IsNamed 1 rt_addr_family_number rt_addr_family_of h.rtgen_family
   pub pad1 : FitsBytes 1 h.pad1

@@ -42,7 +42,7 @@ rtmsg_bytes h =
     ++ little_bytes 1 (rt_scope_number h.rtm_scope) ++ little_bytes 1 (rtn_number h.rtm_type)
     ++ little_bytes 4 h.rtm_flags.0
 
--- each field has a number of its size, and is what that number is read as
+-- each field has a number of its size, and is read from that number
 pub record IsPlainRtmsg (h : RtmsgHeader) : Type 0 where
   pub rtm_family : IsNamed 1 rt_addr_family_number rt_addr_family_of h.rtm_family
   pub rtm_dst_len : FitsBytes 1 h.rtm_dst_len

@@ -32,7 +32,7 @@ tcmsg_bytes h =
     ++ signed_bytes w32 4 h.tcm_ifindex ++ little_bytes 4 h.tcm_handle
     ++ little_bytes 4 h.tcm_parent ++ little_bytes 4 h.tcm_info
 
--- each field has a number of its size, and is what that number is read as
+-- each field has a number of its size, and is read from that number
 pub record IsPlainTcmsg (h : TcmsgHeader) : Type 0 where
   pub tcm_family : FitsBytes 1 h.tcm_family
   pub padding_char : FitsBytes 1 h.padding_char

@@ -1,4 +1,4 @@
-//! What the bodies with attributes have in common: their fields, and then the attributes.
+//! What the bodies with attributes have in common: fields, and then the attributes.
 
 ghost use Rattle.std.specs.Prelude.{◌≡◌, ◌+◌, ◌<◌, IfOk, OnErr, length};
 ghost use Rattle.neli_wire.specs.laws.Sizes.{unpadded-rounded};
@@ -17,7 +17,7 @@ use std::fmt::{self, Debug, Formatter, Write};
 
 /// The fields of a body before its attributes.
 pub trait Fields: FixedHeader + Copy {
-    /// What `Debug` calls the body.
+    /// The name of the body in `Debug`.
     fn name() -> &'static str;
 }
 
@@ -40,7 +40,7 @@ impl<H, A> Body<H, A> {
 impl<H: Fields, A: RtaType> Body<H, A> {
     /// An equal body.
     ///
-    /// Refused only where memory runs out, and never where it has no attributes.
+    /// Refused only if memory runs out, and never where it has no attributes.
     pub fn try_clone(&self) -> Result<Self, NoMemory>
         ensures value { IfOk result (λ m. m ≡ self.now) }
         ensures memory { OnErr result (0 < length self.now.rtattrs) }

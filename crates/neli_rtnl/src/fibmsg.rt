@@ -40,21 +40,21 @@ impl Fibmsg {
         &self.header.fib_family
     }
 
-    /// How many bits of the destination count.
+    /// The prefix length of the destination, in bits.
     pub fn fib_dst_len(&self) -> &u8
         ensures { result.now ≡ self.now.header.fib_dst_len }
     {
         &self.header.fib_dst_len
     }
 
-    /// How many bits of the source count.
+    /// The prefix length of the source, in bits.
     pub fn fib_src_len(&self) -> &u8
         ensures { result.now ≡ self.now.header.fib_src_len }
     {
         &self.header.fib_src_len
     }
 
-    /// The type of service that packets have to ask for; 0 is any.
+    /// The type of service that packets must have; 0 is any.
     pub fn fib_tos(&self) -> &u8
         ensures { result.now ≡ self.now.header.fib_tos }
     {
@@ -188,7 +188,7 @@ impl FibmsgBuilder {
         self
     }
 
-    /// How many bits of the destination count.
+    /// The prefix length of the destination, in bits.
     pub fn fib_dst_len(mut self, value: u8) -> Self
         ensures { result ≡ record self { fib_dst_len = Some value } }
     {
@@ -196,7 +196,7 @@ impl FibmsgBuilder {
         self
     }
 
-    /// How many bits of the source count.
+    /// The prefix length of the source, in bits.
     pub fn fib_src_len(mut self, value: u8) -> Self
         ensures { result ≡ record self { fib_src_len = Some value } }
     {
@@ -204,7 +204,7 @@ impl FibmsgBuilder {
         self
     }
 
-    /// The type of service that packets have to ask for; 0 is any.
+    /// The type of service that packets must have; 0 is any.
     pub fn fib_tos(mut self, value: u8) -> Self
         ensures { result ≡ record self { fib_tos = Some value } }
     {
@@ -244,9 +244,9 @@ impl FibmsgBuilder {
         self
     }
 
-    /// The rule of what was given. It takes no memory.
+    /// Builds the rule. It takes no memory.
     ///
-    /// Refused where a field without a default was not given: the first such field is named.
+    /// Refused if a field without a default is missing; the error names the first such field.
     pub fn build(self, alloc: Global) -> Result<Fibmsg, FibmsgBuilderError>
         ensures built { IfOk result (λ m. fibmsg_built self ≡ Ok m) }
         ensures refused { IfErr result (λ e. (e ≡ BuildError.Memory → ⊥)

@@ -36,7 +36,7 @@ impl Ifaddrmsg {
         &self.header.ifa_family
     }
 
-    /// How many bits of the address name the network.
+    /// The length of the network prefix, in bits.
     pub fn ifa_prefixlen(&self) -> &u8
         ensures { result.now ≡ self.now.header.ifa_prefixlen }
     {
@@ -50,14 +50,14 @@ impl Ifaddrmsg {
         &self.header.ifa_flags
     }
 
-    /// How far the address is known.
+    /// The scope in which the address is valid.
     pub fn ifa_scope(&self) -> &RtScope
         ensures { result.now ≡ self.now.header.ifa_scope }
     {
         &self.header.ifa_scope
     }
 
-    /// The number of the link.
+    /// The index of the link.
     pub fn ifa_index(&self) -> &u32
         ensures { result.now ≡ self.now.header.ifa_index }
     {
@@ -156,7 +156,7 @@ impl IfaddrmsgBuilder {
         self
     }
 
-    /// How many bits of the address name the network.
+    /// The length of the network prefix, in bits.
     pub fn ifa_prefixlen(mut self, value: u8) -> Self
         ensures { result ≡ record self { ifa_prefixlen = Some value } }
     {
@@ -172,7 +172,7 @@ impl IfaddrmsgBuilder {
         self
     }
 
-    /// How far the address is known.
+    /// The scope in which the address is valid.
     pub fn ifa_scope(mut self, value: RtScope) -> Self
         ensures { result ≡ record self { ifa_scope = Some value } }
     {
@@ -180,7 +180,7 @@ impl IfaddrmsgBuilder {
         self
     }
 
-    /// The number of the link.
+    /// The index of the link.
     pub fn ifa_index(mut self, value: u32) -> Self
         ensures { result ≡ record self { ifa_index = Some value } }
     {
@@ -196,9 +196,9 @@ impl IfaddrmsgBuilder {
         self
     }
 
-    /// The address of what was given. It takes no memory.
+    /// Builds the address. It takes no memory.
     ///
-    /// Refused where a field without a default was not given: the first such field is named.
+    /// Refused if a field without a default is missing; the error names the first such field.
     pub fn build(self, alloc: Global) -> Result<Ifaddrmsg, IfaddrmsgBuilderError>
         ensures built { IfOk result (λ m. ifaddrmsg_built self ≡ Ok m) }
         ensures refused { IfErr result (λ e. (e ≡ BuildError.Memory → ⊥)

@@ -44,7 +44,7 @@ impl Ifinfomsg {
         &self.header.ifi_type
     }
 
-    /// The number of the link; 0 is any.
+    /// The index of the link; 0 is any.
     pub fn ifi_index(&self) -> &i32
         ensures { result.now ≡ self.now.header.ifi_index }
     {
@@ -58,7 +58,7 @@ impl Ifinfomsg {
         &self.header.ifi_flags
     }
 
-    /// The flags that a request is to change.
+    /// The flags that a request changes.
     pub fn ifi_change(&self) -> &Iff
         ensures { result.now ≡ self.now.header.ifi_change }
     {
@@ -167,7 +167,7 @@ impl IfinfomsgBuilder {
         self
     }
 
-    /// The number of the link; 0 is any. 0 by default.
+    /// The index of the link; 0 is any. 0 by default.
     pub fn ifi_index(mut self, value: i32) -> Self
         ensures { result ≡ record self { ifi_index = Some value } }
     {
@@ -183,7 +183,7 @@ impl IfinfomsgBuilder {
         self
     }
 
-    /// The flags that a request is to change. None of them by default.
+    /// The flags that a request changes. None of them by default.
     pub fn ifi_change(mut self, value: Iff) -> Self
         ensures { result ≡ record self { ifi_change = Some value } }
     {
@@ -199,7 +199,7 @@ impl IfinfomsgBuilder {
         self
     }
 
-    /// Sets `UP` in the flags, and in those that are to be changed.
+    /// Sets `UP` in the flags, and in those to be changed.
     pub fn up(mut self) -> Self
         ensures { result ≡ ifinfomsg_up self }
     {
@@ -210,8 +210,7 @@ impl IfinfomsgBuilder {
         self
     }
 
-    /// Takes `UP` and the bits without a name out of the flags, and sets `UP` in those that are to be
-    /// changed.
+    /// Clears `UP` and the bits without a name in the flags, and sets `UP` in those to be changed.
     pub fn down(mut self) -> Self
         ensures { result ≡ ifinfomsg_down self }
     {
@@ -222,9 +221,9 @@ impl IfinfomsgBuilder {
         self
     }
 
-    /// The link of what was given. It takes no memory.
+    /// Builds the link. It takes no memory.
     ///
-    /// Refused where a field without a default was not given: the first such field is named.
+    /// Refused if a field without a default is missing; the error names the first such field.
     pub fn build(self, alloc: Global) -> Result<Ifinfomsg, IfinfomsgBuilderError>
         ensures built { IfOk result (λ m. ifinfomsg_built self ≡ Ok m) }
         ensures refused { IfErr result (λ e. (e ≡ BuildError.Memory → ⊥)

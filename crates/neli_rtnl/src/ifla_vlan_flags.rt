@@ -1,4 +1,4 @@
-//! The flags of a virtual network.
+//! The flags of a virtual LAN.
 
 ghost use Rattle.std.specs.Prelude.{◌≡◌, ◌+◌, Some, None, Ok, IfOk, IfErr};
 ghost use Rattle.neli_wire.specs.Reading.{value_at};
@@ -19,8 +19,7 @@ use neli_wire::{
 };
 use std::alloc::Global;
 
-/// The flags of a virtual network, after `struct ifla_vlan_flags` of `linux/if_link.h`, 2 bytes: one for each
-/// field.
+/// The flags of a virtual LAN, after `struct ifla_vlan_flags` of `linux/if_link.h`, 2 bytes: one for each field.
 #[derive(Debug, Drop, PartialEq, Eq)]
 pub struct IflaVlanFlags {
     flags: VlanFlags,
@@ -35,7 +34,7 @@ impl IflaVlanFlags {
         &self.flags
     }
 
-    /// Which flags count.
+    /// The mask: which flags count.
     pub fn mask(&self) -> &VlanFlags
         ensures { result.now ≡ self.now.mask }
     {
@@ -149,7 +148,7 @@ impl FromBytes for IflaVlanFlags {
 /// Why no pair of flags was built.
 pub type IflaVlanFlagsBuilderError = BuildError<{ of::IFLA_VLAN_FLAGS }>;
 
-/// A builder of flags of virtual networks.
+/// A builder of flags of virtual LANs.
 #[derive(Debug, Drop)]
 pub struct IflaVlanFlagsBuilder {
     flags: Option<VlanFlags>,
@@ -176,7 +175,7 @@ impl IflaVlanFlagsBuilder {
         self
     }
 
-    /// Which flags count.
+    /// The mask: which flags count.
     pub fn mask(mut self, value: VlanFlags) -> Self
         ensures { result ≡ record self { mask = Some value } }
     {
@@ -184,9 +183,9 @@ impl IflaVlanFlagsBuilder {
         self
     }
 
-    /// The pair of flags of what was given. It takes no memory.
+    /// Builds the pair of flags. It takes no memory.
     ///
-    /// Refused where a field was not given: the first such field is named.
+    /// Refused if a field is missing; the error names the first such field.
     pub fn build(self) -> Result<IflaVlanFlags, IflaVlanFlagsBuilderError>
         ensures built { IfOk result (λ m. ifla_vlan_flags_built self ≡ Ok m) }
         ensures refused { IfErr result (λ e. (e ≡ BuildError.Memory → ⊥)

@@ -1,4 +1,4 @@
-//! How a virtual network maps priorities.
+//! How a virtual LAN maps priorities.
 
 ghost use Rattle.std.specs.Prelude.{◌≡◌, ◌+◌, Some, None, Ok, IfOk, IfErr};
 ghost use Rattle.neli_wire.specs.Reading.{value_at};
@@ -17,8 +17,8 @@ use neli_wire::{
 };
 use std::alloc::Global;
 
-/// How a virtual network maps a priority: `struct ifla_vlan_qos_mapping` of `linux/if_link.h`, 8 bytes, the
-/// payload of `IflaVlanQos::Mapping`.
+/// How a virtual LAN maps a priority: `struct ifla_vlan_qos_mapping` of `linux/if_link.h`, 8 bytes, the payload of
+/// `IflaVlanQos::Mapping`.
 #[derive(Debug, Drop, PartialEq, Eq)]
 pub struct IflaVlanQosMapping {
     from: u32,
@@ -181,9 +181,9 @@ impl IflaVlanQosMappingBuilder {
         self
     }
 
-    /// The mapping of priorities of what was given. It takes no memory.
+    /// Builds the mapping of priorities. It takes no memory.
     ///
-    /// Refused where a field was not given: the first such field is named.
+    /// Refused if a field is missing; the error names the first such field.
     pub fn build(self) -> Result<IflaVlanQosMapping, IflaVlanQosMappingBuilderError>
         ensures built { IfOk result (λ m. ifla_vlan_qos_mapping_built self ≡ Ok m) }
         ensures refused { IfErr result (λ e. (e ≡ BuildError.Memory → ⊥)

@@ -1,5 +1,5 @@
-//! Laws over the definitions alone: what is written of a body is read again as what is equal to it, and when two
-//! bodies are equal. The functions do nothing: their contracts are the laws.
+//! Laws over the definitions alone: what is written of a body is read again as its equal, and where two bodies are
+//! equal. The functions do nothing: their contracts are the laws.
 
 ghost use Rattle.std.specs.Prelude.{◌≡◌, ◌+◌, ◌<◌, List, Ok, ℕ, length};
 ghost use Rattle.neli_wire.specs.Constants.{IsEquality};
@@ -41,10 +41,9 @@ use neli_body::laws::{attributes_are_read_back, body_is_read_back};
 use neli_consts_attrs::{Frattr, Ifa, Ifla, Nda, Rta, RtaType, Tca};
 use neli_wire::{FromBytes, FromBytesWithInput, Header, Size, ToBytes};
 
-/// A route is written as bytes that are read as its fields, and as what the attributes' own
-/// bytes are read as, where each field is what its number is read as. And bytes that are read
-/// as the fields are those that they are written as. Where each attribute's length is that of its
-/// header and payload, and its type is what its number is read as, the whole is read as it was.
+/// A route's wire bytes are read as its fields, and the attributes' bytes as they are read alone, if each field is read
+/// from its number. Bytes that are read as the fields are written back as the same bytes. If also each attribute's
+/// length is that of its header and payload, and its type is read from its number, the whole is read back.
 pub fn rtmsg_is_read_back()
     ensures back { (m : Rtmsg) → IsPlainRtmsg m.header
         → ReadsBack 12 rtmsg_bytes rtmsg_header (attrs_of rta_of) m.header
@@ -59,11 +58,9 @@ pub fn rtmsg_is_read_back()
     attributes_are_read_back::<RtmsgHeader, Rta>();
 }
 
-/// A queueing discipline is written as bytes that are read as its fields, and as what the
-/// attributes' own bytes are read as, where each field is what its number is read as. And bytes
-/// that are read as the fields are those that they are written as. Where each attribute's length is
-/// that of its header and payload, and its type is what its number is read as, the whole is read as
-/// it was.
+/// A queueing discipline's wire bytes are read as its fields, and the attributes' bytes as they are read alone, if each
+/// field is read from its number. Bytes that are read as the fields are written back as the same bytes. If also each
+/// attribute's length is that of its header and payload, and its type is read from its number, the whole is read back.
 pub fn tcmsg_is_read_back()
     ensures back { (m : Tcmsg) → IsPlainTcmsg m.header
         → ReadsBack 20 tcmsg_bytes tcmsg_header (attrs_of tca_of) m.header
@@ -78,10 +75,9 @@ pub fn tcmsg_is_read_back()
     attributes_are_read_back::<TcmsgHeader, Tca>();
 }
 
-/// A rule is written as bytes that are read as its fields, and as what the attributes' own
-/// bytes are read as, where each field is what its number is read as. And bytes that are read
-/// as the fields are those that they are written as. Where each attribute's length is that of its
-/// header and payload, and its type is what its number is read as, the whole is read as it was.
+/// A rule's wire bytes are read as its fields, and the attributes' bytes as they are read alone, if each field is read
+/// from its number. Bytes that are read as the fields are written back as the same bytes. If also each attribute's
+/// length is that of its header and payload, and its type is read from its number, the whole is read back.
 pub fn fibmsg_is_read_back()
     ensures back { (m : Fibmsg) → IsPlainFibmsg m.header
         → ReadsBack 12 fibmsg_bytes fibmsg_header (attrs_of frattr_of) m.header
@@ -96,11 +92,10 @@ pub fn fibmsg_is_read_back()
     attributes_are_read_back::<FibmsgHeader, Frattr>();
 }
 
-/// A request by family is written as bytes that are read as its fields, and as what the
-/// attributes' own bytes are read as, where each field is what its number is read as. And bytes
-/// that are read as the fields are those that they are written as. Where each attribute's length is
-/// that of its header and payload, and its type is what its number is read as, the whole is read as
-/// it was.
+/// The wire bytes of a request by family are read as its fields, and the attributes' bytes as they are read alone, if
+/// each field is read from its number. Bytes that are read as the fields are written back as the same bytes. If also
+/// each attribute's length is that of its header and payload, and its type is read from its number, the whole is read
+/// back.
 pub fn rtgenmsg_is_read_back()
     ensures back { (m : Rtgenmsg) → IsPlainRtgenmsg m.header
         → ReadsBack 4 rtgenmsg_bytes rtgenmsg_header (attrs_of ifa_of) m.header
@@ -116,10 +111,9 @@ pub fn rtgenmsg_is_read_back()
     attributes_are_read_back::<RtgenmsgHeader, Ifa>();
 }
 
-/// A link is written as bytes that are read as its fields, and as what the attributes' own
-/// bytes are read as, where each field is what its number is read as. And bytes that are read
-/// as the fields are those that they are written as. Where each attribute's length is that of its
-/// header and payload, and its type is what its number is read as, the whole is read as it was.
+/// A link's wire bytes are read as its fields, and the attributes' bytes as they are read alone, if each field is read
+/// from its number. Bytes that are read as the fields are written back as the same bytes. If also each attribute's
+/// length is that of its header and payload, and its type is read from its number, the whole is read back.
 pub fn ifinfomsg_is_read_back()
     ensures back { (m : Ifinfomsg) → IsPlainIfinfomsg m.header
         → ReadsBack 16 ifinfomsg_bytes ifinfomsg_header (attrs_of ifla_of) m.header
@@ -135,10 +129,9 @@ pub fn ifinfomsg_is_read_back()
     attributes_are_read_back::<IfinfomsgHeader, Ifla>();
 }
 
-/// An address is written as bytes that are read as its fields, and as what the attributes' own
-/// bytes are read as, where each field is what its number is read as. And bytes that are read
-/// as the fields are those that they are written as. Where each attribute's length is that of its
-/// header and payload, and its type is what its number is read as, the whole is read as it was.
+/// An address's wire bytes are read as its fields, and the attributes' bytes as they are read alone, if each field is
+/// read from its number. Bytes that are read as the fields are written back as the same bytes. If also each attribute's
+/// length is that of its header and payload, and its type is read from its number, the whole is read back.
 pub fn ifaddrmsg_is_read_back()
     ensures back { (m : Ifaddrmsg) → IsPlainIfaddrmsg m.header
         → ReadsBack 8 ifaddrmsg_bytes ifaddrmsg_header (attrs_of ifa_of) m.header
@@ -154,10 +147,9 @@ pub fn ifaddrmsg_is_read_back()
     attributes_are_read_back::<IfaddrmsgHeader, Ifa>();
 }
 
-/// A neighbour is written as bytes that are read as its fields, and as what the attributes' own
-/// bytes are read as, where each field is what its number is read as. And bytes that are read
-/// as the fields are those that they are written as. Where each attribute's length is that of its
-/// header and payload, and its type is what its number is read as, the whole is read as it was.
+/// A neighbour's wire bytes are read as its fields, and the attributes' bytes as they are read alone, if each field is
+/// read from its number. Bytes that are read as the fields are written back as the same bytes. If also each attribute's
+/// length is that of its header and payload, and its type is read from its number, the whole is read back.
 pub fn ndmsg_is_read_back()
     ensures back { (m : Ndmsg) → IsPlainNdmsg m.header
         → ReadsBack 12 ndmsg_bytes ndmsg_header (attrs_of nda_of) m.header
@@ -172,8 +164,8 @@ pub fn ndmsg_is_read_back()
     attributes_are_read_back::<NdmsgHeader, Nda>();
 }
 
-/// A neighbour's cache entry is written as bytes that are read as the same, where each field is
-/// what its number is read as. And bytes that are read as one are those that it is written as.
+/// A neighbour's cache entry is read back, if each field is read from its number. Bytes that are read as one are
+/// written back as the same bytes.
 pub fn nda_cacheinfo_is_read_back()
     ensures back { (v : NdaCacheinfo) → IsPlainNdaCacheinfo v
         → nda_cacheinfo_header (nda_cacheinfo_bytes v) ≡ v }
@@ -181,9 +173,8 @@ pub fn nda_cacheinfo_is_read_back()
         → nda_cacheinfo_bytes (nda_cacheinfo_header s) ≡ s }
 {}
 
-/// A virtual network's pair of flags is written as bytes that are read as the same, where each
-/// field is what its number is read as. And bytes that are read as one are those that it is
-/// written as.
+/// A virtual LAN's pair of flags is read back, if each field is read from its number. Bytes that are read as one are
+/// written back as the same bytes.
 pub fn ifla_vlan_flags_is_read_back()
     ensures back { (v : IflaVlanFlags) → IsPlainIflaVlanFlags v
         → ifla_vlan_flags_header (ifla_vlan_flags_bytes v) ≡ v }
@@ -191,8 +182,8 @@ pub fn ifla_vlan_flags_is_read_back()
         → ifla_vlan_flags_bytes (ifla_vlan_flags_header s) ≡ s }
 {}
 
-/// A mapping of priorities is written as bytes that are read as the same, where each field is
-/// what its number is read as. And bytes that are read as one are those that it is written as.
+/// A mapping of priorities is read back, if each field is read from its number. Bytes that are read as one are written
+/// back as the same bytes.
 pub fn ifla_vlan_qos_mapping_is_read_back()
     ensures back { (v : IflaVlanQosMapping) → IsPlainIflaVlanQosMapping v
         → ifla_vlan_qos_mapping_header (ifla_vlan_qos_mapping_bytes v) ≡ v }
@@ -228,7 +219,7 @@ pub fn equality_of_links()
     neli_consts_flags::laws::equality();
 }
 
-/// The attributes of a body begin after its fields, of which there are so many bytes.
+/// The attributes of a body begin after this many bytes of its fields.
 pub fn attributes_begin_after_the_fields()
     ensures rtmsg { ⟦<crate::Rtmsg as Header>⟧.header ≡ 12 }
     ensures tcmsg { ⟦<crate::Tcmsg as Header>⟧.header ≡ 20 }
@@ -257,7 +248,7 @@ pub fn bodies_are_written()
         (λ m. body_wire (ndmsg_bytes m.header) (attrs_wire nda_number m.rtattrs)) }
 {}
 
-/// A body is read as its fields and as what the bytes after them are read as.
+/// A body is read as its fields and as the bytes after them are read.
 pub fn bodies_are_read()
     ensures rtmsg { AreSame ⟦<crate::Rtmsg as FromBytesWithInput>⟧.read
         (body_of 12 rtmsg_header (attrs_of rta_of)) }
@@ -283,8 +274,8 @@ pub fn bodies_take_memory_for_attributes<H: Fields, A: RtaType>()
     ensures copy { OnlyWhere ⟦<Body<H, A> as TryClone>⟧.copy_takes_memory (λ m. 0 < length m.rtattrs) }
 {}
 
-/// A neighbour's cache entry, a virtual network's pair of flags and a mapping of priorities are written and read as
-/// their fields. Neither a read nor a copy takes memory.
+/// A neighbour's cache entry, a virtual LAN's pair of flags and a mapping of priorities are written and read as their
+/// fields. Neither a read nor a copy takes memory.
 pub fn payloads_are_their_fields()
     ensures nda_cacheinfo_written { AreSame ⟦<crate::NdaCacheinfo as ToBytes>⟧.wire
         (λ v. Ok (nda_cacheinfo_bytes v)) }

@@ -1,5 +1,5 @@
 //! Bodies of routing netlink: links, their addresses and their neighbours; routes, queueing disciplines, rules, and
-//! requests by family alone.
+//! requests by family only.
 //!
 //! Each is a header of fixed size and a list of attributes ([`neli_attr::RtBuffer`]):
 //!
@@ -12,15 +12,15 @@
 //!
 //! - [`Ifinfomsg`], 16 bytes: a link. [`Ifaddrmsg`], 8 bytes: an address. [`Ndmsg`], 12 bytes: a neighbour.
 //! - [`Rtmsg`], 12 bytes: a route. [`Tcmsg`], 20 bytes: a queueing discipline, a class or a filter.
-//! - [`Fibmsg`], 12 bytes: a rule. [`Rtgenmsg`], 4 bytes: a request by family alone.
+//! - [`Fibmsg`], 12 bytes: a rule. [`Rtgenmsg`], 4 bytes: a request by family only.
 //! - [`NdaCacheinfo`], [`IflaVlanFlags`], [`IflaVlanQosMapping`]: payloads of fixed size, without attributes.
 //!
-//! Those with attributes are one type, `Body`, over a header and a type of attributes: copying, comparing, printing,
-//! reading and writing stand in `body.rt`, and in each body's file its fields, their getters and its builder.
+//! Those with attributes are one type, `Body`, over a header and a type of attributes. `body.rt` has copying,
+//! comparing, printing, reading and writing; each body's own file has its fields, their getters and its builder.
 //!
-//! Bodies are read with the number of their bytes: `InvalidInput` of it where the header is not there, then
-//! the refusal of the attributes. Bytes without a meaning are read whatever they hold, kept, and written
-//! as they were. A page of `specs/` for each type has its fields by their places.
+//! A read takes the number of the body's bytes: `InvalidInput` of it if they are fewer than the header's, then the
+//! refusal of the attributes. Bytes without a meaning are kept, whatever their value, and written as they were.
+//! `specs/` has a page for each type, with its fields by their places.
 #![tactic(auto)]
 
 mod body;

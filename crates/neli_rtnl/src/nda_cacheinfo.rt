@@ -17,8 +17,8 @@ use neli_wire::{
 };
 use std::alloc::Global;
 
-/// When a neighbour was last heard of: `struct nda_cacheinfo` of `linux/neighbour.h`, 16 bytes, the payload
-/// of `Nda::Cacheinfo`. Times are counted back from now, in hundredths of a second.
+/// When a neighbour was last heard of: `struct nda_cacheinfo` of `linux/neighbour.h`, 16 bytes, the payload of
+/// `Nda::Cacheinfo`. Times are counted back from now, in hundredths of a second.
 #[derive(Debug, Drop, PartialEq, Eq)]
 pub struct NdaCacheinfo {
     ndm_confirmed: u32,
@@ -49,7 +49,7 @@ impl NdaCacheinfo {
         &self.ndm_updated
     }
 
-    /// How many hold it.
+    /// The number of references to it.
     pub fn ndm_refcnt(&self) -> &u32
         ensures { result.now ≡ self.now.ndm_refcnt }
     {
@@ -222,7 +222,7 @@ impl NdaCacheinfoBuilder {
         self
     }
 
-    /// How many hold it.
+    /// The number of references to it.
     pub fn ndm_refcnt(mut self, value: u32) -> Self
         ensures { result ≡ record self { ndm_refcnt = Some value } }
     {
@@ -230,9 +230,9 @@ impl NdaCacheinfoBuilder {
         self
     }
 
-    /// The neighbour's cache entry of what was given. It takes no memory.
+    /// Builds the neighbour's cache entry. It takes no memory.
     ///
-    /// Refused where a field was not given: the first such field is named.
+    /// Refused if a field is missing; the error names the first such field.
     pub fn build(self) -> Result<NdaCacheinfo, NdaCacheinfoBuilderError>
         ensures built { IfOk result (λ m. nda_cacheinfo_built self ≡ Ok m) }
         ensures refused { IfErr result (λ e. (e ≡ BuildError.Memory → ⊥)

@@ -38,14 +38,14 @@ impl Ndmsg {
         &self.header.ndm_family
     }
 
-    /// The number of the link.
+    /// The index of the link.
     pub fn ndm_index(&self) -> &i32
         ensures { result.now ≡ self.now.header.ndm_index }
     {
         &self.header.ndm_index
     }
 
-    /// How well the neighbour is known, with all the bits that were read.
+    /// The state of the neighbour, with all the bits that were read.
     pub fn ndm_state(&self) -> &Nud
         ensures { result.now ≡ self.now.header.ndm_state }
     {
@@ -59,7 +59,7 @@ impl Ndmsg {
         &self.header.ndm_flags
     }
 
-    /// The kind of the address, as that of a route.
+    /// The type of the address, as that of a route.
     pub fn ndm_type(&self) -> &Rtn
         ensures { result.now ≡ self.now.header.ndm_type }
     {
@@ -162,7 +162,7 @@ impl NdmsgBuilder {
         self
     }
 
-    /// The number of the link.
+    /// The index of the link.
     pub fn ndm_index(mut self, value: i32) -> Self
         ensures { result ≡ record self { ndm_index = Some value } }
     {
@@ -170,7 +170,7 @@ impl NdmsgBuilder {
         self
     }
 
-    /// How well the neighbour is known.
+    /// The state of the neighbour.
     pub fn ndm_state(mut self, value: Nud) -> Self
         ensures { result ≡ record self { ndm_state = Some value } }
     {
@@ -186,7 +186,7 @@ impl NdmsgBuilder {
         self
     }
 
-    /// The kind of the address, as that of a route.
+    /// The type of the address, as that of a route.
     pub fn ndm_type(mut self, value: Rtn) -> Self
         ensures { result ≡ record self { ndm_type = Some value } }
     {
@@ -202,9 +202,9 @@ impl NdmsgBuilder {
         self
     }
 
-    /// The neighbour of what was given. It takes no memory.
+    /// Builds the neighbour. It takes no memory.
     ///
-    /// Refused where a field without a default was not given: the first such field is named.
+    /// Refused if a field without a default is missing; the error names the first such field.
     pub fn build(self, alloc: Global) -> Result<Ndmsg, NdmsgBuilderError>
         ensures built { IfOk result (λ m. ndmsg_built self ≡ Ok m) }
         ensures refused { IfErr result (λ e. (e ≡ BuildError.Memory → ⊥)

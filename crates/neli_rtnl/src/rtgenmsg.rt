@@ -1,4 +1,4 @@
-//! Requests by family alone.
+//! Requests by family only.
 
 ghost use Rattle.std.specs.Prelude.{◌≡◌, Some, None, Ok, IfOk, IfErr};
 ghost use Rattle.neli_attr.specs.Builders.{IsWhyNot};
@@ -22,12 +22,12 @@ pub struct RtgenmsgHeader {
     pad2: u16,
 }
 
-/// A request by family alone: `struct rtgenmsg` of `linux/rtnetlink.h` and three bytes of padding, 4 bytes,
-/// and attributes.
+/// A request by family only: `struct rtgenmsg` of `linux/rtnetlink.h` and three bytes of padding, 4 bytes, and
+/// attributes.
 pub type Rtgenmsg = Body<RtgenmsgHeader, Ifa>;
 
 impl Rtgenmsg {
-    /// The family that is asked for.
+    /// The requested family.
     pub fn rtgen_family(&self) -> &RtAddrFamily
         ensures { result.now ≡ self.now.header.rtgen_family }
     {
@@ -98,7 +98,7 @@ impl Default for RtgenmsgBuilder {
 }
 
 impl RtgenmsgBuilder {
-    /// The family that is asked for.
+    /// The requested family.
     pub fn rtgen_family(mut self, value: RtAddrFamily) -> Self
         ensures { result ≡ record self { rtgen_family = Some value } }
     {
@@ -114,9 +114,9 @@ impl RtgenmsgBuilder {
         self
     }
 
-    /// The request by family of what was given. It takes no memory.
+    /// Builds the request by family. It takes no memory.
     ///
-    /// Refused where a field without a default was not given: the first such field is named.
+    /// Refused if a field without a default is missing; the error names the first such field.
     pub fn build(self, alloc: Global) -> Result<Rtgenmsg, RtgenmsgBuilderError>
         ensures built { IfOk result (λ m. rtgenmsg_built self ≡ Ok m) }
         ensures refused { IfErr result (λ e. (e ≡ BuildError.Memory → ⊥)

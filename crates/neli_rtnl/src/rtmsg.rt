@@ -40,21 +40,21 @@ impl Rtmsg {
         &self.header.rtm_family
     }
 
-    /// How many bits of the destination count; 0 is the default route.
+    /// The prefix length of the destination, in bits; 0 is the default route.
     pub fn rtm_dst_len(&self) -> &u8
         ensures { result.now ≡ self.now.header.rtm_dst_len }
     {
         &self.header.rtm_dst_len
     }
 
-    /// How many bits of the source count.
+    /// The prefix length of the source, in bits.
     pub fn rtm_src_len(&self) -> &u8
         ensures { result.now ≡ self.now.header.rtm_src_len }
     {
         &self.header.rtm_src_len
     }
 
-    /// The type of service that packets have to ask for; 0 is any.
+    /// The type of service that packets must have; 0 is any.
     pub fn rtm_tos(&self) -> &u8
         ensures { result.now ≡ self.now.header.rtm_tos }
     {
@@ -208,7 +208,7 @@ impl RtmsgBuilder {
         self
     }
 
-    /// How many bits of the destination count; 0 is the default route.
+    /// The prefix length of the destination, in bits; 0 is the default route.
     pub fn rtm_dst_len(mut self, value: u8) -> Self
         ensures { result ≡ record self { rtm_dst_len = Some value } }
     {
@@ -216,7 +216,7 @@ impl RtmsgBuilder {
         self
     }
 
-    /// How many bits of the source count.
+    /// The prefix length of the source, in bits.
     pub fn rtm_src_len(mut self, value: u8) -> Self
         ensures { result ≡ record self { rtm_src_len = Some value } }
     {
@@ -224,7 +224,7 @@ impl RtmsgBuilder {
         self
     }
 
-    /// The type of service that packets have to ask for; 0 is any.
+    /// The type of service that packets must have; 0 is any.
     pub fn rtm_tos(mut self, value: u8) -> Self
         ensures { result ≡ record self { rtm_tos = Some value } }
     {
@@ -280,9 +280,9 @@ impl RtmsgBuilder {
         self
     }
 
-    /// The route of what was given. It takes no memory.
+    /// Builds the route. It takes no memory.
     ///
-    /// Refused where a field without a default was not given: the first such field is named.
+    /// Refused if a field without a default is missing; the error names the first such field.
     pub fn build(self, alloc: Global) -> Result<Rtmsg, RtmsgBuilderError>
         ensures built { IfOk result (λ m. rtmsg_built self ≡ Ok m) }
         ensures refused { IfErr result (λ e. (e ≡ BuildError.Memory → ⊥)

@@ -37,7 +37,7 @@ impl Tcmsg {
         &self.header.tcm_family
     }
 
-    /// The number of the link.
+    /// The index of the link.
     pub fn tcm_ifindex(&self) -> &i32
         ensures { result.now ≡ self.now.header.tcm_ifindex }
     {
@@ -161,7 +161,7 @@ impl TcmsgBuilder {
         self
     }
 
-    /// The number of the link.
+    /// The index of the link.
     pub fn tcm_ifindex(mut self, value: i32) -> Self
         ensures { result ≡ record self { tcm_ifindex = Some value } }
     {
@@ -201,9 +201,9 @@ impl TcmsgBuilder {
         self
     }
 
-    /// The queueing discipline of what was given. It takes no memory.
+    /// Builds the queueing discipline. It takes no memory.
     ///
-    /// Refused where a field without a default was not given: the first such field is named.
+    /// Refused if a field without a default is missing; the error names the first such field.
     pub fn build(self, alloc: Global) -> Result<Tcmsg, TcmsgBuilderError>
         ensures built { IfOk result (λ m. tcmsg_built self ≡ Ok m) }
         ensures refused { IfErr result (λ e. (e ≡ BuildError.Memory → ⊥)

@@ -38,7 +38,7 @@ after_pids : (p : Pids) (y : List ℕ × List ℕ) (ys : List (List ℕ × List 
     → fields_text (pids_of p) ++ (codes " " ++ fields_text (y ∷ ys)) ≡ fields_text (pids_of p ++ (y ∷ ys))
 after_pids p y ys = fields_after (thread p) (group p ∷ []) y ys
 
--- two numbers between those of two processes
+-- two numbers between the numbers of two processes
 pub numbers_between : (p : Pids) (m n : Number) (q : Pids)
     → fields_text (pids_of p) ++ (codes " " ++ (field_text (number_of m) ++ (codes " "
     ++ (field_text (number_of n) ++ (codes " " ++ fields_text (pids_of q))))))
@@ -51,7 +51,7 @@ numbers_between p m n q =
     (fields_after (number_of m) [] (number_of n) (pids_of q))
     ∙ after_pids p (number_of m) (number_of n ∷ pids_of q)
 
--- those of an event after others
+-- the fields of an event after others
 event_after : (x : List ℕ × List ℕ) (xs : List (List ℕ × List ℕ)) (event : ProcEvent)
     → fields_text (x ∷ xs) ++ (codes " " ++ fields_text (event_fields event))
     ≡ fields_text ((x ∷ xs) ++ event_fields event)

@@ -7,7 +7,7 @@ use Rattle.std.proofs.lemmas.List.{drop_all, drop_more}
 use Rattle.bitflags.specs.Sets.{Row, is_next, without}
 use Rattle.neli_texts.specs.FlagNames.{barred, left_over, mark, names_in}
 
--- what names print where some stand before them, or none does
+-- the text of names, first or after others
 abbrev pub from_here : Bool → List (List ℕ) → List ℕ
 from_here true names = barred names
 from_here false names = flat_map (λ other. codes "|" ++ other) names
@@ -18,7 +18,7 @@ from_here_more : (first : Bool) (name : List ℕ) (rest : List (List ℕ))
 from_here_more true name rest = refl
 from_here_more false name rest = refl
 
--- a flag that is named is printed before what is left
+-- a named flag is printed before the rest
 named_step :
     (done all : List ℕ) (first : Bool) (row : Row) (rows : List Row) (set left : ℕ)
     → is_next row.0 row.1 set left ≡ true → done ++ from_here first (names_in (row ∷ rows) set left) ≡ all
@@ -32,7 +32,7 @@ named_step done all first row rows set left next so_far =
     (if b then row.0 ∷ names_in rows set (without 32 left row.1) else names_in rows set left)) next))
     ∙ so_far
 
--- any other is passed over
+-- any other flag is skipped
 passed_step :
     (done all : List ℕ) (first : Bool) (row : Row) (rows : List Row) (set left : ℕ)
     → is_next row.0 row.1 set left ≡ false → done ++ from_here first (names_in (row ∷ rows) set left) ≡ all
@@ -44,13 +44,13 @@ passed_step done all first row rows set left passed so_far =
     (if b then row.0 ∷ names_in rows set (without 32 left row.1) else names_in rows set left)) passed))
     ∙ so_far
 
--- what is left of a list begins with the item at that place
+-- the rest of a list begins with the item at that place
 first_left : {A : Type 0} (items : List A) (i : ℕ) (item d : A) → i < length items → item ≡ get_or items i d
     → drop i items ≡ item ∷ drop (i + 1) items
 first_left {A} items i item d short is =
     drop_more items i d short ∙ ap (λ (x : A). x ∷ drop (i + 1) items) (sym is)
 
--- the step of a flag that is named, by its place in the list
+-- the step of a named flag, by its place in the list
 pub named_at : {A : Type 0} (items : List A) (row_of : A → Row) (i : ℕ) (item d : A) → i < length items
     → item ≡ get_or items i d → (done all : List ℕ) (first after : Bool) (set left left_after : ℕ)
     → is_next (row_of item).0 (row_of item).1 set left ≡ true → after ≡ false
@@ -67,7 +67,7 @@ named_at {A} items row_of i item d short is done all first after set left left_a
     (ap (λ (fs : List A). done ++ from_here first (names_in (map row_of fs) set left))
     (sym (first_left items i item d short is)) ∙ so_far)
 
--- the step of any other
+-- the step of any other flag
 pub passed_at : {A : Type 0} (items : List A) (row_of : A → Row) (i : ℕ) (item d : A) → i < length items
     → item ≡ get_or items i d → (done all : List ℕ) (first after : Bool) (set left left_after : ℕ)
     → is_next (row_of item).0 (row_of item).1 set left ≡ false → after ≡ first → left_after ≡ left
@@ -90,7 +90,7 @@ at_end {A} items row_of i long done all first set left so_far =
     ap (λ (fs : List A). done ++ from_here first (names_in (map row_of fs) set left)) (sym (drop_all i items long))
     ∙ so_far
 
--- which is printed after its mark
+-- this number is printed after its mark
 pub left_step :
     (done all : List ℕ) (first : Bool) (left : ℕ) → (left == 0) ≡ false
     → done ++ from_here first (left_over left) ≡ all
@@ -103,7 +103,7 @@ left_step done all first left some so_far =
     (if b then [] else (codes "0x" ++ digits 16 false left) ∷ [])) some))
     ∙ so_far
 
--- of the empty set it is 0
+-- for the empty set it is 0
 pub none_step :
     (done all : List ℕ) (first : Bool) (left : ℕ) → first ≡ true → left ≡ 0
     → done ++ from_here first (left_over left) ≡ all

@@ -1,4 +1,4 @@
--- A body's fields on a line: each is its name and its value.
+-- A body's fields on a line: each with its name and its value.
 use Rattle.std.specs.Prelude.{ℕ, List, [], ◌∷◌, ◌++◌, codes}
 
 -- a field

@@ -1,4 +1,4 @@
--- The fields of bodies of generic netlink and of the connector on a line: the name of each, and its value as printed.
+-- The fields of bodies of generic netlink and of the connector on a line: each name, and its value as printed.
 use Rattle.std.specs.Prelude.{ℕ, List, [], ◌∷◌, ◌++◌, codes, false}
 use Rattle.std.specs.Fmt.{decimal, digits}
 use Rattle.neli_consts_system.specs.CnMsgIdx.{cn_msg_idx_number}

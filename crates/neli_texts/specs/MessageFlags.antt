@@ -1,4 +1,5 @@
--- The flags of messages by name (`NLM_F_*` of `linux/netlink.h`): what the bits from 0x100 on mean depends on the type.
+-- The flags of messages by name (`NLM_F_*` of `linux/netlink.h`): the meaning of the bits from 0x100 on depends on the
+-- type.
 use Rattle.std.specs.Prelude.{ℕ, ◌%◌, ◌==◌, ◌||◌, Bool, not, List, [], ◌∷◌, ◌++◌, codes, nat_lt, if◌then◌else◌}
 use Rattle.std.specs.Borrow.{Bor}
 use Rattle.bitflags.specs.Sets.{Row}
@@ -7,13 +8,13 @@ use Rattle.bitflags.specs.Sets.{Row}
 abbrev pub flag_seen : ℕ × Bor (List ℕ) → Row
 flag_seen row = (row.1.now, row.0)
 
--- those of every message
+-- the flags of every message
 abbrev pub common : List Row
 common =
     (codes "REQUEST", 1) ∷ (codes "MULTI", 2) ∷ (codes "ACK", 4) ∷ (codes "ECHO", 8) ∷
     (codes "DUMP_INTR", 0x10) ∷ (codes "DUMP_FILTERED", 0x20) ∷ []
 
--- and those of a message that makes something, that deletes something, that asks for something, that answers
+-- and those of a message that makes, that deletes, that asks, that answers
 abbrev pub making : List Row
 making =
     common ++ (codes "REPLACE", 0x100) ∷ (codes "EXCL", 0x200) ∷ (codes "CREATE", 0x400) ∷
@@ -28,7 +29,7 @@ asking = common ++ (codes "DUMP", 0x300) ∷ (codes "ROOT", 0x100) ∷ (codes "M
 abbrev pub answering : List Row
 answering = common ++ (codes "CAPPED", 0x100) ∷ (codes "ACK_TLVS", 0x200) ∷ []
 
--- which of them a type has: 2 and 3 answer, and types of routing come in fours, new, delete, get and set
+-- the flags of a type: 2 and 3 answer, and types of routing come in fours, new, delete, get and set
 abbrev pub flag_rows : Bool → ℕ → List Row
 flag_rows is_route number =
     if number == 2 || number == 3 then answering

@@ -27,7 +27,7 @@ type_text route number =
     else if number == 4 then codes "NLMSG_OVERRUN"
     else row_text number (if route then type_named number else None)
 
--- the flags after a space; nothing of none
+-- the flags after a space; nothing without flags
 abbrev pub flags_text : Bool → ℕ → ℕ → List ℕ
 flags_text route number bits =
     if bits == 0 then codes "" else codes " " ++ names_text (flag_rows route number) bits

@@ -77,6 +77,6 @@ route_types =
     (122, codes "RTM_GETTUNNEL") ∷
     []
 
--- the row of a number, where it has one
+-- the row of a number, if it has one
 abbrev pub type_named : ℕ → Option (ℕ × List ℕ)
 type_named number = find (λ row. nat_eq row.0 number) route_types

@@ -1,4 +1,4 @@
--- Numbers of routing messages by name: the names of the kernel's headers, without their prefix and in small letters.
+-- Numbers of routing messages by name: the names of the kernel's headers, without their prefix and in lower case.
 use Rattle.std.specs.Prelude.{ℕ, List, [], ◌∷◌, Option, Some, None, codes, find, nat_eq}
 use Rattle.std.specs.Borrow.{Bor}
 use Rattle.std.specs.Fmt.{decimal}
@@ -138,6 +138,6 @@ abbrev pub name_or : ℕ → Option (ℕ × List ℕ) → List ℕ
 name_or number (Some row) = row.1
 name_or number None = decimal number
 
--- a number by its name in a table, or as it is
+-- a number by its name in a table, or as a number
 abbrev pub number_text : List (ℕ × List ℕ) → ℕ → List ℕ
 number_text table number = name_or number (find (λ row. nat_eq row.0 number) table)

@@ -1,5 +1,5 @@
--- The fields of process events on a line, by the names of `struct proc_event` of linux/cn_proc.h: the name of each, and
--- its value as printed.
+-- The fields of process events on a line, by the names of `struct proc_event` of linux/cn_proc.h: each name, and its
+-- value as printed.
 use Rattle.std.specs.Prelude.{ℕ, ℤ, ◌/◌, ◌%◌, ◌||◌, ◌==◌, List, [], ◌∷◌, ◌++◌, codes, false, nat_lt, if◌then◌else◌}
 use Rattle.std.specs.Fmt.{decimal, digits, signed_decimal}
 use Rattle.neli_genl.specs.declared.proc_event.ProcEvent.{ProcEvent}
@@ -25,7 +25,7 @@ event_word (Comm a b c) = codes "comm"
 event_word (Coredump a b c d) = codes "coredump"
 event_word (Exit a b c d e f) = codes "exit"
 
--- a byte of a thread's name: what ASCII can print as itself, but quotes and backslashes; any other by two digits
+-- a byte of a thread's name: itself if ASCII prints it, except quotes and backslashes; any other by two digits
 abbrev pub name_byte : ℕ → List ℕ
 name_byte b =
     if nat_lt b 32 || (nat_lt 126 b || (b == 34 || b == 92))
@@ -41,7 +41,7 @@ name_bytes (b ∷ rest) = if b == 0 then [] else name_byte b ++ name_bytes rest
 abbrev pub name_text : List ℕ → List ℕ
 name_text name = codes "\"" ++ name_bytes name ++ codes "\""
 
--- the numbers of a thread and of its process, by what they are of
+-- the numbers of a thread and of its process, with a name for both
 abbrev pub pids : List ℕ → ℤ → ℤ → List (List ℕ × List ℕ)
 pids whose pid tgid =
     (whose ++ codes "_pid", signed_decimal pid) ∷
@@ -75,7 +75,7 @@ head_fields h =
     (codes "timestamp_ns", decimal h.timestamp_ns) ∷
     []
 
--- of an event with its header
+-- the fields of an event with its header
 abbrev pub proc_event_fields : ProcEventHeader → List (List ℕ × List ℕ)
 proc_event_fields h = head_fields h ++ event_fields h.event
 

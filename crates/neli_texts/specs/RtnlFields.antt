@@ -1,5 +1,4 @@
--- The fields of bodies of routing on a line, in the order of the kernel's structs: the name of each, and its value as
--- printed.
+-- The fields of bodies of routing on a line, in the order of the kernel's structs: each name, and its value as printed.
 use Rattle.std.specs.Prelude.{ℕ, ◌/◌, ◌%◌, List, [], ◌∷◌, ◌++◌, codes, false}
 use Rattle.std.specs.Fmt.{decimal, digits, signed_decimal}
 use Rattle.neli_consts_flags.specs.Frf.{frf_names}
@@ -82,7 +81,7 @@ fibmsg_fields h =
     (codes "flags", names_text frf_names h.fib_flags.0) ∷
     []
 
--- of a request by family alone
+-- of a request by family only
 abbrev pub rtgenmsg_fields : RtgenmsgHeader → List (List ℕ × List ℕ)
 rtgenmsg_fields h =
     (codes "family", number_text families (rt_addr_family_number h.rtgen_family)) ∷

@@ -10,7 +10,7 @@ use std::fmt;
 
 /// A row of a table of flags: some bits, and their name.
 pub(crate) trait NamedBits {
-    // What the row says.
+    // The row's name and bits.
     ghost row_of: { Self → Row };
 
     /// The bits.
@@ -34,14 +34,14 @@ impl NamedBits for (u32, &'static str) {
     }
 }
 
-/// What stands before a name: a bar, but before the first.
+/// The mark before a name: a bar, except before the first.
 fn mark(is_first: bool) -> &'static str
     ensures { result.now ≡ mark is_first }
 {
     if is_first { "" } else { "|" }
 }
 
-/// Whether a row is named: it has a name, the set has all of its bits, and some of them are left.
+/// Whether a row is printed: it has a name, the set has all of its bits, and some of them are left.
 fn is_next<R: NamedBits>(row: &R, set: u32, left: u32) -> bool
     ensures { result ≡ is_next (R.row_of row.now).0 (R.row_of row.now).1 set left }
 {
@@ -49,8 +49,8 @@ fn is_next<R: NamedBits>(row: &R, set: u32, left: u32) -> bool
     !row.name_of_bits().is_empty() && set & bits == bits && left & bits != 0
 }
 
-/// Prints the bits of a set by the names of a table, as `UP|RUNNING`: the names in the order of the table, then what is
-/// left as one number, as `UP|0x80000000`; `0x0` of no bit.
+/// Prints the bits of a set by the names of a table, as `UP|RUNNING`: the names in the order of the table, then the
+/// rest as one number, as `UP|0x80000000`; `0x0` without any bit.
 pub(crate) fn write_names<R: NamedBits, W: fmt::Write>(
     rows: &[R],
     set: u32,

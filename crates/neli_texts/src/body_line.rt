@@ -8,7 +8,7 @@ use std::fmt;
 
 /// A body whose fields [`BodyLine`] prints.
 pub trait LineFields {
-    // The fields in the order of the body: the name of each, and its value as it is printed.
+    // The fields in the order of the body: each name, and its value as printed.
     ghost fields_of: { Self → List (List ℕ × List ℕ) };
 
     /// Prints the fields, as `name value`, with spaces between them.
@@ -17,13 +17,13 @@ pub trait LineFields {
             (fields_text (fields_of self.now)) f.new };
 }
 
-/// A body's fields on a line, for a log: each by its name and its value, as
+/// A body's fields on a line, for a log: each with its name and its value, as
 /// `family unspec type ether index 2 flags UP|RUNNING change 0x0`. It takes no memory.
 ///
 /// The names are those of the kernel's struct, without their prefix. Flags print as [`FlagNames`](crate::FlagNames)
 /// does; families, devices, tables, protocols, scopes, kinds of routes and actions of rules by the names of the
-/// kernel's headers, without their prefix and in small letters, or as their number; what happened to a process by such
-/// a name too, and a thread's name in quotes. Padding, attributes and payloads are not printed.
+/// kernel's headers, without their prefix and in lower case, or as their number; events of processes by such a name
+/// too, and a thread's name in quotes. Padding, attributes and payloads are not printed.
 #[derive(Clone, Copy, Debug)]
 pub struct BodyLine<'a, B>(pub &'a B);
 

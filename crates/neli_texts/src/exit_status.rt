@@ -5,10 +5,10 @@ ghost use Rattle.neli_texts.specs.ExitStatus.{exited_with, has_core, killed_by, 
 
 use std::fmt;
 
-/// How a process ended, as wait(2) gives it in a number: the `exit_code` of `ProcEvent::Exit`.
+/// How a process ended, as a number of wait(2): the `exit_code` of `ProcEvent::Exit`.
 ///
-/// It prints `exited with 3`, `killed by signal 9`, `killed by signal 11 (core dumped)`, and `status 0x137f` where the
-/// number says neither, as that of a process that was stopped.
+/// It prints `exited with 3`, `killed by signal 9`, `killed by signal 11 (core dumped)`, or `status 0x137f` for any
+/// other number, as that of a process that was stopped.
 #[derive(Clone, Copy, Debug, PartialEq, Eq)]
 pub struct ExitStatus(u32);
 
@@ -29,7 +29,7 @@ impl From<ExitStatus> for u32 {
 }
 
 impl ExitStatus {
-    /// What the process gave exit(3), where it ended by itself (`WIFEXITED`, `WEXITSTATUS`).
+    /// The argument of exit(3), if the process ended by itself (`WIFEXITED`, `WEXITSTATUS`).
     pub fn code(self) -> Option<u8>
         ensures { result ≡ exited_with self.0 }
     {
@@ -39,7 +39,7 @@ impl ExitStatus {
         Some((self.0 / 256 % 256) as u8)
     }
 
-    /// The signal that killed it, where one did (`WIFSIGNALED`, `WTERMSIG`).
+    /// The signal that killed the process, if one did (`WIFSIGNALED`, `WTERMSIG`).
     pub fn signal(self) -> Option<u8>
         ensures { result ≡ killed_by self.0 }
     {
@@ -50,7 +50,7 @@ impl ExitStatus {
         Some(signal as u8)
     }
 
-    /// Whether a signal killed it and its memory was written to a file (`WCOREDUMP`).
+    /// Whether a signal killed the process and its memory was written to a file (`WCOREDUMP`).
     pub fn core_dumped(self) -> bool
         ensures { result ≡ has_core self.0 }
     {

@@ -76,8 +76,8 @@ impl NamedFlags for Frf {
 
 /// A set of flags by the names of its flags, as `UP|RUNNING`.
 ///
-/// The names stand in the order of the set's table. Of two names for the same bits the first is printed. Bits without
-/// a name follow as one number, as `UP|0x80000000`, and the empty set is `0x0`.
+/// The names stand in the order of the set's table. Of two names for the same bits the first is printed. Bits without a
+/// name follow as one number, as `UP|0x80000000`; the empty set is `0x0`.
 #[derive(Clone, Copy, Debug)]
 pub struct FlagNames<F>(pub F);
 

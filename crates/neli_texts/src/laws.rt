@@ -4,8 +4,7 @@ ghost use Rattle.neli_wire.specs.Constants.{IsEquality};
 
 use crate::{ExitStatus, MessageLine};
 
-/// `==` of lines of messages, and of how processes ended, is true exactly where the two values are equal, field by
-/// field.
+/// `==` of message lines, and of exit statuses, is true exactly where the two values are equal, field by field.
 pub fn equality()
     ensures message_line { IsEquality ⟦<MessageLine as PartialEq>⟧.eq }
     ensures exit_status { IsEquality ⟦<ExitStatus as PartialEq>⟧.eq }

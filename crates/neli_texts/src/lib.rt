@@ -1,4 +1,4 @@
-//! What people read of messages: texts that take no memory, and print in a fixed form.
+//! Texts about messages for people: they take no memory, and print in a fixed form.
 //!
 //! - [`BodyLine`]: a body's fields on a line, as `family inet prefixlen 24 flags PERMANENT scope universe index 2`.
 //! - [`ExitStatus`]: how a process ended, as `exited with 3` or `killed by signal 9`.

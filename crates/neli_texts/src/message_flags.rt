@@ -1,4 +1,4 @@
-//! The flags of a message by name: what a bit means depends on the type of the message.
+//! The flags of a message by name: the meaning of a bit depends on the type of the message.
 
 ghost use Rattle.std.specs.Prelude.{◌≡◌, map};
 ghost use Rattle.neli_texts.specs.MessageFlags.{flag_rows, flag_seen};
@@ -18,7 +18,7 @@ static COMMON: [Row; 6] = [
     (0x20, "DUMP_FILTERED"),
 ];
 
-/// Those of a message that makes something.
+/// The flags of a message that makes something.
 static MAKING: [Row; 10] = [
     (1, "REQUEST"),
     (2, "MULTI"),
@@ -32,7 +32,7 @@ static MAKING: [Row; 10] = [
     (0x800, "APPEND"),
 ];
 
-/// Those of a message that deletes something.
+/// The flags of a message that deletes something.
 static DELETING: [Row; 8] = [
     (1, "REQUEST"),
     (2, "MULTI"),
@@ -44,7 +44,7 @@ static DELETING: [Row; 8] = [
     (0x200, "BULK"),
 ];
 
-/// Those of a message that asks for something.
+/// The flags of a message that asks for something.
 static ASKING: [Row; 10] = [
     (1, "REQUEST"),
     (2, "MULTI"),
@@ -58,7 +58,7 @@ static ASKING: [Row; 10] = [
     (0x400, "ATOMIC"),
 ];
 
-/// Those of an error, an acknowledgement or the end of a dump.
+/// The flags of an error, an acknowledgement or the end of a dump.
 static ANSWERING: [Row; 8] = [
     (1, "REQUEST"),
     (2, "MULTI"),

@@ -15,14 +15,14 @@ use std::fmt;
 /// A message's header on a line, for a log: its type, its sequence number, the port of its socket, and its flags, as
 /// `RTM_NEWLINK seq 5 port 1200 REQUEST|ACK`.
 ///
-/// A type is named as in the kernel's headers where the protocol has a name for it: control messages in each, and the
-/// types of `RTM_*` in `NlFamily::Route`. Any other is `type 31`. Flags are named by the type, since the same bit is
-/// `ROOT` in a question and `REPLACE` in an order; without flags the line ends with the port.
+/// A type has its name of the kernel's headers if the protocol has one for it: control messages in each protocol, and
+/// the types of `RTM_*` in `NlFamily::Route`. Any other is `type 31`. Flags are named by the type, since the same bit
+/// is `ROOT` in a request that asks and `REPLACE` in one that makes; without flags the line ends with the port.
 ///
-/// [`MessageLine::of`] and [`MessageLine::of_lent`] make it of a message.
+/// [`MessageLine::of`] and [`MessageLine::of_lent`] make it from a message.
 #[derive(Clone, Copy, Debug, PartialEq, Eq)]
 pub struct MessageLine {
-    /// The protocol that the message is of.
+    /// The protocol of the message.
     pub protocol: NlFamily,
     /// The number of its type.
     pub message_type: u16,
@@ -35,7 +35,8 @@ pub struct MessageLine {
 }
 
 impl MessageLine {
-    /// The line of a message. The protocol is that of the socket that it came by: its header does not say it.
+    /// The line of a message. The protocol is that of the socket that received it: the message's header does not state
+    /// it.
     pub fn of<T: NlType, P>(protocol: NlFamily, message: &Nlmsghdr<T, P>) -> MessageLine
         ensures protocol { result.protocol ≡ protocol }
         ensures message_type { result.message_type ≡ T.wire_number message.now.header.message_type }
@@ -52,7 +53,7 @@ impl MessageLine {
         }
     }
 
-    /// The same of a message that is lent.
+    /// The same for a lent message.
     pub fn of_lent<T: NlType>(protocol: NlFamily, lent: &LentMessage<'_, T>) -> MessageLine
         ensures protocol { result.protocol ≡ protocol }
         ensures message_type { result.message_type ≡ T.wire_number lent.now.header.message_type }

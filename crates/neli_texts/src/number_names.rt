@@ -1,4 +1,4 @@
-//! Numbers by their names, as a table has them.
+//! Numbers by their names in a table.
 
 ghost use Rattle.std.specs.Prelude.{◌≡◌, Some, find, map, nat_eq};
 ghost use Rattle.std.specs.Option.{option_copied, option_map};
@@ -134,7 +134,7 @@ fn find_row(rows: &[Row], number: u16) -> Option<&Row>
     rows.iter().find(|row| row.0 == number)
 }
 
-/// The first row with this number, where there is one.
+/// The first row with this number, if there is one.
 pub(crate) fn row_of(rows: &[Row], number: u16) -> Option<Row>
     ensures { option_map row_seen result
         ≡ find (λ row. nat_eq row.0 number) (map row_seen rows.now) }
@@ -142,7 +142,7 @@ pub(crate) fn row_of(rows: &[Row], number: u16) -> Option<Row>
     find_row(rows, number).copied()
 }
 
-/// A number by its name in a table; one without a name as it is.
+/// A number by its name in a table; one without a name as a number.
 #[derive(Clone, Copy)]
 pub(crate) struct NumberName {
     rows: &'static [Row],
@@ -197,7 +197,7 @@ pub(crate) fn table(number: u8) -> NumberName
     }
 }
 
-/// Who makes routes by this number.
+/// The maker of routes with this number.
 #[tactic(auto, unfolding(crate::specs::NumberNames::protocols))]
 pub(crate) fn protocol(number: u8) -> NumberName
     ensures rows { map row_seen result.rows.now ≡ protocols }
@@ -233,7 +233,7 @@ pub(crate) fn route_kind(number: u8) -> NumberName
     }
 }
 
-/// What rules with this number do.
+/// The action of rules with this number.
 #[tactic(auto, unfolding(crate::specs::NumberNames::actions))]
 pub(crate) fn action(number: u8) -> NumberName
     ensures rows { map row_seen result.rows.now ≡ actions }

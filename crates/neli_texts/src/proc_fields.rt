@@ -29,7 +29,7 @@ fn word_of(event: &ProcEvent) -> &'static str
     }
 }
 
-/// The numbers of a thread and of its process, by what they are of: `process_pid 7 process_tgid 7`.
+/// The numbers of a thread and of its process, with a name for both: `process_pid 7 process_tgid 7`.
 #[derive(Clone, Copy)]
 struct Pids {
     whose: &'static str,
@@ -112,7 +112,7 @@ impl fmt::Display for NameBytes<'_> {
     }
 }
 
-/// A byte of a name, by two hexadecimal digits where ASCII cannot print it, or a quote or a backslash.
+/// A byte of a name; by two hexadecimal digits if ASCII cannot print it, or if it is a quote or a backslash.
 #[derive(Clone, Copy)]
 struct NameByte(u8);
 
@@ -129,7 +129,7 @@ impl fmt::Display for NameByte {
     }
 }
 
-/// The fields of an event, by what it has.
+/// The fields of an event, by its shape.
 #[derive(Clone, Copy)]
 enum Shape {
     /// One number.

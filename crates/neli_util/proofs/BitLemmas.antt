@@ -21,7 +21,7 @@ use Rattle.neli_util.specs.BitArrays.{BitArray, with_capacity, with_number, has_
 
 -- ---- words
 
--- so many words without a bit
+-- this many words without a bit
 abbrev pub zeros : ℕ → List ℕ
 zeros k = let z : ℕ = 0 in replicate k z
 
@@ -102,7 +102,7 @@ same_array : (c d : ℕ) (ns ms : List ℕ) → c ≡ d → ns ≡ ms
     ≡ (let b : BitArray = record { capacity = d; numbers = ms } in b)
 same_array c d ns ms e f = λ i. record { capacity = e i; numbers = f i }
 
--- the array of words that were resized
+-- the array of resized words
 pub array_of-resized : (ws : List ℕ) (count : ℕ) → array_of (take count ws ++ zeros (count - length ws))
     ≡ with_capacity (32 * count) (array_of ws)
 array_of-resized ws count =
@@ -111,7 +111,7 @@ array_of-resized ws count =
     same_array (32 * length new) (32 * count) _ _ long (ap (λ n. filter (has_bit new) (range_with_len 1 n)) long
     ∙ numbers_resized ws count)
 
--- the bit of a number that is set, and all others
+-- the bit of the number that is set, and all others
 has_bit-set : (ws : List ℕ) (n k : ℕ) → 0 < n → n ≤ 32 * length ws → 0 < k
     → has_bit (set ws ((n - 1) / 32) (bit_or (get_or ws ((n - 1) / 32) 0) (1 * 2 ^ ((n - 1) % 32) % 2 ^ 32))) k
     ≡ (has_bit ws k || eqb k n)
@@ -144,7 +144,7 @@ has_bit-set ws n k some within low =
           ]
     ]
 
--- the array of words in which the bit of a number was set
+-- the array of words after the bit of a number was set
 pub array_of-set : (ws : List ℕ) (n : ℕ) → 0 < n → n ≤ 32 * length ws
     → array_of (set ws ((n - 1) / 32) (bit_or (get_or ws ((n - 1) / 32) 0) (1 * 2 ^ ((n - 1) % 32) % 2 ^ 32)))
     ≡ with_number n (array_of ws)
@@ -161,7 +161,7 @@ array_of-set ws n some within =
     same_array (32 * length new) c _ _ long (ap (λ m. filter (has_bit new) (range_with_len 1 m)) long
     ∙ filter_agree_on (has_bit new) (λ k. has numbers k || eqb k n) (range_with_len 1 c) agree)
 
--- to set 0 changes nothing
+-- setting 0 changes nothing
 pub with_number-zero : (ws : List ℕ) → array_of ws ≡ with_number 0 (array_of ws)
 with_number-zero ws =
     let c = 32 * length ws in

@@ -34,7 +34,7 @@ without-masked mask groups fits =
     filter_agree (λ n. not (is_masked mask n)) (λ n. not (has (groups_of mask) n))
     (λ n. ap not (sym (has-groups_of mask n fits))) groups
 
--- nor is one where groups were added or left as they were
+-- nor has a list 0 where groups were added or left as they were
 pub added_or_kept-positive : {T E : Type 0} (r : Result T E) (new added groups : List ℕ)
     → OnOk r (new ≡ with_added added groups) → OnErr r (new ≡ groups) → HasNoZero groups → HasNoZero new
 added_or_kept-positive (Ok _) new added groups ok err h = let P : List ℕ → Type 0 = HasNoZero in

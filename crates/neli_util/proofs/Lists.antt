@@ -13,7 +13,7 @@ use Rattle.std.proofs.lemmas.List.Folds.{list_any-append, list_any_at}
 use Rattle.std.proofs.lemmas.Map.Views.{any-filter_same}
 use Rattle.neli_util.specs.Groups.{has, firsts, lacking, with_added}
 
--- a filter's list has a number that passes, where the list has it
+-- a filtered list has a number that passes, if the list has it
 pub has-filter : (p : ℕ → Bool) (xs : List ℕ) (n : ℕ) → has (filter p xs) n ≡ (p n && has xs n)
 has-filter p xs n = any-filter_same (λ x. eqb x n) p (p n) (λ k e. ap p (eqb-true k n e)) xs
 
@@ -90,7 +90,7 @@ filter_range_more p n =
     ap (filter p) (range-append n 1 1) ∙ filter-append p (range_with_len 1 n) (range_with_len (1 + n) 1)
     ∙ ap (λ k. filter p (range_with_len 1 n) ++ cond (p k) (k ∷ []) []) next
 
--- a longer range has no more numbers that pass, where none passes past the shorter one
+-- a longer range has no more numbers that pass, if none passes past the shorter one
 filter_range_longer : (p : ℕ → Bool) (m d : ℕ) → ((n : ℕ) → m < n → p n ≡ false)
     → filter p (range_with_len 1 (m + d)) ≡ filter p (range_with_len 1 m)
 filter_range_longer p m d above =
@@ -100,7 +100,7 @@ filter_range_longer p m d above =
     ap (filter p) (range-append m 1 d) ∙ filter-append p (range_with_len 1 m) (range_with_len (1 + m) d)
     ∙ ap (λ xs. filter p (range_with_len 1 m) ++ xs) none ∙ append-nil (filter p (range_with_len 1 m))
 
--- two ranges have the same numbers that pass, where none passes past either
+-- two ranges have the same numbers that pass, if none passes past either
 pub filter_ranges : (p : ℕ → Bool) (m n : ℕ) → ((k : ℕ) → m < k → p k ≡ false) → ((k : ℕ) → n < k → p k ≡ false)
     → filter p (range_with_len 1 m) ≡ filter p (range_with_len 1 n)
 filter_ranges p m n past_m past_n =
@@ -119,7 +119,7 @@ range_rises a n k h =
 
 -- ---- each number once
 
--- a number is the first or comes after it
+-- a number is the first or follows it
 eqb_firsts : (m n : ℕ) (b : Bool) → (eqb m n || (not (eqb n m) && b)) ≡ (eqb m n || b)
 eqb_firsts m n b = grind (arith, nat_tests)
 
@@ -153,14 +153,14 @@ firsts-push (m ∷ ns) n =
 
 -- ---- lists with numbers added
 
--- what a list lacks
+-- the numbers that a list lacks
 pub has-lacking : (added groups : List ℕ) (n : ℕ) → has (lacking added groups) n
     ≡ (not (has groups n) && (ltb 0 n && has added n))
 has-lacking added groups n =
     has-filter (λ k. not (has groups k)) _ n ∙ ap (λ b. not (has groups n) && b) (has-filter (λ k. ltb 0 k) _ n
     ∙ ap (λ b. ltb 0 n && b) (has-firsts added n))
 
--- what a list has after numbers were added
+-- the numbers of a list after others were added
 pub has-with_added : (added groups : List ℕ) (n : ℕ) → has (with_added added groups) n
     ≡ (has groups n || (not (has groups n) && (ltb 0 n && has added n)))
 has-with_added added groups n = has-append groups _ n ∙ ap (λ b. has groups n || b) (has-lacking added groups n)
@@ -176,7 +176,7 @@ last_added false true false n = refl
 last_added false false true n = refl
 last_added false false false n = refl
 
--- one more number is added unless it is 0 or there
+-- one more number is added unless it is 0 or present
 pub with_added-push : (added groups : List ℕ) (n : ℕ) → with_added (added ++ n ∷ []) groups
     ≡ with_added added groups ++ cond (ltb 0 n && not (has (with_added added groups) n)) (n ∷ []) []
 with_added-push added groups n =
@@ -195,7 +195,7 @@ with_added-push added groups n =
     ∙ ap (λ b. cond (above n && not b) (n ∷ []) []) (sym (has-with_added added groups n)) in
     ap (λ xs. groups ++ xs) kept ∙ sym (append_assoc groups _ _) ∙ ap (λ xs. with_added added groups ++ xs) same
 
--- a number is added unless it is 0 or there
+-- a number is added unless it is 0 or present
 pub with_added-one : (n : ℕ) (groups : List ℕ) → with_added (n ∷ []) groups
     ≡ groups ++ cond (ltb 0 n && not (has groups n)) (n ∷ []) []
 with_added-one n groups = ap (λ xs. groups ++ xs) (filter_last_if (λ k. not (has groups k)) n (ltb 0 n))
@@ -205,12 +205,12 @@ pub with_added-then : (added groups : List ℕ) (n : ℕ) → with_added (added 
     ≡ with_added (n ∷ []) (with_added added groups)
 with_added-then added groups n = with_added-push added groups n ∙ sym (with_added-one n (with_added added groups))
 
--- a list that has a number had it or gained it
+-- a list that has a number after an addition had it or gained it
 had_not : (h m : Bool) → (h || m) ≡ false → h ≡ false
 had_not true m e = e
 had_not false m e = refl
 
--- an added number above 0 that a list has not even after others were added, it lacks
+-- a list lacks an added number above 0 that it lacks even after others were added
 pub lacking-some : (added some groups : List ℕ) (n : ℕ) → has added n ≡ true → 0 < n
     → has (with_added some groups) n ≡ false → lacking added groups ≢ []
 lacking-some added some groups n named above lacks none =

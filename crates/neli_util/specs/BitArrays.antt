@@ -1,4 +1,4 @@
--- Bit arrays: which numbers are set, of those from 1 to a capacity.
+-- Bit arrays: the numbers that are set, from 1 to a capacity.
 use Rattle.std.specs.Prelude.{ℕ, ◌+◌, ◌-◌, ◌*◌, ◌/◌, ◌%◌, ◌<◌, Bool, ◌||◌, List, length, ◌==◌, nat_le, slice_index}
 use Rattle.std.specs.Int.{bit_at}
 use Rattle.std.specs.List.{filter, range_with_len}
@@ -13,7 +13,7 @@ pub record BitArray : Type 0 where
 abbrev pub up_to : ℕ → List ℕ
 up_to n = range_with_len 1 n
 
--- how many words of 32 bits hold so many bits
+-- how many words of 32 bits hold this many bits
 abbrev pub words_for : ℕ → ℕ
 words_for bits = (bits + 31) / 32
 
@@ -34,6 +34,6 @@ with_number n a =
 abbrev pub has_bit : List ℕ → ℕ → Bool
 has_bit words n = bit_at (slice_index words ((n - 1) / 32)) ((n - 1) % 32) == 1
 
--- the array that words of 32 bits stand for
+-- the array of these words
 abbrev pub array_of : List ℕ → BitArray
 array_of words = let n = 32 * length words in record { capacity = n; numbers = filter (has_bit words) (up_to n) }

@@ -17,7 +17,7 @@ is_masked mask n = nat_lt 0 n && (bit_at mask (n - 1) == 1)
 abbrev pub groups_of : ℕ → List ℕ
 groups_of mask = filter (is_masked mask) (range_with_len 1 mask_width)
 
--- the mask has the bits of these groups, and no other
+-- the mask has the bits of these groups, and no others
 abbrev pub IsMaskOf : List ℕ → ℕ → Type 0
 IsMaskOf groups mask = (n : ℕ) → is_masked mask n ≡ has groups n
 
@@ -25,6 +25,6 @@ IsMaskOf groups mask = (n : ℕ) → is_masked mask n ≡ has groups n
 abbrev pub past_mask : List ℕ → List ℕ
 past_mask groups = filter (λ n. nat_lt 32 n) groups
 
--- what a group that has no bit is reported as
+-- the text that reports a group without a bit
 abbrev pub past_mask_text : ℕ → List ℕ
 past_mask_text n = codes "Group " ++ decimal n ++ codes " cannot be represented with a bit width of 32"

@@ -12,16 +12,16 @@ use neli_wire::{MsgError, NoMemory, SerError};
 use std::alloc::Global;
 use std::marker::Model;
 
-/// How many bits a word has.
+/// The number of bits in a word.
 const WORD_BITS: usize = 32;
 
-/// How many words an array can have: each number then fits 32 bits, as does the length in bytes.
+/// The most words of an array: each number then fits 32 bits, as does the length in bytes.
 const MAX_WORDS: usize = 134217727;
 
 /// A set of numbers from 1 to a capacity, which is a multiple of 32. Contracts see it as these two.
 ///
-/// The kernel writes the groups that a socket is a member of so (`NETLINK_LIST_MEMBERSHIPS`, netlink(7)):
-/// 32-bit words, of which the lowest bit of the first stands for group 1.
+/// The kernel reports a socket's groups in this form (`NETLINK_LIST_MEMBERSHIPS`, netlink(7)): 32-bit words, of which
+/// the lowest bit of the first stands for group 1.
 #[derive(Drop)]
 pub struct NetlinkBitArray {
     words: Vec<u32>,
@@ -41,8 +41,8 @@ impl Model for NetlinkBitArray {
 impl NetlinkBitArray {
     /// An array without numbers, whose capacity is `bits` rounded up to whole words of 32 bits.
     ///
-    /// Refused with the text `bit array too long` where that is more than 134217727 words, and where memory
-    /// runs out; a capacity of 0 takes none.
+    /// Refused with the text `bit array too long` if that is more than 134217727 words, and if memory runs out; a
+    /// capacity of 0 takes none.
     pub fn new(alloc: Global, bits: usize) -> Result<NetlinkBitArray, SerError>
         ensures capacity { IfOk result (λ array. array.capacity ≡ 32 * words_for bits) }
         ensures numbers { IfOk result (λ array. array.numbers ≡ []) }
@@ -56,10 +56,9 @@ impl NetlinkBitArray {
         Ok(NetlinkBitArray { words })
     }
 
-    /// Makes the capacity `bits` rounded up to whole words of 32 bits; numbers above it are lost.
+    /// Sets the capacity to `bits` rounded up to whole words of 32 bits; numbers above it are lost.
     ///
-    /// Refused as [`NetlinkBitArray::new`] is, and then the array is as it was. Only a larger capacity takes
-    /// memory.
+    /// Refused as [`NetlinkBitArray::new`] is; then the array is as it was. Only a larger capacity takes memory.
     pub fn resize_bits(&mut self, bits: usize) -> Result<(), SerError>
         ensures ok { OnOk result (self.new ≡ with_capacity (32 * words_for bits) self.old) }
         ensures too_long { (result ≡ Err (SerError.Msg (codes "bit array too long")))
@@ -71,8 +70,8 @@ impl NetlinkBitArray {
         resize_words(&mut self.words, bits.div_ceil(WORD_BITS))
     }
 
-    /// Makes the capacity that of `bytes`, 8 bits each, rounded up to whole words of 32 bits; numbers above
-    /// it are lost.
+    /// Sets the capacity to that of `bytes`, 8 bits each, rounded up to whole words of 32 bits; numbers above it are
+    /// lost.
     ///
     /// Refused as [`NetlinkBitArray::resize_bits`] is.
     pub fn resize(&mut self, bytes: usize) -> Result<(), SerError>
@@ -95,7 +94,7 @@ impl NetlinkBitArray {
         n != 0 && word_has_bit(self.words[(n - 1) / WORD_BITS], (n - 1) % WORD_BITS)
     }
 
-    /// Sets a number, at most [`NetlinkBitArray::len_bits`]. Of 0 nothing is changed.
+    /// Sets a number, at most [`NetlinkBitArray::len_bits`]. 0 changes nothing.
     pub fn set(&mut self, n: usize)
         requires { n ≤ self.old.capacity }
         ensures value { self.new ≡ with_number n self.old }
@@ -110,7 +109,7 @@ impl NetlinkBitArray {
 
     /// The numbers that are set, lowest first.
     ///
-    /// Refused only where memory runs out; none is taken where no number is set.
+    /// Refused only if memory runs out; without numbers it takes none.
     pub fn to_vec(&self, alloc: Global) -> Result<Vec<u32>, NoMemory>
         ensures value { IfOk result (λ list. list.items ≡ self.now.numbers) }
         ensures lowest_first { IsStrictlyIncreasing self.now.numbers }
@@ -126,7 +125,7 @@ impl NetlinkBitArray {
         Ok(numbers)
     }
 
-    /// The capacity, in bits, which is the largest number that can be set. A multiple of 32.
+    /// The capacity in bits, which is the largest number that can be set. A multiple of 32.
     pub fn len_bits(&self) -> usize
         ensures value { result ≡ self.now.capacity }
         ensures words { result % 32 ≡ 0 }
@@ -135,7 +134,7 @@ impl NetlinkBitArray {
         self.words.len() * WORD_BITS
     }
 
-    /// The capacity, in bytes of 8 bits. A multiple of four.
+    /// The capacity in bytes of 8 bits. A multiple of four.
     pub fn len(&self) -> usize
         ensures { 8 * result ≡ self.now.capacity }
     {
@@ -151,7 +150,7 @@ fn word_has_bit(word: u32, bit: usize) -> bool
     (word >> bit) & 1 == 1
 }
 
-// Makes the words so many, zeros where there were none.
+// Resizes to this many words, with zeros for new ones.
 fn resize_words(words: &mut Vec<u32>, count: usize) -> Result<(), SerError>
     ensures ok { OnOk result (words.new.items
         ≡ take count words.old.items ++ replicate (count - length words.old.items) 0) }

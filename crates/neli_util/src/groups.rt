@@ -42,7 +42,7 @@ impl Groups {
 
     /// The groups of a mask, lowest first.
     ///
-    /// Refused only where memory runs out; none is taken for the mask 0.
+    /// Refused only if memory runs out; the mask 0 takes none.
     pub fn new_bitmask(alloc: Global, mask: u32) -> Result<Groups, NoMemory>
         ensures value { IfOk result (λ groups. groups ≡ groups_of mask) }
         ensures no_zero { IfOk result HasNoZero }
@@ -52,10 +52,9 @@ impl Groups {
         Ok(Groups { numbers })
     }
 
-    /// Adds those groups of a mask that are not there, lowest first.
+    /// Adds the missing groups of a mask, lowest first.
     ///
-    /// Refused only where memory runs out, and then the groups are as they were. Only a group that is not there
-    /// takes memory.
+    /// Refused only if memory runs out; then the groups are as they were. Only a missing group takes memory.
     pub fn add_bitmask(&mut self, mask: u32) -> Result<(), NoMemory>
         ensures ok { OnOk result (self.new ≡ with_added (groups_of mask) self.old) }
         ensures no_zero { HasNoZero self.new }
@@ -65,7 +64,7 @@ impl Groups {
         add_masked(&mut self.numbers, mask)
     }
 
-    /// Takes out the groups of a mask, each as often as it is there. It takes no memory.
+    /// Removes the groups of a mask, with all repeats. It takes no memory.
     pub fn remove_bitmask(&mut self, mask: u32)
         ensures value { self.new ≡ without (groups_of mask) self.old }
         ensures no_zero { HasNoZero self.new }
@@ -73,9 +72,9 @@ impl Groups {
         self.numbers.retain(|group| !is_in_mask(mask, *group));
     }
 
-    /// These groups in their order, repeats too; zeros are left out.
+    /// These groups in their order, with repeats; zeros are left out.
     ///
-    /// Refused only where memory runs out; none is taken for no groups.
+    /// Refused only if memory runs out; an empty list takes none.
     pub fn new_groups(alloc: Global, groups: &[u32]) -> Result<Groups, NoMemory>
         ensures value { IfOk result (λ list. list ≡ without_zeros groups.now) }
         ensures no_zero { IfOk result HasNoZero }
@@ -86,10 +85,9 @@ impl Groups {
         Ok(Groups { numbers })
     }
 
-    /// Adds those of these groups that are not there, in their order and each once; zeros are left out.
+    /// Adds the missing groups, in their order and each once; zeros are left out.
     ///
-    /// Refused only where memory runs out, and then the groups are as they were. Only a group that is not there
-    /// takes memory.
+    /// Refused only if memory runs out; then the groups are as they were. Only a missing group takes memory.
     pub fn add_groups(&mut self, groups: &[u32]) -> Result<(), NoMemory>
         ensures ok { OnOk result (self.new ≡ with_added groups.now self.old) }
         ensures no_zero { HasNoZero self.new }
@@ -99,7 +97,7 @@ impl Groups {
         add_lacking(&mut self.numbers, groups)
     }
 
-    /// Takes out these groups, each as often as it is there. It takes no memory.
+    /// Removes these groups, with all repeats. It takes no memory.
     pub fn remove_groups(&mut self, groups: &[u32])
         ensures value { self.new ≡ without groups.now self.old }
         ensures no_zero { HasNoZero self.new }
@@ -109,8 +107,8 @@ impl Groups {
 
     /// The mask with the bits of these groups.
     ///
-    /// Refused exactly where a group is above 32: in words that name the first such group, or as memory
-    /// ran out for these words.
+    /// Refused exactly where a group is above 32: with a text that names the first such group, or because memory ran
+    /// out for this text.
     pub fn as_bitmask(&self, alloc: Global) -> Result<u32, SerError>
         ensures value { IfOk result (IsMaskOf self.now) }
         ensures refused { IsErr result ↔ (0 < length (past_mask self.now)) }
@@ -125,7 +123,7 @@ impl Groups {
 
     /// A copy of the list.
     ///
-    /// Refused only where memory runs out; none is taken where there is no group.
+    /// Refused only if memory runs out; without groups it takes none.
     pub fn as_groups(&self, alloc: Global) -> Result<Vec<u32>, NoMemory>
         ensures value { IfOk result (λ list. list.items ≡ self.now) }
         ensures no_zero { HasNoZero self.now }
@@ -143,7 +141,7 @@ impl Groups {
         numbers
     }
 
-    /// Whether there is no group.
+    /// Whether there are no groups.
     pub fn is_empty(&self) -> bool
         ensures { IsTrue result ↔ (self.now ≡ []) }
     {
@@ -151,7 +149,7 @@ impl Groups {
     }
 }
 
-// A copy of the numbers. That of none takes no memory.
+// A copy of the numbers. A copy of none takes no memory.
 fn copy_of(alloc: Global, numbers: &[u32]) -> Result<Vec<u32>, NoMemory>
     ensures value { IfOk result (λ copy. copy.items ≡ numbers.now) }
     ensures empty { numbers.now ≡ [] → IsOk result }
@@ -161,7 +159,7 @@ fn copy_of(alloc: Global, numbers: &[u32]) -> Result<Vec<u32>, NoMemory>
     Ok(copy)
 }
 
-// Adds a number, if it is above 0 and not there. Only then is memory taken.
+// Adds a number, if it is above 0 and missing. It takes memory only then.
 fn add_one(list: &mut Vec<u32>, number: u32) -> Result<(), NoMemory>
     ensures ok { OnOk result (list.new.items ≡ with_added (number ∷ []) list.old.items) }
     ensures err { OnErr result (list.new.items ≡ list.old.items) }
@@ -174,7 +172,7 @@ fn add_one(list: &mut Vec<u32>, number: u32) -> Result<(), NoMemory>
     Ok(())
 }
 
-// Adds those of the added numbers that are above 0 and not there, each once, or leaves the list as it was.
+// Adds the missing ones of the added numbers above 0, each once, or leaves the list as it was.
 fn add_lacking(list: &mut Vec<u32>, added: &[u32]) -> Result<(), NoMemory>
     ensures ok { OnOk result (list.new.items ≡ with_added added.now list.old.items) }
     ensures none_lacking { lacking added.now list.old.items ≡ [] → IsOk result }
@@ -190,7 +188,7 @@ fn add_lacking(list: &mut Vec<u32>, added: &[u32]) -> Result<(), NoMemory>
     Ok(())
 }
 
-// Adds those groups of a mask that are not there, lowest first, or leaves the list as it was.
+// Adds the missing groups of a mask, lowest first, or leaves the list as it was.
 fn add_masked(list: &mut Vec<u32>, mask: u32) -> Result<(), NoMemory>
     ensures ok { OnOk result (list.new.items ≡ with_added (groups_of mask) list.old.items) }
     ensures none_lacking { lacking (groups_of mask) list.old.items ≡ [] → IsOk result }

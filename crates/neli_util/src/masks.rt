@@ -8,7 +8,7 @@ use neli_wire::NoMemory;
 use std::alloc::Global;
 use std::fmt;
 
-/// How many groups have a bit in a mask.
+/// The number of groups that have a bit in a mask.
 pub const MASK_WIDTH: u32 = 32;
 
 /// Whether the mask has the bit of a group.
@@ -23,7 +23,7 @@ pub fn is_in_mask(mask: u32, group: u32) -> bool
 
 /// The groups of a mask, lowest first.
 ///
-/// Refused only where memory runs out; none is taken for the mask 0.
+/// Refused only if memory runs out; the mask 0 takes none.
 pub fn mask_to_vec(alloc: Global, mask: u32) -> Result<Vec<u32>, NoMemory>
     ensures value { IfOk result (λ groups. groups.items ≡ groups_of mask) }
     ensures empty { mask ≡ 0 → IsOk result }

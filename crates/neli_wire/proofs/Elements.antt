@@ -99,7 +99,7 @@ module _ {V : Type 0} (read : List ℕ → Reading V) (bytes : List ℕ) (vs : L
       ) refl) in
       rw all refl
 
--- a refusal, not for memory, is its own
+-- a refusal that does not report memory is its own
 refuses_self : (A : Type 0) (memory : Type 0) (e : DeError) → e ≢ Memory → Refuses {A = A} (Err e) memory e
 refuses_self A memory (Msg m) h = refl
 refuses_self A memory (Io k) h = refl

@@ -7,7 +7,7 @@ use Rattle.neli_wire.specs.SerError.TheVariants.{Msg, Io, Utf8, Memory}
 use Rattle.neli_wire.specs.laws.Writing.{append_wire-err, refused_part_first}
 use Rattle.neli_wire.specs.Writing.{Wire, ◌+++◌, append_wire, RefusesWrite, TakesRoom, wire_all}
 
--- what is left takes no more than all
+-- what is left takes no more memory than all
 room_rest : (old mid : List ℕ) (w all : Wire) → length old ≤ length mid → append_wire mid w ≡ append_wire old all
     → TakesRoom w → TakesRoom all
 room_rest old mid (Ok x) (Ok y) le s h =
@@ -25,7 +25,7 @@ refused_rest old mid w all (Io k) le s h = append_wire-err old all (Io k) (sym s
 refused_rest old mid w all (Utf8 u) le s h = append_wire-err old all (Utf8 u) (sym s ∙ ap (append_wire mid) h)
 refused_rest old mid w all Memory le s h = room_rest old mid w all le s h
 
--- the first i of the values stand after old; writing the others gives what writing all gives
+-- the first i values stand after old; writing the others gives what writing all gives
 pub record Writes {A : Type 0} (wire : A → Wire) (old : List ℕ) (xs : List A) (i : ℕ) (now : List ℕ) : Type 0 where
   pub others : append_wire now (wire_all wire (drop i xs)) ≡ append_wire old (wire_all wire xs)
   pub front : take (length old) now ≡ old
@@ -41,7 +41,7 @@ module _ {A : Type 0} (wire : A → Wire) (old : List ℕ) (xs : List A) (i : �
       (omega (arith, length-take (length old) now, ap length so_far.front)) (ap (append_wire now) same
       ∙ so_far.others) (refused_part_first (wire x) (wire_all wire (drop (i + 1) xs)) e h)
 
--- values that take a byte by their sizes take memory to be written
+-- writing values whose size is a byte or more takes memory
 pub takes-room : (w : Wire) (n : ℕ) → 0 < n → ((bytes : List ℕ) → w ≡ Ok bytes → length bytes ≡ n) → TakesRoom w
 takes-room (Ok bytes) n some sized = omega (arith, some, sized bytes refl)
 takes-room (Err e) n some sized = tt

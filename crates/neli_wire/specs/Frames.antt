@@ -1,4 +1,4 @@
--- Frames: what begins with a header that states the length of the whole, the header included.
+-- Frames: they begin with a header that states the length of the whole, the header included.
 use Rattle.std.specs.Prelude.{◌≡◌, ℕ, ◌-◌, ◌≤◌, List, [], ◌∷◌, ◌++◌}
 use Rattle.std.specs.Prelude.{length, take, drop, Result, Ok, Err, nat_lt, if◌then◌else◌}
 use Rattle.byteorder.specs.Endian.{little_number}
@@ -12,7 +12,7 @@ use Rattle.neli_wire.specs.Reading.{◌>>=◌}
 abbrev pub number_in : ℕ → ℕ → List ℕ → ℕ
 number_in n i s = little_number n (drop i s)
 
--- a kind of frames: how long its header is, what the header says, and what the payload's bytes say
+-- a kind of frames: the length of its header, the header's meaning, and the payload's meaning
 pub record Layout (H V : Type 0) : Type 0 where
   pub size : ℕ
   pub header_of : List ℕ → H
@@ -41,7 +41,7 @@ unfoldable pub frame_at : {H V : Type 0} → Layout H V → List ℕ → Reading
 frame_at layout s =
     if nat_lt (length s) layout.size then Err short else frame_after layout (layout.header_of s) s
 
--- where the payload's bytes are there, and reading them takes memory
+-- the payload's bytes are all there, and reading them takes memory
 abbrev pub frame_takes_memory : {H V : Type 0} → Layout H V → (H → List ℕ → Type 0) → List ℕ → Type 0
 frame_takes_memory layout takes s =
     let header = layout.header_of s in let n = layout.length_of header in

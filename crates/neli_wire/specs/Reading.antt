@@ -1,4 +1,4 @@
--- Reading: what a byte list says, or why it says nothing.
+-- Reading: the value of a byte list, or why it has none.
 use Rattle.std.specs.Prelude.{◌≡◌, ◌≤◌, ◌<◌, Bool, true, false, ℕ, List, [], ◌∷◌}
 use Rattle.std.specs.Prelude.{◌++◌, length, take, drop, Result, Ok, Err, nat_lt, if◌then◌else◌}
 use Rattle.byteorder.specs.Endian.{little_number}
@@ -9,7 +9,7 @@ use Rattle.neli_wire.specs.Sizes.{gap}
 use Rattle.neli_wire.specs.DeError.{DeError}
 use Rattle.neli_wire.specs.DeError.TheVariants.{Io, InvalidInput}
 
--- what is done with a value that was read; a refusal stays
+-- the next step after a value was read; a refusal stays
 infixl 10 ◌>>=◌
 abbrev pub ◌>>=◌ : {A B : Type 0} → Result A DeError → (A → Result B DeError) → Result B DeError
 (Ok x) >>= f = f x
@@ -29,7 +29,7 @@ value_at n value = and_then (bytes_at n) (λ bytes rest. Ok (value bytes, rest))
 abbrev pub number_at : ℕ → List ℕ → Reading ℕ
 number_at n = value_at n (little_number n)
 
--- a number of two bytes, and what it stands for
+-- a number of two bytes, and its meaning
 abbrev pub number_as : {V : Type 0} → (ℕ → V) → List ℕ → Reading V
 number_as of = value_at 2 (λ bytes. of (little_number 2 bytes))
 
@@ -40,11 +40,11 @@ exact_reading read n s =
 
 -- ---- refusals
 
--- the first n bytes are there, and reading them takes memory
+-- there are n bytes or more, and reading the first n takes memory
 abbrev pub exact_takes_memory : (List ℕ → Type 0) → ℕ → List ℕ → Type 0
 exact_takes_memory takes_memory n s = (n ≤ length s) × takes_memory (take n s)
 
--- a part was read, and what is said of it holds
+-- a part was read, and the statement about it holds
 abbrev pub IfRead : {A : Type 0} → Reading A → (A → List ℕ → Type 0) → Type 0
 IfRead (Ok p) P = P p.0 p.1
 IfRead (Err e) P = ⊥
@@ -58,22 +58,22 @@ is_short e = false
 abbrev pub StripsTo : Place → Place → Type 0
 StripsTo old new = (gap (length old.before) ≤ length old.rest) × (new ≡ place_after old (gap (length old.before)))
 
--- the bytes up to the next multiple of four are not there, and the refusal says so
+-- the bytes end before the next multiple of four, and the refusal says so
 abbrev pub LacksPadding : Place → DeError → Type 0
 LacksPadding old e = (e ≡ short) × (length old.rest < gap (length old.before))
 
--- a refusal as a read with input n passes it on: there missing bytes are an invalid input
+-- a refusal as a read with input n returns it: there missing bytes are an invalid input
 abbrev pub refusal_within : ℕ → DeError → DeError
 refusal_within n e = if is_short e then InvalidInput n else e
 
--- a refusal as it is passed on
+-- a refusal as it is returned
 abbrev pub map_refusal : {A : Type 0} → (DeError → DeError) → Result A DeError → Result A DeError
 map_refusal f (Ok x) = Ok x
 map_refusal f (Err e) = Err (f e)
 
 -- ---- lists of values
 
--- the bytes spell these values, one after the other, each of a byte at least
+-- the bytes spell these values, one after the other, each of at least a byte
 abbrev pub AreElements : {V : Type 0} → (List ℕ → Reading V) → List ℕ → List V → Type 0
 AreElements read s [] = s ≡ []
 AreElements read s (v ∷ vs) =
@@ -83,7 +83,7 @@ AreElements read s (v ∷ vs) =
 
 -- ---- laws that a reading meets
 
--- a value that is read is told by its own bytes alone, whatever follows
+-- what is read depends only on its own bytes, whatever follows
 abbrev pub IsLocal : {V : Type 0} → (List ℕ → Reading V) → Type 0
 IsLocal {V} read =
     (s r : List ℕ) (v : V) → read s ≡ Ok (v, r)

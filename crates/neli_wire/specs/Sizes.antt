@@ -1,11 +1,11 @@
--- Sizes: lengths that are rounded up to four, as netlink aligns whatever it carries.
+-- Sizes: lengths rounded up to four, as netlink aligns everything it carries.
 use Rattle.std.specs.Prelude.{◌≡◌, ℕ, ◌+◌, ◌*◌, ◌/◌, ◌-◌, ◌⊎◌, List, ◌++◌, length, replicate, take}
 
 -- n rounded up to a multiple of four
 abbrev pub align : ℕ → ℕ
 align n = (n + 3) / 4 * 4
 
--- how many bytes are missing to a multiple of four
+-- how many bytes a length lacks to a multiple of four
 abbrev pub gap : ℕ → ℕ
 gap n = align n - n
 
@@ -13,6 +13,6 @@ gap n = align n - n
 abbrev pub IsRounded : ℕ → ℕ → Type 0
 IsRounded unpadded written = (written ≡ unpadded) ⊎ (written ≡ align unpadded)
 
--- after their first n bytes there are zeros alone
+-- after their first n bytes there are only zeros
 abbrev pub EndsInZeros : ℕ → List ℕ → Type 0
 EndsInZeros n bytes = bytes ≡ take n bytes ++ replicate (length bytes - n) 0

@@ -29,7 +29,7 @@ abbrev pub pad_wire : Wire → Wire
 pad_wire (Ok bytes) = Ok (bytes ++ zeros_for (length bytes))
 pad_wire (Err e) = Err e
 
--- the bytes that stood there, and then those of a value
+-- the old bytes, and then those of a value
 abbrev pub append_wire : List ℕ → Wire → Wire
 append_wire old (Ok bytes) = Ok (old ++ bytes)
 append_wire old (Err e) = Err e

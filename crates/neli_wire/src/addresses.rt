@@ -1,5 +1,4 @@
-//! Internet addresses, as the standard library has them: their octets, the highest first (`struct in_addr`, `struct
-//! in6_addr`).
+//! Internet addresses of the standard library: their octets, the highest first (`struct in_addr`, `struct in6_addr`).
 
 ghost use Rattle.std.specs.Prelude.{◌≡◌, ℕ, List, Ok, length};
 ghost use Rattle.std.specs.Net.Addr.{ipv4_octets, ipv6_octets, ipv6_segments, segments_of};

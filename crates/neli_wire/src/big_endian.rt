@@ -11,7 +11,7 @@ use byteorder::{BigEndian, ByteOrder};
 use std::alloc::AllocError;
 use std::marker::Model;
 
-/// A `u16` that is written with its highest byte first, in 2 bytes, as the kernel's `__be16`.
+/// A `u16` written with its highest byte first, in 2 bytes, as the kernel's `__be16`.
 #[derive(Clone, Copy, Debug, PartialEq, Eq)]
 pub struct BeU16(u16);
 
@@ -33,7 +33,7 @@ impl BeU16 {
         BeU16(number)
     }
 
-    /// The number, as the machine has it.
+    /// The number in the machine's byte order.
     pub fn as_ne_u16(self) -> u16
         ensures { result ≡ self }
     {
@@ -73,7 +73,7 @@ impl WireNumber for BeU16 {
     }
 }
 
-/// A `u32` that is written with its highest byte first, in 4 bytes, as the kernel's `__be32`.
+/// A `u32` written with its highest byte first, in 4 bytes, as the kernel's `__be32`.
 #[derive(Clone, Copy, Debug, PartialEq, Eq)]
 pub struct BeU32(u32);
 
@@ -95,7 +95,7 @@ impl BeU32 {
         BeU32(number)
     }
 
-    /// The number, as the machine has it.
+    /// The number in the machine's byte order.
     pub fn as_ne_u32(self) -> u32
         ensures { result ≡ self }
     {
@@ -135,7 +135,7 @@ impl WireNumber for BeU32 {
     }
 }
 
-/// A `u64` that is written with its highest byte first, in 8 bytes, as the kernel's `__be64`.
+/// A `u64` written with its highest byte first, in 8 bytes, as the kernel's `__be64`.
 #[derive(Clone, Copy, Debug, PartialEq, Eq)]
 pub struct BeU64(u64);
 
@@ -157,7 +157,7 @@ impl BeU64 {
         BeU64(number)
     }
 
-    /// The number, as the machine has it.
+    /// The number in the machine's byte order.
     pub fn as_ne_u64(self) -> u64
         ensures { result ≡ self }
     {

@@ -1,7 +1,7 @@
-//! Values that are one number each: the numbers themselves, and what names them.
+//! Values that are one number each: numbers, and types that name them.
 //!
-//! A type of constants implements [`Constant`] alone, and with it has the four wire traits
-//! [`Size`], [`TypeSize`], [`ToBytes`] and [`FromBytes`].
+//! A type of constants implements [`Constant`] alone, which gives it the four wire traits [`Size`],
+//! [`TypeSize`], [`ToBytes`] and [`FromBytes`].
 
 ghost use Rattle.std.specs.Prelude.{◌≡◌, ◌<◌, ◌++◌, ℕ, List, Ok, OnOk, OnErr, length};
 ghost use Rattle.neli_wire.specs.Numbers.{AreBytes};
@@ -19,13 +19,13 @@ pub trait WireNumber: Copy + Debug {
     // How many bytes each number has.
     ghost byte_count: { ℕ };
 
-    // What is a number of the type: a contract's numbers have no bounds.
+    // The type's range: a contract's numbers have no bounds.
     ghost IsInRange: { Self → Type 0 };
 
     // The bytes of a number.
     ghost bytes_of: { Self → List ℕ };
 
-    // The number that as many bytes spell.
+    // The number that this many bytes spell.
     ghost number_of: { List ℕ → Self };
 
     /// How many bytes each number takes.
@@ -48,7 +48,8 @@ pub trait WireNumber: Copy + Debug {
     // A number that is written is read back.
     ghost reads_back: { (n : Self) → IsInRange n → number_of (bytes_of n) ≡ n };
 
-    // Bytes that are read as a number are that number's bytes, and it is one of the type.
+    // Bytes that are read as a number are that number's bytes, and the number is in the type's
+    // range.
     ghost writes_back: { (bytes : List ℕ) → length bytes ≡ byte_count → AreBytes bytes
         → bytes_of (number_of bytes) ≡ bytes };
 
@@ -56,7 +57,7 @@ pub trait WireNumber: Copy + Debug {
         → IsInRange (number_of bytes) };
 }
 
-/// A value that is written as one number, and read as what that number means.
+/// A value that is written as one number, and read by that number's meaning.
 pub trait Constant: Copy + Debug {
     /// The integer that it is written as.
     type Number: WireNumber;
@@ -75,7 +76,7 @@ pub trait Constant: Copy + Debug {
     fn to_wire(&self) -> Self::Number
         ensures { result ≡ wire_number self.now };
 
-    // No number is lost: what it is read as is written as the same number.
+    // No number is lost: its value is written as the same number.
     ghost back_to_number: { (n : Self.Number) → Self.Number.IsInRange n
         → wire_number (wire_value n) ≡ n };
 }

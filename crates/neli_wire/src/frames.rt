@@ -9,12 +9,11 @@ ghost use Rattle.neli_wire.specs.Sizes.{align};
 use crate::{Cursor, DeError, FromBytesWithInput, alignto};
 use std::alloc::Global;
 
-/// Reads what follows a header of `size` bytes that states `len` for the whole frame: the payload and
-/// the padding to four bytes, whatever the padding holds. `len`, rounded up to four, fits a usize.
+/// Reads what follows a header of `size` bytes that states `len` for the whole frame: the payload and the padding to
+/// four bytes, whose values do not matter. `len`, rounded up to four, fits a usize.
 ///
-/// A length below the header's own is `InvalidInput(len)`; one past the bytes `InvalidInput(len - size)`;
-/// then comes the payload's refusal, and `Io(UnexpectedEof)` where padding is missing. A refusal leaves
-/// the cursor where it was.
+/// A length below the header's own is `InvalidInput(len)`; one past the bytes `InvalidInput(len - size)`; next is the
+/// payload's refusal, last `Io(UnexpectedEof)` for missing padding. A refusal leaves the cursor where it was.
 pub fn read_padded_payload<P: FromBytesWithInput>(
     alloc: Global,
     cursor: &mut Cursor<'_>,

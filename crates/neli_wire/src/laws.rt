@@ -1,5 +1,5 @@
-//! Laws over the definitions, and what the types say of their own bytes, by the values. The functions do nothing: their
-//! contracts are the laws.
+//! Laws over the definitions, and what the types state about their own bytes, by the values. The functions do nothing:
+//! their contracts are the laws.
 
 ghost use Rattle.std.specs.Int.{w8, w16, w32, w64, w128};
 ghost use Rattle.std.specs.Net.Addr.{ipv4_octets, ipv6_octets, ipv6_segments, segments_of};
@@ -31,7 +31,7 @@ pub fn bytes_of_number()
         → big_bytes n (big_number n s) ≡ take n s }
 {}
 
-/// What a constant is written as is read, whatever follows, as the value that its number means.
+/// A written constant is read, whatever follows, as the value of its number.
 pub fn constant_is_read_back<T: Constant>()
     ensures { (v : T) (rest : List ℕ) → T.Number.IsInRange (T.wire_number v)
         → value_at T.Number.byte_count (λ bytes. T.wire_value (T.Number.number_of bytes))
@@ -39,9 +39,9 @@ pub fn constant_is_read_back<T: Constant>()
         ≡ Ok (T.wire_value (T.wire_number v), rest) }
 {}
 
-/// A list that is read is the bytes of its elements, one after the other, and every such byte list is
-/// read as that list. After elements that can be read, the first refusal is that of the whole list, and
-/// an element that takes no byte refuses it with `InvalidInput`.
+/// A list that is read is the bytes of its elements, one after the other, and every such byte list is read as that
+/// list. After elements that can be read, the first refusal is that of the whole list; an element that takes no byte
+/// refuses it with `InvalidInput`.
 pub fn list_is_its_elements<T: FromBytes>()
     ensures read { (s : List ℕ) (vs : List T.Value) → elements T.read s ≡ Ok vs
         → AreElements T.read s vs }
@@ -57,14 +57,14 @@ pub fn list_is_its_elements<T: FromBytes>()
         → elements T.read (front ++ rest) ≡ Err (de.InvalidInput (length (front ++ rest))) }
 {}
 
-/// `==` of numbers that are written with their highest byte first is true exactly where the two are equal.
+/// `==` of numbers written with their highest byte first is true exactly where the two are equal.
 pub fn equality()
     ensures two_bytes { IsEquality ⟦<BeU16 as PartialEq>⟧.eq }
     ensures four_bytes { IsEquality ⟦<BeU32 as PartialEq>⟧.eq }
     ensures eight_bytes { IsEquality ⟦<BeU64 as PartialEq>⟧.eq }
 {}
 
-/// A number without a sign is written as its bytes, the lowest first, and read as the number that they spell.
+/// An unsigned number is written as its bytes, the lowest first, and read as the number that they spell.
 pub fn unsigned_numbers()
     ensures one_byte { AreNumbers ⟦<u8 as ToBytes>⟧.wire ⟦<u8 as FromBytes>⟧.read 1
         (little_bytes 1) (little_number 1) }
@@ -78,7 +78,7 @@ pub fn unsigned_numbers()
         (little_bytes 16) (little_number 16) }
 {}
 
-/// A number with a sign is written in two's complement, the lowest byte first, and read so.
+/// A signed number is written in two's complement, the lowest byte first, and read the same way.
 pub fn signed_numbers()
     ensures one_byte { AreNumbers ⟦<i8 as ToBytes>⟧.wire ⟦<i8 as FromBytes>⟧.read 1
         (signed_bytes w8 1) (signed_number w8 1) }
@@ -102,7 +102,7 @@ pub fn big_endian_numbers()
         (big_bytes 8) (big_number 8) }
 {}
 
-/// A constant is written as the bytes of its number, and read as what the number means, without memory.
+/// A constant is written as the bytes of its number, and read by the number's meaning, without memory.
 pub fn constant_is_its_number<T: Constant>()
     ensures written { AreWrittenAs ⟦<T as ToBytes>⟧.wire ⟦<T as Size>⟧.unpadded_length
         (λ v. T.Number.bytes_of (T.wire_number v)) }
@@ -122,7 +122,7 @@ pub fn booleans()
     ensures seen { ⟦<bool as FromBytes>⟧.view true ≡ true }
 {}
 
-/// An address is written as its octets, the highest first, and is read as what they spell, without memory.
+/// An address is written as its octets, the highest first, and read as what they spell, without memory.
 pub fn addresses()
     ensures written { AreWrittenAs ⟦<Ipv4Addr as ToBytes>⟧.wire ⟦<Ipv4Addr as Size>⟧.unpadded_length
         ipv4_octets }
@@ -136,7 +136,7 @@ pub fn addresses()
     ensures seen_long { AreSame ⟦<Ipv6Addr as FromBytes>⟧.view ipv6_segments }
 {}
 
-/// A text is written as its bytes and a zero. An owned one is read from all bytes but the last, and takes memory where
+/// A text is written as its bytes and a zero. An owned one is read from all bytes but the last, and takes memory if
 /// there is a byte; a borrowed one is all of its bytes.
 pub fn texts()
     ensures borrowed_written { AreWrittenAs ⟦<&'static str as ToBytes>⟧.wire
@@ -167,7 +167,7 @@ pub fn bytes_as_they_are<const N: usize>()
     ensures seen { AreSame ⟦<[u8; N] as FromBytes>⟧.view (λ b. b) }
 {}
 
-/// `()` and a marker of a type are no bytes, and are read from none, without memory.
+/// `()` and a marker of a type take no bytes, and no memory.
 pub fn values_without_bytes<T>()
     ensures written { AreWrittenAs ⟦<() as ToBytes>⟧.wire ⟦<() as Size>⟧.unpadded_length (λ v. []) }
     ensures read { AreSame ⟦<() as FromBytes>⟧.read (λ s. Ok (tt, s)) }
@@ -180,7 +180,7 @@ pub fn values_without_bytes<T>()
     ensures marker_memory { (s : List ℕ) → ⟦<PhantomData<T> as FromBytes>⟧.takes_memory s → ⊥ }
 {}
 
-/// A list is written as its values, one after the other, and read as values; this takes memory where there is a byte.
+/// A list is written as its values, one after the other, and read as values; this takes memory if there is a byte.
 pub fn lists<W: ToBytes, R: FromBytes>()
     ensures written { AreSame ⟦<Vec<W> as ToBytes>⟧.wire (λ v. wire_all W.wire v.items) }
     ensures size { AreSame ⟦<Vec<W> as Size>⟧.unpadded_length

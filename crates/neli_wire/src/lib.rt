@@ -2,16 +2,16 @@
 //!
 //! - [`Size`], [`ToBytes`], [`TypeSize`], [`Header`]: how long a value is, and its wire bytes.
 //! - [`FromBytes`]: values that take as many bytes as they need. [`FromBytesWithInput`] and
-//!   [`FromBytesWithInputBorrowed`]: values that are told their number of bytes.
-//! - [`Constant`]: values that are one number each, such as enums and flag sets. It brings the traits above.
+//!   [`FromBytesWithInputBorrowed`]: values that are given their number of bytes.
+//! - [`Constant`]: values that are one number each, such as enums and flag sets. It implies the traits above.
 //! - [`Cursor`]: the place that reads go through.
-//! - [`SerError`], [`DeError`], [`NoMemory`]: why something is not written or read. These and the cursor
-//!   are re-exports of `neli_cursor`.
-//! - [`implementing`]: what an implementer of these traits calls. [`laws`]: what holds of the definitions.
+//! - [`SerError`], [`DeError`], [`NoMemory`]: why a value is not written or read. These and the cursor are re-exports
+//!   of `neli_cursor`.
+//! - [`implementing`]: what an implementer of these traits calls. [`laws`]: laws over the definitions.
 //!
-//! What is implemented here: the integer types, lowest byte first, [`BeU16`], [`BeU32`] and [`BeU64`], `bool`,
-//! `Ipv4Addr`, `Ipv6Addr`, `Vec<T>`, texts, byte slices and arrays, `()` and `PhantomData`. What a read or a write
-//! means is stated in `specs/`: `Sizes`, `Writing`, `Reading`, `Numbers`, `Constants`, `Strings` and `Frames`.
+//! Implemented here: the integer types, lowest byte first, [`BeU16`], [`BeU32`] and [`BeU64`], `bool`, `Ipv4Addr`,
+//! `Ipv6Addr`, `Vec<T>`, texts, byte slices and arrays, `()` and `PhantomData`. `specs/` states what a read or a write
+//! means: `Sizes`, `Writing`, `Reading`, `Numbers`, `Constants`, `Strings` and `Frames`.
 #![tactic(auto)]
 
 mod addresses;

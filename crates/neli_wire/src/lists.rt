@@ -14,7 +14,7 @@ use crate::implementing::{undo_on_refusal, within_input};
 use crate::{Cursor, DeError, FromBytes, FromBytesWithInput, SerError, Size, ToBytes};
 use std::alloc::Global;
 
-/// How many bytes the values take together; `usize::MAX` where that is larger.
+/// How many bytes the values take together, capped at `usize::MAX`.
 pub fn size_of_all<T: Size>(items: &[T]) -> usize
     ensures { result ≡ min (sum_by T.wire_length items.now) usize.MAX }
 {
@@ -25,7 +25,7 @@ pub fn size_of_all<T: Size>(items: &[T]) -> usize
     total
 }
 
-/// Appends the bytes of the values. A refusal leaves some of them after what was there.
+/// Appends the bytes of the values. A refusal leaves some of them appended.
 fn write_each<T: ToBytes>(items: &[T], buffer: &mut Vec<u8>) -> Result<(), SerError>
     ensures appended { OnOk result (append_wire buffer.old.items (wire_all T.wire items.now)
         ≡ Ok buffer.new.items) }
@@ -55,9 +55,10 @@ pub fn write_all<T: ToBytes>(items: &[T], buffer: &mut Vec<u8>) -> Result<(), Se
     undo_on_refusal(buffer, start, outcome)
 }
 
-/// The values that all of the bytes spell, one after the other.
+/// Reads all of the bytes as values, one after the other.
 ///
-/// An element that takes no byte while bytes are left is `InvalidInput` of their whole count.
+/// An element that takes no byte while bytes are left is `InvalidInput` of the whole number of
+/// bytes.
 pub fn read_all<T: FromBytes>(alloc: Global, bytes: &[u8]) -> Result<Vec<T>, DeError>
     ensures value { IfOk result (λ v. elements T.read bytes.now ≡ Ok (map T.view v.items)) }
     ensures refused { IfErr result (Refuses (elements T.read bytes.now) (0 < length bytes.now)) }

@@ -23,14 +23,13 @@ pub trait FromBytes: Sized + Debug + Drop {
 
     ghost view: { Self → Value };
 
-    // The value that begins a byte list and the bytes after it, or a refusal.
+    // The value at the front of a byte list and the bytes after it, or a refusal.
     ghost read: { List ℕ → Reading Value };
 
     // Where a read takes memory.
     ghost takes_memory: { List ℕ → Type 0 };
 
-    /// Reads the value that the cursor's rest begins with, and moves past it. A refusal leaves the
-    /// cursor where it was.
+    /// Reads the value at the cursor, and moves past it. A refusal leaves the cursor where it was.
     fn from_bytes(alloc: Global, cursor: &mut Cursor<'_>) -> Result<Self, DeError>
         ensures value { IfOk result (λ v. read cursor.old.rest ≡ Ok (view v, cursor.new.rest)) }
         ensures moved { OnOk result (whole cursor.new ≡ whole cursor.old) }
@@ -38,8 +37,8 @@ pub trait FromBytes: Sized + Debug + Drop {
             (Refuses (read cursor.old.rest) (takes_memory cursor.old.rest)) }
         ensures unchanged { OnErr result (cursor.new ≡ cursor.old) };
 
-    /// Moves to the next position that is a multiple of four, over bytes of any value. It is refused
-    /// with `Io(UnexpectedEof)` where they are not there, and then the cursor stays.
+    /// Moves to the next position that is a multiple of four, over bytes of any value. `Io(UnexpectedEof)` if the bytes
+    /// end before it; then the cursor stays.
     fn strip(cursor: &mut Cursor<'_>) -> Result<(), DeError>
         ensures stripped { OnOk result (StripsTo cursor.old cursor.new) }
         ensures short { IfErr result (LacksPadding cursor.old) }
@@ -48,10 +47,10 @@ pub trait FromBytes: Sized + Debug + Drop {
         strip_to_four(cursor)
     }
 
-    // A value that is read is told by its own bytes alone, whatever follows.
+    // What is read depends only on its own bytes, whatever follows.
     ghost local: { IsLocal read };
 
-    // No byte list is refused because memory ran out by itself.
+    // The definition never refuses for lack of memory.
     ghost no_memory: { (s : List ℕ) → read s ≡ Err de.Memory → ⊥ };
 }
 
@@ -68,8 +67,8 @@ pub trait FromBytesWithInput: Sized + Debug + Drop {
     // Where a read takes memory.
     ghost takes_memory: { List ℕ → Type 0 };
 
-    /// Reads the next `n` bytes as one value and moves past them. `InvalidInput(n)` where there are
-    /// fewer; what else is refused, each type says. A refusal leaves the cursor where it was.
+    /// Reads the next `n` bytes as one value and moves past them. `InvalidInput(n)` if there are fewer; each type
+    /// states its other refusals. A refusal leaves the cursor where it was.
     fn from_bytes_with_input(
         alloc: Global,
         cursor: &mut Cursor<'_>,
@@ -92,16 +91,16 @@ pub trait FromBytesWithInput: Sized + Debug + Drop {
         strip_to_four(cursor)
     }
 
-    // No byte list is refused because memory ran out by itself.
+    // The definition never refuses for lack of memory.
     ghost no_memory: { (s : List ℕ) → read s ≡ Err de.Memory → ⊥ };
 
-    // Bytes that are missing inside are never refused as `Io(UnexpectedEof)`.
+    // Bytes missing inside are never refused as `Io(UnexpectedEof)`.
     ghost never_short: { (s : List ℕ) → read s ≡ Err short → ⊥ };
 }
 
 /// A value that borrows exactly the next `n` bytes. The cursor stays where it is.
 pub trait FromBytesWithInputBorrowed<'a>: Sized + Debug {
-    /// What a refusal becomes in calls that are generic in the type that is read: [`DeError`].
+    /// The error of calls that are generic in the type that they read: [`DeError`].
     type Error: From<DeError> + Into<DeError> + Drop;
 
     // What contracts see of a value.
@@ -112,8 +111,8 @@ pub trait FromBytesWithInputBorrowed<'a>: Sized + Debug {
     // The value that a whole byte list spells, or a refusal.
     ghost read: { List ℕ → Result Value Refusal };
 
-    /// Reads the next `n` bytes as one value that borrows them. `InvalidInput(n)` where there are
-    /// fewer. It takes no memory.
+    /// Reads the next `n` bytes as one value that borrows them. `InvalidInput(n)` if there are fewer. It takes no
+    /// memory.
     fn from_bytes_with_input(cursor: &mut Cursor<'a>, n: usize) -> Result<Self, DeError>
         ensures value { IfOk result (λ v. exact_reading read n cursor.old.rest
             ≡ Ok (view v, drop n cursor.old.rest)) }
@@ -127,7 +126,7 @@ pub trait FromBytesWithInputBorrowed<'a>: Sized + Debug {
         ensures short { IfErr result (LacksPadding cursor.old) }
         ensures kept { OnErr result (cursor.new ≡ cursor.old) };
 
-    // Bytes that are missing inside are never refused as `Io(UnexpectedEof)`.
+    // Bytes missing inside are never refused as `Io(UnexpectedEof)`.
     ghost never_short: { (s : List ℕ) → read s ≡ Err short → ⊥ };
 }
 
@@ -146,7 +145,7 @@ pub trait TypeSize: ToBytes + FromBytes {
         → length s ≡ width + length r };
 }
 
-/// A struct that begins with a header of fixed size.
+/// A struct that begins with a header of a fixed size.
 pub trait Header {
     ghost header: { ℕ };
 
@@ -155,8 +154,8 @@ pub trait Header {
         ensures { result ≡ header };
 }
 
-/// Moves to the next position that is a multiple of four. It is refused with `Io(UnexpectedEof)` where
-/// the bytes up to it are not there, and then the cursor stays.
+/// Moves to the next position that is a multiple of four. `Io(UnexpectedEof)` if the bytes end before it; then the
+/// cursor stays.
 pub fn strip_to_four(cursor: &mut Cursor<'_>) -> Result<(), DeError>
     ensures stripped { OnOk result (StripsTo cursor.old cursor.new) }
     ensures short { IfErr result (LacksPadding cursor.old) }
@@ -171,7 +170,7 @@ pub fn strip_to_four(cursor: &mut Cursor<'_>) -> Result<(), DeError>
     Ok(())
 }
 
-/// A refusal as a read with input `n` passes it on: bytes that are missing make the input invalid.
+/// A refusal as a read with input `n` returns it: missing bytes make the input invalid.
 pub fn within_input(error: DeError, n: usize) -> DeError
     ensures { result ≡ refusal_within n error }
 {

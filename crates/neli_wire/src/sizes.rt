@@ -16,7 +16,7 @@ pub const fn alignto(len: usize) -> usize
     }
 }
 
-/// A size rounded up to four; `usize::MAX` where that is larger.
+/// A size rounded up to four, capped at `usize::MAX`.
 pub fn padded_length(size: usize) -> usize
     ensures { result ≡ min (align size) usize.MAX }
 {
@@ -27,14 +27,14 @@ pub fn padded_length(size: usize) -> usize
     }
 }
 
-/// What a refusal prints where a length does not fit the field that is to state it.
+/// The text of a refusal for a length that does not fit its field.
 pub fn length_refusal() -> &'static str
     ensures { result.now ≡ codes "Length does not fit its field" }
 {
     "Length does not fit its field"
 }
 
-/// How many bytes a value takes; `usize::MAX` where that is larger.
+/// How many bytes a value takes, capped at `usize::MAX`.
 pub trait Size {
     // The length of a value's wire bytes without padding at its end.
     ghost unpadded_length: { Self → ℕ };
@@ -54,7 +54,7 @@ pub trait Size {
     }
 
     /// How many bytes `ToBytes::to_bytes` appends: the unpadded size or the padded one, by type.
-    /// Attributes and messages of this library are padded, its other values are not.
+    /// This library pads attributes and messages, and no other value.
     fn written_size(&self) -> usize
         ensures { result ≡ min (wire_length self.now) usize.MAX };
 

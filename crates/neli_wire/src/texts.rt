@@ -29,7 +29,7 @@ fn write_text(text: &str, buffer: &mut Vec<u8>) -> Result<(), AllocError>
     Ok(())
 }
 
-/// The text that all of the bytes but the last spell. `InvalidInput(0)` where there is no byte.
+/// The text that all of the bytes but the last spell. `InvalidInput(0)` if there is no byte.
 fn read_text(alloc: Global, bytes: &[u8]) -> Result<String, DeError>
     ensures value { IfOk result (λ t. owned_text bytes.now ≡ Ok (string_bytes t)) }
     ensures refused { IfErr result (Refuses (owned_text bytes.now) (0 < length bytes.now)) }

@@ -21,8 +21,8 @@ pub trait ToBytes: Size + Debug {
         ensures refused { IfErr result (RefusesWrite (wire self.now)) }
         ensures unchanged { OnErr result (buffer.new.items ≡ buffer.old.items) };
 
-    /// Appends zeros until the length of the whole buffer is a multiple of four. Only running out of memory
-    /// refuses it, and then the buffer is as it was.
+    /// Appends zeros until the length of the whole buffer is a multiple of four. Refused only if memory runs out; then
+    /// the buffer is as it was.
     fn pad(&self, buffer: &mut Vec<u8>) -> Result<(), SerError>
         ensures padded { OnOk result (buffer.new.items
             ≡ buffer.old.items ++ zeros_for (length buffer.old.items)) }
@@ -38,16 +38,16 @@ pub trait ToBytes: Size + Debug {
     ghost length_is: { (v : Self) (bytes : List ℕ) → wire v ≡ Ok bytes
         → length bytes ≡ Self.wire_length v };
 
-    // What stands after the unpadded size is zeros.
+    // After the unpadded size there are only zeros.
     ghost zeros_after: { (v : Self) (bytes : List ℕ) → wire v ≡ Ok bytes
         → EndsInZeros (Self.unpadded_length v) bytes };
 
-    // No value is refused because memory ran out by itself.
+    // The definition never refuses for lack of memory.
     ghost no_memory: { (v : Self) → wire v ≡ Err ser.Memory → ⊥ };
 }
 
-/// Appends zeros until what stands from `start` on is a multiple of four long; `start` is at most the
-/// buffer's length. A refusal leaves the buffer as it was.
+/// Appends zeros until the bytes from `start` on are a multiple of four; `start` is at most the buffer's length. A
+/// refusal leaves the buffer as it was.
 pub fn pad_from(buffer: &mut Vec<u8>, start: usize) -> Result<(), AllocError>
     requires { start ≤ length buffer.old.items }
     ensures ok { OnOk result (buffer.new.items
@@ -63,7 +63,7 @@ pub fn pad_from(buffer: &mut Vec<u8>, start: usize) -> Result<(), AllocError>
     buffer.extend_from_slice(&[0; 3][..gap])
 }
 
-/// Passes `outcome` on, and where it is a refusal takes back what was appended from `start` on.
+/// Returns `outcome`; if it is a refusal, first removes what was appended from `start` on.
 pub fn undo_on_refusal(
     buffer: &mut Vec<u8>,
     start: usize,

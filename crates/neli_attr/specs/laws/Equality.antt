@@ -1,4 +1,4 @@
--- When `==` is equality: of lists, of bytes and flags, and of attributes.
+-- Where `==` is equality: for lists, bytes and flags, and attributes.
 use Rattle.std.specs.Prelude.{◌≡◌, Bool, true, false, List, [], ◌∷◌, ◌&&◌, nat_eq, refl}
 use Rattle.std.specs.Cmp.Lexicographic.{pointwise}
 use Rattle.std.specs.Cmp.{first_so, second_so, unsigned_Decides}
@@ -12,7 +12,7 @@ use Rattle.neli_attr.specs.declared.nlattr.Nlattr.{Nlattr}
 use Rattle.neli_attr.specs.declared.rtattr.Rtattr.{Rtattr}
 use Rattle.neli_attr.specs.Nlattr.{nlattr_eq}
 
--- it tells values apart, and each is equal to itself
+-- it distinguishes values, and each is equal to itself
 pub from-parts : {A : Type 0} {eq : A → A → Bool} → ((a b : A) → eq a b ≡ true → a ≡ b) → ((a : A) → eq a a ≡ true)
     → IsEquality eq
 from-parts {A} {eq} apart same = λ a b. (apart a b, λ e. ap (eq a) (sym e) ∙ same a)
@@ -52,7 +52,7 @@ flags-equality = from-parts apart same
     same true = refl
     same false = refl
 
--- what compares two parts
+-- a comparison of two parts
 pub both-apart : {A B C : Type 0} {p : A → A → Bool} {q : B → B → Bool} → IsEquality p → IsEquality q
     → (f : C → A) (g : C → B) (a b : C) → (p (f a) (f b) && q (g a) (g b)) ≡ true → (f a ≡ f b) × (g a ≡ g b)
 both-apart {A} {B} {C} {p} {q} h k f g a b e = (

@@ -24,7 +24,7 @@ use Rattle.neli_attr.specs.TypeField.{bit_where, field_of, has, number_of, type_
 use Rattle.neli_attr.specs.laws.Attributes.{attribute-placed}
 use Rattle.neli_attr.specs.laws.TypeField.{field_of-sum}
 
--- ---- an attribute as it is written
+-- ---- a written attribute
 
 -- the bytes of an attribute with this payload
 abbrev pub attribute_bytes : ℕ → ℕ → List ℕ → List ℕ
@@ -33,7 +33,7 @@ attribute_bytes len kind bytes =
 
 module _ {K V : Type 0} (kind_of : ℕ → K) (payload_of : List ℕ
     → Result V DeError) (kind : ℕ) (bytes : List ℕ) (v : V) where
-  -- it is a frame of what was written
+  -- it is a frame of these values
   pub attribute_bytes-frame : kind < 65536 → 4 + length bytes < 65536 → payload_of bytes ≡ Ok v
       → IsFrame (attribute kind_of payload_of) (attribute_bytes (4 + length bytes) kind bytes)
       (record { len = 4 + length bytes; kind = kind_of kind }) v
@@ -85,12 +85,12 @@ attribute-reads_back {K} kind_of len kind payload small is fits =
 
 -- ---- lists
 
--- each of these values is written as a frame of what it says
+-- each of these values is written as a frame of its header and payload
 abbrev pub IsWrittenAs : {A H V : Type 0} → Layout H V → (A → Wire) → (A → H × V) → A → Type 0
 IsWrittenAs layout wire says a =
     (frame : List ℕ) × (wire a ≡ Ok frame) × IsFrame layout frame (says a).0 (says a).1
 
--- values that are each written as a frame are written as the frames of what they say
+-- values each written as a frame are written as the frames of their headers and payloads
 pub written-frames : {A H V : Type 0} (layout : Layout H V) (wire : A → Wire) (says : A → H × V) (xs : List A)
     → All (IsWrittenAs layout wire says) xs → (bytes : List ℕ) × (wire_all wire xs ≡ Ok bytes)
     × AreFrames layout bytes (map says xs)
@@ -100,7 +100,7 @@ written-frames layout wire says (x ∷ xs) each =
     let others = written-frames layout wire says xs (All-tail (IsWrittenAs layout wire says) x xs each) in
     (first.0 ++ others.0, rw (first.1, others.1) refl, (first.0, others.0, refl, first.2, others.2))
 
--- attributes that are each written as a frame are read back as their list
+-- attributes each written as a frame are read back as their list
 pub list-reads_back : {A K : Type 0} (kind_of : ℕ → K) (wire : A → Wire) (says : A → Attr K (List ℕ)) (xs : List A)
     → All (IsWrittenAs (attribute kind_of (λ bytes. Ok bytes)) wire says) xs
     → (bytes : List ℕ) × (wire_all wire xs ≡ Ok bytes) × (attributes_in kind_of bytes ≡ Ok (map says xs))
@@ -113,7 +113,7 @@ list-reads_back kind_of wire says xs each =
           (map says xs) all.2,
     )
 
--- an attribute of this type, whose number means it, is written as a frame
+-- an attribute of this type, which its number means, is written as a frame
 pub attribute-written : {K : Type 0} (kind_of : ℕ → K) (len number : ℕ) (kind : K) (payload : List ℕ)
     → len ≡ 4 + length payload → len < 65536 → number < 65536 → kind_of number ≡ kind
     → (frame : List ℕ) × (attribute_wire len number (Ok payload) ≡ Ok frame)
@@ -183,7 +183,7 @@ type_of-number_of value_of type_number back t lt =
       number = ap (λ (m : ℕ). type_number (value_of m)) parts.2 ∙ back (type_number t.nla_type) (omega arith);
     }
 
--- a field whose type is what its number of 14 bits means is read back as itself
+-- a field whose type is the meaning of its number of 14 bits is read back as itself
 pub type_of-named : {T : Type 0} (value_of : ℕ → T) (type_number : T → ℕ) (t : AttrType T)
     → type_number t.nla_type < 16384 → value_of (type_number t.nla_type) ≡ t.nla_type
     → type_of value_of (number_of type_number t) ≡ t

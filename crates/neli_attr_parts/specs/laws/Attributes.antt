@@ -80,7 +80,7 @@ padded_written (Ok x) bytes e =
     )
 padded_written (Err d) bytes e = absurd cc
 
--- the header and the payload take four bytes and those of the payload
+-- the header and the payload take four bytes and the payload's own
 unpadded-length : (len kind n : ℕ) (payload : Wire) → ((bytes : List ℕ) → payload ≡ Ok bytes → length bytes ≡ n)
     → (bytes : List ℕ) → Ok (little_bytes 2 len ++ little_bytes 2 kind) +++ payload ≡ Ok bytes → length bytes ≡ 4 + n
 unpadded-length len kind n payload payloads bytes e =
@@ -95,7 +95,7 @@ unpadded-length len kind n payload payloads bytes e =
     ) in
     omega (arith, ap length q.4, length-append q.0 q.1, ap length same, four, payloads q.1 q.3)
 
--- an attribute takes four bytes and those of its payload, rounded up to four
+-- an attribute takes four bytes and its payload's own, rounded up to four
 pub attribute_wire-length : (len kind n : ℕ) (payload : Wire)
     → ((bytes : List ℕ) → payload ≡ Ok bytes → length bytes ≡ n) → (bytes : List ℕ)
     → attribute_wire len kind payload ≡ Ok bytes → length bytes ≡ align (4 + n)
@@ -103,7 +103,7 @@ attribute_wire-length len kind n payload payloads bytes e =
     let p = padded_written (Ok (little_bytes 2 len ++ little_bytes 2 kind) +++ payload) bytes e in
     p.2 ∙ ap align (unpadded-length len kind n payload payloads p.0 p.1)
 
--- after these the padding is zeros
+-- the padding after these is zeros
 pub attribute_wire-zeros : (len kind n : ℕ) (payload : Wire)
     → ((bytes : List ℕ) → payload ≡ Ok bytes → length bytes ≡ n) → (bytes : List ℕ)
     → attribute_wire len kind payload ≡ Ok bytes → EndsInZeros (4 + n) bytes
@@ -121,7 +121,7 @@ attribute_wire-no_memory len kind payload payloads =
     padded-no_memory (Ok (little_bytes 2 len ++ little_bytes 2 kind) +++ payload)
     (both-no_memory (Ok (little_bytes 2 len ++ little_bytes 2 kind)) payload (λ e. cc) payloads)
 
--- what stands after nothing is all
+-- appending to nothing gives the whole
 pub after_nothing : (w : Wire) (bytes : List ℕ) → append_wire [] w ≡ Ok bytes → w ≡ Ok bytes
 after_nothing (Ok x) bytes e = e
 after_nothing (Err d) bytes e = absurd cc
@@ -131,7 +131,7 @@ after_nothing (Err d) bytes e = absurd cc
 abbrev written_as : List ℕ → Wire
 written_as bytes = Ok bytes
 
--- what a payload takes, it takes where its length is looked at
+-- a payload that takes memory takes it where its length is checked
 room_payload : (w : Wire) → TakesRoom w → TakesRoom (attribute_payload w)
 room_payload (Ok bytes) h = by (nat_lt 65535 (4 + length bytes))
   where

@@ -17,6 +17,6 @@ head_at kind_of s = do
 unfoldable pub attribute_at : {K V : Type 0} → (ℕ → K) → (List ℕ → Result V DeError) → List ℕ → Reading (Attr K V)
 attribute_at kind_of payload_of = header_then (head_at kind_of) (λ head. head.len) 4 (λ _. payload_of)
 
--- where the payload is there, and reading it takes memory
+-- there is enough for the payload, and reading it takes memory
 unfoldable pub attribute_takes_memory : {K : Type 0} → (ℕ → K) → (List ℕ → Type 0) → List ℕ → Type 0
 attribute_takes_memory kind_of takes = header_then_takes_memory (head_at kind_of) (λ head. head.len) 4 (λ _. takes)

@@ -8,7 +8,7 @@ use Rattle.std.specs.Cmp.{IsEquivalence, IsPartialEquivalence, and_equiv, and_pe
 use Rattle.std.specs.Cmp.{bool_eq_equiv, on_equiv, on_per, partial_equiv_from_equiv}
 use Rattle.neli_attr_parts.specs.TypeField.{attr_type_eq, has, bit_where, field_of, type_of, number_of}
 
--- a bit that is taken from a number is 0 or whole
+-- one bit of a number is 0 or whole
 bit_case : (n k : ℕ) → (bit_and n (2 ^ k) ≡ 0) ⊎ (bit_and n (2 ^ k) ≡ 2 ^ k)
 bit_case n k = by (n / 2 ^ k % 2) (omega arith) (and_pow n k)
   where
@@ -43,7 +43,7 @@ field_of-parts n lt =
     rw (whole_bit (bit_and n 32768) 32768 refl high, whole_bit (bit_and n 16384) 16384 refl low, number, one, two)
     (omega (arith, nested, order))
 
--- what a number is read as has that number
+-- a field that was read has the number that it was read from
 pub number_of-type_of : {T : Type 0} (type_number : T → ℕ) (value_of : ℕ → T)
     → ((n : ℕ) → n < 256 ^ 2 → type_number (value_of n) ≡ n) → (n : ℕ) → n < 256 ^ 2
     → number_of type_number (type_of value_of n) ≡ n

@@ -18,7 +18,7 @@ use Rattle.neli_wire.specs.laws.Writing.{written-no_memory}
 use Rattle.neli_body.specs.Bodies.{body_of, body_wire}
 use Rattle.neli_body.specs.RoundTrips.{ReadsBack}
 
--- a body takes the bytes of its header and those of what follows
+-- a body takes the bytes of its header and of what follows
 pub body_wire-length : (n : ℕ) (header : List ℕ) → length header ≡ n → (rest : Wire) (m : ℕ)
     → ((bytes : List ℕ) → rest ≡ Ok bytes → length bytes ≡ m) → (bytes : List ℕ) → body_wire header rest ≡ Ok bytes
     → length bytes ≡ n + m

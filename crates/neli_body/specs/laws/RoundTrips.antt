@@ -10,7 +10,7 @@ use Rattle.neli_body.specs.RoundTrips.{ArePlainAttrs, AreReadBack, IsPlainAttr, 
 use Rattle.neli_body.specs.laws.Bodies.{reads_back}
 
 module _ {T : Type 0} (number_of : T → ℕ) (value_of : ℕ → T) where
-  -- a plain attribute is written as a frame of what it says
+  -- a plain attribute is written as a frame of its header and payload
   plain-written : (a : Rtattr T (List ℕ)) → IsPlainAttr number_of value_of a
       → IsWrittenAs (attribute value_of (λ bytes. Ok bytes)) (rtattr_wire number_of (λ bytes. Ok bytes)) rtattr_says a
   plain-written a is =

@@ -20,7 +20,7 @@ use Rattle.neli_wire.specs.laws.Writing.{written-length}
 abbrev written : List ℕ → Wire
 written bytes = Ok bytes
 
--- no event is refused but by its input or its type
+-- only the input or the type refuses an event
 event_of-not : (d : DeError) → ((n : ℕ) → InvalidInput n ≢ d) → ((text : List ℕ) → Msg text ≢ d)
     → (type : ProcEventType) (s : List ℕ) → event_of type s ≢ Err d
 event_of-not d input words kind.None s = guard-not (ltb (length s) 20) (InvalidInput (length s)) d _ (input (length s))

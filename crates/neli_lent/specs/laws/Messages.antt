@@ -1,4 +1,4 @@
--- Laws of lent messages: reading one is what the lent one becomes.
+-- Laws of lent messages: reading one gives what the lent one becomes.
 use Rattle.std.proofs.Common.{rules, ◌≡◌, ◌-◌, ℕ, Bool, true, false, ltb, List}
 use Rattle.std.proofs.Common.{length, take, drop, Result, Ok, Err, refl, ap, ◌∙◌}
 use Rattle.std.specs.Prelude.{IsErr, if◌then◌else◌}
@@ -27,7 +27,7 @@ abbrev guards : {X : Type 0} → Bool → Bool → Bool → Bool → DeError →
 guards a b c d e1 e2 e3 e4 x = if a then Err e1 else (if b then Err e2
     else (if c then Err e3 else (if d then Err e4 else Ok x)))
 
--- no guard holds where a value is read
+-- no guard holds if a value is read
 pub record Pass {X : Type 0} (a b c d : Bool) (x y : X) : Type 0 where
   pub first : a ≡ false
   pub second : b ≡ false
@@ -49,7 +49,7 @@ passed false false false false e1 e2 e3 e4 x y is = record {
   value = ok_is x y is;
 }
 
--- each guard that refuses what is lent refuses the reading, or its payload is refused before
+-- each guard that refuses lending refuses the reading, or its payload is refused before
 refused-by : {X Y V : Type 0} (a b c d : Bool) (e1 e2 e3 e4 e : DeError) (x : X) (p : Result V DeError) (of : V → Y)
     → guards a b c d e1 e2 e3 e4 x ≡ Err e → IsErr (if a then Err e1
     else (if b then Err e2 else (if c then Err e3 else (p >>= λ v. (if d then Err e4 else Ok (of v))))))

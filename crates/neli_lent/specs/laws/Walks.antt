@@ -1,4 +1,4 @@
--- What walks say of their steps: laws that their implementations meet.
+-- What walks state about their steps: laws that their implementations meet.
 use Rattle.std.specs.Prelude.{Option}
 
 -- each step is one of these

@@ -1,4 +1,4 @@
--- Messages that are written, as a walk reads them.
+-- Written messages, as a walk reads them.
 use Rattle.std.proofs.Common.{◌≡◌, ℕ, ◌+◌, ◌-◌, List, [], ◌∷◌, ◌++◌, length, take, drop}
 use Rattle.std.proofs.Common.{None, Ok, Err, refl, sym, ap, subst, ◌∙◌, append_assoc, arith, length-append}
 use Rattle.std.proofs.lemmas.List.{append-nil, drop_at, length-replicate, take_at}
@@ -121,7 +121,7 @@ one-frame s h body is =
 
 -- ---- messages
 
--- bytes that are padded
+-- padded bytes
 padded-parts : (w : Wire) (bytes : List ℕ) → pad_wire w ≡ Ok bytes
     → (text : List ℕ) × (w ≡ Ok text) × (text ++ zeros_for (length text) ≡ bytes)
 padded-parts (Ok text) bytes h = (text, refl, (let e : text ++ zeros_for (length text) ≡ bytes = cc in e))

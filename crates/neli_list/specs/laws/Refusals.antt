@@ -5,7 +5,7 @@ use Rattle.neli_wire.specs.DeError.{DeError}
 use Rattle.neli_wire.specs.DeError.TheVariants.{Msg, Io, Utf8, InvalidInput, Memory}
 use Rattle.neli_wire.specs.Refusals.{Refuses}
 
--- a refusal of one reading is that of another that is the same
+-- equal readings have the same refusals
 pub refuses-same : {A B : Type 0} (r : Result B DeError) (one two : Result A DeError) (takes more : Type 0) → one ≡ two
     → (takes → more) → IfErr r (Refuses one takes) → IfErr r (Refuses two more)
 refuses-same (Ok x) one two takes more same f h = h

@@ -1,4 +1,4 @@
--- Laws of answers: no reading of one is short, or refused because memory ran out by itself.
+-- Laws of answers: no reading of one is refused as short, or by itself for lack of memory.
 use Rattle.std.proofs.Common.{◌≢◌, ℕ, ◌-◌, ltb, List, length, Result, Ok, Err}
 use Rattle.neli_wire.specs.DeError.{DeError}
 use Rattle.neli_wire.specs.DeError.TheVariants.{InvalidInput, Memory}

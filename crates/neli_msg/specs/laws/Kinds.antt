@@ -23,7 +23,7 @@ module _ {K V : Type 0} (type_of : ℕ → K) (read : List ℕ → Result V DeEr
   payload_as-no_memory Failure s = bind-not (failure_in type_of read s) _ Memory
       (failure_in-no_memory type_of read bodies s) (λ e f. cc)
 
-  -- no payload is refused because memory ran out by itself
+  -- no reading of a payload is by itself refused for lack of memory
   pub payload_in-no_memory : (number : ℕ) (flags : NlmF) (s : List ℕ)
       → payload_in type_of read number flags s ≢ Err Memory
   payload_in-no_memory number flags s = payload_as-no_memory (kind_of number flags s) s

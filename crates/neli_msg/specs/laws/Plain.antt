@@ -1,4 +1,4 @@
--- Messages with payloads of plain bytes are refused for a length, or for bytes that are missing, and for nothing else.
+-- Messages with payloads of plain bytes are refused only for a length, or for missing bytes.
 use Rattle.std.proofs.Common.{◌≡◌, ℕ, zero, suc, ◌-◌, Bool, true, false, cond, ltb, List}
 use Rattle.std.proofs.Common.{[], ◌∷◌, length, take, drop, Result, Ok, Err, refl, subst}
 use Rattle.neli_wire.specs.Bytes.{Reading, short}
@@ -21,7 +21,7 @@ use Rattle.neli_msg.specs.Kinds.{kind_of, payload_as}
 use Rattle.neli_msg.specs.Messages.{message_layout}
 
 module _ (Q : DeError → Type 0) (missing : Q short) (lengths : (n : ℕ) → Q (InvalidInput n)) where
-  -- each refusal of this is one of these
+  -- each of its refusals is one of these
   abbrev Only : {A : Type 0} → Result A DeError → Type 0
   Only r = (e : DeError) → r ≡ Err e → Q e
 

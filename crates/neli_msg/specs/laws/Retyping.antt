@@ -28,7 +28,7 @@ use Rattle.neli_msg.specs.Messages.{Message, message_layout}
 use Rattle.neli_msg.specs.Retyping.{IsRead, typed_acknowledgement, typed_echo, typed_failure}
 use Rattle.neli_msg.specs.Retyping.{typed_header, typed_message, typed_payload}
 
--- what untyped messages are read as: their type is its number, their body its bytes
+-- the types of untyped messages: the type is its number, the body its bytes
 abbrev same : ℕ → ℕ
 same n = n
 
@@ -45,7 +45,7 @@ number_in-small n i s bytes = little_from-lt 0 n (drop i s) (λ k. rw (get_or-dr
 module _ {K V : Type 0} (type_of : ℕ → K) (read : List ℕ → Result V DeError) where
   -- ---- payloads
 
-  -- a body that is read before attributes that are there
+  -- a body that is read before attributes that exist
   echo-chain : (k : V → Attributes → Nlmsgerr (NlmsghdrErr K V)) (m : V
       → NlmsghdrErr K V) (attrs : Attributes) (of : NlmsghdrErr K V
       → Nlmsgerr (NlmsghdrErr K V)) (r : Result V DeError) (a : Result Attributes DeError) → a ≡ Ok attrs
@@ -54,7 +54,7 @@ module _ {K V : Type 0} (type_of : ℕ → K) (read : List ℕ → Result V DeEr
   echo-chain k m attrs of (Ok v) a is each = rw (is, each v) refl
   echo-chain k m attrs of (Err d) a is each = refl
 
-  -- an answer that echoes a header alone
+  -- an answer that echoes only a header
   headed-typed : (tail : Tail) (s : List ℕ) (x : Nlmsgerr (Header ℕ)) → headed_in same tail s ≡ Ok x
       → headed_in type_of tail s ≡ Ok (typed_acknowledgement type_of x)
   headed-typed tail s x e =
@@ -88,7 +88,7 @@ module _ {K V : Type 0} (type_of : ℕ → K) (read : List ℕ → Result V DeEr
       ∙ ap (typed_payload type_of read) (ap (λ (x : Nlmsgerr (NlmsghdrErr ℕ (List ℕ))). payload.Err x) known
       ∙ ok_is (payload.Err b.0) u b.2))
 
-  -- a payload that is read untyped is read as what it says as the other types
+  -- a payload read untyped, and then typed, is the payload read as the other types
   pub payload_in-typed : (number : ℕ) (flags : NlmF) (s : List ℕ) (u : NlPayload ℕ (List ℕ))
       → payload_in same all number flags s ≡ Ok u → payload_in type_of read number flags s
       ≡ typed_payload type_of read u
@@ -96,7 +96,7 @@ module _ {K V : Type 0} (type_of : ℕ → K) (read : List ℕ → Result V DeEr
 
   -- ---- refusals
 
-  -- where the one is refused, so is the other
+  -- where the first is refused, so is the second
   abbrev Fails : {A B : Type 0} → Result A DeError → Result B DeError → Type 0
   Fails p q = (e : DeError) → p ≡ Err e → IsErr q
 
@@ -160,7 +160,7 @@ module _ {K V : Type 0} (type_of : ℕ → K) (read : List ℕ → Result V DeEr
     untyped-is : (s : List ℕ) → AreBytes s → number_of (type_of (number_in 2 4 s)) ≡ number_in 2 4 s
     untyped-is s bytes = back (number_in 2 4 s) (number_in-small 2 4 s bytes)
 
-    -- the parts that stand before the padding, and the padding
+    -- the parts before the padding, and the padding
     message-by : (s : List ℕ) (u : NlPayload ℕ (List ℕ)) → number_of (type_of (number_in 2 4 s)) ≡ number_in 2 4 s
         → ltb (length s) 16 ≡ false → ltb (number_in 4 0 s) 16 ≡ false → ltb (length s) (number_in 4 0 s) ≡ false
         → payload_in type_of read (number_in 2 4 s) (flags_of (number_in 2 6 s))
@@ -185,7 +185,7 @@ module _ {K V : Type 0} (type_of : ℕ → K) (read : List ℕ → Result V DeEr
     chain (Ok v) h rest = refl
     chain (Err d) h rest = refl
 
-    -- a message that is read untyped is read as what it says as the other types
+    -- a message read untyped, and then typed, is the message read as the other types
     pub message-typed : (s r : List ℕ) (m : Message ℕ (List ℕ)) → AreBytes s
         → frame_at (message_layout same same all) s ≡ Ok (m, r)
         → frame_at (message_layout type_of number_of read) s ≡ (typed_message type_of read m >>= λ t. Ok (t, r))
@@ -213,7 +213,7 @@ module _ {K V : Type 0} (type_of : ℕ → K) (read : List ℕ → Result V DeEr
     fails-guard true d p q both e is = refl
     fails-guard false d p q both e is = both e is
 
-    -- a payload, and then padding that is there or not
+    -- a payload, and then padding that may be missing
     fails-end : {A B C D : Type 0} (p : Result A DeError) (q : Result B DeError) (c : Bool) (d : DeError) (f : A
         → C) (g : B → D) → Fails p q → Fails (p >>= λ x. cond c (Err d) (Ok (f x)))
         (q >>= λ y. cond c (Err d) (Ok (g y)))

@@ -1,4 +1,4 @@
--- Laws of messages as they are written: how long their bytes are, and that memory does not run out by itself.
+-- Laws of written messages: the length of their bytes, and that memory does not run out by itself.
 use Rattle.std.proofs.Common.{◌≡◌, ◌≢◌, ℕ, ◌+◌, ◌-◌, ◌≤◌, List, [], ◌++◌}
 use Rattle.std.proofs.Common.{length, Ok, Err, refl, ap, ◌∙◌, arith, length-append}
 use Rattle.std.specs.Int.{w32}
@@ -90,7 +90,7 @@ module _ {M : Type 0} (wire : M → Wire) where
       (none e.nlmsg))
       (attributes_wire-no_memory e.ext_ack)
 
--- ---- a header and what it carries
+-- ---- a header and its payload
 
 module _ {K X : Type 0} (number_of : K → ℕ) (wire : X → Wire) where
   module _ (size : X → ℕ) (sized : (x : X) (bytes : List ℕ) → wire x ≡ Ok bytes → length bytes ≡ size x) where

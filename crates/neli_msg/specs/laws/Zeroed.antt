@@ -189,7 +189,7 @@ attributes-back s attrs bytes e =
 
 -- ---- payloads
 
--- what is written of a payload, and its padding, are those bytes, with zeros for padding
+-- the written payload and its padding are those bytes, with zeros for padding
 pub record IsBack (kind : Kind) (s : List ℕ) (u : NlPayload ℕ (List ℕ)) : Type 0 where
   pub bytes : List ℕ
   pub wire : payload_wire same (λ b. Ok b) u ≡ Ok bytes
@@ -226,7 +226,7 @@ nothing-back [] u none e =
     subst (λ (x : NlPayload ℕ (List ℕ)). IsBack Nothing [] x) (ok_is payload.Empty u e) one
 nothing-back (b ∷ s) u none e = absurd (omega arith)
 
--- an answer that echoes a header alone is written as these bytes
+-- an answer that echoes only a header is written as these bytes
 record IsHeadBack (tail : Tail) (s : List ℕ) (x : Nlmsgerr (Header ℕ)) : Type 0 where
   bytes : List ℕ
   wire : answer_wire (header_wire same) x ≡ Ok bytes
@@ -335,7 +335,7 @@ dump_end-back s u bytes e =
 
 -- ---- errors
 
--- zeros after the echoed payload, and after the whole: as many as were there, where attributes follow
+-- zeros after the echoed payload, and after the whole: as many as there were, if attributes follow
 echo-padding : (s : List ℕ) (c : ℕ) (attrs : List ℕ) → 20 + c ≤ length s → length attrs ≡ length s - (20 + align c)
     → align (length attrs) ≡ length attrs → let w = (take (20 + c) s ++ zeros_for (16 + c)) ++ attrs in
     w ++ zeros_for (16 + length w) ≡ (zeros_from (20 + c) (take (20 + align c) s) ++ attrs) ++ zeros_for (16 + length s)
@@ -433,13 +433,13 @@ failure-back s u bytes e =
 
 -- ---- messages
 
--- the kind by the bits that tell it
+-- the kind by the bits that decide it
 abbrev kind_bits : Bool → Bool → Bool → Bool → Bool → Bool → Tail → Kind
 kind_bits is2 ok capped is3 none multi tail =
     cond is2 (cond ok (Acknowledgement tail) (cond capped (Capped tail) Failure))
     (cond is3 (cond none Nothing (cond multi DumpEnd Body)) Body)
 
--- a payload that says nothing has no bytes
+-- a payload of kind `Nothing` has no bytes
 nothing-bits : (is2 ok capped is3 none multi : Bool) (tail : Tail)
     → kind_bits is2 ok capped is3 none multi tail ≡ Nothing → none ≡ true
 nothing-bits true true capped is3 none multi tail e = absurd cc
@@ -455,7 +455,7 @@ nothing-empty number flags s e =
     eqb-true (length s) 0 (nothing-bits (nat_eq number 2) (is_acknowledged s) (is_capped flags) (nat_eq number 3)
     (nat_eq (length s) 0) (is_multi flags) (tail_of flags) e)
 
--- the tail of an answer that echoes a header alone is the one that the flags tell
+-- the tail of an answer that echoes only a header is the one that the flags decide
 acknowledgement-bits : (is2 ok capped is3 none multi : Bool) (tail t : Tail)
     → kind_bits is2 ok capped is3 none multi tail ≡ Acknowledgement t → tail ≡ t
 acknowledgement-bits true true capped is3 none multi tail t e = cc
@@ -488,7 +488,7 @@ capped-tail number flags s t =
     capped-bits (nat_eq number 2) (is_acknowledged s) (is_capped flags) (nat_eq number 3) (nat_eq (length s) 0)
     (is_multi flags) (tail_of flags) t
 
--- where no byte of a payload was left unread, none was after the header that it echoes
+-- if no byte of a payload was left unread, none was after the header that it echoes
 acknowledgement-read : (tail : Tail) (s : List ℕ) (u : NlPayload ℕ (List ℕ)) (len : ℕ)
     → payload_as same all (Acknowledgement tail) s ≡ Ok u → HasNoTailIn tail len u → IsAllRead tail len
 acknowledgement-read tail s u len e all_read =

@@ -54,7 +54,7 @@ kind_of_field = type_of nlmsgerr_attr_of
 abbrev Read : Type 0
 Read = Attr (AttrType NlmsgerrAttr) (List ℕ)
 
--- ---- what stands in the first bytes
+-- ---- the first bytes
 
 -- a part of the first n bytes is the same whatever follows them
 part-same : (n i m : ℕ) (s rest : List ℕ) → i + m ≤ n → n ≤ length s
@@ -132,7 +132,7 @@ pub record IsAgain (number : ℕ) (flags : NlmF) (s z : List ℕ) (u : NlPayload
   pub long : length z ≡ length s
   pub reads : payload_in same all number flags z ≡ Ok u
 
--- the kind is told by the type, the flags, the length and the code
+-- the kind depends on the type, the flags, the length and the code
 kind-same : (number : ℕ) (flags : NlmF) (s z : List ℕ) → length z ≡ length s → number_in 4 0 z ≡ number_in 4 0 s
     → kind_of number flags z ≡ kind_of number flags s
 kind-same number flags s z long code = rw (long, code) refl
@@ -273,7 +273,7 @@ failure-again number flags s u kind e =
     failure_of : ℤ → Header ℕ → List ℕ → Attributes → Result (Nlmsgerr (NlmsghdrErr ℕ (List ℕ))) DeError
     failure_of c h body attrs = Ok (answer c (record { header = h; payload = record { 0 = body } }) attrs)
 
--- ---- answers that echo a header alone
+-- ---- answers that echo only a header
 
 headed-reads : (t : List ℕ) (attrs : Attributes) → 20 ≤ length t → ext_ack_in (drop 20 t) ≡ Ok attrs
     → headed_in same Listed t ≡ Ok (answer (code_in t) (header_in same (drop 4 t)) attrs)
@@ -417,7 +417,7 @@ datagram-again b ms are =
     frames-again untyped_layout message_length message_zeroed message-states message-again (length b) b ms
     (omega arith) are
 
--- as many bytes
+-- it has as many bytes
 pub datagram-length : (b : List ℕ) (ms : List (Message ℕ (List ℕ))) → AreFrames untyped_layout b ms
     → length (datagram_zeroed b) ≡ length b
 datagram-length b ms are =

@@ -69,7 +69,7 @@ module _ (stated : List ℕ → ℕ) (zeroed : List ℕ → List ℕ) where
       let others : drop n (b ∷ f ++ rest) ≡ rest = drop_at (b ∷ f) rest n len in
       rw (first, others) refl
 
--- frames of a layout that takes a byte at least and states its length in its own bytes
+-- frames of a layout that takes at least a byte and states its length in its own bytes
 pub record States {H V : Type 0} (layout : Layout H V) (stated : List ℕ → ℕ) : Type 0 where
   pub some : (frame : List ℕ) (h : H) (v : V) → IsFrame layout frame h v → 0 < length frame
   pub whole : (frame rest : List ℕ) (h : H) (v : V) → IsFrame layout frame h v
@@ -77,7 +77,7 @@ pub record States {H V : Type 0} (layout : Layout H V) (stated : List ℕ → �
 
 module _ {H V : Type 0} (layout : Layout H V) (stated : List ℕ → ℕ) (zeroed : List ℕ
     → List ℕ) (states : States layout stated) where
-  -- what is written of each frame is what is put in its place
+  -- what is written of each frame is what replaces it
   pub frames-wire : (wire : H × V → Wire) (P : H × V → Type 0)
       → ((frame : List ℕ) (a : H × V) → AreBytes frame → P a → IsFrame layout frame a.0 a.1
       → wire a ≡ Ok (zeroed frame)) → (fuel : ℕ) (s : List ℕ) (items : List (H × V)) → AreBytes s → length s ≤ fuel
@@ -95,7 +95,7 @@ module _ {H V : Type 0} (layout : Layout H V) (stated : List ℕ → ℕ) (zeroe
       let step = frames_by-step stated zeroed fuel are.0 are.1 some (states.whole are.0 are.1 a.0 a.1 are.3) in
       rw (are.2, step, first, others) refl
 
-  -- what is put in place of frames of some length has the same length
+  -- what replaces frames of some length has the same length
   pub frames-length : ((frame : List ℕ) (a : H × V) → IsFrame layout frame a.0 a.1
       → length (zeroed frame) ≡ length frame) → (fuel : ℕ) (s : List ℕ) (items : List (H × V)) → length s ≤ fuel
       → AreFrames layout s items → length (frames_by stated zeroed fuel s) ≡ length s
@@ -111,7 +111,7 @@ module _ {H V : Type 0} (layout : Layout H V) (stated : List ℕ → ℕ) (zeroe
       rw (are.2, step) (length-append (zeroed are.0) (frames_by stated zeroed fuel are.1)
       ∙ rw (first, others) (sym (length-append are.0 are.1)))
 
-  -- frames that are put in place of frames are frames again
+  -- frames that replace frames are frames again
   pub frames-again : ((frame : List ℕ) (a : H × V) → IsFrame layout frame a.0 a.1
       → IsFrame layout (zeroed frame) a.0 a.1) → (fuel : ℕ) (s : List ℕ) (items : List (H × V)) → length s ≤ fuel
       → AreFrames layout s items → AreFrames layout (frames_by stated zeroed fuel s) items
@@ -131,14 +131,14 @@ module _ {H V : Type 0} (layout : Layout H V) (stated : List ℕ → ℕ) (zeroe
         frames-again each fuel are.1 items shorter are.4,
       )
 
-  -- frames make a multiple of four bytes
+  -- the length of frames is a multiple of four
   pub frames-aligned : (s : List ℕ) (items : List (H × V)) → AreFrames layout s items → align (length s) ≡ length s
   frames-aligned s [] are = rw are refl
   frames-aligned s (a ∷ items) are =
       let later = frames-aligned are.1 items are.4 in
       omega (arith, later, ap length are.2, length-append are.0 are.1, are.3.whole)
 
--- all of a list of values is what another list's is
+-- writing the mapped values is writing the values by way of the map
 pub wire_all-map : {A B : Type 0} (wire : B → Wire) (of : A → B) (xs : List A)
     → wire_all wire (map of xs) ≡ wire_all (λ x. wire (of x)) xs
 wire_all-map wire of [] = refl

@@ -1,4 +1,4 @@
--- Laws of the text of hardware addresses: what is printed is read again.
+-- Laws of the text of hardware addresses: a printed address is read back.
 use Rattle.std.proofs.Common.{◌≡◌, ℕ, zero, suc, ◌<◌, ◌≤◌, ◌/◌, ◌%◌, List, [], ◌∷◌, ◌++◌, length, Some, refl, ap, arith}
 use Rattle.std.specs.Char.{digit_char}
 use Rattle.std.specs.List.{flat_map}
@@ -7,7 +7,7 @@ use Rattle.neli_wire.specs.Numbers.{AreBytes}
 use Rattle.neli_payloads.specs.HardwareAddress.{byte_text, hardware_text}
 use Rattle.neli_payloads.specs.HardwareText.{byte_of_digits, bytes_of_text, digit_value, hardware_parsed}
 
--- a digit that is printed is read as its number
+-- a printed digit is read as its number
 digit-back : (d : ℕ) → d < 16 → digit_value (digit_char d) ≡ Some d
 digit-back zero l = refl
 digit-back (suc zero) l = refl

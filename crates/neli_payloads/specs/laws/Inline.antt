@@ -1,4 +1,4 @@
--- Bytes that are kept in an array of 32 whose rest is zeros.
+-- Bytes kept in an array of 32 whose rest is zeros.
 use Rattle.std.proofs.Common.{◌≡◌, ℕ, ◌≤◌, ◌-◌, List, ◌++◌, length, replicate, take, sym, ap, arith}
 use Rattle.std.proofs.lemmas.List.{length-take-le}
 

@@ -24,13 +24,13 @@ align-le : (n : ℕ) → n ≤ (n + 3) / 4 * 4
 align-le n = omega arith
 
 module _ {H V : Type 0} (layout : Layout H V) (placed : IsPlaced layout) (some : 0 < layout.size) where
-  -- a frame has the bytes of a header at least
+  -- a frame has at least the bytes of a header
   pub frame-long : (frame : List ℕ) (m : H × V) → IsFrame layout frame m.0 m.1 → layout.size ≤ length frame
   frame-long frame m is = omega (arith, is.whole, is.least, align-le (layout.length_of m.0))
 
   -- ---- message by message
 
-  -- the same told by its first message
+  -- the same, message by message
   abbrev pub CutsEach : List ℕ → List (H × V) → Option DeError → Type 0
   CutsEach b [] f = EndsIn layout b f
   CutsEach b (m ∷ ms) f = (frame : List ℕ) × (rest : List ℕ) × (b ≡ frame ++ rest) × IsFrame layout frame m.0 m.1
@@ -61,13 +61,13 @@ module _ {H V : Type 0} (layout : Layout H V) (placed : IsPlaced layout) (some :
         more.4,
       )
 
-  -- what is read takes the bytes of a header at least
+  -- what is read takes at least the bytes of a header
   pub frame_at-longer : (s r : List ℕ) (m : H × V) → frame_at layout s ≡ Ok (m, r) → length r + layout.size ≤ length s
   frame_at-longer s r m e =
       let f = frame_of-frame_at layout placed s r m.0 m.1 e in
       omega (arith, ap length f.1, length-append f.0 r, frame-long f.0 m f.2)
 
-  -- ---- a byte list has one cut at most
+  -- ---- a byte list has at most one cut
 
   frame_some : (frame rest : List ℕ) (m : H × V) → IsFrame layout frame m.0 m.1 → [] ≡ frame ++ rest → ⊥
   frame_some frame rest m is e = absurd (omega (
@@ -103,12 +103,12 @@ module _ {H V : Type 0} (layout : Layout H V) (placed : IsPlaced layout) (some :
       → (ms ≡ ns) × (f ≡ g)
   one_cut b ms ns f g p q = one_each b ms ns f g (Cuts-each b ms f p) (Cuts-each b ns g q)
 
-  -- ---- and `cut_of` is one
+  -- ---- and `cut_of` is that cut
 
   abbrev read : List ℕ → Reading (H × V)
   read = frame_at layout
 
-  -- what begins with a reading is cut as its rest is, where that is known
+  -- bytes that begin with a reading are cut as their rest is, where that is known
   cut_from-each : (s : List ℕ) (r : Reading (H × V)) (later : List ℕ → Cut (H × V)) → s ≢ [] → read s ≡ r
       → ((t : List ℕ) → length t < length s → CutsEach t (later t).0 (later t).1)
       → CutsEach s (cut_from r later).0 (cut_from r later).1
@@ -157,14 +157,14 @@ module _ {H V : Type 0} (layout : Layout H V) (placed : IsPlaced layout) (some :
   each-join a b (m ∷ ms) ns f p q =
       (p.0, p.1 ++ b, ap (λ (x : List ℕ). x ++ b) p.2 ∙ append_assoc p.0 p.1 b, p.3, each-join p.1 b ms ns f p.4 q)
 
-  -- without a fault the first bytes are cut as they are alone, and so are those after them
+  -- if the first bytes have no fault, they are cut as alone, and so are those after them
   pub cut_of-join : (a b : List ℕ) → (cut_of layout a).1 ≡ None
       → cut_of layout (a ++ b) ≡ messages_before (cut_of layout a).0 (cut_of layout b)
   cut_of-join a b whole =
       cut_of-is (a ++ b) _ _ (each-join a b _ _ _ (subst
       (λ (g : Option DeError). CutsEach a (cut_of layout a).0 g) whole (cut_of-each a)) (cut_of-each b))
 
-  -- ---- how many messages there can be
+  -- ---- the greatest number of messages
 
   each-long : (b : List ℕ) (ms : List (H × V)) (f : Option DeError) → CutsEach b ms f
       → length ms * layout.size ≤ length b
@@ -176,7 +176,7 @@ module _ {H V : Type 0} (layout : Layout H V) (placed : IsPlaced layout) (some :
       → length ms * layout.size ≤ length b
   Cuts-long b ms f c = each-long b ms f (Cuts-each b ms f c)
 
--- a refusal that is not for memory is what the reading is
+-- a refusal other than for memory is the reading's own
 pub refused_is : {A : Type 0} (outcome : Result A DeError) (memory : Type 0) (e : DeError) → e ≢ Memory
     → Refuses outcome memory e → outcome ≡ Err e
 refused_is outcome memory (Msg m) h r = r
@@ -185,7 +185,7 @@ refused_is outcome memory (Utf8 u) h r = r
 refused_is outcome memory (InvalidInput k) h r = r
 refused_is outcome memory Memory h r = absurd (h refl)
 
--- bytes without a fault are frames alone
+-- bytes without a fault are frames only
 pub whole_frames : {H V : Type 0} (layout : Layout H V) (b : List ℕ) (ms : List (H × V)) → Cuts layout b ms None
     → AreFrames layout b ms
 whole_frames layout b ms cuts =

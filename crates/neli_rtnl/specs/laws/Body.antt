@@ -1,4 +1,4 @@
--- Laws of bodies: when `==` of two is equality.
+-- Laws of bodies: where `==` is equality.
 use Rattle.std.specs.Prelude.{Bool, ◌&&◌, nat_eq, refl}
 use Rattle.std.specs.Ordering.{int_eq}
 use Rattle.std.specs.Cmp.{signed_Decides}
@@ -11,7 +11,7 @@ use Rattle.neli_rtnl.specs.declared.body.Body.{Body}
 pub signed-equality : IsEquality int_eq
 signed-equality = λ a b. signed_Decides a b
 
--- bodies, where it is of the fields and of the attributes' types
+-- bodies, if it is equality of the fields and of the attributes' types
 pub body-equality : {H A : Type 0} {p : H → H → Bool} {q : A → A → Bool} → IsEquality p → IsEquality q
     → IsEquality {T = Body H A} (λ m n. p m.header n.header
     && pointwise (routing_eq q (pointwise nat_eq)) m.rtattrs n.rtattrs)

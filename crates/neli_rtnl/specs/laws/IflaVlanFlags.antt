@@ -1,4 +1,4 @@
--- Laws of the fields of flags of virtual networks.
+-- Laws of the fields of flags of virtual LANs.
 use Rattle.std.proofs.Common.{◌≡◌, ℕ, List, [], length, refl}
 use Rattle.neli_body.specs.laws.Headers.{last_place, number-back, place}
 use Rattle.neli_wire.specs.Numbers.{AreBytes}

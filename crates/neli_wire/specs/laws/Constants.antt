@@ -1,4 +1,4 @@
--- Laws of tables of named numbers, which each table cites for its own.
+-- Laws of tables of named numbers; each table cites them.
 use Rattle.std.specs.Prelude.{◌≡◌, ℕ, ℤ, nat_eq, Bool, true, false, List}
 use Rattle.std.specs.Prelude.{[], ◌∷◌, find, unwrap_or, if◌then◌else◌, Some, refl}
 use Rattle.std.specs.Ordering.{int_eq}
@@ -6,7 +6,7 @@ use Rattle.std.proofs.lemmas.Bool.{eqb-true}
 use Rattle.std.proofs.lemmas.Bool.Decides.{Decides-int_eq}
 use Rattle.neli_wire.specs.Constants.{first_by, first_with, first_with_int, first_recognized, EachHas}
 
--- in every table, what is found for a number has that number
+-- in every table, the value found for a number has that number
 pub first_by-number : {A N : Type 0} (same : N → N → Bool) → ((a b : N) → same a b ≡ true → a ≡ b)
     → (number_of : A → N) (variants : List A) (unrecognized : N → A) → ((n : N) → number_of (unrecognized n) ≡ n)
     → (n : N) → number_of (first_by same number_of variants unrecognized n) ≡ n

@@ -1,4 +1,4 @@
--- The elements of a list, read one by one: the list that `AreElements` tells of, or its first refusal.
+-- The elements of a list, read one by one: the list that `AreElements` defines, or its first refusal.
 use Rattle.std.specs.Prelude.{ℕ, zero, suc, List, [], ◌∷◌, length, Result, Ok, Err, nat_lt, if◌then◌else◌}
 use Rattle.neli_wire.specs.Bytes.{Reading}
 use Rattle.neli_wire.specs.DeError.{DeError}

@@ -1,5 +1,5 @@
--- When the comparison that an enum derives is true exactly where two values are equal: its variants' fields are told
--- apart.
+-- The comparison that an enum derives is true exactly where two values are equal, if its variants' comparisons
+-- distinguish their fields.
 use Rattle.std.specs.Prelude.{◌≡◌, Bool, true, false, List, [], ◌∷◌, refl}
 use Rattle.std.specs.Cmp.{IsEquivalence}
 use Rattle.std.specs.Cmp.Derive.{of_values}
@@ -12,7 +12,7 @@ use denote.Struct.Values.{Values}
 use denote.Enum.Declared.{Record, Choice, values_one}
 use denote.Enum.Compared.{Each, by}
 
--- each variant with fields has a comparison that tells them apart
+-- each variant with fields has a comparison that distinguishes them
 abbrev pub TellApart : (Fss : List (List Field)) → Each Bool Fss → Type 0
 TellApart [] each = Unit {0}
 TellApart ([] ∷ Fss) each = TellApart Fss each.1
@@ -31,11 +31,11 @@ one_choice ((F ∷ Fs) ∷ Fss) each apart (inl x) (inr y) e = absurd (true≢fa
 one_choice ((F ∷ Fs) ∷ Fss) each apart (inr x) (inl y) e = absurd (true≢false (sym e))
 one_choice ((F ∷ Fs) ∷ Fss) each apart (inr x) (inr y) e = ap inr (one_choice Fss each.1 apart.1 x y e)
 
--- an equivalence that tells values apart is equality
+-- an equivalence that distinguishes values is equality
 pub equality : {T : Type 0} {eq : T → T → Bool} → IsEquivalence eq → ((a b : T) → eq a b ≡ true → a ≡ b) → IsEquality eq
 equality {T} {eq} laws apart a b = (apart a b, λ e. sym (ap (eq a) e) ∙ laws.refl a)
 
--- so is what an enum derives, where it tells its fields apart
+-- so is an enum's derived comparison, if it distinguishes the fields
 pub derived-equality : (N : Record) (each : Each Bool N.parts) → IsEquivalence (of_values N false false each)
     → TellApart N.parts each → IsEquality (of_values N false false each)
 derived-equality N each laws apart =

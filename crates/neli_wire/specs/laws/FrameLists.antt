@@ -10,7 +10,7 @@ use Rattle.neli_wire.specs.laws.Lists.{elements-are, are-elements, elements-refu
 use Rattle.neli_wire.specs.Reading.{AreElements, refusal_within}
 
 module _ {H V : Type 0} (layout : Layout H V) (placed : IsPlaced layout) (some : 0 < layout.size) where
-  -- a frame takes a byte at least
+  -- a frame takes at least a byte
   frame-some : (frame : List ℕ) (h : H) (v : V) → IsFrame layout frame h v → 0 < length frame
   frame-some frame h v is = omega (arith, is.whole, is.least, some)
 

@@ -132,7 +132,7 @@ header_then-is layout header_at wide s =
           (padded_payload_at-is layout s (layout.header_of s) enough)
     ]
 
--- the same for where memory is taken
+-- the same for where a read takes memory
 pub header_then_takes_memory-is : {H V : Type 0} (layout : Layout H V) (header_at : List ℕ → Reading H) (takes : H
     → List ℕ → Type 0) → IsWide header_at layout.size layout.header_of → (s : List ℕ)
     → header_then_takes_memory header_at layout.length_of layout.size takes s → frame_takes_memory layout takes s
@@ -147,7 +147,7 @@ header_then_takes_memory-is layout header_at takes wide s h =
 
 -- ---- frames
 
--- a number by its place is found in the first bytes already
+-- the first bytes alone give a number by its place
 pub number_in-take : (n i m : ℕ) (s : List ℕ) → i + n ≤ m → m ≤ length s → number_in n i (take m s) ≡ number_in n i s
 number_in-take n i m s le long =
     let len : length (take m s) ≡ m = length-take-le m s long in
@@ -156,7 +156,7 @@ number_in-take n i m s le long =
     ∙ little_from-append n (drop i (take m s)) (drop m s) (omega (arith, length-drop i (take m s))) in
     sym more ∙ ap (number_in n i) (take-append-drop m s)
 
--- what a header says is in its own bytes
+-- a header's meaning depends only on its own bytes
 pub record IsPlaced {H V : Type 0} (layout : Layout H V) : Type 0 where
   pub own : (s : List ℕ) → layout.size ≤ length s → layout.header_of (take layout.size s) ≡ layout.header_of s
 
@@ -171,7 +171,7 @@ module _ {H V : Type 0} (layout : Layout H V) (placed : IsPlaced layout) where
   align-le : (n : ℕ) → n ≤ align n
   align-le n = omega arith
 
-  -- the body of a frame is read past its end as within it
+  -- the body of a frame reads the same past its end as within it
   payload-append : (n : ℕ) (frame rest : List ℕ) → layout.size ≤ n → n ≤ length frame
       → take (n - layout.size) (drop layout.size (frame ++ rest)) ≡ take (n - layout.size) (drop layout.size frame)
   payload-append n frame rest least le =
@@ -179,7 +179,7 @@ module _ {H V : Type 0} (layout : Layout H V) (placed : IsPlaced layout) where
       ∙ take-append-le (n - layout.size) (drop layout.size frame) rest
       (omega (arith, length-drop layout.size frame))
 
-  -- what begins with a frame is read as that frame
+  -- bytes that begin with a frame are read as that frame
   pub frame_at-frame : (frame rest : List ℕ) (h : H) (v : V) → IsFrame layout frame h v
       → frame_at layout (frame ++ rest) ≡ Ok ((h, v), rest)
   unfolding frame_at
@@ -233,7 +233,7 @@ module _ {H V : Type 0} (layout : Layout H V) (placed : IsPlaced layout) where
       let same : ((head, b.0), rest) ≡ ((h, v), r) = ok_is ((head, b.0), rest) ((h, v), r) g4.1 in
       subst P {x = ((head, b.0), rest)} {y = ((h, v), r)} same found
 
-  -- a frame is told by its own bytes alone
+  -- a frame depends only on its own bytes
   pub frame_at-local : IsLocal (frame_at layout)
   frame_at-local s r p e =
       let f = frame_of-frame_at s r p.0 p.1 e in

@@ -90,7 +90,7 @@ refusal_within-never_short n true e is f = cc
 refusal_within-never_short n false e is f = let same : is_short short ≡ false =
     subst (λ (x : DeError). is_short x ≡ false) f is in cc
 
--- a read with an input is never short of bytes
+-- a read with an input is never refused as short
 pub map_refusal-never_short : {A : Type 0} (n : ℕ) (r : Result A DeError) → map_refusal (refusal_within n) r ≢ Err short
 map_refusal-never_short n (Ok x) e = cc
 map_refusal-never_short n (Err d) e = refusal_within-never_short n (is_short d) d refl cc

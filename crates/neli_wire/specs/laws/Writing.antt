@@ -33,7 +33,7 @@ pub append_wire-err : (old : List ℕ) (w : Wire) (e : SerError) → append_wire
 append_wire-err old (Ok x) e h = absurd cc
 append_wire-err old (Err d) e h = h
 
--- what the first part takes, the whole takes
+-- where the first part takes memory, the whole does
 room_first : (a b : Wire) → TakesRoom a → TakesRoom (a +++ b)
 room_first (Ok x) (Ok y) h = omega (arith, length-append x y)
 room_first (Ok x) (Err d) h = tt

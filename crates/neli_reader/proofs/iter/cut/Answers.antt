@@ -13,7 +13,7 @@ told : {A E P : Type 0} (r : Result A E) → P → OnErr r P
 told (Ok x) p = tt
 told (Err e) p = p
 
--- an error that is no fault is told only where reading takes memory
+-- an error that is no fault is returned only where reading takes memory
 told_by_memory : {H V : Type 0} (layout : Layout H V) (takes : Type 0) (old new : List ℕ) (e : SocketError)
     → ((fault : DeError) → e ≢ socket.De fault) → IsNext layout takes old new (Some (Err e)) → takes
 told_by_memory layout takes old new (socket.De fault) other next = absurd (other fault refl)

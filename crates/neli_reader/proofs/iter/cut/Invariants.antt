@@ -9,8 +9,8 @@ use Rattle.neli_reader.proofs.iter.cut.Given as goal
 abbrev pub decreases-loop-item : goal.decreases-loop-item
 decreases-loop-item g l = length l.iter
 
--- the cut is the messages so far, and then that of what is left, which is no longer than the datagram; nothing was read
--- where the first message is refused
+-- the cut is the messages so far, and then the cut of the rest, which is no longer than the datagram; nothing was read
+-- if the first message is refused
 abbrev pub invariant-loop-item : goal.invariant-loop-item
 invariant-loop-item g l =
     (cut_of (message_layout g.T.Constant.wire_value g.T.Constant.wire_number g.P.FromBytesWithInput.read) l.fn.bytes

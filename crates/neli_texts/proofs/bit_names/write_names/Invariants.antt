@@ -4,7 +4,7 @@ use Rattle.neli_texts.specs.FlagNames.{barred, names_in}
 use Rattle.neli_texts.proofs.Names.{from_here}
 use Rattle.neli_texts.proofs.bit_names.write_names.Given as goal
 
--- what is written so far, and then what the flags from here on print, is the whole text
+-- the output so far, and then the text of the flags from here on, is the whole text
 abbrev pub invariant-loop-row : goal.invariant-loop-row
 invariant-loop-row g l =
     IsPlainFormatter l.initial.f → (done : List ℕ) × HasWritten g.W.Write.write_str_gives l.initial.f done l.f

@@ -7,7 +7,7 @@ use Rattle.neli_wire.specs.laws.Lists.{wire_all-length}
 use Rattle.neli_wire.specs.laws.Writing.{refuses_by}
 use Rattle.neli_wire.proofs.lists.write_all.Goals as goal
 
--- room is asked for only where the values take a byte
+-- room is reserved only where the values take a byte
 pub returns-in_err-reserve-clause-refused : goal.returns-in_err-reserve-clause-refused
 returns-in_err-reserve-clause-refused g c =
     let items = c.args.items.now in

@@ -5,7 +5,7 @@ use Rattle.neli_attr.specs.Attributes.{attributes_in}
 use Rattle.neli_attr.specs.TypeField.{type_of}
 use Rattle.neli_attr.proofs.nlattr.Nlattr+T+Buffer.get_attr_handle.Goals as goal
 
--- the bytes that are lent are those of the payload
+-- the lent bytes are those of the payload
 pub returns-clause-refused : goal.returns-clause-refused
 returns-clause-refused g c =
     subst (λ (s : List ℕ). IfErr c.handle_of_payload.result

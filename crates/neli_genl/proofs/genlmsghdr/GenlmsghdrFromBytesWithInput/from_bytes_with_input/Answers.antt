@@ -2,7 +2,7 @@ use Rattle.neli_body.specs.laws.Bodies.{exact_refused}
 use Rattle.neli_genl.specs.Genlmsghdr.{genlmsghdr_of, genlmsghdr_takes_memory}
 use Rattle.neli_genl.proofs.genlmsghdr.GenlmsghdrFromBytesWithInput.from_bytes_with_input.Goals as goal
 
--- a refusal of the bytes of the input is that of the input
+-- a refusal of the input's bytes is that of the input
 pub returns-in-Err-clause-refused : goal.returns-in-Err-clause-refused
 returns-in-Err-clause-refused g c =
     exact_refused

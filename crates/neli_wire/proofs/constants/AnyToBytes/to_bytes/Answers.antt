@@ -4,7 +4,7 @@ use Rattle.neli_wire.specs.laws.Writing.{refuses_by}
 use Rattle.neli_wire.specs.Writing.{Wire}
 use Rattle.neli_wire.proofs.constants.AnyToBytes.to_bytes.Goals as goal
 
--- the number's bytes are as many as its type has
+-- a number has as many bytes as its type
 pub returns-in_err-append-clause-refused : goal.returns-in_err-append-clause-refused
 returns-in_err-append-clause-refused g c =
     let bytes : Wire = Ok (g.T.Number.WireNumber.bytes_of (g.T.Constant.wire_number c.args.self.now)) in
