@@ -5,7 +5,7 @@
 //! - [`AttrType`]: the type field of a generic attribute.
 //! - [`BuildError`]: why a builder made nothing, for all builders.
 //! - [`frame`]: how an attribute is read and written, by the type of its type field.
-//! - [`laws`]: what buffers and type fields say of themselves.
+//! - [`laws`]: what buffers, type fields and errors say of themselves.
 #![tactic(auto)]
 
 mod attr_type;
