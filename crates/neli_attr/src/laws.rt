@@ -23,7 +23,10 @@ ghost use Rattle.neli_attr.specs.Rtattr.{built_rtattr, rtattr_wire, with_bytes a
 ghost use Rattle.neli_attr.specs.RoundTrips.{IsReadBack, KeepsField};
 
 use crate::{AttrType, Attribute, Buffer, Nlattr, NlattrBuilder, Rtattr, RtattrBuilder};
-pub use neli_attr_parts::laws::{buffer_is_its_bytes, type_field_is_its_number};
+pub use neli_attr_parts::laws::{
+    buffer_is_its_bytes, errors_of_builders_say_why, errors_of_reading_say_why,
+    errors_of_writing_say_why, messages_print_their_texts, type_field_is_its_number,
+};
 use neli_consts::NlAttrType;
 use neli_consts_attrs::RtaType;
 pub use neli_list::laws::{

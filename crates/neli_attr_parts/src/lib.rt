@@ -5,7 +5,7 @@
 //! - [`AttrType`]: the type field of a generic attribute.
 //! - [`BuildError`]: why a builder made no value, for all builders.
 //! - [`frame`]: how an attribute is read and written, by the type of its type field.
-//! - [`laws`]: what buffers and type fields state about themselves.
+//! - [`laws`]: what buffers, type fields and errors state about themselves.
 #![tactic(auto)]
 
 mod attr_type;

@@ -173,6 +173,14 @@ pub record HasRoom {T : Type 0} (n : ℕ) (s : Places T) : Type 0 where
 abbrev pub HasPlaceRoom : {T : Type 0} → Places T → Type 0
 HasPlaceRoom s = 0 < spare s.numbers
 
+-- what room there was for more entries is left
+abbrev pub KeepsRoom : {T : Type 0} → Places T → Places T → Type 0
+KeepsRoom before after = (n : ℕ) → HasRoom n before → HasRoom n after
+
+-- what room there was for the places of more numbers is left
+abbrev pub KeepsPlaceRoom : {T : Type 0} → Places T → Places T → Type 0
+KeepsPlaceRoom before after = spare before.numbers ≤ spare after.numbers
+
 -- what room there was for one more entry, beside it, is left
 abbrev pub LeavesRoom : {T : Type 0} → Places T → Places T → Type 0
 LeavesRoom before after = (n : ℕ) → HasRoom (n + 1) before → HasRoom n after

@@ -2,7 +2,8 @@
 
 ghost use Rattle.std.specs.Prelude.{◌≡◌, ◌+◌, ◌<◌, ◌++◌, ◌∷◌, [], None, Some, length};
 ghost use Rattle.std.specs.VecDeque.{deque_capacity, deque_len};
-ghost use Rattle.neli_places.specs.Places.{Gains, HasRoom, IsTrimmed, LeavesRoom, entries_of, pending_of, place_of};
+ghost use Rattle.neli_places.specs.Places.{Gains, HasRoom, IsTrimmed, KeepsPlaceRoom, LeavesRoom, entries_of};
+ghost use Rattle.neli_places.specs.Places.{pending_of, place_of};
 ghost use Rattle.neli_places.specs.Routes.{entry};
 
 use crate::chains::{extended, link};
@@ -24,6 +25,7 @@ impl<T: Drop> Places<T> {
             (pending_of self.new) }
         ensures trimmed { IsTrimmed self.new }
         ensures room { LeavesRoom self.old self.new }
+        ensures place_room { KeepsPlaceRoom self.old self.new }
     {
         let at = self.base + self.entries.len() as u64;
         link(&mut self.links, self.base, p.chain, at);
@@ -49,6 +51,7 @@ impl<T: Drop> Places<T> {
             (pending_of self.new) }
         ensures trimmed { IsTrimmed self.new }
         ensures room { LeavesRoom self.old self.new }
+        ensures place_room { KeepsPlaceRoom self.old self.new }
     {
         let at = self.base + self.entries.len() as u64;
         link(&mut self.links, self.base, p.chain, at);
@@ -74,6 +77,7 @@ impl<T: Drop> Places<T> {
             (pending_of self.new) }
         ensures trimmed { IsTrimmed self.new }
         ensures room { LeavesRoom self.old self.new }
+        ensures place_room { KeepsPlaceRoom self.old self.new }
     {
         let at = self.base + self.entries.len() as u64;
         let _ = self.shared.push_back(Shared {

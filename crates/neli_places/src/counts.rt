@@ -2,8 +2,9 @@
 
 ghost use Rattle.std.specs.Prelude.{◌≡◌, ◌+◌, ◌^◌, ◌<◌, ◌≤◌, ◌==◌, ℕ, true, Some, if◌then◌else◌, is_some, length, map};
 ghost use Rattle.std.specs.Prelude.{nat_eq};
-ghost use Rattle.std.specs.HashMap.{get};
+ghost use Rattle.std.specs.HashMap.{get, spare};
 ghost use Rattle.std.specs.Map.{set_value};
+ghost use Rattle.std.specs.VecDeque.{deque_capacity, deque_len};
 ghost use Rattle.neli_places.specs.Places.{readers_at};
 
 use crate::place::{Place, Shared};
@@ -15,6 +16,7 @@ pub(crate) fn put(numbers: &mut HashMap<u32, Place>, number: u32, place: Place)
     ensures updates { (q : ℕ) → get nat_eq numbers.new q
         ≡ (if nat_eq number q then Some place else get nat_eq numbers.old q) }
     ensures entries { numbers.new.entries ≡ set_value (nat_eq number) numbers.old.entries place }
+    ensures room { spare numbers.new ≡ spare numbers.old }
 {
     if let Some(kept) = numbers.get_mut(&number) {
         *kept = place;
@@ -28,6 +30,8 @@ pub(crate) fn lower(shared: &mut VecDeque<Shared>, caught_up: &mut usize, i: usi
     ensures less { (n : ℕ) → readers_at shared.new.items caught_up.new n
         + (if n == i then 1 else 0) ≡ readers_at shared.old.items caught_up.old n }
     ensures positions { map (λ s. s.at) shared.new.items ≡ map (λ s. s.at) shared.old.items }
+    ensures room { (deque_len shared.new ≡ deque_len shared.old)
+        × (deque_capacity shared.new ≡ deque_capacity shared.old) }
 {
     if i < shared.len() {
         shared[i].readers -= 1;
@@ -43,6 +47,8 @@ pub(crate) fn raise(shared: &mut VecDeque<Shared>, caught_up: &mut usize, i: usi
     ensures more { (n : ℕ) → readers_at shared.new.items caught_up.new n
         ≡ readers_at shared.old.items caught_up.old n + (if n == i then 1 else 0) }
     ensures positions { map (λ s. s.at) shared.new.items ≡ map (λ s. s.at) shared.old.items }
+    ensures room { (deque_len shared.new ≡ deque_len shared.old)
+        × (deque_capacity shared.new ≡ deque_capacity shared.old) }
 {
     if i < shared.len() {
         shared[i].readers += 1;

@@ -2,8 +2,8 @@
 
 ghost use Rattle.std.specs.Prelude.{◌≡◌, ◌≢◌, ◌<◌, ℕ, true, false, Option, None, Some, drop, slice_get};
 ghost use Rattle.neli_places.specs.Lists.{SameLists, SameListsBut};
-ghost use Rattle.neli_places.specs.Places.{HavePassedFirst, BeginsWith, IsSound, AwaitsFirst, entries_of, pending_of};
-ghost use Rattle.neli_places.specs.Places.{place_of};
+ghost use Rattle.neli_places.specs.Places.{HavePassedFirst, BeginsWith, IsSound, AwaitsFirst, KeepsPlaceRoom};
+ghost use Rattle.neli_places.specs.Places.{KeepsRoom, entries_of, pending_of, place_of};
 ghost use Rattle.neli_places.specs.Routes.{is_shared};
 
 use crate::counts::lower;
@@ -47,6 +47,8 @@ impl<T: Drop> Places<T> {
         ensures less { entries_of self.new ≡ drop 1 (entries_of self.old) }
         ensures same { SameLists (pending_of self.old) (pending_of self.new) }
         ensures sound { IsSound self.new }
+        ensures room { KeepsRoom self.old self.new }
+        ensures place_room { KeepsPlaceRoom self.old self.new }
     {
         match route {
             Route::Numbers => self.forget_shared(),
@@ -63,6 +65,8 @@ impl<T: Drop> Places<T> {
         ensures less { entries_of self.new ≡ drop 1 (entries_of self.old) }
         ensures same { SameLists (pending_of self.old) (pending_of self.new) }
         ensures sound { IsSound self.new }
+        ensures room { KeepsRoom self.old self.new }
+        ensures place_room { KeepsPlaceRoom self.old self.new }
     {
         let _ = self.links.pop_front();
         let first = self.entries.pop_front();
@@ -78,6 +82,8 @@ impl<T: Drop> Places<T> {
         ensures less { entries_of self.new ≡ drop 1 (entries_of self.old) }
         ensures same { SameLists (pending_of self.old) (pending_of self.new) }
         ensures sound { IsSound self.new }
+        ensures room { KeepsRoom self.old self.new }
+        ensures place_room { KeepsPlaceRoom self.old self.new }
     {
         let _ = self.shared.pop_front();
         self.shared_base += 1;
@@ -94,6 +100,8 @@ impl<T: Drop> Places<T> {
         ensures closed { pending_of self.new None ≡ None }
         ensures others { SameListsBut None (pending_of self.old) (pending_of self.new) }
         ensures sound { IsSound self.new }
+        ensures room { KeepsRoom self.old self.new }
+        ensures place_room { KeepsPlaceRoom self.old self.new }
     {
         self.multicast = None;
     }
@@ -105,6 +113,8 @@ impl<T: Drop> Places<T> {
         ensures closed { pending_of self.new (Some n) ≡ None }
         ensures others { SameListsBut (Some n) (pending_of self.old) (pending_of self.new) }
         ensures sound { IsSound self.new }
+        ensures room { KeepsRoom self.old self.new }
+        ensures place_room { KeepsPlaceRoom self.old self.new }
     {
         if let Some(p) = self.numbers.remove(&n) {
             let i = (p.shared_passed - self.shared_base) as usize;

@@ -3,8 +3,8 @@
 ghost use Rattle.std.specs.Prelude.{◌≡◌, ◌≢◌, ◌+◌, ◌-◌, ◌≤◌, ◌<◌, ℕ, true, false, List, ◌∷◌, Option, None, Some, IfSome};
 ghost use Rattle.std.specs.Prelude.{length, map, slice_get};
 ghost use Rattle.neli_places.specs.Lists.{SameListsBut};
-ghost use Rattle.neli_places.specs.Places.{IsPlace, CountsPassed, IsSound, RouteAt, entries_of, next_position};
-ghost use Rattle.neli_places.specs.Places.{pending_of, place_of};
+ghost use Rattle.neli_places.specs.Places.{IsPlace, CountsPassed, IsSound, KeepsPlaceRoom, KeepsRoom, RouteAt};
+ghost use Rattle.neli_places.specs.Places.{entries_of, next_position, pending_of, place_of};
 ghost use Rattle.neli_places.specs.Routes.{is_shared, leads_only};
 
 use crate::chains::{lesser_of, start, without_first};
@@ -50,6 +50,8 @@ impl<T: Drop> Places<T> {
             → pending_of self.new None ≡ Some xs }
         ensures others { SameListsBut None (pending_of self.old) (pending_of self.new) }
         ensures sound { IsSound self.new }
+        ensures room { KeepsRoom self.old self.new }
+        ensures place_room { KeepsPlaceRoom self.old self.new }
     {
         self.multicast = Some(self.after_own(None, p, m));
     }
@@ -65,6 +67,8 @@ impl<T: Drop> Places<T> {
             → pending_of self.new (Some n) ≡ Some xs }
         ensures others { SameListsBut (Some n) (pending_of self.old) (pending_of self.new) }
         ensures sound { IsSound self.new }
+        ensures room { KeepsRoom self.old self.new }
+        ensures place_room { KeepsPlaceRoom self.old self.new }
     {
         let after = self.after_own(Some(n), p, m);
         put(&mut self.numbers, n, after);
@@ -81,6 +85,8 @@ impl<T: Drop> Places<T> {
             → pending_of self.new (Some n) ≡ Some xs }
         ensures others { SameListsBut (Some n) (pending_of self.old) (pending_of self.new) }
         ensures sound { IsSound self.new }
+        ensures room { KeepsRoom self.old self.new }
+        ensures place_room { KeepsPlaceRoom self.old self.new }
     {
         // The prover learns here that a count of places fits: there are fewer than 2^63 numbers.
         let _ = self.numbers.len();

@@ -1,10 +1,12 @@
 //! The entries, and who waits for which.
 
-ghost use Rattle.std.specs.Prelude.{◌≡◌, ◌≢◌, ◌↔◌, ◌++◌, ℕ, List, [], ◌∷◌, Option, None, Some, IfSome, IsNone, IsOk};
+ghost use Rattle.std.specs.HashMap.{spare};
+ghost use Rattle.std.specs.Prelude.{◌≡◌, ◌≢◌, ◌↔◌, ◌≤◌, ◌+◌, ◌++◌, ℕ, List, [], ◌∷◌, Option, None, Some, IfSome, IsNone, IsOk};
 ghost use Rattle.std.specs.Prelude.{IsTrue, OnErr, OnOk, is_some, length, option_map};
 ghost use Rattle.neli_places.specs.Lists.{SameLists, SameListsBut};
-ghost use Rattle.neli_places.specs.Places.{Gains, HasPlaceRoom, HasReader, HasRoom, IsSound, IsTrimmed, LeavesRoom};
-ghost use Rattle.neli_places.specs.Places.{entries_of, head_of, pending_of, place_of};
+ghost use Rattle.neli_places.specs.Places.{Gains, HasPlaceRoom, HasReader, HasRoom, IsSound, IsTrimmed};
+ghost use Rattle.neli_places.specs.Places.{KeepsPlaceRoom, KeepsRoom, LeavesRoom, entries_of, head_of, pending_of};
+ghost use Rattle.neli_places.specs.Places.{place_of};
 ghost use Rattle.neli_places.specs.Routes.{entry};
 ghost use Rattle.neli_places.specs.declared.entry.Route.{Route as Way};
 
@@ -94,6 +96,8 @@ impl<T: Drop> Places<T> {
         ensures err { OnErr result (SameLists (pending_of self.old) (pending_of self.new)) }
         ensures enough { HasPlaceRoom self.old → IsOk result }
         ensures trimmed { IsTrimmed self.new }
+        ensures room { KeepsRoom self.old self.new }
+        ensures place_room { spare self.old.numbers ≤ spare self.new.numbers + 1 }
     {
         // The prover learns here that the count of places fits: there are fewer than 2^63 numbers.
         let _ = self.numbers.len();
@@ -119,6 +123,8 @@ impl<T: Drop> Places<T> {
         ensures closed { pending_of self.new whose ≡ None }
         ensures others { SameListsBut whose (pending_of self.old) (pending_of self.new) }
         ensures sound { IsSound self.new }
+        ensures room { KeepsRoom self.old self.new }
+        ensures place_room { KeepsPlaceRoom self.old self.new }
     {
         match whose {
             None => self.remove_multicast(),
@@ -151,6 +157,8 @@ impl<T: Drop> Places<T> {
             → pending_of self.new whose ≡ pending_of self.old whose }
         ensures others { SameListsBut whose (pending_of self.old) (pending_of self.new) }
         ensures sound { IsSound self.new }
+        ensures room { KeepsRoom self.old self.new }
+        ensures place_room { KeepsPlaceRoom self.old self.new }
     {
         if let Some(p) = self.place(whose) {
             if let Some(m) = self.next_of(whose, &p) {
@@ -175,6 +183,8 @@ impl<T: Drop> Places<T> {
         ensures sound { IsSound self.new }
         ensures left { IsNone result → entries_of self.new ≡ entries_of self.old }
         ensures trimmed { IsNone result → IsTrimmed self.new }
+        ensures room { KeepsRoom self.old self.new }
+        ensures place_room { KeepsPlaceRoom self.old self.new }
     {
         let route = match self.entries.front() {
             None => return None,
@@ -200,6 +210,8 @@ impl<T: Drop> Places<T> {
         ensures trimmed { IsTrimmed self.new }
         ensures room { OnOk result (HasRoom n self.new) }
         ensures enough { HasRoom n self.old → IsOk result }
+        ensures kept { KeepsRoom self.old self.new }
+        ensures place_room { KeepsPlaceRoom self.old self.new }
     {
         let end = self.base + self.entries.len() as u64;
         if n as u64 > u64::MAX - end {
@@ -220,6 +232,7 @@ impl<T: Drop> Places<T> {
         ensures more { Gains (pending_of self.old) added (pending_of self.new) }
         ensures trimmed { IsTrimmed self.new }
         ensures room { LeavesRoom self.old self.new }
+        ensures place_room { KeepsPlaceRoom self.old self.new }
     {
         let Entry { item, route } = added;
         match route {
