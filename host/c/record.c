@@ -1,38 +1,81 @@
-/* `record FILE COUNT` writes the next COUNT datagrams of changes of links, addresses and routes into a file, one after
- * the other. The padding of their messages is there, so the file is a list of messages: `neli_tool list < FILE`.
- * It ends with status 4 where some were lost. */
+/* `record [-c COUNT] [-p PROTOCOL] [-m GROUP[,GROUP]..] FILE` writes what comes to these multicast groups into a pcap
+ * file with netlink's link type, for `neli_show`, tshark and Wireshark: COUNT datagrams, or until SIGINT or SIGTERM.
+ * The protocol is route, generic, or a number of linux/netlink.h; the groups of route are those of links, IPv4
+ * addresses and IPv4 routes where none are named. Where some were lost it says so, goes on, and ends with status 4. */
+#define _GNU_SOURCE
+#include "groups.h"
+#include "pcap.h"
 #include "request.h"
 #include <errno.h>
-#include <linux/rtnetlink.h>
+#include <signal.h>
 #include <stdio.h>
 #include <stdlib.h>
 #include <string.h>
+#include <unistd.h>
 
-static const uint32_t groups[] = {RTNLGRP_LINK, RTNLGRP_IPV4_IFADDR, RTNLGRP_IPV4_ROUTE};
+static const char usage[] = "usage: record [-c COUNT] [-p PROTOCOL] [-m GROUP[,GROUP]..] FILE\n";
+static struct neli_host *host;
+
+static void stop(int number) {
+    (void)number;
+    neli_host_stop(host);
+}
+
+static void end_by_signals(void) {
+    struct sigaction action = {.sa_handler = stop};
+    sigaction(SIGINT, &action, NULL);
+    sigaction(SIGTERM, &action, NULL);
+}
+
+/* Writes what comes, and gives the status. */
+static enum status record(FILE *file, uint16_t protocol, unsigned long count) {
+    enum status status = STATUS_COMPLETE;
+    while (count > 0) {
+        struct pcap_frame frame = {.way = PCAP_RECEIVED, .protocol = protocol};
+        int32_t code = neli_host_receive(host, &frame.length, &frame.group);
+        if (code == NELI_LINK && neli_host_fault(host) == ECANCELED) break;
+        if (code == NELI_LINK && neli_host_fault(host) == ENOBUFS) {
+            say(host, "record: lost some", code, NULL);
+            status = STATUS_LOST;
+            continue;
+        }
+        if (code != NELI_OK) fail(host, "record", code, NULL);
+        frame.bytes = neli_host_datagram(host);
+        if (frame.group != 0) frame.way = PCAP_GROUP;
+        if (!pcap_put(file, &frame)) break;
+        count--;
+    }
+    return status;
+}
 
 int main(int argc, char **argv) {
-    struct neli_host *host;
-    FILE *file = argc == 3 ? fopen(argv[1], "wb") : NULL;
-    if (file == NULL) {
-        if (argc == 3) fprintf(stderr, "record: %s\n", strerror(errno));
-        else fputs("usage: record FILE COUNT\n", stderr);
+    struct groups groups = {.protocol = NETLINK_ROUTE};
+    unsigned long count = -1ul;
+    bool is_right = true;
+    for (int option; is_right && (option = getopt(argc, argv, "c:p:m:")) != -1;) {
+        if (option == 'c') is_right = is_number(optarg, &count);
+        else if (option == 'p') is_right = is_protocol(optarg, &groups.protocol);
+        else is_right = option == 'm' && are_groups(optarg, &groups);
+    }
+    if (!is_right || optind + 1 != argc || !have_groups(&groups)) {
+        fputs(usage, stderr);
         return STATUS_NOT_BEGUN;
     }
-    open_or_fail(&host, NETLINK_ROUTE, groups, sizeof groups / sizeof *groups);
-    puts("recording");
-    fflush(stdout);
-    for (unsigned long left = strtoul(argv[2], NULL, 10); left > 0; left--) {
-        size_t length;
-        uint32_t group;
-        int32_t code = neli_host_receive(host, &length, &group);
-        if (code != NELI_OK) fail(host, "record", code, NULL);
-        if (fwrite(neli_host_datagram(host), 1, length, file) != length) break;
+    FILE *file = strcmp(argv[optind], "-") == 0 ? stdout : fopen(argv[optind], "wb");
+    if (file == NULL || !pcap_begin(file)) {
+        fprintf(stderr, "record: %s\n", strerror(errno));
+        return STATUS_NOT_BEGUN;
     }
+    open_or_fail(&host, groups.protocol, groups.at, groups.count);
+    end_by_signals();
+    fputs("recording\n", file == stdout ? stderr : stdout);
+    fflush(stdout);
+    enum status status = record(file, (uint16_t)groups.protocol, count);
     neli_host_close(host);
     bool is_written = ferror(file) == 0;
     if (fclose(file) != 0 || !is_written) {
         fprintf(stderr, "record: %s\n", strerror(errno));
         return STATUS_NOT_BEGUN;
     }
-    return STATUS_COMPLETE;
+    return (int)status;
 }

@@ -98,6 +98,22 @@ pub enum SocketError {
     De(DeError),
     /// What is to be sent cannot be written.
     Ser(SerError),
+    /// A recording has no such request.
+    Unrecorded(Unrecorded),
+    /// Nothing more can come, as where a recording goes on with a request that was not sent.
+    Ended,
+}
+
+/// Why a recording has no such request.
+#[derive(Clone, Copy, Debug, PartialEq, Eq)]
+pub enum Unrecorded {
+    /// All of its requests were sent before.
+    Past,
+    /// The request is not that of the recording which comes next.
+    Differs {
+        /// The first byte that differs, or that one of them lacks, from the front of the datagram.
+        at: usize,
+    },
 }
 
 /// What a router says in place of a message.
@@ -185,6 +201,19 @@ impl fmt::Display for SocketError {
             }
             SocketError::De(error) => write!(f, "{error}"),
             SocketError::Ser(error) => write!(f, "{error}"),
+            SocketError::Unrecorded(error) => write!(f, "{error}"),
+            SocketError::Ended => write!(f, "nothing more comes: the link has ended"),
+        }
+    }
+}
+
+impl fmt::Display for Unrecorded {
+    fn fmt(&self, f: &mut fmt::Formatter<'_>) -> fmt::Result {
+        match self {
+            Unrecorded::Past => write!(f, "the recording has no further request"),
+            Unrecorded::Differs { at } => {
+                write!(f, "the request differs at byte {at} from the one that the recording has next")
+            }
         }
     }
 }
@@ -211,6 +240,7 @@ impl Error for DeError {}
 impl Error for SerError {}
 impl Error for UninitializedFieldError {}
 impl Error for BuildError {}
+impl Error for Unrecorded {}
 
 impl Error for SocketError {
     fn source(&self) -> Option<&(dyn Error + 'static)> {
@@ -249,6 +279,7 @@ carries! {
     SocketError::Io(io::Error),
     SocketError::De(DeError),
     SocketError::Ser(SerError),
+    SocketError::Unrecorded(Unrecorded),
     RouterError::Socket(SocketError),
     RouterError::De(DeError),
     RouterError::Ser(SerError),

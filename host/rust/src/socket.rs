@@ -8,6 +8,7 @@ pub mod synchronous {
     use crate::consts::socket::NlFamily;
     use crate::err::SocketError;
     use crate::ffi;
+    use crate::link::{Arrived, Link, LinkOption};
     use crate::nl::{NlBufferIter, NlType, Nlmsghdr};
     use crate::utils::{Groups, NetlinkBitArray};
     use std::ffi::c_int;
@@ -25,7 +26,7 @@ pub mod synchronous {
 
     /// The room that a datagram is received into. The kernel fills a dump's up to 32 KiB, and a message of its own may
     /// be longer. Of what is not used there is no memory.
-    pub(crate) const ROOM: usize = 1 << 20;
+    const ROOM: usize = 1 << 20;
 
     /// `EAGAIN` and `ECANCELED`, by which a wait ends whose time is over, and one that was stopped.
     const AGAIN: i32 = 11;
@@ -42,8 +43,11 @@ pub mod synchronous {
     pub struct NlSocketHandle {
         fd: OwnedFd,
         port: u32,
+        family: NlFamily,
         /// Readable once the waits are stopped.
         stop: OwnedFd,
+        /// Readable once a wait is to end, until one has ended.
+        wake: OwnedFd,
         waits: Mutex<Waits>,
         /// What is received lies here before it is copied; at first there is none.
         room: Mutex<Vec<u8>>,
@@ -61,10 +65,14 @@ pub mod synchronous {
     #[derive(Clone, Copy, Debug)]
     pub(crate) struct Wait {
         until: Option<Instant>,
-        ends_by_signals: bool,
     }
 
     impl Wait {
+        /// One that begins now, for this time, or without end.
+        pub(crate) fn begin(limit: Option<Duration>) -> Self {
+            Wait { until: limit.and_then(|it| Instant::now().checked_add(it)) }
+        }
+
         /// How much of its time is left, none of one without end; refused where it is over.
         pub(crate) fn left(&self) -> io::Result<Option<Duration>> {
             let Some(until) = self.until else { return Ok(None) };
@@ -73,14 +81,18 @@ pub mod synchronous {
         }
     }
 
-    /// Whether an error says that a wait was stopped.
-    pub(crate) fn is_stop(error: &io::Error) -> bool {
-        error.raw_os_error() == Some(CANCELED)
+    /// Whether an error says that every further wait is over too: they were stopped, or nothing more can come.
+    pub(crate) fn is_stop(error: &SocketError) -> bool {
+        match error {
+            SocketError::Io(error) => error.raw_os_error() == Some(CANCELED),
+            error => matches!(error, SocketError::Ended),
+        }
     }
 
     /// Whether an error says that a wait is over, and nothing of the socket.
-    pub(crate) fn is_end_of_wait(error: &io::Error) -> bool {
-        matches!(error.kind(), ErrorKind::WouldBlock | ErrorKind::Interrupted) || is_stop(error)
+    pub(crate) fn is_end_of_wait(error: &SocketError) -> bool {
+        let is_over = |it: &io::Error| matches!(it.kind(), ErrorKind::WouldBlock | ErrorKind::Interrupted);
+        is_stop(error) || matches!(error, SocketError::Io(error) if is_over(error))
     }
 
     impl NlSocketHandle {
@@ -88,8 +100,8 @@ pub mod synchronous {
         pub fn connect(family: NlFamily, port: Option<u32>, groups: Groups) -> Result<Self, SocketError> {
             let fd = ffi::open(family.into(), port.unwrap_or(0))?;
             let port = ffi::port_of(fd.as_raw_fd())?;
-            let (stop, waits, room) = (ffi::event()?, Mutex::default(), Mutex::default());
-            let socket = NlSocketHandle { fd, port, stop, waits, room };
+            let (stop, wake, waits, room) = (ffi::event()?, ffi::event()?, Mutex::default(), Mutex::default());
+            let socket = NlSocketHandle { fd, port, family, stop, wake, waits, room };
             // A kernel that knows no extended acknowledgements answers without.
             let _old_kernel = socket.enable_ext_ack(true);
             socket.add_mcast_membership(groups)?;
@@ -123,22 +135,22 @@ pub mod synchronous {
 
         /// Whether the kernel is to say in words why it refuses, and where. It is on at first.
         pub fn enable_ext_ack(&self, enable: bool) -> Result<(), SocketError> {
-            Ok(ffi::set_netlink_option(self.as_raw_fd(), EXT_ACK, enable.into())?)
+            self.set_option(LinkOption::ExtAck, enable)
         }
 
         /// Whether the kernel says so.
         pub fn get_ext_ack_enabled(&self) -> Result<bool, SocketError> {
-            Ok(ffi::netlink_option(self.as_raw_fd(), EXT_ACK)? != 0)
+            self.option(LinkOption::ExtAck)
         }
 
         /// Whether the kernel is to refuse a dump's request with fields that it does not use.
         pub fn enable_strict_checking(&self, enable: bool) -> Result<(), SocketError> {
-            Ok(ffi::set_netlink_option(self.as_raw_fd(), GET_STRICT_CHECK, enable.into())?)
+            self.set_option(LinkOption::StrictChecking, enable)
         }
 
         /// Whether the kernel does so.
         pub fn get_strict_checking_enabled(&self) -> Result<bool, SocketError> {
-            Ok(ffi::netlink_option(self.as_raw_fd(), GET_STRICT_CHECK)? != 0)
+            self.option(LinkOption::StrictChecking)
         }
 
         /// Sets the size of the buffer in which the kernel keeps what was not received yet. It doubles the number.
@@ -172,27 +184,23 @@ pub mod synchronous {
             self.waits.lock().unwrap_or_else(PoisonError::into_inner)
         }
 
-        /// A wait that begins now.
-        pub(crate) fn begin_wait(&self) -> Wait {
-            let waits = *self.waits();
-            let until = waits.timeout.and_then(|it| Instant::now().checked_add(it));
-            Wait { until, ends_by_signals: waits.ends_by_signals }
-        }
-
         /// Refused where the waits are stopped.
-        pub(crate) fn want_unstopped(&self) -> io::Result<()> {
+        fn want_unstopped(&self) -> io::Result<()> {
             if self.waits().is_stopped { Err(io::Error::from_raw_os_error(CANCELED)) } else { Ok(()) }
         }
 
-        /// Waits until there may be something to be received, or `wake` is readable, if it is no negative number; refused
-        /// where the wait is over.
-        pub(crate) fn wait(&self, wait: &Wait, wake: RawFd) -> io::Result<()> {
+        /// Waits until there may be something to be received, or the wait is to end; refused where it is over.
+        fn wait_until(&self, wait: &Wait) -> io::Result<()> {
+            let ends_by_signals = self.waits().ends_by_signals;
             loop {
                 self.want_unstopped()?;
                 let left = wait.left()?.map_or(-1, |it| c_int::try_from(it.as_millis() + 1).unwrap_or(c_int::MAX));
-                match ffi::wait([self.as_raw_fd(), self.stop.as_raw_fd(), wake], left) {
-                    Ok(true) => return self.want_unstopped(),
-                    Err(error) if error.kind() != ErrorKind::Interrupted || wait.ends_by_signals => return Err(error),
+                match ffi::wait([self.as_raw_fd(), self.stop.as_raw_fd(), self.wake.as_raw_fd()], left) {
+                    Ok(true) => {
+                        ffi::reset(self.wake.as_raw_fd());
+                        return self.want_unstopped();
+                    }
+                    Err(error) if error.kind() != ErrorKind::Interrupted || ends_by_signals => return Err(error),
                     _ => {}
                 }
             }
@@ -238,7 +246,7 @@ pub mod synchronous {
         /// The next datagram, whole, in place of what `room` held; and the groups that it came to. Refused as
         /// `Truncated` where it has more than a mebibyte; then it is lost, and the next one may be as long.
         pub fn recv_bytes(&self, room: &mut Vec<u8>) -> Result<Groups, SocketError> {
-            let wait = self.begin_wait();
+            let wait = Wait::begin(self.limit());
             loop {
                 let mut kept = self.room.lock().unwrap_or_else(PoisonError::into_inner);
                 if let Some((length, group)) = self.received_into(&mut kept)? {
@@ -247,26 +255,26 @@ pub mod synchronous {
                     return Ok(Groups::new_groups(&[group]));
                 }
                 drop(kept);
-                self.wait(&wait, -1)?;
+                self.wait_until(&wait)?;
             }
         }
 
         /// The next datagram, into these bytes, as its length, and the groups that it came to. Refused as `Truncated`
         /// where it is longer; then it is lost.
         pub fn recv_into(&self, room: &mut [u8]) -> Result<(usize, Groups), SocketError> {
-            let wait = self.begin_wait();
+            let wait = Wait::begin(self.limit());
             loop {
                 if let Some((length, group)) = self.received(room)? {
                     return Ok((length, Groups::new_groups(&[group])));
                 }
-                self.wait(&wait, -1)?;
+                self.wait_until(&wait)?;
             }
         }
 
         /// The datagram that is there, as its length and its group, in a room that is large enough but for the first
         /// that is longer than any before, and has more than `ROOM` bytes.
-        pub(crate) fn received_into(&self, room: &mut Vec<u8>) -> Result<Option<(usize, u32)>, SocketError> {
-            if room.is_empty() {
+        fn received_into(&self, room: &mut Vec<u8>) -> Result<Option<(usize, u32)>, SocketError> {
+            if room.len() < ROOM {
                 *room = vec![0; ROOM];
             }
             let received = self.received(room);
@@ -290,6 +298,64 @@ pub mod synchronous {
                     Err(error) => return Err(error.into()),
                 }
             }
+        }
+    }
+
+    impl Link for NlSocketHandle {
+        fn port(&self) -> u32 {
+            self.port
+        }
+
+        fn send(&self, datagram: &[u8]) -> Result<(), SocketError> {
+            self.send_bytes(datagram)
+        }
+
+        fn receive(&self, room: &mut Vec<u8>) -> Result<Option<Arrived>, SocketError> {
+            Ok(self.received_into(room)?.map(|(length, group)| Arrived { length, group }))
+        }
+
+        fn wait(&self, limit: Option<Duration>) -> Result<(), SocketError> {
+            Ok(self.wait_until(&Wait::begin(limit))?)
+        }
+
+        fn wake(&self) {
+            // A counter that holds no more is readable already.
+            let _written = ffi::signal(self.wake.as_raw_fd());
+        }
+
+        fn stop(&self) {
+            self.stop();
+        }
+
+        fn limit(&self) -> Option<Duration> {
+            self.waits().timeout
+        }
+
+        fn family(&self) -> NlFamily {
+            self.family
+        }
+
+        fn set_membership(&self, group: u32, is_member: bool) -> Result<(), SocketError> {
+            self.set_groups(if is_member { ADD_MEMBERSHIP } else { DROP_MEMBERSHIP }, &Groups::new_groups(&[group]))
+        }
+
+        fn memberships(&self) -> Result<NetlinkBitArray, SocketError> {
+            self.list_mcast_membership()
+        }
+
+        fn set_option(&self, option: LinkOption, enable: bool) -> Result<(), SocketError> {
+            Ok(ffi::set_netlink_option(self.as_raw_fd(), number_of(option), enable.into())?)
+        }
+
+        fn option(&self, option: LinkOption) -> Result<bool, SocketError> {
+            Ok(ffi::netlink_option(self.as_raw_fd(), number_of(option))? != 0)
+        }
+    }
+
+    fn number_of(option: LinkOption) -> c_int {
+        match option {
+            LinkOption::ExtAck => EXT_ACK,
+            LinkOption::StrictChecking => GET_STRICT_CHECK,
         }
     }
 

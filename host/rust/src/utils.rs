@@ -56,6 +56,17 @@ impl NetlinkBitArray {
         NetlinkBitArray(words)
     }
 
+    /// The groups of these numbers.
+    pub(crate) fn of_groups(groups: impl IntoIterator<Item = u32>) -> Self {
+        let mut words = Vec::new();
+        for bit in groups.into_iter().filter_map(|it| it.checked_sub(1)) {
+            let word = bit as usize / 32;
+            words.resize(words.len().max(word + 1), 0);
+            words[word] |= 1 << (bit % 32);
+        }
+        NetlinkBitArray(words)
+    }
+
     /// Whether a group is among them.
     pub fn is_set(&self, group: usize) -> bool {
         let Some(bit) = group.checked_sub(1) else { return false };

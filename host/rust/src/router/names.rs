@@ -5,12 +5,13 @@ use crate::consts::genl::{CtrlAttr, CtrlAttrMcastGrp, CtrlCmd};
 use crate::consts::nl::{GenlId, NlmF};
 use crate::err::{BuildError, RouterError};
 use crate::genl::{AttrTypeBuilder, GenlAttrHandle, Genlmsghdr, GenlmsghdrBuilder, NlattrBuilder};
+use crate::link::Link;
 use crate::nl::NlPayload;
 use crate::types::{Buffer, GenlBuffer};
 
 type Controller = Genlmsghdr<CtrlCmd, CtrlAttr>;
 
-impl NlRouter {
+impl<L: Link + 'static> NlRouter<L> {
     fn ask_controller(
         &self,
         flags: NlmF,

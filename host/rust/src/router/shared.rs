@@ -2,23 +2,23 @@
 
 use super::state::{State, Step};
 use crate::consts::nl::NlmF;
-use crate::err::RouterError;
-use crate::socket::synchronous::{NlSocketHandle, Wait};
-use std::io;
+use crate::err::{RouterError, SocketError};
+use crate::link::Link;
+use crate::socket::synchronous::Wait;
 use std::sync::{Arc, Condvar, Mutex, MutexGuard, PoisonError};
 
-/// One of the threads that wait watches the socket. Whoever is in a call receives what is there, under the lock, so
-/// that it is taken in in the order in which the socket gave it, and wakes those whom it is for.
+/// One of the threads that wait watches the link. Whoever is in a call receives what is there, under the lock, so that
+/// it is taken in in the order in which the link gave it, and wakes those whom it is for.
 #[derive(Debug)]
 pub(super) struct Shared {
-    pub(super) socket: NlSocketHandle,
+    link: Arc<dyn Link>,
     state: Mutex<State>,
 }
 
 impl Shared {
-    pub(super) fn over(socket: NlSocketHandle) -> Result<Self, RouterError> {
-        let state = Mutex::new(State::new(socket.pid())?);
-        Ok(Shared { socket, state })
+    pub(super) fn over(link: Arc<dyn Link>) -> Result<Self, RouterError> {
+        let state = Mutex::new(State::new(Arc::clone(&link))?);
+        Ok(Shared { link, state })
     }
 
     pub(super) fn state(&self) -> MutexGuard<'_, State> {
@@ -30,13 +30,13 @@ impl Shared {
     pub(super) fn send(&self, kind: u16, flags: NlmF, body: &[u8]) -> Result<(u32, usize), RouterError> {
         let is_dump = flags.contains(NlmF::DUMP);
         let mut state = self.state();
-        state.settle(&self.socket, is_dump)?;
+        state.settle(is_dump)?;
         let (bytes, number, handle) = state.request(kind, flags, body)?;
         let sent = if is_dump {
-            self.socket.send_bytes(&bytes)
+            self.link.send(&bytes)
         } else {
             drop(state);
-            let sent = self.socket.send_bytes(&bytes);
+            let sent = self.link.send(&bytes);
             state = self.state();
             sent
         };
@@ -52,7 +52,7 @@ impl Shared {
     /// Sends requests as one datagram: the number and the handle of each. Where one is refused, none is sent.
     pub(super) fn send_all(&self, requests: &[(u16, NlmF, Vec<u8>)]) -> Result<Vec<(u32, usize)>, RouterError> {
         let mut state = self.state();
-        state.settle(&self.socket, true)?;
+        state.settle(true)?;
         let (mut datagram, mut written) = (Vec::new(), Vec::new());
         let outcome = requests.iter().try_for_each(|(kind, flags, body)| {
             let (bytes, number, handle) = state.request(*kind, *flags, body)?;
@@ -61,7 +61,7 @@ impl Shared {
             Ok(())
         });
         let is_empty = datagram.is_empty();
-        match outcome.and_then(|()| if is_empty { Ok(()) } else { Ok(self.socket.send_bytes(&datagram)?) }) {
+        match outcome.and_then(|()| if is_empty { Ok(()) } else { Ok(self.link.send(&datagram)?) }) {
             Ok(()) => Ok(written),
             Err(error) => {
                 written.iter().rev().for_each(|(number, _)| state.take_back(*number));
@@ -73,7 +73,7 @@ impl Shared {
 
     /// The bytes of the next item of a handle, or none after the last. It waits until something comes.
     pub(super) fn next(&self, handle: usize, bell: &Arc<Condvar>) -> Result<Option<Vec<u8>>, RouterError> {
-        let wait = self.socket.begin_wait();
+        let wait = Wait::begin(self.link.limit());
         let mut state = self.state();
         let next = loop {
             match state.read(handle) {
@@ -83,7 +83,7 @@ impl Shared {
                 Step::Waits => {}
             }
             let waited;
-            match state.receive(&self.socket) {
+            match state.receive() {
                 Ok(true) => continue,
                 Ok(false) => (state, waited) = self.wait(state, handle, bell, &wait),
                 Err(error) => break Err(error),
@@ -96,26 +96,26 @@ impl Shared {
         next
     }
 
-    /// Waits until something has come for a handle, or at the socket; refused where the wait is over.
+    /// Waits until something has come for a handle, or at the link; refused where the wait is over.
     fn wait<'s>(
         &'s self,
         mut state: MutexGuard<'s, State>,
         handle: usize,
         bell: &Arc<Condvar>,
         wait: &Wait,
-    ) -> (MutexGuard<'s, State>, io::Result<()>) {
+    ) -> (MutexGuard<'s, State>, Result<(), SocketError>) {
+        let left = match wait.left() {
+            Ok(left) => left,
+            Err(error) => return (state, Err(error.into())),
+        };
         if state.watcher.is_none() {
-            let wake = state.begin_watch(handle);
+            state.watcher = Some(handle);
             drop(state);
-            let waited = self.socket.wait(wait, wake);
+            let waited = self.link.wait(left);
             state = self.state();
             state.end_watch();
             return (state, waited);
         }
-        let left = match wait.left() {
-            Ok(left) => left,
-            Err(error) => return (state, Err(error)),
-        };
         state.bells.insert(handle, Arc::clone(bell));
         state = match left {
             Some(left) => bell.wait_timeout(state, left).unwrap_or_else(PoisonError::into_inner).0,
@@ -127,10 +127,10 @@ impl Shared {
 
     /// Drops what comes to groups until nothing is there.
     pub(super) fn drop_multicast(&self) -> Result<(), RouterError> {
-        let wait = self.socket.begin_wait();
+        let wait = Wait::begin(self.link.limit());
         let mut state = self.state();
         loop {
-            let is_more = state.receive(&self.socket)?;
+            let is_more = state.receive()?;
             state.drop_multicast()?;
             if !is_more {
                 return Ok(());

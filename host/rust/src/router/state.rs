@@ -1,15 +1,14 @@
-//! What a router keeps: it takes in what the socket gives, and each handle reads its share.
+//! What a router keeps: it takes in what the link gives, and each handle reads its share.
 
 use super::ledger::{Ledger, Owners};
 use super::verdict::Verdict;
 use crate::consts::nl::NlmF;
 use crate::err::{RouterError, SocketError, refused};
 use crate::ffi;
-use crate::socket::synchronous::NlSocketHandle;
+use crate::link::{Arrived, Link};
 use std::collections::{HashMap, VecDeque};
 use std::io;
 use std::ops::Range;
-use std::os::fd::{AsRawFd, OwnedFd, RawFd};
 use std::sync::{Arc, Condvar};
 
 /// The handle of what comes to groups.
@@ -27,7 +26,7 @@ const CROWD: usize = 256;
 /// So many faults in a row, without end, are those of a socket that is gone.
 const FAULTS: u32 = 8;
 
-/// A fault of the socket, which can be told more than once.
+/// A fault of the link, which can be told more than once.
 #[derive(Clone, Copy, Debug)]
 pub(super) enum Fault {
     System(i32),
@@ -109,18 +108,17 @@ pub(super) enum Step {
 
 #[derive(Debug)]
 pub(super) struct State {
+    link: Arc<dyn Link>,
     router: ffi::Router,
     ledger: Ledger,
-    /// The handle whose reader waits at the socket, where one does.
+    /// The handle whose reader waits at the link, where one does; and whether it was woken.
     pub(super) watcher: Option<usize>,
-    /// What wakes that reader, where another one has received what is for it; and whether it is readable.
-    wake: OwnedFd,
     is_woken: bool,
     /// The bells of the others that wait, by their handles.
     pub(super) bells: HashMap<usize, Arc<Condvar>>,
     room: Vec<u8>,
     held: Option<Held>,
-    /// The fault of the socket that came last, and how many came in a row.
+    /// The fault of the link that came last, and how many came in a row.
     fault: Option<Fault>,
     faults: u32,
     /// What was lost of what comes to groups, as long as somebody reads that.
@@ -134,12 +132,13 @@ pub(super) struct State {
 }
 
 impl State {
-    pub(super) fn new(port: u32) -> Result<Self, RouterError> {
+    pub(super) fn new(link: Arc<dyn Link>) -> Result<Self, RouterError> {
+        let port = link.port();
         Ok(State {
+            link,
             router: ffi::Router::new(port).map_err(|_| RouterError::Memory)?,
             ledger: Ledger::new(port),
             watcher: None,
-            wake: ffi::event()?,
             is_woken: false,
             bells: HashMap::new(),
             room: Vec::new(),
@@ -215,11 +214,11 @@ impl State {
         self.unasked = None;
     }
 
-    /// Makes the socket ready for a request: before a dump, after a loss and where many requests were given up, it
+    /// Makes the link ready for a request: before a dump, after a loss and where many requests were given up, it
     /// takes in what is there, until no dump runs, what was given up has its answer, and nothing is dropped any more.
-    pub(super) fn settle(&mut self, socket: &NlSocketHandle, is_dump: bool) -> Result<(), RouterError> {
+    pub(super) fn settle(&mut self, is_dump: bool) -> Result<(), RouterError> {
         if is_dump || self.ledger.is_congested() || self.ledger.count() > CROWD {
-            while !self.ledger.is_settled() && self.faults < FAULTS && self.receive(socket)? {}
+            while !self.ledger.is_settled() && self.faults < FAULTS && self.receive()? {}
         }
         Ok(())
     }
@@ -235,7 +234,7 @@ impl State {
         }
     }
 
-    /// The fault that a socket gives without end which is gone.
+    /// The fault that a link gives without end which is gone.
     pub(super) fn last_fault(&self) -> Option<RouterError> {
         self.fault.filter(|_| self.faults >= FAULTS).map(Fault::error)
     }
@@ -243,10 +242,10 @@ impl State {
     // ---- What comes
 
     /// Receives what is there, hands it in, and wakes those whom it is for: whether something was there.
-    pub(super) fn receive(&mut self, socket: &NlSocketHandle) -> Result<bool, RouterError> {
+    pub(super) fn receive(&mut self) -> Result<bool, RouterError> {
         if self.held.is_none() {
-            self.held = match socket.received_into(&mut self.room) {
-                Ok(Some((length, group))) => {
+            self.held = match self.link.receive(&mut self.room) {
+                Ok(Some(Arrived { length, group })) => {
                     self.faults = 0;
                     let end = completed(&mut self.room, length);
                     Some(Held::Datagram { walk: ffi::Walk { place: 0, end }, group, is_half: false })
@@ -264,12 +263,12 @@ impl State {
                 Err(error) => return Err(error.into()),
             };
         }
-        self.hand_in(socket)?;
+        self.hand_in()?;
         Ok(true)
     }
 
     /// Hands in what is held. Where the library has no memory, the rest is held on.
-    fn hand_in(&mut self, socket: &NlSocketHandle) -> Result<(), RouterError> {
+    fn hand_in(&mut self) -> Result<(), RouterError> {
         while let Some(held) = self.held {
             match held {
                 Held::Fault(fault) => {
@@ -279,7 +278,7 @@ impl State {
                 }
                 Held::Datagram { walk, .. } if walk.place == walk.end => self.held = None,
                 Held::Datagram { walk, group, is_half } => {
-                    let run = self.next_run(walk, group, socket);
+                    let run = self.next_run(walk, group);
                     self.hand_in_run(&run, group, is_half)?;
                     let walk = ffi::Walk { place: run.bytes.end, end: walk.end };
                     self.held = Some(Held::Datagram { walk, group, is_half: false });
@@ -291,12 +290,12 @@ impl State {
     }
 
     /// The messages that come next and are for the same.
-    fn next_run(&self, walk: ffi::Walk, group: u32, socket: &NlSocketHandle) -> Run {
+    fn next_run(&self, walk: ffi::Walk, group: u32) -> Run {
         let mut run =
             Run { bytes: walk.place..walk.place, count: 0, owners: Owners::default(), is_fault: false, ended: None };
         let mut next = walk;
         let mut message = ffi::Message::default();
-        let is_joined = || socket.list_mcast_membership().is_ok_and(|it| it.is_set(group as usize));
+        let is_joined = || self.link.memberships().is_ok_and(|it| it.is_set(group as usize));
         while next.place < next.end && run.ended.is_none() {
             let is_message = ffi::next_message(&self.room, &mut next, &mut message) == ffi::ITEM;
             if !is_message {
@@ -395,26 +394,17 @@ impl State {
 
     fn wake_watcher(&mut self) {
         if !std::mem::replace(&mut self.is_woken, true) {
-            // The counter is not readable, so there is room in it.
-            let _written = ffi::signal(self.wake.as_raw_fd());
+            self.link.wake();
         }
     }
 
-    /// The reader of this handle waits at the socket from now on: what wakes it.
-    pub(super) fn begin_watch(&mut self, handle: usize) -> RawFd {
-        self.watcher = Some(handle);
-        self.wake.as_raw_fd()
-    }
-
-    /// It does so no longer.
+    /// Nobody waits at the link any more.
     pub(super) fn end_watch(&mut self) {
         self.watcher = None;
-        if std::mem::take(&mut self.is_woken) {
-            ffi::reset(self.wake.as_raw_fd());
-        }
+        self.is_woken = false;
     }
 
-    /// One who leaves has another one watch the socket, where nobody does.
+    /// One who leaves has another one watch the link, where nobody does.
     pub(super) fn pass_on_watch(&self) {
         if let (None, Some(bell)) = (self.watcher, self.bells.values().next()) {
             bell.notify_one();

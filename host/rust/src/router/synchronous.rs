@@ -10,7 +10,8 @@ use super::state::{MULTICAST, UNASKED};
 pub use super::verdict::{Dump, Loss, Verdict};
 use crate::consts::nl::NlmF;
 use crate::consts::socket::NlFamily;
-use crate::err::{RouterError, SocketError};
+use crate::err::RouterError;
+use crate::link::{Link, LinkOption};
 use crate::nl::{NlPayload, NlType, Nlmsghdr};
 use crate::socket::synchronous::{NlSocketHandle, is_end_of_wait, is_stop};
 use crate::types::Buffer;
@@ -19,10 +20,18 @@ use crate::{FromBytes, ToBytes};
 use std::marker::PhantomData;
 use std::sync::{Arc, Condvar};
 
-/// A router over a socket of its own. Handles can outlive it.
-#[derive(Clone, Debug)]
-pub struct NlRouter {
+/// A router over a link of its own, which is a socket where nothing else is said. Handles can outlive it.
+#[derive(Debug)]
+pub struct NlRouter<L = NlSocketHandle> {
     shared: Arc<Shared>,
+    link: Arc<L>,
+}
+
+/// The same router.
+impl<L> Clone for NlRouter<L> {
+    fn clone(&self) -> Self {
+        NlRouter { shared: Arc::clone(&self.shared), link: Arc::clone(&self.link) }
+    }
 }
 
 impl NlRouter {
@@ -35,56 +44,100 @@ impl NlRouter {
         Self::over(NlSocketHandle::connect(family, port, groups)?)
     }
 
-    /// A router over a socket, which nobody else receives from, and the handle of what comes to its groups.
-    pub fn over(socket: NlSocketHandle) -> Result<(Self, NlRouterReceiverHandle<u16, Buffer>), RouterError> {
-        let router = NlRouter { shared: Arc::new(Shared::over(socket)?) };
+    /// The socket.
+    pub fn socket(&self) -> &NlSocketHandle {
+        &self.link
+    }
+}
+
+impl<L: Link + 'static> NlRouter<L> {
+    /// A router over a link, which nobody else receives from, and the handle of what comes to its groups.
+    ///
+    /// The link is a socket, a [`Recorder`](crate::recording::Recorder), a
+    /// [`Recording`](crate::recording::Recording), or one of the caller's own. A client that takes any of them takes
+    /// `&NlRouter<impl Link>`:
+    ///
+    /// ```
+    /// use neli::consts::nl::NlmF;
+    /// use neli::consts::rtnl::{Ifa, RtAddrFamily, RtScope, Rtm};
+    /// use neli::consts::socket::NlFamily;
+    /// use neli::link::Link;
+    /// use neli::nl::NlPayload;
+    /// use neli::recording::Recording;
+    /// use neli::router::synchronous::NlRouter;
+    /// use neli::rtnl::{Ifaddrmsg, IfaddrmsgBuilder};
+    ///
+    /// fn labels(router: &NlRouter<impl Link + 'static>) -> Result<Vec<String>, Box<dyn std::error::Error>> {
+    ///     let all = IfaddrmsgBuilder::default()
+    ///         .ifa_family(RtAddrFamily::Inet)
+    ///         .ifa_prefixlen(0)
+    ///         .ifa_scope(RtScope::Universe)
+    ///         .ifa_index(0)
+    ///         .build()?;
+    ///     let dump = router.dump::<_, _, Rtm, Ifaddrmsg>(Rtm::Getaddr, NlmF::empty(), NlPayload::Payload(all), 1)?;
+    ///     let bodies = dump.messages.iter().filter_map(|it| it.get_payload());
+    ///     let label = |it: &Ifaddrmsg| it.rtattrs().get_attr_handle().get_attr_payload_as_with_len(Ifa::Label);
+    ///     Ok(bodies.map(label).collect::<Result<_, _>>()?)
+    /// }
+    ///
+    /// # fn main() -> Result<(), Box<dyn std::error::Error>> {
+    /// let file = include_bytes!("../../tests/recordings/addresses.pcap");
+    /// let (router, _multicast) = NlRouter::over(Recording::from_pcap(file, NlFamily::Route)?)?;
+    /// assert_eq!(labels(&router)?, ["lo", "veth0", "veth0:x", "veth2", "veth2", "br0"]);
+    /// # Ok(())
+    /// # }
+    /// ```
+    pub fn over(link: L) -> Result<(Self, NlRouterReceiverHandle<u16, Buffer>), RouterError> {
+        let link = Arc::new(link);
+        let shared = Shared::over(Arc::clone(&link) as Arc<dyn Link>)?;
+        let router = NlRouter { shared: Arc::new(shared), link };
         let multicast = NlRouterReceiverHandle::new(&router.shared, MULTICAST, Of::Groups);
         Ok((router, multicast))
     }
 
-    /// The socket.
-    pub fn socket(&self) -> &NlSocketHandle {
-        &self.shared.socket
+    /// The link.
+    pub fn link(&self) -> &L {
+        &self.link
     }
 
-    /// The port of its socket.
+    /// The port of its link.
     pub fn pid(&self) -> u32 {
-        self.socket().pid()
+        self.link.port()
     }
 
-    /// Joins these groups.
+    /// Joins these groups. Where one is refused, those before it are joined.
     pub fn add_mcast_membership(&self, groups: Groups) -> Result<(), RouterError> {
-        Ok(self.socket().add_mcast_membership(groups)?)
+        Ok(groups.as_groups().iter().try_for_each(|it| self.link.set_membership(*it, true))?)
     }
 
     /// Leaves these groups.
     pub fn drop_mcast_membership(&self, groups: Groups) -> Result<(), RouterError> {
-        Ok(self.socket().drop_mcast_membership(groups)?)
+        Ok(groups.as_groups().iter().try_for_each(|it| self.link.set_membership(*it, false))?)
     }
 
-    /// The groups that the socket is in.
+    /// The groups that the link is in.
     pub fn list_mcast_membership(&self) -> Result<NetlinkBitArray, RouterError> {
-        Ok(self.socket().list_mcast_membership()?)
+        Ok(self.link.memberships()?)
     }
 
     /// Whether the kernel is to say in words why it refuses, and where. It is on at first.
     pub fn enable_ext_ack(&self, enable: bool) -> Result<(), RouterError> {
-        Ok(self.socket().enable_ext_ack(enable)?)
+        Ok(self.link.set_option(LinkOption::ExtAck, enable)?)
     }
 
     /// Whether the kernel says so.
     pub fn get_ext_ack_enabled(&self) -> Result<bool, RouterError> {
-        Ok(self.socket().get_ext_ack_enabled()?)
+        Ok(self.link.option(LinkOption::ExtAck)?)
     }
 
     /// Whether the kernel is to refuse a dump's request with fields that it does not use.
     pub fn enable_strict_checking(&self, enable: bool) -> Result<(), RouterError> {
-        Ok(self.socket().enable_strict_checking(enable)?)
+        Ok(self.link.set_option(LinkOption::StrictChecking, enable)?)
     }
 
     /// Whether the kernel does so.
     pub fn get_strict_checking_enabled(&self) -> Result<bool, RouterError> {
-        Ok(self.socket().get_strict_checking_enabled()?)
+        Ok(self.link.option(LinkOption::StrictChecking)?)
     }
 
     /// Sets the sequence number of the next request. The first is 0.
@@ -95,7 +148,7 @@ impl NlRouter {
     /// Ends every wait at a handle that is under way, and each later one, with the system's `ECANCELED`; after it the
     /// handle ends. What is there can be read all the same.
     pub fn stop(&self) {
-        self.socket().stop();
+        self.link.stop();
     }
 
     /// Sends a request, and gives the handle of its replies.
@@ -223,7 +276,7 @@ impl<T, P> NlRouterReceiverHandle<T, P> {
             Ok(Some(bytes)) => bytes,
             Ok(None) => return None,
             Err(error) => {
-                self.is_stopped = matches!(&error, RouterError::Socket(SocketError::Io(it)) if is_stop(it));
+                self.is_stopped = matches!(&error, RouterError::Socket(it) if is_stop(it));
                 return Some(Err(error));
             }
         };
@@ -344,7 +397,7 @@ where
 /// Whether an error says nothing of an answer, which may go on.
 fn is_unended(error: &RouterError) -> bool {
     match error {
-        RouterError::Socket(SocketError::Io(error)) => is_end_of_wait(error),
+        RouterError::Socket(error) => is_end_of_wait(error),
         error => matches!(error, RouterError::Memory),
     }
 }
