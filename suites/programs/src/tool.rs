@@ -1,5 +1,4 @@
-//! Tests of the program's crates: of `neli_listing` and `neli_tool_run`, which list datagrams and write them again, and
-//! of `neli_replay`, which answers scripts.
+//! Tests of `neli_program`, which lists datagrams, writes them again and runs scripts.
 //!
 //! The recorded datagrams are of Linux 6.18 on x86-64; their numbers are those of docs/RECORDINGS.md.
 //! RFC 3549 section 2.3.2 and `struct nlmsghdr` of linux/netlink.h give the layout of the datagrams; the

@@ -6,10 +6,10 @@ use super::support::{assert_is_at, assert_prints, decoded};
 use neli::err::SocketError;
 use neli::iter::NlBufferIter;
 use neli::types::Buffer;
-use neli_listing::line::Ending;
-use neli_listing::listing::{fault_ending, list};
-use neli_listing::rewriting::list_zero;
-use neli_listing::status::Status;
+use neli_program::line::Ending;
+use neli_program::listing::{fault_ending, list};
+use neli_program::rewriting::list_zero;
+use neli_program::status::Status;
 use std::alloc::Global;
 use std::process::Abort;
 

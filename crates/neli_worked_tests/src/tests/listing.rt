@@ -1,8 +1,8 @@
 //! Datagrams, and the lines that are listed of each.
 
 use super::support::{assert_is_at, decoded};
-use neli_listing::listing::list;
-use neli_listing::status::Status;
+use neli_program::listing::list;
+use neli_program::status::Status;
 use std::alloc::Global;
 use std::process::Abort;
 

@@ -4,8 +4,8 @@ use super::listing::{ERROR, ONE};
 use super::support::{assert_is_at, assert_written, decoded};
 use neli::iter::cut;
 use neli::types::Buffer;
-use neli_listing::rewriting::list_zero;
-use neli_listing::status::Status;
+use neli_program::rewriting::list_zero;
+use neli_program::status::Status;
 use std::alloc::Global;
 use std::process::Abort;
 

@@ -2,9 +2,9 @@
 
 use super::readers::{Drip, Trickle};
 use super::support::{assert_is, assert_is_at};
-use neli_listing::input::{InputError, read_whole};
-use neli_listing::listing::list;
-use neli_listing::status::Status;
+use neli_program::input::{InputError, read_whole};
+use neli_program::listing::list;
+use neli_program::status::Status;
 use std::alloc::{AllocError, Global};
 use std::io;
 use std::io::{ErrorKind, Read};

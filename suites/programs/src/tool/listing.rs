@@ -2,9 +2,9 @@
 
 use super::support::{assert_is, assert_is_at, assert_prints, decoded};
 use neli_lent::LentMessages;
-use neli_listing::line::{Ending, Line, RawMessage};
-use neli_listing::listing::{list, read_line, write_ending, write_lines};
-use neli_listing::status::Status;
+use neli_program::line::{Ending, Line, RawMessage};
+use neli_program::listing::{list, read_line, write_ending, write_lines};
+use neli_program::status::Status;
 use neli_reader::NlBufferIter;
 use neli_wire::Cursor;
 use std::alloc::Global;

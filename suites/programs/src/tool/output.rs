@@ -2,8 +2,8 @@
 
 use super::support::{assert_is_at, decoded};
 use super::writers::Narrow;
-use neli_listing::listing::{list, out_of_memory};
-use neli_listing::status::Status;
+use neli_program::listing::{list, out_of_memory};
+use neli_program::status::Status;
 
 #[test]
 fn a_listing_that_is_not_written_is_no_output(rt: HostRuntime) {

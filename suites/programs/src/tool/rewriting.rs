@@ -1,10 +1,10 @@
 //! Datagrams that are written again, with zeros for their padding.
 
 use super::support::{assert_is_at, decoded};
-use neli_listing::line::Ending;
-use neli_listing::listing::list;
-use neli_listing::rewriting::{list_zero, rewriting_of};
-use neli_listing::status::Status;
+use neli_program::line::Ending;
+use neli_program::listing::list;
+use neli_program::rewriting::{list_zero, rewriting_of};
+use neli_program::status::Status;
 use std::alloc::Global;
 use std::process::Abort;
 

@@ -1,10 +1,10 @@
 //! What the tests of scripts share: a script, answered over both stores of deliveries.
 
 use super::support::assert_is_at;
-use neli_listing::status::Status;
+use neli_program::status::Status;
 use neli_log::Log;
 use neli_queues::Queues;
-use neli_replay::replay::replay;
+use neli_program::replay::replay;
 use neli_runs::Deliveries;
 use std::alloc::Global;
 use std::process::Abort;

@@ -1,6 +1,0 @@
-pub mod Listings
-pub mod PlainBodies
-pub mod Rewritings
-pub mod Runs
-pub mod Streams
-pub mod Texts

@@ -1,0 +1,12 @@
+pub mod Asked
+pub mod BadLines
+pub mod Hex
+pub mod Listings
+pub mod Numerals
+pub mod PlainBodies
+pub mod Reports
+pub mod Rewritings
+pub mod Runs
+pub mod Scripts
+pub mod Streams
+pub mod Texts

@@ -1,0 +1,10 @@
+pub mod Inputs
+pub mod Lines
+pub mod Listing
+pub mod Replays
+pub mod Report
+pub mod Requests
+pub mod Rewriting
+pub mod Runs
+pub mod Script
+pub mod Words

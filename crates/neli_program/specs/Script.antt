@@ -1,0 +1,165 @@
+-- Scripts: their lines, and what each says.
+use Rattle.std.specs.Prelude.{◌≡◌, ◌≢◌, ⊤, ℕ, ◌+◌, Bool, true, false, ◌==◌, if◌then◌else◌, bit_and, List, [], ◌∷◌, codes}
+use Rattle.std.specs.Prelude.{IsSome, ◌<◌, length, take, Option, Some, None, Result, Ok, Err}
+use Rattle.std.specs.List.{AllZip, flat_map, slice_split}
+use Rattle.std.specs.Option.{option_map, option_to_list}
+use Rattle.std.specs.Str.{bytes_eq}
+use Rattle.std.specs.declared.io.ErrorKind.{ErrorKind}
+use Rattle.std.specs.declared.io.ErrorKind.TheVariants.{WouldBlock, ConnectionReset, Other}
+use Rattle.bitflags.specs.Sets.{known_bits}
+use Rattle.neli_consts.specs.NlmF.{nlm_f_names}
+use Rattle.neli_consts.specs.declared.nlm_f.NlmF.{NlmF}
+use Rattle.neli_util.specs.Masks.{groups_of}
+use Rattle.neli_reader.specs.Headers.{flags_of}
+use Rattle.neli_reader.specs.NlPayload.TheVariants as payload
+use Rattle.neli_reader.specs.SocketError.TheVariants as socket
+use Rattle.neli_runs.specs.declared.command.Command.{Command}
+use Rattle.neli_runs.specs.declared.command.Command.TheVariants as command
+use Rattle.neli_program.specs.declared.entry.Entry.{Entry}
+use Rattle.neli_program.specs.declared.entry.Entry.TheVariants.{Port, Number, Request, Datagram, Fault, Read, Close}
+use Rattle.neli_program.specs.declared.script.ScriptError.{ScriptError}
+use Rattle.neli_program.specs.declared.script.ScriptError.TheVariants as script
+use Rattle.neli_program.specs.Words.{bytes_of, bytes_take_memory, number}
+
+-- ---- lines and words
+
+-- the lines of a text: what stands between its line feeds
+abbrev pub lines_in : List ℕ → List (List ℕ)
+lines_in text = slice_split (λ b. b == 10) text
+
+-- the words of a line: what stands between its spaces
+abbrev pub words_in : List ℕ → List (List ℕ)
+words_in line = slice_split (λ b. b == 32) line
+
+-- ---- what the words of a line say
+
+-- the fault of the link that has this name
+abbrev pub fault_named : List ℕ → Option ErrorKind
+fault_named name =
+    if bytes_eq name (codes "wouldblock") then Some WouldBlock
+    else (if bytes_eq name (codes "reset") then Some ConnectionReset
+    else (if bytes_eq name (codes "other") then Some Other else None))
+
+-- a word with one argument
+abbrev pub short_entry : List ℕ → List ℕ → Option Entry
+short_entry word argument =
+    if bytes_eq word (codes "pid") then option_map Port (number 32 argument)
+    else (if bytes_eq word (codes "seq") then option_map Number (number 32 argument)
+    else (if bytes_eq word (codes "fault") then option_map Fault (fault_named argument)
+    else (if bytes_eq word (codes "read") then option_map Read (number 64 argument)
+    else (if bytes_eq word (codes "close") then option_map Close (number 64 argument) else None))))
+
+-- a datagram; None where a word of it is bad
+abbrev pub datagram : Option ℕ → Option (List ℕ) → Option Entry
+datagram (Some mask) (Some bytes) = Some (Datagram mask bytes)
+datagram mask bytes = None
+
+-- a request; None where a word of it is bad
+abbrev pub request : Option ℕ → Option ℕ → Option (List ℕ) → Option Entry
+request (Some message_type) (Some flags) (Some bytes) = Some (Request message_type flags bytes)
+request message_type flags bytes = None
+
+-- what these words say; None where they are bad
+abbrev pub entry_in : List (List ℕ) → Option Entry
+entry_in (word ∷ argument ∷ []) = short_entry word argument
+entry_in (word ∷ mask ∷ bytes ∷ []) =
+    if bytes_eq word (codes "data") then datagram (number 32 mask) (bytes_of bytes) else None
+entry_in (word ∷ message_type ∷ flags ∷ bytes ∷ []) =
+    if bytes_eq word (codes "send")
+    then request (number 16 message_type) (number 16 flags) (bytes_of bytes) else None
+entry_in words = None
+
+-- where reading what they say takes memory: for the bytes of a datagram or a request of which the numbers are good
+abbrev pub entry_takes_memory : List (List ℕ) → Type 0
+entry_takes_memory (word ∷ mask ∷ bytes ∷ []) =
+    (bytes_eq word (codes "data") ≡ true) × IsSome (number 32 mask) × bytes_take_memory bytes
+entry_takes_memory (word ∷ message_type ∷ flags ∷ bytes ∷ []) =
+    (bytes_eq word (codes "send") ≡ true) × IsSome (number 16 message_type) × IsSome (number 16 flags)
+    × bytes_take_memory bytes
+entry_takes_memory words = ⊥
+
+-- ---- what a script says
+
+-- the port is set on the first line that isn't empty, or not at all
+abbrev pub entry_if : Bool → Option Entry → Option Entry
+entry_if true said = said
+entry_if false (Some (Port n)) = None
+entry_if false said = said
+
+-- what line k says stands before what the others say; or the number of the first bad one
+abbrev pub with_line : ℕ → Option Entry → Result (List Entry) ℕ → Result (List Entry) ℕ
+with_line k None later = Err k
+with_line k (Some entry) (Ok entries) = Ok (entry ∷ entries)
+with_line k (Some entry) (Err j) = Err j
+
+-- what these lines say, counted from k on; or the number of the first bad one. An empty line says
+-- nothing.
+abbrev pub entries_from : Bool → ℕ → List (List ℕ) → Result (List Entry) ℕ
+entries_from first k [] = Ok []
+entries_from first k ([] ∷ lines) = entries_from first (k + 1) lines
+entries_from first k ((b ∷ line) ∷ lines) =
+    with_line k (entry_if first (entry_in (words_in (b ∷ line)))) (entries_from false (k + 1) lines)
+
+-- what a script says, or the number of its first bad line
+abbrev pub entries_of : List ℕ → Result (List Entry) ℕ
+entries_of text = entries_from true 1 (lines_in text)
+
+-- these lines are good: each that isn't empty says something. Where `first`, the first such line may set
+-- the port.
+abbrev pub AreGood : Bool → List (List ℕ) → Type 0
+AreGood first [] = ⊤
+AreGood first ([] ∷ lines) = AreGood first lines
+AreGood first ((b ∷ line) ∷ lines) =
+    IsSome (entry_if first (entry_in (words_in (b ∷ line)))) × AreGood false lines
+
+-- line k is the first bad one: those before it are good, and with it they are not
+abbrev pub IsFirstBad : List (List ℕ) → ℕ → Type 0
+IsFirstBad lines k =
+    (before : ℕ) × (k ≡ before + 1) × (before < length lines)
+    × AreGood true (take before lines) × (¬ AreGood true (take k lines))
+
+-- ---- what that means to a router
+
+-- its port: what the script's first line sets, or 0
+abbrev pub port_of : List Entry → ℕ
+port_of (Port n ∷ entries) = n
+port_of entries = 0
+
+-- the flags of a number: those of its bits that have a name
+abbrev pub named_flags : ℕ → NlmF
+named_flags bits = flags_of (bit_and bits (known_bits nlm_f_names))
+
+-- what a router is told by an entry: a command, but nothing by a port
+abbrev pub IsTold : Entry → Option (Command ℕ (List ℕ)) → Type 0
+IsTold (Port n) told = told ≡ None
+IsTold (Number n) told = told ≡ Some (command.SetNextSeq n)
+IsTold (Request message_type flags bytes) told =
+    told ≡ Some (command.Send message_type (named_flags flags) (payload.Payload bytes))
+IsTold (Datagram mask bytes) (Some (command.Datagram came groups)) =
+    (came.items ≡ bytes) × (groups ≡ groups_of mask)
+IsTold (Datagram mask bytes) told = ⊥
+IsTold (Fault kind) told = told ≡ Some (command.Fault (socket.Io kind))
+IsTold (Read handle) told = told ≡ Some (command.Read handle)
+IsTold (Close handle) told = told ≡ Some (command.Close handle)
+
+-- where telling an entry takes memory: for the groups of a datagram
+abbrev pub telling_takes_memory : Entry → Type 0
+telling_takes_memory (Datagram mask bytes) = mask ≢ 0
+telling_takes_memory entry = ⊥
+
+-- the commands are those that the entries tell, in order
+abbrev pub AreCommands : List Entry → List (Command ℕ (List ℕ)) → Type 0
+AreCommands entries commands =
+    (told : List (Option (Command ℕ (List ℕ)))) × AllZip IsTold entries told
+    × (commands ≡ flat_map option_to_list told)
+
+-- a script with no bad line says this port and these commands
+abbrev pub IsScript : List ℕ → ℕ → List (Command ℕ (List ℕ)) → Type 0
+IsScript text port commands =
+    (entries : List Entry) × (entries_of text ≡ Ok entries)
+    × (port ≡ port_of entries) × AreCommands entries commands
+
+-- this is the number of the first bad line, or memory ran out
+abbrev pub BadLineOf : List ℕ → ScriptError → Type 0
+BadLineOf text (script.BadLine k) = entries_of text ≡ Err k
+BadLineOf text script.Memory = ⊤

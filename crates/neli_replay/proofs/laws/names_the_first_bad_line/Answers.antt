@@ -1,5 +1,0 @@
-use Rattle.neli_replay.proofs.BadLines.{first_bad}
-use Rattle.neli_replay.proofs.laws.names_the_first_bad_line.Goals as goal
-
-pub returns : goal.returns
-returns c = first_bad
