@@ -131,7 +131,7 @@ module _ {K P : Type 0} (number_of : K → ℕ) (numbered : Bool) where
       rw (first_append ends_alone items more (suc i) h, single_append items more (suc i) h) refl in
       lt_min _ _ _ ∙ (both ∙ sym (lt_min _ _ _))
 
-  -- if they have not ended before an item: whether they end at it
+  -- not ended before an item: whether they end at it
   pub last_step : (needs : Bool) (items : List (Item K P)) (i : ℕ) (item : Item K P) → slice_get items i ≡ Some item
       → nat_lt (last_place number_of needs numbered items) i ≡ false
       → nat_lt (last_place number_of needs numbered items) (suc i)
@@ -209,7 +209,7 @@ module _ {K P : Type 0} (number_of : K → ℕ) (numbered : Bool) where
         → answer number_of needs numbered (items ++ more) i ≡ reply.Item x
     answer_grows items more i x g = answer_front items more i x (slice_get items i) refl g
 
-    -- past the last place the answer is the end, with or without an item there
+    -- past the last place is the end, with or without an item there
     end_past : (items : List (Item K P)) (i : ℕ) (at : Option (Item K P))
         → nat_lt (last_place number_of needs numbered items) i ≡ true
         → nat_lt (last_place number_of needs numbered items) (length items) ≡ true

@@ -1,4 +1,4 @@
--- The state of an answer, one delivery more at a time.
+-- How an answer stands, one delivery more at a time.
 use Rattle.std.proofs.Common.{ℕ, zero, suc, ◌≡◌, ◌≢◌, ◌≤◌, ◌<◌, ◌+◌, ◌-◌, Bool, true, false, ◌||◌, min, List, [], ◌∷◌, ◌++◌}
 use Rattle.std.proofs.Common.{length, take, drop, Option, Some, None, Ok, Err, refl, sym, ap, ◌∙◌, inl, inr, ◌⊎◌, arith}
 use Rattle.std.proofs.Common.{length-append, pos, ℤ, subst, Result}
@@ -70,12 +70,12 @@ module _ {K P : Type 0} (number_of : K → ℕ) (needs numbered : Bool) where
   abbrev end_of : List (Item K P) → ℕ
   end_of items = last_place number_of needs numbered items
 
-  -- if the answers have not ended, no item is at the last place yet
+  -- where the answers have not ended, nothing is given at the last place yet
   none_last : (items : List (Item K P)) → nat_lt (end_of items) (length items) ≡ false
       → slice_get items (end_of items) ≡ None
   none_last items goes = slice_get_past items (end_of items) (least (length items) (end_of items) goes)
 
-  -- and all items are returned as they are
+  -- and all items are given as they are
   given_open : (items : List (Item K P)) → nat_lt (end_of items) (length items) ≡ false
       → given_of number_of needs numbered items ≡ items
   given_open items goes = rw (none_last items goes) (rw
@@ -162,7 +162,7 @@ module _ {K P : Type 0} (number_of : K → ℕ) (needs numbered : Bool) where
       | inr e ↦ rw (e, given_open items goes) (given_open all (goes_on e))
     ]
 
-  -- ---- later deliveries
+  -- ---- what comes later
 
   module _ (items more : List (Item K P)) (over : nat_lt (end_of items) (length items) ≡ true) where
     inside : suc (end_of items) ≤ length items
@@ -206,7 +206,7 @@ module _ {K P : Type 0} (number_of : K → ℕ) (needs numbered : Bool) where
     pub verdict_over : verdict number_of needs numbered (items ++ more) ≡ verdict number_of needs numbered items
     verdict_over = rw (given_stays, last_stays) refl
 
-  -- a mark once returned stays
+  -- a mark that was given stays
   marked_stays : (items more : List (Item K P)) → nat_lt (end_of items) (length items) ≡ false
       → list_any (is_flagged 16) items ≡ true
       → verdict number_of needs numbered (items ++ more) ≡ stands.Interrupted
@@ -229,7 +229,7 @@ module _ {K P : Type 0} (number_of : K → ℕ) (needs numbered : Bool) where
       marked_stays items more goes is ∙ sym (verdict_open items goes ∙ rw is refl)
   marked_kept items more false goes is not = absurd (not (verdict_open items goes ∙ rw is refl))
 
-  -- so every verdict but pending stays
+  -- so a verdict but pending stays
   pub verdict_stays : (items more : List (Item K P)) → verdict number_of needs numbered items ≢ stands.Pending
       → verdict number_of needs numbered (items ++ more) ≡ verdict number_of needs numbered items
   verdict_stays items more not = elim (true_or_false (nat_lt (end_of items) (length items))) [
@@ -237,7 +237,7 @@ module _ {K P : Type 0} (number_of : K → ℕ) (needs numbered : Bool) where
     | inr goes ↦ marked_kept items more (list_any (is_flagged 16) items) goes refl not
   ]
 
--- ---- complete answers
+-- ---- what is complete
 
 fault_lost : (e : SocketError) → fault_verdict e ≡ stands.Complete → ⊥
 fault_lost (socket.Msg m) h = cc
@@ -292,7 +292,7 @@ module _ {K P : Type 0} where
   payload_whole needs true m payload.Empty h = cc
   payload_whole needs false m payload.Empty h = refl
 
-  -- the last item of a complete answer is the message that arrived
+  -- the last item of a complete answer is the message that came
   whole_last : (needs gave : Bool) (x : Item K P) → last_verdict (last_item needs gave x) ≡ stands.Complete
       → (m : Nlmsghdr K P) × (x ≡ Ok m) × (last_item needs gave x ≡ Ok m) × (end_code m.payload ≡ pos 0)
   whole_last needs gave (Err e) h = absurd (error_lost e h)
@@ -369,7 +369,7 @@ module _ {K P V : Type 0} (type_of : ℕ → K) (number_of : K → ℕ) (view : 
     abbrev single : Bool
     single = nat_lt (single_place number_of numbered items) last
 
-    -- none is marked, and the item at the last place is complete
+    -- none is marked, and what stands at the last place is complete
     parts : (b : Bool) (o : Option (Item K P)) → list_any (is_flagged 16) (given_of number_of needs numbered items) ≡ b
         → slice_get items last ≡ o
         → (if b then stands.Interrupted else verdict_at_end number_of needs numbered (last_given number_of needs numbered items o))
