@@ -86,7 +86,7 @@ module _ {ST SP RT RP : Type 0} (port : ℕ) where
 
 -- ---- its reads
 
--- an error of the peer and an acknowledgement are returned as errors
+-- an error of the other side and an acknowledgement are returned as errors
 answer-err : {K P : Type 0} (m : Nlmsghdr K P) (p : NlPayload K P) → is_answer p ≡ true
     → is_err (last_item_of_payload false false m p) ≡ true
 answer-err m (payload.Ack e) is = refl

@@ -12,7 +12,7 @@ abbrev pub is_acknowledgement : {K P : Type 0} → NlPayload K P → Bool
 is_acknowledgement (payload.Ack e) = true
 is_acknowledgement p = false
 
--- an error of the peer
+-- an error of the other side
 abbrev pub IsError : Untyped → Type 0
 IsError u = (is_answer u.1 ≡ true) × (is_acknowledgement u.1 ≡ false)
 

@@ -78,8 +78,8 @@ module _ {ST SP RT RP : Type 0} where
   abbrev pub own_handle : Exchange ST SP RT RP → ℕ
   own_handle x = handle_after x.before
 
-  -- the peer's answer has the request's number, its handle was not closed, and of the datagrams that arrived since,
-  -- these are the ones with a message of that number; the others answer other requests
+  -- the other side's answer has the request's number, its handle was not closed, and of the datagrams that arrived
+  -- since, these are the ones with a message of that number; the others answer other requests
   pub record IsServed (x : Exchange ST SP RT RP) (asked : Request) (datagrams : List (List ℕ)) : Type 0 where
     pub number_is : asked.header.sequence_number ≡ own_number x
     pub stays_open : is_closed (own_handle x) (history_of x) ≡ false

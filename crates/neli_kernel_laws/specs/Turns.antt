@@ -20,7 +20,7 @@ is_err (Err e) = true
 
 -- the reading of each message
 module _ {U K P : Type 0} (IsRead : U → Item K P → Type 0) where
-  -- the item of a message: its reading, or an error of the peer as an error
+  -- the item of a message: its reading, or an error of the other side as an error
   abbrev pub IsGiven : U → Item K P → Type 0
   IsGiven u item = (x : Item K P) × IsRead u x × (item ≡ last_item true false x)
 
@@ -41,7 +41,7 @@ module _ {U K P : Type 0} (IsRead : U → Item K P → Type 0) where
 
   -- ---- the handle for multicast, which expects no answer
 
-  -- its item of a message: the reading, or an error of the peer or an acknowledgement as an error
+  -- its item of a message: the reading, or an error of the other side or an acknowledgement as an error
   abbrev pub IsHeard : U → Item K P → Type 0
   IsHeard u item = (x : Item K P) × IsRead u x × (item ≡ last_item false false x)
 

@@ -226,8 +226,8 @@ pub fn verdicts_stay<RT: NlType, RP>()
         ≡ verdict RT.wire_number needs numbered items }
 {}
 
-/// If the verdict is `Complete`, the reads returned all messages of the answer, each once, in order and as it was read,
-/// none of them marked as interrupted, and the end had code 0.
+/// Where the verdict is `Complete`, the items given are all messages of the answer, each once, in order and as it was
+/// read, none of them marked as interrupted, and the end came with code 0.
 pub fn complete_answers_are_whole<RT, RP>()
 where
     RT: NlType,
