@@ -15,7 +15,7 @@ pub(crate) fn needs_acknowledgement(flags: NlmF) -> bool
     flags.contains(NlmF::ACK) && !flags.contains(NlmF::DUMP)
 }
 
-/// Whether nothing follows an item, whatever was requested.
+/// Whether nothing follows an item, whatever was asked for.
 fn ends_alone<T, P>(item: &Result<Nlmsghdr<T, P>, RouterError<T, P>>) -> bool
     ensures { result ≡ ends_alone item.now }
 {

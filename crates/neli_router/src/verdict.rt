@@ -18,7 +18,7 @@ pub enum Verdict {
     /// A message of it, its end included, has the flag `NLM_F_DUMP_INTR`: the listed objects changed meanwhile, so
     /// entries may be missing or repeated. Request it again.
     Interrupted,
-    /// The peer answered with an error, or ended a dump with one: the code, as -19 for `ENODEV`.
+    /// The other side answered with an error, or ended a dump with one: the code, as -19 for `ENODEV`.
     Failed(i32),
     /// It did not come to its end.
     Lost(Loss),
@@ -48,9 +48,9 @@ pub enum Loss {
 pub struct Heard {
     /// The verdict.
     pub verdict: Verdict,
-    /// A returned message has the flag `NLM_F_DUMP_FILTERED`: the peer filtered as requested.
+    /// A returned message has the flag `NLM_F_DUMP_FILTERED`: the other side filtered as requested.
     pub filtered: bool,
-    /// The peer's last message of it was read, whatever ended the answer.
+    /// The other side's last message of it was read, whatever ended the answer.
     pub finished: bool,
 }
 
@@ -62,7 +62,7 @@ pub(crate) fn ends_exchange(needs_ack: bool, number: u16, flags: NlmF) -> bool
     number == NLMSG_ERROR || (!needs_ack && (!flags.contains(NlmF::MULTI) || number == NLMSG_DONE))
 }
 
-/// Whether an item is the last of the peer's answer.
+/// Whether an item is the last of the other side's answer.
 pub(crate) fn is_last<T: NlType, P>(
     needs_ack: bool,
     item: &Result<Nlmsghdr<T, P>, RouterError<T, P>>,
@@ -146,7 +146,7 @@ fn last_verdict<T, P>(item: &Result<Nlmsghdr<T, P>, RouterError<T, P>>) -> Verdi
     }
 }
 
-/// By a returned item, at which the answer ends or not.
+/// By an item that is given, at which the answer ends or not.
 fn item_verdict<T, P>(ended: bool, item: &Result<Nlmsghdr<T, P>, RouterError<T, P>>) -> Verdict
     ensures { result ≡ item_verdict ended item.now }
 {
@@ -171,8 +171,8 @@ impl Heard {
         }
     }
 
-    /// What is known with one more returned item, at which the answer ends or not; `last` is whether it is the peer's
-    /// last.
+    /// What is known with one more returned item, at which the answer ends or not; `last` is whether it is the other
+    /// side's last.
     pub(crate) fn with<T, P>(
         self,
         ended: bool,
