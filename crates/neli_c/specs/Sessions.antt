@@ -77,8 +77,8 @@ SetsNumber number s t =
     (t.router.next_seq ≡ number) × (t.router.deliveries ≡ s.router.deliveries) × (t.handles.items ≡ s.handles.items)
     × (t.freed ≡ s.freed) × (t.held ≡ s.held) × (t.router.missed ≡ s.router.missed)
 
--- of the requests that were given up nothing waits after these messages, and where the last message of its answer is one
--- of them a request is closed
+-- no delivery of a request that was given up waits after these messages, and a request is closed if the last message of
+-- its answer is one of them
 abbrev pub Settles : List (Lent ℕ) → Session → Session → Type 0
 Settles messages s t =
     ((q : ℕ) → is_given_up s.router.given_up.items (Some q) ≡ true → pending t (Some q)
