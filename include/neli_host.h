@@ -107,16 +107,16 @@ struct neli_dump {
     uint16_t type, flags; /* flags beside NLM_F_DUMP */
     const void *body;
     size_t length;
-    int times; /* the maximum number of requests for it, at least one */
+    int times; /* the maximum number of requests for it; one is always sent */
     void (*take)(const struct neli_host *host, const struct neli_message *message, void *list);
     void *list;
 };
 
 /* Requests a list, and repeats this, as a new request, while the kernel marks it as interrupted or is busy with another
- * dump, or a part of it is lost; at most so many times. The last attempt makes the list:
+ * dump, or a part of it is lost; at most `times` times. Then the list has what arrived last:
  *   NELI_OK             it is complete
  *   NELI_INTERRUPTED    the listed objects changed meanwhile, so entries may be missing or repeated
- *   NELI_KERNEL_ERROR   the kernel refused it, or ended it with an error: `last` is its message, for `neli_host_explain`
+ *   NELI_KERNEL_ERROR   the kernel refused it, or ended it with an error: `last` is its message for `neli_host_explain`
  *   NELI_LINK           a part of it was lost, or the wait has ended, as `neli_host_fault` reports
  * or another code of `neli_host_send` and `neli_host_next`. */
 int32_t neli_host_dump(struct neli_host *host, const struct neli_dump *dump, struct neli_message *last);

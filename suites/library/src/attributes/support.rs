@@ -16,7 +16,7 @@ use std::process::Abort;
 /// A list of attributes in which they are looked up.
 pub type Handle<'a, I> = AttrHandle<'a, FrameList<I>, I>;
 
-/// Asserts that this is what is wanted.
+/// Asserts that this is the expected value.
 pub fn assert_is<T: Copy + PartialEq + Debug>(rt: &impl Abort, got: T, want: T) {
     assert_eq!(rt; got, want);
 }
@@ -143,7 +143,7 @@ pub enum Refusal {
     Other,
 }
 
-/// The refusal of a read, or None where there is a value.
+/// The refusal of a read, or None if there is a value.
 pub fn refusal_of<T: Drop>(read: Result<T, DeError>) -> Option<Refusal> {
     match read {
         Ok(_) => None,

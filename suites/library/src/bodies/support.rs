@@ -16,7 +16,7 @@ pub fn assert_is_at<R: Copy + Debug, T: Copy + PartialEq + Debug>(
     assert_eq!(rt; got, want, "at {row:?}");
 }
 
-/// The bytes that hexadecimal digits spell.
+/// The bytes in hexadecimal digits.
 pub fn bytes_of(rt: &impl Abort, alloc: Global, label: &str, digits: &str) -> Vec<u8> {
     hex::decode(alloc, digits).expect(rt, label)
 }

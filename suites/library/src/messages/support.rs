@@ -12,7 +12,7 @@ use std::fmt::{Debug, Display};
 use std::io::ErrorKind;
 use std::process::Abort;
 
-/// Asserts that this is what is wanted.
+/// Asserts that this is the expected value.
 pub fn assert_is<T: Copy + PartialEq + Debug>(rt: &impl Abort, got: T, want: T) {
     assert_eq!(rt; got, want);
 }
@@ -49,7 +49,7 @@ pub fn refusal_of(error: &DeError) -> Refusal {
     }
 }
 
-/// The refusal of a read, or None where there is a value.
+/// The refusal of a read, or None if there is a value.
 pub fn refusal_in<T: Drop>(read: Result<T, DeError>) -> Option<Refusal> {
     match read {
         Ok(_) => None,
@@ -112,7 +112,7 @@ pub fn lent_numbers<T>(message: &LentMessage<'_, T>) -> [u32; 4] {
     ]
 }
 
-/// The error that the message carries.
+/// The error in the message.
 pub fn error_in<'a, T, P>(
     rt: &impl Abort,
     message: &'a Nlmsghdr<T, P>,

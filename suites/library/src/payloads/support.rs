@@ -5,7 +5,7 @@ use std::alloc::Global;
 use std::fmt::Debug;
 use std::process::Abort;
 
-/// Asserts that this is what is wanted.
+/// Asserts that this is the expected value.
 pub fn assert_is<T: Copy + PartialEq + Debug>(rt: &impl Abort, got: T, want: T) {
     assert_eq!(rt; got, want);
 }
@@ -20,7 +20,7 @@ pub fn assert_is_at<R: Copy + PartialEq + Debug, T: Copy + PartialEq + Debug>(
     assert_is(rt, (row, got), (row, want));
 }
 
-/// The bytes that hexadecimal digits spell.
+/// The bytes in hexadecimal digits.
 pub fn bytes_of(rt: &impl Abort, alloc: Global, digits: &str) -> Vec<u8> {
     hex::decode(alloc, digits).expect(rt, "digits")
 }

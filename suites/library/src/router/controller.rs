@@ -82,7 +82,7 @@ fn names(alloc: Global, number: u32, list: Vec<CtrlItem>) -> Result<String, Ctrl
 
 /// An outcome, and the text of what is found or of the error.
 ///
-/// Refused only where memory runs out.
+/// Refused only if memory runs out.
 fn said<T: Display + Drop>(
     alloc: Global,
     outcome: Result<T, CtrlError>,
@@ -96,7 +96,7 @@ fn said<T: Display + Drop>(
 
 /// What comes of a lookup in these items, and the text of what is found or of the error.
 ///
-/// Refused only where memory runs out.
+/// Refused only if memory runs out.
 pub fn answer(
     alloc: Global,
     lookup: Lookup,
@@ -113,7 +113,7 @@ pub fn answer(
 
 /// The same of items that are lent; of names nothing comes, since these take the items.
 ///
-/// Refused only where memory runs out.
+/// Refused only if memory runs out.
 pub fn lent_answer(
     alloc: Global,
     lookup: Lookup,

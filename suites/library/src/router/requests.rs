@@ -15,10 +15,10 @@ use neli::router::synchronous::{
 use std::alloc::Global;
 use std::process::Abort;
 
-/// What the controller is asked, and answers.
+/// A request to the controller, and its answer.
 type Ctrl = Genlmsghdr<CtrlCmd, CtrlAttr>;
 
-/// A handle for what the controller answers.
+/// A handle for the controller's answers.
 type Handle = NlRouterReceiverHandle<GenlId, Ctrl>;
 
 /// The first request of a router with port 0 for the family `nlctrl`.

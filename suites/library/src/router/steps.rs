@@ -66,7 +66,7 @@ impl<D: Deliveries> Asker<D> {
         }
     }
 
-    /// Hands in a datagram that came to the groups of a mask.
+    /// Hands in a datagram that arrived for the groups of a mask.
     pub fn hand_in(&mut self, alloc: Global, bytes: &[u8], mask: u32) -> Result<(), NoMemory> {
         let groups = Groups::new_bitmask(alloc, mask)?;
         self.router.processing_loop(bytes, &groups)

@@ -1,4 +1,4 @@
-//! What a walk gives.
+//! The items of a walk.
 
 use super::{own, support};
 use neli_schema::TableId;

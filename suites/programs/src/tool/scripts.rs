@@ -9,7 +9,7 @@ use neli_runs::Deliveries;
 use std::alloc::Global;
 use std::process::Abort;
 
-/// A script with its name, and what is answered.
+/// A script with its name, and its output.
 pub type Row = (&'static str, &'static str, &'static str);
 
 /// Asserts that this script is answered by these lines, over deliveries that are kept in a `D`.
