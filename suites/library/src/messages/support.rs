@@ -1,4 +1,4 @@
-//! What the tests share: refusals that can be compared, one comparison for all, and what is read from bytes.
+//! Shared parts of the tests: refusals that can be compared, one comparison for all, and values read from bytes.
 
 use neli::consts::Constant;
 use neli::consts::nl::NlType;
@@ -17,7 +17,7 @@ pub fn assert_is<T: Copy + PartialEq + Debug>(rt: &impl Abort, got: T, want: T) 
     assert_eq!(rt; got, want);
 }
 
-/// Asserts that this is what is wanted, in the row of a table that has this name or input.
+/// Asserts that this is the expected value, in the row of a table that has this name or input.
 pub fn assert_is_at<R: Copy + Debug, T: Copy + PartialEq + Debug>(
     rt: &impl Abort,
     row: R,
@@ -27,7 +27,7 @@ pub fn assert_is_at<R: Copy + Debug, T: Copy + PartialEq + Debug>(
     assert_eq!(rt; got, want, "at {row:?}");
 }
 
-/// What a call is refused with.
+/// The refusal of a call.
 #[derive(Clone, Copy, Debug, PartialEq, Eq)]
 pub enum Refusal {
     /// The bytes end too early.
@@ -57,7 +57,7 @@ pub fn refusal_in<T: Drop>(read: Result<T, DeError>) -> Option<Refusal> {
     }
 }
 
-/// The refusal that a router's error is.
+/// The refusal in a router's error.
 pub fn router_refusal<T, P>(error: &RouterError<T, P>) -> Refusal {
     match error {
         RouterError::Memory => Refusal::Memory,
@@ -79,7 +79,7 @@ pub fn lent_message<'b, T: NlType>(rt: &impl Abort, bytes: &'b [u8]) -> LentMess
     LentMessage::lend(&mut Cursor::new(bytes)).expect(rt, "a message")
 }
 
-/// A message that no type is given to.
+/// A message with untyped payload.
 pub type Raw = Nlmsghdr<u16, Buffer>;
 
 /// An error with the message that it echoes.
