@@ -1,4 +1,4 @@
-//! Conversations: several requests, and what comes for each of them.
+//! Conversations: several requests, and the messages for each of them.
 
 use super::scripts::{Row, answers};
 
