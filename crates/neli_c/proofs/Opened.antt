@@ -1,4 +1,4 @@
--- The change of a session by a call, stated for the router that C holds.
+-- What a call does to a session, said of the router that C holds.
 use Rattle.std.proofs.Common.{◌≡◌, ℤ, Option, Some, IfSome, IsSome, SFits, of_z, to_z, w32, refl, sym, subst}
 use Rattle.std.proofs.lemmas.Int.{to_z-of_z}
 use Rattle.neli_c.specs.declared.session.Session.{Session}

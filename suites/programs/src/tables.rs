@@ -1,10 +1,9 @@
-//! Tests of `neli_tables`: the reading of a text, and the line for which it is refused.
+//! Tests of `neli_tables`: what a text says, and the line for which it is refused.
 //!
-//! Expected values were worked out by hand from docs/TABLES.md, and are those of `tables/form.py` for the same texts.
+//! What is expected was worked out by hand from docs/TABLES.md, and is what `tables/form.py` says of the same texts.
 //!
-//! - [`bad_lines`]: lines that are refused, and why. [`lines`]: the reading of a line. [`texts`]: whole texts, short
-//!   and long.
-//! - [`out_of_memory`]: an allocation is refused. [`support`]: shared parts of the tests.
+//! - [`bad_lines`]: lines that are refused, and why. [`lines`]: what a line says. [`texts`]: whole texts, short and long.
+//! - [`out_of_memory`]: where an allocation is refused. [`support`]: what the tests share.
 
 mod bad_lines;
 mod lines;

@@ -1,4 +1,4 @@
-//! Verdicts on answers, and requests that are given up, over both stores.
+//! How answers stand, and requests that are given up, over both stores.
 //!
 //! The marks of a dump are those of `linux/netlink.h`: 0x10 is `NLM_F_DUMP_INTR`, 0x20 is `NLM_F_DUMP_FILTERED`.
 
@@ -52,8 +52,7 @@ const DUMP: u16 = 0x300;
 
 const WITH_ACK: u16 = 4;
 
-/// A request's flags, the datagrams that arrive, and the verdict on its answer when they are read; whether it was
-/// filtered.
+/// A request's flags, the datagrams that come, and how its answer stands when they are read; whether it was filtered.
 const ROWS: [(&str, u16, &[&str], Verdict, bool); 15] = [
     ("nothing came", DUMP, &[], Verdict::Pending, false),
     ("no end", DUMP, &[PART, PART], Verdict::Pending, false),
@@ -150,7 +149,7 @@ fn come<D: Deliveries>(rt: &impl Abort, alloc: Global, router: &mut NlRouter<D>,
         .expect(rt, "memory");
 }
 
-/// Reads a handle until it waits or ends, and counts its items.
+/// Reads a handle until it waits or ends, and counts what it is given.
 fn read<D: Deliveries>(
     rt: &impl Abort,
     alloc: Global,
@@ -265,8 +264,8 @@ fn nothing_is_kept_of_what_was_given_up(rt: HostRuntime) {
     assert_is_at(&rt, "a stray", router.deliveries().kept_bytes(), 0);
 }
 
-/// The answer of a kernel to a dump of a missing table, recording 0372: an end with the code -2 (`ENOENT`), marked as
-/// filtered.
+/// The answer of a kernel to a dump of a table that is not there, recording 0372: an end with the code -2 (`ENOENT`), and
+/// with the mark that it did filter.
 const NO_TABLE: &str =
     "3800000003002202a7040000ebd2b981feffffff23000100697076343a20464942207461626c6520\
     646f6573206e6f742065786973740000";
@@ -292,7 +291,7 @@ fn a_recorded_dump_of_no_such_table_has_failed(rt: HostRuntime) {
 /// A message of type 16 whose body has two bytes, and its padding.
 const SHORT: &str = "12000000100000000000000000000000aabb0000";
 
-/// The result of a read of multicast, in a word.
+/// What was given of multicast, in a word.
 fn notice<D: Deliveries>(rt: &impl Abort, alloc: Global, router: &mut NlRouter<D>) -> &'static str {
     match router
         .listen::<u16, Genlmsghdr<u8, u16>>(alloc)
@@ -308,7 +307,7 @@ fn notice<D: Deliveries>(rt: &impl Abort, alloc: Global, router: &mut NlRouter<D
     }
 }
 
-/// One notification has no room for a generic header; those after it arrive all the same.
+/// One notification has no room for a generic header, and those after it come all the same.
 fn listens<D: Deliveries>(rt: &impl Abort, alloc: Global) {
     let (mut router, multicast) = NlRouter::<D>::new(alloc, 7);
     let groups = Groups::new_groups(alloc, &[1]).expect(rt, "memory");
