@@ -180,7 +180,7 @@ impl<'b> Dump<'b> {
         Ok(())
     }
 
-    /// Returns all the datagrams.
+    /// All the datagrams.
     ///
     /// Refused only if memory runs out.
     #[tactic(auto, using(std::proofs::lemmas::List::map_push))]
