@@ -1,6 +1,6 @@
 /* `record FILE COUNT` writes the next COUNT datagrams of changes of links, addresses and routes into a file, one after
- * the other. Their messages keep their padding, so the file is a list of messages: `neli_tool list < FILE`. It ends
- * with status 4 if some were lost. */
+ * the other. The padding of their messages is there, so the file is a list of messages: `neli_tool list < FILE`.
+ * It ends with status 4 where some were lost. */
 #include "request.h"
 #include <errno.h>
 #include <linux/rtnetlink.h>

@@ -454,7 +454,7 @@ static void a_padding_that_was_left_out(void) {
     close(kernel);
 }
 
-/* A program may have closed another's descriptor. */
+/* A program may have closed the host's descriptor. */
 static void a_socket_that_is_gone(void) {
     static struct picture picture;
     struct neli_host *host = route_host(true);
