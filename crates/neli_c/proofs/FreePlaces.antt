@@ -7,7 +7,7 @@ use Rattle.neli_c.specs.declared.session.Slot.{Slot}
 use Rattle.neli_c.specs.declared.session.Slot.TheVariants as slot
 use Rattle.neli_c.specs.Slots.{AreFree, IsApart, handle_at, handle_in, later_places, next_place}
 
--- what is stored is there
+-- a stored value stands at its place
 pub get-set : {X : Type 0} (xs : List X) (k : ℕ) (x : X) → k < length xs → slice_get (slice_set xs k x) k ≡ Some x
 get-set [] k x within = absurd (omega (arith, within))
 get-set (y ∷ ys) zero x within = refl

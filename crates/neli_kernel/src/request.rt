@@ -97,7 +97,7 @@ impl<'b> Request<'b> {
         self.port
     }
 
-    /// Its header, as it came.
+    /// Its header, as it arrived.
     pub fn header(&self) -> &NlmsghdrAck<u16>
         ensures { result.now ≡ self.now.header }
     {

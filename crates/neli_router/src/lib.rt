@@ -2,7 +2,7 @@
 //! handle of its request.
 //!
 //! - [`NlRouter`]: sends, takes in datagrams and faults of the link, returns a handle's next item.
-//! - [`NlRouterReceiverHandle`]: who asked; by its sequence number, or none for multicast.
+//! - [`NlRouterReceiverHandle`]: the handle of a request, by its sequence number, or that of multicast, without one.
 //! - [`Reply`]: what a read answers: an item, the end, or a wait.
 //! - [`Verdict`]: how an answer stands: whether what was given is all of it.
 //! - [`laws`]: `==` of what is known of handles is equality.
