@@ -452,7 +452,7 @@ class NetlinkSocket:
         return [Reply(self, it) for it in handles[: len(requests)]]
 
     def nlm_request(self, body, msg_type, msg_flags=NLM_F_REQUEST | NLM_F_ACK):
-        """As `request`, with pyroute2's first parameter, and returns the list of its messages."""
+        """As `request`, with the body first as in pyroute2; returns the list of its messages."""
         return list(self.request(msg_type, msg_flags, body))
 
     def dump(self, msg_type, body=b"", msg_flags=0, times=5):

@@ -2,12 +2,12 @@
 //!
 //! Expected bytes are worked out by hand from the kernel's headers, unless a comment names another source.
 //!
-//! - [`attributes`], [`type_fields`], [`buffers`]: written and read single values.
-//! - [`builders`]: results of builders. [`lists`], [`lookup`], [`nesting`]: lists of attributes.
-//! - [`recorded_routes`]: attributes of recorded datagrams, compared with other libraries' readings.
+//! - [`attributes`], [`type_fields`], [`buffers`]: what single values are written as, and what is read.
+//! - [`builders`]: what builders answer. [`lists`], [`lookup`], [`nesting`]: lists of attributes.
+//! - [`recorded_routes`]: attributes of datagrams that were recorded, against what other libraries read there.
 //! - [`laws`]: the laws, called.
 //! - [`out_of_memory`]: each call where an allocation is refused.
-//! - [`support`]: shared parts of the tests.
+//! - [`support`]: what the tests share.
 
 mod attributes;
 mod buffers;

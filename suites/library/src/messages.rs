@@ -6,18 +6,18 @@
 //!
 //! - [`reading`]: one message and a whole datagram, and their refusals. [`kinds`]: the kinds of payload.
 //!   [`parts`]: headers and answers by themselves.
-//! - [`retyping`]: untyped messages and a router's errors as ones of other types, and the calls that remove or replace
-//!   a payload.
+//! - [`retyping`]: untyped messages and a router's errors as ones of other types, and the calls that take a payload out
+//!   or put one in.
 //! - [`capped`]: capped errors.
-//! - [`builders`]: results of builders, and written bytes. [`lists`]: lists of messages. [`printed`]: the text of
-//!   errors, and their causes.
-//! - [`out_of_memory`]: results of calls when an allocation is refused.
-//! - [`lent_messages`], [`lent_attributes`], [`lent_lookup`]: each call of lent reads with its result. These tests take
-//!   no memory, so they pass also when each allocation is refused.
+//! - [`builders`]: what builders make, and what is written. [`lists`]: lists of messages. [`printed`]: what
+//!   errors print, and their causes.
+//! - [`out_of_memory`]: what calls answer where an allocation is refused.
+//! - [`lent_messages`], [`lent_attributes`], [`lent_lookup`]: each call of lent reads with its answer. These tests take
+//!   no memory, so they pass also where each allocation is refused.
 //! - [`lent_datagrams`], [`lent_lists`]: the same bytes read lent and as owned values, with their faults.
-//!   [`lent_to_owned`]: the calls that take memory.
-//! - [`lent_recordings`]: recorded messages, compared with other libraries' readings.
-//! - [`laws`]: the laws, called. [`support`]: shared parts of the tests.
+//!   [`lent_to_owned`]: what takes memory.
+//! - [`lent_recordings`]: messages that were recorded, against what other libraries read there.
+//! - [`laws`]: the laws, called. [`support`]: what the tests share.
 
 mod builders;
 mod capped;
