@@ -8,8 +8,8 @@
 //! | to read, build and write messages | [`nl`], [`iter`] |
 //! | to look up and nest attributes | [`attr`], [`genl`], [`rtnl`], [`types`] |
 //! | each reply at its request | [`router::synchronous`] |
-//! | the numbers and flags of the kernel's headers | [`consts`] |
-//! | to read a few fields of many messages, without a copy | [`lent`] |
+//! | numbers and flags of the kernel's headers | [`consts`] |
+//! | to look at a few fields of many messages, without a copy | [`lent`] |
 //! | to write and read types of your own | the traits of this page, [`implementing`] |
 //! | refusals, and a kernel's errors | [`err`] |
 //! | multicast groups | [`utils`] |
