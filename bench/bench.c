@@ -24,7 +24,7 @@
 #define ROUNDS 40
 #endif
 
-/* The exports of crates/neli_bench. Each answers whether it read all the bytes without a fault. */
+/* The exports of crates/neli_bench. Each returns whether it read all the bytes without a fault. */
 bool neli_bench_owned_headers(const uint8_t *bytes, size_t length, uint64_t *total);
 bool neli_bench_owned_link_attributes(const uint8_t *bytes, size_t length, uint64_t *total);
 bool neli_bench_owned_route_attributes(const uint8_t *bytes, size_t length, uint64_t *total);
@@ -74,7 +74,7 @@ static bool mnl_headers(const uint8_t *bytes, size_t length, uint64_t *total)
 	return left == 0;
 }
 
-/* `header` is the size of what stands before the attributes. */
+/* `header` is the size of the bytes before the attributes. */
 static inline bool mnl_attributes(const uint8_t *bytes, size_t length, unsigned int header, uint64_t *total)
 {
 	const struct nlmsghdr *message = (const struct nlmsghdr *)bytes;
@@ -277,7 +277,7 @@ static double now(void)
 	return (double)time.tv_sec * 1e9 + (double)time.tv_nsec;
 }
 
-/* The sum that a reader finds. It ends the run where the reader finds a fault. */
+/* The sum that a reader returns. It ends the run if the reader returns a fault. */
 static uint64_t sum_of(const struct reader *reader, struct bytes all)
 {
 	uint64_t total = 0;

@@ -1,15 +1,16 @@
-/* Netlink for C: messages and attributes by slices, and a router that gives each reply to the request that it answers.
+/* Netlink for C: calls that read and write messages and attributes in your bytes, and a router that delivers each reply
+ * to its request.
  *
- * There are no sockets here: requests come out as bytes, and the datagrams that arrive are handed in. Numbers are those
- * of a little-endian machine.
+ * This header has no sockets: requests are returned as bytes, and you pass in the datagrams that arrive. Numbers are
+ * those of a little-endian machine.
  *
- * Each call answers a code of `enum neli_code`: from 0 on an answer, below 0 a refusal, which leaves what it was passed
- * as it was, but where a call says otherwise. A pointer that is null, or a length past PTRDIFF_MAX, is answered with
- * NELI_NULL; null with the length 0 is no bytes. `out` and what is written through other pointers must not overlap
- * each other or what is read.
+ * Each call returns a code of `enum neli_code`: from 0 on a result, below 0 a refusal, which leaves its arguments
+ * unchanged, unless the call states otherwise. A pointer that is null, or a length past PTRDIFF_MAX, returns NELI_NULL;
+ * null with the length 0 is no bytes. `out` and other memory that is written must not overlap each other or what is
+ * read.
  *
- * The calls of this page test pointers, and hand on to the exports of the library, which are declared below as
- * `neli_c_..` and are proved; those want pointers that are not null.
+ * The calls of this header test pointers, and then call the exports of the library, which are declared below as
+ * `neli_c_..` and are proved; those need pointers that are not null.
  *
  * Link with -lneli, which has sockets too (neli_host.h); or, in the repository, with libneli_c.a and, for the router's
  * memory, liblibc_c.a of the kit. */
@@ -26,59 +27,59 @@ extern "C" {
 
 /* ---- Version ---- */
 
-/* The version of this page, by semver.org: docs/RELEASING.md says what each number promises. */
+/* The version of this header, by semver.org: docs/RELEASING.md defines the promise of each number. */
 #define NELI_VERSION_MAJOR 0
 #define NELI_VERSION_MINOR 1
 #define NELI_VERSION_PATCH 0
 #define NELI_VERSION "0.1.0"
 
-/* The version of the library that a program is linked with, as NELI_VERSION. This call and the next are in libneli, and
- * not in libneli_c.a. */
+/* The version of the linked library, in the form of NELI_VERSION. This call and the next are in libneli, and not in
+ * libneli_c.a. */
 const char *neli_version(void);
 
-/* What was built: lines that name the commit, the prover, its verdict and the checksum of all that was proved. */
+/* The build: lines that name the commit, the prover, its verdict and the checksum of all that was proved. */
 const char *neli_stamp(void);
 
 /* ---- Codes ---- */
 
 enum neli_code {
-    NELI_OK = 0,              /* it is done */
-    NELI_END = 0,             /* nothing more comes; of a look-up, that there is none */
-    NELI_ITEM = 1,            /* a message, an attribute or an item was given */
-    NELI_WAITS = 2,           /* no item is here yet: receive a datagram, hand it in, and read again */
+    NELI_OK = 0,              /* done */
+    NELI_END = 0,             /* nothing follows; for a look-up, nothing was found */
+    NELI_ITEM = 1,            /* a message, an attribute or an item was returned */
+    NELI_WAITS = 2,           /* no item has arrived yet: receive a datagram, pass it in, and read again */
     NELI_KERNEL_ERROR = 3,    /* the kernel answered with an error: its code is in the item */
-    NELI_INTERRUPTED = 4,     /* of a verdict: what was listed changed meanwhile; ask again */
+    NELI_INTERRUPTED = 4,     /* of a verdict: the listed objects changed meanwhile; request them again */
     NELI_OVERRUN = 5,         /* of listening: the socket's buffer ran over (ENOBUFS), so messages may be lost */
     NELI_SHORT = -1,          /* the bytes end before the header, the padding or the number does */
     NELI_LENGTH = -2,         /* a length does not fit: below its header, past the bytes, or past its field */
-    NELI_MEMORY = -3,         /* memory ran out; everything is as before */
+    NELI_MEMORY = -3,         /* memory ran out; everything is unchanged */
     NELI_ROOM = -4,           /* the room is too small; nothing was written */
     NELI_STATE = -5,          /* the router is closed, or is open already */
-    NELI_HANDLE = -6,         /* there is no such handle, or no item that was read */
+    NELI_HANDLE = -6,         /* no such handle exists, or no item was read */
     NELI_IN_USE = -7,         /* the sequence number belongs to a request that is not closed */
-    NELI_STRAY = -8,          /* a message came with a port or a sequence number that no request has */
-    NELI_NO_ACK = -9,         /* an acknowledgement was asked for, and something else came */
-    NELI_UNEXPECTED_ACK = -10,/* an acknowledgement came that was not asked for */
-    NELI_LINK = -11,          /* the link failed, as it was handed in */
-    NELI_BYTES = -12,         /* a datagram was handed in that is not made of messages to its end */
+    NELI_STRAY = -8,          /* a message arrived with a port or a sequence number that no request has */
+    NELI_NO_ACK = -9,         /* an acknowledgement was requested, and something else arrived */
+    NELI_UNEXPECTED_ACK = -10,/* an acknowledgement arrived that was not requested */
+    NELI_LINK = -11,          /* the link failed, as was passed in */
+    NELI_BYTES = -12,         /* a datagram that was passed in is not made of messages to its end */
     NELI_NULL = -13,          /* a pointer is null, or a length is past PTRDIFF_MAX */
     NELI_PLACE = -14,         /* a place is past the bytes, or past the end of its walk */
     NELI_KIND = -15,          /* the message is of another type */
     NELI_TEXT = -16           /* no zero byte ends the text */
 };
 
-/* The longest text of a code, its zero byte included. */
+/* The maximum size of a code's text in bytes, including its zero byte. */
 #define NELI_TEXT_SIZE 80
 
 /* ---- Types ---- */
 
-/* What is left of a walk: bytes `place` to `end`, counted from the first byte that was passed. Over the messages of a
+/* The rest of a walk: bytes `place` to `end`, counted from the first of the walked bytes. Over the messages of a
  * datagram of n bytes it begins as {0, n}. */
 struct neli_walk {
     size_t place, end;
 };
 
-/* A message: its header, and where its payload lies. */
+/* A message: its header, and the place of its payload. */
 struct neli_message {
     uint32_t length; /* of header and payload, in bytes */
     uint16_t type, flags;
@@ -91,59 +92,59 @@ struct neli_message {
 #define NELI_NESTED 0x8000
 #define NELI_NETWORK_ORDER 0x4000
 
-/* An attribute: its header, and where its payload lies. `type` is `number` and `flags` in one. */
+/* An attribute: its header, and the place of its payload. `type` is `number` and `flags` in one. */
 struct neli_attribute {
     uint16_t length; /* of header and payload, in bytes */
     uint16_t type, number, flags;
     size_t payload, payload_length;
 };
 
-/* What an error, an acknowledgement (an error of code 0) or the end of a dump says. */
+/* An error, an acknowledgement (an error of code 0) or the end of a dump. */
 struct neli_answer {
     int32_t code;         /* 0, or an error number of Linux, negated */
-    uint32_t echo_length; /* the header of the request, which an error repeats; zeros of the end of a dump */
+    uint32_t echo_length; /* the header of the request, echoed by an error; zeros for the end of a dump */
     uint16_t echo_type, echo_flags;
     uint32_t echo_number, echo_port;
-    struct neli_walk attributes; /* of the extended acknowledgement; empty where there is none */
+    struct neli_walk attributes; /* of the extended acknowledgement; empty if there is none */
 };
 
 /* Numbers of attributes of an extended acknowledgement: a text, and a place in the request as a u32. */
 #define NELI_ANSWER_TEXT 1
 #define NELI_ANSWER_OFFSET 2
 
-/* What is written so far: the message that was begun last lies at `start`, and the next byte goes to `end`. */
+/* A writing position: the message that was begun last is at `start`, and the next byte goes to `end`. */
 struct neli_writer {
     size_t start, end;
 };
 
-/* A router, which only the library looks into. It begins as NELI_ROUTER_CLOSED, is not copied while it is open, is used
- * by one thread at a time, and is freed by its last owner. */
+/* A router, private to the library. It begins as NELI_ROUTER_CLOSED, is not copied while it is open, is used by one
+ * thread at a time, and is freed by its last owner. */
 struct neli_router {
     bool is_open;
     void *state;
 };
 #define NELI_ROUTER_CLOSED {false, NULL}
 
-/* The handle of what comes to multicast groups. */
+/* The handle for messages to multicast groups. */
 #define NELI_MULTICAST 0
 
-/* What was sent: how many bytes the request has, and the handle that its replies are read by. */
+/* A request that was sent: its number of bytes, and the handle for its replies. */
 struct neli_sent {
     size_t length, handle;
 };
 
-/* What was read: the header of a message. Of a kernel's error its type is 2, its flags are those that say what follows
- * in its bytes, and number and port are the request's. */
+/* An item that was read: the header of a message. For a kernel's error its type is 2, its flags state what follows in
+ * its bytes, and number and port are the request's. */
 struct neli_item {
     uint16_t type, flags;
     uint32_t number, port;
     int32_t error; /* the code of an error, an acknowledgement or the end of a dump; 0 elsewhere */
 };
 
-/* How an answer stands, beside the code that neli_router_verdict answers. */
+/* A verdict on an answer, beside the code that neli_router_verdict returns. */
 struct neli_verdict {
     int32_t error; /* the code of the kernel's error, or of the dump that failed, as -19 for ENODEV; 0 elsewhere */
-    uint8_t filtered; /* 1 where the kernel did filter what it listed (NLM_F_DUMP_FILTERED), else 0 */
+    uint8_t filtered; /* 1 if the kernel filtered the list (NLM_F_DUMP_FILTERED), else 0 */
 };
 
 /* ---- The exports ---- */
@@ -195,7 +196,7 @@ int32_t neli_c_router_close(struct neli_router *router, size_t handle);
 
 /* ---- Pointers and lengths ---- */
 
-/* A length that bytes in memory can have, at a pointer that is not null; or no bytes. */
+/* Whether bytes in memory can have this length, at a pointer that is not null; or it is 0. */
 static inline bool neli_is_slice(const void *at, size_t length) {
     return at != NULL ? length <= PTRDIFF_MAX : length == 0;
 }
@@ -213,8 +214,8 @@ static inline uint8_t *neli_write_at(uint8_t *at) {
 
 /* ---- Codes in words ---- */
 
-/* The text of a code, ended by a zero byte; NELI_ROOM where it is longer than the room. `text` may have NELI_TEXT_SIZE
- * bytes. A number that is no code has a text too. */
+/* Writes the text of a code, with a zero byte; NELI_ROOM if it is longer than the room. NELI_TEXT_SIZE bytes suffice. A
+ * number that is no code has a text too. */
 static inline int32_t neli_error_text(int32_t code, char *text, size_t room) {
     size_t length = 0;
     if (text == NULL || room > PTRDIFF_MAX) return NELI_NULL;
@@ -223,19 +224,19 @@ static inline int32_t neli_error_text(int32_t code, char *text, size_t room) {
 
 /* ---- Reading by slices: no memory is taken ---- */
 
-/* The next message of a walk, which goes past it and its padding: NELI_ITEM, or NELI_END where nothing is left.
- * NELI_PLACE where the walk's places are not in order or past the bytes, NELI_SHORT where the header or the padding is
- * cut off, NELI_LENGTH where the stated length is below 16 or past the end. */
+/* Stores the next message of a walk, which moves past it and its padding: NELI_ITEM, or NELI_END at the end. NELI_PLACE
+ * if the walk's places are not in order or past the bytes, NELI_SHORT if the header or the padding is cut off,
+ * NELI_LENGTH if the stated length is below 16 or past the end. */
 static inline int32_t neli_next_message(const uint8_t *bytes, size_t length, struct neli_walk *walk,
                                         struct neli_message *message) {
     if (!neli_is_slice(bytes, length) || walk == NULL || message == NULL) return NELI_NULL;
     return neli_c_next_message(neli_read_at(bytes), length, walk, message);
 }
 
-/* The next messages of a walk, which goes past them: as many as there is room for, or as come before its end or a
- * fault. NELI_ITEM, and `count` is how many; without a message `count` is 0, and the answer is that of
- * `neli_next_message`, so the end and a fault are answered by the call after the last message. NELI_ROOM where there is
- * room for none: `room` counts messages. What follows those that are given stays. */
+/* Stores the next messages of a walk, which moves past them: as many as there is room for, or as come before its end or
+ * a fault. NELI_ITEM, and `count` is their number; without a message `count` is 0, and the code is that of
+ * `neli_next_message`, so the call after the last message returns the end or the fault. NELI_ROOM if there is room for
+ * none: `room` counts messages. The room after the stored ones is unchanged. */
 static inline int32_t neli_next_messages(const uint8_t *bytes, size_t length, struct neli_walk *walk,
                                          struct neli_message *messages, size_t room, size_t *count) {
     static struct neli_message none[1];
@@ -244,23 +245,23 @@ static inline int32_t neli_next_messages(const uint8_t *bytes, size_t length, st
     return neli_c_next_messages(neli_read_at(bytes), length, walk, messages != NULL ? messages : none, room, count);
 }
 
-/* A walk over the attributes of a message, after a body's header of this size (16 of a link, 8 of an address, 12 of a
- * route, 4 of generic netlink), rounded up to four. NELI_PLACE where the payload ends past PTRDIFF_MAX, NELI_SHORT
- * where it is shorter than the header. */
+/* Makes a walk over the attributes of a message, after a body's header of this size in bytes (16 for a link, 8 for an
+ * address, 12 for a route, 4 for generic netlink), rounded up to four. NELI_PLACE if the payload ends past PTRDIFF_MAX,
+ * NELI_SHORT if it is shorter than the header. */
 static inline int32_t neli_attributes_of(const struct neli_message *message, size_t header_size,
                                          struct neli_walk *walk) {
     if (message == NULL || walk == NULL) return NELI_NULL;
     return neli_c_attributes_of(message, header_size, walk);
 }
 
-/* The next attribute of a walk, which goes past it; as `neli_next_message`, with 4 as the least length. */
+/* Stores the next attribute of a walk, which moves past it; as `neli_next_message`, with 4 as the least length. */
 static inline int32_t neli_next_attribute(const uint8_t *bytes, size_t length, struct neli_walk *walk,
                                           struct neli_attribute *attribute) {
     if (!neli_is_slice(bytes, length) || walk == NULL || attribute == NULL) return NELI_NULL;
     return neli_c_next_attribute(neli_read_at(bytes), length, walk, attribute);
 }
 
-/* The next attributes of a walk, which goes past them; as `neli_next_messages`. */
+/* Stores the next attributes of a walk, which moves past them; as `neli_next_messages`. */
 static inline int32_t neli_next_attributes(const uint8_t *bytes, size_t length, struct neli_walk *walk,
                                            struct neli_attribute *attributes, size_t room, size_t *count) {
     static struct neli_attribute none[1];
@@ -270,23 +271,23 @@ static inline int32_t neli_next_attributes(const uint8_t *bytes, size_t length, 
                                   count);
 }
 
-/* The first attribute with this number among those that are left: NELI_ITEM, or NELI_END where there is none. A fault
- * before one is found is answered as by `neli_next_attribute`. The walk stays where it is. */
+/* Stores the first attribute with this number in the rest of a walk: NELI_ITEM, or NELI_END if there is none. A fault
+ * before it is returned as by `neli_next_attribute`. The walk is unchanged. */
 static inline int32_t neli_find_attribute(const uint8_t *bytes, size_t length, const struct neli_walk *walk,
                                           uint16_t number, struct neli_attribute *attribute) {
     if (!neli_is_slice(bytes, length) || walk == NULL || attribute == NULL) return NELI_NULL;
     return neli_c_find_attribute(neli_read_at(bytes), length, walk, number, attribute);
 }
 
-/* A walk over the attributes that an attribute's payload lists. NELI_PLACE where the payload ends past PTRDIFF_MAX. */
+/* Makes a walk over the attributes in an attribute's payload. NELI_PLACE if the payload ends past PTRDIFF_MAX. */
 static inline int32_t neli_attributes_in(const struct neli_attribute *attribute, struct neli_walk *walk) {
     if (attribute == NULL || walk == NULL) return NELI_NULL;
     return neli_c_attributes_in(attribute, walk);
 }
 
-/* The number at a place, its lowest byte first, as kernel and machine have it, or (`be`) its highest first, in network
- * order; NELI_SHORT where the bytes end before it does. Of an attribute a:
- * `neli_get_u32(bytes + a.payload, a.payload_length, 0, &value)`. */
+/* Reads the number at a place, its lowest byte first, as kernel and machine have it, or (`be`) its highest first, in
+ * network order; NELI_SHORT if the bytes end before it does. For an attribute a: `neli_get_u32(bytes + a.payload,
+ * a.payload_length, 0, &value)`. */
 static inline int32_t neli_get_u8(const uint8_t *bytes, size_t length, size_t place, uint8_t *value) {
     if (!neli_is_slice(bytes, length) || value == NULL) return NELI_NULL;
     return neli_c_get_u8(neli_read_at(bytes), length, place, value);
@@ -322,17 +323,17 @@ static inline int32_t neli_get_be64(const uint8_t *bytes, size_t length, size_t 
     return neli_c_get_be64(neli_read_at(bytes), length, place, value);
 }
 
-/* The length of the text that a payload begins with, up to its first zero byte: then the payload's first byte is the
- * start of a string of C. NELI_TEXT where no byte is zero. */
+/* Measures the text at the front of a payload, up to its first zero byte, in bytes: then the payload's first byte is
+ * the start of a string of C. NELI_TEXT if no byte is zero. */
 static inline int32_t neli_text_length(const uint8_t *payload, size_t payload_length, size_t *text_length) {
     if (!neli_is_slice(payload, payload_length) || text_length == NULL) return NELI_NULL;
     return neli_c_text_length(neli_read_at(payload), payload_length, text_length);
 }
 
-/* What a message of type 2 (an error or an acknowledgement) or of type 3 with the flag MULTI (2) and a payload (the end
- * of a dump) says; NELI_PLACE where its payload is past the bytes, NELI_KIND of another message, NELI_SHORT where the
- * payload is too short for it, NELI_LENGTH where the echoed request has a length below 16 or passes the payload. Text
- * and offset are found in `attributes`. */
+/* Stores the fields of a message of type 2 (an error or an acknowledgement) or of type 3 with the flag MULTI (2) and a
+ * payload (the end of a dump); NELI_PLACE if its payload is past the bytes, NELI_KIND for another message, NELI_SHORT
+ * if the payload is too short for it, NELI_LENGTH if the echoed request has a length below 16 or exceeds the payload.
+ * `attributes` has the text and the offset. */
 static inline int32_t neli_get_answer(const uint8_t *bytes, size_t length, const struct neli_message *message,
                                       struct neli_answer *answer) {
     if (!neli_is_slice(bytes, length) || message == NULL || answer == NULL) return NELI_NULL;
@@ -341,10 +342,11 @@ static inline int32_t neli_get_answer(const uint8_t *bytes, size_t length, const
 
 /* ---- Writing into the caller's bytes ---- */
 
-/* What begins or appends answers NELI_ROOM where its bytes do not fit between the writer's end and that of `out`. A
- * refusal writes nothing, and leaves the writer. A message ends by `neli_end_message`, the nests in it before. */
+/* Calls that begin or append return NELI_ROOM if their bytes do not fit between the writer's end and that of `out`. A
+ * refusal writes nothing, and leaves the writer unchanged. `neli_end_message` ends a message, after the ends of its
+ * nests. */
 
-/* Begins a message at the writer's end, which goes past the header. Its length is set by `neli_end_message`. */
+/* Begins a message at the writer's end, which moves past the header. `neli_end_message` sets its length. */
 static inline int32_t neli_begin_message(uint8_t *out, size_t room, struct neli_writer *writer, uint16_t type,
                                          uint16_t flags, uint32_t number, uint32_t port) {
     if (!neli_is_slice(out, room) || writer == NULL) return NELI_NULL;
@@ -358,7 +360,7 @@ static inline int32_t neli_put_bytes(uint8_t *out, size_t room, struct neli_writ
     return neli_c_put_bytes(neli_write_at(out), room, writer, neli_read_at((const uint8_t *)bytes), length);
 }
 
-/* Appends an attribute, and zeros up to a multiple of four; NELI_LENGTH where the payload has more than 65531 bytes. */
+/* Appends an attribute, and zeros up to a multiple of four; NELI_LENGTH if the payload has more than 65531 bytes. */
 static inline int32_t neli_put_attribute(uint8_t *out, size_t room, struct neli_writer *writer, uint16_t type,
                                          const void *payload, size_t payload_length) {
     if (!neli_is_slice(out, room) || writer == NULL || !neli_is_slice(payload, payload_length)) return NELI_NULL;
@@ -366,22 +368,22 @@ static inline int32_t neli_put_attribute(uint8_t *out, size_t room, struct neli_
                                 payload_length);
 }
 
-/* Begins an attribute that lists attributes, and sets its flag NELI_NESTED; `nest` is where it lies. */
+/* Begins an attribute that lists attributes, and sets its flag NELI_NESTED; `nest` is its place. */
 static inline int32_t neli_begin_nest(uint8_t *out, size_t room, struct neli_writer *writer, uint16_t type,
                                       size_t *nest) {
     if (!neli_is_slice(out, room) || writer == NULL || nest == NULL) return NELI_NULL;
     return neli_c_begin_nest(neli_write_at(out), room, writer, type, nest);
 }
 
-/* Sets the length of a nest to what was written since it was begun; NELI_LENGTH where that passes 65535 bytes,
- * NELI_PLACE where no nest of the message that was begun last can lie there. */
+/* Sets the length of a nest to the bytes written since it was begun; NELI_LENGTH if that exceeds 65535 bytes,
+ * NELI_PLACE if no nest of the message that was begun last can lie there. */
 static inline int32_t neli_end_nest(uint8_t *out, size_t room, const struct neli_writer *writer, size_t nest) {
     if (!neli_is_slice(out, room) || writer == NULL) return NELI_NULL;
     return neli_c_end_nest(neli_write_at(out), room, writer, nest);
 }
 
-/* Sets the length of the message that was begun last; NELI_LENGTH where that passes 32 bits, NELI_PLACE where no
- * message can lie there. */
+/* Sets the length of the message that was begun last; NELI_LENGTH if that exceeds 32 bits, NELI_PLACE if no message can
+ * lie there. */
 static inline int32_t neli_end_message(uint8_t *out, size_t room, const struct neli_writer *writer) {
     if (!neli_is_slice(out, room) || writer == NULL) return NELI_NULL;
     return neli_c_end_message(neli_write_at(out), room, writer);
@@ -389,16 +391,16 @@ static inline int32_t neli_end_message(uint8_t *out, size_t room, const struct n
 
 /* ---- The router ---- */
 
-/* All but the first two answer NELI_STATE where the router is closed. NELI_MEMORY leaves the router as it was, and the
- * same call can be made again. */
+/* All but the first two return NELI_STATE if the router is closed. NELI_MEMORY leaves the router unchanged; the same
+ * call can be repeated. */
 
-/* Opens a router for the port of the caller's socket; NELI_STATE where it is open, which it stays. */
+/* Opens a router for the port of the caller's socket; NELI_STATE if it is open, and it stays so. */
 static inline int32_t neli_router_new(struct neli_router *router, uint32_t port) {
     if (router == NULL) return NELI_NULL;
     return neli_c_router_new(router, port);
 }
 
-/* Frees what a router has, and closes it. Of a closed one, nothing. */
+/* Frees a router's memory, and closes it. Does nothing to a closed one. */
 static inline int32_t neli_router_free(struct neli_router *router) {
     if (router == NULL) return NELI_NULL;
     return neli_c_router_free(router);
@@ -410,9 +412,9 @@ static inline int32_t neli_router_set_number(struct neli_router *router, uint32_
     return neli_c_router_set_number(router, number);
 }
 
-/* A request of this type with these flags and NLM_F_REQUEST, whose payload is the body, as bytes to be sent; and the
- * handle that its replies are read by. NELI_LENGTH where the length passes 32 bits; NELI_ROOM, and then `sent->length`
- * is what is needed; NELI_IN_USE where the next number belongs to a request that is not closed. */
+/* Writes a request of this type with these flags and NLM_F_REQUEST, whose payload is the body, as bytes to send; and
+ * the handle for its replies. NELI_LENGTH if the length exceeds 32 bits; NELI_ROOM, and then `sent->length` is the
+ * needed number of bytes; NELI_IN_USE if the next number belongs to a request that is not closed. */
 static inline int32_t neli_router_send(struct neli_router *router, uint16_t type, uint16_t flags, const void *body,
                                        size_t body_length, uint8_t *out, size_t room, struct neli_sent *sent) {
     if (router == NULL || !neli_is_slice(body, body_length) || !neli_is_slice(out, room) || sent == NULL)
@@ -421,7 +423,8 @@ static inline int32_t neli_router_send(struct neli_router *router, uint16_t type
                               neli_write_at(out), room, sent);
 }
 
-/* Takes in a datagram that came to these groups; none, or 0, where it came to the router's port alone. It is copied. */
+/* Takes in a datagram that arrived for these groups; none, or 0, if it arrived only for the router's port. It is
+ * copied. */
 static inline int32_t neli_router_datagram(struct neli_router *router, const uint8_t *bytes, size_t length,
                                            const uint32_t *groups, size_t group_count) {
     static const uint32_t none[1] = {0};
@@ -430,72 +433,72 @@ static inline int32_t neli_router_datagram(struct neli_router *router, const uin
     return neli_c_router_datagram(router, neli_read_at(bytes), length, groups != NULL ? groups : none, group_count);
 }
 
-/* Takes in a fault of the link, by its number in errno.h: each open request is given NELI_LINK, and who listens is told
- * of it, of ENOBUFS as NELI_OVERRUN. EAGAIN gives nobody anything. */
+/* Takes in a fault of the link, by its number in errno.h: each open request gets NELI_LINK, and listeners get it too,
+ * ENOBUFS as NELI_OVERRUN. EAGAIN delivers nothing. */
 static inline int32_t neli_router_fault(struct neli_router *router, int32_t error_number) {
     if (router == NULL) return NELI_NULL;
     return neli_c_router_fault(router, error_number);
 }
 
 /* Reads the next item of a handle, that of a request or NELI_MULTICAST: NELI_ITEM, NELI_KERNEL_ERROR, NELI_WAITS, or
- * NELI_END after the last. What came in an item's place is answered below 0, and has been read: NELI_STRAY,
- * NELI_NO_ACK, NELI_UNEXPECTED_ACK, NELI_LINK, or NELI_SHORT, NELI_LENGTH, NELI_BYTES of what cannot be read. It is the
- * handle's last item, as NELI_KERNEL_ERROR is. `item` is written at NELI_ITEM and NELI_KERNEL_ERROR. NELI_HANDLE where
- * the handle is not open. */
+ * NELI_END after the last. An error in an item's place is returned below 0, and counts as read: NELI_STRAY,
+ * NELI_NO_ACK, NELI_UNEXPECTED_ACK, NELI_LINK, or NELI_SHORT, NELI_LENGTH, NELI_BYTES for a message that cannot be
+ * read. It is the handle's last item, as NELI_KERNEL_ERROR is. `item` is written at NELI_ITEM and NELI_KERNEL_ERROR.
+ * NELI_HANDLE if the handle is not open. */
 static inline int32_t neli_router_read(struct neli_router *router, size_t handle, struct neli_item *item) {
     if (router == NULL || item == NULL) return NELI_NULL;
     return neli_c_router_read(router, handle, item);
 }
 
-/* Reads what comes to groups next, for who goes on listening whatever comes: beside reads of NELI_MULTICAST, whose
- * handle ends at an error message and at one that cannot be read.
+/* Reads the next message for groups, for a listener that continues after any item: beside reads of NELI_MULTICAST,
+ * whose handle ends at an error message and at one that cannot be read.
  *   NELI_ITEM           a message, which `item` shows, as neli_router_read does; an error message is one as well
- *   NELI_OVERRUN        the socket's buffer ran over since the last call (ENOBUFS was handed in)
+ *   NELI_OVERRUN        the socket's buffer ran over since the last call (ENOBUFS was passed in)
  *   NELI_LINK           the link had another fault since the last call
- *   NELI_WAITS          no message is here yet
- *   NELI_SHORT, NELI_LENGTH, NELI_BYTES   a message that cannot be read; it has been read
+ *   NELI_WAITS          no message has arrived yet
+ *   NELI_SHORT, NELI_LENGTH, NELI_BYTES   a message that cannot be read; it counts as read
  *   NELI_HANDLE         the handle of NELI_MULTICAST is closed
- * At NELI_OVERRUN and NELI_LINK messages may be lost. Each is told once, before what waits, and an overrun is not
- * replaced by a later fault. `item` is written at NELI_ITEM. */
+ * At NELI_OVERRUN and NELI_LINK messages may be lost. Each is reported once, before the messages that wait, and a later
+ * fault does not replace an overrun. `item` is written at NELI_ITEM. */
 static inline int32_t neli_router_listen(struct neli_router *router, struct neli_item *item) {
     if (router == NULL || item == NULL) return NELI_NULL;
     return neli_c_router_listen(router, item);
 }
 
-/* The bytes of the item that was read last, of whatever handle: at NELI_ITEM the message, at NELI_KERNEL_ERROR an error
- * message, which both can be walked by the calls above. At NELI_ROOM `length` is what is needed. The item stays, also
- * over NELI_END and NELI_WAITS. NELI_HANDLE where nothing was read, or something without bytes. */
+/* Copies the bytes of the item that was read last, of whatever handle: at NELI_ITEM the message, at NELI_KERNEL_ERROR
+ * an error message; the calls above walk both. At NELI_ROOM `length` is the needed number of bytes. The item stays,
+ * also over NELI_END and NELI_WAITS. NELI_HANDLE if nothing was read, or an item without bytes. */
 static inline int32_t neli_router_item(struct neli_router *router, uint8_t *out, size_t room, size_t *length) {
     if (router == NULL || !neli_is_slice(out, room) || length == NULL) return NELI_NULL;
     return neli_c_router_item(router, neli_write_at(out), room, length);
 }
 
-/* How the answer to the request of a handle stands, by what was read of it: whether what was given is all of it.
+/* Reports the verdict on the answer to a handle's request, by the items read from it: whether it is complete.
  *   NELI_WAITS          it has not ended
- *   NELI_OK             it has ended well, and all of it was given
- *   NELI_INTERRUPTED    a message of it, its end included, is marked with NLM_F_DUMP_INTR: what was listed changed
- *                       meanwhile, so entries may lack or stand there twice; told as soon as that message is read
+ *   NELI_OK             it has ended well, and the reads returned all of it
+ *   NELI_INTERRUPTED    a message of it, its end included, is marked with NLM_F_DUMP_INTR: the listed objects changed
+ *                       meanwhile, so entries may be missing or repeated; returned as soon as that message is read
  *   NELI_KERNEL_ERROR   the kernel answered with an error, or ended a dump with one: the code is in `verdict`
- *   NELI_LINK, NELI_BYTES, NELI_STRAY, NELI_NO_ACK, NELI_UNEXPECTED_ACK   what else ended it
- *   NELI_HANDLE         the handle is not open, and then `verdict` stays; or its number is not
- * All but NELI_WAITS are final. That of NELI_MULTICAST is NELI_WAITS. The router is as it was. */
+ *   NELI_LINK, NELI_BYTES, NELI_STRAY, NELI_NO_ACK, NELI_UNEXPECTED_ACK   any other end
+ *   NELI_HANDLE         the handle is not open, and then `verdict` is unchanged; or its number is not
+ * All but NELI_WAITS are final. That of NELI_MULTICAST is NELI_WAITS. The router is unchanged. */
 static inline int32_t neli_router_verdict(struct neli_router *router, size_t handle, struct neli_verdict *verdict) {
     if (router == NULL || verdict == NULL) return NELI_NULL;
     return neli_c_router_verdict(router, handle, verdict);
 }
 
 /* Gives a handle up before its answer has ended: its sequence number stays in use until the last message of the answer
- * has come, and nothing is kept of what waits and still comes for it. So this is no stray, which would end every other
- * request. The handle's number is that of the next that is opened, as after neli_router_close. NELI_HANDLE where it is
- * not open; at NELI_MEMORY it is closed, as by neli_router_close. NELI_MULTICAST is closed. */
+ * has arrived, and nothing that waits or still arrives for it is kept. So this is no stray, which would end every other
+ * request. The next handle that is opened gets its number, as after neli_router_close. NELI_HANDLE if it is not open;
+ * at NELI_MEMORY it is closed, as by neli_router_close. NELI_MULTICAST is closed. */
 static inline int32_t neli_router_give_up(struct neli_router *router, size_t handle) {
     if (router == NULL) return NELI_NULL;
     return neli_c_router_give_up(router, handle);
 }
 
-/* Closes a handle: what waits for it is given up, and what still comes for it is a stray, which ends every other
- * request: neli_router_give_up is for a handle whose answer has not ended. NELI_HANDLE where it is not open. The
- * handle's number is that of the next that is opened, but for NELI_MULTICAST, which is not opened again. */
+/* Closes a handle: its deliveries are removed, and any message that still arrives for it is a stray, which ends every
+ * other request: use neli_router_give_up for a handle whose answer has not ended. NELI_HANDLE if it is not open. The
+ * next handle that is opened gets its number, except that of NELI_MULTICAST, which is not opened again. */
 static inline int32_t neli_router_close(struct neli_router *router, size_t handle) {
     if (router == NULL) return NELI_NULL;
     return neli_c_router_close(router, handle);

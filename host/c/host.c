@@ -6,13 +6,13 @@
 #include <stdlib.h>
 #include <string.h>
 
-/* So many requests may be given up before what is there is received, so that those are forgotten that are answered. */
+/* The number of requests that may be given up before the socket is read, to forget those that are answered. */
 #define CROWD 256
 
-/* So many faults in a row, without end, are those of a socket that is gone. */
+/* The number of consecutive faults, without end, that mean a closed socket. */
 #define FAULTS 8
 
-/* Messages that stand side by side and are for the same; or the end of a datagram that cannot be read. */
+/* Consecutive messages with one receiver; or the end of a datagram that cannot be read. */
 struct run {
     size_t start, end;
     uint64_t count;
@@ -78,7 +78,7 @@ static int32_t reserve_loss(struct losses *losses) {
     return NELI_OK;
 }
 
-/* Something is lost here. What is lost at one place is told once, as what came last. */
+/* Notes a loss here. A loss at one place is reported once, as the latest fault. */
 static void note_loss(struct losses *losses, int fault) {
     if (losses->count > 0 && losses->at[losses->count - 1].place == losses->came) losses->count--;
     losses->at[losses->count++] = (struct loss){losses->came, fault};
@@ -94,8 +94,8 @@ static int take_loss(struct losses *losses) {
 
 /* ---- What comes ---- */
 
-/* Whom a message is for, the answer to `open` if it is one. The kernel sends its copy to one who asked with ECHO in the
- * group's name, whether or not the socket is in it. */
+/* The receiver of a message, the answer to `open` if it is one. The kernel sends its copy for a request with ECHO in
+ * the group's name, whether or not the socket is in it. */
 static struct owners owners_of(const struct neli_host *host, const struct open *open,
                                const struct neli_message *message) {
     uint32_t group = host->held.group;
@@ -114,7 +114,7 @@ static bool are_same(const struct owners *one, const struct owners *other) {
            one->is_unasked == other->is_unasked && one->handle == other->handle;
 }
 
-/* The messages of what is held that come next and are for the same. */
+/* The next held messages with one receiver. */
 static struct run next_run(const struct neli_host *host) {
     struct neli_walk walk = host->held.walk;
     struct run run = {.start = walk.place, .end = walk.place};
@@ -138,7 +138,7 @@ static struct run next_run(const struct neli_host *host) {
     return run;
 }
 
-/* Keeps what no request has asked for. */
+/* Keeps a message without a request. */
 static int32_t keep_unasked(struct neli_host *host, const struct run *run) {
     struct neli_walk *walk = &host->unasked_walk;
     size_t length = run->end - run->start, left = walk->end - walk->place;
@@ -174,7 +174,7 @@ static int32_t hand_in_run(struct neli_host *host, const struct run *run) {
     return NELI_OK;
 }
 
-/* Each open request is given the fault, and who reads multicast or what was not asked for, in its place. */
+/* Each open request gets the fault, and so do readers of multicast and of messages without a request, in its place. */
 static int32_t hand_in_fault(struct neli_host *host) {
     if (reserve_loss(&host->heard) != NELI_OK || reserve_loss(&host->unheard) != NELI_OK) return NELI_MEMORY;
     int32_t code = neli_router_fault(&host->router, host->last_fault);
@@ -187,7 +187,7 @@ static int32_t hand_in_fault(struct neli_host *host) {
     return NELI_OK;
 }
 
-/* Receives what is there, and hands it in; NELI_WAITS where nothing is there. */
+/* Receives the next datagram, and hands it in; NELI_WAITS if none has arrived. */
 static int32_t take_in(struct neli_host *host) {
     struct held *held = &host->held;
     if (!held->is_datagram && !held->is_fault) {
@@ -210,7 +210,8 @@ static int32_t take_in(struct neli_host *host) {
     return NELI_OK;
 }
 
-/* Takes in what is there, until no dump runs, what was given up has its answer, and nothing is dropped any more. */
+/* Takes in all that has arrived, until no dump runs, given-up requests have their answers, and nothing is dropped any
+ * more. */
 int32_t host_settle(struct neli_host *host) {
     int32_t code = NELI_OK;
     while (code == NELI_OK && !host->ledger.is_settled && host->faults < FAULTS) code = take_in(host);
@@ -281,7 +282,7 @@ static int32_t take_item(struct neli_host *host, struct neli_message *message) {
     return code == NELI_ITEM ? NELI_OK : code;
 }
 
-/* The next message that no request has asked for. */
+/* The next message without a request. */
 static int32_t read_unasked(struct neli_host *host, struct neli_message *message) {
     struct neli_walk walk = host->unasked_walk;
     size_t length;
@@ -298,8 +299,8 @@ static int32_t read_unasked(struct neli_host *host, struct neli_message *message
     return NELI_ITEM;
 }
 
-/* The next item of a handle of the router. Multicast goes on whatever comes, and its losses are told by `heard`, each
- * in its place. */
+/* The next item of a handle of the router. Multicast continues after any item, and `heard` reports its losses, each in
+ * its place. */
 static int32_t read_router(struct neli_host *host, size_t handle) {
     struct neli_item item;
     int32_t code;
@@ -316,7 +317,7 @@ static bool has_read(int32_t code) {
            code == NELI_BYTES;
 }
 
-/* What a handle is given now. */
+/* The next item of a handle. */
 static int32_t read_now(struct neli_host *host, size_t handle, struct neli_message *message) {
     bool is_again = host->is_taken && host->taken == handle;
     int fault = handle == NELI_MULTICAST && !is_again ? take_loss(&host->heard) : 0;
@@ -357,7 +358,7 @@ int32_t neli_host_next(struct neli_host *host, size_t handle, struct neli_messag
 
 /* ---- A picture ---- */
 
-/* Drops what has come to groups, until nothing is there. */
+/* Drops the messages that have arrived for groups, until none is left. */
 static int32_t drop_multicast(struct neli_host *host) {
     int64_t end = link_end_of_wait(&host->link);
     int32_t code = NELI_OK;
@@ -380,7 +381,7 @@ static int32_t answer_of(const struct neli_host *host, const struct neli_message
     return neli_get_answer(host->item, host->item_length, message, &answer) == NELI_OK ? answer.code : 0;
 }
 
-/* Whether a dump that came out so may come out well when it is asked for again. */
+/* Whether a dump with this result may be complete when it is requested again. */
 static bool is_passing(const struct neli_host *host, int32_t code, const struct neli_message *last) {
     if (code == NELI_INTERRUPTED) return true;
     if (code == NELI_LINK) return host->fault != EAGAIN && host->fault != EINTR && host->fault != ECANCELED;
@@ -388,7 +389,7 @@ static bool is_passing(const struct neli_host *host, int32_t code, const struct 
     return answer == -EBUSY || answer == -ENOBUFS;
 }
 
-/* Asks for a list once. */
+/* Requests a list once. */
 static int32_t take_dump(struct neli_host *host, const struct neli_dump *dump, struct neli_message *last) {
     struct neli_verdict verdict;
     size_t handle;
@@ -433,7 +434,7 @@ const char *neli_host_text(const struct neli_host *host, const struct neli_attri
     return neli_text_length(payload, attribute->payload_length, &length) == NELI_OK ? (const char *)payload : NULL;
 }
 
-/* What the kernel says of its refusal, appended to the text. */
+/* The kernel's reason for its refusal, appended to the text. */
 static void append_words(const struct neli_host *host, const struct neli_answer *answer, char *text, size_t room) {
     struct neli_attribute found;
     size_t used = strlen(text);

@@ -1,4 +1,4 @@
-/* What is behind `neli_host.h`: a socket, a router over it, and what was received and is not read yet. */
+/* The inside of `neli_host.h`: a socket, a router over it, and the datagrams that are received and not yet read. */
 #ifndef HOST_H
 #define HOST_H
 
@@ -6,21 +6,21 @@
 #include "link.h"
 #include "neli_host.h"
 
-/* A loss: how many messages came before it, and the fault. */
+/* A loss: the number of messages before it, and the fault. */
 struct loss {
     uint64_t place;
     int fault;
 };
 
-/* What was lost among messages that are read in order. */
+/* The losses among messages that are read in order. */
 struct losses {
     uint64_t came, read;
     struct loss *at;
     size_t count, room;
 };
 
-/* What was received and is not handed in yet: the rest of the datagram, or a fault. A part stays where there was no
- * memory; `is_half` says that the first messages of the rest have gone to their request, and not yet to multicast. */
+/* The received part that is not yet handed in: the rest of the datagram, or a fault. A part stays if there was no
+ * memory; `is_half` is set when the first messages of the rest have gone to their request, and not yet to multicast. */
 struct held {
     bool is_datagram, is_half, is_fault;
     struct neli_walk walk;
@@ -50,11 +50,12 @@ struct neli_host {
     int32_t taken_code;
 };
 
-/* Opens the socket, and the router; `host_end` closes both, also where this is refused. */
+/* Opens the socket, and the router; `host_end` closes both, even after a refusal. */
 int32_t host_begin(struct neli_host *host, int family, const uint32_t *groups, size_t count);
 void host_end(struct neli_host *host);
 
-/* Takes in what is there, until no dump runs, what was given up has its answer, and nothing is dropped any more. */
+/* Takes in all that has arrived, until no dump runs, given-up requests have their answers, and nothing is dropped any
+ * more. */
 int32_t host_settle(struct neli_host *host);
 
 #endif

@@ -1,4 +1,4 @@
-/* The requests of a router whose answers may still come, and whom a message is for. `host.c` stands on it. */
+/* The requests of a router whose answers may still arrive, and the receiver of a message. `host.c` uses it. */
 #ifndef LEDGER_H
 #define LEDGER_H
 
@@ -21,7 +21,7 @@ struct ledger {
     bool is_congested; /* whether something was lost, and the socket was not seen empty since */
 };
 
-/* Whom a message is for. Nobody, where its request was given up. */
+/* The receiver of a message. None, if its request was given up. */
 struct owners {
     bool has_request, is_group, is_unasked;
     size_t handle;
@@ -29,30 +29,31 @@ struct owners {
 
 void ledger_free(struct ledger *ledger);
 
-/* Has room for so many more requests, or answers NELI_MEMORY. */
+/* Makes room for so many more requests, or returns NELI_MEMORY. */
 int32_t ledger_reserve(struct ledger *ledger, size_t count);
 
-/* A request was sent, for which there is room. */
+/* Notes a sent request, for which there is room. */
 void ledger_add(struct ledger *ledger, uint32_t number, uint16_t flags, size_t handle);
 
-/* The request with this number, or that with this open handle; NULL where there is none. */
+/* The request with this number, or that with this open handle; NULL if there is none. */
 struct open *ledger_number(const struct ledger *ledger, uint32_t number);
 struct open *ledger_handle(const struct ledger *ledger, size_t handle);
 
-/* Nobody reads this request any more. Its number stays until its answer has ended. */
+/* Notes that this request is no longer read. Its number stays until its answer has ended. */
 void ledger_give_up(struct ledger *ledger, struct open *open);
 
-/* Its answer has ended, or it was not sent. */
+/* Notes that its answer has ended, or that it was not sent. */
 void ledger_end(struct ledger *ledger, struct open *open);
 
-/* Something was lost. From then on the kernel drops all that is for the socket, replies too, until it is empty. */
+/* Notes a loss. From then on the kernel drops all for the socket, replies too, until it is empty. */
 void ledger_note_loss(struct ledger *ledger);
 
-/* Nothing is left in the socket. The kernel answers while a request is sent, and goes on with a dump whenever the
- * socket is received from; so no dump runs, and what was given up is answered, or will never be. */
+/* Notes that the socket is empty. The kernel answers while a request is sent, and continues a dump whenever the socket
+ * is received from; so no dump runs, and given-up requests are answered, or will never be. */
 void ledger_note_quiet(struct ledger *ledger);
 
-/* The request whose answer a message is part of that came to a group, or to none, which is 0; NULL where it is none. */
+/* The request whose answer has this message, which arrived for a group, or for none, which is 0; NULL if there is
+ * none. */
 struct open *ledger_request(const struct ledger *ledger, const struct neli_message *message, uint32_t group);
 
 /* Whether a message is the last one of its request's answer. */

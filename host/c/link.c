@@ -10,8 +10,8 @@
 #include <time.h>
 #include <unistd.h>
 
-/* The room that a datagram is received into. The kernel fills a dump's up to 32 KiB, and a message of its own may be
- * longer. Of what is not used there is no memory. */
+/* The room for a received datagram. The kernel fills a dump's up to 32 KiB, and a message of its own may be longer. The
+ * unused part takes no memory. */
 #define ROOM (1u << 20)
 
 /* The room for a padding. */
@@ -70,7 +70,7 @@ int32_t link_send(struct link *link, const uint8_t *bytes, size_t length) {
     return sent < 0 ? failed(link) : NELI_OK;
 }
 
-/* The group of a datagram, which the control message tells. */
+/* The group of a datagram, from the control message. */
 static uint32_t group_of(struct msghdr *header) {
     for (struct cmsghdr *it = CMSG_FIRSTHDR(header); it != NULL; it = CMSG_NXTHDR(header, it)) {
         struct nl_pktinfo info;
@@ -81,7 +81,7 @@ static uint32_t group_of(struct msghdr *header) {
     return 0;
 }
 
-/* Receives what is there: its length as it was sent, or -1. */
+/* Receives the next datagram: its length as it was sent, or -1. */
 static ssize_t receive(const struct link *link, struct sockaddr_nl *from, uint32_t *group) {
     union {
         struct cmsghdr aligned;
@@ -113,7 +113,7 @@ static bool has_room(struct link *link, size_t size) {
     return true;
 }
 
-/* The length of a datagram with the last padding, where a message is whole but for that. */
+/* The length of a datagram with the last padding, if a message is whole without it. */
 static size_t completed(const struct link *link, size_t length) {
     struct neli_walk walk = {0, length};
     struct neli_message message;
@@ -161,7 +161,7 @@ bool link_is_over(int64_t end) {
     return end >= 0 && milliseconds() >= end;
 }
 
-/* How many milliseconds are left, for `poll`. */
+/* The milliseconds left, for `poll`. */
 static int left_until(int64_t end) {
     if (end < 0) return -1;
     int64_t left = end - milliseconds();

@@ -1,7 +1,7 @@
-/* Lists links and their IPv4 addresses, as `link 1 lo mtu 65536 up` and `address 1 127.0.0.1/8`; `list INDEX` the
- * addresses of that link alone. What changes while it is listed is asked for again. The status says whether all of it
- * is there: 0; 2 where it still changed, 3 where the kernel ended the list with an error, 4 where some was lost, with a
- * line on stderr. What came is printed all the same. */
+/* Lists links and their IPv4 addresses, as `link 1 lo mtu 65536 up` and `address 1 127.0.0.1/8`; `list INDEX` only the
+ * addresses of that link. A list that changes meanwhile is requested again. The status reports whether it is complete:
+ * 0; 2 if it still changed, 3 if the kernel ended the list with an error, 4 if a part was lost, with a line on stderr.
+ * The part that arrived is printed in any case. */
 #include "request.h"
 #include <arpa/inet.h>
 #include <linux/if_addr.h>
@@ -12,7 +12,7 @@
 #include <stdlib.h>
 #include <string.h>
 
-/* How many times a list is asked for that changes meanwhile. */
+/* The maximum number of requests for a list that changes meanwhile. */
 #define TIMES 5
 
 /* The lines of a list. */
@@ -22,7 +22,7 @@ struct lines {
     FILE *out;
 };
 
-/* An empty list, which takes the place of what came before. */
+/* An empty list, which replaces the earlier attempt. */
 static void begin(struct lines *lines) {
     rewind(lines->out);
 }
@@ -69,7 +69,7 @@ static void put_address(const struct neli_host *host, const struct neli_message 
     fprintf(lines->out, "address %u %s/%u\n", address.ifa_index, text, address.ifa_prefixlen);
 }
 
-/* Asks for a list, and prints it: the status that says whether all of it is there. */
+/* Requests a list, and prints it: returns the status that reports whether it is complete. */
 static enum status print_list(struct neli_host *host, struct neli_dump dump) {
     struct neli_message last;
     struct lines lines = {0};

@@ -1,6 +1,6 @@
 /* `make add NAME PEER ADDRESS/BITS NET/BITS` makes a pair of links, sets both up, and gives the first an address and a
- * route; `make del` with the same words takes route, address and links away. It says why the kernel
- * refuses, and ends with status 3 then, and with 4 where it was not answered: it may be done or not. */
+ * route; `make del` with the same words removes route, address and links. It prints why the kernel refuses, and then
+ * ends with status 3, and with 4 without an answer: the change may be done or not. */
 #include "request.h"
 #include <arpa/inet.h>
 #include <linux/if_addr.h>
@@ -32,7 +32,7 @@ static struct net net_of(const char *text) {
     return net;
 }
 
-/* Has something done, or ends the program. */
+/* Sends a change, or ends the program. */
 static void do_it(struct neli_host *host, uint16_t type, uint16_t flags, const struct body *body) {
     struct neli_message message;
     int32_t code = ask(host, type, flags, body, &message);

@@ -1,5 +1,5 @@
-/* Bodies of requests, having something done, and how a program ends: with a status that says whether what it was given
- * is all of the kernel's answer, and a line of why it is not. */
+/* Bodies of requests, changes, and how a program ends: with a status that reports whether it printed all of the
+ * kernel's answer, and a line with the cause if not. */
 #ifndef REQUEST_H
 #define REQUEST_H
 
@@ -51,7 +51,7 @@ struct body pair(const char *name, const char *peer);
 /* A body of the link with this index, whose flag IFF_UP is set to `is_up`; for an index of 0 of none. */
 struct body link_body(int index, bool is_up);
 
-/* Sends a request, and waits for the kernel's word: NELI_OK that it is done, or why not. */
+/* Sends a request, and waits for the kernel's acknowledgement: NELI_OK if it is done, or why not. */
 int32_t ask(struct neli_host *host, uint16_t type, uint16_t flags, const struct body *body,
             struct neli_message *message);
 

@@ -1,11 +1,11 @@
-/* `resolve FAMILY` prints the number of a family of generic netlink, and those of its multicast groups. It ends
- * with status 3 where there is none, and 4 where its answer was lost. */
+/* `resolve FAMILY` prints the number of a family of generic netlink, and those of its multicast groups. It ends with
+ * status 3 if no family has the name, and 4 if the answer was lost. */
 #include "request.h"
 #include <linux/genetlink.h>
 #include <linux/netlink.h>
 #include <stdio.h>
 
-/* A group's name and number, out of the attribute that has both. */
+/* A group's name and number, from the attribute that has both. */
 static void print_group(const struct neli_host *host, const struct neli_attribute *group) {
     struct neli_walk fields;
     struct neli_attribute name, number;
@@ -17,7 +17,7 @@ static void print_group(const struct neli_host *host, const struct neli_attribut
     printf("group %s %u\n", neli_host_text(host, &name), id);
 }
 
-/* What the controller tells of a family. */
+/* The controller's answer for a family. */
 static void print_family(const struct neli_host *host, const struct neli_message *message, const char *family) {
     struct neli_walk walk, groups;
     struct neli_attribute found, group;

@@ -1,4 +1,4 @@
-/* What `list` prints, by libmnl: `host/test` compares them where libmnl is there. */
+/* The output of `list`, by libmnl: `host/test` compares them if libmnl is installed. */
 #include <arpa/inet.h>
 #include <libmnl/libmnl.h>
 #include <linux/if_addr.h>

@@ -8,7 +8,7 @@
 /* So many pairs of links are listed in several datagrams. */
 #define MANY 60
 
-/* What one call gives of a message's attributes is what single calls give. */
+/* One call for several attributes of a message returns those of single calls. */
 static void want_same_attributes(const uint8_t *bytes, size_t length, const struct neli_message *message) {
     struct neli_walk walk, single;
     struct neli_attribute attributes[5], attribute;
@@ -137,7 +137,7 @@ static void a_buffer_that_ran_over(void) {
     set_buffer(host, 1);
     size_t waiting = send_question(host, 1);
     for (int i = 0; i < 100; i++) done(other, RTM_SETLINK, 0, link_body(1, i % 2 == 0));
-    /* The request that was under way is told, or was answered before. */
+    /* The open request gets the fault, or was answered before. */
     while ((code = neli_host_next(host, waiting, &message)) == NELI_ITEM) continue;
     WANT(code == NELI_END || (code == NELI_LINK && host->fault == ENOBUFS));
     WANT(neli_host_close_request(host, waiting) == NELI_OK);
@@ -207,7 +207,7 @@ static void notify(struct neli_router *router, uint16_t type, const void *body, 
     WANT(neli_router_datagram(router, out, writer.end, &group, 1) == NELI_OK);
 }
 
-/* Who listens goes on past an error message and faults of the link. */
+/* A listener continues after an error message and faults of the link. */
 static void listening_goes_on(void) {
     struct neli_router router = NELI_ROUTER_CLOSED;
     struct neli_item item = {0};

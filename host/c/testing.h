@@ -1,4 +1,4 @@
-/* What the tests in C share. A claim that does not hold ends the program with status 1. */
+/* Shared parts of the tests in C. A claim that does not hold ends the program with status 1. */
 #ifndef TESTING_H
 #define TESTING_H
 
@@ -14,14 +14,14 @@ struct test {
     void (*run)(void);
 };
 
-/* `test NAME` runs one test, which makes and changes links: it wants to be told by NELI_OWN_NAMESPACE that it has a
- * network namespace of its own, as `host/test` gives it. `test` alone prints the names. The status of the program. */
+/* `test NAME` runs one test, which makes and changes links: NELI_OWN_NAMESPACE must confirm that it has a network
+ * namespace of its own, as `host/test` gives it. `test` alone prints the names. Returns the status of the program. */
 int run_tests(int argc, char **argv, const struct test *tests, size_t count);
 
 /* A host of routing, in the group of links or in none. */
 struct neli_host *route_host(bool listens);
 
-/* Has something done. */
+/* Sends a change, and waits for its acknowledgement. */
 void done(struct neli_host *host, uint16_t type, uint16_t flags, struct body body);
 
 /* Makes pairs of links. */
@@ -33,14 +33,14 @@ void remove_link(struct neli_host *host, const char *name);
 /* Sets the loopback link up or down. */
 void set_loopback(struct neli_host *host, bool is_up);
 
-/* Asks for all links, or for one. */
+/* Requests all links, or one. */
 size_t send_dump(struct neli_host *host);
 size_t send_question(struct neli_host *host, int index);
 
-/* How many links are left of a dump, which is read to its end and closed. */
+/* The number of remaining links in a dump, which is read to its end and closed. */
 int count_links(struct neli_host *host, size_t dump);
 
-/* The loopback link comes, and then the acknowledgement; the handle is closed. */
+/* The loopback link arrives, and then the acknowledgement; the handle is closed. */
 void want_loopback(struct neli_host *host, size_t handle);
 
 /* A wait ends after a fifth of a second, as EAGAIN. */
@@ -49,7 +49,7 @@ void set_short_wait(struct neli_host *host);
 /* Sets the size of the socket's buffer, which the kernel doubles. */
 void set_buffer(struct neli_host *host, int size);
 
-/* Whether a code says that a wait is over, with this number. */
+/* Whether a code means that a wait has ended, with this number. */
 bool is_over(const struct neli_host *host, int32_t code, int fault);
 
 #endif

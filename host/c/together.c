@@ -7,7 +7,7 @@
 
 static const struct ifinfomsg loopback = {.ifi_index = 1}, none = {.ifi_index = 4711}, all;
 
-/* A question for a link that is acknowledged. */
+/* A request for a link that is acknowledged. */
 static struct neli_host_request question(const struct ifinfomsg *link) {
     return (struct neli_host_request){RTM_GETLINK, NLM_F_ACK, link, sizeof *link};
 }
@@ -39,7 +39,7 @@ static void each_has_its_answer(void) {
     neli_host_close(host);
 }
 
-/* The kernel does the others, and what comes for one that is closed is nobody's. */
+/* The kernel performs the others, and messages for a closed one have no receiver. */
 static void some_are_closed_unread(void) {
     struct neli_host *host = route_host(false);
     struct neli_host_request requests[] = {question(&loopback), question(&none), question(&loopback)};
@@ -72,7 +72,7 @@ static void a_refusal_sends_none(void) {
     neli_host_close(host);
 }
 
-/* Requests of 40000 bytes, by an attribute of a number that the kernel does not know and passes over. */
+/* Requests of 40000 bytes, by an attribute of a number that the kernel does not know and skips. */
 static void they_may_be_long(void) {
     enum { LENGTH = 40000 };
     struct neli_host *host = route_host(false);
@@ -94,7 +94,7 @@ static void they_may_be_long(void) {
     neli_host_close(host);
 }
 
-/* The kernel refuses a datagram that its buffer for what is sent cannot hold, and nothing is open then. */
+/* The kernel refuses a datagram that exceeds its send buffer, and nothing is open then. */
 static void they_may_be_too_long(void) {
     enum { LENGTH = 1 << 20 };
     struct neli_host *host = route_host(false);
@@ -133,7 +133,7 @@ void *__wrap_realloc(void *at, size_t size) {
     return is_refused() ? NULL : __real_realloc(at, size);
 }
 
-/* Whichever allocation is refused, none is sent, and the same call can be made again. */
+/* Whichever allocation is refused, none is sent, and the same call can be repeated. */
 static void memory_that_is_refused(void) {
     struct neli_host_request requests[] = {question(&loopback), question(&none), question(&loopback)};
     size_t handles[3];

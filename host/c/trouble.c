@@ -1,4 +1,5 @@
-/* The layer over the socket under trouble: what is closed early, lost, echoed, never answered or not asked for. */
+/* The layer over the socket under trouble: requests that are closed early, lost, echoed or never answered, and messages
+ * without a request. */
 #define _GNU_SOURCE
 #include "testing.h"
 #include <errno.h>
@@ -60,7 +61,7 @@ static void a_handle_that_is_closed_unread(void) {
     neli_host_close(host);
 }
 
-/* The answers of a request end with a loss, and the kernel's replies come all the same. */
+/* The answers of a request end with a loss, and the kernel's replies arrive all the same. */
 static void a_handle_that_is_closed_after_a_loss(void) {
     struct neli_host *other = route_host(false), *host = route_host(true);
     struct neli_message message;
@@ -159,7 +160,7 @@ static size_t send_address(struct neli_host *host, uint16_t flags, uint8_t last)
     return handle;
 }
 
-/* An address comes, and then nothing more, or the acknowledgement. */
+/* An address arrives, and then nothing more, or the acknowledgement. */
 static void want_echo(struct neli_host *host, size_t handle, bool has_ack) {
     struct neli_message message;
     WANT(neli_host_next(host, handle, &message) == NELI_ITEM && message.type == RTM_NEWADDR);
@@ -181,7 +182,7 @@ static void an_echo_reaches_its_request(void) {
     set_short_wait(host);
     want_echo(host, send_address(host, NLM_F_ECHO | NLM_F_ACK, 3), true);
     WANT(neli_host_next(host, NELI_MULTICAST, &message) == NELI_ITEM && message.type == RTM_NEWADDR);
-    /* Without ECHO what the request causes is a notification alone, though it has the request's number. */
+    /* Without ECHO the request causes only a notification, though it has the request's number. */
     size_t quiet = send_address(host, NLM_F_ACK, 4);
     WANT(neli_host_next(host, quiet, &message) == NELI_ITEM && message.type == NLMSG_ERROR);
     WANT(neli_host_next(host, NELI_MULTICAST, &message) == NELI_ITEM && message.type == RTM_NEWADDR);
@@ -202,7 +203,7 @@ static void a_loss_stands_where_it_came(void) {
     for (int i = 0; i < 100; i++) set_loopback(other, i % 2 == 0);
     size_t told = send_question(host, 1);
     WANT(is_over(host, neli_host_next(host, told, &message), ENOBUFS));
-    /* That a wait is over is no fault of the socket, and changes nothing of what is told of one. */
+    /* The end of a wait is no fault of the socket, and does not change its reported fault. */
     WANT(neli_host_close_request(host, told) == NELI_OK);
     WANT(is_over(host, neli_host_next(host, send_unanswered(host), &message), EAGAIN));
     WANT(neli_host_next(host, NELI_MULTICAST, &message) == NELI_ITEM && message.type == RTM_NEWLINK);
@@ -243,7 +244,7 @@ static int32_t resync(struct neli_host *host, int times, struct picture *picture
     return neli_host_resync(host, &dump, &last);
 }
 
-/* Makes and removes links, and changes the MTU of another, as fast as it can. It comes back when it is under way. */
+/* Makes and removes links, and changes the MTU of another, as fast as it can. It returns when it has begun. */
 static pid_t storm(int first, int rounds) {
     int both[2];
     char byte;
@@ -367,9 +368,9 @@ static void a_wait_is_stopped(void) {
     neli_host_close(host);
 }
 
-/* ---- Not asked for, and other small things ---- */
+/* ---- Messages without a request, and other small things ---- */
 
-/* A question behind the router's back: its answer has a number that no request has. */
+/* A request behind the router's back: its answer has a number that no request has. */
 static void ask_by_hand(struct neli_host *host, uint32_t number) {
     struct ifinfomsg link = {.ifi_index = 1};
     struct neli_writer writer = {0};
@@ -446,14 +447,14 @@ static void a_padding_that_was_left_out(void) {
     /* The length of an item is that with its padding. */
     WANT(neli_host_next(host, handle, &message) == NELI_ITEM && message.length == 36);
     WANT(memcmp(host->item + message.payload, "17 bytes, or more\0\0", 20) == 0);
-    /* What ends before its last byte is a fault all the same, and everyone is told. */
+    /* A datagram that ends before its last byte is a fault all the same, which every handle gets. */
     play(kernel, host, RTM_NEWLINK, 0, "17 bytes, or more", 17, 4);
     WANT(neli_host_next(host, other, &message) < NELI_OK);
     neli_host_close(host);
     close(kernel);
 }
 
-/* A program may have closed what is not its own. */
+/* A program may have closed the host's descriptor. */
 static void a_socket_that_is_gone(void) {
     static struct picture picture;
     struct neli_host *host = route_host(true);
@@ -503,13 +504,13 @@ void *__wrap_realloc(void *at, size_t size) {
     return is_refused() ? NULL : __real_realloc(at, size);
 }
 
-/* The next item, and again where memory ran out. */
+/* The next item, and again if memory ran out. */
 static int32_t next_again(struct neli_host *host, size_t handle, struct neli_message *message) {
     int32_t code = neli_host_next(host, handle, message);
     return code == NELI_MEMORY ? neli_host_next(host, handle, message) : code;
 }
 
-/* Whichever allocation is refused, the same call can be made again, and nothing is lost. */
+/* Whichever allocation is refused, the same call can be repeated, and nothing is lost. */
 static void memory_that_is_refused_once(void) {
     static const uint32_t groups[] = {RTNLGRP_IPV4_IFADDR};
     struct ifinfomsg link = {.ifi_index = 1};

@@ -1,4 +1,4 @@
-/* Whether what was given is all of an answer: dumps that are complete, interrupted or fail. */
+/* Whether an answer is complete: dumps that are complete, interrupted or fail. */
 #include "testing.h"
 #include <errno.h>
 #include <linux/if_addr.h>
@@ -10,7 +10,7 @@
 /* So many pairs of links are listed in several datagrams. */
 #define MANY 150
 
-/* Two hosts, and so many links that the second lists them in many datagrams, one of which has room in its socket. */
+/* Two hosts, and so many links that the second lists them in many datagrams, one of which fits its socket. */
 static struct neli_host *with_many_links(struct neli_host **other) {
     struct neli_host *host = route_host(false);
     *other = route_host(false);
@@ -62,7 +62,7 @@ static void count_link(const struct neli_host *host, const struct neli_message *
     }
 }
 
-/* Asks for all links. */
+/* Requests all links. */
 static int32_t count_all(struct neli_host *host, int times, struct listing *listing) {
     static const struct ifinfomsg all;
     struct neli_message last;
@@ -86,7 +86,7 @@ static void a_dump_that_is_repeated(void) {
     neli_host_close(host);
 }
 
-/* Asks for the addresses of one link. */
+/* Requests the addresses of one link. */
 static int32_t addresses_of(struct neli_host *host, uint32_t index, struct neli_verdict *verdict, int *count) {
     struct ifaddrmsg of = {.ifa_family = AF_INET, .ifa_index = index};
     struct neli_message message;
@@ -105,7 +105,7 @@ static void ignore(const struct neli_host *host, const struct neli_message *mess
     (void)host, (void)message, (void)list;
 }
 
-/* The kernel ends the list of a link that is not there with NLMSG_DONE and ENODEV, where it looks at the index. */
+/* The kernel ends the list of a missing link with NLMSG_DONE and ENODEV, if it checks the index. */
 static void a_dump_that_fails_at_its_end(void) {
     struct neli_host *host = route_host(false);
     struct ifaddrmsg of = {.ifa_family = AF_INET, .ifa_index = 4711};

@@ -1,6 +1,6 @@
-/* `watch [COUNT]` prints changes of links, addresses and routes as they come: as `Newlink 3 veth0`. It goes on where
- * some were lost or one cannot be read, and says so, as `lost some: No buffer space available`. At the end of COUNT the
- * status says whether all are there: 0, or 4 where not. */
+/* `watch [COUNT]` prints changes of links, addresses and routes as they arrive: as `Newlink 3 veth0`. It continues
+ * after lost messages and after one that cannot be read, and reports both, as `lost some: No buffer space available`.
+ * After COUNT changes the status reports whether all arrived: 0, or 4 if not. */
 #include "request.h"
 #include <arpa/inet.h>
 #include <linux/if_addr.h>
@@ -12,7 +12,7 @@
 
 static const uint32_t groups[] = {RTNLGRP_LINK, RTNLGRP_IPV4_IFADDR, RTNLGRP_IPV4_ROUTE};
 
-/* An IPv4 address in an attribute of a message with a body of this size; 0.0.0.0 where it is not there. */
+/* An IPv4 address in an attribute of a message with a body of this size; 0.0.0.0 if it is missing. */
 static const char *address_in(const struct neli_host *host, const struct neli_message *message, size_t size,
                               uint16_t number) {
     static char text[INET_ADDRSTRLEN];

@@ -33,7 +33,7 @@ static inline uint8_t *placed(uint8_t *room, const uint8_t *bytes, size_t length
     return at;
 }
 
-/* What is left of a script. */
+/* The rest of a script. */
 struct script {
     const uint8_t *at;
     size_t left;
@@ -58,8 +58,8 @@ static inline size_t padded(size_t length) {
     return (length + 3) / 4 * 4;
 }
 
-/* The model of a frame: where bytes begin with one whose header has so many bytes and states this length, NELI_ITEM,
- * and the size of the frame with its padding; else why not. */
+/* The model of a frame: if bytes begin with one whose header has so many bytes and states this length, NELI_ITEM, and
+ * the size of the frame with its padding; else why not. */
 static inline int32_t frame(size_t left, size_t head, size_t stated, size_t *size) {
     if (left == 0) return NELI_END;
     if (left < head) return NELI_SHORT;

@@ -1,6 +1,6 @@
-/* The router by any calls, against a model: who gets what, and where answers end, by docs/ROUTER.md. Datagrams lie
- * beside pages that nothing may touch. A script may have an allocation refused: then the call changes nothing, and the
- * same call is made again. */
+/* The router by any calls, against a model: the receivers, and the ends of answers, by docs/ROUTER.md. Datagrams lie
+ * beside pages that nothing may touch. A script may have an allocation refused: then the call changes nothing, and is
+ * repeated. */
 #include "guard.h"
 
 #define HANDLES 12
@@ -9,7 +9,7 @@
 
 enum kind { MESSAGE, STRAY, REFUSED, LOST };
 
-/* What waits for a handle: a message, with its padding, or a fault. */
+/* A delivery that waits for a handle: a message, with its padding, or a fault. */
 struct delivery {
     enum kind kind;
     uint8_t bytes[256]; /* a length of one byte is the largest that a script states */
@@ -50,7 +50,7 @@ void *__wrap_realloc(void *at, size_t size) {
     return is_refused() ? NULL : __real_realloc(at, size);
 }
 
-/* Makes a call, and again where it was refused memory. */
+/* Makes a call, and again if it was refused memory. */
 #define CALLED(code, call)                                     \
     do {                                                       \
         code = (call);                                         \
@@ -96,7 +96,7 @@ static bool are_attributes(const uint8_t *at, size_t left) {
     return code == NELI_END;
 }
 
-/* Whether a message can be read: what its type says of its payload. */
+/* Whether a message can be read, by the payload of its type. */
 static bool is_readable(const uint8_t *at) {
     uint32_t type = u16_at(at + 4), flags = u16_at(at + 6);
     size_t left = u32_at(at) - 16;
@@ -111,14 +111,14 @@ static bool is_readable(const uint8_t *at) {
     return place >= left || are_attributes(payload + place, left - place);
 }
 
-/* A code that says why bytes cannot be read. */
+/* A code with the reason why bytes cannot be read. */
 #define UNREADABLE 4711
 
 static bool is_unreadable(int32_t code) {
     return code == NELI_SHORT || code == NELI_LENGTH || code == NELI_BYTES;
 }
 
-/* A datagram ends at the first message that cannot be read, which every handle with a number is told. */
+/* A datagram ends at the first message that cannot be read; every handle with a number gets this. */
 static void deliver_datagram(const uint8_t *bytes, size_t length, bool is_group) {
     size_t size = 0;
     for (size_t place = 0;; place += size) {

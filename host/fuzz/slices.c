@@ -1,5 +1,5 @@
-/* Reading and writing by slices, on any bytes, against a model of a few lines. What is read and what is written lies
- * beside pages that nothing may touch. */
+/* Reading and writing by slices, on any bytes, against a model of a few lines. The bytes read and written lie beside
+ * pages that nothing may touch. */
 #include "guard.h"
 
 #define SEVERAL 5
@@ -67,7 +67,7 @@ static void try_attributes(const uint8_t *bytes, size_t length, struct neli_walk
     WANT(count == 0 && walk.place == model.place && several.place == model.place);
 }
 
-/* What an error, an acknowledgement or the end of a dump says. */
+/* The fields of an error, an acknowledgement or the end of a dump. */
 static void try_answer(const uint8_t *bytes, size_t length, const struct neli_message *message) {
     struct neli_answer answer;
     const uint8_t *payload = bytes + message->payload;

@@ -1,7 +1,7 @@
 """Netlink for Python over libneli.so: sockets, requests and their replies, and messages and attributes by bytes.
 
-Messages and attributes are read and written, and each reply is given to the request that it answers, by the proved
-library; the sockets are its C layer, and this file hands on by ctypes. It needs Python 3.8 and nothing else.
+The proved library reads and writes messages and attributes, and delivers each reply to its request; the sockets are its
+C layer, which this file calls by ctypes. It needs Python 3.8 and nothing else.
 
     import neli
     with neli.NetlinkSocket(neli.NETLINK_ROUTE) as sock:
@@ -84,7 +84,7 @@ class _Verdict(ctypes.Structure):
 
 
 def _library():
-    """The library, with what each call takes."""
+    """The library, with the parameters of each call."""
     library = ctypes.CDLL(os.environ.get("NELI_LIBRARY") or "libneli.so.0")
     pointer, size, u16, i32 = ctypes.c_void_p, ctypes.c_size_t, ctypes.c_uint16, ctypes.c_int32
     calls = {
@@ -128,7 +128,7 @@ def version():
 
 
 def stamp():
-    """What the library was built from, a line each."""
+    """The origin of the library's build, a line each."""
     return _lib.neli_stamp().decode()
 
 
@@ -139,10 +139,10 @@ def _text_of(code):
 
 
 class NetlinkError(OSError):
-    """Why a request was refused, or an answer is not whole.
+    """Why a request was refused, or an answer is incomplete.
 
-    `code` is a number of errno.h, as of the kernel's error or of the socket; 0 where there is none. `status` is the
-    code of neli.h, and `str` says it in words, with the kernel's own text and offset where it gave them.
+    `code` is a number of errno.h, from the kernel's error or from the socket; 0 if there is none. `status` is the code
+    of neli.h, and `str` returns it in words, with the kernel's own text and offset if it sent them.
     """
 
     def __init__(self, code, text, status=KERNEL_ERROR):
@@ -191,7 +191,7 @@ class Attribute:
         return os.fsdecode(text)
 
     def attrs(self):
-        """The attributes that its payload lists."""
+        """The attributes in its payload."""
         return _attributes(self.payload, 0, len(self.payload))
 
     def get_attr(self, number):
@@ -235,7 +235,7 @@ class Message:
 
     @property
     def is_interrupted(self):
-        """Whether the kernel marked it: what is listed changed meanwhile."""
+        """Whether the kernel marked it: the listed objects changed meanwhile."""
         return bool(self.flags & NLM_F_DUMP_INTR)
 
     def attrs(self, header_size=None):
@@ -255,7 +255,7 @@ class Message:
 
 
 def messages(data, family=None):
-    """The messages of a datagram; ValueError where it cannot be read to its end."""
+    """The messages of a datagram; ValueError if it cannot be read to its end."""
     data, walk, found = bytes(data), _Walk(0, len(data)), []
     while True:
         read = _Message()
@@ -282,7 +282,7 @@ def nla(number, value, nested=False):
 
 
 class Verdict:
-    """How an answer stands: `is_complete` says that what was given is all of it; else `code` of neli.h says why not."""
+    """The verdict on an answer: `is_complete`; if it is not, `code` of neli.h is the reason."""
 
     def __init__(self, code, said):
         self.code, self.error, self.is_filtered = code, said.error, bool(said.filtered)
@@ -298,8 +298,8 @@ class Verdict:
 class Reply:
     """The answer to a request: an iterator over its messages, without the acknowledgement and the end.
 
-    It raises a NetlinkError where the kernel refuses, and at the end where the answer is not all that there was. It
-    may be closed at any time.
+    It raises a NetlinkError if the kernel refuses, and at the end if the answer is incomplete. It may be closed at any
+    time.
     """
 
     def __init__(self, sock, handle):
@@ -326,7 +326,7 @@ class Reply:
         raise StopIteration
 
     def verdict(self):
-        """Whether what was given is all of the answer; of a closed one the last that was known."""
+        """Whether the answer is complete; for a closed one the last known verdict."""
         if self._handle is not None:
             said = _Verdict()
             code = _lib.neli_host_verdict(self._sock._at, self._handle, ctypes.byref(said))
@@ -334,7 +334,7 @@ class Reply:
         return self._last
 
     def close(self):
-        """Gives it up: what still comes for it is nobody's."""
+        """Gives it up: messages that still arrive for it are dropped."""
         if self._handle is not None and self._sock._at:
             self.verdict()
             _lib.neli_host_close_request(self._sock._at, self._handle)
@@ -342,7 +342,7 @@ class Reply:
 
 
 class NetlinkSocket:
-    """A socket of a netlink family, in these multicast groups, which gives each reply to its request."""
+    """A socket of a netlink family, in these multicast groups, which delivers each reply to its request."""
 
     def __init__(self, family=NETLINK_ROUTE, groups=()):
         self.family, self._at, self._said = family, None, None
@@ -360,7 +360,7 @@ class NetlinkSocket:
         _lib.neli_host_set_ends_by_signals(self._at, True)
 
     def bind(self, groups=()):
-        """Opens it anew, in these groups; what was open is closed."""
+        """Opens it again, in these groups; closes the open socket."""
         self.close()
         self._open(groups)
 
@@ -387,11 +387,11 @@ class NetlinkSocket:
         return _lib.neli_host_port(self._opened())
 
     def settimeout(self, seconds):
-        """How long a call waits in all; None is without end, as at first. Past it is a NetlinkError of EAGAIN."""
+        """Sets how long a call waits in all, by default without end (None); then it raises a NetlinkError of EAGAIN."""
         _lib.neli_host_set_wait(self._opened(), -1 if seconds is None else int(seconds * 1000))
 
     def set_strict(self):
-        """Has the kernel look at all fields of a dump's request: only so does it list what belongs to one link."""
+        """Makes the kernel check all fields of a dump's request: only then can a dump list the objects of one link."""
         self._well(_lib.neli_host_set_strict(self._opened()))
 
     def stop(self):
@@ -422,7 +422,7 @@ class NetlinkSocket:
             raise self._error(code)
 
     def _next(self, handle):
-        """The next item of a handle. A signal's handler runs, and the wait goes on where it raises nothing."""
+        """The next item of a handle. A signal's handler runs, and the wait continues if it raises nothing."""
         while True:
             read = _Message()
             code = _lib.neli_host_next(self._opened(), handle, ctypes.byref(read))
@@ -435,15 +435,15 @@ class NetlinkSocket:
         return code, self._said
 
     def request(self, msg_type, msg_flags=NLM_F_ACK, body=b""):
-        """Sends a request, and gives its Reply. `body` is the header of its type, and attributes of `nla`."""
+        """Sends a request, and returns its Reply. `body` is the header of its type, and attributes of `nla`."""
         handle, body = ctypes.c_size_t(), bytes(body)
         self._well(_lib.neli_host_send(self._opened(), msg_type, msg_flags, body, len(body), ctypes.byref(handle)))
         return Reply(self, handle.value)
 
     def request_all(self, requests):
-        """Sends requests, each a type, flags and a body, as one datagram, and gives the Reply to each.
+        """Sends requests, each a type, flags and a body, as one datagram, and returns the Reply to each.
 
-        The kernel does them in their order, also past one that it refuses. A refusal to send sends none of them.
+        The kernel performs them in their order, also past one that it refuses. A refusal to send sends none of them.
         """
         requests = [_Request(kind, flags, bytes(body), len(body)) for kind, flags, body in requests]
         handles = (ctypes.c_size_t * max(1, len(requests)))()
@@ -452,13 +452,13 @@ class NetlinkSocket:
         return [Reply(self, it) for it in handles[: len(requests)]]
 
     def nlm_request(self, body, msg_type, msg_flags=NLM_F_REQUEST | NLM_F_ACK):
-        """As `request`, with what pyroute2 takes first, and the list of its messages."""
+        """As `request`, with the body first as in pyroute2; returns the list of its messages."""
         return list(self.request(msg_type, msg_flags, body))
 
     def dump(self, msg_type, body=b"", msg_flags=0, times=5):
-        """The messages of a whole list, which is asked for again where it changed meanwhile, at most so many times.
+        """The messages of a whole list, which is requested again if it changed meanwhile, at most so many times.
 
-        A NetlinkError says why it is not whole: `status` is INTERRUPTED where it still changed.
+        A NetlinkError reports why it is incomplete: `status` is INTERRUPTED if it still changed.
         """
         for left in reversed(range(max(1, times))):
             try:
@@ -469,7 +469,7 @@ class NetlinkSocket:
                     raise
 
     def get(self):
-        """The next message that came to a group. Where some were lost it is a NetlinkError of ENOBUFS; more comes."""
+        """The next message for a group. If some were lost, raises a NetlinkError of ENOBUFS; more messages follow."""
         code, message = self._next(MULTICAST)
         if code == ITEM:
             return message

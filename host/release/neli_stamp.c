@@ -1,4 +1,4 @@
-/* `neli_stamp` prints what the library was built from: the commit, the prover and its verdict, and checksums. */
+/* `neli_stamp` prints the library's origin: the commit, the prover and its verdict, and checksums. */
 #include "neli.h"
 #include <stdio.h>
 

@@ -1,4 +1,4 @@
-/* What a library says of itself. `dist` gives NELI_STAMP. */
+/* A library's version and origin. `dist` gives NELI_STAMP. */
 #include "neli.h"
 
 #ifndef NELI_STAMP

@@ -11,10 +11,10 @@ use std::path::{Path, PathBuf};
 use std::process::Command;
 use std::{env, fs};
 
-/// A module: its name, what it has, and its tables with the type of their numbers.
+/// A module: its name, its contents, and its tables with the type of their numbers.
 type Module = (&'static str, &'static str, &'static [(&'static str, &'static str)]);
 
-/// The tables of each module, with the type of their numbers. A set of flags is told by its upper-case names.
+/// The tables of each module, with the type of their numbers. A set of flags is recognized by its upper-case names.
 const MODULES: &[Module] = &[
     (
         "nl",
@@ -82,8 +82,8 @@ fn main() {
     fs::write(out.join("consts.rs"), written(&tables(&text))).expect("the constants are written");
 }
 
-/// A file that this crate shares with the repository: beside the crate where it was packed, else where it stands. Code
-/// finds it by the variable `NELI_FILE_` with its name.
+/// A file that this crate shares with the repository: beside the crate if it was packed, else in its place. Code finds
+/// it by the variable `NELI_FILE_` with its name.
 fn shared(here: &Path, name: &str, place: &str) -> PathBuf {
     let packed = here.join(name);
     let file = if packed.is_file() { packed } else { here.join("../..").join(place) };
@@ -93,7 +93,7 @@ fn shared(here: &Path, name: &str, place: &str) -> PathBuf {
     file
 }
 
-/// Has a static library linked: from the folder that a variable names, or else from a place where it is looked for.
+/// Links a static library: from the folder that a variable names, or else from a default place.
 fn link(variable: &str, library: &str, place: impl FnOnce() -> PathBuf) {
     println!("cargo::rerun-if-env-changed={variable}");
     let folder = env::var_os(variable).map_or_else(place, PathBuf::from);
@@ -106,7 +106,7 @@ fn link(variable: &str, library: &str, place: impl FnOnce() -> PathBuf) {
     println!("cargo::rustc-link-lib=static={library}");
 }
 
-/// Has the library of `./dist` linked, as it is installed.
+/// Links the library of `./dist`, as it is installed.
 fn link_installed() {
     println!("cargo::rerun-if-env-changed=NELI_LIB");
     println!("cargo::rerun-if-env-changed=PKG_CONFIG_PATH");
@@ -116,7 +116,7 @@ fn link_installed() {
     println!("cargo::rustc-link-lib={kind}=neli");
 }
 
-/// Where pkg-config says that libneli is; else nowhere, and the linker looks where it always does.
+/// The folder of libneli by pkg-config; else none, and the linker looks in its usual places.
 fn folder_by_pkg_config() -> PathBuf {
     let program = env::var_os("PKG_CONFIG").unwrap_or_else(|| "pkg-config".into());
     let said = Command::new(program).args(["--variable=libdir", "neli"]).output();
@@ -129,7 +129,7 @@ fn folder_by_pkg_config() -> PathBuf {
     }
 }
 
-/// The kit's folder of C libraries, as its `rt` says.
+/// The kit's folder of C libraries, as its `rt` prints it.
 fn kit() -> PathBuf {
     let said = Command::new("rt").arg("doc").output().map(|it| it.stdout).unwrap_or_default();
     let page = String::from_utf8_lossy(&said);

@@ -1,7 +1,7 @@
-/* `relay FD SEED` passes requests from a socket pair on to the kernel, and what the kernel sends back: by the seed it
- * loses datagrams, with and without the fault that the kernel would report, repeats them, and gives them in another
- * order; and it changes a link now and then, so that there are notifications. After so many requests it passes on all
- * as it is. `shim.c` says how what it writes looks. */
+/* `relay FD SEED` passes requests from a socket pair on to the kernel, and the kernel's datagrams back: by the seed it
+ * loses datagrams, with and without the fault that the kernel would report, repeats them, and reorders them; and it
+ * changes a link now and then, so that there are notifications. After so many requests it passes on all unchanged.
+ * `shim.c` defines the form of its output. */
 #define _GNU_SOURCE
 #include <errno.h>
 #include <linux/if_link.h>
@@ -18,7 +18,7 @@
 #define STORM 60
 #define LATER 8
 
-/* A datagram that is given later: after so many others. */
+/* A datagram that is passed on later: after so many others. */
 struct later {
     uint8_t *bytes;
     size_t length;
@@ -73,7 +73,7 @@ static void pass_fault(void) {
     pass((uint8_t *)fault, sizeof fault);
 }
 
-/* Gives those whose turn has come, or all. */
+/* Passes on those whose turn has come, or all. */
 static void pass_later(bool all) {
     for (size_t i = 0; i < LATER; i++) {
         if (later[i].bytes == NULL || (!all && --later[i].after > 0)) continue;
@@ -93,7 +93,7 @@ static bool is_put_off(const uint8_t *bytes, size_t length) {
     return false;
 }
 
-/* What becomes of a datagram of the kernel. */
+/* The fate of a datagram of the kernel. */
 static void relay(const uint8_t *bytes, size_t length) {
     unsigned fate = requests < STORM ? below(100) : 99;
     if (fate < 6) return pass_fault();

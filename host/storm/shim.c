@@ -1,9 +1,8 @@
-/* Puts a relay between a program and the kernel: loaded before the C library (LD_PRELOAD), it gives the program's
- * first netlink socket as one end of a socket pair, whose other end has the program `$NELI_RELAY` by the seed
- * `$NELI_SEED`. What the program sends and what its socket gives is written into the file `$NELI_LOG`, as it happens.
- *
- * On the pair a datagram begins with four bytes: its group, or FAULT, and then four bytes with the number in errno.h.
- * In the file each record begins with its kind (1 sent, 2 given, 3 a fault), its group or number, and its length. */
+/* Puts a relay between a program and the kernel: loaded before the C library (LD_PRELOAD), it makes the program's first
+ * netlink socket one end of a socket pair, whose other end has the program `$NELI_RELAY` by the seed `$NELI_SEED`. The
+ * datagrams that the program sends and receives are written into the file `$NELI_LOG`, as they pass. On the pair a
+ * datagram begins with four bytes: its group, or FAULT, and then four bytes with the number in errno.h. In the file
+ * each record begins with its kind (1 sent, 2 given, 3 a fault), its group or number, and its length. */
 #define _GNU_SOURCE
 #include <dlfcn.h>
 #include <errno.h>
@@ -97,7 +96,7 @@ ssize_t sendto(int fd, const void *bytes, size_t length, int flags, const struct
     return fd == relayed ? sent(fd, bytes, length, flags) : REAL(sendto)(fd, bytes, length, flags, to, size);
 }
 
-/* Gives a datagram as the kernel does. */
+/* Returns a datagram as the kernel does. */
 static ssize_t give(struct msghdr *header, uint32_t group, const uint8_t *bytes, size_t length) {
     struct sockaddr_nl kernel = {.nl_family = AF_NETLINK};
     struct nl_pktinfo info = {group};

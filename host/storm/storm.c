@@ -1,8 +1,8 @@
-/* `storm SEED` asks, reads and closes by a seed, over a socket that `shim.c` gives; and says what it was given, a line
- * each: `sent NUMBER`, `item NUMBER TYPE`, `over NUMBER CODE` of a request, `group NUMBER MTU` and `lost ERRNO` of
- * what came to groups, `slow MILLISECONDS` of a wait that was too long. When nothing comes any more it reads what is
- * left, and says `left NUMBER` of a request that may have more to come, and `open COUNT` of those that are still kept.
- * `check` compares it with what the socket gave. */
+/* `storm SEED` requests, reads and closes by a seed, over a socket of `shim.c`; and prints the results, a line each:
+ * `sent NUMBER`, `item NUMBER TYPE`, `over NUMBER CODE` for a request, `group NUMBER MTU` and `lost ERRNO` for messages
+ * to groups, `slow MILLISECONDS` for a wait that was too long. When nothing arrives any more it reads the rest, and
+ * prints `left NUMBER` for a request that may have more to come, and `open COUNT` for those that are still kept.
+ * `check` compares it with the socket's datagrams. */
 #define _GNU_SOURCE
 #include "host.h"
 #include <errno.h>
@@ -120,7 +120,7 @@ static uint32_t mtu_of(const struct neli_message *message) {
     return value;
 }
 
-/* Reads what came to groups; false where nothing came in time. */
+/* Reads messages for groups; false if none arrived in time. */
 static bool listen_once(int wait) {
     struct neli_message message;
     int32_t code = next(NELI_MULTICAST, wait, &message);

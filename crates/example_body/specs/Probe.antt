@@ -1,4 +1,4 @@
--- Probes: their bytes, and what their builder makes.
+-- Probes: their bytes, and the result of their builder.
 use Rattle.std.specs.Prelude.{codes, unwrap_or, Ok}
 use Rattle.neli.specs.wire.Numbers.{little_bytes}
 use Rattle.neli.specs.wire.Writing.{Wire, ◌+++◌}
@@ -11,7 +11,7 @@ abbrev pub probe_wire : {P : Type 0} → (P → Wire) → Probe P → Wire
 probe_wire wire p =
     Ok (little_bytes 1 p.hops) +++ Ok (little_bytes 1 p.kind) +++ Ok (little_bytes 2 p.port) +++ wire p.payload
 
--- what a builder makes of its fields: 64 hops where they were not given
+-- the probe that a builder makes of its fields: 64 hops by default
 abbrev pub built_probe : {P : Type 0} → ProbeBuilder P → Outcome (Probe P)
 built_probe b =
     require_field (codes "kind") b.kind (λ kind.

@@ -7,12 +7,12 @@ use Rattle.neli.specs.wire.laws.Elements.{elements}
 use Rattle.neli.specs.wire.Writing.{Wire, ◌+++◌, wire_all}
 use Rattle.example_body.specs.declared.watch.Watch.{Watch}
 
--- what is seen of a watch
+-- the view of a watch
 pub record Seen : Type 0 where
   pub port : ℕ
   pub levels : List ℕ
 
--- what a watch shows
+-- the fields of a watch
 abbrev pub seen : Watch → Seen
 seen w = record { port = w.port; levels = w.levels.items }
 
@@ -24,7 +24,7 @@ level_wire n = Ok (little_bytes 4 n)
 abbrev pub watch_wire : Watch → Wire
 watch_wire w = Ok (little_bytes 2 w.port) +++ wire_all level_wire w.levels.items
 
--- how long its bytes are
+-- the number of its bytes
 abbrev pub watch_size : Watch → ℕ
 watch_size w = 2 + sum_by (λ n. 4) w.levels.items
 
@@ -34,10 +34,10 @@ watch_fields s =
     number_at 2 s >>= λ port.
     (elements (number_at 4) port.1 >>= λ levels. Ok (record { port = port.0; levels = levels }))
 
--- where there are levels, which take memory
+-- it has levels, which take memory
 unfoldable pub watch_takes_memory : List ℕ → Type 0
 watch_takes_memory s = IfRead (number_at 2 s) (λ port rest. 0 < length rest)
 
--- what a whole byte list spells
+-- the watch in a whole byte list
 abbrev pub watch_of : List ℕ → Result Seen DeError
 watch_of s = map_refusal (refusal_within (length s)) (watch_fields s)

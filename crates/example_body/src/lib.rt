@@ -1,10 +1,10 @@
 //! Types of a user's own on the wire layer.
 //!
-//! - [`Watch`]: a port and a list of levels, one after the other. It is written and read.
+//! - [`Watch`]: a port and a list of levels, one after the other, with writing and reading.
 //! - [`Probe`]: a header of a few fields and a payload of any type, with a builder.
 //!
-//! Each file states, in this order: the struct, its getters, its sizes, its bytes, what a byte list says or what
-//! a builder makes, and the laws of these, from the facts of its fields alone.
+//! Each file has, in this order: the struct, its getters, its sizes, its bytes, its reading or its builder, and the
+//! laws of these, from the facts of its fields only.
 #![tactic(auto)]
 
 mod probe;

@@ -13,7 +13,7 @@ use neli::{Header, Size, ToBytes};
 /// The size of a probe's header, in bytes.
 const HEADER_SIZE: usize = 4;
 
-/// How many hops a probe may take where its builder is not told.
+/// The default number of hops that a probe may take.
 pub const DEFAULT_HOPS: u8 = 64;
 
 /// A probe: a header of four bytes and a payload.
@@ -33,14 +33,14 @@ pub struct Probe<P> {
 }
 
 impl<P> Probe<P> {
-    /// How many hops it may take.
+    /// The number of hops that it may take.
     pub fn hops(&self) -> &u8
         ensures { result.now ≡ self.now.hops }
     {
         &self.hops
     }
 
-    /// What is asked of the port.
+    /// What the probe asks the port.
     pub fn kind(&self) -> &u8
         ensures { result.now ≡ self.now.kind }
     {
@@ -54,7 +54,7 @@ impl<P> Probe<P> {
         &self.port
     }
 
-    /// What the probe carries.
+    /// The payload of the probe.
     pub fn payload(&self) -> &P
         ensures { result.now ≡ self.now.payload }
     {
@@ -125,7 +125,7 @@ impl<P> Header for Probe<P> {
 /// Why no probe was built. The number is this builder's own: one from 128 on.
 pub type ProbeBuilderError = BuildError<128>;
 
-/// A builder of probes. Kind, port and payload have to be given; hops are [`DEFAULT_HOPS`] where they are not.
+/// A builder of probes. Kind, port and payload are required; hops default to [`DEFAULT_HOPS`].
 #[derive(Debug, Drop)]
 pub struct ProbeBuilder<P> {
     hops: Option<u8>,
@@ -149,7 +149,7 @@ impl<P> Default for ProbeBuilder<P> {
 }
 
 impl<P: Drop> ProbeBuilder<P> {
-    /// How many hops it may take.
+    /// The number of hops that it may take.
     pub fn hops(mut self, value: u8) -> Self
         ensures { result ≡ record self { hops = Some value } }
     {
@@ -157,7 +157,7 @@ impl<P: Drop> ProbeBuilder<P> {
         self
     }
 
-    /// What is asked of the port.
+    /// What the probe asks the port.
     pub fn kind(mut self, value: u8) -> Self
         ensures { result ≡ record self { kind = Some value } }
     {
@@ -173,7 +173,7 @@ impl<P: Drop> ProbeBuilder<P> {
         self
     }
 
-    /// What the probe carries.
+    /// The payload of the probe.
     pub fn payload(mut self, value: P) -> Self
         ensures { result ≡ record self { payload = Some value } }
     {
@@ -181,9 +181,9 @@ impl<P: Drop> ProbeBuilder<P> {
         self
     }
 
-    /// The probe of what was given. It takes no memory.
+    /// Builds the probe. It takes no memory.
     ///
-    /// Refused where the kind, the port or the payload is missing; the first of them is named.
+    /// Refused if the kind, the port or the payload is missing; the refusal names the first of them.
     pub fn build(self) -> Result<Probe<P>, ProbeBuilderError>
         ensures built { IfOk result (λ p. built_probe self ≡ Ok p) }
         ensures refused { IfErr result (IsWhyNot (built_probe self)) }

@@ -1,4 +1,4 @@
-//! A port and the levels that are watched there.
+//! A port and its watched levels.
 
 ghost use Rattle.std.specs.Prelude.{◌≡◌, ◌+◌, ◌<◌, ℕ, List, Ok, Err, IfOk, IfErr, OnOk, OnErr, length, take};
 ghost use Rattle.neli.specs.wire.Place.{whole};
@@ -14,7 +14,7 @@ use neli::implementing::{read_all, undo_on_refusal, within_input};
 use neli::{Cursor, FromBytes, FromBytesWithInput, Size, ToBytes};
 use std::alloc::Global;
 
-/// A port and the levels that are watched there: 2 bytes, and then 4 for each level.
+/// A port and its watched levels: 2 bytes, and then 4 for each level.
 #[derive(Debug, Drop)]
 pub struct Watch {
     pub port: u16,
@@ -74,7 +74,7 @@ impl ToBytes for Watch {
     }
 }
 
-/// The port and the levels that all of the bytes spell.
+/// Reads the port and the levels from all of the bytes.
 #[tactic(auto, using(neli::specs::laws::Reading::refused_first), unfolding(crate::specs::Watch::watch_fields, crate::specs::Watch::watch_takes_memory))]
 fn read_fields(alloc: Global, bytes: &[u8]) -> Result<Watch, DeError>
     ensures value { IfOk result (λ w. watch_fields bytes.now ≡ Ok (seen w)) }

@@ -1,4 +1,4 @@
-//! How a program adds the numbers of a netlink family that the library has no tables of: a few
+//! How a program adds the numbers of a netlink family that the library has no tables for: a few
 //! commands and attributes of `nl80211`, the kernel's family for wireless links.
 //! `docs/EXTENDING.md` explains it.
 //!

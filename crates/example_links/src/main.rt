@@ -1,12 +1,12 @@
-//! `example_links`: the links of a host, a line each, as the kernel answers a request for all of them.
+//! `example_links` prints the links of a host, a line each, from the kernel's answer to a request for all of them.
 //!
-//! Standard input is what came back: the datagrams one after the other. Here they are recorded, 0215 to 0218 of
-//! docs/RECORDINGS.md, so the request's port and number are those that the answers name; a program with a socket sends
-//! the request in between. The lines in `stdout` are what pyroute2 reads in them.
+//! Standard input is the answer: its datagrams one after the other. Here they are recorded, 0215 to 0218 of
+//! docs/RECORDINGS.md, so the request has the port and the number of these answers; a program with a socket sends the
+//! request in between. The lines in `stdout` are pyroute2's reading of them.
 //!
-//! The status says whether the list is all that was asked for, by the router's verdict: 0; 2 where it changed meanwhile, 3
-//! where the kernel refused it or ended it with an error, 4 where a part of it is not there or can't be read; 1 where
-//! there is no memory. Why is said on standard error, after the links that came.
+//! The status reports whether the list is complete, by the router's verdict: 0; 2 if it changed meanwhile, 3 if the
+//! kernel refused it or ended it with an error, 4 if a part of it is missing or cannot be read; 1 if memory runs out.
+//! Standard error gets the cause, after the lines of the links that arrived.
 #![tactic(auto)]
 
 ghost use Rattle.std.specs.Prelude.{◌≡◌, ◌↔◌, IsOk, length, take};
@@ -30,7 +30,7 @@ use thiserror::Error;
 #[cfg(test)]
 mod tests;
 
-/// Why the links are not listed to the end. Every refusal of the library becomes one by `?`.
+/// Why the list of links is incomplete. Every refusal of the library becomes one by `?`.
 #[derive(Debug, Drop, Error)]
 enum Trouble {
     #[error("not readable: {0}")]
@@ -51,7 +51,7 @@ enum Trouble {
     Memory(#[from] NoMemory),
 }
 
-/// The line of a link: `3 veth0 mtu 1400 up 02:00:00:00:00:01`. Refused where it has no name or no MTU.
+/// The line of a link: `3 veth0 mtu 1400 up 02:00:00:00:00:01`. Refused if it has no name or no MTU.
 fn line_of(alloc: Global, body: &Ifinfomsg) -> Result<String, DeError> {
     let attrs = body.rtattrs().get_attr_handle();
     let name: String = attrs.get_attr_payload_as_with_len(alloc, Ifla::Ifname)?;
@@ -72,7 +72,7 @@ fn line_of(alloc: Global, body: &Ifinfomsg) -> Result<String, DeError> {
     Ok(format!(in alloc; "{line} {address}")?)
 }
 
-/// Appends the line of the link that an item is, if it is one.
+/// Appends the line of an item that is a link.
 fn add_line(
     alloc: Global,
     item: Result<Nlmsghdr<Rtm, Ifinfomsg>, RouterError<Rtm, Ifinfomsg>>,
@@ -105,7 +105,7 @@ fn read_answers(
     Err(Trouble::NoEnd)
 }
 
-/// Refused where an answer is not all that was asked for.
+/// Refused if an answer is incomplete.
 fn want_all(verdict: Verdict) -> Result<(), Trouble>
     ensures complete { IsOk result ↔ (verdict ≡ Verdict.Complete) }
 {
@@ -118,7 +118,7 @@ fn want_all(verdict: Verdict) -> Result<(), Trouble>
     }
 }
 
-/// The status that says so.
+/// The status for this verdict.
 fn status_of(trouble: &Trouble) -> u8 {
     match trouble {
         Trouble::Build(_) | Trouble::Memory(_) => 1,
@@ -130,7 +130,7 @@ fn status_of(trouble: &Trouble) -> u8 {
     }
 }
 
-/// Asks for all links, and appends the line of each that the answer has.
+/// Requests all links, and appends the line of each in the answer.
 fn read_links(alloc: Global, datagrams: &[u8], lines: &mut Vec<String>) -> Result<(), Trouble>
     ensures kept { take (length lines.old.items) lines.new.items ≡ lines.old.items }
 {

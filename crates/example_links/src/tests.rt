@@ -1,10 +1,10 @@
-//! Whether a list is all that was asked for.
+//! Whether a list is complete.
 
 use super::{read_links, status_of};
 use std::alloc::Global;
 
-/// The answer of Linux 6.18 to a dump of a table that is not there, recording 0372: an end with the code -2 (`ENOENT`)
-/// and a text.
+/// The answer of Linux 6.18 to a dump of a missing table, recording 0372: an end with the code -2 (`ENOENT`) and a
+/// text.
 const NO_TABLE: [u8; 56] = [
     0x38, 0, 0, 0, 3, 0, 0x22, 0, 0xa7, 4, 0, 0, 0xeb, 0xd2, 0xb9, 0x81, 0xfe, 0xff, 0xff, 0xff,
     0x23, 0, 1, 0, 0x69, 0x70, 0x76, 0x34, 0x3a, 0x20, 0x46, 0x49, 0x42, 0x20, 0x74, 0x61, 0x62,
@@ -12,7 +12,7 @@ const NO_TABLE: [u8; 56] = [
     0x74, 0, 0,
 ];
 
-/// The status for these datagrams; 0 where the list is complete.
+/// The status for these datagrams; 0 if the list is complete.
 fn status(alloc: Global, datagrams: &[u8]) -> u8 {
     let mut lines = Vec::new(alloc);
     match read_links(alloc, datagrams, &mut lines) {

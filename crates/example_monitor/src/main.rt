@@ -1,12 +1,12 @@
-//! `example_monitor`: what a host notifies of, a line each: links, addresses, routes and neighbours; of every other
-//! message its type's number and its length.
+//! `example_monitor` prints a host's notifications, a line each: links, addresses, routes and neighbours; for every
+//! other message the number of its type and its length.
 //!
-//! Standard input is what came to the groups: the datagrams one after the other. They are walked without a copy, and
-//! each body is read by the type of its message, so a type that is not known refuses nothing.
+//! Standard input is the notifications: their datagrams one after the other. They are walked without a copy, and each
+//! body is read by the type of its message, so an unknown type causes no refusal.
 //!
-//! A fault is said on standard error, after the lines of what came before it, and the status is 1. The recording beside
-//! this program, 24 of the datagrams 0004 to 0446 of docs/RECORDINGS.md, ends within 0453, as one that was cut off. Its
-//! lines in `stdout` are what `ip -d monitor all file` of iproute2 reads in it.
+//! A fault is reported on standard error, after the lines of the messages before it, and the status is 1. The recording
+//! beside this program, 24 of the datagrams 0004 to 0446 of docs/RECORDINGS.md, ends within 0453, as if cut off. Its
+//! lines in `stdout` are those of iproute2's `ip -d monitor all file`.
 #![tactic(auto)]
 
 ghost use Rattle.std.specs.Prelude.{◌≡◌, ◌+◌, OnOk, length};
@@ -28,7 +28,7 @@ use std::io::{self, Read};
 use std::net::{Ipv4Addr, Ipv6Addr};
 use std::process::ExitCode;
 
-/// The address of IP or of a device that an attribute has, as text; `-` where there is none.
+/// The IP or device address in an attribute, as text; `-` if there is none.
 fn text_of<T: RtaType>(alloc: Global, attr: Option<&Rtattr<T, Buffer>>) -> Result<String, DeError> {
     let Some(attr) = attr else {
         return Ok("-".to_string(alloc)?);
@@ -52,7 +52,7 @@ fn link_line(alloc: Global, body: &Ifinfomsg) -> Result<String, DeError> {
     Ok(format!(in alloc; "{} {name} {state}", body.ifi_index())?)
 }
 
-/// An address, or where a link has one other end that one's; the bits of its network, and its link.
+/// An address, or on a link with one other end the address of that end; the bits of its network, and its link.
 fn address_line(alloc: Global, body: &Ifaddrmsg) -> Result<String, DeError> {
     let attrs = body.rtattrs().get_attr_handle();
     let address = text_of(alloc, attrs.get_attribute(Ifa::Address))?;
@@ -60,7 +60,7 @@ fn address_line(alloc: Global, body: &Ifaddrmsg) -> Result<String, DeError> {
     Ok(format!(in alloc; "{address}/{bits} link {link}")?)
 }
 
-/// A route: where to, by which gateway, and over which link; a route with no link has number 0.
+/// A route: its destination, its gateway, and its link; a route with no link has number 0.
 fn route_line(alloc: Global, body: &Rtmsg) -> Result<String, DeError> {
     let attrs = body.rtattrs().get_attr_handle();
     let to = text_of(alloc, attrs.get_attribute(Rta::Dst))?;
@@ -72,7 +72,7 @@ fn route_line(alloc: Global, body: &Rtmsg) -> Result<String, DeError> {
     Ok(format!(in alloc; "{to}/{} via {gateway} link {link}", body.rtm_dst_len())?)
 }
 
-/// A neighbour: its address, that of its device, and the link that it is on.
+/// A neighbour: its address, that of its device, and its link.
 fn neighbour_line(alloc: Global, body: &Ndmsg) -> Result<String, DeError> {
     let attrs = body.rtattrs().get_attr_handle();
     let address = text_of(alloc, attrs.get_attribute(Nda::Dst))?;
@@ -80,12 +80,12 @@ fn neighbour_line(alloc: Global, body: &Ndmsg) -> Result<String, DeError> {
     Ok(format!(in alloc; "{address} at {device} link {}", body.ndm_index())?)
 }
 
-/// The body that this payload is.
+/// The body in this payload.
 fn read<P: FromBytesWithInput>(alloc: Global, payload: &[u8]) -> Result<P, DeError> {
     P::from_bytes_with_input(alloc, &mut Cursor::new(payload), payload.len())
 }
 
-/// What a message says. Refused as its body is, or where a link has no name.
+/// The line of a message. Refused as its body is, or if a link has no name.
 fn line_of(alloc: Global, message: &LentMessage<'_, Rtm>) -> Result<String, DeError> {
     let (kind, payload) = (*message.nl_type(), message.nl_payload());
     let said = match kind {
@@ -101,7 +101,7 @@ fn line_of(alloc: Global, message: &LentMessage<'_, Rtm>) -> Result<String, DeEr
     Ok(format!(in alloc; "{kind:?} {said}")?)
 }
 
-/// Appends a line for each message, up to the end or to the fault that it answers.
+/// Appends a line for each message, up to the end or to the fault, which it returns.
 fn read_lines(alloc: Global, bytes: &[u8], lines: &mut Vec<String>) -> Result<(), DeError>
     ensures each { OnOk result (length lines.new.items
         ≡ length lines.old.items + length (items_of (messages_in rtm_of bytes.now))) }

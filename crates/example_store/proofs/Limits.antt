@@ -1,4 +1,4 @@
--- What a datagram adds to the kept bytes.
+-- The bytes that a datagram adds to the kept ones.
 use Rattle.std.proofs.Common.{◌≡◌, ℕ, zero, suc, ◌+◌, ◌-◌, ◌≤◌, ◌<◌, List, length, arith}
 use Rattle.std.specs.Prelude.{Result, Ok, Err, OnErr, OnOk}
 use Rattle.neli.specs.log.declared.store.Store.{Store}
@@ -17,7 +17,7 @@ within limit before after more count is most room above = omega (arith, is, most
 same : (after before : ℕ) → after ≡ before → after ≤ before
 same after before is = omega (arith, is)
 
--- a log that takes in a datagram for which there is room, or refuses it, stays within its limit
+-- a log stays within its limit when it takes in a datagram for which there is room, or refuses it
 pub stays_within : {T E : Type 0} (limit : ℕ) (before after : Store) (bytes : List ℕ) (r : Result T E)
     → length bytes ≤ limit - byte_count before → OnOk r (KeepsEntries before after bytes)
     → OnErr r (IsAsBefore before after) → StaysWithin limit (byte_count before) (byte_count after)

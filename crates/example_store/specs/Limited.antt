@@ -1,6 +1,6 @@
--- What a limit on kept bytes says.
+-- The meaning of a limit on kept bytes.
 use Rattle.std.specs.Prelude.{ℕ, ◌≤◌, ◌<◌}
 
--- bytes that are kept above the limit after a call are no more than those before it
+-- after a call, the bytes kept above the limit are no more than before it
 abbrev pub StaysWithin : ℕ → ℕ → ℕ → Type 0
 StaysWithin limit before after = limit < after → after ≤ before

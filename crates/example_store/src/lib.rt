@@ -1,5 +1,5 @@
-//! A store of a user's own for the deliveries of a router: [`Limited`], the shared log with a limit on the bytes that
-//! it keeps. `docs/EXTENDING.md` explains it.
+//! A router's store of deliveries of your own: [`Limited`], the shared log with a limit on the bytes that it keeps.
+//! `docs/EXTENDING.md` explains it.
 #![tactic(auto)]
 
 mod limited;

@@ -17,15 +17,15 @@ use std::alloc::Global;
 
 /// The shared log, with a limit on the bytes of the datagrams that it keeps.
 ///
-/// A datagram that would bring them above the limit is refused as if memory had run out, also one that nobody waits
-/// for. Hand it in again when something was read or closed.
+/// A datagram that would exceed the limit is refused as out of memory, even if no handle waits for it. Pass it in again
+/// after a read or a close.
 #[derive(Drop)]
 pub struct Limited<const LIMIT: usize> {
     log: Log,
 }
 
 impl<const LIMIT: usize> Limited<LIMIT> {
-    /// The log, which says how much it keeps.
+    /// The log, which reports how much it keeps.
     pub fn log(&self) -> &Log
         ensures { result.now ≡ self.now.log }
     {
@@ -60,7 +60,7 @@ impl<const LIMIT: usize> Deliveries for Limited<LIMIT> {
         self.log.close(whose);
     }
 
-    /// The kept bytes do not come above the limit.
+    /// The kept bytes never grow above the limit.
     #[tactic(auto, using(crate::proofs::Limits::stays_within))]
     fn datagram(&mut self, bytes: &[u8], groups: &Groups) -> Result<(), NoMemory>
         ensures port { self.new.log.port ≡ self.old.log.port }

@@ -1,7 +1,7 @@
-//! The numbers and flags of the kernel's headers, a module for each family of them.
+//! The numbers and flags of the kernel's headers, a module for each group of them.
 //!
-//! An enum keeps a number without a name, a flag set every bit that it read. An enum of a caller's own is a
-//! [`Constant`]; its flags are seen through [`Flags`].
+//! An enum keeps a number without a name, a flag set every bit that it read. An enum of your own is a [`Constant`]; its
+//! flags are seen through [`Flags`].
 
 pub mod connector;
 pub mod genl;

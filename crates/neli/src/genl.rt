@@ -6,7 +6,7 @@ pub use neli_attr::{
 };
 pub use neli_genl::{Genlmsghdr, GenlmsghdrBuilder, GenlmsghdrBuilderError, NoUserHeader};
 
-/// What was built and written is read back, and what these say of themselves.
+/// Laws: written values are read back, values are their fields, and `==` is equality.
 pub mod laws {
     pub use neli_genl::laws::{
         equality, genlmsghdr_is_its_fields, genlmsghdr_is_read_back, no_user_header_has_no_bytes,

@@ -1,7 +1,6 @@
-//! For types of a caller's own: what an implementation of the wire traits calls. `docs/EXTENDING.md` has whole
-//! examples.
+//! The calls that types of your own need to implement the wire traits. `docs/EXTENDING.md` has whole examples.
 //!
-//! [`bodies`] has what fixed headers with attributes after them share.
+//! [`bodies`] has the common parts of fixed headers with attributes after them.
 
 pub use neli_body as bodies;
 pub use neli_list::{handle_of_payload, read_borrowed, read_first, read_whole};

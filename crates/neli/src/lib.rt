@@ -1,23 +1,23 @@
 //! Netlink, proved: the whole library under the module paths of the Rust crate neli 0.7.5.
 //!
-//! A program names this crate alone. There are no sockets here: requests come out as bytes for the link that you own,
-//! and the datagrams that arrive are handed in. What allocates answers a `Result`.
+//! A program names only this crate. It has no sockets: requests are bytes for a link of your own, and you pass in the
+//! datagrams that arrive. A call that allocates returns a `Result`.
 //!
 //! | You want | Use |
 //! |---|---|
-//! | messages: to read, to build, to write | [`nl`], [`iter`] |
-//! | attributes: to look up, to nest | [`attr`], [`genl`], [`rtnl`], [`types`] |
-//! | each reply with the one who asked | [`router::synchronous`] |
+//! | to read, build and write messages | [`nl`], [`iter`] |
+//! | to look up and nest attributes | [`attr`], [`genl`], [`rtnl`], [`types`] |
+//! | each reply at its request | [`router::synchronous`] |
 //! | numbers and flags of the kernel's headers | [`consts`] |
 //! | to look at a few fields of many messages, without a copy | [`lent`] |
-//! | types of your own that are written and read | the traits of this page, [`implementing`] |
-//! | what may be refused, and what a kernel answers | [`err`] |
+//! | to write and read types of your own | the traits of this page, [`implementing`] |
+//! | refusals, and a kernel's errors | [`err`] |
 //! | multicast groups | [`utils`] |
 //!
 //! # Link, address and route tools
 //!
 //! [`rtnl`] has the bodies of links, addresses, neighbours, routes, queues and rules, each with a builder, and their
-//! attributes; [`consts::rtnl`] what stands in their fields. A link is set up:
+//! attributes; [`consts::rtnl`] the values of their fields. This sets a link up:
 //!
 //! ```
 //! use neli::consts::nl::NlmF;
@@ -47,8 +47,9 @@
 //!
 //! # A client of generic netlink
 //!
-//! [`genl`] has the body and its attributes, [`consts::genl`] the controller's numbers. A family's number is told by
-//! its name; commands and attributes of the family are numbers, or enums of your own. A request to a family:
+//! [`genl`] has the body and its attributes, [`consts::genl`] the controller's numbers. The controller returns a
+//! family's number by its name; the family's commands and attributes are numbers, or enums of your own. A request to a
+//! family:
 //!
 //! ```
 //! use neli::consts::nl::NlmF;
@@ -82,7 +83,7 @@
 //! # Process events
 //!
 //! [`connector`] has the message and the events. The request is the payload of a message of type `Nlmsg::Done`; events
-//! come to a group, so a router gives them to multicast. Here a datagram is read without one:
+//! arrive for a group, so a router delivers them to multicast. This reads a datagram without a router:
 //!
 //! ```
 //! use neli::connector::{CnMsg, CnMsgBuilder, ProcEvent, ProcEventHeader};
@@ -111,9 +112,9 @@
 //!
 //! # A simulator
 //!
-//! What a kernel would say is built and written as a request is, by hand as here, or by [`simulator`], which makes its
-//! acknowledgements, errors, replies, dumps and notifications. [`router::synchronous::run`] does a whole list of
-//! commands with one router, and answers what came of each. A link is told to who asked for it:
+//! A kernel's answers are built and written like requests, by hand as here, or by [`simulator`], which makes its
+//! acknowledgements, errors, replies, dumps and notifications. [`router::synchronous::run`] performs a whole list of
+//! commands on one router, and returns the outcome of each. This answers a request for a link:
 //!
 //! ```
 //! use neli::consts::nl::NlmF;
@@ -134,7 +135,7 @@
 //! reply.to_bytes(&mut datagram)?;
 //! ```
 //!
-//! These examples are tests, line by line: `crates/neli_tests/src/tour.rt`.
+//! These examples are tests, line by line: `crates/neli_tests/src/tests/tour.rt`.
 #![tactic(auto)]
 
 pub mod attr;

@@ -1,6 +1,6 @@
-//! Who gets which reply.
+//! Delivers each reply to its handle.
 
-/// The router, its stores of what waits, whole runs of it, and the resolvers of generic netlink's names.
+/// The router, its stores of deliveries, whole runs of it, and the resolvers of generic netlink's names.
 pub mod synchronous {
     pub use neli_log::Log;
     pub use neli_queues::Queues;

@@ -1,5 +1,5 @@
-//! Routing netlink: the bodies of links, addresses, neighbours, routes, queues and rules, their attributes, and what
-//! these carry as payloads: hardware addresses, counters, cache entries, next hops and settings of virtual functions.
+//! Routing netlink: the bodies of links, addresses, neighbours, routes, queues and rules, their attributes, and the
+//! payloads of these: hardware addresses, counters, cache entries, next hops and settings of virtual functions.
 
 pub use neli_attr::{RtAttrHandle, Rtattr, RtattrBuilder, RtattrBuilderError};
 pub use neli_payloads::{
@@ -15,7 +15,7 @@ pub use neli_rtnl::{
     RtmsgBuilder, RtmsgBuilderError, Tcmsg, TcmsgBuilder, TcmsgBuilderError,
 };
 
-/// What was built and written is read back, `==` is equality, and what these say of themselves.
+/// Laws: written values are read back, values are their fields, and `==` is equality.
 pub mod laws {
     pub use neli_payloads::laws::{
         addresses_and_counters_are_their_bytes, cache_entries_are_their_fields,

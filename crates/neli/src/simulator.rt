@@ -1,8 +1,9 @@
-//! A kernel to test against: what it answers to a request, as bytes.
+//! A kernel to test against: its answers to a request, as bytes.
 
 pub use neli_kernel::{Dump, ExtAck, Request, notification};
 
-/// Laws: what an answer is on the link, to whom a router delivers it, and what each read of that handle is answered.
+/// Laws: an answer's bytes on the link, the handle that a router delivers it to, and the reply to each read of that
+/// handle.
 pub mod laws {
     pub use neli_kernel::laws::{
         acknowledgement_is_delivered, answers_are_one_frame, attributes_are_read_back,

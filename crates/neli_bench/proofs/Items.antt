@@ -1,4 +1,4 @@
--- A sum that is made item by item, over items of which the last may be a fault.
+-- A sum built item by item, over items of which the last may be a fault.
 use Rattle.std.proofs.Common.{◌≡◌, ℕ, ◌+◌, ◌-◌, ◌^◌, ◌≤◌, List, [], ◌∷◌, Option, Some, None, Ok, Err, refl, sym, ap}
 use Rattle.std.proofs.Common.{◌∙◌, arith, rules}
 use Rattle.std.specs.Prelude.{IsSome, Result, sum_by}
@@ -8,7 +8,7 @@ use Rattle.neli_reader.specs.Cuts.{Cut}
 use Rattle.neli_lent.specs.Walks.{items_of}
 use Rattle.neli_bench.specs.Walks.{IsSum, as_u64}
 
--- what an item adds
+-- the share of an item
 abbrev pub added : {A : Type 0} → (A → ℕ) → Result A DeError → ℕ
 added size (Ok a) = size a
 added size (Err e) = 0
@@ -19,7 +19,7 @@ fault_among [] = None
 fault_among (Ok a ∷ later) = fault_among later
 fault_among (Err e ∷ later) = Some e
 
--- the sum over all items is the sum so far and that over the items that are left
+-- the sum over all items is the sum so far and that over the remaining items
 pub record IsItemSum {A : Type 0} (size : A → ℕ) (all left : List (Result A DeError)) (so_far : ℕ) : Type 0 where
   pub fault : fault_among all ≡ fault_among left
   pub total : as_u64 (sum_by (added size) all) ≡ as_u64 (so_far + sum_by (added size) left)

@@ -1,6 +1,6 @@
-//! Walks that read each message where it lies. They take no memory.
+//! Walks that read each message in place. They take no memory.
 //!
-//! Each answers false, and leaves `total` as it was, where the bytes have a fault.
+//! Each returns false, and leaves `total` unchanged, if the bytes have a fault.
 
 ghost use Rattle.std.specs.Prelude.{◌≡◌, IfSome, IsSome, IsTrue, false};
 ghost use Rattle.neli_lent.specs.Attributes.{attributes_at};
@@ -12,7 +12,7 @@ use neli_lent::{LentAttrs, LentMessage, LentMessages};
 use neli_rtnl::{Ifinfomsg, Rtmsg};
 use neli_wire::Header;
 
-/// What the attributes add together; none where they have a fault.
+/// The sum over the attributes; none if they have a fault.
 fn attributes_add(mut attributes: LentAttrs<'_, u16>) -> Option<u64>
     ensures { IfSome result (IsSum (λ a. type_and_length a.0.kind a.1)
         (attributes_at (λ n. n) attributes.entry)) }
@@ -27,7 +27,7 @@ fn attributes_add(mut attributes: LentAttrs<'_, u16>) -> Option<u64>
     Some(total)
 }
 
-/// What the attributes after a message's body `B` add.
+/// The sum over the attributes after a message's body `B`.
 fn message_adds<'b, B: Header>(message: &LentMessage<'b, u16>) -> Option<u64>
     ensures { IfSome result
         (λ n. n ≡ as_u64 (lent_adds B.header (message_said message.now))) }
@@ -38,7 +38,7 @@ fn message_adds<'b, B: Header>(message: &LentMessage<'b, u16>) -> Option<u64>
     attributes_add(attributes)
 }
 
-/// What the attributes of all messages add.
+/// The sum over the attributes of all messages.
 fn messages_add<B: Header>(bytes: &[u8]) -> Option<u64>
     ensures { IfSome result (IsSum (lent_adds B.header) (lent_cut bytes.now)) }
 {
@@ -72,7 +72,7 @@ pub extern "C" fn neli_bench_lent_headers(bytes: &[u8], total: &mut u64) -> bool
     true
 }
 
-/// The sum of what the attributes add, each message taken for a link.
+/// The sum over the attributes, each message read as a link.
 #[unsafe(no_mangle)]
 pub extern "C" fn neli_bench_lent_link_attributes(bytes: &[u8], total: &mut u64) -> bool
     ensures sum { IsTrue result → IsSum (lent_adds 16) (lent_cut bytes.now) total.new }
@@ -85,7 +85,7 @@ pub extern "C" fn neli_bench_lent_link_attributes(bytes: &[u8], total: &mut u64)
     true
 }
 
-/// The sum of what the attributes add, each message taken for a route.
+/// The sum over the attributes, each message read as a route.
 #[unsafe(no_mangle)]
 pub extern "C" fn neli_bench_lent_route_attributes(bytes: &[u8], total: &mut u64) -> bool
     ensures sum { IsTrue result → IsSum (lent_adds 12) (lent_cut bytes.now) total.new }

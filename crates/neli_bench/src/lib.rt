@@ -1,7 +1,7 @@
-//! The walks over a dump that `bench/bench.c` times: a static library whose exports are calls of this
-//! repository's libraries, as a program would make them.
+//! The walks over a dump that `bench/bench.c` times: a static library whose exports call this repository's libraries as
+//! a program would.
 //!
-//! - [`lent`] reads each message where it lies, and takes no memory.
+//! - [`lent`] reads each message in place, and takes no memory.
 //! - [`owned`] reads each message into memory of its own.
 //!
 //! A walk over headers adds up the lengths that the messages state. A walk over attributes adds up the numbers of
@@ -14,7 +14,7 @@ ghost use Rattle.neli_bench.specs.Walks.{as_u64, type_and_length};
 pub mod lent;
 pub mod owned;
 
-/// A sum with what an attribute adds.
+/// Adds an attribute to a sum.
 fn plus(total: u64, number: u16, payload: &[u8]) -> u64
     ensures { result ≡ as_u64 (total + type_and_length number payload.now) }
 {

@@ -1,6 +1,6 @@
 //! Walks that read each message into memory of its own.
 //!
-//! Each answers false, and leaves `total` as it was, where the bytes have a fault or memory runs out.
+//! Each returns false, and leaves `total` unchanged, if the bytes have a fault or memory runs out.
 
 ghost use Rattle.std.specs.Prelude.{◌≡◌, IsTrue, false, sum_by};
 ghost use Rattle.neli_body.specs.Attributes.{attrs_view};
@@ -15,7 +15,7 @@ use neli_reader::{NlBufferIter, Nlmsghdr};
 use neli_rtnl::{Ifinfomsg, Rtmsg};
 use std::alloc::Global;
 
-/// What the attributes add together.
+/// The sum over the attributes.
 fn attributes_add<T: RtaType>(attributes: &RtBuffer<T, Buffer>) -> u64
     ensures { result ≡ as_u64 (sum_by
         (λ a. type_and_length (T.wire_number a.rta_type) a.rta_payload) attributes.now) }
@@ -28,7 +28,7 @@ fn attributes_add<T: RtaType>(attributes: &RtBuffer<T, Buffer>) -> u64
     total
 }
 
-/// What the attributes of a link add.
+/// The sum over the attributes of a link.
 fn link_adds(message: &Nlmsghdr<u16, Ifinfomsg>) -> u64
     ensures { result ≡ as_u64 (link_adds
         (message_of (λ link. (link.header, attrs_view link.rtattrs)) message.now)) }
@@ -39,7 +39,7 @@ fn link_adds(message: &Nlmsghdr<u16, Ifinfomsg>) -> u64
     }
 }
 
-/// What the attributes of a route add.
+/// The sum over the attributes of a route.
 fn route_adds(message: &Nlmsghdr<u16, Rtmsg>) -> u64
     ensures { result ≡ as_u64 (route_adds
         (message_of (λ route. (route.header, attrs_view route.rtattrs)) message.now)) }
@@ -68,7 +68,7 @@ pub extern "C" fn neli_bench_owned_headers(alloc: Global, bytes: &[u8], total: &
     true
 }
 
-/// The sum of what the attributes add, each message read as a link.
+/// The sum over the attributes, each message read as a link.
 #[unsafe(no_mangle)]
 pub extern "C" fn neli_bench_owned_link_attributes(
     alloc: Global,
@@ -90,7 +90,7 @@ pub extern "C" fn neli_bench_owned_link_attributes(
     true
 }
 
-/// The sum of what the attributes add, each message read as a route.
+/// The sum over the attributes, each message read as a route.
 #[unsafe(no_mangle)]
 pub extern "C" fn neli_bench_owned_route_attributes(
     alloc: Global,

@@ -1,4 +1,4 @@
--- Frames that begin what is left of a walk.
+-- Frames at the front of a walk's rest.
 use Rattle.std.proofs.Common.{◌≡◌, ℕ, ◌+◌, ◌-◌, ◌≤◌, List, length, take, drop, Ok, sym, ap, subst, ◌∙◌, arith, ltb}
 use Rattle.std.proofs.Common.{length-drop}
 use Rattle.std.proofs.lemmas.Bool.{ltb-false}
@@ -27,7 +27,7 @@ module _ {H : Type 0} (size : ℕ) (header_of : List ℕ → H) (length_of : H �
   abbrev read : (H × List ℕ) × List ℕ → Reading (H × List ℕ)
   read x = Ok x
 
-  -- where the parts of a frame lie
+  -- the places of a frame's parts
   pub frame-parts : (s r v : List ℕ) (h : H) → frame_at layout s ≡ Ok ((h, v), r)
       → (v ≡ take (length_of h - size) (drop size s)) × (r ≡ drop (align (length_of h)) s) × (size ≤ length_of h)
       × (align (length_of h) ≤ length s)
@@ -47,7 +47,7 @@ module _ {H : Type 0} (size : ℕ) (header_of : List ℕ → H) (length_of : H �
       × (size ≤ length_of x) × (align (length_of x) ≤ length s)) hs
       (sym vs, sym rs, ltb-false _ _ b.0, ltb-false _ _ d.0)
 
-  -- the frame that begins the bytes from p to e, with its payload as bytes of the whole
+  -- the frame at the front of the bytes from p to e, with its payload as bytes of the whole
   pub frame-placed : (bytes : List ℕ) (p e : ℕ) (s r v : List ℕ) (h : H) → p ≤ e → e ≤ length bytes
       → s ≡ bytes_from p (e - p) bytes → frame_at layout s ≡ Ok ((h, v), r)
       → (frame_at layout (bytes_from p (e - p) bytes) ≡ Ok (
@@ -85,7 +85,7 @@ module _ {H : Type 0} (size : ℕ) (header_of : List ℕ → H) (length_of : H �
         omega (arith, le, parts.3, long),
       )
 
--- a message that was lent of what is left
+-- a message lent from the rest
 pub message-given : (bytes : List ℕ) (w new : NeliWalk) (s at r v : List ℕ) (h : Header ℕ) (m : NeliMessage)
     → (w.place ≤ w.end) × (w.end ≤ length bytes) × (s ≡ bytes_from w.place (w.end - w.place) bytes) → at ≡ s
     → frame_at message_layout at ≡ Ok ((h, v), r)
@@ -110,7 +110,7 @@ message-given bytes w new s at r v h m places here eq head begins size moved =
 abbrev head_of : ℕ → ℕ → Head ℕ
 head_of n k = record { len = n; kind = k }
 
--- an attribute that was lent of what is left
+-- an attribute lent from the rest
 pub attribute-given : (bytes : List ℕ) (w new : NeliWalk) (s at r v : List ℕ) (h : Head ℕ) (a : NeliAttribute)
     → (w.place ≤ w.end) × (w.end ≤ length bytes) × (s ≡ bytes_from w.place (w.end - w.place) bytes) → at ≡ s
     → frame_at attribute_layout at ≡ Ok ((h, v), r)

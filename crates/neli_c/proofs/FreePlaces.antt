@@ -1,4 +1,4 @@
--- The free places of handles: what a store at one place changes of them.
+-- The free places of handles, and how a store at one place changes them.
 use Rattle.std.proofs.Common.{◌≡◌, ◌≢◌, ◌<◌, ℕ, List, [], ◌∷◌, ◌++◌, length, length-set, Option, Some, None, slice_get}
 use Rattle.std.proofs.Common.{slice_set, arith, refl, suc, sym, subst, ap, ◌∙◌, zero}
 use Rattle.std.proofs.lemmas.Option.{slice_get_past}
@@ -7,13 +7,13 @@ use Rattle.neli_c.specs.declared.session.Slot.{Slot}
 use Rattle.neli_c.specs.declared.session.Slot.TheVariants as slot
 use Rattle.neli_c.specs.Slots.{AreFree, IsApart, handle_at, handle_in, later_places, next_place}
 
--- what is stored is there
+-- a stored value stands at its place
 pub get-set : {X : Type 0} (xs : List X) (k : ℕ) (x : X) → k < length xs → slice_get (slice_set xs k x) k ≡ Some x
 get-set [] k x within = absurd (omega (arith, within))
 get-set (y ∷ ys) zero x within = refl
 get-set (y ∷ ys) (suc k) x within = get-set ys k x (omega (arith, within))
 
--- and all else as it was
+-- and all else is unchanged
 pub get-other : {X : Type 0} (xs : List X) (j k : ℕ) (x : X) → j ≢ k → slice_get (slice_set xs k x) j ≡ slice_get xs j
 get-other [] j k x apart = refl
 get-other (y ∷ ys) zero zero x apart = absurd (apart refl)
@@ -56,7 +56,7 @@ pub free-read : (slots : List Slot) (first : ℕ) (ks : List ℕ) (k : ℕ) (h :
     → handle_at k slots ≡ Some h → AreFree slots first ks → AreFree (slice_set slots k x) first ks
 free-read slots first ks k h x is free = free-set slots first ks k x free (open-apart slots first ks k h free is)
 
--- a place that is freed is the first of them
+-- a freed place is the first of them
 pub freed-first : (slots after : List Slot) (first f : ℕ) (ks : List ℕ) (k : ℕ) (h : HandleState) → f ≡ k → k ≢ 0
     → after ≡ slice_set slots k (slot.Free first) → k < length after → handle_at k slots ≡ Some h
     → AreFree slots first ks → AreFree after f (k ∷ ks)
@@ -76,7 +76,7 @@ freed-first slots after first f ks k h same some is within there free =
     ) in
     subst (λ (hs : List Slot). AreFree hs f (k ∷ ks)) (sym is) all
 
--- the first of them is given again
+-- the first of them is used again
 taken-again : (slots : List Slot) (first : ℕ) (ks : List ℕ) (next : ℕ) (x : Slot) → first ≢ 0
     → slice_get slots first ≡ Some (slot.Free next) → AreFree slots first ks
     → (first ≡ next_place slots ks) × AreFree (slice_set slots first x) next (later_places ks)
@@ -105,7 +105,7 @@ get-pushed : {X : Type 0} (xs : List X) (x : X) → slice_get (xs ++ x ∷ []) (
 get-pushed [] x = refl
 get-pushed (y ∷ ys) x = get-pushed ys x
 
--- a handle at a new place is there, and none was before
+-- a handle at a new place exists, and none did before
 pub handle-pushed : (slots : List Slot) (k : ℕ) (h : HandleState) → k ≡ length slots
     → handle_at k (slots ++ slot.Open h ∷ []) ≡ Some h
 handle-pushed slots k h is = ap (λ (i : ℕ). handle_at i (slots ++ slot.Open h ∷ [])) is
@@ -114,7 +114,7 @@ handle-pushed slots k h is = ap (λ (i : ℕ). handle_at i (slots ++ slot.Open h
 pub none-past : (slots : List Slot) (k : ℕ) → k ≡ length slots → handle_at k slots ≡ None
 none-past slots k is = ap handle_in (slice_get_past slots k (omega (arith, is)))
 
--- what is said of the same places
+-- statements about the same places
 pub again : (slots same : List Slot) (first k : ℕ) (ks : List ℕ) (after : List Slot) (next : ℕ) → slots ≡ same
     → (AreFree slots first ks → (k ≡ next_place slots ks) × AreFree after next (later_places ks))
     → AreFree same first ks → (k ≡ next_place same ks) × AreFree after next (later_places ks)

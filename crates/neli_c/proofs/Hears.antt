@@ -1,4 +1,4 @@
--- What is heard of an answer by a read of a session, by what its router hears.
+-- The verdict on an answer after a read of a session, by that of its router.
 use Rattle.std.proofs.Common.{◌≡◌, ◌≢◌, ◌⊎◌, ℕ, false, List, ◌∷◌, length, Option, Some, None, Result}
 use Rattle.std.proofs.Common.{Ok, Err, IfOk, OnErr, subst, ◌∙◌, inl, inr, option_map, refl, Bool, ◌||◌, ℤ, slice_set}
 use Rattle.neli_deliveries.specs.declared.delivery.Delivery.{Delivery}
@@ -20,7 +20,7 @@ use Rattle.neli_c.specs.Verdicts.{verdict_code, verdict_error}
 use Rattle.neli_c.proofs.Replies.{of-value}
 
 module _ {E : Type 0} (h after : HandleState) (s t : Session) where
-  -- what next_typed says of the first delivery
+  -- the result of next_typed for the first delivery
   abbrev Heard : Result (Reply ℕ (List ℕ)) E → Delivery → Type 0
   Heard r d =
       IfOk r (λ answer. (given : Item ℕ (List ℕ)) × IsReading (λ n. n) (λ b. b) length (λ b. Ok b) d given
@@ -45,7 +45,7 @@ module _ {E : Type 0} (h after : HandleState) (s t : Session) where
       → OnErr r ((after ≡ h) × (t.router ≡ s.router)) → HearsHandle h s t
   hears r heard others left err = (λ e d ds p. first r d (heard e d ds p) err, others, left)
 
--- what is told of the handle at a place
+-- the verdict on the handle at a place
 pub tells : (code error : ℤ) (filtered k : ℕ) (s : Session) (x : HandleState) (out : NeliVerdict)
     → Some x ≡ handle_at k s.handles.items
     → code ≡ verdict_code (verdict_by x.number (heard_of s.router.heard x.number))
@@ -65,7 +65,7 @@ tells code error filtered k s x out is c e f = (
     there : Some x ≡ handle_at k s.handles.items → handle_at k s.handles.items ≡ None → ⊥
     there is none = cc
 
--- giving a handle up, where memory does not run out
+-- giving a handle up, if memory does not run out
 pub given-up : (k : ℕ) (s t : Session) (x : HandleState) → Some x ≡ handle_at k s.handles.items
     → (x.number ≡ None → pending t None ≡ None)
     → (pending s x.number ≡ None → pending t x.number ≡ None)

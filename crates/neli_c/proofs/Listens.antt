@@ -1,4 +1,4 @@
--- What listening by a session gives, by what its router gives.
+-- The result of listening by a session, by that of its router.
 use Rattle.std.proofs.Common.{◌≡◌, ◌≢◌, ◌⊎◌, ℕ, ℤ, List, [], ◌∷◌, length, Option, Some, None, Result, Ok, Err, IfOk}
 use Rattle.std.proofs.Common.{OnErr, ap, subst, ◌∙◌, inl, inr}
 use Rattle.neli_deliveries.specs.declared.delivery.Delivery.{Delivery}
@@ -13,13 +13,13 @@ use Rattle.neli_c.specs.Listens.{GivesNotice, HoldsNotice, Listens, notice_code}
 use Rattle.neli_c.specs.Sessions.{GivesNothing, pending}
 
 module _ {E : Type 0} (s t : Session) (code : ℤ) (a b : NeliItem) where
-  -- what listen says of the first delivery
+  -- the result of listen for the first delivery
   abbrev Given : Result (Notice ℕ (List ℕ)) E → Delivery → List Delivery → Type 0
   Given r d ds =
       IfOk r (λ given. IsNotice (λ n. n) (λ x. x) length (λ x. Ok x) d given
       × (pending t None ≡ Some ds) × (t.router.missed ≡ None))
 
-  -- what is held of this answer
+  -- the facts about this result
   held-of : (r x : Result (Notice ℕ (List ℕ)) E) → r ≡ x → HoldsNotice r s.held t.held a b
       → HoldsNotice x s.held t.held a b
   held-of r x is held = subst (λ (y : Result (Notice ℕ (List ℕ)) E). HoldsNotice {E = E} y s.held t.held a b) is held

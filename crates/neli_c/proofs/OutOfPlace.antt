@@ -1,17 +1,17 @@
--- A walk that is not within the bytes gives nothing.
+-- A walk that is not within the bytes returns nothing.
 use Rattle.std.proofs.Common.{◌≡◌, ◌∙◌, ℕ, ℤ, List, None, ap, sym}
 use Rattle.neli_c.specs.declared.lent.NeliWalk.{NeliWalk}
 use Rattle.neli_c.specs.Codes.{item, place}
 use Rattle.neli_c.specs.Walks.{attribute_layout, bytes_left, walk_code}
 
--- a step from where it begins is refused for its place
+-- a step at its start is refused for its place
 pub out-of-place : (bytes : List ℕ) (w v : NeliWalk) (code : ℤ) → bytes_left bytes w ≡ None → v ≡ w
     → code ≡ walk_code attribute_layout (bytes_left bytes v) → code ≡ place
 out-of-place bytes w v code out same is =
     is ∙ ap (λ (x : NeliWalk). walk_code attribute_layout (bytes_left bytes x)) same
     ∙ ap (walk_code attribute_layout) out
 
--- and so gives no attribute
+-- and so returns no attribute
 pub no-item : (bytes : List ℕ) (w v : NeliWalk) (code : ℤ) → bytes_left bytes w ≡ None → v ≡ w
     → code ≡ walk_code attribute_layout (bytes_left bytes v) → code ≡ item → ⊥
 no-item bytes w v code out same is found =

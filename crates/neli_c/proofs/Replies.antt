@@ -1,4 +1,4 @@
--- What a read of a session answers, by what its router answers.
+-- The result of a read of a session, by that of its router.
 use Rattle.std.proofs.Common.{◌≡◌, ◌≢◌, ◌⊎◌, ◌||◌, ℕ, ℤ, true, false, List, [], ◌∷◌, length, Option, Some, None, Result}
 use Rattle.std.proofs.Common.{Ok, Err, IfOk, OnErr, ap, subst, ◌∙◌, inl, inr, IfSome}
 use Rattle.neli_deliveries.specs.declared.delivery.Delivery.{Delivery}
@@ -13,12 +13,12 @@ use Rattle.neli_c.specs.declared.session.Session.{Session}
 use Rattle.neli_c.specs.Codes.{memory}
 use Rattle.neli_c.specs.Sessions.{GivesDelivery, GivesNothing, Holds, ReadsHandle, pending, reply_code}
 
--- what holds of the value that is there
+-- a fact about the value that exists
 pub of-value : {A : Type 0} (o : Option A) (P : A → Type 0) (x : A) → Some x ≡ o → P x → IfSome o P
 of-value {A} o P x is p = subst (λ (o : Option A). IfSome o P) is p
 
 module _ {E : Type 0} (h after : HandleState) (s t : Session) (code : ℤ) (a b : NeliItem) where
-  -- what next_typed says of the first delivery
+  -- the result of next_typed for the first delivery
   abbrev Given : Result (Reply ℕ (List ℕ)) E → Delivery → List Delivery → Type 0
   Given r d ds =
       IfOk r (λ answer. (given : Item ℕ (List ℕ)) × IsReading (λ n. n) (λ b. b) length (λ b. Ok b) d given
@@ -29,7 +29,7 @@ module _ {E : Type 0} (h after : HandleState) (s t : Session) (code : ℤ) (a b 
         ended = ends_at (λ n. n) h.needs_ack (has_number h.number) h.single_given given;
       }))
 
-  -- what is held of this answer
+  -- the facts about this result
   held-of : (r x : Result (Reply ℕ (List ℕ)) E) → r ≡ x → Holds r s.held t.held a b → Holds x s.held t.held a b
   held-of r x is held = subst (λ (y : Result (Reply ℕ (List ℕ)) E). Holds {E = E} y s.held t.held a b) is held
 

@@ -63,13 +63,13 @@ pub fitting-code : (n most : ℕ) → n ≤ 4294967276 → align (16 + n) ≤ mo
 fitting-code n most short fits = not-long n most short
     ∙ ap (λ (b : Bool). if b then room else ok) (le-ltb most (align (16 + n)) fits)
 
--- where it is no matter of size, by one of two causes
+-- if size is no cause, by one of two causes
 pub refused-else : (body : List ℕ) (s : Session) (out : List ℕ) (code : ℤ)
     → code_by_size (length body) (length out) ≡ ok
     → ((code ≡ in_use) × (is_open s s.router.next_seq ≡ true)) ⊎ (code ≡ memory) → RefusesRequest code body s out
 refused-else body s out code fits cause = (λ big. absurd (big fits), λ _. cause)
 
--- a refusal is for want of memory, or has its cause
+-- a refusal is for memory, or has its cause
 by-cause : {T P : Type 0} (outcome : Result (List ℕ) (RouterError T P)) (takes : Type 0) (e : RouterError T P)
     → RefusesSend outcome takes e → (e ≡ router.Memory) ⊎ (outcome ≡ Err e)
 by-cause outcome takes (router.Msg t) r = inr r
@@ -85,7 +85,7 @@ by-cause outcome takes router.ClosedChannel r = inr r
 by-cause outcome takes (router.SeqInUse q) r = inr r
 by-cause outcome takes router.Memory r = inl refl
 
--- a frame that fits is refused only where its number is in use
+-- a frame that fits is refused only if its number is in use
 in-use-only : (number : ℕ) (used long : Bool) (text bytes : List ℕ)
     (rest : Result (List ℕ) (RouterError ℕ (List ℕ))) (e : RouterError ℕ (List ℕ))
     → (if used then Err (router.SeqInUse number) else (if long then Err (router.Msg text) else rest)) ≡ Err e
@@ -107,12 +107,12 @@ refusal-code port number used message_type f b takes e short r =
           (le-ltb 4294967295 (align (16 + length b)) (omega (arith, short))))
     ]
 
--- neither cause is a matter of room
+-- neither cause depends on room
 pub no-matter-of-room : (code : ℤ) (used : Bool) → ((code ≡ in_use) × (used ≡ true)) ⊎ (code ≡ memory) → code ≢ room
 no-matter-of-room code used (inl cause) = λ is. (let bad : in_use ≡ room = sym cause.0 ∙ is in absurd cc)
 no-matter-of-room code used (inr cause) = λ is. (let bad : memory ≡ room = sym cause ∙ is in absurd cc)
 
--- a frame for which there was found to be room is copied
+-- a frame for which the room was found is copied
 pub copied-code : (port number : ℕ) (used : Bool) (message_type : ℕ) (f : NlmF) (b body bytes written out : List ℕ)
     (code : ℤ)
     → frame_or_refusal {T = ℕ} {P = List ℕ} (λ n. n) (λ b. Ok b) length port number used message_type f

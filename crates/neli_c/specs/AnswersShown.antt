@@ -1,4 +1,4 @@
--- What is shown of an error, an acknowledgement or the end of a dump: by the kinds of neli_reader.
+-- The fields shown for an error, an acknowledgement or the end of a dump: by the kinds of neli_reader.
 use Rattle.std.specs.Prelude.{◌≡◌, ℕ, ◌+◌, ℤ, Bool, ◌&&◌, ◌||◌, not, nat_eq, nat_lt, nat_le, min, if◌then◌else◌, List}
 use Rattle.std.specs.Prelude.{length, drop, Option, Some, None, Result, Ok, Err}
 use Rattle.neli_wire.specs.DeError.{DeError}
@@ -10,7 +10,7 @@ use Rattle.neli_c.specs.declared.answer.NeliAnswer.{NeliAnswer}
 use Rattle.neli_c.specs.Codes.{bad_length, kind, ok, place, short}
 use Rattle.neli_c.specs.Walks.{bytes_from}
 
--- the payload of a message, where it lies within the bytes
+-- the payload of a message, if it lies within the bytes
 abbrev pub payload_shown : List ℕ → NeliMessage → Option (List ℕ)
 payload_shown bytes m =
     if nat_le (m.payload + m.payload_length) (length bytes) then Some (bytes_from m.payload m.payload_length bytes)
@@ -20,7 +20,7 @@ payload_shown bytes m =
 abbrev pub is_dump_end : ℕ → ℕ → List ℕ → Bool
 is_dump_end number flags s = nat_eq number 3 && is_multi (flags_of flags) && not (nat_eq (length s) 0)
 
--- the header of the request alone is echoed
+-- only the header of the request is echoed
 abbrev pub echoes_header : ℕ → List ℕ → Bool
 echoes_header flags s = is_acknowledged s || is_capped (flags_of flags)
 
@@ -34,24 +34,24 @@ abbrev pub error_code : ℕ → List ℕ → ℤ
 error_code flags s =
     if nat_lt (length s) 20 then short else (if echoes_header flags s then ok else echo_code (echoed_in s))
 
--- what a call answers of a payload after a header of this type and these flags
+-- the code that a call returns for a payload after a header of this type and these flags
 abbrev pub answer_code : ℕ → ℕ → List ℕ → ℤ
 answer_code number flags s =
     if is_dump_end number flags s then (if nat_lt (length s) 4 then short else ok)
     else (if nat_eq number 2 then error_code flags s else kind)
 
--- where the attributes of an error begin
+-- the start of an error's attributes
 abbrev pub error_attributes : ℕ → List ℕ → ℕ
 error_attributes flags s =
     if echoes_header flags s then (if is_capped (flags_of flags) && has_attributes (flags_of flags) then 20
     else length s)
     else min (echo_end s) (length s)
 
--- where the attributes begin
+-- the start of the attributes
 abbrev pub attributes_begin : ℕ → ℕ → List ℕ → ℕ
 attributes_begin number flags s = if nat_eq number 2 then error_attributes flags s else 4
 
--- what a call answers, where the payload lies within the bytes or not
+-- the code that a call returns, whether the payload lies within the bytes or not
 abbrev pub payload_code : NeliMessage → Option (List ℕ) → ℤ
 payload_code m None = place
 payload_code m (Some s) = answer_code m.message_type m.flags s

@@ -1,7 +1,7 @@
--- What calls answer: numbers from 0 on are answers, those below 0 refusals (`enum neli_code` of include/neli.h).
+-- The codes that calls return: from 0 on results, below 0 refusals (`enum neli_code` of include/neli.h).
 use Rattle.std.specs.Prelude.{ℤ, pos, negsuc}
 
--- it is done, or nothing more comes; a message, an attribute or an item was given; none is here yet
+-- done, or the end; a message, an attribute or an item was returned; none has arrived yet
 abbrev pub ok : ℤ
 ok = pos 0
 
@@ -15,7 +15,7 @@ waits = pos 2
 abbrev pub kernel_error : ℤ
 kernel_error = pos 3
 
--- what was listed changed meanwhile
+-- the listed objects changed meanwhile
 abbrev pub interrupted : ℤ
 interrupted = pos 4
 
@@ -36,14 +36,14 @@ memory = negsuc 2
 abbrev pub room : ℤ
 room = negsuc 3
 
--- the router is closed, or open already; there is no such handle
+-- the router is closed, or open already; no such handle exists
 abbrev pub state : ℤ
 state = negsuc 4
 
 abbrev pub no_handle : ℤ
 no_handle = negsuc 5
 
--- what came in place of an item
+-- the causes in place of an item
 abbrev pub in_use : ℤ
 in_use = negsuc 6
 

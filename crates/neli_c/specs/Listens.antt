@@ -1,4 +1,4 @@
--- Listening, as C is told it: reads of multicast that go on.
+-- Listening, in C's terms: reads of multicast that continue after any item.
 use Rattle.std.specs.Prelude.{◌≡◌, ◌≢◌, ◌⊎◌, ℕ, ℤ, List, [], ◌∷◌, length, Option, Some, None, Result, Ok, Err, nat_eq}
 use Rattle.std.specs.Prelude.{unsigned_abs, if◌then◌else◌}
 use Rattle.neli_reader.specs.Framed.{Nlmsghdr}
@@ -25,7 +25,7 @@ abbrev pub missed_code : Missed → ℤ
 missed_code missed.Overrun = overrun
 missed_code (missed.Fault k) = link
 
--- of what the router gives
+-- of the router's result
 abbrev pub notice_code : {E : Type 0} → Result (Notice ℕ (List ℕ)) E → ℤ
 notice_code (Ok (notice.Message m)) = item
 notice_code (Ok (notice.Untyped i)) = item_code i
@@ -34,22 +34,22 @@ notice_code (Ok notice.Waits) = waits
 notice_code (Ok notice.Closed) = no_handle
 notice_code (Err e) = memory
 
--- its message is held, and shown; without an item both are as before
+-- its message is held, and shown; without an item both are unchanged
 abbrev pub HoldsNotice : {E : Type 0} → Result (Notice ℕ (List ℕ)) E → Option (Nlmsghdr ℕ (List ℕ))
     → Option (Nlmsghdr ℕ (List ℕ)) → NeliItem → NeliItem → Type 0
 HoldsNotice (Ok (notice.Message m)) old new a b = (new ≡ Some m) × (b ≡ item_shown m)
 HoldsNotice (Ok (notice.Untyped i)) old new a b = (new ≡ item_message i) × (b ≡ shown_of (item_message i) a)
 HoldsNotice r old new a b = (new ≡ old) × (b ≡ a)
 
--- the first delivery of multicast is given as it came, its message is held and shown, and what waits is `ds`
+-- the first delivery of multicast is returned as it arrived, its message is held and shown, and `ds` waits
 abbrev pub GivesNotice : ℤ → Session → Delivery → List Delivery → NeliItem → NeliItem → Type 0
 GivesNotice code t d ds shown shown' =
     (given : Item ℕ (List ℕ)) × IsReading (λ n. n) (λ b. b) length (λ b. Ok b) d given
     × (code ≡ item_code given) × (t.held ≡ item_message given) × (shown' ≡ shown_of (item_message given) shown)
     × (pending t None ≡ Some ds) × (t.router.missed ≡ None)
 
--- what was missed is told once, before what waits; else that multicast is closed, a wait, or its first delivery; or
--- memory ran out, and all is as before
+-- what was missed is reported once, before the deliveries that wait; else that multicast is closed, a wait, or its
+-- first delivery; or memory ran out, and all is unchanged
 abbrev pub Listens : ℤ → Session → Session → NeliItem → NeliItem → Type 0
 Listens code s t shown shown' =
     ((m : Missed) → s.router.missed ≡ Some m → (code ≡ missed_code m) × (t.router.missed ≡ None)
@@ -63,7 +63,7 @@ Listens code s t shown shown' =
     × (t.router.heard ≡ s.router.heard) × (t.router.given_up ≡ s.router.given_up)
     × (t.handles.items ≡ s.handles.items) × (t.freed ≡ s.freed)
 
--- what listeners missed is this, where a fault was taken in; else what they missed before
+-- what listeners missed is this, if a fault was taken in; else what they missed before
 abbrev pub MissesThen : ℤ → Option Missed → Session → Session → Type 0
 MissesThen code after s t =
     (code ≡ ok → t.router.missed ≡ after) × (code ≢ ok → t.router.missed ≡ s.router.missed)
@@ -72,6 +72,6 @@ MissesThen code after s t =
 abbrev pub Misses : ℤ → ℤ → Session → Session → Type 0
 Misses code errno s t = MissesThen code (missed_by errno s.router.missed) s t
 
--- what listeners missed, and were not told yet, is the same
+-- what listeners missed, and was not yet reported, is the same
 abbrev pub MissesSame : Session → Session → Type 0
 MissesSame s t = t.router.missed ≡ s.router.missed

@@ -1,4 +1,4 @@
--- Lists of attributes: where they lie in the bytes of a message or of an attribute, and which is found.
+-- Lists of attributes: their places in the bytes of a message or of an attribute, and look-up in them.
 use Rattle.std.specs.Prelude.{◌≡◌, ◌≢◌, ℕ, ◌+◌, ◌^◌, ℤ, Bool, min, nat_lt, if◌then◌else◌, List}
 use Rattle.neli_wire.specs.Sizes.{align}
 use Rattle.neli_c.specs.declared.lent.NeliWalk.{NeliWalk}
@@ -34,13 +34,13 @@ pub data Passes (bytes : List ℕ) (number : ℕ) (w : NeliWalk) : NeliWalk → 
   one : {u v : NeliWalk} (a : NeliAttribute) → Passes bytes number w u → GivesAttribute bytes u v a → a.number ≢ number
       → Passes bytes number w v
 
--- the attribute is the first with this number among those that are left of a walk
+-- the attribute is the first with this number in the rest of a walk
 abbrev pub IsFound : List ℕ → NeliWalk → ℕ → NeliAttribute → Type 0
 IsFound bytes w number a =
     (at : NeliWalk) × (after : NeliWalk) × Passes bytes number w at × GivesAttribute bytes at after a
     × (a.number ≡ number)
 
--- there is none with this number before the walk's end, or before what is refused with this code
+-- none with this number comes before the walk's end, or before the part that is refused with this code
 abbrev pub FindsNone : List ℕ → NeliWalk → ℕ → ℤ → Type 0
 FindsNone bytes w number code =
     (at : NeliWalk) × Passes bytes number w at × (code ≡ walk_code attribute_layout (bytes_left bytes at))

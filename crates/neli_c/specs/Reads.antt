@@ -1,4 +1,4 @@
--- What is read of a caller's bytes.
+-- Reads of a caller's bytes.
 use Rattle.std.specs.Prelude.{◌≡◌, ◌≢◌, ℕ, ◌+◌, ◌<◌, ℤ, nat_le, if◌then◌else◌, All, List, length, slice_index, take}
 use Rattle.neli_c.specs.Codes.{ok, short}
 

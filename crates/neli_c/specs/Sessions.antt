@@ -41,7 +41,7 @@ use Rattle.neli_c.specs.Codes.{bad_bytes, bad_length, in_use, item, kernel_error
 use Rattle.neli_c.specs.Codes.{room, stray, unexpected_ack, waits}
 use Rattle.neli_c.specs.Writes.{put_first}
 
--- what waits for a handle with this number, or for multicast; nothing where that is not open
+-- the deliveries that wait for a handle with this number, or for multicast; none if that is not open
 abbrev pub pending : Session → Option ℕ → Option (List Delivery)
 pending s w = pending_of s.router.deliveries w
 
@@ -59,26 +59,26 @@ KeepsRest s t =
     (t.router.deliveries.port ≡ s.router.deliveries.port) × (t.router.next_seq ≡ s.router.next_seq)
     × (t.handles.items ≡ s.handles.items) × (t.freed ≡ s.freed) × (t.held ≡ s.held)
 
--- the handle of multicast, which was given nothing yet
+-- the handle of multicast, which has returned nothing yet
 abbrev pub multicast : HandleState
 multicast = record { number = None; needs_ack = false; single_given = false; ended = false }
 
--- a new router of this port: nothing waits for multicast, of which the one handle is, nothing was missed, and no number
--- is open
+-- a new router with this port: nothing waits for multicast, whose handle is the only one, nothing was missed, and no
+-- number is open
 abbrev pub IsNew : ℕ → Session → Type 0
 IsNew port s =
     (s.router.deliveries.port ≡ port) × (s.router.next_seq ≡ 0) × (pending s None ≡ Some [])
     × ((q : ℕ) → pending s (Some q) ≡ None) × (s.handles.items ≡ slot.Open multicast ∷ []) × HasFree s []
     × (s.held ≡ None) × (s.router.missed ≡ None)
 
--- the next request has this number; all else is the same
+-- the next request has this number; all else is unchanged
 abbrev pub SetsNumber : ℕ → Session → Session → Type 0
 SetsNumber number s t =
     (t.router.next_seq ≡ number) × (t.router.deliveries ≡ s.router.deliveries) × (t.handles.items ≡ s.handles.items)
     × (t.freed ≡ s.freed) × (t.held ≡ s.held) × (t.router.missed ≡ s.router.missed)
 
--- of the requests that were given up nothing waits after these messages, and where the last message of its answer is one
--- of them a request is closed
+-- no delivery of a request that was given up waits after these messages, and a request is closed if the last message of
+-- its answer is one of them
 abbrev pub Settles : List (Lent ℕ) → Session → Session → Type 0
 Settles messages s t =
     ((q : ℕ) → is_given_up s.router.given_up.items (Some q) ≡ true → pending t (Some q)
@@ -86,8 +86,8 @@ Settles messages s t =
     else option_map (λ _. []) (pending s (Some q))))
     × (t.router.given_up.items ≡ still_open (pending t) s.router.given_up.items)
 
--- each handle gets its share of the datagram, and what was given up nothing; or memory ran out, and what waits is the
--- same, but never at no bytes that came to no group
+-- each handle gets its share of the datagram, and requests given up get nothing; or memory ran out, and the waiting
+-- deliveries are unchanged, but never for no bytes that arrived for no group
 abbrev pub TakesDatagram : ℤ → List ℕ → List ℕ → Session → Session → Type 0
 TakesDatagram code bytes groups s t =
     ((code ≡ ok) ⊎ (code ≡ memory))
@@ -98,14 +98,14 @@ TakesDatagram code bytes groups s t =
     × (code ≡ memory → (t.router.given_up ≡ s.router.given_up) × ((w : Option ℕ) → pending t w ≡ pending s w))
     × KeepsRest s t × (t.router.heard ≡ s.router.heard) × (bytes ≡ [] → groups ≡ [] → code ≡ ok)
 
--- the link's fault of a number of errno.h, negated or not: EAGAIN (11), ECONNRESET (104), or another one
+-- the link's fault for a number of errno.h, negated or not: EAGAIN (11), ECONNRESET (104), or another one
 abbrev pub fault_kind : ℤ → ErrorKind
 fault_kind n =
     if nat_eq (unsigned_abs n) 11 then kind.WouldBlock
     else (if nat_eq (unsigned_abs n) 104 then kind.ConnectionReset else kind.Other)
 
--- each handle gets its share of a fault of this kind, and what was given up nothing; or memory ran out, and what waits is
--- the same, but never where the link would block, nor where no number is open
+-- each handle gets its share of a fault of this kind, and requests given up get nothing; or memory ran out, and the
+-- waiting deliveries are unchanged, but never if the link would block, nor if no number is open
 abbrev pub TakesKind : ℤ → ErrorKind → Session → Session → Type 0
 TakesKind code k s t =
     ((code ≡ ok) ⊎ (code ≡ memory))
@@ -137,8 +137,8 @@ WritesItem code s old new size size' =
     × (code ≢ ok → new ≡ old)
     × IfSome s.held (λ m. code ≢ memory → WritesMessage code (message_wire (λ n. n) (λ b. Ok b) m) old new size')
 
--- what waits for the handle at a place is given up, and the place is free, but that of multicast is not given again; or
--- there is none, and nothing changes
+-- the deliveries of the handle at a place are removed, and the place is free, but that of multicast is not used again;
+-- or there is none, and nothing changes
 abbrev pub ClosesHandle : ℤ → ℕ → Session → Session → Type 0
 ClosesHandle code k s t =
     (handle_at k s.handles.items ≡ None → (code ≡ no_handle) × (t ≡ s))
@@ -166,14 +166,14 @@ SendsRequest message_type flags body s t old new sent =
     × ((w : Option ℕ) → w ≢ Some number → pending t w ≡ pending s w)
     × (t.router.deliveries.port ≡ s.router.deliveries.port) × (t.held ≡ s.held)
 
--- nothing is sent: port, next number, what waits, the handles and what is held are the same
+-- nothing is sent: port, next number, waiting deliveries, the handles and the held message are unchanged
 abbrev pub SendsNothing : Session → Session → Type 0
 SendsNothing s t =
     (t.router.deliveries.port ≡ s.router.deliveries.port) × (t.router.next_seq ≡ s.router.next_seq)
     × ((w : Option ℕ) → pending t w ≡ pending s w) × (t.held ≡ s.held) × (t.handles.items ≡ s.handles.items)
     × (t.freed ≡ s.freed)
 
--- of a request of so many bytes, where there is room for so many: its length passes 32 bits, or there is no room
+-- of a request of so many bytes, with room for so many: its length exceeds 32 bits, or there is no room
 abbrev pub size_code : ℕ → ℕ → ℤ
 size_code n most = if nat_lt 4294967295 n then bad_length else (if nat_lt most n then room else ok)
 
@@ -184,12 +184,12 @@ RefusesRequest code body s out =
     (by_size ≢ ok → code ≡ by_size)
     × (by_size ≡ ok → ((code ≡ in_use) × (is_open s s.router.next_seq ≡ true)) ⊎ (code ≡ memory))
 
--- what is said then: how many bytes are needed where there is no room, and else nothing
+-- the stored number of bytes: those needed if there is no room, and else none
 abbrev pub SaysNeeded : ℤ → List ℕ → NeliSent → NeliSent → Type 0
 SaysNeeded code body sent sent' =
     (code ≡ room → sent' ≡ record sent { length = align (16 + length body) }) × (code ≢ room → sent' ≡ sent)
 
--- what a read answers: of a fault of the link or of a datagram, of what came in place of a message, of an item
+-- the code of a read: of a fault of the link or of a datagram, of the error in place of a message, of an item
 abbrev pub socket_code : SocketError → ℤ
 socket_code (socket.De e) = refusal_code e
 socket_code (socket.Io k) = link
@@ -214,7 +214,7 @@ abbrev pub item_code : {K P : Type 0} → Item K P → ℤ
 item_code (Ok m) = item
 item_code (Err e) = error_code e
 
--- of what the router answers
+-- of the router's reply
 abbrev pub reply_code : {E : Type 0} → Result (Reply ℕ (List ℕ)) E → ℤ
 reply_code (Ok (reply.Item i)) = item_code i
 reply_code (Ok reply.End) = ok
@@ -229,7 +229,7 @@ payload_error (payload.DumpExtAck e) = e.error
 payload_error (payload.Err e) = e.error
 payload_error p = pos 0
 
--- what is shown of a message
+-- the shown fields of a message
 abbrev pub item_shown : Nlmsghdr ℕ (List ℕ) → NeliItem
 item_shown m =
     record {
@@ -240,11 +240,11 @@ item_shown m =
       error = payload_error m.payload;
     }
 
--- the flags of an error: the header alone is echoed (CAPPED, 0x100), attributes follow (ACK_TLVS, 0x200)
+-- the flags of an error: only the header is echoed (CAPPED, 0x100), attributes follow (ACK_TLVS, 0x200)
 abbrev pub error_flags : Bool → Bool → NlmF
 error_flags capped more = flags_of ((if capped then 256 else 0) + (if more then 512 else 0))
 
--- an error as the message that it came in: type 2, and number and port of the request; none past 32 bits
+-- an error as the message in which it arrived: type 2, and number and port of the request; none past 32 bits
 abbrev pub error_message : NlmF → ℕ → ℕ → NlPayload ℕ (List ℕ) → Option (Nlmsghdr ℕ (List ℕ))
 error_message flags number port payload =
     let size = align (16 + payload_size length payload) in
@@ -262,22 +262,22 @@ item_message (Err (router.Capped e)) =
     (payload.Capped e)
 item_message (Err e) = None
 
--- what is shown of a message, where there is one; else what was shown before
+-- the shown fields of a message, if there is one; else those shown before
 abbrev pub shown_of : Option (Nlmsghdr ℕ (List ℕ)) → NeliItem → NeliItem
 shown_of (Some m) shown = item_shown m
 shown_of None shown = shown
 
--- an item's message is held, and shown; without an item both are as before
+-- an item's message is held, and shown; without an item both are unchanged
 abbrev pub Holds : {E : Type 0} → Result (Reply ℕ (List ℕ)) E → Option (Nlmsghdr ℕ (List ℕ))
     → Option (Nlmsghdr ℕ (List ℕ)) → NeliItem → NeliItem → Type 0
 Holds (Ok (reply.Item i)) old new a b = (new ≡ item_message i) × (b ≡ shown_of (item_message i) a)
 Holds r old new a b = (new ≡ old) × (b ≡ a)
 
--- nothing is given: the router, what is held and what was shown are as before
+-- no item: the router, the held message and the shown one are unchanged
 abbrev pub GivesNothing : Session → Session → NeliItem → NeliItem → Type 0
 GivesNothing s t shown shown' = (t.router ≡ s.router) × (t.held ≡ s.held) × (shown' ≡ shown)
 
--- the first delivery of a handle is given by the reply rule, its message is held and shown, and what waits is `ds`
+-- the first delivery of a handle is returned by the reply rule, its message is held and shown, and `ds` waits
 abbrev pub GivesDelivery : ℤ → HandleState → HandleState → Session → Delivery → List Delivery → NeliItem → NeliItem
     → Type 0
 GivesDelivery code h h' t d ds shown shown' =
@@ -292,8 +292,8 @@ GivesDelivery code h h' t d ds shown shown' =
       ended = ends_at (λ n. n) h.needs_ack (has_number h.number) h.single_given given;
     })
 
--- of a handle that is there, and is h' then: its end, that it is not open, a wait, or its first delivery; or memory
--- ran out, and all is as before
+-- of a handle that exists, and is h' then: its end, that it is not open, a wait, or its first delivery; or memory ran
+-- out, and all is unchanged
 abbrev pub ReadsHandle : ℤ → HandleState → HandleState → Session → Session → NeliItem → NeliItem → Type 0
 ReadsHandle code h h' s t shown shown' =
     (h.ended ≡ true → (code ≡ ok) × (h' ≡ h) × GivesNothing s t shown shown')
@@ -308,7 +308,7 @@ ReadsHandle code h h' s t shown shown' =
     × ((w : Option ℕ) → w ≢ h.number → pending t w ≡ pending s w)
     × (t.router.deliveries.port ≡ s.router.deliveries.port) × (t.router.next_seq ≡ s.router.next_seq)
 
--- a read of the handle at a place; where there is none, nothing changes
+-- a read of the handle at a place; without a handle, nothing changes
 abbrev pub ReadsPlace : ℤ → ℕ → Session → Session → NeliItem → NeliItem → Type 0
 ReadsPlace code k s t shown shown' =
     (handle_at k s.handles.items ≡ None → (code ≡ no_handle) × (t ≡ s) × (shown' ≡ shown))

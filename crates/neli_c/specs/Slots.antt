@@ -1,4 +1,4 @@
--- The places of handles: what stands at one, and which are free.
+-- The places of handles: the content of each, and the free ones.
 use Rattle.std.specs.Prelude.{◌≡◌, ◌≢◌, ⊤, ℕ, List, [], ◌∷◌, ◌++◌, Option, Some, None, length, nat_lt, slice_get}
 use Rattle.std.specs.Prelude.{slice_set, if◌then◌else◌}
 use Rattle.neli_router.specs.declared.handle.HandleState.{HandleState}
@@ -25,16 +25,16 @@ AreFree slots first (k ∷ later) =
     (first ≡ k) × (k ≢ 0) × IsApart k later
     × ((next : ℕ) × (slice_get slots k ≡ Some (slot.Free next)) × AreFree slots next later)
 
--- a handle is put at a place that had none: one of those that there are, or a new one after them
+-- a handle is put at a place that had none: an existing one, or a new one after them
 abbrev pub put_at : ℕ → HandleState → List Slot → List Slot
 put_at k h slots = if nat_lt k (length slots) then slice_set slots k (slot.Open h) else slots ++ slot.Open h ∷ []
 
--- the place that a handle is put at: the first of the free ones, and a new one where none is free
+-- the place for a handle: the first of the free ones, or a new one if none is free
 abbrev pub next_place : List Slot → List ℕ → ℕ
 next_place slots [] = length slots
 next_place slots (k ∷ later) = k
 
--- those that are free then
+-- the free ones then
 abbrev pub later_places : List ℕ → List ℕ
 later_places [] = []
 later_places (k ∷ later) = later

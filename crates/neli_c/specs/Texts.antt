@@ -1,7 +1,7 @@
--- What codes are called.
+-- The texts of codes.
 use Rattle.std.specs.Prelude.{◌≡◌, ℕ, ◌+◌, ℤ, pos, negsuc, List, codes}
 
--- t is what this code is called
+-- t is the text of this code
 abbrev pub IsTextOf : ℤ → List ℕ → Type 0
 IsTextOf code t =
     (code ≡ pos 0 → t ≡ codes "done, or nothing more comes")

@@ -1,4 +1,4 @@
--- How an answer stands, as C is told it, and what giving up does.
+-- Verdicts on answers, in C's terms, and the effect of giving up.
 use Rattle.std.specs.Prelude.{◌≡◌, ◌≢◌, ◌⊎◌, ◌||◌, ℕ, ℤ, pos, Bool, List, if◌then◌else◌, ◌∷◌, Option, Some, None, IfSome}
 use Rattle.std.specs.Prelude.{false, length, option_map, slice_set, Ok}
 use Rattle.neli_deliveries.specs.declared.delivery.Delivery.{Delivery}
@@ -19,7 +19,7 @@ use Rattle.neli_c.specs.Codes.{unexpected_ack, waits}
 use Rattle.neli_c.specs.Sessions.{HasFree, pending}
 use Rattle.neli_c.specs.Slots.{handle_at}
 
--- ---- how an answer stands
+-- ---- verdicts
 
 -- the code of a verdict
 abbrev pub verdict_code : Verdict → ℤ
@@ -35,17 +35,17 @@ verdict_code (verdict.Lost loss.NoAck) = no_ack
 verdict_code (verdict.Lost loss.UnexpectedAck) = unexpected_ack
 verdict_code (verdict.Lost loss.Closed) = no_handle
 
--- the kernel's code where it failed, and 0 elsewhere
+-- the kernel's code if it failed, and 0 elsewhere
 abbrev pub verdict_error : Verdict → ℤ
 verdict_error (verdict.Failed e) = e
 verdict_error v = pos 0
 
--- 1 where the kernel did filter, else 0
+-- 1 if the kernel filtered, else 0
 abbrev pub filtered_byte : Option Heard → ℕ
 filtered_byte None = 0
 filtered_byte (Some heard) = if heard.filtered then 1 else 0
 
--- of the handle at a place, as the router says it; where there is none nothing is written
+-- of the handle at a place, as the router returns it; without a handle nothing is written
 abbrev pub TellsVerdict : ℤ → ℕ → Session → NeliVerdict → NeliVerdict → Type 0
 TellsVerdict code k s out out' =
     (handle_at k s.handles.items ≡ None → (code ≡ no_handle) × (out' ≡ out))
@@ -56,8 +56,8 @@ TellsVerdict code k s out out' =
       filtered = filtered_byte (heard_of s.router.heard h.number);
     }))
 
--- what is heard of the answer by a read of this handle: of its first delivery, as the item that is given; of others
--- nothing; or memory ran out, and the router is as before
+-- what a read of this handle adds to the verdict on the answer: its first delivery, as the returned item; of others
+-- nothing; or memory ran out, and the router is unchanged
 abbrev pub HearsHandle : HandleState → Session → Session → Type 0
 HearsHandle h s t =
     (h.ended ≡ false → (d : Delivery) (ds : List Delivery) → pending s h.number ≡ Some (d ∷ ds)
@@ -70,7 +70,7 @@ HearsHandle h s t =
 
 -- ---- giving up
 
--- the request of this handle is left to come to its end; or memory ran out, and it is closed
+-- the request of this handle is left until its answer ends; or memory ran out, and it is closed
 abbrev pub LeavesRequest : ℤ → HandleState → Session → Session → Type 0
 LeavesRequest code h s t =
     ((code ≡ ok) ⊎ (code ≡ memory))
@@ -83,8 +83,8 @@ LeavesRequest code h s t =
     × (h.number ≡ None → (code ≡ ok) × (pending t None ≡ None))
     × (pending s h.number ≡ None → (code ≡ ok) × (pending t h.number ≡ None))
 
--- the handle at a place is given up, and the place is free, but that of multicast is not given again; what waits for
--- others stays; or there is none, and nothing changes
+-- the handle at a place is given up, and the place is free, but that of multicast is not used again; the deliveries of
+-- others stay; or there is none, and nothing changes
 abbrev pub GivesUpHandle : ℤ → ℕ → Session → Session → Type 0
 GivesUpHandle code k s t =
     (handle_at k s.handles.items ≡ None → (code ≡ no_handle) × (t ≡ s))

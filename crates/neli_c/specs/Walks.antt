@@ -1,4 +1,4 @@
--- Walks over a caller's bytes: what is left, what a call gives of it, and what it answers.
+-- Walks over a caller's bytes: the rest, the result of a call, and its code.
 use Rattle.std.specs.Prelude.{◌≡◌, ◌≤◌, ℕ, ◌+◌, ◌-◌, ℤ, Bool, ◌&&◌, bit_and, nat_le, if◌then◌else◌, List, [], ◌∷◌}
 use Rattle.std.specs.Prelude.{length, take, drop, Option, Some, None, Ok, Err}
 use Rattle.std.specs.declared.io.ErrorKind.TheVariants.{UnexpectedEof}
@@ -16,7 +16,7 @@ use Rattle.neli_c.specs.declared.lent.NeliMessage.{NeliMessage}
 use Rattle.neli_c.specs.declared.lent.NeliAttribute.{NeliAttribute}
 use Rattle.neli_c.specs.Codes.{bad_bytes, bad_length, item, memory, ok, place, short}
 
--- how messages and attributes lie, with their numbers as they are and each payload's bytes
+-- messages and attributes with their numbers as they are and each payload's bytes
 abbrev pub message_layout : Layout (Header ℕ) (List ℕ)
 message_layout = lent_message (λ n. n)
 
@@ -31,11 +31,11 @@ bytes_from at n bytes = take n (drop at bytes)
 abbrev pub is_within : NeliWalk → ℕ → Bool
 is_within w size = nat_le w.place w.end && nat_le w.end size
 
--- the bytes that are left of a walk
+-- the remaining bytes of a walk
 abbrev pub bytes_left : List ℕ → NeliWalk → Option (List ℕ)
 bytes_left bytes w = if is_within w (length bytes) then Some (bytes_from w.place (w.end - w.place) bytes) else None
 
--- ---- what a step answers
+-- ---- the code of a step
 
 -- of bytes that are refused
 abbrev pub refusal_code : DeError → ℤ
@@ -49,15 +49,15 @@ abbrev pub reading_code : {A : Type 0} → Reading A → ℤ
 reading_code (Ok r) = item
 reading_code (Err e) = refusal_code e
 
--- of the bytes that are left, if there are such bytes
+-- of the remaining bytes, if they exist
 abbrev pub walk_code : {H : Type 0} → Layout H (List ℕ) → Option (List ℕ) → ℤ
 walk_code layout None = place
 walk_code layout (Some []) = ok
 walk_code layout (Some (b ∷ s)) = reading_code (frame_at layout (b ∷ s))
 
--- ---- what a step gives
+-- ---- the result of a step
 
--- the header that a message shows
+-- the shown header of a message
 abbrev pub header_shown : NeliMessage → Header ℕ
 header_shown m = record {
   len = m.length;
@@ -67,7 +67,7 @@ header_shown m = record {
   port = m.port;
 }
 
--- the message is the frame that begins the bytes that were left; the walk goes past it
+-- the message is the frame at the front of the rest; the walk moves past it
 abbrev pub GivesMessage : List ℕ → NeliWalk → NeliWalk → NeliMessage → Type 0
 GivesMessage bytes old new m =
     let s = bytes_from old.place (old.end - old.place) bytes in
@@ -79,7 +79,7 @@ GivesMessage bytes old new m =
     × (new ≡ record old { place = old.place + align m.length })
     × (new.place ≤ old.end)
 
--- the header that an attribute shows
+-- the shown header of an attribute
 abbrev pub head_shown : NeliAttribute → Head ℕ
 head_shown a = record { len = a.length; kind = a.field }
 
@@ -87,7 +87,7 @@ head_shown a = record { len = a.length; kind = a.field }
 abbrev pub IsInParts : NeliAttribute → Type 0
 IsInParts a = (a.number ≡ bit_and a.field 16383) × (a.flags ≡ bit_and a.field 49152)
 
--- the attribute is the frame that begins the bytes that were left; the walk goes past it
+-- the attribute is the frame at the front of the rest; the walk moves past it
 abbrev pub GivesAttribute : List ℕ → NeliWalk → NeliWalk → NeliAttribute → Type 0
 GivesAttribute bytes old new a =
     let s = bytes_from old.place (old.end - old.place) bytes in

@@ -1,4 +1,4 @@
-//! What an error, an acknowledgement or the end of a dump says. It takes no memory.
+//! Reads an error, an acknowledgement or the end of a dump. It takes no memory.
 
 ghost use Rattle.std.specs.Prelude.{◌≡◌, ◌≢◌, ◌≤◌, true, false, Some, None, IfErr, IfOk, IfSome, IsErr, IsNone, IsOk};
 ghost use Rattle.std.specs.Prelude.{drop, length, min};
@@ -15,8 +15,7 @@ use neli_consts::{NLMSG_DONE, NLMSG_ERROR};
 use neli_wire::alignto;
 use std::cmp::min;
 
-/// The size of a code and the header of the message that is answered, in bytes (`struct nlmsgerr` of
-/// `linux/netlink.h`).
+/// The size of a code and the echoed header, in bytes (`struct nlmsgerr` of `linux/netlink.h`).
 const ANSWER_SIZE: usize = 20;
 
 /// The flags MULTI, CAPPED and ACK_TLVS of a message (`linux/netlink.h`).
@@ -26,7 +25,7 @@ const CAPPED: u16 = 0x100;
 
 const ACK_TLVS: u16 = 0x200;
 
-/// An answer: its code, the header of the request, and where its attributes lie.
+/// An answer: its code, the header of the request, and the place of its attributes.
 #[repr(C)]
 #[derive(Clone, Copy)]
 pub struct NeliAnswer {
@@ -51,7 +50,7 @@ fn payload_of<'b>(bytes: &'b [u8], message: &NeliMessage) -> Option<&'b [u8]>
     Some(&bytes[message.payload..message.payload + size])
 }
 
-/// Where the attributes begin of an error without the flag CAPPED: after the echoed request and its padding.
+/// The start of the attributes of an error without the flag CAPPED: after the echoed request and its padding.
 fn after_echo(payload: &[u8]) -> Option<usize>
     requires { 20 ≤ length payload.now }
     ensures some { IfSome result
@@ -66,7 +65,7 @@ fn after_echo(payload: &[u8]) -> Option<usize>
     Some(min(ANSWER_SIZE + alignto(len - 16), payload.len()))
 }
 
-/// Where the attributes of an answer begin in its payload; else the code of why it is none.
+/// The start of an answer's attributes in its payload; else the code of why it is none.
 fn attributes_begin(nl_type: u16, flags: u16, payload: &[u8]) -> Result<usize, i32>
     ensures begin { IfOk result (λ n. (answer_code nl_type flags payload.now ≡ ok)
         × (n ≡ attributes_begin nl_type flags payload.now)
@@ -95,7 +94,7 @@ fn attributes_begin(nl_type: u16, flags: u16, payload: &[u8]) -> Result<usize, i
     after_echo(payload).ok_or(LENGTH)
 }
 
-/// The code and the echoed header of an answer, and where its attributes lie.
+/// The code and the echoed header of an answer, and the place of its attributes.
 fn shown(payload: &[u8], has_echo: bool, attributes: NeliWalk) -> NeliAnswer
     requires code { 4 ≤ length payload.now }
     requires echo { has_echo ≡ true → 20 ≤ length payload.now }
@@ -127,11 +126,11 @@ fn shown(payload: &[u8], has_echo: bool, attributes: NeliWalk) -> NeliAnswer
     }
 }
 
-/// What a message says that is an error, an acknowledgement or the end of a dump.
+/// Stores the fields of an error, an acknowledgement or the end of a dump.
 ///
-/// Answers `OK`; `PLACE` where its payload is past the bytes; `KIND` where it is of another kind, `SHORT` where the
-/// payload is shorter than the code and the header, `LENGTH` where the echoed request has a length below 16 or passes
-/// the payload. Then `answer` stays.
+/// Returns `OK`; `PLACE` if its payload is past the bytes; `KIND` if the message is of another kind, `SHORT` if the
+/// payload is shorter than the code and the header, `LENGTH` if the echoed request has a length below 16 or exceeds the
+/// payload. On a refusal `answer` is unchanged.
 #[unsafe(no_mangle)]
 pub extern "C" fn neli_c_get_answer(
     bytes: &[u8],

@@ -1,15 +1,14 @@
-//! What a call answers: a number from 0 on is an answer, one below 0 is a refusal. `include/neli.h` says when each
-//! comes.
+//! The code that a call returns: from 0 on a result, below 0 a refusal. `include/neli.h` states when each is returned.
 
-/// It is done; of what is read one by one, that nothing more comes.
+/// Done; of parts read one by one, that the last was read.
 pub const OK: i32 = 0;
-/// A message, an attribute or an item was given.
+/// A message, an attribute or an item was returned.
 pub const ITEM: i32 = 1;
-/// No item is here yet.
+/// No item has arrived yet.
 pub const WAITS: i32 = 2;
 /// The kernel answered with an error.
 pub const KERNEL_ERROR: i32 = 3;
-/// What was listed changed meanwhile.
+/// The listed objects changed meanwhile.
 pub const INTERRUPTED: i32 = 4;
 /// The socket's buffer ran over.
 pub const OVERRUN: i32 = 5;
@@ -24,21 +23,21 @@ pub const MEMORY: i32 = -3;
 pub const ROOM: i32 = -4;
 /// The router is closed, or is open already.
 pub const STATE: i32 = -5;
-/// There is no such handle, or no item that was read.
+/// No such handle exists, or no item was read.
 pub const HANDLE: i32 = -6;
 /// The sequence number is in use.
 pub const IN_USE: i32 = -7;
-/// A message came that no request has asked for.
+/// A message arrived that no request has the number for.
 pub const STRAY: i32 = -8;
-/// Something came in place of an acknowledgement.
+/// Something arrived in place of an acknowledgement.
 pub const NO_ACK: i32 = -9;
-/// An acknowledgement came that was not asked for.
+/// An acknowledgement arrived that was not requested.
 pub const UNEXPECTED_ACK: i32 = -10;
 /// The link failed.
 pub const LINK: i32 = -11;
 /// Bytes cannot be read.
 pub const BYTES: i32 = -12;
-/// A pointer is null: the header answers it.
+/// A pointer is null: the header returns it.
 pub const NULL: i32 = -13;
 /// A place is past the bytes.
 pub const PLACE: i32 = -14;

@@ -1,4 +1,4 @@
-//! Walks over messages and attributes where they lie in the caller's bytes. They take no memory.
+//! Walks over messages and attributes in the caller's bytes. They take no memory.
 
 ghost use Rattle.std.specs.Prelude.{◌≡◌, ◌≢◌, ◌≤◌, ◌-◌, IfSome, IsNone, Some, None, length};
 ghost use Rattle.neli_c.specs.Codes.{item, ok};
@@ -10,7 +10,7 @@ use neli_lent::{LentAttr, LentMessage};
 use neli_wire::{Cursor, DeError, alignto};
 use std::io::ErrorKind;
 
-/// What is left of a walk: the bytes from a place to an end.
+/// The rest of a walk: the bytes from a place to an end.
 #[repr(C)]
 #[derive(Clone, Copy)]
 pub struct NeliWalk {
@@ -18,7 +18,7 @@ pub struct NeliWalk {
     pub end: usize,
 }
 
-/// A message: its header, and where its payload lies.
+/// A message: its header, and the place of its payload.
 #[repr(C)]
 #[derive(Clone, Copy)]
 pub struct NeliMessage {
@@ -31,7 +31,7 @@ pub struct NeliMessage {
     pub payload_length: usize,
 }
 
-/// An attribute: its header, and where its payload lies. The type field is a number of 14 bits and two flags.
+/// An attribute: its header, and the place of its payload. The type field is a number of 14 bits and two flags.
 #[repr(C)]
 #[derive(Clone, Copy)]
 pub struct NeliAttribute {
@@ -43,7 +43,7 @@ pub struct NeliAttribute {
     pub payload_length: usize,
 }
 
-/// The bytes that are left of a walk, where its places are in order and within the bytes.
+/// The remaining bytes of a walk, if its places are in order and within the bytes.
 fn left<'b>(bytes: &'b [u8], walk: NeliWalk) -> Option<&'b [u8]>
     ensures some { IfSome result (λ rest. bytes_left bytes.now walk ≡ Some rest.now) }
     ensures places { IfSome result (λ rest. (walk.place ≤ walk.end) × (walk.end ≤ length bytes.now)
@@ -56,7 +56,7 @@ fn left<'b>(bytes: &'b [u8], walk: NeliWalk) -> Option<&'b [u8]>
     Some(&bytes[walk.place..walk.end])
 }
 
-/// What a message shows whose payload lies at this place.
+/// The fields of a message whose payload lies at this place.
 fn message_at(lent: &LentMessage<'_, u16>, payload: usize) -> NeliMessage
     ensures header { header_shown result ≡ lent.now.header }
     ensures payload { result.payload ≡ payload }
@@ -73,7 +73,7 @@ fn message_at(lent: &LentMessage<'_, u16>, payload: usize) -> NeliMessage
     }
 }
 
-/// What an attribute shows whose payload lies at this place.
+/// The fields of an attribute whose payload lies at this place.
 fn attribute_at(lent: &LentAttr<'_, u16>, payload: usize) -> NeliAttribute
     ensures length { result.length ≡ lent.now.len }
     ensures field { result.field ≡ lent.now.kind }
@@ -92,7 +92,7 @@ fn attribute_at(lent: &LentAttr<'_, u16>, payload: usize) -> NeliAttribute
     }
 }
 
-/// The code of bytes that are refused.
+/// The code for refused bytes.
 pub(crate) fn code_of(error: &DeError) -> i32
     ensures code { result ≡ refusal_code error.now }
     ensures refused { result ≢ ok }
@@ -105,11 +105,11 @@ pub(crate) fn code_of(error: &DeError) -> i32
     }
 }
 
-/// The next message of a walk, which goes past it and its padding.
+/// Stores the next message of a walk, which moves past it and its padding.
 ///
-/// Answers `ITEM`, or `OK` where nothing is left; `PLACE` where the walk's places are not in order or past the bytes;
-/// `SHORT` where the header or the padding is cut off, `LENGTH` where the stated length is below 16 or past the end.
-/// Without a message the walk and `message` stay.
+/// Returns `ITEM`, or `OK` at the end; `PLACE` if the walk's places are not in order or past the bytes; `SHORT` if the
+/// header or the padding is cut off, `LENGTH` if the stated length is below 16 or past the end. Without a message the
+/// walk and `message` are unchanged.
 #[unsafe(no_mangle)]
 pub extern "C" fn neli_c_next_message(
     bytes: &[u8],
@@ -141,11 +141,11 @@ pub extern "C" fn neli_c_next_message(
     }
 }
 
-/// The next attribute of a walk, which goes past it and its padding.
+/// Stores the next attribute of a walk, which moves past it and its padding.
 ///
-/// Answers `ITEM`, or `OK` where nothing is left; `PLACE` where the walk's places are not in order or past the bytes;
-/// `SHORT` where the header or the padding is cut off, `LENGTH` where the stated length is below 4 or past the end.
-/// Without an attribute the walk and `attribute` stay.
+/// Returns `ITEM`, or `OK` at the end; `PLACE` if the walk's places are not in order or past the bytes; `SHORT` if the
+/// header or the padding is cut off, `LENGTH` if the stated length is below 4 or past the end. Without an attribute the
+/// walk and `attribute` are unchanged.
 #[unsafe(no_mangle)]
 pub extern "C" fn neli_c_next_attribute(
     bytes: &[u8],

@@ -1,15 +1,15 @@
 //! The library for C: thin exports, which `include/neli.h` declares.
 //!
-//! - [`lent`] walks over messages and attributes where they lie, [`several`] gives many of them by one call, and
-//!   [`number`] reads numbers and texts of a payload.
-//! - [`lists`] says where attributes lie and looks them up, and [`answer`] what errors and acknowledgements say.
+//! - [`lent`] walks over messages and attributes in the caller's bytes, [`several`] stores many of them in one call,
+//!   and [`number`] reads numbers and texts of a payload.
+//! - [`lists`] finds lists of attributes and looks attributes up, and [`answer`] reads errors and acknowledgements.
 //! - [`write`] writes messages, attributes and nests into the caller's bytes.
 //! - [`router`] has a router behind a struct that the library alone looks into: [`session`] is what it holds, [`place`]
 //!   and [`opaque`] are how C holds that.
 //! - [`text`] says what codes are called.
 //!
-//! Each call answers a code: from 0 on an answer, below 0 a refusal, and then what it was passed is as it was, but
-//! where it says otherwise.
+//! Each call returns a code: from 0 on a result, below 0 a refusal. A refusal leaves its arguments unchanged, unless
+//! the call states otherwise.
 #![tactic(auto)]
 
 pub mod answer;

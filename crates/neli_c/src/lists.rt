@@ -1,4 +1,4 @@
-//! Lists of attributes in the caller's bytes: where they lie, and look-up by number. They take no memory.
+//! Lists of attributes in the caller's bytes: their places, and look-up by number. They take no memory.
 
 ghost use Rattle.std.specs.Prelude.{◌≡◌, ◌≢◌, None};
 ghost use Rattle.neli_c.specs.Codes.{item, ok, place};
@@ -10,10 +10,10 @@ use crate::lent::{NeliAttribute, NeliMessage, NeliWalk, neli_c_next_attribute};
 use neli_wire::alignto;
 use std::cmp::min;
 
-/// The most bytes that one piece of memory can have.
+/// The maximum number of bytes in one piece of memory.
 const MAX_SIZE: usize = isize::MAX as usize;
 
-/// An attribute of nothing.
+/// An attribute without a payload.
 const NO_ATTRIBUTE: NeliAttribute = NeliAttribute {
     length: 0,
     field: 0,
@@ -23,10 +23,10 @@ const NO_ATTRIBUTE: NeliAttribute = NeliAttribute {
     payload_length: 0,
 };
 
-/// A walk over the attributes of a message, after a body's header of this size, rounded up to four.
+/// Makes a walk over the attributes of a message, after a body's header of this size in bytes, rounded up to four.
 ///
-/// Answers `OK`; `PLACE` where the payload ends past what memory can have, `SHORT` where it is shorter than the header;
-/// then `walk` stays.
+/// Returns `OK`; `PLACE` if the payload ends past what memory can have, `SHORT` if it is shorter than the header; then
+/// `walk` is unchanged.
 #[unsafe(no_mangle)]
 pub extern "C" fn neli_c_attributes_of(
     message: &NeliMessage,
@@ -55,9 +55,9 @@ pub extern "C" fn neli_c_attributes_of(
     OK
 }
 
-/// A walk over the attributes that an attribute's payload lists.
+/// Makes a walk over the attributes in an attribute's payload.
 ///
-/// Answers `OK`; `PLACE` where the payload ends past what memory can have; then `walk` stays.
+/// Returns `OK`; `PLACE` if the payload ends past what memory can have; then `walk` is unchanged.
 #[unsafe(no_mangle)]
 pub extern "C" fn neli_c_attributes_in(attribute: &NeliAttribute, walk: &mut NeliWalk) -> i32
     ensures code { result ≡ list_code attribute.now }
@@ -79,10 +79,10 @@ pub extern "C" fn neli_c_attributes_in(attribute: &NeliAttribute, walk: &mut Nel
     OK
 }
 
-/// The first attribute with this number, without its flags, among those that are left of a walk, which stays.
+/// Stores the first attribute with this number, without its flags, in the rest of a walk, which is unchanged.
 ///
-/// Answers `ITEM`, or `OK` where there is none; where none stands before a fault, as `neli_c_next_attribute` answers
-/// that. Without an attribute `attribute` stays.
+/// Returns `ITEM`, or `OK` if there is none; if a fault comes first, the code that `neli_c_next_attribute` returns for
+/// it. Without an attribute `attribute` is unchanged.
 #[unsafe(no_mangle)]
 pub extern "C" fn neli_c_find_attribute(
     bytes: &[u8],

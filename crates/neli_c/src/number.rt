@@ -9,7 +9,7 @@ ghost use Rattle.neli_c.specs.Reads.{BeginsWithText, number_code};
 use crate::code::{OK, SHORT, TEXT};
 use byteorder::{BigEndian, ByteOrder, LittleEndian};
 
-/// The bytes from a place on, where there are so many.
+/// The bytes from a place on, if there are so many.
 fn at(bytes: &[u8], place: usize, size: usize) -> Option<&[u8]>
     ensures some { IfSome result
         (λ field. (place + size ≤ length bytes.now) × (field.now ≡ drop place bytes.now)) }
@@ -21,9 +21,9 @@ fn at(bytes: &[u8], place: usize, size: usize) -> Option<&[u8]>
     Some(&bytes[place..])
 }
 
-/// The number of one byte at a place.
+/// Reads the number of one byte at a place.
 ///
-/// Answers `OK`, or `SHORT` where the bytes end before the number does; then `value` stays.
+/// Returns `OK`, or `SHORT` if the bytes end before the number does; then `value` is unchanged.
 #[unsafe(no_mangle)]
 pub extern "C" fn neli_c_get_u8(bytes: &[u8], place: usize, value: &mut u8) -> i32
     ensures code { result ≡ number_code 1 place (length bytes.now) }
@@ -37,9 +37,9 @@ pub extern "C" fn neli_c_get_u8(bytes: &[u8], place: usize, value: &mut u8) -> i
     OK
 }
 
-/// The number of two bytes at a place, the lowest byte first.
+/// Reads the number of two bytes at a place, the lowest byte first.
 ///
-/// Answers `OK`, or `SHORT` where the bytes end before the number does; then `value` stays.
+/// Returns `OK`, or `SHORT` if the bytes end before the number does; then `value` is unchanged.
 #[unsafe(no_mangle)]
 pub extern "C" fn neli_c_get_u16(bytes: &[u8], place: usize, value: &mut u16) -> i32
     ensures code { result ≡ number_code 2 place (length bytes.now) }
@@ -53,9 +53,9 @@ pub extern "C" fn neli_c_get_u16(bytes: &[u8], place: usize, value: &mut u16) ->
     OK
 }
 
-/// The number of four bytes at a place, the lowest byte first.
+/// Reads the number of four bytes at a place, the lowest byte first.
 ///
-/// Answers `OK`, or `SHORT` where the bytes end before the number does; then `value` stays.
+/// Returns `OK`, or `SHORT` if the bytes end before the number does; then `value` is unchanged.
 #[unsafe(no_mangle)]
 pub extern "C" fn neli_c_get_u32(bytes: &[u8], place: usize, value: &mut u32) -> i32
     ensures code { result ≡ number_code 4 place (length bytes.now) }
@@ -69,9 +69,9 @@ pub extern "C" fn neli_c_get_u32(bytes: &[u8], place: usize, value: &mut u32) ->
     OK
 }
 
-/// The number of eight bytes at a place, the lowest byte first.
+/// Reads the number of eight bytes at a place, the lowest byte first.
 ///
-/// Answers `OK`, or `SHORT` where the bytes end before the number does; then `value` stays.
+/// Returns `OK`, or `SHORT` if the bytes end before the number does; then `value` is unchanged.
 #[unsafe(no_mangle)]
 pub extern "C" fn neli_c_get_u64(bytes: &[u8], place: usize, value: &mut u64) -> i32
     ensures code { result ≡ number_code 8 place (length bytes.now) }
@@ -85,9 +85,9 @@ pub extern "C" fn neli_c_get_u64(bytes: &[u8], place: usize, value: &mut u64) ->
     OK
 }
 
-/// The number of two bytes at a place, in network order: the highest byte first.
+/// Reads the number of two bytes at a place, in network order: the highest byte first.
 ///
-/// Answers `OK`, or `SHORT` where the bytes end before the number does; then `value` stays.
+/// Returns `OK`, or `SHORT` if the bytes end before the number does; then `value` is unchanged.
 #[unsafe(no_mangle)]
 pub extern "C" fn neli_c_get_be16(bytes: &[u8], place: usize, value: &mut u16) -> i32
     ensures code { result ≡ number_code 2 place (length bytes.now) }
@@ -101,9 +101,9 @@ pub extern "C" fn neli_c_get_be16(bytes: &[u8], place: usize, value: &mut u16) -
     OK
 }
 
-/// The number of four bytes at a place, in network order: the highest byte first.
+/// Reads the number of four bytes at a place, in network order: the highest byte first.
 ///
-/// Answers `OK`, or `SHORT` where the bytes end before the number does; then `value` stays.
+/// Returns `OK`, or `SHORT` if the bytes end before the number does; then `value` is unchanged.
 #[unsafe(no_mangle)]
 pub extern "C" fn neli_c_get_be32(bytes: &[u8], place: usize, value: &mut u32) -> i32
     ensures code { result ≡ number_code 4 place (length bytes.now) }
@@ -117,9 +117,9 @@ pub extern "C" fn neli_c_get_be32(bytes: &[u8], place: usize, value: &mut u32) -
     OK
 }
 
-/// The number of eight bytes at a place, in network order: the highest byte first.
+/// Reads the number of eight bytes at a place, in network order: the highest byte first.
 ///
-/// Answers `OK`, or `SHORT` where the bytes end before the number does; then `value` stays.
+/// Returns `OK`, or `SHORT` if the bytes end before the number does; then `value` is unchanged.
 #[unsafe(no_mangle)]
 pub extern "C" fn neli_c_get_be64(bytes: &[u8], place: usize, value: &mut u64) -> i32
     ensures code { result ≡ number_code 8 place (length bytes.now) }
@@ -146,9 +146,9 @@ fn first_zero(bytes: &[u8]) -> Option<usize>
     None
 }
 
-/// The length in bytes of the text that a payload begins with, up to its first zero byte.
+/// Measures the text at the front of a payload, up to its first zero byte, in bytes.
 ///
-/// Answers `OK`, or `TEXT` where no byte is zero; then `text_length` stays.
+/// Returns `OK`, or `TEXT` if no byte is zero; then `text_length` is unchanged.
 #[unsafe(no_mangle)]
 pub extern "C" fn neli_c_text_length(payload: &[u8], text_length: &mut usize) -> i32
     ensures length { result ≡ ok → BeginsWithText text_length.new payload.now }

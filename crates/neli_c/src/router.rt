@@ -1,6 +1,6 @@
-//! A router for C. What C holds is a `struct neli_router`, which is closed where all its bytes are 0.
+//! A router for C. C holds a `struct neli_router`, which is closed if all its bytes are 0.
 //!
-//! Each call but the first answers `STATE` where the router is closed, and changes nothing then.
+//! Each call but the first returns `STATE` if the router is closed, and changes nothing then.
 
 ghost use Rattle.std.specs.Prelude.{◌≡◌, ◌≢◌, ◌⊎◌, IfSome, IsSome, None};
 ghost use Rattle.neli_c.specs.Codes.{memory, ok, state};
@@ -17,7 +17,7 @@ use std::alloc::Global;
 
 /// Opens a router for the port of the caller's socket.
 ///
-/// Answers `OK`; `STATE` where it is open, or `MEMORY`, and then it is as it was.
+/// Returns `OK`; `STATE` if it is open, or `MEMORY`; then it is unchanged.
 #[unsafe(no_mangle)]
 pub extern "C" fn neli_c_router_new(alloc: Global, router: &mut NeliRouter, port: u32) -> i32
     ensures new { result ≡ ok
@@ -42,7 +42,7 @@ pub extern "C" fn neli_c_router_new(alloc: Global, router: &mut NeliRouter, port
     }
 }
 
-/// Frees what a router has, and closes it; of a closed one, nothing. Answers `OK`.
+/// Frees a router's memory, and closes it; does nothing to a closed one. Returns `OK`.
 #[unsafe(no_mangle)]
 pub extern "C" fn neli_c_router_free(alloc: Global, router: &mut NeliRouter) -> i32
     ensures code { result ≡ ok }
@@ -52,7 +52,7 @@ pub extern "C" fn neli_c_router_free(alloc: Global, router: &mut NeliRouter) -> 
     OK
 }
 
-/// Sets the sequence number of the next request. Answers `OK`.
+/// Sets the sequence number of the next request. Returns `OK`.
 #[unsafe(no_mangle)]
 pub extern "C" fn neli_c_router_set_number(
     alloc: Global,
@@ -72,11 +72,11 @@ pub extern "C" fn neli_c_router_set_number(
     OK
 }
 
-/// A request of this type, with these flags and REQUEST, as bytes to be sent, and the handle that its replies are read
-/// by. The body is its payload.
+/// Writes a request of this type, with these flags and REQUEST, as bytes to send, and the handle for its replies. The
+/// body is its payload.
 ///
-/// Answers `OK`; `LENGTH` where the length passes 32 bits, `ROOM` where the request has more bytes than `out`, and then
-/// `sent` has how many; `IN_USE` where the number belongs to a request that is not closed; or `MEMORY`.
+/// Returns `OK`; `LENGTH` if the length exceeds 32 bits, `ROOM` if the request has more bytes than `out`, and then
+/// `sent` has their number; `IN_USE` if the number belongs to a request that is not closed; or `MEMORY`.
 #[unsafe(no_mangle)]
 pub extern "C" fn neli_c_router_send(
     alloc: Global,
@@ -106,9 +106,9 @@ pub extern "C" fn neli_c_router_send(
     code
 }
 
-/// Takes in a datagram that came to these groups; zeros among them are left out.
+/// Takes in a datagram that arrived for these groups; zeros among them are left out.
 ///
-/// Answers `OK`, or `MEMORY`, and then nothing is handed to anybody.
+/// Returns `OK`, or `MEMORY`; then nothing is delivered.
 #[unsafe(no_mangle)]
 pub extern "C" fn neli_c_router_datagram(
     alloc: Global,
@@ -131,10 +131,10 @@ pub extern "C" fn neli_c_router_datagram(
     code
 }
 
-/// Takes in a fault of the link, by its number in `errno.h`: 11 (`EAGAIN`) gives nobody anything, and 105 (`ENOBUFS`) says
-/// that the socket's buffer ran over, which listeners are told by its name.
+/// Takes in a fault of the link, by its number in `errno.h`: 11 (`EAGAIN`) delivers nothing, and 105 (`ENOBUFS`) means
+/// that the socket's buffer ran over, which listeners get by its name.
 ///
-/// Answers `OK`, or `MEMORY`, and then nothing is handed to anybody.
+/// Returns `OK`, or `MEMORY`; then nothing is delivered.
 #[unsafe(no_mangle)]
 pub extern "C" fn neli_c_router_fault(alloc: Global, router: &mut NeliRouter, errno: i32) -> i32
     ensures closed { router.old.place.value ≡ None
@@ -154,9 +154,9 @@ pub extern "C" fn neli_c_router_fault(alloc: Global, router: &mut NeliRouter, er
 
 /// Reads the next item of a handle; 0 is the handle of multicast.
 ///
-/// Answers `ITEM`, `KERNEL_ERROR`, `OK` where no item comes any more, or `WAITS`; `STRAY`, `NO_ACK`, `UNEXPECTED_ACK`,
-/// `LINK`, `SHORT`, `LENGTH` or `BYTES` for what came in place of an item; `HANDLE` where the handle is not open, or
-/// `MEMORY`, and then the router is as it was.
+/// Returns `ITEM`, `KERNEL_ERROR`, `OK` at the end of the handle, or `WAITS`; `STRAY`, `NO_ACK`, `UNEXPECTED_ACK`,
+/// `LINK`, `SHORT`, `LENGTH` or `BYTES` for an error in place of an item; `HANDLE` if the handle is not open, or
+/// `MEMORY`; then the router is unchanged.
 #[unsafe(no_mangle)]
 pub extern "C" fn neli_c_router_read(
     alloc: Global,
@@ -181,11 +181,13 @@ pub extern "C" fn neli_c_router_read(
     code
 }
 
-/// Reads what comes to groups next, for who goes on whatever comes. It is read by no handle, and no message ends it.
+/// Reads the next message for groups, for a listener that continues after any item. No handle reads it, and no message
+/// ends it.
 ///
-/// Answers `ITEM`; `OVERRUN` where the socket's buffer ran over since the last call, or `LINK` where the link had another
-/// fault, which is told once, before what waits: messages may be lost; `WAITS`; `SHORT`, `LENGTH` or `BYTES` for what
-/// cannot be read; `HANDLE` where the handle of multicast is closed, or `MEMORY`, and then the router is as it was.
+/// Returns `ITEM`; `OVERRUN` if the socket's buffer ran over since the last call, or `LINK` if the link had another
+/// fault, each reported once, before the messages that wait: messages may be lost; `WAITS`; `SHORT`, `LENGTH` or
+/// `BYTES` for a message that cannot be read; `HANDLE` if the handle of multicast is closed, or `MEMORY`; then the
+/// router is unchanged.
 #[unsafe(no_mangle)]
 pub extern "C" fn neli_c_router_listen(
     alloc: Global,
@@ -207,8 +209,8 @@ pub extern "C" fn neli_c_router_listen(
 
 /// Copies the bytes of the message that was read last, of whatever handle.
 ///
-/// Answers `OK`; `HANDLE` where nothing was read, or something without a message; `ROOM` where it has more bytes than
-/// `out`, and then `size` is how many; or `MEMORY`. The router is as it was.
+/// Returns `OK`; `HANDLE` if nothing was read, or an item without a message; `ROOM` if it has more bytes than `out`,
+/// and then `size` is their number; or `MEMORY`. The router is unchanged.
 #[unsafe(no_mangle)]
 pub extern "C" fn neli_c_router_item(
     alloc: Global,
@@ -230,12 +232,12 @@ pub extern "C" fn neli_c_router_item(
     code
 }
 
-/// How the answer to the request of a handle stands, by what was read of it; all but `WAITS` are final.
+/// Reports the verdict on the answer to a handle's request, by the items read from it; all but `WAITS` are final.
 ///
-/// Answers `WAITS` while it has not ended; `OK` where all of it was given; `INTERRUPTED` where a message of it, its end
-/// included, is marked with `NLM_F_DUMP_INTR`, as soon as it is read; `KERNEL_ERROR` where the kernel answered with an
-/// error, or ended a dump with one, whose code is in `verdict`; `LINK`, `BYTES`, `STRAY`, `NO_ACK` or `UNEXPECTED_ACK` for
-/// what else ended it; `HANDLE` where the handle is not open, and then `verdict` stays. The router is as it was.
+/// Returns `WAITS` until it has ended; `OK` if it is complete; `INTERRUPTED` if a message of it, its end included, is
+/// marked with `NLM_F_DUMP_INTR`, as soon as it is read; `KERNEL_ERROR` if the kernel answered with an error, or ended
+/// a dump with one, whose code is in `verdict`; `LINK`, `BYTES`, `STRAY`, `NO_ACK` or `UNEXPECTED_ACK` for any other
+/// end; `HANDLE` if the handle is not open, and then `verdict` is unchanged. The router is unchanged.
 #[unsafe(no_mangle)]
 pub extern "C" fn neli_c_router_verdict(
     alloc: Global,
@@ -257,11 +259,11 @@ pub extern "C" fn neli_c_router_verdict(
     code
 }
 
-/// Gives a handle up: its number stays in use until the last message of its answer has come, and nothing is kept of what
-/// waits and still comes for it, so that this is no other request's stray. Its place may be given to a later request.
+/// Gives a handle up: its number stays in use until the last message of its answer has arrived, and nothing that waits
+/// or still arrives for it is kept, so this is no other request's stray. Its place may be used for a later request.
 ///
-/// Answers `OK`; `HANDLE` where the handle is not open; `MEMORY`, and then the handle is closed, as
-/// `neli_c_router_close` does it.
+/// Returns `OK`; `HANDLE` if the handle is not open; `MEMORY`, and then the handle is closed, as by
+/// `neli_c_router_close`.
 #[unsafe(no_mangle)]
 pub extern "C" fn neli_c_router_give_up(
     alloc: Global,
@@ -283,9 +285,9 @@ pub extern "C" fn neli_c_router_give_up(
     code
 }
 
-/// Closes a handle: what waits for it is given up, and its place may be given to a later request.
+/// Closes a handle: its deliveries are removed, and its place may be used for a later request.
 ///
-/// Answers `OK`, or `HANDLE` where the handle is not open.
+/// Returns `OK`, or `HANDLE` if the handle is not open.
 #[unsafe(no_mangle)]
 pub extern "C" fn neli_c_router_close(alloc: Global, router: &mut NeliRouter, handle: usize) -> i32
     ensures closed { router.old.place.value ≡ None

@@ -1,4 +1,4 @@
-//! A router with the handles that it gave, and the item that was read last.
+//! A router with its handles, and the item that was read last.
 
 ghost use Rattle.std.specs.Prelude.{◌≡◌, ◌≢◌, ◌<◌, ℕ, IfOk, IfSome, IsNone, IsSome, List, ◌∷◌, Some, None, length};
 ghost use Rattle.std.specs.Prelude.{nat_eq, nat_le, option_map, slice_get, slice_set, unsigned_abs};
@@ -41,17 +41,17 @@ type Message = Nlmsghdr<u16, Buffer>;
 
 type Item = Result<Message, RouterError<u16, Buffer>>;
 
-/// What was sent.
+/// A request that was sent.
 #[repr(C)]
 #[derive(Clone, Copy)]
 pub struct NeliSent {
-    /// How many bytes the request has; at `ROOM`, how many are needed.
+    /// The number of the request's bytes; with `ROOM`, the number that it needs.
     pub length: usize,
-    /// The handle that its replies are read by.
+    /// The handle for its replies.
     pub handle: usize,
 }
 
-/// What was read: the header of a message.
+/// An item that was read: the header of a message.
 #[repr(C)]
 #[derive(Clone, Copy)]
 pub struct NeliItem {
@@ -63,20 +63,20 @@ pub struct NeliItem {
     pub error: i32,
 }
 
-/// How an answer stands, beside the code that says it.
+/// A verdict on an answer, beside its code.
 #[repr(C)]
 #[derive(Clone, Copy)]
 pub struct NeliVerdict {
     /// The code of the kernel's error, or of the dump that failed; 0 elsewhere.
     pub error: i32,
-    /// 1 where the kernel did filter what it listed, else 0.
+    /// 1 if the kernel filtered the list, else 0.
     pub filtered: u8,
 }
 
-/// What stands at a place of a handle.
+/// The content of a handle's place.
 #[derive(Drop)]
 pub enum Slot {
-    /// The handle that is open.
+    /// The open handle.
     Open(Handle),
     /// None: the place that was freed before this one, or 0.
     Free(usize),
@@ -101,7 +101,7 @@ fn handle_of(handles: &[Slot], k: usize) -> Option<&Handle>
     }
 }
 
-/// Takes the handle out of a place, if there is one, and names the free place that comes after it.
+/// Removes the handle from a place, if there is one, and returns the free place after it.
 fn take(handles: &mut Vec<Slot>, k: usize, next: usize) -> Option<Handle>
     ensures taken { result ≡ handle_at k handles.old.items }
     ensures some { IsSome result → (k < length handles.new.items)
@@ -117,7 +117,7 @@ fn take(handles: &mut Vec<Slot>, k: usize, next: usize) -> Option<Handle>
     }
 }
 
-/// Takes the handle out of a place, if there is one; the place is then the first that is free, but that of multicast.
+/// Removes the handle from a place, if there is one; the place is then the first free one, but that of multicast.
 fn free(handles: &mut Vec<Slot>, freed: &mut usize, k: usize) -> Option<Handle>
     ensures taken { result ≡ handle_at k handles.old.items }
     ensures some { IsSome result
@@ -137,7 +137,7 @@ fn free(handles: &mut Vec<Slot>, freed: &mut usize, k: usize) -> Option<Handle>
     Some(handle)
 }
 
-/// The place that is free after the first one; nothing where none is.
+/// The free place after the first one; none if no place is free.
 fn next_free(handles: &[Slot], first: usize) -> Option<usize>
     ensures some { IfSome result
         (λ n. (first ≢ 0) × (slice_get handles.now first ≡ Some (slot.Free n))) }
@@ -153,7 +153,7 @@ fn next_free(handles: &[Slot], first: usize) -> Option<usize>
     }
 }
 
-/// Puts a handle at the place that was freed last; at a new one where none is free, for which there is room.
+/// Puts a handle at the place that was freed last; at a new one if none is free, for which there must be room.
 fn put(handles: &mut Vec<Slot>, freed: &mut usize, handle: Handle) -> usize
     requires { vec_len handles.old < vec_capacity handles.old }
     ensures free { handle_at result handles.old.items ≡ None }
@@ -179,7 +179,7 @@ fn put(handles: &mut Vec<Slot>, freed: &mut usize, handle: Handle) -> usize
     }
 }
 
-/// The link's fault of a number of `errno.h`, negated or not: `EAGAIN`, `ECONNRESET`, or another one.
+/// The link's fault for a number of `errno.h`, negated or not: `EAGAIN`, `ECONNRESET`, or another one.
 fn kind_of(errno: i32) -> ErrorKind
     ensures { result ≡ fault_kind errno }
 {
@@ -190,7 +190,7 @@ fn kind_of(errno: i32) -> ErrorKind
     }
 }
 
-/// Whether a number of `errno.h`, negated or not, says that the socket's buffer ran over: `ENOBUFS`.
+/// Whether a number of `errno.h`, negated or not, means that the socket's buffer ran over: `ENOBUFS`.
 fn is_overrun(errno: i32) -> bool
     ensures { result ≡ nat_eq (unsigned_abs errno) 105 }
 {
@@ -210,7 +210,7 @@ fn of_socket(error: &SocketError) -> i32
     }
 }
 
-/// The code of what came in place of a message, or of why nothing is sent.
+/// The code of the error in place of a message, or of why nothing is sent.
 fn of_error<T, P>(error: &RouterError<T, P>) -> i32
     ensures code { result ≡ error_code error.now }
     ensures refused { result ≢ ok }
@@ -231,7 +231,7 @@ fn of_error<T, P>(error: &RouterError<T, P>) -> i32
     }
 }
 
-/// The code of how an answer stands.
+/// The code of a verdict.
 fn of_verdict(verdict: Verdict) -> i32
     ensures { result ≡ verdict_code verdict }
 {
@@ -250,7 +250,7 @@ fn of_verdict(verdict: Verdict) -> i32
     }
 }
 
-/// The kernel's code where it failed; 0 elsewhere.
+/// The kernel's code if it failed; 0 elsewhere.
 fn verdict_error(verdict: Verdict) -> i32
     ensures { result ≡ verdict_error verdict }
 {
@@ -260,7 +260,7 @@ fn verdict_error(verdict: Verdict) -> i32
     }
 }
 
-/// 1 where what was heard says that the kernel did filter, else 0.
+/// 1 if the kernel filtered the answer, else 0.
 fn filtered_byte(heard: Option<Heard>) -> u8
     ensures { result ≡ filtered_byte heard }
 {
@@ -270,7 +270,7 @@ fn filtered_byte(heard: Option<Heard>) -> u8
     }
 }
 
-/// The flags of an error message: whether the header alone is echoed, and whether attributes follow.
+/// The flags of an error message: whether only the header is echoed, and whether attributes follow.
 fn error_flags(is_capped: bool, has_attributes: bool) -> NlmF
     ensures { result ≡ error_flags is_capped has_attributes }
 {
@@ -286,7 +286,7 @@ fn error_flags(is_capped: bool, has_attributes: bool) -> NlmF
     }
 }
 
-/// An error as the message that it came in.
+/// An error as the message in which it arrived.
 fn error_message(
     flags: NlmF,
     number: u32,
@@ -337,7 +337,7 @@ fn split(item: Item) -> (i32, Option<Message>)
     }
 }
 
-/// What a message shows beside its bytes.
+/// The shown fields of a message, beside its bytes.
 fn shown(message: &Message) -> NeliItem
     ensures { result ≡ item_shown message.now }
 {
@@ -370,7 +370,7 @@ fn keep(given: Item, held: &mut Option<Message>, item: &mut NeliItem) -> i32
     code
 }
 
-/// Holds the message of a notice, and shows it; without an item both stay.
+/// Holds the message of a notice, and shows it; without an item both are unchanged.
 fn notice(
     answer: Result<Notice<u16, Buffer>, NoMemory>,
     held: &mut Option<Message>,
@@ -390,7 +390,7 @@ fn notice(
     }
 }
 
-/// Holds the message that the router answers, and shows it; without an item both stay.
+/// Holds the message that the router returns, and shows it; without an item both are unchanged.
 fn hold(
     answer: Result<Reply<u16, Buffer>, NoMemory>,
     held: &mut Option<Message>,
@@ -447,7 +447,7 @@ impl Session {
         self.router.set_next_seq(number);
     }
 
-    /// A request as bytes to be sent.
+    /// Writes a request as bytes to send.
     pub fn send(
         &mut self,
         alloc: Global,
@@ -493,7 +493,7 @@ impl Session {
         }
     }
 
-    /// Takes in a datagram that came to these groups.
+    /// Takes in a datagram that arrived for these groups.
     pub fn datagram(&mut self, alloc: Global, bytes: &[u8], groups: &[u32]) -> i32
         ensures taken { TakesDatagram result bytes.now groups.now self.old self.new }
         ensures missed { MissesSame self.old self.new }
@@ -541,7 +541,7 @@ impl Session {
         }
     }
 
-    /// What comes to groups next, whose message is held until the next one is read.
+    /// Reads the next message for groups, which is held until the next one is read.
     pub fn listen(&mut self, alloc: Global, item: &mut NeliItem) -> i32
         ensures { Listens result self.old self.new item.old item.new }
     {
@@ -572,7 +572,7 @@ impl Session {
         hold(answer, &mut self.held, item)
     }
 
-    /// Copies the bytes of the message that is held.
+    /// Copies the bytes of the held message.
     pub fn item(&self, alloc: Global, out: &mut [u8], size: &mut usize) -> i32
         ensures { WritesItem result self.now out.old out.new size.old size.new }
     {
@@ -586,7 +586,7 @@ impl Session {
         }
     }
 
-    /// How the answer to the request of a handle stands, by what was read of it.
+    /// The verdict on the answer to a handle's request, by the items read from it.
     pub fn verdict(&self, k: usize, verdict: &mut NeliVerdict) -> i32
         ensures { TellsVerdict result k self.now verdict.old verdict.new }
     {
@@ -601,7 +601,7 @@ impl Session {
         of_verdict(stands)
     }
 
-    /// Gives a handle up; its place is the next that is given, but that of multicast.
+    /// Gives a handle up; its place is the next one used, but that of multicast.
     pub fn give_up(&mut self, alloc: Global, k: usize) -> i32
         ensures given_up { GivesUpHandle result k self.old self.new }
         ensures missed { MissesSame self.old self.new }
@@ -615,7 +615,7 @@ impl Session {
         }
     }
 
-    /// Closes a handle; its place is the next that is given, but that of multicast.
+    /// Closes a handle; its place is the next one used, but that of multicast.
     pub fn close(&mut self, k: usize) -> i32
         ensures closed { ClosesHandle result k self.old self.new }
         ensures missed { MissesSame self.old self.new }

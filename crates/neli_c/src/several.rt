@@ -1,4 +1,4 @@
-//! Walks that give several messages or attributes by one call. They take no memory.
+//! Walks that store several messages or attributes in one call. They take no memory.
 
 ghost use Rattle.std.specs.Prelude.{◌≡◌, ◌≢◌, ◌≤◌, ◌⊎◌, ◌<◌, ℕ, ℤ, List, drop, length, take};
 ghost use Rattle.neli_c.specs.Codes.{item};
@@ -12,14 +12,14 @@ use crate::lent::{
     NeliAttribute, NeliMessage, NeliWalk, neli_c_next_attribute, neli_c_next_message,
 };
 
-/// What a walk gives, one after the other.
+/// The results of a walk, one after the other.
 trait Walked: Sized {
     ghost use Rattle.neli_c.specs.declared.lent.NeliWalk.{NeliWalk};
 
-    // What a single call answers at a walk over these bytes.
+    // The code of a single call at a walk over these bytes.
     ghost code_at: { List ℕ → NeliWalk → ℤ };
 
-    // What a single call gives there, and the walk that it leaves.
+    // The result of a single call there, and the walk that it leaves.
     ghost Gives: { List ℕ → NeliWalk → NeliWalk → Self → Type 0 };
 
     /// The next one of a walk.
@@ -49,7 +49,7 @@ impl Walked for NeliAttribute {
     }
 }
 
-/// Gives items until the room is full or a step gives none: how many, and the code of that step, or `ITEM`.
+/// Stores items until the room is full or a step has none: returns their number, and the code of that step, or `ITEM`.
 fn fill<T: Walked>(bytes: &[u8], walk: &mut NeliWalk, items: &mut [T]) -> (usize, i32)
     ensures given { GivesEach (StepOf (T.code_at bytes.now) (T.Gives bytes.now)) walk.old walk.new
         (take result.0 items.new) }
@@ -70,7 +70,7 @@ fn fill<T: Walked>(bytes: &[u8], walk: &mut NeliWalk, items: &mut [T]) -> (usize
     (given, ITEM)
 }
 
-/// The next items of a walk, and in `count` how many.
+/// Stores the next items of a walk, and in `count` their number.
 fn several<T: Walked>(bytes: &[u8], walk: &mut NeliWalk, items: &mut [T], count: &mut usize) -> i32
     ensures code { result ≡ several_code (length items.old) (T.code_at bytes.now walk.old) }
     ensures items { result ≡ item
@@ -94,11 +94,11 @@ fn several<T: Walked>(bytes: &[u8], walk: &mut NeliWalk, items: &mut [T], count:
     }
 }
 
-/// The next messages of a walk, as many as there is room for or as come before its end or a fault; the walk goes past
-/// them, and `count` is how many.
+/// Stores the next messages of a walk, as many as there is room for or as come before its end or a fault; the walk
+/// moves past them, and `count` is their number.
 ///
-/// Answers `ITEM` where a message is given; `ROOM` where there is room for none; else what `neli_c_next_message`
-/// answers, with `count` 0. Then the walk and `messages` stay. What lies past those that are given stays.
+/// Returns `ITEM` if a message is stored; `ROOM` if there is room for none; else the code of `neli_c_next_message`,
+/// with `count` 0. Then the walk and `messages` are unchanged. The room after the stored ones is unchanged.
 #[unsafe(no_mangle)]
 pub extern "C" fn neli_c_next_messages(
     bytes: &[u8],
@@ -111,7 +111,7 @@ pub extern "C" fn neli_c_next_messages(
     ensures messages { result ≡ item
         → GivesEach (MessageStep bytes.now) walk.old walk.new (take count.new messages.new) }
     ensures count { result ≡ item → (1 ≤ count.new) × (count.new ≤ length messages.old) }
-    // Fewer than there is room for are given only where the next step gives none.
+    // Fewer than there is room for are stored only if the next step has none.
     ensures all { result ≡ item → (count.new ≡ length messages.old)
         ⊎ (walk_code message_layout (bytes_left bytes.now walk.new) ≢ item) }
     ensures rest { drop count.new messages.new ≡ drop count.new messages.old }
@@ -121,11 +121,12 @@ pub extern "C" fn neli_c_next_messages(
     several(bytes, walk, messages, count)
 }
 
-/// The next attributes of a walk, as many as there is room for or as come before its end or a fault; the walk goes
-/// past them, and `count` is how many.
+/// Stores the next attributes of a walk, as many as there is room for or as come before its end or a fault; the walk
+/// moves past them, and `count` is their number.
 ///
-/// Answers `ITEM` where an attribute is given; `ROOM` where there is room for none; else what `neli_c_next_attribute`
-/// answers, with `count` 0. Then the walk and `attributes` stay. What lies past those that are given stays.
+/// Returns `ITEM` if an attribute is stored; `ROOM` if there is room for none; else the code of
+/// `neli_c_next_attribute`, with `count` 0. Then the walk and `attributes` are unchanged. The room after the stored
+/// ones is unchanged.
 #[unsafe(no_mangle)]
 pub extern "C" fn neli_c_next_attributes(
     bytes: &[u8],
@@ -138,7 +139,7 @@ pub extern "C" fn neli_c_next_attributes(
     ensures attributes { result ≡ item
         → GivesEach (AttributeStep bytes.now) walk.old walk.new (take count.new attributes.new) }
     ensures count { result ≡ item → (1 ≤ count.new) × (count.new ≤ length attributes.old) }
-    // Fewer than there is room for are given only where the next step gives none.
+    // Fewer than there is room for are stored only if the next step has none.
     ensures all { result ≡ item → (count.new ≡ length attributes.old)
         ⊎ (walk_code attribute_layout (bytes_left bytes.now walk.new) ≢ item) }
     ensures rest { drop count.new attributes.new ≡ drop count.new attributes.old }

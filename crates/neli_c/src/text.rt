@@ -1,4 +1,4 @@
-//! What codes are called.
+//! The texts of codes.
 
 ghost use Rattle.std.specs.Prelude.{◌≡◌, ◌≢◌, ◌+◌, ℕ, List, drop, length, nat_le, slice_index, take, if◌then◌else◌};
 ghost use Rattle.neli_c.specs.Codes.{ok, room};
@@ -37,9 +37,9 @@ fn text_of(code: i32) -> &'static str
     }
 }
 
-/// The text of a code, and a zero byte; `text_length` is that of the text.
+/// Writes the text of a code, and a zero byte; `text_length` is the text's length in bytes.
 ///
-/// Answers `OK`, or `ROOM` where `out` is too small; then nothing is written.
+/// Returns `OK`, or `ROOM` if `out` is too small; then nothing is written.
 #[unsafe(no_mangle)]
 pub extern "C" fn neli_c_error_text(code: i32, out: &mut [u8], text_length: &mut usize) -> i32
     ensures code { result ≡ (if nat_le (text_length.new + 1) (length out.old) then ok else room) }

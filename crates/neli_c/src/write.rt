@@ -1,6 +1,6 @@
 //! Messages, attributes and nests, written into the caller's bytes. They take no memory.
 //!
-//! What lies before the writer's end and after what is written stays as it is.
+//! The bytes before the writer's end and after the written ones are unchanged.
 
 ghost use Rattle.std.specs.Prelude.{◌≡◌, ◌≢◌, ◌≤◌, ◌-◌, ◌+◌, ◌++◌, [], Ok, IfOk, bit_or, length, nat_le, if◌then◌else◌};
 ghost use Rattle.byteorder.specs.Endian.{little_bytes};
@@ -15,13 +15,14 @@ use byteorder::{ByteOrder, LittleEndian};
 use neli_consts::{ATTRIBUTE_HEADER_SIZE, MESSAGE_HEADER_SIZE};
 use neli_wire::alignto;
 
-/// The longest attribute, in bytes: its length has 16 bits.
+/// The maximum size of an attribute in bytes: its length has 16 bits.
 const MAX_ATTR_SIZE: usize = 65535;
 
-/// The flag of a type field that says that the payload lists attributes (`NLA_F_NESTED` of `linux/netlink.h`).
+/// The flag of a type field for a payload that lists attributes (`NLA_F_NESTED` of `linux/netlink.h`).
 const NESTED: u16 = 0x8000;
 
-/// Where a caller writes: the message that was begun last, and the end of what is written, as places in its bytes.
+/// A caller's writing position: the message that was begun last, and the end of the written bytes, as places in its
+/// bytes.
 #[repr(C)]
 #[derive(Clone, Copy)]
 pub struct NeliWriter {
@@ -43,7 +44,7 @@ fn write_header(out: &mut [u8], nl_type: u16, flags: u16, number: u32, port: u32
 
 /// Begins a message at the writer's end, which goes past the header. Its length is 16 until `neli_c_end_message`.
 ///
-/// Answers `OK`, or `ROOM` where 16 bytes are not there; then nothing is written.
+/// Returns `OK`, or `ROOM` if 16 bytes do not fit; then nothing is written.
 #[unsafe(no_mangle)]
 pub extern "C" fn neli_c_begin_message(
     out: &mut [u8],
@@ -85,7 +86,7 @@ fn write_padded(out: &mut [u8], bytes: &[u8])
 
 /// Appends bytes, as a body's header, and zeros up to a multiple of four.
 ///
-/// Answers `OK`, or `ROOM` where all these bytes are not there; then nothing is written.
+/// Returns `OK`, or `ROOM` if all these bytes do not fit; then nothing is written.
 #[unsafe(no_mangle)]
 pub extern "C" fn neli_c_put_bytes(out: &mut [u8], writer: &mut NeliWriter, bytes: &[u8]) -> i32
     ensures code { result ≡ (if nat_le (writer.old.end + align (length bytes.now)) (length out.old)
@@ -152,8 +153,8 @@ fn append(out: &mut [u8], writer: &mut NeliWriter, nl_type: u16, payload: &[u8])
 
 /// Appends an attribute with this type field, and zeros up to a multiple of four.
 ///
-/// Answers `OK`; `LENGTH` where the payload has more than 65531 bytes, so that the attribute's length passes 16 bits;
-/// then `ROOM` where all these bytes are not there. Then nothing is written.
+/// Returns `OK`; `LENGTH` if the payload has more than 65531 bytes, so that the attribute's length exceeds 16 bits;
+/// then `ROOM` if all these bytes do not fit. On a refusal nothing is written.
 #[unsafe(no_mangle)]
 pub extern "C" fn neli_c_put_attribute(
     out: &mut [u8],
@@ -173,9 +174,9 @@ pub extern "C" fn neli_c_put_attribute(
 }
 
 /// Begins an attribute that lists attributes: its header, with the nested flag and with 4 as its length until
-/// `neli_c_end_nest`; `nest` is where it lies.
+/// `neli_c_end_nest`; `nest` is its place.
 ///
-/// Answers `OK`, or `ROOM` where four bytes are not there; then nothing is written.
+/// Returns `OK`, or `ROOM` if four bytes do not fit; then nothing is written.
 #[unsafe(no_mangle)]
 pub extern "C" fn neli_c_begin_nest(
     out: &mut [u8],
@@ -199,11 +200,11 @@ pub extern "C" fn neli_c_begin_nest(
     code
 }
 
-/// Sets the length of the nest that was begun at this place to what was written since.
+/// Sets the length of the nest that was begun at this place to the bytes written since.
 ///
-/// Answers `OK`; `PLACE` where no nest can lie there: before the header of the message that was begun last ends, or
-/// less than four bytes before the writer's end, or where that is past the bytes; then `LENGTH` where the length passes
-/// 16 bits. Then nothing is written.
+/// Returns `OK`; `PLACE` if no nest can lie there: before the end of the last begun message's header, or less than four
+/// bytes before the writer's end, or if that is past the bytes; then `LENGTH` if the length exceeds 16 bits. On a
+/// refusal nothing is written.
 #[unsafe(no_mangle)]
 pub extern "C" fn neli_c_end_nest(out: &mut [u8], writer: &NeliWriter, nest: usize) -> i32
     ensures code { result ≡ nest_end_code writer.now.start writer.now.end nest (length out.old) }
@@ -226,10 +227,10 @@ pub extern "C" fn neli_c_end_nest(out: &mut [u8], writer: &NeliWriter, nest: usi
     OK
 }
 
-/// Sets the length of the message that was begun last to what was written since.
+/// Sets the length of the message that was begun last to the bytes written since.
 ///
-/// Answers `OK`; `PLACE` where no message can lie there: it begins less than 16 bytes before the writer's end, or that
-/// is past the bytes; then `LENGTH` where the length passes 32 bits. Then nothing is written.
+/// Returns `OK`; `PLACE` if no message can lie there: it begins less than 16 bytes before the writer's end, or that is
+/// past the bytes; then `LENGTH` if the length exceeds 32 bits. On a refusal nothing is written.
 #[unsafe(no_mangle)]
 pub extern "C" fn neli_c_end_message(out: &mut [u8], writer: &NeliWriter) -> i32
     ensures code { result ≡ message_end_code writer.now.start writer.now.end (length out.old) }

@@ -1,4 +1,4 @@
--- Lines that are lent, and what they say.
+-- Lent lines, and their meaning.
 use Rattle.std.proofs.Common.{◌≡◌, ◌∙◌, ℕ, List, map, sym, ap}
 use Rattle.std.specs.Borrow.{Bor}
 use Rattle.std.specs.List.{flat_map}

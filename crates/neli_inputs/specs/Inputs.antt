@@ -1,4 +1,4 @@
--- Inputs: of which kind they are.
+-- The three kinds of inputs.
 use Rattle.std.specs.Prelude.{◌≡◌, ℕ, Bool, true, false, ◌==◌, List, [], ◌∷◌, length, Option, Some, None, Ok}
 use Rattle.std.specs.List.{list_any}
 use Rattle.neli_inputs.specs.declared.item.Item.{Item}
@@ -10,8 +10,8 @@ use Rattle.neli_inputs.specs.Text.{IsText}
 abbrev pub raw_item : ℕ → Item
 raw_item length = record { place = 0; packet = Ok (record { family = None; start = 0; «end» = length }) }
 
--- the bytes that were read of an input, and its items: of a pcap file in this order, or else of raw bytes where one is
--- 0, or else of a text
+-- the bytes that were read of an input, and its items: a pcap file in this order, or else raw bytes if one is 0, or
+-- else a text
 abbrev pub IsInputBy : Option Order → Bool → List ℕ → List ℕ → List Item → Type 0
 IsInputBy (Some order) has_zero input bytes items = (bytes ≡ input) × ArePcapItems order input items
 IsInputBy None true input bytes items = (bytes ≡ input) × (items ≡ raw_item (length input) ∷ [])

@@ -21,12 +21,12 @@ order_by magic =
 abbrev pub order_of : List ℕ → Option Order
 order_of file = if nat_lt (length file) 4 then None else order_by (little_number 4 file)
 
--- the number of four bytes that stands so many bytes after the front
+-- the number in the four bytes at this offset
 abbrev pub number_in : Order → List ℕ → ℕ → ℕ
 number_in Little bytes after = little_number 4 (drop after bytes)
 number_in Big bytes after = big_number 4 (drop after bytes)
 
--- how many bytes the record at the front takes: its header, whose third number says how many were kept, and those
+-- the size of the record at the front: its header, whose third number counts the kept bytes, and those
 abbrev pub record_end : Order → List ℕ → Result ℕ Refusal
 record_end order bytes =
     if nat_lt (length bytes) 16 then Err RecordHeader
@@ -39,7 +39,7 @@ after_cooked None place end = Err NotNetlink
 after_cooked (Some family) place end =
     Ok (record { family = Some family; start = place + 16 + 16; «end» = place + end })
 
--- the packet of a record that is whole; its header's last number says how long the packet was
+-- the packet of a complete record; its header's last number is the packet's original length
 abbrev pub packet_to : Order → List ℕ → ℕ → Result ℕ Refusal → Result Packet Refusal
 packet_to order bytes place (Err refusal) = Err refusal
 packet_to order bytes place (Ok end) =
@@ -50,12 +50,12 @@ packet_to order bytes place (Ok end) =
 abbrev pub packet_in : Order → List ℕ → ℕ → Result Packet Refusal
 packet_in order bytes place = packet_to order bytes place (record_end order bytes)
 
--- a record that is not whole takes all the bytes
+-- an incomplete record takes all the bytes
 abbrev pub end_or_all : List ℕ → Result ℕ Refusal → ℕ
 end_or_all bytes (Ok end) = end
 end_or_all bytes (Err refusal) = length bytes
 
--- how many bytes the record at the front takes
+-- the size of the record at the front, in bytes
 abbrev pub end_in : Order → List ℕ → ℕ
 end_in order bytes = end_or_all bytes (record_end order bytes)
 
@@ -70,7 +70,7 @@ AreRecords order file place (item ∷ items) last =
     (place < length file) × (item ≡ item_at order file place)
     × AreRecords order file (place + end_in order (drop place file)) items last
 
--- the refusal of a file's header: it is not whole, or says another type of link than netlink's
+-- the refusal of a file's header: it is incomplete, or states another link type than netlink's
 abbrev pub refused_header : Order → List ℕ → Option Item
 refused_header order file =
     if nat_lt (length file) 24 then Some (record { place = 0; packet = Err FileHeader })

@@ -1,4 +1,4 @@
--- What is printed of a refusal.
+-- The printed text of a refusal.
 use Rattle.std.specs.Prelude.{ℕ, List, ◌++◌, codes}
 use Rattle.std.specs.Fmt.{decimal}
 use Rattle.neli_inputs.specs.declared.item.Refusal.{Refusal}

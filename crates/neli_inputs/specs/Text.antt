@@ -1,4 +1,4 @@
--- Hexadecimal text: its lines, and the datagrams that they are.
+-- Hexadecimal text: its lines, and their datagrams.
 use Rattle.std.specs.Prelude.{◌≡◌, ℕ, ◌+◌, ◌-◌, Bool, true, false, ◌&&◌, not, ◌==◌, nat_lt, nat_le, if◌then◌else◌, List}
 use Rattle.std.specs.Prelude.{[], ◌∷◌, ◌++◌, length, slice_range, map, Option, Some, None, Result, Ok, Err}
 use Rattle.std.specs.List.{flat_map, list_any, slice_split}
@@ -12,7 +12,7 @@ use Rattle.neli_inputs.specs.declared.text.Begun.{Begun}
 use Rattle.neli_inputs.specs.Cooked.{cooked_family}
 use Rattle.neli_inputs.specs.Lines.{count_in, line_of}
 
--- the lines of a text: what stands between its line feeds
+-- the lines of a text: the parts between its line feeds
 abbrev pub lines_in : List ℕ → List (List ℕ)
 lines_in text = slice_split (λ b. b == 10) text
 
@@ -21,21 +21,21 @@ abbrev pub is_dump : Line → Bool
 is_dump (Dump offset count) = true
 is_dump line = false
 
--- ---- what a line does to the datagram that is begun, of which the bytes up to `place` are there
+-- ---- the effect of a line on the open datagram, which has the bytes up to `place`
 
--- a line of a dump goes on with it where its offset is the number of those bytes
+-- a line of a dump continues it if its offset is the number of those bytes
 abbrev pub continues : Option Begun → ℕ → ℕ → Bool
 continues None place offset = false
 continues (Some begun) place offset = nat_lt begun.start place && (offset == (place - begun.start))
 
--- another line of a dump ends it, and so does a line without bytes
+-- any other line of a dump ends it, and so does a line without bytes
 abbrev pub ends : Option Begun → ℕ → Line → Bool
 ends begun place Empty = true
 ends begun place (Bytes count) = false
 ends begun place (Dump offset count) = not (continues begun place offset)
 ends begun place Other = true
 
--- a dump begins with offset 0; a line that is no hexadecimal is a heading where the text has dumps
+-- a dump begins with offset 0; a line that is not hexadecimal is a heading if the text has dumps
 abbrev pub refusal_of : Bool → Option Begun → ℕ → Line → Option Refusal
 refusal_of dumps begun place Empty = None
 refusal_of dumps begun place (Bytes count) = None
@@ -43,12 +43,12 @@ refusal_of dumps begun place (Dump offset count) =
     if (offset == 0) then None else (if continues begun place offset then None else Some Gap)
 refusal_of dumps begun place Other = if dumps then None else Some NotHex
 
--- the datagram that is begun, or else a new one
+-- the open datagram, or else a new one
 abbrev pub begun_or_new : Option Begun → ℕ → ℕ → Begun
 begun_or_new (Some begun) number place = begun
 begun_or_new None number place = record { line = number; start = place }
 
--- the datagram that is begun after line `number`
+-- the open datagram after line `number`
 abbrev pub begun_after : Option Begun → ℕ → ℕ → Line → Option Begun
 begun_after begun number place Empty = None
 begun_after begun number place (Bytes count) = Some (begun_or_new begun number place)
@@ -59,7 +59,7 @@ begun_after begun number place Other = None
 
 -- ---- the items
 
--- the item of the datagram that is begun, which ends here
+-- the item of the open datagram, which ends here
 abbrev pub closed : Option Begun → ℕ → List Item
 closed None place = []
 closed (Some begun) place =
@@ -70,13 +70,13 @@ abbrev pub refused : ℕ → Option Refusal → List Item
 refused number None = []
 refused number (Some refusal) = record { place = number; packet = Err refusal } ∷ []
 
--- the items that a line gives: the datagram that it ends, and its refusal
+-- the items of a line: the datagram that it ends, and its refusal
 abbrev pub items_at : Bool → ℕ → ℕ → Option Begun → Line → List Item
 items_at dumps number place begun line =
     (if ends begun place line then closed begun place else [])
     ++ refused number (refusal_of dumps begun place line)
 
--- the items of lines, the first of them with this number, so many bytes before it, and this datagram begun
+-- the items of lines, the first of them with this number, after so many bytes, with this open datagram
 abbrev pub items_from : Bool → ℕ → ℕ → Option Begun → List Line → List Item
 items_from dumps number place begun [] = closed begun place
 items_from dumps number place begun (line ∷ lines) =
@@ -89,7 +89,7 @@ items_in lines = items_from (list_any is_dump lines) 1 0 None lines
 
 -- ---- cooked headers
 
--- the family of a datagram before which a cooked header stands
+-- the family of a datagram after a cooked header
 abbrev pub family_in : List ℕ → Packet → Option ℕ
 family_in bytes packet =
     if nat_le packet.start packet.«end» && nat_le packet.«end» (length bytes)
@@ -104,7 +104,7 @@ after_header item packet (Some family) =
       packet = Ok (record { family = Some family; start = packet.start + 16; «end» = packet.«end» });
     }
 
--- a refusal stays as it is
+-- a refusal is unchanged
 abbrev pub uncooked_by : List ℕ → Item → Result Packet Refusal → Item
 uncooked_by bytes item (Ok packet) = after_header item packet (family_in bytes packet)
 uncooked_by bytes item (Err refusal) = item
@@ -113,7 +113,7 @@ uncooked_by bytes item (Err refusal) = item
 abbrev pub uncooked : List ℕ → Item → Item
 uncooked bytes item = uncooked_by bytes item item.packet
 
--- the bytes that a text spells, and its items
+-- the bytes of a text, and its items
 abbrev pub IsText : List ℕ → List ℕ → List Item → Type 0
 IsText text bytes items =
     (bytes ≡ flat_map (λ line. (line_of line).1) (lines_in text))

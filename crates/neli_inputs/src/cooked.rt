@@ -5,13 +5,13 @@ ghost use Rattle.neli_inputs.specs.Cooked.{cooked_family};
 
 use byteorder::{BigEndian, ByteOrder};
 
-/// How many bytes a cooked header has.
+/// The size of a cooked header in bytes.
 pub(crate) const COOKED_HEADER: usize = 16;
 
-/// The type of hardware that stands in it (`ARPHRD_NETLINK` of `linux/if_arp.h`).
+/// Its type of hardware (`ARPHRD_NETLINK` of `linux/if_arp.h`).
 const ARPHRD_NETLINK: u16 = 824;
 
-/// The netlink family that a cooked header gives, where these bytes begin with one.
+/// Returns the netlink family in a cooked header, if these bytes begin with one.
 pub(crate) fn cooked_family(bytes: &[u8]) -> Option<u16>
     ensures { result ≡ cooked_family bytes.now }
 {

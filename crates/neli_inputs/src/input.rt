@@ -8,7 +8,7 @@ use crate::pcap::{order_of, read_pcap};
 use crate::text::read_text;
 use std::alloc::{AllocError, Global};
 
-/// The one item of raw bytes.
+/// Returns the one item of raw bytes.
 fn raw(alloc: Global, length: usize) -> Result<Vec<Item>, AllocError>
     ensures { IfOk result (λ items. items.items ≡ raw_item length ∷ []) }
 {
@@ -24,11 +24,11 @@ fn raw(alloc: Global, length: usize) -> Result<Vec<Item>, AllocError>
     Ok(items)
 }
 
-/// The datagrams of an input: of a pcap file where it begins with a pcap file's magic number, of raw bytes where a
+/// Returns the datagrams of an input: of a pcap file if it begins with a pcap file's magic number, of raw bytes if a
 /// byte of it is 0, and else of hexadecimal text.
 ///
-/// Raw bytes are one datagram, or several without a gap, whose messages are the same: the length before a message of
-/// less than 16 MiB has a zero byte, which no such text has. The bytes of a pcap file and raw ones are kept, and not
+/// Raw bytes are read as one datagram; several without a gap have the same messages. The length before a message of
+/// less than 16 MiB has a zero byte, which no such text has. The bytes of a pcap file and raw ones are kept, not
 /// copied.
 pub fn read_input(alloc: Global, bytes: Vec<u8>) -> Result<Input, AllocError>
     ensures { IfOk result (λ input. IsInput bytes.items input.bytes.items input.items.items) }

@@ -1,14 +1,14 @@
-//! What an input is cut into.
+//! The parts of an input.
 
 ghost use Rattle.std.specs.Prelude.{Some};
 ghost use Rattle.neli_inputs.specs.Refusals.{refusal_text};
 
 use std::fmt;
 
-/// Where a datagram stands among the bytes that were read, and of which netlink family it is.
+/// The place of a datagram among the bytes that were read, and its netlink family.
 #[derive(Clone, Copy, Debug, PartialEq, Eq)]
 pub struct Packet {
-    /// The family (`NETLINK_ROUTE` is 0; `linux/netlink.h`), where the input says it.
+    /// The family (`NETLINK_ROUTE` is 0; `linux/netlink.h`), if the input states it.
     pub family: Option<u16>,
     /// The index of its first byte.
     pub start: usize,
@@ -16,18 +16,18 @@ pub struct Packet {
     pub end: usize,
 }
 
-/// Why a part of an input is no datagram.
+/// Why a part of an input is not a datagram.
 #[derive(Clone, Copy, Debug, PartialEq, Eq)]
 pub enum Refusal {
     /// The input ends inside the 24 bytes of a pcap file's header.
     FileHeader,
-    /// The pcap file is not of link type 253 (`LINKTYPE_NETLINK`); it is of this one.
+    /// The pcap file has this link type, not 253 (`LINKTYPE_NETLINK`).
     LinkType(u32),
     /// The input ends inside the 16 bytes of a record's header.
     RecordHeader,
-    /// The input ends inside the bytes of a record, of which it has this many.
+    /// The input ends inside the bytes of a record, which states this many.
     RecordBytes(usize),
-    /// The packet was cut short when it was recorded, from this many bytes.
+    /// The capture kept only a part of the packet, which had this many bytes.
     Snapped(u32),
     /// The packet does not begin with the cooked header of a netlink packet.
     NotNetlink,
@@ -62,14 +62,14 @@ impl fmt::Display for Refusal {
 pub struct Item {
     /// Where the part begins: an index in the bytes of a file, or the number of a text's line, counted from 1.
     pub place: usize,
-    /// The datagram, or why it is none.
+    /// The datagram, or why it is not one.
     pub packet: Result<Packet, Refusal>,
 }
 
 /// An input that was read.
 #[derive(Drop)]
 pub struct Input {
-    /// The bytes in which the datagrams stand: those of the input, or those that its text spells.
+    /// The bytes that hold the datagrams: those of the input, or those that its text spells.
     pub bytes: Vec<u8>,
     /// Its parts, in order.
     pub items: Vec<Item>,

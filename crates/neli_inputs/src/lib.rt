@@ -1,11 +1,11 @@
-//! Inputs with netlink datagrams, as people have them, cut into datagrams.
+//! Cuts the usual forms of netlink input into datagrams.
 //!
-//! - [`read_input`] takes raw bytes, hexadecimal text or a pcap file of `nlmon`, and finds out which.
+//! - [`read_input`] takes raw bytes, hexadecimal text or a pcap file of `nlmon`, and detects which.
 //! - [`pcap`] reads a pcap file.
 //! - [`text`] reads hexadecimal text: plain, of `xxd`, or of `tcpdump -x`.
 //!
-//! A datagram is named by its place among the bytes that were read ([`Packet`]); so nothing is copied but what a text
-//! spells. Each part that is no datagram is a [`Refusal`] at its place, and the rest of the input goes on.
+//! A datagram is named by its place among the bytes that were read ([`Packet`]); so nothing is copied except the bytes
+//! of a text. Each part that is not a datagram is a [`Refusal`] at its place; reading continues after it.
 #![tactic(auto)]
 
 mod cooked;

@@ -10,27 +10,27 @@ use byteorder::{BigEndian, ByteOrder};
 use hex::FromHexError;
 use std::alloc::{AllocError, Global};
 
-/// What a line says, and how many bytes stand on it.
+/// The kind of a line, and its number of bytes.
 #[derive(Clone, Copy, Debug, PartialEq, Eq)]
 pub(crate) enum Line {
-    /// Nothing but blanks.
+    /// Only blanks.
     Empty,
-    /// Bytes and nothing else.
+    /// Only bytes.
     Bytes(usize),
-    /// The offset that a dump writes before the bytes, and those.
+    /// The offset of a dump's line, and the bytes after it.
     Dump(u64, usize),
     /// Something else.
     Other,
 }
 
-/// A line that was read: what it says, and the bytes that stand on it.
+/// A line that was read: its kind, and its bytes.
 #[derive(Drop)]
 pub(crate) struct ReadLine {
     pub line: Line,
     pub bytes: Vec<u8>,
 }
 
-/// Whether a byte of a line is a space, a tabulator or a carriage return.
+/// Whether a byte of a line is a space, a tab or a carriage return.
 fn is_blank(byte: u8) -> bool
     ensures { result ≡ is_blank byte }
 {
@@ -47,7 +47,7 @@ fn digits_of(alloc: Global, text: &[u8]) -> Result<Vec<u8>, AllocError>
         .collect(alloc)
 }
 
-/// The bytes that pairs of hexadecimal digits spell; `None` where a character is no such digit, or one is left.
+/// The bytes of pairs of hexadecimal digits; `None` if a character is no such digit, or one is left over.
 fn bytes_of_digits(alloc: Global, digits: &[u8]) -> Result<Option<Vec<u8>>, AllocError>
     ensures { IfOk result (λ bytes. option_map (λ v. v.items) bytes ≡ bytes_of_digits digits.now) }
 {
@@ -58,7 +58,7 @@ fn bytes_of_digits(alloc: Global, digits: &[u8]) -> Result<Option<Vec<u8>>, Allo
     }
 }
 
-/// A text from its first byte on that is no blank.
+/// A text from its first byte that is no blank.
 fn skip_blanks(mut text: &[u8]) -> &[u8]
     ensures { result.now ≡ skip_blanks text.now }
 {
@@ -71,7 +71,7 @@ fn skip_blanks(mut text: &[u8]) -> &[u8]
     text
 }
 
-/// The digits of a text's words, up to the first two blanks that stand side by side.
+/// The digits of a text's words, up to the first two adjacent blanks.
 fn first_words(alloc: Global, text: &[u8]) -> Result<Vec<u8>, AllocError>
     ensures { IfOk result (λ digits. digits.items ≡ first_words false text.now) }
 {
@@ -100,7 +100,7 @@ fn without_prefix(digits: &[u8]) -> &[u8]
     digits
 }
 
-/// The offset that stands before the mark of a dump's line: one byte to eight of them in hexadecimal.
+/// The offset before the mark of a dump's line: one byte to eight of them in hexadecimal.
 fn offset_in(alloc: Global, text: &[u8]) -> Result<Option<u64>, AllocError>
     ensures { IfOk result (λ offset. offset ≡ offset_in text.now) }
 {
@@ -114,7 +114,7 @@ fn offset_in(alloc: Global, text: &[u8]) -> Result<Option<u64>, AllocError>
     Ok(Some(BigEndian::read_uint(&bytes, bytes.len())))
 }
 
-/// An offset and bytes, where both are there.
+/// An offset and bytes, if both exist.
 fn with_offset(offset: Option<u64>, bytes: Option<Vec<u8>>) -> Option<(u64, Vec<u8>)>
     ensures { option_map (λ d. (d.0, d.1.items)) result
         ≡ with_offset offset (option_map (λ v. v.items) bytes) }

@@ -10,8 +10,8 @@
 //!  | cooked header, 16 bytes | datagram - - - |              as many bytes as were kept
 //! ```
 //!
-//! The numbers are in the byte order that the magic number shows; those of the cooked header have their high byte
-//! first. The fraction counts microseconds or nanoseconds, which makes no difference here.
+//! The magic number shows the byte order of the numbers; those of the cooked header have their high byte first. The
+//! fraction counts microseconds or nanoseconds, which makes no difference here.
 
 ghost use Rattle.std.specs.Prelude.{◌≡◌, ◌≤◌, ◌<◌, ◌+◌, ◌^◌, [], ◌∷◌, length, IfOk};
 ghost use Rattle.neli_inputs.specs.Pcap.{ArePcapItems, end_in, number_in, order_of, packet_in, record_end};
@@ -21,16 +21,16 @@ use crate::item::{Item, Packet, Refusal};
 use byteorder::{BigEndian, ByteOrder, LittleEndian};
 use std::alloc::{AllocError, Global};
 
-/// How many bytes the header of the file has.
+/// The size of the file's header in bytes.
 const FILE_HEADER: usize = 24;
 
-/// How many bytes the header of a record has.
+/// The size of a record's header in bytes.
 const RECORD_HEADER: usize = 16;
 
 /// The link type of netlink packets (`LINKTYPE_NETLINK`).
 const LINKTYPE_NETLINK: u32 = 253;
 
-/// The order of the bytes of a file's numbers.
+/// The byte order of a file's numbers.
 #[derive(Clone, Copy, Debug, PartialEq, Eq)]
 pub enum Order {
     /// The low byte first.
@@ -39,7 +39,7 @@ pub enum Order {
     Big,
 }
 
-/// The order of a pcap file's numbers, where these bytes begin with one of the four magic numbers.
+/// The order of a pcap file's numbers, if these bytes begin with one of the four magic numbers.
 pub fn order_of(file: &[u8]) -> Option<Order>
     ensures { result ≡ order_of file.now }
 {
@@ -53,7 +53,7 @@ pub fn order_of(file: &[u8]) -> Option<Order>
     }
 }
 
-/// The number of four bytes that stands so many bytes after the front.
+/// The number in the four bytes at this offset.
 fn number_in(order: Order, bytes: &[u8], after: usize) -> u32
     requires { after + 4 ≤ length bytes.now }
     ensures { result ≡ number_in order bytes.now after }
@@ -64,7 +64,7 @@ fn number_in(order: Order, bytes: &[u8], after: usize) -> u32
     }
 }
 
-/// How many bytes the record at the front takes, or why it is not whole.
+/// The size of the record at the front in bytes, or why it is incomplete.
 fn record_end(order: Order, bytes: &[u8]) -> Result<usize, Refusal>
     ensures value { result ≡ record_end order bytes.now }
     ensures within { IfOk result (λ end. (16 ≤ end) × (end ≤ length bytes.now)) }
@@ -100,7 +100,7 @@ fn packet_in(order: Order, bytes: &[u8], place: usize) -> Result<Packet, Refusal
     })
 }
 
-/// How many bytes the record at the front takes: all of them where it is not whole.
+/// The size of the record at the front in bytes: all of them if it is incomplete.
 fn end_in(order: Order, bytes: &[u8]) -> usize
     ensures value { result ≡ end_in order bytes.now }
     ensures within { result ≤ length bytes.now }
@@ -112,7 +112,7 @@ fn end_in(order: Order, bytes: &[u8]) -> usize
     }
 }
 
-/// The items of a file that has only this refusal.
+/// The items of a file with only this refusal.
 fn refused(alloc: Global, place: usize, refusal: Refusal) -> Result<Vec<Item>, AllocError>
     ensures { IfOk result
         (λ items. items.items ≡ record { place = place; packet = Err refusal } ∷ []) }
@@ -125,9 +125,9 @@ fn refused(alloc: Global, place: usize, refusal: Refusal) -> Result<Vec<Item>, A
     Ok(items)
 }
 
-/// The packets of a pcap file whose numbers are in this order, each a datagram or refused.
+/// Returns the packets of a pcap file whose numbers are in this order, each a datagram or refused.
 ///
-/// A file that ends inside a record gives a refusal last. A file without a whole header, or of another link type, gives
+/// A file that ends inside a record has a refusal last. A file with an incomplete header, or of another link type, has
 /// one refusal and nothing else.
 pub fn read_pcap(alloc: Global, order: Order, file: &[u8]) -> Result<Vec<Item>, AllocError>
     ensures { IfOk result (λ items. ArePcapItems order file.now items.items) }

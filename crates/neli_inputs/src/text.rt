@@ -1,6 +1,6 @@
-//! Hexadecimal text, as people paste it.
+//! Hexadecimal text, as pasted from a terminal.
 //!
-//! A text is of lines, of four kinds; spaces, tabulators and carriage returns stand anywhere in them:
+//! A text has lines of four kinds, with spaces, tabs and carriage returns anywhere in them:
 //!
 //! ```text
 //!  14000000 1200 05 03                                   bytes alone
@@ -9,9 +9,8 @@
 //!  12:00:00.000000 [|netlink]                            something else, as a heading
 //! ```
 //!
-//! Bytes that stand in lines below each other are one datagram. It ends at an empty line, at a heading, and where a
-//! dump begins again with offset 0. The words of a dump's line end at two blanks side by side, so what stands to their
-//! right is not read.
+//! Bytes on adjacent lines are one datagram. It ends at an empty line, at a heading, and where a dump begins again with
+//! offset 0. The words of a dump's line end at two adjacent blanks; the part to their right is not read.
 
 ghost use Rattle.std.specs.Prelude.{◌≡◌, ◌<◌, ◌^◌, ◌++◌, length, map, sum_by, IfOk, OnOk};
 ghost use Rattle.std.specs.List.{flat_map, list_any};
@@ -24,14 +23,14 @@ use crate::item::{Input, Item, Packet, Refusal};
 use crate::line::{Line, read_line};
 use std::alloc::{AllocError, Global};
 
-/// A datagram that further lines may go on: the number of its first line, and the index of its first byte.
+/// A datagram that further lines may continue: the number of its first line, and the index of its first byte.
 #[derive(Clone, Copy, Debug, PartialEq, Eq)]
 pub(crate) struct Begun {
     pub line: usize,
     pub start: usize,
 }
 
-/// The lines of a text, read: what each says, and all their bytes, one after the other.
+/// The lines of a text, read: the kind of each, and all their bytes, one after the other.
 #[derive(Drop)]
 struct Lines {
     lines: Vec<Line>,
@@ -64,7 +63,7 @@ fn read_lines(alloc: Global, texts: &[&[u8]]) -> Result<Lines, AllocError>
     Ok(Lines { lines, bytes })
 }
 
-/// How many bytes stand on a line.
+/// The number of bytes on a line.
 pub(crate) fn count_in(line: Line) -> usize
     ensures { result ≡ count_in line }
 {
@@ -81,7 +80,7 @@ fn is_dump(line: Line) -> bool
     matches!(line, Line::Dump(_, _))
 }
 
-/// Whether a line of a dump with this offset goes on with the datagram that is begun: so many bytes of it are there.
+/// Whether a line of a dump with this offset continues the open datagram, which has so many bytes.
 fn continues(begun: Option<Begun>, place: usize, offset: u64) -> bool
     ensures { result ≡ continues begun place offset }
 {
@@ -91,7 +90,7 @@ fn continues(begun: Option<Begun>, place: usize, offset: u64) -> bool
     }
 }
 
-/// Whether a line ends the datagram that is begun.
+/// Whether a line ends the open datagram.
 fn ends(begun: Option<Begun>, place: usize, line: Line) -> bool
     ensures { result ≡ ends begun place line }
 {
@@ -102,7 +101,7 @@ fn ends(begun: Option<Begun>, place: usize, line: Line) -> bool
     }
 }
 
-/// Why a line says no bytes that have a place. Headings may stand among the lines of dumps.
+/// Why the bytes of a line have no place. Headings may stand among the lines of dumps.
 fn refusal_of(dumps: bool, begun: Option<Begun>, place: usize, line: Line) -> Option<Refusal>
     ensures { result ≡ refusal_of dumps begun place line }
 {
@@ -115,7 +114,7 @@ fn refusal_of(dumps: bool, begun: Option<Begun>, place: usize, line: Line) -> Op
     }
 }
 
-/// The datagram that is begun after this line.
+/// The open datagram after this line.
 fn begun_after(begun: Option<Begun>, number: usize, place: usize, line: Line) -> Option<Begun>
     ensures { result ≡ begun_after begun number place line }
 {
@@ -131,7 +130,7 @@ fn begun_after(begun: Option<Begun>, number: usize, place: usize, line: Line) ->
     }
 }
 
-/// Appends the datagram that is begun, which ends here.
+/// Appends the open datagram, which ends here.
 fn close(items: &mut Vec<Item>, begun: Option<Begun>, place: usize) -> Result<(), AllocError>
     ensures { OnOk result (items.new.items ≡ items.old.items ++ closed begun place) }
 {
@@ -196,7 +195,7 @@ fn items_of(alloc: Global, lines: &[Line]) -> Result<Vec<Item>, AllocError>
     Ok(items)
 }
 
-/// The family of a datagram before which a cooked header stands.
+/// The family of a datagram after a cooked header.
 fn family_in(bytes: &[u8], packet: Packet) -> Option<u16>
     ensures { result ≡ family_in bytes.now packet }
 {
@@ -239,11 +238,10 @@ fn without_headers(alloc: Global, bytes: &[u8], items: &[Item]) -> Result<Vec<It
         .collect(alloc)
 }
 
-/// The datagrams of a hexadecimal text, and the lines that are refused.
+/// Returns the datagrams of a hexadecimal text, and the lines that are refused.
 ///
-/// A line of a dump is refused where its offset is not the number of bytes before it ([`Refusal::Gap`]). A line that
-/// is no hexadecimal is passed over as a heading where the text has lines of dumps, and refused where it has none
-/// ([`Refusal::NotHex`]).
+/// A line of a dump is refused if its offset is not the number of bytes before it ([`Refusal::Gap`]). A line that is
+/// not hexadecimal is skipped as a heading if the text has lines of dumps, and else refused ([`Refusal::NotHex`]).
 pub fn read_text(alloc: Global, text: &[u8]) -> Result<Input, AllocError>
     ensures { IfOk result (λ read. IsText text.now read.bytes.items read.items.items) }
 {

@@ -1,4 +1,4 @@
--- Acknowledgements and errors, as a router keeps and delivers them.
+-- Acknowledgements and errors, as a router stores and delivers them.
 use Rattle.std.proofs.Common.{◌≡◌, ◌≢◌, ℕ, ◌+◌, ◌-◌, ◌<◌, All, Bool, true, false, ltb, List, [], ◌∷◌, ◌++◌, length}
 use Rattle.std.proofs.Common.{take, drop, None, Result, Ok, refl, sym, ap, ◌∙◌, append_assoc, arith, length-append}
 use Rattle.std.specs.Prelude.{◌&&◌, ℤ, pos, FitsSigned, nat_eq, nat_le, replicate}
@@ -130,8 +130,7 @@ zero-fits = fits_signed_from_abs w32 (pos 0) (omega arith)
 some-code : (code : ℤ) → FitsSigned w32 code → code ≢ pos 0 → nat_eq (cast_unsigned w32 code) 0 ≡ false
 some-code code fits not = ne_eqb _ _ (λ e. not (sym (to_z-of_z w32 code fits) ∙ ap (cast_signed w32) e))
 
--- the attributes behind a header that is echoed alone are read where there are some, and there are none where they are
--- not read
+-- the attributes after an echoed header are read if there are some, and there are none if they are not read
 tail-read : (attrs : Attributes) (extra : List ℕ) → AreReadBack attrs extra
     → tail_in (tail_of (answer_flags (flags_of 256) attrs)) extra ≡ Ok attrs
 tail-read [] extra back = refl
@@ -140,7 +139,7 @@ tail-read (a ∷ attrs) extra back = back.read
 abbrev Read : Type 0
 Read = Result (NlPayload ℕ (List ℕ)) DeError
 
--- what such bytes are read as, where they are no acknowledgement
+-- the reading of such bytes, if they are no acknowledgement
 capped-as : (attrs : Attributes) (s : List ℕ) (r : Read) → is_acknowledged s ≡ false
     → (headed_in same (tail_of (answer_flags (flags_of 256) attrs)) s >>= λ e. Ok (payload.Capped e)) ≡ r
     → payload_in same as_bytes 2 (answer_flags (flags_of 256) attrs) s ≡ r
@@ -157,7 +156,7 @@ not-both : (b : Bool) → b && false ≡ false
 not-both true = refl
 not-both false = refl
 
--- bytes of such a code and header, and what follows them
+-- bytes of such a code and header, and those after them
 module _ (s rest : List ℕ) (attrs : Attributes) (code : ℤ) (h : Header ℕ) (long : length s ≡ 20 + length rest)
     (rest_is : drop 20 s ≡ rest) (number : number_in 4 0 s ≡ cast_unsigned w32 code)
     (echo : header_in same (drop 4 s) ≡ h) (fits : FitsSigned w32 code) where
@@ -179,7 +178,7 @@ module _ (s rest : List ℕ) (attrs : Attributes) (code : ℤ) (h : Header ℕ) 
       ∙ ap (λ (c : ℤ). Ok (answer c (header_in same (drop 4 s)) attrs)) code-read
       ∙ ap (λ (e : Header ℕ). Ok (answer code e attrs)) echo
 
-  -- it is an acknowledgement where the code is 0
+  -- it is an acknowledgement if the code is 0
   told : (zero : Bool) → nat_eq (cast_unsigned w32 code) 0 ≡ zero → is_acknowledged s ≡ zero
   told zero is =
       let enough : nat_le 20 (length s) ≡ true = le-leb _ _ (omega (arith, long)) in
@@ -278,7 +277,7 @@ module _ (asked : Request) (attrs : Attributes) (extra bytes : List ℕ) (back :
       answer-delivered asked 256 attrs (capped_error asked code attrs).payload (echoed code) bytes (omega arith)
       (echoed-written code) (echoed-full code) read is
 
--- ---- errors with the request whole
+-- ---- errors with the whole request
 
 abbrev Whole : Type 0
 Whole = Nlmsgerr (NlmsghdrErr ℕ (List ℕ))

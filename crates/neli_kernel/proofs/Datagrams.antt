@@ -31,7 +31,7 @@ messages_in-end = cut_of-end (lent_message same) (layout_with-placed same _) (om
 
 -- ---- lists of datagrams
 
--- what holds of all holds of the last one, and of those before it
+-- a property of all holds of the last one, and of those before it
 All-last : {A : Type 0} (P : A → Type 0) (xs : List A) (y : A) → All P (xs ++ y ∷ []) → All P xs × P y
 All-last P xs y h = All-pop P (xs ++ y ∷ []) xs (Some y) refl h
 
@@ -44,7 +44,7 @@ messages_of-last ds d =
 -- ---- a message more
 
 module _ (frame : List ℕ) (m : Lent ℕ) (one : messages_in same frame ≡ (m ∷ [], None)) where
-  -- what is in a cut without a fault
+  -- the messages of a cut without a fault
   said : (messages_in same frame).0 ≡ m ∷ []
   said = ap (λ (c : Cut (Lent ℕ)). c.0) one
 
@@ -84,7 +84,7 @@ module _ (frame : List ℕ) (m : Lent ℕ) (one : messages_in same frame ≡ (m 
       → AreRead (datagrams_of (put limit frame p)) (ms ++ m ∷ [])
   put-read limit p ms r = put-read_by (nat_lt limit (length p.1 + length frame)) p ms r
 
--- ---- what a put gives
+-- ---- the result of a put
 
 abbrev placed_by : Bool → Packed → Result Packed SerError
 placed_by b q = cond b (Err (ser.Msg (codes "Message does not fit a datagram"))) (Ok q)

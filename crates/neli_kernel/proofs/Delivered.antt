@@ -1,4 +1,4 @@
--- Messages as a router keeps and delivers them.
+-- Messages as a router stores and delivers them.
 use Rattle.std.proofs.Common.{◌≡◌, ◌≢◌, ◌<◌, ℕ, ◌+◌, ◌-◌, All, Bool, true, false, ltb, List}
 use Rattle.std.proofs.Common.{[], ◌∷◌, ◌++◌, length, map, take, drop, Option, Some, None, Result}
 use Rattle.std.proofs.Common.{Ok, Err, refl, sym, ap, subst, ◌∙◌, arith, length-append}
@@ -43,7 +43,7 @@ use Rattle.neli_kernel.proofs.Answers.{one-message}
 abbrev same : ℕ → ℕ
 same n = n
 
--- ---- a message of a plain type is kept with its bytes as body
+-- ---- a message of a plain type is stored with its bytes as body
 
 payload-plain : (number : ℕ) (flags : NlmF) (s v : List ℕ) → IsPlain number → s ≡ v
     → payload_in same (λ bytes. Ok bytes) number flags s ≡ Ok (payload.Payload v)
@@ -88,7 +88,7 @@ untyped-end h code attrs text three multi fits back =
     let typed = ap (λ (n : ℕ). payload_in same (λ bytes. Ok bytes) n h.flags s) three ∙ read in
     ap (λ (r : Result (NlPayload ℕ (List ℕ)) DeError). r >>= λ p. Ok (h, p)) typed
 
--- ---- what is walked is cut into the same messages untyped
+-- ---- walked bytes are cut into the same messages untyped
 
 owned-parts : (h : Header ℕ) (r : Result (NlPayload ℕ (List ℕ)) DeError) (u : Untyped) → (r >>= λ p. Ok (h, p)) ≡ Ok u
     → (r ≡ Ok u.1) × (h ≡ u.0)
@@ -109,7 +109,7 @@ frame-untyped s m u of is =
     } in
     subst (λ (h : Header ℕ). IsFrame untyped_layout s h u.1) parts.1 whole
 
--- each of these messages is kept as that one
+-- each of these messages is stored as that one
 abbrev AreKept : List (Lent ℕ) → List Untyped → Type 0
 AreKept ms us = map untyped ms ≡ map (λ u. Ok u) us
 
@@ -140,7 +140,7 @@ cut-untyped b ms us are is =
     (each-untyped b ms us are (subst (λ (c : Cut (Lent ℕ)). Each b c.0 c.1) is
     (cut_of-each (lent_message same) (layout_with-placed same _) (omega arith) b)))
 
--- ---- whose they are
+-- ---- their number and port
 
 module _ (number port : ℕ) (is_open : ℕ → Bool) (opened : is_open number ≡ true) where
   to-asker : (u : Untyped) → IsFor number port u → message_to port is_open number u ≡ message u ∷ []
@@ -184,7 +184,7 @@ module _ (number port : ℕ) (is_open : ℕ → Bool) (opened : is_open number �
 
 -- ---- datagrams
 
--- what a longer list is kept as, is that of its two parts
+-- a longer list is stored as its two parts are
 record Halves (ms ns : List (Lent ℕ)) (us : List Untyped) : Type 0 where
   before : List Untyped
   after : List Untyped
@@ -344,7 +344,7 @@ module _ {T P : Type 0} (number_of : T → ℕ) (wire : P → Wire) (size : P �
   reply-other is_open other opened differs = share-other number port is_open opened other bytes
       (kept lent_reply ∷ []) differs reply-for reply-cut
 
-  -- the same bytes, where they came to groups
+  -- the same bytes, if they arrived for groups
   pub notification-heard : (own group : ℕ) (groups : List ℕ) (is_open : ℕ → Bool)
       → datagram_share own is_open None (cut_of untyped_layout bytes) (group ∷ groups)
       ≡ message (reply_kept (number_of t) flags number port text) ∷ []

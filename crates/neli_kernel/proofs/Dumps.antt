@@ -1,4 +1,4 @@
--- How a dump's datagrams are what was put in.
+-- A dump's datagrams hold the messages that were put in.
 use Rattle.std.proofs.Common.{◌≡◌, ℕ, ℤ, List, Ok, sym, ap, subst, ◌∙◌}
 use Rattle.neli_wire.specs.Writing.{Wire}
 use Rattle.neli_consts.specs.declared.nlm_f.NlmF.{NlmF}
@@ -12,7 +12,7 @@ abbrev pub end_wire : Request → NlmF → Attributes → ℤ → Wire
 end_wire asked flags attrs code = message_or_refusal {T = ℕ} {P = List ℕ} (λ n. n) (λ b. Ok b)
     (dump_end asked flags code attrs)
 
--- the datagrams are those of what the end was put to
+-- the datagrams are those of the dump that the end was put into
 pub finished-put : (limit : ℕ) (asked : Request) (flags : NlmF) (attrs : Attributes) (code same : ℤ) (p q : Packed)
     (datagrams : List (List ℕ)) → same ≡ code → put_wire limit (end_wire asked flags attrs same) p ≡ Ok q
     → datagrams ≡ datagrams_of q → finished limit (end_wire asked flags attrs code) p ≡ Ok datagrams

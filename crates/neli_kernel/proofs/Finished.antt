@@ -1,4 +1,4 @@
--- A dump that was finished: its datagrams are read as what was put in, and the end.
+-- A finished dump: its datagrams are read as the messages that were put in, and the end.
 use Rattle.std.proofs.Common.{◌≡◌, ◌≢◌, ℕ, ◌+◌, All, Bool, true, List, [], ◌∷◌, ◌++◌, length, map}
 use Rattle.std.proofs.Common.{Option, Some, None, Result, Ok, Err, refl, sym, ap, subst, ◌∙◌, arith, length-append}
 use Rattle.std.specs.Prelude.{◌==◌, ℤ, FitsSigned, bit_or, replicate}

@@ -1,4 +1,4 @@
--- What a kernel answers: the message of each answer (the kernel's `netlink_ack` and `nlmsg_put`), and its bytes.
+-- A kernel's answers: the message of each (the kernel's `netlink_ack` and `nlmsg_put`), and its bytes.
 use Rattle.std.specs.Prelude.{ℕ, ◌+◌, ◌<◌, ℤ, pos, bit_or, List, [], ◌∷◌, codes, length, nat_lt, if◌then◌else◌, Err}
 use Rattle.neli_wire.specs.Refusals.{IsRefusal, ser_ran_out}
 use Rattle.neli_wire.specs.SerError.{SerError}
@@ -25,16 +25,16 @@ message_with size message_type flags number port payload = record {
 }
 
 module _ {T P : Type 0} (number_of : T → ℕ) (wire : P → Wire) where
-  -- the bytes of a message; or the first cause that holds: its length passes 32 bits, its payload has no bytes
+  -- the bytes of a message; or the first cause that holds: its length exceeds 32 bits, its payload has no bytes
   abbrev pub message_or_refusal : Nlmsghdr T P → Wire
   message_or_refusal m = if nat_lt 4294967295 m.header.len then Err (ser.Msg (codes "Length does not fit its field"))
       else message_wire number_of wire m
 
-  -- e is why there are no bytes: the cause that holds, or that memory ran out, which is asked for where the length fits
+  -- e is why there are no bytes: the cause that holds, or that memory ran out, which is taken if the length fits
   abbrev pub RefusesMessage : Nlmsghdr T P → SerError → Type 0
   RefusesMessage m = IsRefusal ser_ran_out (message_or_refusal m) (m.header.len < 4294967296)
 
--- ---- answers, with the request's number, to the port of the socket that asked
+-- ---- answers, with the request's number, to the port of the requesting socket
 
 -- the request's number and the port of its socket fit their fields
 abbrev pub IsAddressed : Request → Type 0
@@ -49,7 +49,7 @@ reply size asked message_type flags body =
 abbrev pub control : Request → ℕ → Nlmsghdr ℕ (List ℕ)
 control asked message_type = reply length asked message_type (flags_of 0) []
 
--- the flags of an answer that says what is echoed, and ACK_TLVS (512) where it has attributes
+-- the flags of an answer with the flags of its echo, and ACK_TLVS (512) if it has attributes
 abbrev pub answer_flags : NlmF → Attributes → NlmF
 answer_flags echo [] = echo
 answer_flags echo (a ∷ attrs) = flags_of (bit_or echo.0 512)
@@ -68,7 +68,7 @@ abbrev pub capped_error : Request → ℤ → Attributes → Nlmsghdr ℕ (List 
 capped_error asked code attrs =
     answer_with asked (answer_flags (flags_of 256) attrs) (payload.Capped (answer code asked.header attrs))
 
--- an error: its code, and the request whole
+-- an error: its code, and the whole request
 abbrev pub error : Request → ℤ → Attributes → Nlmsghdr ℕ (List ℕ)
 error asked code attrs =
     answer_with asked (answer_flags (flags_of 0) attrs)

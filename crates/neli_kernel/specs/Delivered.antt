@@ -1,4 +1,4 @@
--- Messages as a router keeps and delivers them.
+-- Messages as a router stores and delivers them.
 use Rattle.std.specs.Prelude.{◌≡◌, ◌≢◌, ◌<◌, ℕ, ◌+◌, ℤ, FitsSigned, List, [], ◌∷◌}
 use Rattle.std.specs.Prelude.{◌++◌, Bool, true, Option, None, Some, Result, Ok, flat_map, length}
 use Rattle.std.specs.Int.{w32}
@@ -25,7 +25,7 @@ use Rattle.neli_kernel.specs.Answers.{message_or_refusal, message_with}
 use Rattle.neli_kernel.specs.Dumps.{dump_end}
 use Rattle.neli_kernel.specs.declared.request.Request.{Request}
 
--- a message as a router keeps it, its body as bytes; or why its payload is refused
+-- a message as a router stores it, its body as bytes; or why its payload is refused
 abbrev pub untyped : Lent ℕ → Result Untyped DeError
 untyped = as_owned (λ n. n) (λ n. n) (λ bytes. Ok bytes)
 
@@ -33,7 +33,7 @@ untyped = as_owned (λ n. n) (λ n. n) (λ bytes. Ok bytes)
 abbrev pub IsFor : ℕ → ℕ → Untyped → Type 0
 IsFor number port m = (m.0.sequence_number ≡ number) × (m.0.port ≡ port)
 
--- what a handle, the one with a number or the one for multicast, gets of datagrams that came to no group
+-- the deliveries to a handle, with a number or for multicast, from datagrams that arrived for no group
 abbrev pub shares : ℕ → (ℕ → Bool) → Option ℕ → List (List ℕ) → List Delivery
 shares port is_open handle = flat_map (λ d. datagram_share port is_open handle (cut_of untyped_layout d) [])
 
@@ -73,7 +73,7 @@ pub record AreReadBack (attrs : Attributes) (text : List ℕ) : Type 0 where
   pub written : attributes_wire attrs ≡ Ok text
   pub read : ext_ack_in text ≡ Ok attrs
 
--- the length is that of the header and the payload, and the type is what its number of 14 bits is read as
+-- the length is that of the header and the payload, and the type is that of its 14-bit number
 pub record IsPlainAttribute (a : Nlattr NlmsgerrAttr (List ℕ)) : Type 0 where
   pub len : a.nla_len ≡ 4 + length a.nla_payload
   pub fits : a.nla_len < 65536
@@ -88,7 +88,7 @@ pub record IsAnswer (asked : Request) (m : Nlmsghdr ℕ (List ℕ)) (bytes : Lis
   pub port_fits : asked.port < 4294967296
   pub bytes_are : message_or_refusal (λ n. n) (λ b. Ok b) m ≡ Ok bytes
 
--- an answer as a router keeps it: its header, and its payload by its kind
+-- an answer as a router stores it: its header, and its payload by its kind
 abbrev pub answer_kept : Nlmsghdr ℕ (List ℕ) → Untyped
 answer_kept m = (m.header, m.payload)
 
@@ -99,11 +99,11 @@ pub record IsEnd (asked : Request) (flags : NlmF) (code : ℤ) : Type 0 where
   pub flags_fit : flags.0 < 65536
   pub code_fits : FitsSigned w32 code
 
--- what an end says: its header, and the bytes of its code and of its attributes
+-- an end as a router stores it: its header, and the bytes of its code and of its attributes
 abbrev pub end_said : Request → NlmF → ℤ → Attributes → List ℕ → Lent ℕ
 end_said asked flags code attrs text = ((dump_end asked flags code attrs).header, signed_bytes w32 4 code ++ text)
 
--- as a datagram the bytes are this answer alone; where a router has the port of the request's socket, and the request's
+-- as a datagram the bytes are this answer alone; if a router has the port of the request's socket, and the request's
 -- number is open there, the handle of that number gets it, once, and no other handle gets anything
 pub record IsDelivered (asked : Request) (m : Nlmsghdr ℕ (List ℕ)) (bytes : List ℕ) : Type 0 where
   pub one_message : cut_of untyped_layout bytes ≡ (answer_kept m ∷ [], None)

@@ -1,5 +1,4 @@
--- A dump: messages with the flag MULTI, the end after them, and how they lie in datagrams (the kernel's
--- `netlink_dump`).
+-- A dump: messages with the flag MULTI, the end after them, and their datagrams (the kernel's `netlink_dump`).
 use Rattle.std.specs.Prelude.{ℕ, ◌+◌, ◌<◌, ℤ, bit_or, List, [], ◌∷◌, ◌++◌}
 use Rattle.std.specs.Prelude.{codes, length, map, nat_lt, if◌then◌else◌, Result, Ok, Err}
 use Rattle.neli_wire.specs.Refusals.{IsRefusal, ser_ran_out}
@@ -45,31 +44,31 @@ packed_in d = (map (λ v. v.items) d.full.items, d.last.items)
 abbrev pub datagrams_of : Packed → List (List ℕ)
 datagrams_of p = p.0 ++ p.1 ∷ []
 
--- a message more: behind those of the last datagram, or where it passes the limit there, in the next one
+-- one message more: after those of the last datagram, or, if it would exceed the limit there, in the next one
 abbrev pub put : ℕ → List ℕ → Packed → Packed
 put limit frame p = if nat_lt limit (length p.1 + length frame) then (datagrams_of p, frame) else (p.0, p.1 ++ frame)
 
--- the next datagram is begun, unless the last one is empty
+-- the next datagram begins, unless the last one is empty
 abbrev pub begun : Packed → Packed
 begun (full, []) = (full, [])
 begun (full, b ∷ last) = (datagrams_of (full, b ∷ last), [])
 
--- the same of a message's bytes, or why they are not put there: it has none, or alone they pass the limit
+-- the same for a message's bytes, or why they are refused: it has none, or alone they exceed the limit
 abbrev pub put_wire : ℕ → Wire → Packed → Result Packed SerError
 put_wire limit (Ok frame) p = if nat_lt limit (length frame)
     then Err (ser.Msg (codes "Message does not fit a datagram")) else Ok (put limit frame p)
 put_wire limit (Err e) p = Err e
 
--- e is why a message is not put there; memory is asked for where its length fits 32 bits
+-- e is why a message is refused; memory is taken if its length fits 32 bits
 abbrev pub RefusesPut : {T P : Type 0} → ℕ → (T → ℕ) → (P → Wire) → Nlmsghdr T P → Packed → SerError → Type 0
 RefusesPut limit number_of wire m p = IsRefusal ser_ran_out (put_wire limit (message_or_refusal number_of wire m) p)
     (m.header.len < 4294967296)
 
--- the datagrams that these, or this refusal, are
+-- the datagrams, or this refusal
 abbrev pub all_of : Result Packed SerError → Result (List (List ℕ)) SerError
 all_of (Ok p) = Ok (datagrams_of p)
 all_of (Err e) = Err e
 
--- the datagrams, with the end behind the last message; or why there are none
+-- the datagrams, with the end after the last message; or why there are none
 abbrev pub finished : ℕ → Wire → Packed → Result (List (List ℕ)) SerError
 finished limit end p = all_of (put_wire limit end p)

@@ -1,4 +1,4 @@
--- What the flags of a dump's messages and of its end say (the flags of linux/netlink.h).
+-- The flags of a dump's messages and of its end (of linux/netlink.h).
 use Rattle.std.specs.Prelude.{◌≡◌, ◌==◌, Bool, bit_and}
 use Rattle.neli_consts.specs.declared.nlm_f.NlmF.{NlmF}
 
@@ -6,7 +6,7 @@ use Rattle.neli_consts.specs.declared.nlm_f.NlmF.{NlmF}
 abbrev pub is_interrupted : NlmF → Bool
 is_interrupted flags = bit_and flags.0 16 == 16
 
--- DUMP_FILTERED (32): the kernel filtered the dump as was asked
+-- DUMP_FILTERED (32): the kernel filtered the dump as requested
 abbrev pub is_filtered : NlmF → Bool
 is_filtered flags = bit_and flags.0 32 == 32
 

@@ -12,11 +12,11 @@ use neli_wire::{MsgError, NoMemory, SerError, ToBytes};
 use std::alloc::Global;
 use std::mem::replace;
 
-/// The answer to a request for a whole table, as it grows: messages with the flag MULTI, and then the end, which is one
-/// too. They go one after the other into datagrams of at most so many bytes. One that does not fit behind those before
-/// it begins the next datagram, and none is cut.
+/// The answer to a request for a whole table, as it grows: messages with the flag MULTI, and then the end, which has it
+/// too. They follow each other in datagrams of at most so many bytes. A message that does not fit into the last
+/// datagram begins the next one; none is cut.
 ///
-/// A dump of the kernel may begin a datagram sooner, as where a table ends; [`Dump::begin_datagram`] does so.
+/// A dump of the kernel may begin a datagram sooner, as at the end of a table; [`Dump::begin_datagram`] does so.
 #[derive(Drop)]
 pub struct Dump<'b> {
     request: Request<'b>,
@@ -40,12 +40,12 @@ impl<'b> Dump<'b> {
         }
     }
 
-    /// One message more, with the request's number and port, and with these flags and MULTI. A kernel marks with
-    /// DUMP_INTR (0x10) the message at which it finds that the table changed while it was dumped, and no later one, and
-    /// with DUMP_FILTERED (0x20) each message of a dump that it filtered as was asked.
+    /// Adds a message, with the request's number and port, and with these flags and MULTI. A kernel marks with
+    /// DUMP_INTR (0x10) the message at which it finds that the table changed during the dump, and no later one, and
+    /// with DUMP_FILTERED (0x20) each message of a dump that it filtered as requested.
     ///
-    /// Refused as `Msg` where the message's length passes 32 bits, then as the body is refused, then as `Msg` where the
-    /// message alone is longer than a datagram may be; or as `Memory`. A refusal leaves the dump as it was. A kernel
+    /// Refused as `Msg` if the message's length exceeds 32 bits, then as the body is refused, then as `Msg` if the
+    /// message alone is longer than a datagram may be; or as `Memory`. A refusal leaves the dump unchanged. A kernel
     /// ends its dump there, with the code of `EMSGSIZE`, -90.
     pub fn push<T: NlType + Drop, P: ToBytes + Drop>(
         &mut self,
@@ -70,7 +70,7 @@ impl<'b> Dump<'b> {
         self.push_reply(alloc, nl_type, nl_flags | NlmF::MULTI, body)
     }
 
-    /// One message more, with these flags alone: some families, as `netdev`, leave MULTI out before the end.
+    /// Adds a message with only these flags: some families, as `netdev`, leave MULTI out before the end.
     ///
     /// Refused as [`Dump::push`] is.
     pub fn push_reply<T: NlType + Drop, P: ToBytes + Drop>(
@@ -99,7 +99,7 @@ impl<'b> Dump<'b> {
 
     /// Begins a datagram, unless the last one is empty.
     ///
-    /// Refused only where memory runs out, of which an empty one takes none, and then the dump is as it was.
+    /// Refused only if memory runs out; an empty one takes none. Then the dump is unchanged.
     pub fn begin_datagram(&mut self, alloc: Global) -> Result<(), NoMemory>
         ensures request { self.new.request ≡ self.old.request }
         ensures limit { self.new.limit ≡ self.old.limit }
@@ -115,9 +115,9 @@ impl<'b> Dump<'b> {
         Ok(())
     }
 
-    /// The datagrams, after one message more, the end: of type 3 (`NLMSG_DONE`), with these flags and MULTI, the code,
-    /// which is 0 where all went well and below 0 where the dump failed, as -19 for `ENODEV`, and attributes. The end
-    /// may be marked too, as [`Dump::push`] says.
+    /// Returns the datagrams, after one message more, the end: of type 3 (`NLMSG_DONE`), with these flags and MULTI,
+    /// the code, which is 0 for success and below 0 for a failed dump, as -19 for `ENODEV`, and attributes. The end may
+    /// be marked too, like the messages of [`Dump::push`].
     ///
     /// Refused as [`Dump::push`] is.
     pub fn finish(
@@ -182,7 +182,7 @@ impl<'b> Dump<'b> {
 
     /// All the datagrams.
     ///
-    /// Refused only where memory runs out.
+    /// Refused only if memory runs out.
     #[tactic(auto, using(std::proofs::lemmas::List::map_push))]
     fn datagrams(self) -> Result<Vec<Vec<u8>>, NoMemory>
         ensures { IfOk result (λ datagrams. map (λ d. d.items) datagrams.items

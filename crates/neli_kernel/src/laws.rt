@@ -1,4 +1,4 @@
-//! Laws of answers, over the definitions alone. The calls do nothing: their contracts are the laws.
+//! Laws of answers, over the definitions only. The calls do nothing: their contracts are the laws.
 
 ghost use Rattle.std.specs.Prelude.{◌≡◌, ◌≢◌, ◌<◌, ◌+◌, ◌++◌, ◌∷◌, [], ℕ, ℤ, true, All};
 ghost use Rattle.std.specs.Prelude.{Bool, FitsSigned, List, Option, Ok, None, Some, flat_map, length, map, pos};
@@ -40,7 +40,7 @@ pub fn message_is_one_frame<T: NlType, P: ToBytes>()
         (message_with P.Size.wire_length t flags number port payload) bytes }
 {}
 
-/// So an acknowledgement and an error are one message, where the request's number and port fit their fields: of type 2,
+/// So an acknowledgement and an error are one message, if the request's number and port fit their fields: of type 2,
 /// with the request's number, to its port, with the code, the echo and the attributes as payload.
 pub fn answers_are_one_frame()
     ensures acknowledgement { (asked : Asked) (attrs : Attributes) (bytes : List ℕ)
@@ -57,9 +57,9 @@ pub fn answers_are_one_frame()
         → IsWalked (λ n. n) (λ b. Ok b) (error asked code attrs) bytes }
 {}
 
-/// A dump is read as its messages: where the datagrams so far are read as some messages, and without a fault, they are
-/// read as these and one more after one more was put in, whether it begins the next datagram or not. So the datagrams
-/// of a dump are read as all that was put in, in that order, and the end is the last one.
+/// A dump is read as its messages: if the datagrams so far are read as some messages, without a fault, then after one
+/// more message they are read as these and that one, whether it begins the next datagram or not. So the datagrams of a
+/// dump are read as all messages that were put in, in order, and the end is the last one.
 pub fn dump_is_read_as_its_messages()
     ensures nothing { AreRead (datagrams_of ([], [])) [] }
     ensures put { (limit : ℕ) (frame : List ℕ) (m : Lent ℕ) (p q : Packed) (said : List (Lent ℕ))
@@ -78,11 +78,11 @@ pub fn datagrams_keep_the_limit()
         → AreWithin limit (datagrams_of (begun p)) }
 {}
 
-/// A reply is delivered to the handle that asked, once, and to no other one: where a router has the reply's port and
-/// the request's number is still open there, a datagram of the reply's bytes is one message for that handle, with the
+/// A reply is delivered to the requesting handle, once, and to no other one: if a router has the reply's port and the
+/// request's number is still open there, a datagram of the reply's bytes is one message for that handle, with the
 /// body's bytes and zeros up to a multiple of four, and nothing for each other handle and for the one for multicast. So
-/// it is of each message of [`Request::reply`](crate::Request::reply) whose type is neither 2 (an error) nor 3 (the end
-/// of a dump).
+/// is each message of [`Request::reply`](crate::Request::reply) whose type is neither 2 (an error) nor 3 (the end of a
+/// dump).
 pub fn reply_is_delivered<T: NlType, P: ToBytes>()
     ensures one_message { (t : T) (flags : Flags) (number port : ℕ) (body : P) (text bytes : List ℕ)
         → IsReply T.wire_number P.wire P.Size.wire_length t flags number port body text bytes
@@ -101,21 +101,21 @@ pub fn reply_is_delivered<T: NlType, P: ToBytes>()
         → datagram_share port is_open other (cut_of untyped_layout bytes) [] ≡ [] }
 {}
 
-/// Attributes of an extended acknowledgement are read back from their bytes, as the laws below want them: where there
-/// are none, and where each one's length is that of its header and payload and fits 16 bits, and its type is what its
-/// number of 14 bits means. A builder gives an attribute such a length. A type without a name has such a number where
-/// it is 5 or more, and below 16384.
+/// Attributes of an extended acknowledgement are read back from their bytes, as the laws below require: if there are
+/// none, and if each one's length is that of its header and payload and fits 16 bits, and its type is that of its
+/// 14-bit number. A builder sets such a length. A type without a name has such a number if it is 5 or more, and below
+/// 16384.
 pub fn attributes_are_read_back()
     ensures nothing { AreReadBack [] [] }
     ensures plain { (attrs : Attributes) → All IsPlainAttribute attrs
         → (text : List ℕ) × AreReadBack attrs text }
 {}
 
-/// A dump is delivered to the handle that asked, message by message and in order, and to no other one: where its
-/// datagrams are read as some messages, each with the router's port and a number that is still open there, and `ms` are
-/// these as the router keeps them, then the handle of the number gets all of `ms` of the datagrams, one after the
-/// other, and each other handle nothing; the datagrams are cut into them, and without a fault. A message whose type is
-/// neither 2 nor 3 is kept with its bytes as body, and an end with its code and with attributes that are read back.
+/// A dump is delivered to the requesting handle, message by message and in order, and to no other one: if its datagrams
+/// are read as some messages, each with the router's port and a number that is still open there, and `ms` are these as
+/// the router stores them, then the handle of the number gets all of `ms` from the datagrams, one after the other, and
+/// each other handle nothing; the datagrams are cut into them, without a fault. A message whose type is neither 2 nor 3
+/// is stored with its bytes as body, and an end with its code and with attributes that are read back.
 pub fn dump_is_delivered()
     ensures asker { (datagrams : List (List ℕ)) (said : List (Lent ℕ)) (ms : List Untyped)
         (number port : ℕ) (is_open : ℕ → Bool) → AreRead datagrams said
@@ -137,10 +137,10 @@ pub fn dump_is_delivered()
         ≡ Ok (h, payload.DumpExtAck (answer code tt attrs)) }
 {}
 
-/// A dump that was finished is delivered whole: where what was put in is read as some messages, kept as `ms`, with the
-/// request's number and port, the datagrams of [`Dump::finish`](crate::Dump::finish) give the handle of that number
-/// `ms` and then the end with its code and attributes, and each other handle nothing; however they were cut. The
-/// attributes are ones that are read back from their bytes.
+/// A finished dump is delivered whole: if its contents are read as some messages, stored as `ms`, with the request's
+/// number and port, the datagrams of [`Dump::finish`](crate::Dump::finish) deliver to the handle of that number `ms`
+/// and then the end with its code and attributes, and to each other handle nothing; however they were cut. The
+/// attributes must be read back from their bytes.
 pub fn finished_dump_is_delivered()
     ensures read { (limit : ℕ) (asked : Asked) (flags : Flags) (code : ℤ) (attrs : Attributes)
         (text : List ℕ) (p : Packed) (said : List (Lent ℕ)) (datagrams : List (List ℕ))
@@ -175,10 +175,10 @@ pub fn finished_dump_is_delivered()
         p ≡ Ok datagrams → shares asked.port is_open other datagrams ≡ [] }
 {}
 
-/// An acknowledgement is delivered to the handle that asked, once, and to no other one: where a router has the port of
-/// the request's socket and the request's number is still open there, a datagram of its bytes is one message for that
+/// An acknowledgement is delivered to the requesting handle, once, and to no other one: if a router has the port of the
+/// request's socket and the request's number is still open there, a datagram of its bytes is one message for that
 /// handle, an acknowledgement with code 0 that echoes the request's header and has its attributes, and nothing for each
-/// other handle and for the one for multicast. The attributes are ones that are read back from their bytes.
+/// other handle and for the one for multicast. The attributes must be read back from their bytes.
 pub fn acknowledgement_is_delivered()
     ensures one_message { (asked : Asked) (attrs : Attributes) (text bytes : List ℕ)
         → AreReadBack attrs text → IsAnswer asked (acknowledgement asked attrs) bytes
@@ -196,9 +196,9 @@ pub fn acknowledgement_is_delivered()
         → datagram_share asked.port is_open other (cut_of untyped_layout bytes) [] ≡ [] }
 {}
 
-/// An error is delivered to the handle that asked, once, and to no other one, where its code is not 0 and fits 32 bits:
-/// a capped one with that code, the request's header and its attributes, and a whole one with the request's payload as
-/// well, where the request states its own length. The attributes are ones that are read back from their bytes.
+/// An error is delivered to the requesting handle, once, and to no other one, if its code is not 0 and fits 32 bits: a
+/// capped one with that code, the request's header and its attributes, and a whole one with the request's payload too,
+/// if the request states its own length. The attributes must be read back from their bytes.
 pub fn error_is_delivered()
     ensures capped { (asked : Asked) (code : ℤ) (attrs : Attributes) (text bytes : List ℕ)
         → code ≢ pos 0 → FitsSigned w32 code → AreReadBack attrs text
@@ -210,9 +210,9 @@ pub fn error_is_delivered()
         → IsDelivered asked (error asked code attrs) bytes }
 {}
 
-/// A dump keeps the marks that its messages are put in with: DUMP_INTR and DUMP_FILTERED are set in a message of
-/// [`Dump::push`](crate::Dump::push), and in the end of [`Dump::finish`](crate::Dump::finish), where they are in the
-/// flags that it was given, whatever MULTI and ACK_TLVS are.
+/// A dump keeps the marks of its messages: DUMP_INTR and DUMP_FILTERED are set in a message of
+/// [`Dump::push`](crate::Dump::push), and in the end of [`Dump::finish`](crate::Dump::finish), if they are in the flags
+/// of the call, whatever MULTI and ACK_TLVS are.
 pub fn dump_keeps_its_marks<T: NlType, P: ToBytes>()
     ensures message { (asked : Asked) (t : T) (flags : Flags) (body : P) → HasMarksOf flags
         (dump_message P.Size.wire_length asked t flags body).header.flags }
@@ -220,7 +220,7 @@ pub fn dump_keeps_its_marks<T: NlType, P: ToBytes>()
         → HasMarksOf flags (dump_end asked flags code attrs).header.flags }
 {}
 
-/// A message of no operation and one of an overrun are replies as the laws on replies want them, without MULTI and
+/// A message of no operation and one of an overrun are replies as the laws on replies require, without MULTI and
 /// without a body.
 pub fn control_messages_are_replies()
     ensures no_operation { (asked : Asked) (bytes : List ℕ) → IsAddressed asked
@@ -234,8 +234,8 @@ pub fn control_messages_are_replies()
 {}
 
 /// A notification is delivered to multicast, once, and to no handle with a number, whatever its own number and port
-/// are, and whatever port the router has: where it came to a group, a datagram of its bytes is one message for the
-/// handle for multicast, with the body's bytes and zeros up to a multiple of four. So it is of each
+/// are, and whatever port the router has: if it arrived for a group, a datagram of its bytes is one message for the
+/// handle for multicast, with the body's bytes and zeros up to a multiple of four. So is each
 /// [`notification`](crate::notification) whose type is neither 2 nor 3.
 pub fn notification_is_delivered<T: NlType, P: ToBytes>()
     ensures multicast { (t : T) (flags : Flags) (number port : ℕ) (body : P) (text bytes : List ℕ)

@@ -1,10 +1,9 @@
-//! What a kernel answers to a netlink request, as the bytes that it puts on the link: for whoever tests a client
-//! without a kernel.
+//! A kernel's answers to netlink requests, as bytes on the link, for testing a client without a kernel.
 //!
-//! - [`Request`] is a request as the kernel takes it, and makes each answer to it: an acknowledgement, an error, a
+//! - [`Request`] is a request as the kernel receives it, and makes each answer to it: an acknowledgement, an error, a
 //!   reply.
 //! - [`Dump`] is an answer in several messages, which are cut into datagrams.
-//! - [`notification`] is what the kernel sends to groups, unasked.
+//! - [`notification`] is a message that the kernel sends to groups.
 //! - [`ExtAck`] are the attributes of an extended acknowledgement.
 //! - [`laws`]: read as a datagram, an answer is one message.
 //!
@@ -15,11 +14,11 @@
 //!  +-------+-------+-------+-------+-------+-------+-----------------+----- - - -+- - -+----- - - - -+
 //! ```
 //!
-//! That is an error which echoes a request of L bytes whole. An acknowledgement and a capped error echo the header
-//! alone, and their attributes begin at 36. The number and the port are those of the request.
+//! This is an error that echoes a whole request of L bytes. An acknowledgement and a capped error echo only the header,
+//! and their attributes begin at 36. The number and the port are those of the request.
 //!
-//! `specs/Answers.antt` says which message each answer is. It is written as every message is: what its bytes are stands
-//! in `specs/Wires.antt` of `neli_msg`.
+//! `specs/Answers.antt` defines the message of each answer; `specs/Wires.antt` of `neli_msg` defines the bytes of every
+//! message.
 #![tactic(auto)]
 
 mod dump;

@@ -9,9 +9,9 @@ use neli_wire::implementing::length_refusal;
 use neli_wire::{MsgError, SerError, ToBytes};
 use std::alloc::Global;
 
-/// The bytes of a message with this header and payload; its length is computed.
+/// Returns the bytes of a message with this header and payload; its length is computed.
 ///
-/// Refused as `Msg` where the length passes 32 bits, then as the payload is refused, or as `Memory`.
+/// Refused as `Msg` if the length exceeds 32 bits, then as the payload is refused, or as `Memory`.
 pub(crate) fn message<T: NlType + Drop, P: ToBytes + Drop>(
     alloc: Global,
     nl_type: T,

@@ -1,4 +1,4 @@
-//! A request, and what the kernel answers to it.
+//! A request, and the kernel's answers to it.
 
 ghost use Rattle.std.specs.Prelude.{◌≡◌, [], Ok, IfOk, IfErr};
 ghost use Rattle.neli_reader.specs.NlPayload.TheVariants as payload;
@@ -19,13 +19,13 @@ use neli_reader::{
 use neli_wire::{SerError, ToBytes};
 use std::alloc::Global;
 
-/// The attributes of an extended acknowledgement, which a socket gets that asked for them (`NETLINK_EXT_ACK`).
+/// The attributes of an extended acknowledgement, for a socket that requested them (`NETLINK_EXT_ACK`).
 pub type ExtAck = GenlBuffer<NlmsgerrAttr, Buffer>;
 
-/// A request as the kernel takes it: who sent it, its header, and its payload's bytes.
+/// A request as the kernel receives it: its sender, its header, and its payload's bytes.
 ///
-/// What is answered goes to the port of the socket that sent the request. The request's own header may have another
-/// one: many clients leave it 0. An echo has the header as it came.
+/// Answers go to the port of the socket that sent the request. The request's own header may have another one: many
+/// clients leave it 0. An echo has the header as it arrived.
 #[derive(Clone, Copy, Debug)]
 pub struct Request<'b> {
     port: u32,
@@ -97,62 +97,62 @@ impl<'b> Request<'b> {
         self.port
     }
 
-    /// Its header, as it came.
+    /// Its header, as it arrived.
     pub fn header(&self) -> &NlmsghdrAck<u16>
         ensures { result.now ≡ self.now.header }
     {
         &self.header
     }
 
-    /// Its payload, as it came. It lives as long as the bytes that it was read from.
+    /// Its payload, as it arrived, lent from the bytes that it was read from.
     pub fn payload(&self) -> &'b [u8]
         ensures { result.now ≡ self.now.payload.now }
     {
         self.payload
     }
 
-    /// Whether the kernel acts on it: it has the flag REQUEST, and its type is none of control messages, which are
-    /// below 16 (`NLMSG_MIN_TYPE`). The kernel passes over another message, but acknowledges it where that is wanted.
+    /// Whether the kernel acts on it: it has the flag REQUEST, and its type is no control message's: those are below 16
+    /// (`NLMSG_MIN_TYPE`). The kernel skips any other message, but acknowledges it if requested.
     pub fn is_handled(&self) -> bool
         ensures { result ≡ is_handled self.now }
     {
         self.header.nl_flags().contains(NlmF::REQUEST) && *self.header.nl_type() >= 16
     }
 
-    /// Whether it wants an acknowledgement. An error is answered in any case, and in place of one.
+    /// Whether it requests an acknowledgement. An error is sent in any case, and in place of one.
     pub fn wants_acknowledgement(&self) -> bool
         ensures { result ≡ has_flags self.now 4 }
     {
         self.header.nl_flags().contains(NlmF::ACK)
     }
 
-    /// Whether it wants a dump, as generic netlink reads it: both bits of `NLM_F_DUMP` are set. Only in requests that
-    /// get something do they mean this.
+    /// Whether it requests a dump, as generic netlink reads it: both bits of `NLM_F_DUMP` are set. They have this
+    /// meaning only in get requests.
     pub fn wants_dump(&self) -> bool
         ensures { result ≡ has_flags self.now 768 }
     {
         self.header.nl_flags().contains(NlmF::DUMP)
     }
 
-    /// Whether it wants a dump, as routing netlink reads it: its type is one that gets something, which is 2 modulo 4,
-    /// as `RTM_GETLINK`, 18, and a bit of `NLM_F_DUMP` is set, both or one of them. In other types these bits have
-    /// other meanings, as EXCL (0x200) where something is made.
+    /// Whether it requests a dump, as routing netlink reads it: its type is that of a get, which is 2 modulo 4, as
+    /// `RTM_GETLINK`, 18, and a bit of `NLM_F_DUMP` is set, both or one of them. In other types these bits have other
+    /// meanings, as EXCL (0x200) in a request that creates an object.
     pub fn wants_routing_dump(&self) -> bool
         ensures { result ≡ wants_routing_dump self.now }
     {
         *self.header.nl_type() % 4 == 2 && self.header.nl_flags().intersects(NlmF::DUMP)
     }
 
-    /// Whether it wants to be told what has changed, as groups are.
+    /// Whether it requests an echo: the notification of its change, as groups get it.
     pub fn wants_echo(&self) -> bool
         ensures { result ≡ has_flags self.now 8 }
     {
         self.header.nl_flags().contains(NlmF::ECHO)
     }
 
-    /// The acknowledgement: code 0, and of the request its header alone, with these attributes.
+    /// Returns the acknowledgement: code 0, and of the request only its header, with these attributes.
     ///
-    /// Refused as `Msg` where the length passes 32 bits, or as `Memory`.
+    /// Refused as `Msg` if the length exceeds 32 bits, or as `Memory`.
     pub fn acknowledgement(&self, alloc: Global, ext_ack: ExtAck) -> Result<Vec<u8>, SerError>
         ensures bytes { IfOk result (λ bytes. message_or_refusal (λ n. n) (λ b. Ok b)
             (acknowledgement self.now ext_ack) ≡ Ok bytes.items) }
@@ -169,10 +169,10 @@ impl<'b> Request<'b> {
         message(alloc, 2, flags, self.number(), self.port, payload)
     }
 
-    /// The error with this code, as -22 for `EINVAL`, to a socket that wants errors capped (`NETLINK_CAP_ACK`): of the
-    /// request its header alone, with the length of the whole, and these attributes.
+    /// Returns the error with this code, as -22 for `EINVAL`, for a socket that requests capped errors
+    /// (`NETLINK_CAP_ACK`): of the request only its header, with the length of the whole, and these attributes.
     ///
-    /// Refused as `Msg` where the length passes 32 bits, or as `Memory`.
+    /// Refused as `Msg` if the length exceeds 32 bits, or as `Memory`.
     pub fn capped_error(
         &self,
         alloc: Global,
@@ -194,10 +194,10 @@ impl<'b> Request<'b> {
         message(alloc, 2, flags, self.number(), self.port, payload)
     }
 
-    /// The error with this code, as -22 for `EINVAL`: the request whole, with zeros up to a multiple of four, and these
-    /// attributes.
+    /// Returns the error with this code, as -22 for `EINVAL`: the whole request, with zeros up to a multiple of four,
+    /// and these attributes.
     ///
-    /// Refused as `Msg` where the length passes 32 bits, or as `Memory`.
+    /// Refused as `Msg` if the length exceeds 32 bits, or as `Memory`.
     pub fn error(&self, alloc: Global, code: i32, ext_ack: ExtAck) -> Result<Vec<u8>, SerError>
         ensures bytes { IfOk result (λ bytes. message_or_refusal (λ n. n) (λ b. Ok b)
             (error self.now code ext_ack) ≡ Ok bytes.items) }
@@ -210,9 +210,9 @@ impl<'b> Request<'b> {
         message(alloc, 2u16, flags, self.number(), self.port, payload)
     }
 
-    /// One reply, with the request's sequence number. What a socket gets that asked for an echo of a change is one too.
+    /// Returns one reply, with the request's sequence number. The echo of a change is such a reply too.
     ///
-    /// Refused as `Msg` where the length passes 32 bits, then as the body is refused, or as `Memory`.
+    /// Refused as `Msg` if the length exceeds 32 bits, then as the body is refused, or as `Memory`.
     pub fn reply<T: NlType + Drop, P: ToBytes + Drop>(
         &self,
         alloc: Global,
@@ -235,9 +235,9 @@ impl<'b> Request<'b> {
         )
     }
 
-    /// A message of type 1 (`NLMSG_NOOP`), which says nothing: without a flag and without a body.
+    /// Returns a message of type 1 (`NLMSG_NOOP`), which has no meaning: without a flag and without a body.
     ///
-    /// Refused as `Memory` alone.
+    /// Refused only as `Memory`.
     pub fn no_operation(&self, alloc: Global) -> Result<Vec<u8>, SerError>
         ensures bytes { IfOk result (λ bytes. message_or_refusal (λ n. n) (λ b. Ok b)
             (control self.now 1) ≡ Ok bytes.items) }
@@ -246,9 +246,9 @@ impl<'b> Request<'b> {
         self.reply(alloc, 1u16, NlmF::empty(), Buffer::new(alloc))
     }
 
-    /// A message of type 4 (`NLMSG_OVERRUN`), that data was lost: without a flag and without a body.
+    /// Returns a message of type 4 (`NLMSG_OVERRUN`), which reports lost data: without a flag and without a body.
     ///
-    /// Refused as `Memory` alone.
+    /// Refused only as `Memory`.
     pub fn overrun(&self, alloc: Global) -> Result<Vec<u8>, SerError>
         ensures bytes { IfOk result (λ bytes. message_or_refusal (λ n. n) (λ b. Ok b)
             (control self.now 4) ≡ Ok bytes.items) }

@@ -1,4 +1,4 @@
-//! What the kernel sends unasked.
+//! Notifications: messages that the kernel sends to groups.
 
 ghost use Rattle.std.specs.Prelude.{◌≡◌, Ok, IfOk, IfErr};
 ghost use Rattle.neli_reader.specs.NlPayload.TheVariants as payload;
@@ -10,11 +10,11 @@ use neli_reader::NlPayload;
 use neli_wire::{SerError, ToBytes};
 use std::alloc::Global;
 
-/// A message to groups, with the sequence number of the request that caused it and the port of the socket that sent
-/// this, or with 0 and 0 where no request did or the kernel does not say which. The groups are no part of the bytes; a
-/// socket gets them beside the datagram, as a router's `processing_loop` does.
+/// Returns a message to groups, with the sequence number of the request that caused it and the port of its socket, or
+/// with 0 and 0 if no request did or the kernel does not report which. The groups are no part of the bytes; a socket
+/// gets them beside the datagram, as a router's `processing_loop` does.
 ///
-/// Refused as `Msg` where the length passes 32 bits, then as the body is refused, or as `Memory`.
+/// Refused as `Msg` if the length exceeds 32 bits, then as the body is refused, or as `Memory`.
 pub fn notification<T: NlType + Drop, P: ToBytes + Drop>(
     alloc: Global,
     nl_type: T,

@@ -1,4 +1,4 @@
--- What came for a handle since its request was sent.
+-- The messages that arrived for a handle since its request was sent.
 use Rattle.std.proofs.Common.{◌≡◌, ◌<◌, ◌≤◌, ℕ, suc, ◌++◌, All, Bool, true, false, ◌||◌, ◌&&◌, not, List}
 use Rattle.std.proofs.Common.{[], ◌∷◌, map, Some, None, Result, refl, sym, ap, subst, ◌∙◌, append_assoc, arith}
 use Rattle.std.specs.Prelude.{nat_le, ◌==◌, if◌then◌else◌}
@@ -107,7 +107,7 @@ not-open false closed is = refl
 -- ---- histories, one event longer
 
 module _ {ST SP RT RP : Type 0} (port : ℕ) where
-  -- what is known of a handle that was given: its number, and whether it needs an acknowledgement
+  -- the facts about a handle that exists: its number, and whether it needs an acknowledgement
   pub record Keeps (j number : ℕ) (needs : Bool) (h : History ST SP RT RP) : Type 0 where
     pub given : suc j ≤ requests_sent h
     pub number_is : number_of (suc j) h ≡ number
@@ -123,7 +123,7 @@ module _ {ST SP RT RP : Type 0} (port : ℕ) where
         needs_is = kept-by (is_sent e.1) (suc j == suc (requests_sent h)) _ (needs_of (suc j) h) other ∙ k.needs_is;
       }
 
-  -- what a command hands over to it
+  -- the deliveries of a command to it
   handed : (j number : ℕ) (h : History ST SP RT RP) (c : Command ST SP) → number_of (suc j) h ≡ number
       → Answers port h c → handed_over port (suc j) c h ≡ map message (brought number c)
   handed j number h (command.Datagram b []) is a =
@@ -144,7 +144,7 @@ module _ {ST SP RT RP : Type 0} (port : ℕ) where
       ∙ ap (λ (b : Bool). deliveries port k h ++ (if b then handed_over port k e.0 h else [])) opened
       ∙ ap (λ (xs : List Delivery). deliveries port k h ++ (if live then xs else [])) hands
 
-  -- all that came after a history in which it was given
+  -- all that arrived after a history in which it exists
   record Came (j number : ℕ) (needs : Bool) (before later : History ST SP RT RP) : Type 0 where
     keeps : Keeps j number needs (later ++ before)
     delivered : deliveries port (suc j) (later ++ before)
@@ -173,7 +173,7 @@ module _ {ST SP RT RP : Type 0} (port : ℕ) where
             (sym (map-append message (came number later) (brought number e.0)));
       }
 
-  -- ---- nothing came before the request was sent
+  -- ---- nothing arrived before the request was sent
 
   fresh-more : (k : ℕ) (e : Event ST SP RT RP) (h : History ST SP RT RP) → nat_le k (requests_sent h) ≡ false
       → deliveries port k (e ∷ h) ≡ deliveries port k h
@@ -233,7 +233,7 @@ module _ {ST SP RT RP : Type 0} (port : ℕ) where
 
 module _ {ST SP K P V : Type 0} (type_of : ℕ → K) (number_in : K → ℕ) (view : P → V) (size : P → ℕ) (read : List ℕ
     → Result V DeError) (back : (n : ℕ) → n < 65536 → number_in (type_of n) ≡ n) where
-  -- a whole answer came, and perhaps more after it
+  -- a whole answer arrived, and perhaps more after it
   pub read-before : (port : ℕ) (t : ST) (flags : NlmF) (p : NlPayload ST SP) (sent : Bytes)
       (before later : History ST SP K P) (o : Outcome ST SP K P) (us more : List Untyped)
       → is_closed (handle_after before) (later ++ history_sent before t flags p sent) ≡ false

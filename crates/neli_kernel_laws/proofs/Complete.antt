@@ -1,4 +1,4 @@
--- The simulator's answers are whole, and its datagrams bring the messages of their number.
+-- The simulator's answers are whole, and its datagrams deliver the messages of their number.
 use Rattle.std.proofs.Common.{◌≡◌, ◌≢◌, ◌<◌, ℕ, ◌++◌, All, Bool, true, false, ◌||◌, not, List}
 use Rattle.std.proofs.Common.{[], ◌∷◌, None, refl, sym, ap, subst, ◌∙◌, inl, inr, arith}
 use Rattle.std.specs.Prelude.{ℤ, flat_map, nat_eq, ◌==◌}

@@ -1,4 +1,4 @@
--- Requests and the datagrams that came for them.
+-- Requests and the datagrams that arrived for them.
 use Rattle.std.proofs.Common.{◌≡◌, ◌<◌, ◌≤◌, ℕ, zero, suc, ◌++◌, All, Bool, true, false, ◌&&◌, ◌||◌}
 use Rattle.std.proofs.Common.{List, [], ◌∷◌, None, Result, refl, sym, ap, subst, ◌∙◌, inl, inr, arith}
 use Rattle.std.specs.Prelude.{◌==◌, ◌⊎◌, flat_map}
@@ -49,7 +49,7 @@ any-known (suc n) j p le is = by (last-or-before j n le) (λ before. any-known n
     by (inl same) known = or_first (p (suc n)) (any_upto n p) (ap (λ (k : ℕ). p (suc k)) (sym same) ∙ is)
     by (inr before) known = or_second (p (suc n)) (any_upto n p) (known before)
 
--- ---- what came, by datagrams
+-- ---- the messages that arrived, by datagrams
 
 module _ {ST SP : Type 0} (number : ℕ) where
   brought-is : (c : Command ST SP) → brought number c ≡ flat_map (numbered number) (taken_with number c)
@@ -146,7 +146,7 @@ IsUnbroken d = (cut_of untyped_layout d).1 ≡ None
 
 module _ {ST SP K P V : Type 0} (type_of : ℕ → K) (number_in : K → ℕ) (view : P → V) (size : P → ℕ) (read : List ℕ
     → Result V DeError) (back : (n : ℕ) → n < 65536 → number_in (type_of n) ≡ n) where
-  -- a whole answer came, and perhaps more after it
+  -- a whole answer arrived, and perhaps more after it
   pub served-before : (x : Exchange ST SP K P) (asked : Request) (datagrams : List (List ℕ)) (us more : List Untyped)
       → flat_map messages_cut datagrams ≡ us ++ more → All (λ d. (cut_of untyped_layout d).1 ≡ None) datagrams
       → All (IsFor asked.header.sequence_number asked.port) (us ++ more) → IsComplete (needs_ack x.flags) us

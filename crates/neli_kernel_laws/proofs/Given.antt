@@ -1,4 +1,4 @@
--- A whole answer is given in turn.
+-- A whole answer is returned in turn.
 use Rattle.std.proofs.Common.{◌≡◌, ◌<◌, ℕ, ◌++◌, All, Bool, true, false, List, [], ◌∷◌}
 use Rattle.std.proofs.Common.{map, Result, Ok, Err, refl, sym, subst, ◌∙◌, inl, inr}
 use Rattle.std.proofs.lemmas.List.{append-nil, length-map}
@@ -17,9 +17,9 @@ use Rattle.neli_kernel_laws.specs.Turns.{IsInTurn, IsReadAs}
 use Rattle.neli_kernel_laws.proofs.Turns.{AreRead, InTurn, alone-last, over-turn, pair-turn, quiet-turn, single-last}
 use Rattle.neli_kernel_laws.proofs.Typed.{part-quiet, read-ack, read-answer, whole-single}
 
--- ---- what is given at the last place
+-- ---- the item at the last place
 
--- an acknowledgement that is needed is given as it is, after a single reply or not
+-- a needed acknowledgement is returned as it is, after a single reply or not
 ack-by : {K P : Type 0} (after : Bool) (m : Nlmsghdr K P) (p : NlPayload K P) → is_acknowledgement p ≡ true
     → last_item_of_payload true after m p ≡ Ok m
 ack-by after m (payload.Ack e) is = refl
@@ -29,7 +29,7 @@ ack-by after m (payload.DumpExtAck e) is = cc
 ack-by after m (payload.Payload p) is = cc
 ack-by after m payload.Empty is = cc
 
--- what else is given is the same, whether an acknowledgement is needed or not
+-- any other item is the same, whether an acknowledgement is needed or not
 other-by : {K P : Type 0} (needs : Bool) (m : Nlmsghdr K P) (p : NlPayload K P) → is_acknowledgement p ≡ false
     → last_item_of_payload needs false m p ≡ last_item_of_payload true false m p
 other-by needs m (payload.Ack e) is = cc
@@ -39,7 +39,7 @@ other-by needs m (payload.DumpExtAck e) is = refl
 other-by needs m (payload.Payload p) is = refl
 other-by needs m payload.Empty is = refl
 
--- what is no answer is no acknowledgement
+-- a message that is no answer is no acknowledgement
 no-ack : {K P : Type 0} (p : NlPayload K P) → is_answer p ≡ false → is_acknowledgement p ≡ false
 no-ack (payload.Ack e) none = cc
 no-ack (payload.Err e) none = refl
@@ -76,7 +76,7 @@ module _ {K P V : Type 0} (type_of : ℕ → K) (number_of : K → ℕ) (view : 
   )
   answer-over u is (Err e) xs read_is = (alone-last number_of true true (Err e) xs refl, refl)
 
-  -- an error, where none is
+  -- an error, if none is needed
   error-over : (u : Untyped) → is_answer u.1 ≡ true → is_acknowledgement u.1 ≡ false → (x : Item K P)
       (xs : List (Item K P)) → IsRead u x
       → (last_place number_of false true (x ∷ xs) ≡ 0) × (last_item false false x ≡ last_item true false x)
@@ -86,7 +86,7 @@ module _ {K P V : Type 0} (type_of : ℕ → K) (number_of : K → ℕ) (view : 
   )
   error-over u is none (Err e) xs read_is = (alone-last number_of false true (Err e) xs refl, refl)
 
-  -- a whole reply, where no acknowledgement is needed
+  -- a whole reply, if no acknowledgement is needed
   whole-over : (u : Untyped) → ((m : Nlmsghdr K P) → IsRead u (Ok m)
       → (ends_alone {K = K} {P = P} (Ok m) ≡ false) × (is_single {K = K} {P = P} number_of true (Ok m) ≡ true))
       → (x : Item K P) (xs : List (Item K P)) → IsRead u x → (last_place number_of false true (x ∷ xs) ≡ 0)
@@ -144,7 +144,7 @@ module _ {K P V : Type 0} (type_of : ℕ → K) (number_of : K → ℕ) (view : 
       subst (λ (xs : List Untyped). Turn needs xs later) (sym c.4)
       (parts-turn needs c.0 c.1 later c.2 (ending-turn needs c.1 later c.3))
 
-  -- whatever came later
+  -- whatever arrived later
   pub given-before : (needs : Bool) (us later : List Untyped) (given : List (Item K P)) (r : Reply K P)
       → IsComplete needs us
       → IsNextAnswer type_of number_of view size read needs true (map message (us ++ later)) given r

@@ -1,4 +1,4 @@
--- What came to groups, and the reads of the handle for multicast.
+-- Datagrams that arrived for groups, and the reads of the handle for multicast.
 use Rattle.std.proofs.Common.{◌≡◌, ℕ, suc, ◌++◌, Bool, true, false, List, [], ◌∷◌, map, length}
 use Rattle.std.proofs.Common.{None, Result, Ok, Err, refl, sym, ap, subst, ◌∙◌, arith}
 use Rattle.std.specs.Prelude.{◌==◌, if◌then◌else◌, nat_le}
@@ -45,7 +45,7 @@ zero-suc : (n : ℕ) → (0 == suc n) ≡ false
 zero-suc n = grind (arith, nat_tests)
 
 module _ {ST SP : Type 0} where
-  -- the messages that a command brings to groups
+  -- the messages for groups in a command
   abbrev heard_by : Command ST SP → List Untyped
   heard_by c = messages_cut_of (taken_for_groups c)
 
@@ -63,7 +63,7 @@ module _ {ST SP RT RP : Type 0} (port : ℕ) where
   pub groups-open : (h : History ST SP RT RP) → is_closed 0 h ≡ false → is_handle_open 0 h ≡ true
   groups-open h closed = open-by (nat_le 0 (requests_sent h)) (is_closed 0 h) (zero-le (requests_sent h)) closed
 
-  -- no request is its own
+  -- it has no request
   pub groups-need : (h : History ST SP RT RP) → needs_of 0 h ≡ false
   groups-need [] = refl
   groups-need (e ∷ h) =
@@ -86,7 +86,7 @@ module _ {ST SP RT RP : Type 0} (port : ℕ) where
 
 -- ---- its reads
 
--- an error of the other side and an acknowledgement are given as errors
+-- an error of the other side and an acknowledgement are returned as errors
 answer-err : {K P : Type 0} (m : Nlmsghdr K P) (p : NlPayload K P) → is_answer p ≡ true
     → is_err (last_item_of_payload false false m p) ≡ true
 answer-err m (payload.Ack e) is = refl
@@ -96,7 +96,7 @@ answer-err m (payload.DumpExtAck e) is = cc
 answer-err m (payload.Payload p) is = cc
 answer-err m payload.Empty is = cc
 
--- another message as it is
+-- any other message is returned as it is
 other-given : {K P : Type 0} (m : Nlmsghdr K P) (p : NlPayload K P) → is_answer p ≡ false
     → last_item_of_payload false false m p ≡ Ok m
 other-given m (payload.Ack e) is = cc
@@ -143,7 +143,7 @@ module _ {U K P : Type 0} (number_of : K → ℕ) (IsRead : U → Item K P → T
 
   module _ (u : U) (us : List U) (x : Item K P) (xs : List (Item K P)) (read : IsRead u x) (reads : AreRead IsRead us
       xs) where
-    -- a message after which others are given
+    -- a message after which reads return others
     quiet-heard : (given : List (Item K P)) (r : Reply K P) → ends_alone x ≡ false → InHeardTurn us
         → WereAnswers number_of false false (x ∷ xs) given
         → answer number_of false false (x ∷ xs) (length given) ≡ r

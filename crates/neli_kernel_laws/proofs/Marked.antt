@@ -1,4 +1,4 @@
--- What a message that is given says of the one that was kept: its flags, and the code of a dump's end.
+-- The marks that a returned message has from the stored one: its flags, and the code of a dump's end.
 use Rattle.std.proofs.Common.{◌≡◌, ◌<◌, ℕ, Bool, true, false, List, length, Option, Some, None, Result, Ok, Err}
 use Rattle.std.proofs.Common.{refl, sym, subst, ◌∙◌}
 use Rattle.std.specs.List.{list_any, slice_get}
@@ -25,7 +25,7 @@ use Rattle.neli_kernel_laws.specs.Turns.{IsInTurn, IsReadAs, IsReplyOrEnd, is_er
 use Rattle.neli_kernel_laws.proofs.Turns.{item_is}
 use Rattle.neli_kernel_laws.proofs.Typed.{read-flags}
 
--- ---- a message that is given is what its place is read as
+-- ---- a returned message is the reading of its place
 
 last-same : {K P : Type 0} (m given : Nlmsghdr K P) (p : NlPayload K P) → last_item_of_payload true false m p ≡ Ok given
     → m ≡ given

@@ -81,7 +81,7 @@ module _ {K P : Type 0} (number_of : K → ℕ) (needs numbered : Bool) where
       → answer_of (x ∷ xs) (suc i) ≡ answer_of xs i
   quiet-suc x xs i alone single = quiet-suc-at x xs i (slice_get xs i) alone single
 
-  -- where the answers end at the first item
+  -- if the answers end at the first item
   pub over-zero : (x : Item K P) (xs : List (Item K P)) → last_of (x ∷ xs) ≡ 0
       → answer_of (x ∷ xs) 0 ≡ reply.Item (last_item needs false x)
   over-zero x xs is = rw (is, lt_zero (single_place number_of numbered (x ∷ xs))) refl
@@ -101,15 +101,15 @@ module _ {K P : Type 0} (number_of : K → ℕ) (needs numbered : Bool) where
   pub waits : (i : ℕ) → answer_of [] i ≡ reply.Waits
   waits i = elim needs as (λ b. answer {P = P} number_of b numbered [] i ≡ reply.Waits) [ true ↦ refl | false ↦ refl ]
 
--- a single reply ends them where no acknowledgement is needed
+-- a single reply ends them if no acknowledgement is needed
 pub single-last : {K P : Type 0} (number_of : K → ℕ) (x : Item K P) (xs : List (Item K P))
     → is_single number_of true x ≡ true → last_place number_of false true (x ∷ xs) ≡ 0
 single-last number_of x xs single = rw single (zero_min _)
 
--- ---- reads of a handle to which these were delivered
+-- ---- reads of a handle with these deliveries
 
 module _ {U K P : Type 0} (IsRead : U → Item K P → Type 0) where
-  -- the items are what the first of these are read as
+  -- the items are the readings of the first of these
   abbrev pub AreRead : List U → List (Item K P) → Type 0
   AreRead us [] = ⊤
   AreRead [] (item ∷ items) = ⊥
@@ -123,7 +123,7 @@ module _ {U K P : Type 0} (IsRead : U → Item K P → Type 0) where
       × (r ≡ reply.Waits → length readings ≡ length us)
 
 module _ {U K P : Type 0} (number_of : K → ℕ) (needs : Bool) (IsRead : U → Item K P → Type 0) where
-  -- every read is answered by what its turn says, whatever came later
+  -- every read returns the reply of its turn, whatever arrived later
   abbrev pub InTurn : List U → List U → Type 0
   InTurn us later = (given : List (Item K P)) (r : Reply K P) → IsNext IsRead number_of needs (us ++ later) given r
       → IsInTurn IsRead us given r
@@ -133,7 +133,7 @@ module _ {U K P : Type 0} (number_of : K → ℕ) (needs : Bool) (IsRead : U →
   IsQuiet u = (m : Nlmsghdr K P) → IsRead u (Ok m) → (ends_alone {K = K} {P = P} (Ok m) ≡ false)
       × (is_single number_of true (Ok m) ≡ false)
 
-  -- what is read of it ends them, and is given as it is or as an error
+  -- the reading of it ends them, and is returned as it is or as an error
   abbrev pub IsOver : U → Type 0
   IsOver u = (x : Item K P) (xs : List (Item K P)) → IsRead u x → (last_place number_of needs true (x ∷ xs) ≡ 0)
       × (last_item needs false x ≡ last_item true false x)
@@ -144,7 +144,7 @@ zero_not_suc n e = cc
 pub suc_is : (m n : ℕ) → suc m ≡ suc n → m ≡ n
 suc_is m n e = cc
 
--- what does not end the answers is given as it is
+-- an item that does not end the answers is returned as it is
 quiet-by : {K P : Type 0} (m : Nlmsghdr K P) (p : NlPayload K P) → is_answer p ≡ false → last_item_of_payload true false m p ≡ Ok m
 quiet-by m (payload.Ack e) alone = refl
 quiet-by m (payload.Err e) alone = cc
@@ -217,7 +217,7 @@ module _ {U K P : Type 0} (number_of : K → ℕ) (needs : Bool) (IsRead : U →
       ended IsRead (list_any is_err (g ∷ given)) r (sym is
       ∙ over-suc number_of needs true x xs (length given) (over x xs are.0).0)
 
--- a single reply, and what is after it, where an acknowledgement is needed
+-- a single reply, and the item after it, if an acknowledgement is needed
 module _ {K P : Type 0} (number_of : K → ℕ) (x : Item K P) (alone : ends_alone x ≡ false)
     (single : is_single number_of true x ≡ true) where
   pair-first : (xs : List (Item K P)) → answer number_of true true (x ∷ xs) 0 ≡ reply.Item x

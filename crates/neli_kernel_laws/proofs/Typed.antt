@@ -1,4 +1,4 @@
--- What a message is read as: of the same class as the message that was kept.
+-- The reading of a message: of the same class as the stored message.
 use Rattle.std.proofs.Common.{◌≡◌, ◌<◌, ℕ, Bool, true, false, ◌||◌, ◌&&◌, not, List, Result, Ok, refl, sym, ap, ◌∙◌}
 use Rattle.std.specs.Prelude.{nat_eq, ◌==◌}
 use Rattle.std.proofs.lemmas.Bool.{ne_eqb}
@@ -83,7 +83,7 @@ module _ {K P V : Type 0} (type_of : ℕ → K) (number_of : K → ℕ) (view : 
       ap (λ (f : NlmF). not (is_multi f) || (number_of m.header.message_type == 3)) read-flags
       ∙ ap (λ (n : ℕ). not (is_multi u.0.flags) || (n == 3)) (read-type fits)
 
-  -- a single reply or not, where it is no answer
+  -- a single reply or not, if it is no answer
   read-single : is_answer u.1 ≡ false → u.0.message_type < 65536
       → is_single {K = K} {P = P} number_of true (Ok m) ≡ is_whole_reply (λ n. n) (message_from u)
   read-single none fits = ap (λ (b : Bool). not b && is_whole_reply number_of m) (read-answer ∙ none) ∙ read-whole fits

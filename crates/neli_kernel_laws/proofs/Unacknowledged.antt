@@ -1,4 +1,4 @@
--- A whole reply that was to be acknowledged, and another message after it.
+-- A whole reply that needed an acknowledgement, and another message after it.
 use Rattle.std.proofs.Common.{◌≡◌, ◌<◌, ℕ, suc, true, false, List, [], ◌∷◌, map, length}
 use Rattle.std.proofs.Common.{Result, Ok, Err, refl, sym, ap, ◌∙◌}
 use Rattle.neli_wire.specs.DeError.{DeError}
@@ -19,7 +19,7 @@ use Rattle.neli_kernel_laws.proofs.Turns.{alone-last, item_is, over-zero, pair-p
 use Rattle.neli_kernel_laws.proofs.Turns.{suc_is, waits, zero_not_suc}
 use Rattle.neli_kernel_laws.proofs.Typed.{read-ack, whole-single}
 
--- what is no acknowledgement is given as an error after a whole reply
+-- a message that is no acknowledgement is returned as an error after a whole reply
 no-ack-error : {K P : Type 0} (m : Nlmsghdr K P) (p : NlPayload K P) → is_acknowledgement p ≡ false
     → last_item_of_payload true true m p ≡ Err router.NoAck
 no-ack-error m (payload.Ack e) is = cc
@@ -35,7 +35,7 @@ none-yet number_of g is = let w : reply.Waits ≡ reply.Item g = sym (waits numb
 module _ {K P V : Type 0} (type_of : ℕ → K) (number_of : K → ℕ) (view : P → V) (size : P → ℕ) (read : List ℕ
     → Result V DeError) (back : (n : ℕ) → n < 65536 → number_of (type_of n) ≡ n) (u b : Untyped) (more : List Untyped)
     (whole : IsWhole u) where
-  -- the replies to a handle to which these were delivered
+  -- the replies to a handle with these deliveries
   abbrev IsNext : List (Item K P) → Reply K P → Type 0
   IsNext = IsNextAnswer type_of number_of view size read true true (map message (u ∷ b ∷ more))
 
@@ -47,7 +47,7 @@ module _ {K P V : Type 0} (type_of : ℕ → K) (number_of : K → ℕ) (view : 
     no-ack-error n n.payload (read-ack type_of number_of view size read back b n is ∙ none),
   )
 
-  -- the first reading is the message that was given
+  -- the first reading is the message that was returned
   not-error : (e : RouterError K P) (xs : List (Item K P)) (m : Nlmsghdr K P)
       → answer number_of true true (Err e ∷ xs) 0 ≡ reply.Item (Ok m) → ⊥
   not-error e xs m is =

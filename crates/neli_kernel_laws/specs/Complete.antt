@@ -1,4 +1,4 @@
--- Which messages are a whole answer to a request, as a router keeps them.
+-- The messages that are a whole answer to a request, as a router stores them.
 use Rattle.std.specs.Prelude.{◌≡◌, ◌≢◌, ◌<◌, ◌⊎◌, ◌++◌, Bool, true, false, All, List, [], ◌∷◌}
 use Rattle.neli_reader.specs.Kinds.{is_multi}
 use Rattle.neli_reader.specs.Messages.{message_from}
@@ -29,7 +29,7 @@ pub record IsWhole (u : Untyped) : Type 0 where
   pub whole : is_whole_reply (λ n. n) (message_from u) ≡ true
   pub type_fits : u.0.message_type < 65536
 
--- what stands last in the answer to a request that needs an acknowledgement, or needs none: an error; the
+-- the last message of an answer to a request that needs an acknowledgement, or needs none: an error; the
 -- acknowledgement, after a whole reply or not; or the whole reply
 abbrev pub IsEnding : Bool → List Untyped → Type 0
 IsEnding true [] = ⊥
@@ -40,7 +40,7 @@ IsEnding false [] = ⊥
 IsEnding false (u ∷ []) = IsError u ⊎ IsWhole u
 IsEnding false (u ∷ a ∷ more) = ⊥
 
--- the whole answer: messages of a dump, or none, and what stands last
+-- the whole answer: messages of a dump, or none, and the last message
 abbrev pub IsComplete : Bool → List Untyped → Type 0
 IsComplete needs us =
     (parts : List Untyped) × (ending : List Untyped) × All IsPart parts × IsEnding needs ending × (us ≡ parts ++ ending)

@@ -1,4 +1,4 @@
--- Datagrams that came to groups, in a history.
+-- Datagrams that arrived for groups, in a history.
 use Rattle.std.specs.Prelude.{◌≡◌, ⊤, ◌++◌, ◌∷◌, ℕ, List, [], flat_map}
 use Rattle.neli_wire.specs.Writing.{Wire}
 use Rattle.neli_consts.specs.declared.nlm_f.NlmF.{NlmF}
@@ -11,7 +11,7 @@ use Rattle.neli_runs.specs.History.{History}
 use Rattle.neli_kernel.specs.Delivered.{IsReply, reply_kept}
 
 module _ {ST SP : Type 0} where
-  -- a datagram that is taken in, where it came to groups
+  -- a datagram that is taken in, if it arrived for groups
   abbrev pub taken_for_groups : Command ST SP → List (List ℕ)
   taken_for_groups (command.Datagram b []) = []
   taken_for_groups (command.Datagram b (g ∷ groups)) = b.items ∷ []
@@ -43,7 +43,7 @@ module _ {T P : Type 0} (number_of : T → ℕ) (wire : P → Wire) (size : P �
     pub is : IsReply number_of wire size message_type flags number port body text datagram
     pub kept_is : u ≡ reply_kept (number_of message_type) flags number port text
 
-  -- so is each of the datagrams, and `us` are their messages
+  -- each of the datagrams is one, and `us` are their messages
   abbrev pub AreNotifications : List (List ℕ) → List Untyped → Type 0
   AreNotifications [] [] = ⊤
   AreNotifications [] (u ∷ us) = ⊥

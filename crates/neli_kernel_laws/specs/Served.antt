@@ -17,7 +17,7 @@ abbrev pub numbered : ℕ → List ℕ → List Untyped
 numbered number datagram = filter (λ u. u.0.sequence_number == number) (cut_of untyped_layout datagram).0
 
 module _ {ST SP : Type 0} where
-  -- those of a datagram that is taken in and came to no group; one that came to groups, or another command, brings none
+  -- those of a datagram that is taken in and arrived for no group; one for groups, or another command, has none
   abbrev pub brought : ℕ → Command ST SP → List Untyped
   brought number (command.Datagram b []) = numbered number b.items
   brought number (command.Datagram b (g ∷ groups)) = []
@@ -33,8 +33,8 @@ module _ {ST SP RT RP : Type 0} where
   came number [] = []
   came number (e ∷ later) = came number later ++ brought number e.0
 
-  -- a datagram that is taken in after this history has no fault, and one that came to no group answers requests: each
-  -- of its messages has the router's port and a number that is open; and the link does not fail
+  -- a datagram that is taken in after this history has no fault, and one that arrived for no group answers requests:
+  -- each of its messages has the router's port and an open number; and the link does not fail
   abbrev pub Answers : ℕ → History ST SP RT RP → Command ST SP → Type 0
   Answers port h (command.Datagram b groups) =
       ((cut_of untyped_layout b.items).1 ≡ None)
@@ -45,7 +45,7 @@ module _ {ST SP RT RP : Type 0} where
   Answers port h (command.Read k) = ⊤
   Answers port h (command.Close k) = ⊤
 
-  -- so does each that was taken in after the history h
+  -- and each that was taken in after the history h
   abbrev pub AllAnswer : ℕ → History ST SP RT RP → History ST SP RT RP → Type 0
   AllAnswer port [] h = ⊤
   AllAnswer port (e ∷ later) h = Answers port (later ++ h) e.0 × AllAnswer port later h

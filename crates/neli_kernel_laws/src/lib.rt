@@ -1,11 +1,12 @@
-//! Laws of a kernel's answers as a router gives them: what is delivered of an answer, item by item, and then the end.
+//! Laws of a kernel's answers as a router returns them: the messages of an answer, item by item, and then the end.
 //!
-//! The calls do nothing: their contracts are the laws, over the definitions alone. `specs/Complete.antt` says which
-//! messages are a whole answer, `specs/Turns.antt` what each read is answered then, `specs/Served.antt` which messages
-//! came for a number in a history, and `specs/Exchanges.antt` which datagrams came for a request. That the simulator's
-//! datagrams are cut into such messages is in `neli_kernel::laws`; [`acknowledged_request_is_answered`],
-//! [`refused_request_is_answered`], [`replied_request_is_answered`] and [`dump_request_is_answered`] put both together.
-//! `specs/Notified.antt` says which datagrams came to groups, and [`notifications_are_heard`] what multicast gets.
+//! The calls do nothing: their contracts are the laws, over the definitions only. `specs/Complete.antt` defines which
+//! messages are a whole answer, `specs/Turns.antt` the reply to each read then, `specs/Served.antt` which messages
+//! arrived for a number in a history, and `specs/Exchanges.antt` which datagrams arrived for a request.
+//! `neli_kernel::laws` states that the simulator's datagrams are cut into such messages;
+//! [`acknowledged_request_is_answered`], [`refused_request_is_answered`], [`replied_request_is_answered`] and
+//! [`dump_request_is_answered`] join both. `specs/Notified.antt` defines which datagrams arrived for groups, and
+//! [`notifications_are_heard`] what multicast gets.
 #![tactic(auto)]
 
 ghost use Rattle.std.specs.Prelude.{◌≡◌, ◌≢◌, ◌<◌, ◌+◌, ◌++◌, ◌∷◌, [], ℕ, ℤ, Bool, true};
@@ -52,8 +53,8 @@ use neli_kernel::laws::{
 use neli_runs::{Command, Outcome};
 use neli_wire::{FromBytesWithInput, Size, ToBytes};
 
-/// A whole answer is given in turn: where the deliveries to a handle with a number are the messages of one, each read
-/// is answered by the next of them, typed, an error as such; and past the last, or once an error was given, by the end.
+/// A whole answer is returned in turn: if the deliveries to a handle with a number are the messages of one, each read
+/// returns the next of them, typed, an error as such; and past the last, or after an error, the end.
 pub fn answers_are_given_in_turn<RT, RP>()
 where
     RT: NlType,
@@ -65,8 +66,8 @@ where
         → IsInTurn (IsReadAs RT.wire_value RP.view RP.wire_length RP.read) us given r }
 {}
 
-/// What the simulator answers is whole: an acknowledgement, where one was asked for; an error; a reply without MULTI,
-/// where no acknowledgement was, and where one was, with it; the messages of a dump and its end.
+/// The simulator's answers are whole: an acknowledgement, if one was requested; an error; a reply without MULTI,
+/// followed by the acknowledgement if one was requested; the messages of a dump and its end.
 pub fn answers_are_complete()
     ensures acknowledgement { (asked : Asked) (attrs : Attributes)
         → IsComplete true (answer_kept (acknowledgement asked attrs) ∷ []) }
@@ -87,8 +88,8 @@ pub fn answers_are_complete()
         → IsComplete false (parts ++ (h, payload.DumpExtAck (answer code tt attrs)) ∷ []) }
 {}
 
-/// A datagram whose messages have one number and the router's port brings them to the handle of that number, and
-/// nothing to another one; so do several datagrams, as those of a dump. It answers a request where the number is open.
+/// A datagram whose messages have one number and the router's port delivers them to the handle of that number, and
+/// nothing to another one; so do several datagrams, as those of a dump. It answers a request if the number is open.
 pub fn datagrams_bring_their_own()
     ensures own { (number port : ℕ) (datagram : List ℕ) (us : List Untyped)
         → cut_of untyped_layout datagram ≡ (us, None) → All (IsFor number port) us
@@ -106,11 +107,11 @@ pub fn datagrams_bring_their_own()
         → All (λ u. is_reply port is_open u ≡ true) (cut_of untyped_layout datagram).0 }
 {}
 
-/// Each request of a run is answered by its own messages, in whatever order the datagrams come and whatever is sent,
-/// read or closed meanwhile: where a request was sent and its handle is not closed, the link has not failed since, no
-/// datagram has a fault, those that came to no group answer requests, and those messages of these that have its number
-/// are a whole answer, each read of its handle is answered by these, in turn, and then by the end. A datagram that came
-/// to groups changes nothing of it, whatever numbers and ports its messages have.
+/// Each request of a run gets its own messages, in whatever order the datagrams arrive and whatever is sent, read or
+/// closed meanwhile: if a request was sent and its handle is not closed, the link has not failed since, no datagram has
+/// a fault, those for no group answer requests, and those of their messages that have its number are a whole answer,
+/// then each read of its handle returns these, in turn, and then the end. A datagram for groups changes nothing of it,
+/// whatever numbers and ports its messages have.
 pub fn requests_are_answered_in_turn<ST, SP, RT, RP>()
 where
     RT: NlType,
@@ -134,11 +135,11 @@ where
         × (o ≡ outcome_of r) }
 {}
 
-/// A request is answered by the datagrams that came for it: where its handle is not closed, these datagrams were taken
+/// A request is answered by the datagrams that arrived for it: if its handle is not closed, these datagrams were taken
 /// in since, and their messages have its number and the router's port and are a whole answer, each read of its handle
-/// is answered by these messages, in turn, and then by the end; whatever else is sent, read, closed or notified
-/// meanwhile. The link has not failed since, no datagram has a fault, and one that came to no group and has no message
-/// of this number answers other requests: each of its messages has the router's port and a number that is open.
+/// returns these messages, in turn, and then the end; whatever else is sent, read, closed or notified meanwhile. The
+/// link has not failed since, no datagram has a fault, and one for no group without a message of this number answers
+/// other requests: each of its messages has the router's port and an open number.
 pub fn request_is_answered<ST, SP, RT, RP>()
 where
     RT: NlType,
@@ -151,9 +152,9 @@ where
         → ReadsGive RT.wire_value RT.wire_number RP.view RP.wire_length RP.read asked.port us x }
 {}
 
-/// What comes after a whole answer is not given: where the messages that came for a handle are a whole answer and
-/// others after it, each read is answered as if these had not come. So where no acknowledgement is needed, of several
-/// messages without MULTI the first is given, or of a dump those before it too, and then the end.
+/// Messages after a whole answer are not returned: if the messages that arrived for a handle are a whole answer and
+/// others after it, each read returns the same as without the others. So if no acknowledgement is needed, of several
+/// messages without MULTI the reads return the first, after those of a dump before it, and then the end.
 pub fn messages_after_an_answer_are_not_given<ST, SP, RT, RP>()
 where
     RT: NlType,
@@ -172,9 +173,9 @@ where
         → ReadsGive RT.wire_value RT.wire_number RP.view RP.wire_length RP.read asked.port whole x }
 {}
 
-/// A whole reply that was to be acknowledged, and is not by what comes next, as where a change that touched several
-/// objects is echoed in several messages without MULTI, is given; then an error that says so, or why what came next
-/// can't be read; and then the end.
+/// A whole reply that needed an acknowledgement, and is followed by another message (as where a change of several
+/// objects is echoed in several messages without MULTI), is returned; then an error that reports the missing
+/// acknowledgement, or why the message cannot be read; and then the end.
 pub fn unacknowledged_reply_is_an_error<RT, RP>()
 where
     RT: NlType,
@@ -190,12 +191,12 @@ where
         (map message (u ∷ next ∷ more)) (Ok m ∷ second ∷ given) r → r ≡ reply.End }
 {}
 
-/// Multicast gets every message of every datagram that came to groups, each once, in order, and nothing else, whatever
-/// is sent, answered, read or closed meanwhile and whatever faults the link has; of a datagram with a fault the
-/// messages before it. So where its handle, 0, is not closed, each read of it is answered by the next of these
-/// messages, as the caller's types, and past the last of them by a wait; an acknowledgement, an error and a message
-/// that can't be read are given as errors, and after one of these the end. Where all these datagrams are notifications
-/// of the simulator, of whatever numbers and ports, these are their messages.
+/// Multicast gets every message of every datagram that arrived for groups, each once, in order, and nothing else,
+/// whatever is sent, answered, read or closed meanwhile and whatever faults the link has; of a datagram with a fault
+/// the messages before it. So while its handle, 0, is not closed, each read of it returns the next of these messages,
+/// as the caller's types, and past the last of them a wait; an acknowledgement, an error and a message that cannot be
+/// read are returned as errors, and after one of these the end. If all these datagrams are notifications of the
+/// simulator, of whatever numbers and ports, these are their messages.
 pub fn notifications_are_heard<ST, SP, RT, RP, T, P>()
 where
     RT: NlType,
@@ -223,8 +224,8 @@ where
     reply_is_delivered::<T, P>();
 }
 
-/// A request that needs an acknowledgement is answered by the one that the simulator makes of it: where its datagram
-/// came for the request, the reads of the request's handle are given it, once, and then the end.
+/// A request that needs an acknowledgement is answered by the simulator's: if its datagram arrived for the request, the
+/// reads of the request's handle return it, once, and then the end.
 pub fn acknowledged_request_is_answered<ST, SP, RT, RP>()
 where
     RT: NlType,
@@ -238,8 +239,8 @@ where
     acknowledgement_is_delivered();
 }
 
-/// A request is answered by the error that the simulator makes of it, whether it needs an acknowledgement or not: where
-/// the error's datagram came for it, the reads of its handle are given the error, once, and then the end.
+/// A request is answered by the simulator's error for it, whether it needs an acknowledgement or not: if the error's
+/// datagram arrived for it, the reads of its handle return the error, once, and then the end.
 pub fn refused_request_is_answered<ST, SP, RT, RP>()
 where
     RT: NlType,
@@ -259,10 +260,10 @@ where
     error_is_delivered();
 }
 
-/// A request is answered by the simulator's reply: where it needs no acknowledgement, and the reply's datagram came for
-/// it, the reads of its handle are given the reply, once, and then the end; where it needs one, and that came after the
-/// reply in a datagram of its own, they are given both. The reply is without MULTI, and of a type that is neither 2
-/// nor 3. One that can't be read as the caller's types is an error, and what is given last.
+/// A request is answered by the simulator's reply: if it needs no acknowledgement, and the reply's datagram arrived for
+/// it, the reads of its handle return the reply, once, and then the end; if it needs one, and that arrived after the
+/// reply in a datagram of its own, they return both. The reply is without MULTI, and of a type that is neither 2 nor 3.
+/// One that cannot be read as the caller's types is an error, and the last item.
 pub fn replied_request_is_answered<ST, SP, RT, RP, T, P>()
 where
     RT: NlType,
@@ -290,11 +291,11 @@ where
     acknowledgement_is_delivered();
 }
 
-/// A request that needs no acknowledgement, as each that asks for a dump, is answered by the simulator's dump: where
-/// what was put in is read as some messages with MULTI, kept as `ms`, with the request's number and the router's port,
-/// and the datagrams of [`Dump::finish`](neli_kernel::Dump::finish) came for the request, in their order, the reads of
-/// its handle are given `ms`, then the end of the dump, and then the end. A message that can't be read as the caller's
-/// types is an error, and what is given last.
+/// A request that needs no acknowledgement, as each request for a dump, is answered by the simulator's dump: if the
+/// dump's contents are read as messages with MULTI, stored as `ms`, with the request's number and the router's port,
+/// and the datagrams of [`Dump::finish`](neli_kernel::Dump::finish) arrived for the request, in their order, the reads
+/// of its handle return `ms`, then the end of the dump, and then the end. A message that cannot be read as the caller's
+/// types is an error, and the last item.
 pub fn dump_request_is_answered<ST, SP, RT, RP>()
 where
     RT: NlType,
@@ -314,10 +315,9 @@ where
     dump_is_delivered();
 }
 
-/// The marks of an answer are given: a read of a request's handle that is answered by a message, not by an error, is
-/// answered by one with the flags of the message in its place, and where that is the end of a dump, with its code. So
-/// where a message of a dump or its end has DUMP_INTR or DUMP_FILTERED, so has what is given of it; and a dump that
-/// failed ends in a message with its code.
+/// The marks of an answer are kept: if a read of a request's handle returns a message, not an error, it has the flags
+/// of the message in its place, and if that is the end of a dump, its code. So if a message of a dump or its end has
+/// DUMP_INTR or DUMP_FILTERED, the returned one has it too; and a dump that failed ends in a message with its code.
 pub fn marks_are_given<ST, SP, RT, RP>()
 where
     RT: NlType,

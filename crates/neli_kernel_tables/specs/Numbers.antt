@@ -6,7 +6,7 @@ use Rattle.neli_schema.specs.declared.row.Table.{Table}
 abbrev pub numbers : List Table → List ℕ
 numbers tables = map (λ (t : Table). t.id.0) tables
 
--- of links and what they have, and of extended acknowledgements
+-- of links and their parts, and of extended acknowledgements
 abbrev pub links_numbers : List ℕ
 links_numbers =
     1 ∷ 10 ∷ 11 ∷ 12 ∷ 13 ∷ 20 ∷ 21 ∷ 22 ∷ 23 ∷ 24 ∷ 25 ∷ 26 ∷ 27 ∷ 28 ∷ 29 ∷ 40 ∷ 41 ∷ 42 ∷ 43 ∷ 44 ∷ 45 ∷ 46 ∷
@@ -17,7 +17,7 @@ abbrev pub addresses_numbers : List ℕ
 addresses_numbers =
     80 ∷ 81 ∷ 100 ∷ 120 ∷ 121 ∷ 122 ∷ 123 ∷ 140 ∷ 141 ∷ 142 ∷ []
 
--- of what belongs to routes and queues
+-- of routes' encapsulation, rules, queues, actions and next hops
 abbrev pub routes_numbers : List ℕ
 routes_numbers =
     150 ∷ 151 ∷ 152 ∷ 153 ∷ 154 ∷ 155 ∷ 156 ∷ 157 ∷ 180 ∷ 200 ∷ 201 ∷ 202 ∷ 220 ∷ 221 ∷ 222 ∷ 170 ∷ 171 ∷ 172 ∷

@@ -1,5 +1,4 @@
-//! Every table of the kernel's but those of process events in one list, as
-//! [`Schema::new`](neli_schema::Schema::new) takes them.
+//! Every table of the kernel except those of process events in one list, for [`Schema::new`](neli_schema::Schema::new).
 #![tactic(auto)]
 
 ghost use Rattle.std.specs.Prelude.{◌≡◌, [], ◌∷◌, ◌++◌, map, IfOk, OnOk};
@@ -39,7 +38,7 @@ fn link_tables() -> &'static [Table<'static>]
     &LINK
 }
 
-/// Kinds of links, and what each has.
+/// Kinds of links, and the attributes of each.
 static LINK_INFO: [Table<'static>; 10] = [
     link_info::TABLE,
     link_info::VLAN_TABLE,
@@ -53,7 +52,7 @@ static LINK_INFO: [Table<'static>; 10] = [
     link_info::TUN_TABLE,
 ];
 
-/// Kinds of links, and what each has.
+/// Kinds of links, and the attributes of each.
 fn link_info_tables() -> &'static [Table<'static>]
     ensures { numbers result.now ≡ 20 ∷ 21 ∷ 22 ∷ 23 ∷ 24 ∷ 25 ∷ 26 ∷ 27 ∷ 28 ∷ 29 ∷ [] }
 {
@@ -94,7 +93,7 @@ fn bond_tables() -> &'static [Table<'static>]
     &BOND
 }
 
-/// What address families have of a link.
+/// A link's attributes in each address family.
 static LINK_FAMILY: [Table<'static>; 4] = [
     link_family::TABLE,
     link_family::INET_TABLE,
@@ -102,7 +101,7 @@ static LINK_FAMILY: [Table<'static>; 4] = [
     link_family::MCTP_TABLE,
 ];
 
-/// What address families have of a link.
+/// A link's attributes in each address family.
 fn link_family_tables() -> &'static [Table<'static>]
     ensures { numbers result.now ≡ 60 ∷ 61 ∷ 62 ∷ 63 ∷ [] }
 {
@@ -298,7 +297,7 @@ fn append(all: &mut Vec<Table<'static>>, tables: &[Table<'static>]) -> Result<()
     all.extend_from_slice(tables)
 }
 
-/// Links and what they have, and extended acknowledgements.
+/// Links and their parts, and extended acknowledgements.
 fn append_links(all: &mut Vec<Table<'static>>) -> Result<(), AllocError>
     ensures { OnOk result (numbers all.new.items ≡ numbers all.old.items ++ links_numbers) }
 {
@@ -321,7 +320,7 @@ fn append_addresses(all: &mut Vec<Table<'static>>) -> Result<(), AllocError>
     append(all, route_tables())
 }
 
-/// What belongs to routes and queues.
+/// Encapsulation, rules, queues, actions and next hops.
 fn append_routes(all: &mut Vec<Table<'static>>) -> Result<(), AllocError>
     ensures { OnOk result (numbers all.new.items ≡ numbers all.old.items ++ routes_numbers) }
 {
@@ -342,7 +341,7 @@ fn append_others(all: &mut Vec<Table<'static>>) -> Result<(), AllocError>
     append(all, controller_tables())
 }
 
-/// Every table of the kernel's but those of process events, which are [`neli_schema::tables::process_event::TABLES`].
+/// Returns every table of the kernel except those of process events ([`neli_schema::tables::process_event::TABLES`]).
 pub fn all_tables(alloc: Global) -> Result<Vec<Table<'static>>, AllocError>
     ensures { IfOk result (λ all. numbers all.items ≡ table_numbers) }
 {
@@ -354,7 +353,7 @@ pub fn all_tables(alloc: Global) -> Result<Vec<Table<'static>>, AllocError>
     Ok(all)
 }
 
-/// What messages carry, by protocol and type: the kernel's [`BODIES`].
+/// Returns the contents of messages, by protocol and type: the kernel's [`BODIES`].
 pub fn bodies() -> &'static [Body<'static>]
     ensures { map (λ b. b.number) result.now ≡ body_numbers }
 {

@@ -1,4 +1,4 @@
--- The deliveries of a datagram with whom they go to, and those that somebody gets.
+-- The deliveries of a datagram with their routes, and those that have a receiver.
 use Rattle.std.proofs.Common.{◌≡◌, ℕ, Bool, true, false, ◌==◌, if◌then◌else◌, List, [], ◌∷◌, ◌++◌, map, Option, Some}
 use Rattle.std.proofs.Common.{None, refl, sym, ap, ◌∙◌, arith, inl, inr, is_some}
 use Rattle.std.proofs.lemmas.List.{append-nil}
@@ -18,9 +18,9 @@ use Rattle.neli_places.specs.Routes.{entry, items_for, leads}
 use Rattle.neli_log.specs.Routed.{AreAwaited, datagram_routed, fault_routed, message_routed}
 use Rattle.neli_log.proofs.Entries.{items_append, items_first, true_or_false}
 
--- ---- what somebody gets
+-- ---- the deliveries that have a receiver
 
--- one more that somebody gets
+-- one more that has a receiver
 pub awaited_more : {T : Type 0} (P : Option ℕ → Option (List T)) (ds es : List (Entry Delivery)) (d : Entry Delivery)
     → HasReader P d.route → AreAwaited P ds es → AreAwaited P (ds ++ d ∷ []) (es ++ d ∷ [])
 awaited_more P [] es d r h = inl (r, [], ap (λ xs. xs ++ d ∷ []) h, refl)
@@ -29,7 +29,7 @@ awaited_more P (x ∷ xs) es d r h = elim h [
   | inr it ↦ inr (it.0, awaited_more P xs es d r it.1)
 ]
 
--- one more that nobody gets
+-- one more without a receiver
 pub awaited_skipped : {T : Type 0} (P : Option ℕ → Option (List T)) (ds es : List (Entry Delivery)) (d : Entry Delivery)
     → (HasReader P d.route → ⊥) → AreAwaited P ds es → AreAwaited P (ds ++ d ∷ []) es
 awaited_skipped P [] es d none h = inr (none, h)
@@ -38,7 +38,7 @@ awaited_skipped P (x ∷ xs) es d none h = elim h [
   | inr it ↦ inr (it.0, awaited_skipped P xs es d none it.1)
 ]
 
--- it depends on which lists are open alone
+-- it depends only on which lists are open
 pub awaited_same : {T U : Type 0} (P : Option ℕ → Option (List T)) (P' : Option ℕ → Option (List U))
     → ((w : Option ℕ) → is_some (P' w) ≡ is_some (P w)) → (ds es : List (Entry Delivery)) → AreAwaited P ds es
     → AreAwaited P' ds es
@@ -73,7 +73,7 @@ awaited_items P w opened (d ∷ ds) es h = elim h [
 
 -- ---- the deliveries of a datagram
 
--- it depends on which numbers are open, however that is said
+-- it depends only on which numbers are open, however that is stated
 pub routed_same : (port : ℕ) (o o' : ℕ → Bool) → ((q : ℕ) → o q ≡ o' q) → (groups : List ℕ) (cut : Cut Untyped)
     → datagram_routed port o groups cut ≡ datagram_routed port o' groups cut
 routed_same port o o' same groups cut = ap (λ ds. ds ++ fault_routed cut.1) (each groups cut.0)
@@ -133,7 +133,7 @@ module _ (port : ℕ) (o : ℕ → Bool) where
   fault_number q None = refl
   fault_number q (Some e) = refl
 
-  -- what of them goes to a list is its share of the datagram
+  -- the deliveries of them for a list are its share of the datagram
   pub items_routed : (w : Option ℕ) (groups : List ℕ) (cut : Cut Untyped)
       → items_for w (datagram_routed port o groups cut) ≡ datagram_share port o w cut groups
   items_routed None [] cut = items_append None (map (message_routed port o []) cut.0) (fault_routed cut.1)

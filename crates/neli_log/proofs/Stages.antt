@@ -1,4 +1,4 @@
--- What a datagram brings, message by message.
+-- The deliveries of a datagram, message by message.
 use Rattle.std.proofs.Common.{◌≡◌, ℕ, zero, suc, ◌+◌, ◌-◌, ◌≤◌, ◌<◌, true, List, [], ◌∷◌, ◌++◌, length, map, take, drop}
 use Rattle.std.proofs.Common.{Option, Some, None, Ok, Err, refl, sym, ap, subst, ◌∙◌, arith, append_assoc}
 use Rattle.std.proofs.Common.{length-append, is_some}
@@ -90,7 +90,7 @@ module _ (P : Option ℕ → Option (List Content)) (port serial : ℕ) (bytes g
         (subst (λ x. HasReader P x.route) is r) h.2),
   )
 
-  -- nobody gets it
+  -- it has no receiver
   each_skip : (es : List (Entry Content)) (d : Entry Delivery) (whole rest : Cut Untyped)
       → AreDueBefore P port bytes groups cut es whole
       → entries_due port P groups whole ≡ d ∷ entries_due port P groups rest
@@ -120,7 +120,7 @@ module _ (P : Option ℕ → Option (List Content)) (port serial : ℕ) (bytes g
         readers = readers_push es e r h.readers;
       }
 
-  -- the message goes to nobody
+  -- the message has no receiver
   pub staged_skipped : (es : List (Entry Content)) (at : ℕ) (u : Untyped) (rest : Cut Untyped) (e : Entry Content)
       (s : Span) (a : Address) → AreStaged P port serial bytes groups cut es at (message_before u rest)
       → IsFound serial at bytes s u a → entry_read (part_of bytes) e ≡ message_routed port (is_open P) groups u
@@ -161,7 +161,7 @@ module _ (P : Option ℕ → Option (List Content)) (port serial : ℕ) (bytes g
     readers = h.readers;
   }
 
-  -- what is staged before a place is staged before a later one
+  -- all staged before a place is staged before a later one
   pub staged_further : (es : List (Entry Content)) (at at' : ℕ) (rest : Cut Untyped) → at ≤ at'
       → AreStaged P port serial bytes groups cut es at rest → AreStaged P port serial bytes groups cut es at' rest
   staged_further es at at' rest le h = record {
@@ -171,7 +171,7 @@ module _ (P : Option ℕ → Option (List Content)) (port serial : ℕ) (bytes g
     readers = h.readers;
   }
 
-  -- in the end the entries are those that somebody gets of all that is due
+  -- in the end the entries are those of all due deliveries that have a receiver
   pub staged_each : (es : List (Entry Content)) (at : ℕ) → AreStaged P port serial bytes groups cut es at ([], None)
       → AreAwaited P (entries_due port P groups cut) (map (entry_read (part_of bytes)) es)
   staged_each es at h = subst (λ ds. AreAwaited P ds (map (entry_read (part_of bytes)) es))
@@ -197,7 +197,7 @@ take_before zero (x ∷ xs) ys h = cc
 take_before (suc n) [] ys h = cc
 take_before (suc n) (x ∷ xs) ys h = ap (λ zs. x ∷ zs) (take_before n xs ys (omega arith))
 
--- the bytes between two places of a datagram, where a message was read from the one to the other
+-- the bytes between two places of a datagram, if a message was read from the one to the other
 pub span_spells : (before s after r : List ℕ) (u : Untyped) → frame_at untyped_layout s ≡ Ok (u, r)
     → after ++ r ≡ before ++ s → Spells (slice_range (before ++ s) (length before) (length after)) u
 span_spells before s after r u is same =
@@ -211,12 +211,12 @@ span_spells before s after r u is same =
     rw text (ap (frame_at untyped_layout) (sym (append-nil f.0))
     ∙ frame_at-frame untyped_layout (layout_with-placed (λ n. n) _) f.0 [] u.0 u.1 f.2)
 
--- its place is after that where the rest began
+-- its place follows the one where the rest began
 pub after_more : (before s after r : List ℕ) → length r ≤ length s → after ++ r ≡ before ++ s
     → length before ≤ length after
 after_more before s after r le same = omega (arith, ap length same, length-append after r, length-append before s)
 
--- what was read is a span of the datagram
+-- the message read is a span of the datagram
 pub staged_found : (serial : ℕ) (before s after r : List ℕ) (u : Untyped) (a : Address) (x : Span) → x.datagram ≡ serial
     → x.start ≡ length before → x.end ≡ length after → frame_at untyped_layout s ≡ Ok (u, r) → length r + 16 ≤ length s
     → after ++ r ≡ before ++ s

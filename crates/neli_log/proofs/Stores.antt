@@ -33,7 +33,7 @@ use Rattle.neli_log.specs.Staged.{deliveries_added, entries_due}
 use Rattle.neli_log.proofs.Entries.{each_joined, true_or_false, get_end, get_right, items_same, read_same, spans_append}
 use Rattle.neli_log.proofs.Routed.{awaited_same, items_routed, routed_nothing, routed_same}
 
--- ---- lists that are mapped, where there are any
+-- ---- lists that are mapped, if they exist
 
 pub mapped_none : {A B : Type 0} (f : A → B) (o : Option A) → option_map f o ≡ None → o ≡ None
 mapped_none f None h = refl
@@ -63,7 +63,7 @@ mapped_taken f o o' d ds h next =
     let n = next b.0 b.1 (a.1 ∙ ap (λ xs. Some xs) b.2) in
     rw n (ap (λ xs. Some xs) b.3)
 
--- no item is left exactly where no delivery is
+-- no item remains exactly if no delivery does
 pub mapped_empty : {A B : Type 0} (f : A → B) (P : Option ℕ → Option (List A))
     → ((w : Option ℕ) (xs : List A) → P w ≡ Some xs → xs ≡ []) ↔ ((w : Option ℕ) (ds : List B)
     → option_map (map f) (P w) ≡ Some ds → ds ≡ [])
@@ -129,7 +129,7 @@ first_span base es w (Some p) c x is has =
     list [] h = cc
     list (y ∷ ys) h = (ys, (let s : y ≡ c = cc in ap (λ z. z ∷ ys) s))
 
--- what waits first can be read
+-- the first delivery that waits can be read
 pub first_readable : (s : Places Content) (d : Datagrams) (w : Option ℕ) (c : Content) → AreBacked d (entries_of s)
     → Some c ≡ first_of (items_of s w) → IsReadable d c
 first_readable s d w (content.Message x) h is = (let j = first_span s.base (entries_of s) w (place_of s w)
@@ -138,7 +138,7 @@ first_readable s d w (content.Stray x) h is = (let j = first_span s.base (entrie
     (content.Stray x) x is refl in ((spans_of (entries_of s), j.0, h.names, j.1), h.messages j.0 x j.1))
 first_readable s d w (content.Fault e) h is = tt
 
--- ---- an entry goes, and its span with it
+-- ---- an entry is removed, with its span
 
 module _ (s s' : Places Content) (d d' : Datagrams) (c : Content) (r : Route)
     (taken : entries_of s ≡ entry c r ∷ entries_of s') (same : (w : Option ℕ)
@@ -237,15 +237,15 @@ module _ (s s' : Places Content) (d d' : Datagrams) (bytes : List ℕ) (es : Lis
           ∙ ap (λ ds. ds ++ map (delivery_of (span_bytes d')) (items_for w es)) first
           ∙ ap (λ ds. map (delivery_of (span_bytes d)) old ++ ds) new)
 
--- ---- what is due
+-- ---- deliveries that are due
 
--- which numbers are open is said by the lists of deliveries as by those of entries
+-- the lists of deliveries and those of entries state the same open numbers
 pub due_same : (s : Store) (groups : List ℕ) (cut : Cut Untyped) → entries_due s.port (items_of s.places) groups cut
     ≡ datagram_routed s.port (is_open (pending_of s)) groups cut
 due_same s groups cut = routed_same s.port (is_open (items_of s.places)) (is_open (pending_of s))
     (λ q. sym (mapped_is_some (map (delivery_of (span_bytes s.datagrams))) (items_of s.places (Some q)))) groups cut
 
--- so is what each list is due
+-- and the same due share of each list
 pub share_same : (s : Store) (w : Option ℕ) (groups : List ℕ) (cut : Cut Untyped)
     → datagram_share s.port (is_open (items_of s.places)) w cut groups
     ≡ datagram_share s.port (is_open (pending_of s)) w cut groups
@@ -309,7 +309,7 @@ pub on_ok : {A E : Type 0} (r : Result A E) (X Y : Type 0) → (X → Y) → OnO
 on_ok (Ok a) X Y f h = f h
 on_ok (Err e) X Y f h = tt
 
--- ---- what a call keeps
+-- ---- unchanged parts of a call
 
 pub keeps_none : (s : Store) (bytes : List ℕ) → Keeps s s bytes []
 keeps_none s bytes = record {
@@ -318,7 +318,7 @@ keeps_none s bytes = record {
   counted = omega arith;
 }
 
--- what somebody gets of these is what some list of the log gets
+-- the deliveries that have a receiver are those that some list of the log gets
 pub awaited_open : (s : Store) (ds es : List (Entry Delivery)) → AreAwaited (items_of s.places) ds es
     → AreAwaited (pending_of s) ds es
 awaited_open s ds es h = awaited_same (items_of s.places) (pending_of s)
@@ -330,12 +330,12 @@ keeps_once_none s ds h = ([], awaited_open s ds [] h, sym (append-nil (entries_r
 
 -- ---- a list is emptied
 
--- how many wait
+-- the number that wait
 abbrev pub waiting_count : {A : Type 0} → Option (List A) → ℕ
 waiting_count None = 0
 waiting_count (Some xs) = length xs
 
--- something waits where an item does
+-- a delivery waits if an item does
 pub something_waits : {A B C : Type 0} (f : A → B) (g : C → A) (first : Option C) (o : Option (List A))
     → option_map g first ≡ first_of o → is_some first ≡ true
     → (d : B) × (ds : List B) × (option_map (map f) o ≡ Some (d ∷ ds))
@@ -344,7 +344,7 @@ something_waits f g (Some c) None e is = cc
 something_waits f g (Some c) (Some []) e is = cc
 something_waits f g (Some c) (Some (x ∷ xs)) e is = (f x, map f xs, refl)
 
--- nothing waits where no item does
+-- no delivery waits if no item does
 pub nothing_waits : {A B C : Type 0} (f : A → B) (g : C → A) (first : Option C) (o : Option (List A))
     (old : Option (List B)) → option_map g first ≡ first_of o → is_some first ≡ false
     → is_some (option_map (map f) o) ≡ is_some old → option_map (map f) o ≡ option_map (λ _. []) old

@@ -1,4 +1,4 @@
--- Which delivery an entry is.
+-- The delivery that an entry is.
 use Rattle.std.specs.Prelude.{◌≡◌, ℕ, List, [], ◌∷◌, ◌++◌, slice_range, Some, Ok, Err}
 use Rattle.std.specs.List.{slice_get}
 use Rattle.neli_wire.specs.Bytes.{Reading}
@@ -17,18 +17,18 @@ use Rattle.neli_spans.specs.Spans.{IsNamed, SpansName, span_bytes}
 use Rattle.neli_log.specs.declared.content.Content.{Content}
 use Rattle.neli_log.specs.declared.content.Content.TheVariants as content
 
--- what the bytes of a message say, as a delivery; the fault of bytes that are none, which are never kept
+-- the delivery in the bytes of a message; the fault of bytes that are no message, which are never kept
 abbrev pub delivery_read : (Untyped → Delivery) → Reading Untyped → Delivery
 delivery_read kind (Ok p) = kind p.0
 delivery_read kind (Err e) = delivery.Fault (socket.De e)
 
--- the delivery that an entry is, where `part` has the bytes of its span
+-- the delivery of an entry, where `part` gives the bytes of its span
 abbrev pub delivery_of : (Span → List ℕ) → Content → Delivery
 delivery_of part (content.Message s) = delivery_read message (frame_at untyped_layout (part s))
 delivery_of part (content.Stray s) = delivery_read stray (frame_at untyped_layout (part s))
 delivery_of part (content.Fault e) = delivery.Fault e
 
--- an entry as the delivery that it is, with whom it goes to
+-- an entry as its delivery, with its route
 abbrev pub entry_read : (Span → List ℕ) → Entry Content → Entry Delivery
 entry_read part e = entry (delivery_of part e.item) e.route
 

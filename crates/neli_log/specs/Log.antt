@@ -15,63 +15,63 @@ use Rattle.neli_log.specs.Contents.{AreBacked, delivery_of, entry_read, spans_of
 use Rattle.neli_log.specs.Routed.{AreAwaited, datagram_routed, is_open}
 use Rattle.neli_log.specs.Staged.{HaveReaders}
 
--- what waits for a number, or for multicast (None), where it is open
+-- the deliveries that wait for a number, or for multicast (None), if it is open
 abbrev pub pending_of : Store → Option ℕ → Option (List Delivery)
 pending_of s w = option_map (map (delivery_of (span_bytes s.datagrams))) (items_of s.places w)
 
--- what a list gains of a datagram that came to these groups
+-- the gain of a list from a datagram that arrived for these groups
 abbrev pub share_of : Store → List ℕ → List ℕ → Option ℕ → List Delivery
 share_of s bytes groups w = datagram_share s.port (is_open (pending_of s)) w (cut_of untyped_layout bytes) groups
 
--- what such a datagram holds, each with whom it goes to
+-- the contents of such a datagram, each with its route
 abbrev pub routed_by : Store → List ℕ → List ℕ → List (Entry Delivery)
 routed_by s bytes groups = datagram_routed s.port (is_open (pending_of s)) groups (cut_of untyped_layout bytes)
 
--- as a log is, but that entries for which nobody waits may still stand before the others
+-- a log's state, except that entries for which no list waits may still stand before the others
 pub record IsUntrimmed (s : Store) : Type 0 where
   pub sound : IsSound s.places
   pub backed : AreBacked s.datagrams (entries_of s.places)
 
--- the least place stands at the first entry, and the spans of the entries name the kept datagrams
+-- the smallest place stands at the first entry, and the spans of the entries name the kept datagrams
 pub record IsTrimmedAndBacked (s : Store) : Type 0 where
   pub trimmed : IsTrimmed s.places
   pub backed : AreBacked s.datagrams (entries_of s.places)
 
--- the entries that are kept, each as the delivery that it is, with whom it goes to
+-- the kept entries, each as its delivery, with its route
 abbrev pub entries_read : Store → List (Entry Delivery)
 entries_read s = map (entry_read (span_bytes s.datagrams)) (entries_of s.places)
 
--- how many entries are kept
+-- the number of kept entries
 abbrev pub entry_count : Store → ℕ
 entry_count s = length (entries_of s.places)
 
--- how many bytes of datagrams
+-- the number of kept bytes of datagrams
 abbrev pub byte_count : Store → ℕ
 byte_count s = bytes_of s.datagrams
 
--- ---- what a call keeps
+-- ---- the entries that a call adds
 
--- how many bytes are kept of these, where so many spans name them: all or none
+-- the number of these bytes that are kept, if so many spans name them: all or none
 abbrev pub kept_with : ℕ → List ℕ → ℕ
 kept_with zero bytes = 0
 kept_with (suc n) bytes = length bytes
 
--- these entries come after the others; each is for somebody, and the bytes are kept where one of them is a span of them
+-- these entries follow the others; each has a receiver, and the bytes are kept if one of the entries is a span of them
 pub record Keeps (before after : Store) (bytes : List ℕ) (es : List (Entry Content)) : Type 0 where
   pub entries : entries_of after.places ≡ entries_of before.places ++ es
   pub readers : HaveReaders (items_of before.places) es
   pub counted : byte_count after ≡ byte_count before + kept_with (length (spans_of es)) bytes
 
--- entries come after the others, as `Keeps` says
+-- entries follow the others, as `Keeps` states
 abbrev pub KeepsEntries : Store → Store → List ℕ → Type 0
 KeepsEntries before after bytes = (es : List (Entry Content)) × Keeps before after bytes es
 
--- those of `ds` that somebody gets come after the other entries: each once, in the same order, and nothing else
+-- the deliveries of `ds` that have a receiver follow the other entries: each once, in the same order, and nothing else
 abbrev pub KeepsEachOnce : Store → Store → List (Entry Delivery) → Type 0
 KeepsEachOnce before after ds = (added : List (Entry Delivery)) × AreAwaited (pending_of before) ds added
     × (entries_read after ≡ entries_read before ++ added)
 
--- no entry more is kept than before, and no byte
+-- no more entries and no more bytes are kept than before
 abbrev pub KeepsNoMore : Store → Store → Type 0
 KeepsNoMore before after = (entry_count after ≤ entry_count before) × (byte_count after ≤ byte_count before)
 

@@ -1,4 +1,4 @@
--- What a datagram brings, before any list changes.
+-- The deliveries of a datagram, before any list changes.
 use Rattle.std.specs.Prelude.{◌≡◌, ◌≤◌, ℕ, List, [], ◌++◌, map, Option, Some, None}
 use Rattle.std.specs.List.{slice_get}
 use Rattle.neli_wire.specs.DeError.{DeError}
@@ -17,24 +17,24 @@ use Rattle.neli_log.specs.declared.next.Address.{Address}
 use Rattle.neli_log.specs.Contents.{AreMessages, delivery_of, entry_read, part_of, spans_of}
 use Rattle.neli_log.specs.Routed.{AreAwaited, datagram_routed, is_open}
 
--- what a list gains of entries, whose spans are of these bytes
+-- the gain of a list from entries whose spans are of these bytes
 abbrev pub deliveries_added : List ℕ → Option ℕ → List (Entry Content) → List Delivery
 deliveries_added bytes w es = map (delivery_of (part_of bytes)) (items_for w es)
 
--- what is left of a datagram at a place: the cut of the rest, or nothing but a fault
+-- the rest of a datagram at a place: the cut of it, or only a fault
 abbrev pub cut_left : List ℕ → Option DeError → Cut Untyped
 cut_left rest None = cut_of untyped_layout rest
 cut_left rest (Some e) = ([], Some e)
 
--- what a cut that came to these groups brings, with whom it goes to, where these lists are open
+-- the deliveries of a cut that arrived for these groups, with their routes, if these lists are open
 abbrev pub entries_due : ℕ → (Option ℕ → Option (List Content)) → List ℕ → Cut Untyped → List (Entry Delivery)
 entries_due port pending groups cut = datagram_routed port (is_open pending) groups cut
 
--- each entry is for somebody
+-- each entry has a receiver
 abbrev pub HaveReaders : (Option ℕ → Option (List Content)) → List (Entry Content) → Type 0
 HaveReaders pending es = (i : ℕ) (e : Entry Content) → slice_get es i ≡ Some e → HasReader pending e.route
 
--- the entries, whose spans are of these bytes, are those that somebody gets of what `cut` brings before `rest`: each
+-- the entries, whose spans are of these bytes, are the deliveries of `cut` before `rest` that have a receiver: each
 -- once, in the same order
 abbrev pub AreDueBefore : (Option ℕ → Option (List Content)) → ℕ → List ℕ → List ℕ → Cut Untyped
     → List (Entry Content) → Cut Untyped → Type 0
@@ -42,8 +42,8 @@ AreDueBefore pending port bytes groups cut es rest = (before : List (Entry Deliv
     × (before ++ entries_due port pending groups rest ≡ entries_due port pending groups cut)
     × AreAwaited pending before (map (entry_read (part_of bytes)) es)
 
--- the entries are what is due before `rest`; their spans are messages of the first `at` bytes, in their order; and each
--- goes to somebody
+-- the entries are those due before `rest`; their spans are messages of the first `at` bytes, in their order; and each
+-- has a receiver
 pub record AreStaged (pending : Option ℕ → Option (List Content)) (port serial : ℕ) (bytes groups : List ℕ)
     (cut : Cut Untyped) (es : List (Entry Content)) (at : ℕ) (rest : Cut Untyped) : Type 0 where
   pub each : AreDueBefore pending port bytes groups cut es rest

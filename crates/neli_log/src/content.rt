@@ -1,14 +1,14 @@
-//! What an entry holds.
+//! The content of an entry.
 
 use neli_reader::SocketError;
 use neli_spans::Span;
 
-/// A delivery, of which a message is the span of its bytes.
+/// A delivery; a message is the span of its bytes.
 #[derive(Drop)]
 pub(crate) enum Content {
-    /// A message for the handle that it goes to.
+    /// A message for one handle.
     Message(Span),
-    /// A message that came to no group, and has another port than the router's or a number that is not open.
+    /// A message that arrived for no group, and has another port than the router's or a number that is not open.
     Stray(Span),
     /// A datagram could not be read to its end, or the link failed.
     Fault(SocketError),

@@ -1,4 +1,4 @@
-//! How entries and datagrams come to be kept, once there is nothing left to refuse.
+//! Stores entries and datagrams, once no refusal remains possible.
 
 ghost use Rattle.std.specs.Prelude.{◌≡◌, ◌++◌, ◌+◌, ◌<◌, ◌≤◌, ℕ, List, Option, Some, OnErr, OnOk, length, option_map};
 ghost use Rattle.std.specs.Prelude.{slice_get, slice_range};
@@ -17,7 +17,7 @@ use neli_spans::Datagrams;
 use neli_wire::NoMemory;
 use std::alloc::Global;
 
-/// Keeps each entry, in order.
+/// Stores each entry, in order.
 pub(crate) fn push_all(places: &mut Places<Content>, entries: Vec<Entry<Content>>)
     requires trimmed { IsTrimmed places.old }
     requires readers { HaveReaders (pending_of places.old) entries.items }
@@ -32,7 +32,7 @@ pub(crate) fn push_all(places: &mut Places<Content>, entries: Vec<Entry<Content>
     }
 }
 
-/// How many spans an entry has: one, or none.
+/// Returns the number of spans in an entry: one or none.
 fn spans_in(content: &Content) -> usize
     ensures { result ≡ length (span_of content.now) }
 {
@@ -42,11 +42,11 @@ fn spans_in(content: &Content) -> usize
     }
 }
 
-/// How many spans entries have.
+/// Returns the number of spans in entries.
 pub(crate) fn span_count(entries: &[Entry<Content>]) -> usize
     ensures { result ≡ length (spans_of entries.now) }
 {
-    // The prover learns here that the count fits: there are no more entries than a usize holds.
+    // This shows the prover that the count fits: a usize holds the number of entries.
     let _ = entries.len();
     let mut count = 0;
     for entry in entries {
@@ -55,9 +55,9 @@ pub(crate) fn span_count(entries: &[Entry<Content>]) -> usize
     count
 }
 
-/// Keeps a copy of these bytes, of which there are so many spans; where there is none nothing is kept.
+/// Keeps a copy of these bytes, which have this many spans; without a span nothing is kept.
 ///
-/// Refused only where memory runs out, and then nothing changes.
+/// Refused only if memory runs out; then nothing changes.
 pub(crate) fn keep_copy(
     alloc: Global,
     datagrams: &mut Datagrams,
@@ -87,8 +87,8 @@ pub(crate) fn keep_copy(
     Ok(())
 }
 
-/// An entry's span goes, if it has one, and its datagram where no other span names it. Every other span means the
-/// bytes that it did.
+/// Removes an entry's span, if it has one, and its datagram if no other span names it. Every other span keeps its
+/// bytes.
 pub(crate) fn release(datagrams: &mut Datagrams, content: Content)
     requires { (ss : List Part) × SpansName datagrams.old (span_of content ++ ss) }
     ensures names { (ss : List Part) → SpansName datagrams.old (span_of content ++ ss)

@@ -1,10 +1,10 @@
-//! The shared store of deliveries: each is kept once, however many handles wait for it.
+//! The shared store of deliveries: each is stored once, however many handles wait for it.
 //!
 //! - [`Log`]: the store, an implementation of [`neli_deliveries::Deliveries`].
 //!
-//! A datagram's bytes are copied once, and a message is a span of them. An entry of the log is such a span or a
-//! fault, with the route that was decided when it came; each open number, and multicast until it is closed, has a
-//! place among the entries. Here two datagrams came; 4 waits for three entries, 6 for two and 5 for none:
+//! A datagram's bytes are copied once, and a message is a span of them. An entry of the log is such a span or a fault,
+//! with the route that was decided on arrival; each open number, and multicast until it is closed, has a place among
+//! the entries. Here two datagrams arrived; 4 waits for three entries, 6 for two and 5 for none:
 //!
 //! ```text
 //!  datagrams       0: 48 bytes                    1: 16 bytes
@@ -14,11 +14,11 @@
 //!  places      4        6                          5
 //! ```
 //!
-//! When 4 reads its first message, the entry before 6's place goes, and the bytes of datagram 0 stay for the
-//! other two. What is refused is refused before anything changes.
+//! When 4 reads its first message, the entry before 6's place is removed, and the bytes of datagram 0 stay for the
+//! other two. Every refusal is returned before anything changes.
 //!
-//! `specs/Contents.antt` says which delivery an entry is, `specs/Routed.antt` with whom what a datagram holds goes,
-//! `specs/Log.antt` what the fields hold, `specs/Next.antt` and `specs/Staged.antt` what a datagram brings, step by
+//! `specs/Contents.antt` defines the delivery of an entry, `specs/Routed.antt` the routes of a datagram's deliveries,
+//! `specs/Log.antt` what the fields hold, `specs/Next.antt` and `specs/Staged.antt` the reading of a datagram, step by
 //! step.
 #![tactic(auto)]
 

@@ -17,11 +17,11 @@ use neli_wire::{FromBytesWithInput, NoMemory, Size};
 use std::alloc::Global;
 use std::marker::Model;
 
-/// One list of entries, of which each open number and multicast have a place; their messages are spans of the
-/// datagrams that came.
+/// One list of entries, in which each open number and multicast have a place; the messages are spans of the datagrams
+/// that arrived.
 ///
-/// A stray or a fault is one entry, however many numbers are open. No clause speaks of time: as the code is written,
-/// a message for one handle costs a look-up by its number, and a read or a close that and what it lets go of, however
+/// A stray or a fault is one entry, however many numbers are open. No clause speaks of time: as the code is written, a
+/// message for one handle costs a look-up by its number, and a read or a close costs that and what it frees, however
 /// many numbers are open and however much waits.
 #[derive(Drop)]
 pub struct Log {
@@ -43,7 +43,7 @@ impl Model for Log {
 }
 
 impl Log {
-    /// How many entries are kept: none exactly where nothing waits anywhere. It takes no memory.
+    /// Returns the number of kept entries: 0 exactly if nothing waits anywhere. It takes no memory.
     pub fn kept(&self) -> usize
         ensures kept { result ≡ entry_count self.now }
         ensures none { (result ≡ 0) ↔ ((w : Option ℕ) (ds : List Waiting)
@@ -52,7 +52,7 @@ impl Log {
         self.store.kept()
     }
 
-    /// How many bytes the kept datagrams have, each counted once; none where no entry is kept. It takes no memory.
+    /// Returns the number of bytes in the kept datagrams, each counted once; 0 if no entry is kept. It takes no memory.
     pub fn kept_bytes(&self) -> usize
         ensures bytes { result ≡ byte_count self.now }
         ensures none { entry_count self.now ≡ 0 → result ≡ 0 }
@@ -80,7 +80,7 @@ impl Deliveries for Log {
         self.store.is_open(whose)
     }
 
-    /// No entry comes or goes, and no byte.
+    /// Adds and removes no entry and no byte.
     fn open(&mut self, number: u32) -> Result<(), NoMemory>
         requires { pending_of self.old (Some number) ≡ None }
         ensures port { self.new.port ≡ self.old.port }
@@ -91,7 +91,7 @@ impl Deliveries for Log {
         self.store.open(number)
     }
 
-    /// No entry and no byte more is kept than before.
+    /// Adds no entry and no byte.
     fn close(&mut self, whose: Option<u32>)
         ensures port { self.new.port ≡ self.old.port }
         ensures closed { pending_of self.new whose ≡ None }
@@ -101,9 +101,9 @@ impl Deliveries for Log {
         self.store.close(whose);
     }
 
-    /// Each message that somebody gets comes as one entry, however many wait for it, and so does the fault at the
-    /// end; in the datagram's order, and nothing else comes. The bytes are kept whole where a message of them is, and
-    /// else not at all. Where memory runs out, entries and bytes are as they were.
+    /// Adds one entry for each message that has a receiver, however many wait for it, and one for the fault at the end;
+    /// in the datagram's order, and nothing else. The bytes are kept whole if a message of them is, and else not at
+    /// all. If memory runs out, entries and bytes are unchanged.
     fn datagram(&mut self, bytes: &[u8], groups: &Groups) -> Result<(), NoMemory>
         ensures port { self.new.port ≡ self.old.port }
         ensures ok { OnOk result (ListsGain (share_of self.old bytes.now groups.now)
@@ -118,8 +118,8 @@ impl Deliveries for Log {
         self.store.datagram(bytes, groups)
     }
 
-    /// One entry at most comes, and it is for somebody. Where no number is open a fault is not refused. Where memory
-    /// runs out, entries and bytes are as they were.
+    /// Adds at most one entry, which has a receiver. If no number is open, a fault is not refused. If memory runs out,
+    /// entries and bytes are unchanged.
     fn fault(&mut self, error: SocketError) -> Result<(), NoMemory>
         ensures port { self.new.port ≡ self.old.port }
         ensures ok { OnOk result (ListsGain (λ w. fault_share w error)
@@ -142,7 +142,7 @@ impl Deliveries for Log {
         self.store.first(alloc, whose)
     }
 
-    /// No entry and no byte more is kept than before.
+    /// Adds no entry and no byte.
     fn drop_first(&mut self, whose: Option<u32>)
         requires { (d : Waiting) × (ds : List Waiting)
             × (pending_of self.old whose ≡ Some (d ∷ ds)) }
@@ -155,7 +155,7 @@ impl Deliveries for Log {
         self.store.drop_first(whose);
     }
 
-    /// No entry and no byte more is kept than before.
+    /// Adds no entry and no byte.
     fn clear(&mut self, whose: Option<u32>)
         ensures port { self.new.port ≡ self.old.port }
         ensures cleared { pending_of self.new whose

@@ -12,17 +12,17 @@ use neli_reader::Nlmsghdr;
 use neli_wire::{Cursor, DeError, FromBytes, NoMemory};
 use std::alloc::Global;
 
-/// The sequence number and the port of a message, by which its handle is found.
+/// The sequence number and the port of a message, which identify its handle.
 #[derive(Clone, Copy)]
 pub(crate) struct Address {
     pub(crate) number: u32,
     pub(crate) port: u32,
 }
 
-/// Whose the message is that the cursor's rest begins with, where it can be read untyped, or its fault. The cursor
-/// moves past a message, and stays at a fault.
+/// Returns the number and port of the message at the front of the cursor's rest, if it can be read untyped, or its
+/// fault. The cursor moves past a message, and stays at a fault.
 ///
-/// Refused only where memory runs out: it is taken for errors and the like, to see whether they can be read.
+/// Refused only if memory runs out: error messages and the like take some, to see whether they can be read.
 pub(crate) fn next_message(
     alloc: Global,
     cursor: &mut Cursor<'_>,

@@ -1,4 +1,4 @@
-//! An entry as a caller's types.
+//! An entry as the caller's types.
 
 ghost use Rattle.std.specs.Prelude.{IfOk, OnErr};
 ghost use Rattle.neli_reader.specs.Messages.{message_from};
@@ -13,7 +13,7 @@ use neli_reader::{Nlmsghdr, RouterError};
 use neli_wire::{FromBytesWithInput, NoMemory, Size};
 use std::alloc::Global;
 
-/// The message that a span's bytes are, or why it can't be read as these types.
+/// Returns the message in a span's bytes, or why it cannot be read as these types.
 pub(crate) fn typed<T: NlType, P: FromBytesWithInput + Size>(
     alloc: Global,
     span: &[u8],

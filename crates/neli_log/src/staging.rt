@@ -1,4 +1,4 @@
-//! What a datagram brings, before any list changes.
+//! The deliveries of a datagram, before any list changes.
 
 ghost use Rattle.std.specs.Prelude.{◌≡◌, ◌<◌, ℕ, List, [], ◌∷◌, None, Some, Option, IfOk, OnOk, length};
 ghost use Rattle.neli_wire.specs.Place.{whole};
@@ -21,8 +21,8 @@ use neli_util::Groups;
 use neli_wire::{Cursor, DeError, NoMemory};
 use std::alloc::Global;
 
-/// The entry of a message: for multicast where there are groups, else for the number that it answers, or as a
-/// stray for all.
+/// The entry of a message: for multicast if there are groups, else for the number that it answers, or as a stray for
+/// all.
 fn entry_of(
     port: u32,
     places: &Places<Content>,
@@ -55,7 +55,7 @@ fn entry_of(
     }
 }
 
-/// Adds the entry of a message, if somebody gets it.
+/// Adds the entry of a message, if it has a receiver.
 fn stage_message(
     port: u32,
     places: &Places<Content>,
@@ -78,7 +78,7 @@ fn stage_message(
     Ok(())
 }
 
-/// Adds the entry of the fault at which a datagram ends, if somebody gets it.
+/// Adds the entry of the fault that ends a datagram, if it has a receiver.
 fn stage_fault(
     places: &Places<Content>,
     fault: DeError,
@@ -99,7 +99,7 @@ fn stage_fault(
     Ok(())
 }
 
-/// Adds the entry of the message that the cursor's rest begins with, and moves past it; or gives its fault.
+/// Adds the entry of the message at the front of the cursor's rest, and moves past it; or returns its fault.
 fn stage_next(
     alloc: Global,
     port: u32,
@@ -166,9 +166,9 @@ fn stage_messages(
     Ok((entries, None))
 }
 
-/// The entries that a datagram brings which came to these groups; its spans have this serial number.
+/// Returns the entries of a datagram that arrived for these groups; its spans have this serial number.
 ///
-/// Refused only where memory runs out.
+/// Refused only if memory runs out.
 pub(crate) fn staged(
     alloc: Global,
     port: u32,

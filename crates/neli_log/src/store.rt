@@ -1,4 +1,4 @@
-//! The parts of a log, and what is done to them.
+//! The parts of a log, and the operations on them.
 
 ghost use Rattle.std.specs.Prelude.{◌≡◌, ◌↔◌, ◌++◌, ◌+◌, ◌≤◌, ℕ, List, [], ◌∷◌, Option, None, Some, IfOk, IsOk};
 ghost use Rattle.std.specs.Prelude.{OnErr, OnOk, is_some, length, map, option_map, true};
@@ -44,7 +44,7 @@ fn would_block(error: &SocketError) -> bool
 }
 
 impl Store {
-    /// Nothing, for a router with this port. It takes no memory.
+    /// An empty store for a router with this port. It takes no memory.
     pub(crate) fn new(alloc: Global, port: u32) -> Self
         ensures port { result.port ≡ port }
         ensures multicast { pending_of result None ≡ Some [] }
@@ -59,14 +59,14 @@ impl Store {
         }
     }
 
-    /// Whether there is a list for this number, or for multicast.
+    /// Whether a list for this number, or for multicast, is open.
     pub(crate) fn is_open(&self, whose: Option<u32>) -> bool
         ensures { result ≡ is_some (pending_of self.now whose) }
     {
         self.places.is_open(whose)
     }
 
-    /// Lets go of what nobody waits for any more.
+    /// Removes the entries for which no list waits any more.
     fn trim(&mut self)
         requires { IsUntrimmed self.old }
         ensures port { self.new.port ≡ self.old.port }
@@ -93,7 +93,7 @@ impl Store {
         Ok(())
     }
 
-    /// Takes a list away, with what waits there.
+    /// Removes a list with its deliveries.
     pub(crate) fn close(&mut self, whose: Option<u32>)
         requires { IsTrimmedAndBacked self.old }
         ensures port { self.new.port ≡ self.old.port }
@@ -106,7 +106,7 @@ impl Store {
         self.trim();
     }
 
-    /// Takes away what waits first.
+    /// Removes the first delivery that waits.
     pub(crate) fn drop_first(&mut self, whose: Option<u32>)
         requires { IsTrimmedAndBacked self.old }
         ensures port { self.new.port ≡ self.old.port }
@@ -120,7 +120,7 @@ impl Store {
         self.trim();
     }
 
-    /// Takes away all that waits in a list, if it is open.
+    /// Removes all deliveries of a list, if it is open.
     pub(crate) fn clear(&mut self, whose: Option<u32>)
         requires { IsTrimmedAndBacked self.old }
         ensures port { self.new.port ≡ self.old.port }
@@ -135,7 +135,7 @@ impl Store {
         }
     }
 
-    /// Keeps these entries, whose spans are of these bytes.
+    /// Stores these entries, whose spans are of these bytes.
     fn hand_over(&mut self, bytes: &[u8], entries: Vec<Entry<Content>>) -> Result<(), NoMemory>
         requires log { IsTrimmedAndBacked self.old }
         requires spans { AreSpansOf (next_serial self.old.datagrams) (length bytes.now)
@@ -159,7 +159,7 @@ impl Store {
         Ok(())
     }
 
-    /// Hands over what a datagram holds, that came to these groups.
+    /// Delivers the messages and the fault of a datagram that arrived for these groups.
     pub(crate) fn datagram(&mut self, bytes: &[u8], groups: &Groups) -> Result<(), NoMemory>
         requires { IsTrimmedAndBacked self.old }
         ensures port { self.new.port ≡ self.old.port }
@@ -184,7 +184,8 @@ impl Store {
         self.hand_over(bytes, entries)
     }
 
-    /// Hands a fault of the link to each open number, unless it is that the link would block.
+    /// Delivers a fault of the link to each open number, unless the fault is that the link would
+    /// block.
     pub(crate) fn fault(&mut self, error: SocketError) -> Result<(), NoMemory>
         requires { IsTrimmedAndBacked self.old }
         ensures port { self.new.port ≡ self.old.port }
@@ -234,7 +235,7 @@ impl Store {
         }
     }
 
-    /// What waits first, read as these types, or that nothing waits.
+    /// Returns the first delivery that waits, read as these types, or that nothing waits.
     pub(crate) fn first<T: NlType, P: FromBytesWithInput + Size>(
         &self,
         alloc: Global,
@@ -253,7 +254,7 @@ impl Store {
         }
     }
 
-    /// How many entries are kept.
+    /// Returns the number of kept entries.
     pub(crate) fn kept(&self) -> usize
         requires { IsTrimmedAndBacked self.now }
         ensures kept { result ≡ entry_count self.now }
@@ -263,7 +264,7 @@ impl Store {
         self.places.len()
     }
 
-    /// How many bytes of datagrams are kept.
+    /// Returns the number of kept bytes of datagrams.
     pub(crate) fn kept_bytes(&self) -> usize
         requires { IsTrimmedAndBacked self.now }
         ensures bytes { result ≡ byte_count self.now }

@@ -88,7 +88,7 @@ long_push : {T : Type 0} (es : List (Entry T)) (e : Entry T) → length (es ++ e
 long_push [] e = omega arith
 long_push (x ∷ es) e = let f = long_push es e in omega arith
 
--- nobody else's entry
+-- an entry for another list
 pub own_one : (w v : Option ℕ) (r : Route) → leads_only w r ≡ true → leads_only v r ≡ true → v ≡ w
 own_one None None r a b = refl
 own_one None (Some q) Multicast a b = cc
@@ -425,7 +425,7 @@ seen_from shared_base base es p x from seen h = rw (from, seen) h
 module _ {T : Type 0} (place place' : Option ℕ → Option Place) (numbers numbers' : List Place) (base shared_base c : ℕ)
     (es : List (Entry T)) (links : List (Option ℕ)) (shared : List Shared) (e : Entry T)
     (h : AreSound place numbers base shared_base c es links shared) (room : base + length es + 1 < 2 ^ 64) where
-  -- the length of the links
+  -- the number of links
   relinked_long : (o : Option Chain) (m : ℕ) → length (links_with base o m links) ≡ length links
   relinked_long None m = refl
   relinked_long (Some o) m = length-set links (o.last - base) (Some m)
@@ -506,7 +506,7 @@ pub first_open : (entries : List (ℕ × Place)) → 0 < length entries
 first_open [] h = absurd (omega arith)
 first_open (e ∷ es) h = (e.0, e.1, rw (eqb_refl e.0) refl)
 
--- the same, of the lists that a call leaves
+-- the same, for the lists that a call leaves
 pub pending_added : {T : Type 0} (w : Option ℕ) (base : ℕ) (es es' : List (Entry T)) (e : Entry T) (o o' : Option Place)
     → es' ≡ es ++ e ∷ [] → option_map (λ p. p.from) o' ≡ option_map (λ p. p.from) o
     → ((p : Place) → o ≡ Some p → p.from ≤ base + length es)

@@ -1,4 +1,4 @@
--- A place is put, moved or removed.
+-- A place is added, moved or removed.
 use Rattle.std.proofs.Common.{ℕ, zero, suc, ◌≡◌, ◌≢◌, ◌+◌, ◌-◌, ◌≤◌, ◌<◌, false, cond, List, [], ◌∷◌, length, drop}
 use Rattle.std.proofs.Common.{take, map, get_or, Option, Some, None, refl, sym, ap, ◌∙◌, inl, inr, ◌⊎◌, arith}
 use Rattle.std.specs.Prelude.{◌==◌, if◌then◌else◌, nat_eq}
@@ -100,7 +100,7 @@ positions_set [] i x y l h e = absurd (omega arith)
 positions_set (s ∷ ss) zero x y l h e = let f : y.at ≡ s.at = e ∙ ap (λ z. z.at) h in ap (λ a. a ∷ map (λ z. z.at) ss) f
 positions_set (s ∷ ss) (suc i) x y l h e = ap (λ t. s.at ∷ t) (positions_set ss i x y (omega arith) h e)
 
--- each place is one of before, or this one
+-- each place is an earlier one, or this one
 abbrev pub Changed : (Option ℕ → Option Place) → (Option ℕ → Option Place) → Option ℕ → Place → Type 0
 Changed place place' w x = (v : Option ℕ) (p : Place) → place' v ≡ Some p → (place v ≡ Some p) ⊎ ((v ≡ w) × (p ≡ x))
 
@@ -233,7 +233,7 @@ count_split (suc k) (e ∷ es) = elim (true_or_false (is_shared e.route)) [
   | inr it ↦ rw it (count_split k es)
 ]
 
--- what is known of a place's serial number
+-- the facts about a place's serial number
 pub seen_bounds : {T : Type 0} (shared_base base : ℕ) (es : List (Entry T)) (shared : List Shared) (p : Place)
     → map (λ s. s.at) shared ≡ shared_positions base es → CountsPassed shared_base base es p
     → (shared_base ≤ p.shared_passed) × (p.shared_passed - shared_base ≤ length shared)
@@ -327,7 +327,7 @@ module _ {S T : Type 0} (m n : HashMap ℕ Place S) (place place' : Option ℕ
       let f = few_waiting (shared_base + length shared) (values m) in
       omega (arith, a, b, f, length-values_of m.entries)
 
-  -- a place after the last entry is put
+  -- a place after the last entry is added
   pub sound_opened : (q : ℕ) (x : Place) (old : Option Place) → place (Some q) ≡ None → get nat_eq m q ≡ None
       → old ≡ get nat_eq m q → PutsEntry nat_eq m n q x old
       → place' None ≡ place None → ((r : ℕ) → place' (Some r) ≡ cond (nat_eq q r) (Some x) (place (Some r)))

@@ -1,4 +1,4 @@
--- How many entries are kept.
+-- The number of kept entries.
 use Rattle.std.proofs.Common.{ℕ, zero, suc, ◌≡◌, ◌-◌, List, [], ◌∷◌, length, drop, get_or, ◌<◌, Option, Some, None}
 use Rattle.std.proofs.Common.{refl, arith, ap, sym}
 use Rattle.std.specs.Option.{option_map}

@@ -62,7 +62,7 @@ earlier_second : (n : ℕ) (x : Option ℕ) → ((m : ℕ) → x ≡ Some m → 
 earlier_second n None h = refl
 earlier_second n (Some m) h = let le = h m refl in let t : nat_le m n ≡ false = grind (arith, nat_tests) in rw t refl
 
--- what goes to multicast goes to it alone
+-- an entry for multicast goes to no other list
 pub found_own : {T : Type 0} (n : ℕ) (es : List (Entry T))
     → first_position (leads_only None) n es ≡ first_position (leads None) n es
 found_own n [] = refl
@@ -219,7 +219,7 @@ slice_get_end [] i e h = cc
 slice_get_end (x ∷ es) zero e h = omega arith
 slice_get_end (x ∷ es) (suc i) e h = let f = slice_get_end es i e h in omega arith
 
--- what a position that was found from a place on says of all entries
+-- a position found from a place on, stated about all entries
 pub record IsNext {T : Type 0} (w : Option ℕ) (base : ℕ) (es : List (Entry T)) (p : Place) (m : ℕ) (i : ℕ)
     (e : Entry T) : Type 0 where
   pub position : m ≡ base + (p.from - base) + i

@@ -189,7 +189,7 @@ module _ {T : Type 0} (w : Option ℕ) (base : ℕ) (es : List (Entry T)) (links
       → x.shared_passed ≡ p.shared_passed + 1 → CountsPassed shared_base base es p → CountsPassed shared_base base es x
   seen_shared q shared_base x is it from same h = let a = counted_shared q is it in rw from (omega (arith, a, h, same))
 
--- how what waits changes
+-- the change of the waiting items
 pub passed_pending : {T : Type 0} (w : Option ℕ) (base : ℕ) (es : List (Entry T)) (p x : Place) (o o' : Option Place)
     (m : ℕ) (d : T) (ds : List T) → o ≡ Some p → o' ≡ Some x → x.from ≡ m + 1
     → first_position (leads w) (base + (p.from - base)) (rest base es p) ≡ Some m
@@ -201,7 +201,7 @@ passed_pending w base es p x o o' m d ds is is' from h old =
     let same : items_for w (drop (m + 1 - base) es) ≡ ds = cc in
     rw (is', from) (ap Some same)
 
--- nothing waited
+-- no item waited
 pub nothing_pending : {T : Type 0} (w : Option ℕ) (base : ℕ) (es : List (Entry T)) (p : Place) (o : Option Place)
     (d : T) (ds : List T) → o ≡ Some p → items_for w (rest base es p) ≡ []
     → option_map (λ p. items_for w (rest base es p)) o ≡ Some (d ∷ ds) → ⊥
@@ -218,7 +218,7 @@ own_by_multicast Multicast t = refl
 own_by_multicast (Number n) t = cc
 own_by_multicast Numbers t = cc
 
--- any entry at that position is the one that was found
+-- every entry at that position is the one that was found
 pub same_entry : {A : Type 0} (es : List A) (i : ℕ) (e x : A) → slice_get es i ≡ Some e → slice_get es i ≡ Some x
     → e ≡ x
 same_entry es i e x a b = cc

@@ -1,4 +1,4 @@
--- Who gets an entry.
+-- The receivers of an entry.
 use Rattle.std.proofs.Common.{ap, ℕ, ◌≡◌, ◌<◌, ◌∙◌, true, List, [], ◌∷◌, length, Option, Some, None, refl, sym, arith}
 use Rattle.std.proofs.Common.{nat_eq, is_some, option_map}
 use Rattle.std.specs.HashMap.{HashMap, get}

@@ -1,4 +1,4 @@
--- Entries and the places among them: what a list waits for, and how the fields say it.
+-- Entries and the places among them: the items that a list waits for, and their form in the fields.
 use Rattle.std.specs.Prelude.{ℕ, zero, suc, ◌≡◌, ◌≤◌, ◌<◌, ◌+◌, ◌-◌, ◌^◌, true, ◌==◌, List, [], ◌∷◌, ◌++◌, Option, Some}
 use Rattle.std.specs.Prelude.{None, length, drop, take, map, count_by, nat_eq, slice_set}
 use Rattle.std.specs.Option.{is_some, option_map}
@@ -13,26 +13,26 @@ use Rattle.neli_places.specs.declared.place.Shared.{Shared}
 use Rattle.neli_places.specs.declared.places.Places.{Places}
 use Rattle.neli_places.specs.Routes.{leads, leads_only, items_for, first_position, shared_positions, shared_count}
 
--- ---- what a list waits for
+-- ---- the items that a list waits for
 
--- the entries that are kept, the earliest first
+-- the kept entries, the earliest first
 abbrev pub entries_of : {T : Type 0} → Places T → List (Entry T)
 entries_of s = s.entries.items
 
--- the place of a number, or of multicast (None), where it is open
+-- the place of a number, or of multicast (None), if it is open
 abbrev pub place_of : {T : Type 0} → Places T → Option ℕ → Option Place
 place_of s None = s.multicast
 place_of s (Some q) = get nat_eq s.numbers q
 
--- the entries from a place on, where the first entry of all has the position `base`
+-- the entries from a place on, if the first entry of all has the position `base`
 abbrev pub rest : {T : Type 0} → ℕ → List (Entry T) → Place → List (Entry T)
 rest base es p = drop (p.from - base) es
 
--- what a list waits for, where it is open: the items of the entries from its place on that go there
+-- the items that a list waits for, if it is open: those of the entries from its place on with its route
 abbrev pub pending_of : {T : Type 0} → Places T → Option ℕ → Option (List T)
 pending_of s w = option_map (λ p. items_for w (rest s.base s.entries.items p)) (place_of s w)
 
--- the first of a list that is there and not empty
+-- the first item of a list that exists and is not empty
 abbrev pub head_of : {T : Type 0} → Option (List T) → Option T
 head_of None = None
 head_of (Some []) = None
@@ -42,7 +42,7 @@ head_of (Some (x ∷ xs)) = Some x
 abbrev pub Gains : {T : Type 0} → (Option ℕ → Option (List T)) → Entry T → (Option ℕ → Option (List T)) → Type 0
 Gains before e after = (w : Option ℕ) → after w ≡ option_map (λ xs. xs ++ items_for w (e ∷ [])) (before w)
 
--- somebody gets an entry with this route: a list is open to which it goes
+-- an entry with this route has a receiver: a list to which it goes is open
 abbrev pub HasReader : {T : Type 0} → (Option ℕ → Option (List T)) → Route → Type 0
 HasReader pending route = (w : Option ℕ) × (is_some (pending w) ≡ true) × (leads w route ≡ true)
 
@@ -54,7 +54,7 @@ next_position s w p = first_position (leads w) (s.base + (p.from - s.base)) (res
 abbrev pub RouteAt : {T : Type 0} → Places T → ℕ → (Route → Type 0) → Type 0
 RouteAt {T} s m P = (e : Entry T) → slice_get s.entries.items (m - s.base) ≡ Some e → P e.route
 
--- ---- chains: the entries from index k on that go to one list alone
+-- ---- chains: the entries from index k on that go to one list only
 
 -- the first and the last of them
 abbrev pub IsChain : {T : Type 0} → Option ℕ → ℕ → List (Entry T) → ℕ → Option Chain → Type 0
@@ -96,13 +96,13 @@ abbrev pub links_with : ℕ → Option Chain → ℕ → List (Option ℕ) → L
 links_with base None m links = links
 links_with base (Some c) m links = slice_set links (c.last - base) (Some m)
 
--- ---- entries for all numbers: the serial number of one is how many came before it
+-- ---- entries for all numbers: the serial number of one is the number of those before it
 
--- how many places wait for that with the serial number n before any other
+-- the number of places that wait for that with the serial number n before any other
 abbrev pub waiting_count : ℕ → List Place → ℕ
 waiting_count n ps = count_by (λ p. p.shared_passed == n) ps
 
--- the same as it is kept, by index: for each such entry, and for the next one that has not come
+-- the same in the stored form, by index: for each such entry, and for the next one, which has not arrived
 abbrev pub readers_at : List Shared → ℕ → ℕ → ℕ
 readers_at [] caught_up zero = caught_up
 readers_at [] caught_up (suc n) = 0
@@ -115,14 +115,14 @@ CountsPassed shared_base base es p = p.shared_passed ≡ shared_base + shared_co
 
 -- ---- the whole
 
--- a place, as it is kept
+-- a place in its stored form
 pub record IsPlace {T : Type 0} (w : Option ℕ) (base : ℕ) (es : List (Entry T)) (links : List (Option ℕ))
     (p : Place) : Type 0 where
   pub within : p.from ≤ base + length es
   pub chain : IsChain w base es (p.from - base) p.chain
   pub linked : IsLinked w base es links (p.from - base)
 
--- the fields say the same as the entries: `place` are the places, `numbers` those of numbers in any order
+-- the fields agree with the entries: `place` are the places, `numbers` those of numbers in any order
 pub record AreSound {T : Type 0} (place : Option ℕ → Option Place) (numbers : List Place)
     (base shared_base caught_up : ℕ) (es : List (Entry T)) (links : List (Option ℕ))
     (shared : List Shared) : Type 0 where
@@ -148,12 +148,12 @@ AwaitsFirst place base route =
 abbrev pub HavePassedFirst : (Option ℕ → Option Place) → ℕ → Route → Type 0
 HavePassedFirst place base route = (w : Option ℕ) (p : Place) → place w ≡ Some p → leads w route ≡ true → base < p.from
 
--- nothing is kept, or the least place stands at the first entry
+-- no entry is kept, or the least place stands at the first entry
 abbrev pub BeginsAwaited : {T : Type 0} → (Option ℕ → Option Place) → ℕ → List (Entry T) → Type 0
 BeginsAwaited place base [] = Unit {0}
 BeginsAwaited place base (e ∷ es) = AwaitsFirst place base e.route
 
--- nothing is kept that nobody waits for: no entry before the least place, and none at all where no place is left
+-- no entry is kept before the least place, and none at all without a place
 pub record IsTrimmed {T : Type 0} (s : Places T) : Type 0 where
   pub sound : IsSound s
   pub begins : BeginsAwaited (place_of s) s.base s.entries.items

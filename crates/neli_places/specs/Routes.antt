@@ -1,4 +1,4 @@
--- To whom entries go.
+-- The receivers of entries.
 use Rattle.std.specs.Prelude.{ℕ, suc, Bool, true, false, ◌==◌, nat_le, if◌then◌else◌, List, [], ◌∷◌, Option, Some, None}
 use Rattle.neli_places.specs.declared.entry.Route.{Route}
 use Rattle.neli_places.specs.declared.entry.Route.TheVariants.{Multicast, Number, Numbers}
@@ -13,7 +13,7 @@ leads (Some q) Multicast = false
 leads (Some q) (Number n) = n == q
 leads (Some q) Numbers = true
 
--- the same, and to nobody else
+-- the same, and to no other list
 abbrev pub leads_only : Option ℕ → Route → Bool
 leads_only None Multicast = true
 leads_only None (Number n) = false
@@ -37,7 +37,7 @@ abbrev pub items_for : {T : Type 0} → Option ℕ → List (Entry T) → List T
 items_for w [] = []
 items_for w (e ∷ es) = if leads w e.route then e.item ∷ items_for w es else items_for w es
 
--- the position of the first entry whose route passes, where the first entry of all has the position n
+-- the position of the first entry whose route passes, if the first entry of all has the position n
 abbrev pub first_position : {T : Type 0} → (Route → Bool) → ℕ → List (Entry T) → Option ℕ
 first_position p n [] = None
 first_position p n (e ∷ es) = if p e.route then Some n else first_position p (suc n) es
@@ -47,12 +47,12 @@ abbrev pub shared_positions : {T : Type 0} → ℕ → List (Entry T) → List �
 shared_positions n [] = []
 shared_positions n (e ∷ es) = if is_shared e.route then n ∷ shared_positions (suc n) es else shared_positions (suc n) es
 
--- how many they are
+-- their number
 abbrev pub shared_count : {T : Type 0} → List (Entry T) → ℕ
 shared_count [] = 0
 shared_count (e ∷ es) = if is_shared e.route then suc (shared_count es) else shared_count es
 
--- the lesser of two positions, where there are two
+-- the lesser of two positions, if there are two
 abbrev pub lesser_of : Option ℕ → Option ℕ → Option ℕ
 lesser_of None b = b
 lesser_of (Some a) None = Some a

@@ -1,4 +1,4 @@
-//! An entry is added after the others.
+//! Adds an entry after the others.
 
 ghost use Rattle.std.specs.Prelude.{◌≡◌, ◌+◌, ◌<◌, ◌++◌, ◌∷◌, [], None, Some, length};
 ghost use Rattle.std.specs.VecDeque.{deque_capacity, deque_len};
@@ -14,7 +14,7 @@ use crate::places::Places;
 use std::collections::VecDeque;
 
 impl<T: Drop> Places<T> {
-    /// Keeps an item for multicast, which has this place.
+    /// Stores an item for multicast, which has this place.
     pub(crate) fn add_to_multicast(&mut self, item: T, p: Place)
         requires trimmed { IsTrimmed self.old }
         requires is { place_of self.old None ≡ Some p }
@@ -40,7 +40,7 @@ impl<T: Drop> Places<T> {
         );
     }
 
-    /// Keeps an item for one number, which has this place.
+    /// Stores an item for one number, which has this place.
     pub(crate) fn add_to_number(&mut self, item: T, n: u32, p: Place)
         requires trimmed { IsTrimmed self.old }
         requires is { place_of self.old (Some n) ≡ Some p }
@@ -66,7 +66,7 @@ impl<T: Drop> Places<T> {
         );
     }
 
-    /// Keeps an item for all open numbers, of which there is one.
+    /// Stores an item for all open numbers, of which at least one exists.
     pub(crate) fn add_to_numbers(&mut self, item: T)
         requires trimmed { IsTrimmed self.old }
         requires some { 0 < length self.old.numbers.entries }
@@ -96,7 +96,7 @@ impl<T: Drop> Places<T> {
     }
 }
 
-/// Adds an entry, and no link from it, where there is room.
+/// Adds an entry without a link, if there is room.
 fn append<T: Drop>(
     entries: &mut VecDeque<Entry<T>>,
     links: &mut VecDeque<Option<u64>>,

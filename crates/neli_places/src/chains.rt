@@ -1,4 +1,4 @@
-//! Chains: the entries that go to one list alone, each linked to the next.
+//! Chains: the entries that go to one list only, each linked to the next.
 
 ghost use Rattle.std.specs.Prelude.{◌≡◌, ◌+◌, ◌<◌, ◌≤◌, Some, length};
 ghost use Rattle.std.specs.VecDeque.{deque_capacity, deque_len};
@@ -66,7 +66,7 @@ pub(crate) fn link(links: &mut VecDeque<Option<u64>>, base: u64, chain: Option<C
     }
 }
 
-/// The lesser of two positions, where there are two.
+/// The lesser of two positions, if there are two.
 pub(crate) fn lesser_of(a: Option<u64>, b: Option<u64>) -> Option<u64>
     ensures { result ≡ lesser_of a b }
 {

@@ -1,4 +1,4 @@
-//! How many places stand at each entry for all numbers, and the places by number.
+//! The number of places at each entry for all numbers, and the places by number.
 
 ghost use Rattle.std.specs.Prelude.{◌≡◌, ◌+◌, ◌^◌, ◌<◌, ◌≤◌, ◌==◌, ℕ, true, Some, if◌then◌else◌, is_some, length, map};
 ghost use Rattle.std.specs.Prelude.{nat_eq};
@@ -10,7 +10,7 @@ ghost use Rattle.neli_places.specs.Places.{readers_at};
 use crate::place::{Place, Shared};
 use std::collections::{HashMap, VecDeque};
 
-/// Puts another place for a number that has one.
+/// Replaces the place of a number that has one.
 pub(crate) fn put(numbers: &mut HashMap<u32, Place>, number: u32, place: Place)
     requires { is_some (get nat_eq numbers.old number) ≡ true }
     ensures updates { (q : ℕ) → get nat_eq numbers.new q
@@ -23,7 +23,7 @@ pub(crate) fn put(numbers: &mut HashMap<u32, Place>, number: u32, place: Place)
     }
 }
 
-/// One place fewer stands at the entry with this index, or at the next one that has not come.
+/// Counts one place fewer at the entry with this index, or at the next one, which has not arrived.
 pub(crate) fn lower(shared: &mut VecDeque<Shared>, caught_up: &mut usize, i: usize)
     requires within { i ≤ length shared.old.items }
     requires some { 0 < readers_at shared.old.items caught_up.old i }
@@ -40,7 +40,7 @@ pub(crate) fn lower(shared: &mut VecDeque<Shared>, caught_up: &mut usize, i: usi
     }
 }
 
-/// One place more stands at the entry with this index, or at the next one that has not come.
+/// Counts one place more at the entry with this index, or at the next one, which has not arrived.
 pub(crate) fn raise(shared: &mut VecDeque<Shared>, caught_up: &mut usize, i: usize)
     requires within { i ≤ length shared.old.items }
     requires few { readers_at shared.old.items caught_up.old i < 2 ^ 63 }

@@ -1,6 +1,6 @@
 //! Entries and their routes.
 
-/// To whom an entry goes, decided when it came.
+/// The receivers of an entry, decided on arrival.
 #[derive(Clone, Copy, Debug, PartialEq, Eq)]
 pub enum Route {
     /// To multicast.
@@ -11,11 +11,11 @@ pub enum Route {
     Numbers,
 }
 
-/// An item, and to whom it goes.
+/// An item, and its receivers.
 #[derive(Drop)]
 pub struct Entry<T> {
-    /// What is kept.
+    /// The item.
     pub item: T,
-    /// To whom it goes.
+    /// The receivers.
     pub route: Route,
 }

@@ -1,4 +1,4 @@
-//! The first entry goes, and places go.
+//! Removes the first entry, and places.
 
 ghost use Rattle.std.specs.Prelude.{◌≡◌, ◌≢◌, ◌<◌, ℕ, true, false, Option, None, Some, drop, slice_get};
 ghost use Rattle.neli_places.specs.Lists.{SameLists, SameListsBut};
@@ -28,7 +28,7 @@ impl<T: Drop> Places<T> {
                 Some(p) => p.from <= self.base,
             },
             Route::Numbers => {
-                // The prover learns here that no number has two places.
+                // This shows the prover that no number has two places.
                 let _ = self.numbers.len();
                 match self.shared.front() {
                     None => false,
@@ -38,7 +38,7 @@ impl<T: Drop> Places<T> {
         }
     }
 
-    /// Takes out the first entry, for which no place waits.
+    /// Removes the first entry, for which no place waits.
     pub(crate) fn forget(&mut self, route: Route) -> Option<Entry<T>>
         requires sound { IsSound self.old }
         requires at { BeginsWith self.old route }
@@ -93,7 +93,7 @@ impl<T: Drop> Places<T> {
         first
     }
 
-    /// Takes multicast's place away.
+    /// Removes multicast's place.
     pub(crate) fn remove_multicast(&mut self)
         requires { IsSound self.old }
         ensures entries { entries_of self.new ≡ entries_of self.old }
@@ -106,7 +106,7 @@ impl<T: Drop> Places<T> {
         self.multicast = None;
     }
 
-    /// Takes the place of a number away, if it has one.
+    /// Removes the place of a number, if it has one.
     pub(crate) fn remove_number(&mut self, n: u32)
         requires { IsSound self.old }
         ensures entries { entries_of self.new ≡ entries_of self.old }

@@ -6,7 +6,7 @@ ghost use Rattle.neli_places.specs.declared.entry.Route.{Route as Way};
 
 use crate::Route;
 
-/// `==` of routes is true exactly where the two are the same.
+/// `==` of routes is true exactly if both are the same.
 pub fn equality()
     ensures { (a b : Way) → Decides (⟦<Route as PartialEq>⟧.eq a b) (a ≡ b) }
 {}

@@ -56,7 +56,8 @@ impl<T: Drop> Places<T> {
         self.multicast = Some(self.after_own(None, p, m));
     }
 
-    /// Moves a number's place past the entry at position `m`, its first, which goes to it alone.
+    /// Moves a number's place past the entry at position `m`, its first, which goes to that number
+    /// only.
     pub(crate) fn pass_number(&mut self, n: u32, p: Place, m: u64)
         requires sound { IsSound self.old }
         requires is { place_of self.old (Some n) ≡ Some p }
@@ -88,7 +89,7 @@ impl<T: Drop> Places<T> {
         ensures room { KeepsRoom self.old self.new }
         ensures place_room { KeepsPlaceRoom self.old self.new }
     {
-        // The prover learns here that a count of places fits: there are fewer than 2^63 numbers.
+        // This shows the prover that a count of places fits: there are fewer than 2^63 numbers.
         let _ = self.numbers.len();
         let i = (p.shared_passed - self.shared_base) as usize;
         lower(&mut self.shared, &mut self.caught_up, i);
@@ -101,7 +102,7 @@ impl<T: Drop> Places<T> {
         put(&mut self.numbers, n, after);
     }
 
-    /// The place after the entry at position `m`, its first, which goes to this list alone.
+    /// The place after the entry at position `m`, its first, which goes to this list only.
     fn after_own(&self, whose: Option<u32>, p: Place, m: u64) -> Place
         requires sound { IsSound self.now }
         requires is { place_of self.now whose ≡ Some p }

@@ -7,10 +7,10 @@ pub(crate) struct Chain {
     pub(crate) last: u64,
 }
 
-/// Where a list stands: it waits for what comes from the position `from` on.
+/// The place of a list: it waits for the entries from the position `from` on.
 ///
-/// `chain` are the entries there that go to this list alone, and `shared_passed` counts the entries for all numbers
-/// before it, also those that are gone.
+/// `chain` are the entries there that go to this list only, and `shared_passed` counts the entries for all numbers
+/// before it, including removed ones.
 #[derive(Clone, Copy)]
 pub(crate) struct Place {
     pub(crate) from: u64,
@@ -18,7 +18,7 @@ pub(crate) struct Place {
     pub(crate) shared_passed: u64,
 }
 
-/// An entry for all numbers: its position, and how many places wait for it before any other such entry.
+/// An entry for all numbers: its position, and the number of places that wait for it before any other such entry.
 #[derive(Clone, Copy)]
 pub(crate) struct Shared {
     pub(crate) at: u64,

@@ -1,4 +1,4 @@
-//! The entries, and who waits for which.
+//! The entries, and the lists that wait for them.
 
 ghost use Rattle.std.specs.HashMap.{spare};
 ghost use Rattle.std.specs.Prelude.{◌≡◌, ◌≢◌, ◌↔◌, ◌≤◌, ◌+◌, ◌++◌, ℕ, List, [], ◌∷◌, Option, None, Some, IfSome, IsNone, IsOk};
@@ -15,8 +15,8 @@ use crate::place::{Place, Shared};
 use std::alloc::{AllocError, Global};
 use std::collections::{HashMap, VecDeque};
 
-/// Entries in the order in which they came, each kept once however many wait for it, and a place for each open
-/// number and for multicast.
+/// Entries in the order of arrival, each stored once however many lists wait for it, and a place for each open number
+/// and for multicast.
 ///
 /// Contracts see what each list waits for, by number or for multicast (`None`), or that it is not open.
 #[derive(Drop)]
@@ -71,7 +71,7 @@ impl<T: Drop> Places<T> {
         self.place(whose).is_some()
     }
 
-    /// Whether somebody gets an entry with this route.
+    /// Whether an entry with this route has a receiver.
     pub fn has_reader(&self, route: Route) -> bool
         ensures { IsTrue result ↔ HasReader (pending_of self.now) route }
     {
@@ -84,8 +84,8 @@ impl<T: Drop> Places<T> {
 
     /// Gives a number that has no place one after the last entry.
     ///
-    /// Refused only where memory runs out, and then nothing changes. Where the table of numbers has room for one
-    /// more, none is taken.
+    /// Refused only if memory runs out; then nothing changes. If the table of numbers has room for one more, no memory
+    /// is taken.
     pub fn open(&mut self, number: u32) -> Result<(), AllocError>
         requires closed { pending_of self.old (Some number) ≡ None }
         requires trimmed { IsTrimmed self.old }
@@ -99,7 +99,7 @@ impl<T: Drop> Places<T> {
         ensures room { KeepsRoom self.old self.new }
         ensures place_room { spare self.old.numbers ≤ spare self.new.numbers + 1 }
     {
-        // The prover learns here that the count of places fits: there are fewer than 2^63 numbers.
+        // This shows the prover that the count of places fits: there are fewer than 2^63 numbers.
         let _ = self.numbers.len();
         let from = self.base + self.entries.len() as u64;
         let shared_passed = self.shared_base + self.shared.len() as u64;
@@ -115,8 +115,8 @@ impl<T: Drop> Places<T> {
         Ok(())
     }
 
-    /// Takes a place away, if there is one. What nobody waits for any more is still kept:
-    /// [`Places::pop_unawaited`] takes it out.
+    /// Removes a place, if it exists. Entries for which no list waits any more are kept until [`Places::pop_unawaited`]
+    /// removes them.
     pub fn remove(&mut self, whose: Option<u32>)
         requires { IsSound self.old }
         ensures entries { entries_of self.new ≡ entries_of self.old }
@@ -132,7 +132,7 @@ impl<T: Drop> Places<T> {
         }
     }
 
-    /// The first item that a list waits for, if it is open and waits for one.
+    /// Returns the first item that a list waits for, if it is open and waits for one.
     pub fn first(&self, whose: Option<u32>) -> Option<&T>
         requires { IsTrimmed self.now }
         ensures { option_map (λ x. x.now) result ≡ head_of (pending_of self.now whose) }
@@ -146,8 +146,8 @@ impl<T: Drop> Places<T> {
         }
     }
 
-    /// Moves a place past the first item that its list waits for, if it waits for one. What nobody waits for any
-    /// more is still kept: [`Places::pop_unawaited`] takes it out.
+    /// Moves a place past the first item that its list waits for, if it waits for one. Entries for which no list waits
+    /// any more are kept until [`Places::pop_unawaited`] removes them.
     pub fn pass(&mut self, whose: Option<u32>)
         requires { IsSound self.old }
         ensures entries { entries_of self.new ≡ entries_of self.old }
@@ -174,7 +174,7 @@ impl<T: Drop> Places<T> {
         }
     }
 
-    /// Takes out the first entry's item, where nobody waits for it.
+    /// Removes the first entry and returns its item, if no list waits for it.
     pub fn pop_unawaited(&mut self) -> Option<T>
         requires { IsSound self.old }
         ensures taken { IfSome result (λ x. (route : Way)
@@ -199,10 +199,10 @@ impl<T: Drop> Places<T> {
         }
     }
 
-    /// Makes room for n more entries. Where it is there already, no memory is taken.
+    /// Makes room for n more entries. Takes no memory if the room exists already.
     ///
-    /// Refused where memory runs out, and where the positions of the entries would pass 64 bits; then all
-    /// lists are as they were.
+    /// Refused if memory runs out, or if the positions of the entries would exceed 64 bits; then all lists are as they
+    /// were.
     pub fn reserve(&mut self, n: usize) -> Result<(), AllocError>
         requires { IsTrimmed self.old }
         ensures entries { entries_of self.new ≡ entries_of self.old }
@@ -223,7 +223,7 @@ impl<T: Drop> Places<T> {
         Ok(())
     }
 
-    /// Keeps an entry after the others. Somebody gets it, and there is room.
+    /// Stores an entry after the others. It must have a receiver, and the room must exist.
     pub fn push(&mut self, added: Entry<T>)
         requires trimmed { IsTrimmed self.old }
         requires reader { HasReader (pending_of self.old) added.route }
@@ -250,7 +250,7 @@ impl<T: Drop> Places<T> {
         }
     }
 
-    /// How many entries are kept: none exactly where no list waits for anything.
+    /// Returns the number of kept entries: 0 exactly if no list waits for anything.
     pub fn len(&self) -> usize
         requires { IsTrimmed self.now }
         ensures len { result ≡ length (entries_of self.now) }

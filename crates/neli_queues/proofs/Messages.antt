@@ -1,4 +1,4 @@
--- A message as it is kept, and to whom it goes.
+-- A message as stored, and where it goes.
 use Rattle.std.proofs.Common.{◌≡◌, ◌∷◌, [], ℕ, Bool, false, List, refl, ap}
 use Rattle.neli_reader.specs.Messages.{message_from, message_of}
 use Rattle.neli_reader.specs.Framed.{Nlmsghdr}
@@ -16,7 +16,7 @@ payload_view-same (payload.Capped e) = refl
 payload_view-same (payload.DumpExtAck e) = refl
 payload_view-same payload.Empty = refl
 
--- a message is what is seen of it
+-- a message equals its view
 pub message_from_same : (m : Nlmsghdr ℕ (List ℕ)) → message_from (message_of (λ b. b) m) ≡ m
 message_from_same m = ap (λ (p : NlPayload ℕ (List ℕ)). message_from (m.header, p)) (payload_view-same m.payload)
 

@@ -1,4 +1,4 @@
--- What a number gains of pieces, and room for them.
+-- What a number gains from pieces, and room for them.
 use Rattle.std.proofs.Common.{◌≡◌, ◌+◌, ◌≤◌, ◌<◌, ◌^◌, ℕ, Bool, true, false, List, [], ◌∷◌, ◌++◌, length, Option, Some}
 use Rattle.std.proofs.Common.{None, option_map, refl, sym, ap, ◌∙◌, inl, inr, arith, append_assoc, length-append}
 use Rattle.std.specs.Prelude.{◌==◌, if◌then◌else◌, nat_eq}
@@ -14,16 +14,16 @@ use Rattle.neli_queues.specs.Pieces.{HaveRoom, deliveries_for, share}
 
 -- ---- a delivery for each of these numbers
 
--- what the number q gets of it
+-- the deliveries of them for the number q
 abbrev pub copies : Delivery → ℕ → List ℕ → List Delivery
 copies d q ks = flat_map (λ k. if k == q then d ∷ [] else []) ks
 
--- none, where q is not among them
+-- none, if q is not among them
 copies-none : (d : Delivery) (q : ℕ) (ks : List ℕ) → AllByRecursion (λ y. nat_eq q y ≡ false) ks → copies d q ks ≡ []
 copies-none d q [] n = refl
 copies-none d q (y ∷ ys) n = rw (ne_eqb y q (λ e. eqb-false q y n.0 (sym e))) (copies-none d q ys n.1)
 
--- one, where q is among them and no two are equal
+-- one, if q is among them and no two are equal
 pub copies-one : (d : Delivery) (q : ℕ) (ks : List ℕ) → IsDistinct nat_eq ks → is_member nat_eq ks q ≡ true
     → copies d q ks ≡ d ∷ []
 copies-one d q [] u has = cc
@@ -55,14 +55,14 @@ space_for at n (p ∷ ps) q ds all is some = elim (cases_eq p.number q) [
   | inr e ↦ space_for at n ps q ds (All-tail (HasSpace at n) p ps all) is (rw (ne_eqb p.number q e) at some)
 ]
 
--- each piece is one delivery at most, so there is room where each list has some for as many as there are pieces
+-- each piece is one delivery at most, so each list has room if it has space for as many deliveries as there are pieces
 pub HaveRoom-spaces : (at : ℕ → Option (List Delivery)) (ps : List Piece) → All (HasSpace at (length ps)) ps
     → HaveRoom at ps
 HaveRoom-spaces at ps all q ds is some = omega (arith, space_for at (length ps) ps q ds all is some, gain_of-le q ps)
 
--- ---- a piece is hung, and the others are left
+-- ---- a piece is moved to its list, and the others remain
 
--- a piece is appended, where it has room
+-- a piece is appended if it has room
 pub appended : (ok : Bool) (ds more new : List Delivery) → new ≡ (if ok then ds ++ more else ds)
     → (length ds + length more < 2 ^ 63 → ok ≡ true)
     → (0 < length more → length ds + length more < 2 ^ 63) → new ≡ ds ++ more
@@ -102,7 +102,7 @@ module _ (at new : ℕ → Option (List Delivery)) (p : Piece) (ps : List Piece)
   hung_more q None = refl
   hung_more q (Some ds) = ap Some (append_assoc ds (share q p) (deliveries_for q ps))
 
-  -- with the others, the lists are as with all
+  -- with the others, the lists become those with all
   pub hung-more : (q : ℕ) → option_map (λ ds. ds ++ deliveries_for q ps) (new q)
       ≡ option_map (λ ds. ds ++ deliveries_for q (p ∷ ps)) (at q)
   hung-more q = rw (hung q) (hung_more q (at q))

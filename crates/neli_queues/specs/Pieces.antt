@@ -10,15 +10,15 @@ use Rattle.neli_queues.specs.declared.piece.Piece.{Piece}
 abbrev pub is_open : {S : Type 0} → HashMap ℕ (List Delivery) S → ℕ → Bool
 is_open numbers q = is_some (get nat_eq numbers q)
 
--- what the number q has of a piece
+-- the deliveries of a piece for the number q
 abbrev pub share : ℕ → Piece → List Delivery
 share q p = if p.number == q then p.list else []
 
--- what the number q has of pieces, in their order
+-- the deliveries of pieces for the number q, in their order
 abbrev pub deliveries_for : ℕ → List Piece → List Delivery
 deliveries_for q ps = flat_map (share q) ps
 
--- each list has room for what its number gains; at says what waits for a number
+-- each list has room for the gain of its number; `at` is the list of a number
 abbrev pub HaveRoom : (ℕ → Option (List Delivery)) → List Piece → Type 0
 HaveRoom at ps =
     (q : ℕ) (ds : List Delivery) → at q ≡ Some ds → 0 < length (deliveries_for q ps)

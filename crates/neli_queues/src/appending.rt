@@ -1,4 +1,4 @@
-//! How pieces come to the lists.
+//! Appends pieces to the lists.
 
 ghost use Rattle.std.specs.Prelude.{◌≡◌, ◌+◌, ◌<◌, ◌^◌, ◌++◌, ℕ, List, Some, IsTrue, length, nat_eq, option_map};
 ghost use Rattle.std.specs.HashMap.{get};
@@ -9,10 +9,10 @@ use crate::piece::Piece;
 use neli_deliveries::Delivery;
 use std::collections::{HashMap, LinkedList};
 
-/// What waits for each open number.
+/// The deliveries that wait for each open number.
 pub(crate) type Numbers = HashMap<u32, LinkedList<Delivery>>;
 
-/// No list can be as long.
+/// No list can be this long.
 const LIMIT: usize = 0x8000_0000_0000_0000;
 
 /// Whether each list has room for all the pieces that go to it.

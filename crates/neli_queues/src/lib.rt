@@ -2,11 +2,11 @@
 //!
 //! - [`Queues`]: the store, an implementation of [`neli_deliveries::Deliveries`].
 //!
-//! A datagram is read and cut into pieces before any list changes, and what is refused is refused
-//! before that too. A piece is a delivery in a list of its own, with the number that it goes to. It
-//! is then appended to the list of that number, which takes no memory.
+//! A datagram is read and cut into pieces, and every refusal is returned, before any list changes.
+//! A piece is a delivery in a list of its own, with the number that it goes to. Appending it to the
+//! list of that number takes no memory.
 //!
-//! `specs/Queues.antt` says what the fields hold, `specs/Pieces.antt` what a number gains of
+//! `specs/Queues.antt` defines what the fields hold, `specs/Pieces.antt` what a number gains from
 //! pieces.
 #![tactic(auto)]
 

@@ -38,7 +38,7 @@ fn would_block(error: &SocketError) -> bool
 }
 
 impl Queues {
-    /// The list for a number, or for multicast, where it is open.
+    /// The list of a number, or of multicast, if it is open.
     fn list(&self, whose: Option<u32>) -> Option<&LinkedList<Delivery>>
         ensures { option_map (λ ds. ds.now) result ≡ pending_of self.now whose }
     {
@@ -48,8 +48,8 @@ impl Queues {
         }
     }
 
-    /// What a datagram that came to these groups brings: deliveries for multicast, and pieces for
-    /// numbers.
+    /// The deliveries of a datagram that arrived for these groups: those for multicast, and pieces
+    /// for numbers.
     fn staged(
         &self,
         bytes: &[u8],
@@ -72,10 +72,10 @@ impl Queues {
         }
     }
 
-    /// Appends these deliveries to multicast's list, if it is open, and the pieces to those of
+    /// Appends these deliveries to multicast's list, if it is open, and the pieces to the lists of
     /// their numbers.
     ///
-    /// Refused where a list could come to 2^63 deliveries, and then nothing changes.
+    /// Refused if a list could reach 2^63 deliveries; then nothing changes.
     fn hand_over(
         &mut self,
         mut for_multicast: LinkedList<Delivery>,

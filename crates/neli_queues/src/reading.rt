@@ -1,4 +1,4 @@
-//! A delivery as a caller's types.
+//! A delivery as the caller's types.
 
 ghost use Rattle.std.specs.Prelude.{IfOk, OnErr};
 ghost use Rattle.neli_deliveries.specs.declared.delivery.Delivery.TheVariants as delivery;
@@ -11,7 +11,7 @@ use neli_reader::{Nlmsghdr, RouterError};
 use neli_wire::{FromBytesWithInput, NoMemory, Size};
 use std::alloc::Global;
 
-/// A message as these types, or why it can't be read as them.
+/// A message as these types, or why it cannot be read as them.
 fn typed<T: NlType, P: FromBytesWithInput + Size>(
     alloc: Global,
     message: &Nlmsghdr<u16, Buffer>,

@@ -1,4 +1,4 @@
-//! What a datagram or a fault of the link brings, before any list changes.
+//! The deliveries of a datagram or a link fault, before any list changes.
 
 ghost use Rattle.std.specs.Prelude.{◌≡◌, ◌++◌, ◌==◌, ℕ, true, if◌then◌else◌, [], ◌∷◌, IfOk, OnOk, map};
 ghost use Rattle.neli_reader.specs.Messages.{message_of};
@@ -14,7 +14,7 @@ use neli_wire::{DeError, NoMemory};
 use std::alloc::Global;
 use std::collections::LinkedList;
 
-/// An equal delivery.
+/// Returns an equal delivery.
 fn copy_of(delivery: &Delivery) -> Result<Delivery, NoMemory>
     ensures { IfOk result (λ d. d ≡ delivery.now) }
 {
@@ -59,14 +59,15 @@ pub(crate) fn stage_each(
     Ok(())
 }
 
-/// Whether a message answers a request: it has the router's port and a number that is open.
+/// Whether a message answers a request: it has the router's port and an open number.
 fn answers(message: &Nlmsghdr<u16, Buffer>, port: u32, numbers: &Numbers) -> bool
     ensures { result ≡ is_reply port (is_open numbers.now) (message_of (λ b. b) message.now) }
 {
     *message.nl_pid() == port && numbers.contains_key(message.nl_seq())
 }
 
-/// Adds what a message brings: a piece for the number that it answers, or else a stray for each.
+/// Adds the deliveries of a message: a piece for the number that it answers, or else a stray for
+/// each.
 #[tactic(auto, using(crate::proofs::Messages::message_to_stray))]
 fn stage_message(
     alloc: Global,
@@ -87,7 +88,7 @@ fn stage_message(
     }
 }
 
-/// Adds what messages bring, in their order.
+/// Adds the deliveries of messages, in their order.
 pub(crate) fn stage_messages(
     alloc: Global,
     port: u32,

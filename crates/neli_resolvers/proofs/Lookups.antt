@@ -1,4 +1,4 @@
--- What look-ups say, in the words of `specs/Attributes.antt`.
+-- The results of look-ups, in the words of `specs/Attributes.antt`.
 use Rattle.std.proofs.Common.{◌≡◌, ℕ, Bool, true, false, cond, List, [], ◌∷◌, Option, Some, None, Result, Ok, Err, refl}
 use Rattle.std.proofs.Common.{ap, map, find, option_map, IsErrAnd, IsSomeAnd, IfOk, IfErr, OnErr, ◌<◌, length, arith}
 use Rattle.std.proofs.lemmas.List.{length-map}
@@ -33,7 +33,7 @@ use Rattle.neli_resolvers.specs.Attributes.{payload_where}
 
 -- ---- types
 
--- what a look-up finds
+-- the result of a look-up
 abbrev pub looked_up : {K : Type 0} → (K → K → Bool) → K → List (Nlattr K (List ℕ)) → Option (List ℕ)
 looked_up same kind attrs = payload_of_type (λ a. a.nla_type.nla_type) same (λ a. a.nla_payload) kind attrs
 
@@ -46,7 +46,7 @@ module _ {K : Type 0} (same : K → K → Bool) (kind : K) (is : K → Bool) (te
   here_or_later a later true more = refl
   here_or_later a later false more = more
 
-  -- it is the first attribute of which the type passes the test
+  -- it is the first attribute whose type passes the test
   pub looked_up-where : (attrs : List (Nlattr K (List ℕ)))
       → looked_up same kind attrs ≡ payload_where is (map nlattr_says attrs)
   looked_up-where [] = refl
@@ -95,13 +95,13 @@ finds_id = looked_up-where mcast_grp.eq Id is_id tests_id
 
 -- ---- refusals
 
--- what was read, by what its outcome is
+-- the value read, by its outcome
 pub was_read : {V A : Type 0} (result : Result V DeError) (outcome : Result A DeError) (view : V → A) (v : V)
     → IfOk result (λ v. outcome ≡ Ok (view v)) → Some v ≡ result_ok result → outcome ≡ Ok (view v)
 was_read (Ok w) outcome view v h is = let same : v ≡ w = cc in rw same h
 was_read (Err e) outcome view v h is = cc
 
--- where nothing was read and memory did not run out, nothing can be read
+-- if no value was read and memory did not run out, nothing can be read
 pub was_not_read : {V A : Type 0} (result : Result V DeError) (outcome : Result A DeError) (takes : Type 0)
     → IfErr result (Refuses outcome takes) → (result ≡ Err Memory → ⊥) → None ≡ result_ok result
     → result_ok outcome ≡ None
@@ -112,7 +112,7 @@ was_not_read (Err (Io k)) outcome takes h enough is = rw h refl
 was_not_read (Err (Utf8 u)) outcome takes h enough is = rw h refl
 was_not_read (Err (InvalidInput n)) outcome takes h enough is = rw h refl
 
--- where memory ran out, the read takes some
+-- if memory ran out, the read takes some
 pub ran_out : {V A : Type 0} (result : Result V DeError) (outcome : Result A DeError) (takes : Type 0)
     → IfErr result (Refuses outcome takes) → result ≡ Err Memory → takes
 ran_out (Ok w) outcome takes h is = absurd cc
@@ -126,7 +126,7 @@ pub on_err : {V E : Type 0} (result : Result V E) (said : Type 0) → said → O
 on_err (Ok v) said is = tt
 on_err (Err e) said is = is
 
--- the refusal of a step is that of the whole, which takes memory where the step does
+-- the refusal of a step is that of the whole, which takes memory if the step does
 pub step_refused : {V A B : Type 0} (result : Result V DeError) (e : DeError) (step : Result A DeError)
     (whole : Result B DeError) (takes more : Type 0) → IsErrAnd result (λ d. d ≡ e)
     → (step ≡ Err e → whole ≡ Err e) → (takes → more) → Refuses step takes e
@@ -140,7 +140,7 @@ step_refused (Err d) (InvalidInput n) step whole takes more is same so h = rw is
 
 -- ---- payloads that have bytes
 
--- a text that is read has a payload
+-- a text has a payload
 text_has_bytes : (payload : Option (List ℕ)) (text : List ℕ) → read_found payload owned_text ≡ Ok text
     → HasBytes payload
 text_has_bytes None text is = absurd cc
@@ -201,7 +201,7 @@ number_refused n payload (Utf8 u) h = number_unread n payload _ h
 number_refused n payload (InvalidInput m) h = number_unread n payload _ h
 number_refused n payload Memory h = absurd (never payload h)
 
--- the number that a payload begins with, or none; reading it takes no memory
+-- the number at the front of a payload, or none; reading it takes no memory
 pub number_found : (n : ℕ) (payload : Option (List ℕ)) (result : Result ℕ DeError)
     → IfOk result (ReadsFirst (read_found payload (number_at n)))
     → IfErr result (Refuses (read_found payload (number_at n)) (IsSomeAnd payload (λ _. ⊥)))

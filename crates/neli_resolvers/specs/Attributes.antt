@@ -1,4 +1,4 @@
--- What attributes say of a family and its multicast groups. Of two with one type the first counts.
+-- The attributes of a family and its multicast groups. Of two with one type the first counts.
 use Rattle.std.specs.Prelude.{ℕ, ◌<◌, Bool, true, false, List, Option, Result, IsSomeAnd, Ok, find, length, option_map}
 use Rattle.neli_wire.specs.DeError.{DeError}
 use Rattle.neli_wire.specs.Frames.{frame_at}
@@ -54,7 +54,7 @@ payload_where is attrs = option_map (λ a. a.1) (find (λ a. is a.0.kind.nla_typ
 abbrev pub first_number : ℕ → List ℕ → Result ℕ DeError
 first_number n payload = number_at n payload >>= λ p. Ok p.0
 
--- ---- what a message of the controller says
+-- ---- a message of the controller
 
 -- the number of its family, in two bytes
 abbrev pub family_id : AttributesRead CtrlAttr → Result ℕ DeError
@@ -64,7 +64,7 @@ family_id attrs = read_found (payload_where is_family_id attrs) (first_number 2)
 abbrev pub family_name : AttributesRead CtrlAttr → Result (List ℕ) DeError
 family_name attrs = read_found (payload_where is_family_name attrs) owned_text
 
--- a group as it is listed: its place, and the bytes that say what it is
+-- a group in its list: its place, and its bytes
 abbrev pub Group : Type 0
 Group = Attr (AttrType Index) (List ℕ)
 
@@ -74,7 +74,7 @@ groups attrs =
     list_found (payload_where is_mcast_groups attrs)
     (frame_at (attribute (type_of index_of) (λ bytes. Ok bytes)))
 
--- ---- what a group says
+-- ---- a group
 
 -- its attributes
 abbrev pub group_attrs : Group → Result (AttributesRead CtrlAttrMcastGrp) DeError
@@ -88,7 +88,7 @@ group_name attrs = read_found (payload_where is_name attrs) owned_text
 abbrev pub group_id : AttributesRead CtrlAttrMcastGrp → Result ℕ DeError
 group_id attrs = read_found (payload_where is_id attrs) (first_number 4)
 
--- ---- where reading that takes memory
+-- ---- when reading these takes memory
 
 -- there is a payload, and it has bytes
 abbrev pub HasBytes : Option (List ℕ) → Type 0

@@ -1,4 +1,4 @@
--- What the resolvers answer, by the whole list of items.
+-- The results of the resolvers, by the whole list of items.
 use Rattle.std.specs.Prelude.{ℕ, ◌==◌, ◌⊎◌, Bool, false, ◌≡◌, List, [], ◌++◌, codes, if◌then◌else◌, nat_eq, filter_map}
 use Rattle.std.specs.Prelude.{Option, Some, None, Result, Ok, Err, ok_or, option_and_then, option_map}
 use Rattle.std.specs.Prelude.{IsOk, IsOkAnd, IsSomeAnd}
@@ -18,7 +18,7 @@ use Rattle.neli_resolvers.specs.Attributes.{family_name_takes_memory, groups_tak
 use Rattle.neli_resolvers.specs.Items.{Error, Item, Message, after, first_error, first_found, last_found, messages}
 use Rattle.neli_resolvers.specs.Items.{attributes_said, error_copy_takes_memory, finding_takes_memory}
 
--- ---- texts, where nothing was found
+-- ---- texts, if nothing was found
 
 -- no family has this name
 abbrev pub no_family : List ℕ → List ℕ
@@ -34,13 +34,13 @@ no_group family name =
 abbrev pub no_number : List ℕ
 no_number = codes "ID does not correspond to a multicast group"
 
--- ---- answers
+-- ---- results
 
 -- the first error among the items, or else this
 abbrev pub unless_error : {A : Type 0} → List Item → Result A Error → Result A Error
 unless_error items answer = option_map_or (λ e. Err e) (first_error items) answer
 
--- what was found; a text where that is nothing
+-- the result; a text if there is none
 abbrev pub or_text : {A : Type 0} → List ℕ → Option A → Result A Error
 or_text text found = ok_or found (Msg text)
 
@@ -50,21 +50,21 @@ as_error reading = result_map_both (λ x. x) de_of reading
 
 -- ---- the number of a family
 
--- the number of a family that a message tells
+-- the family's number in a message
 abbrev pub number_told : Message → Option ℕ
 number_told m = option_and_then (λ attrs. result_ok (family_id attrs)) (attributes_said m)
 
--- the last number that is told
+-- the last number in the messages
 abbrev pub family_answer : List ℕ → List Item → Result ℕ Error
 family_answer family items =
     unless_error items
     (or_text (no_family family) (last_or None (filter_map number_told (messages items))))
 
--- memory is asked for the text alone
+-- only the text takes memory
 abbrev pub family_takes_memory : List ℕ → List Item → Type 0
 family_takes_memory family items = family_answer family items ≡ Err (Msg (no_family family))
 
--- the same where the items are lent: an error among them is copied
+-- the same for lent items: an error among them is copied
 abbrev pub lent_family_takes_memory : List ℕ → List Item → Type 0
 lent_family_takes_memory family items = error_copy_takes_memory items ⊎ family_takes_memory family items
 
@@ -81,7 +81,7 @@ match_number name group =
     option_and_then (λ attrs. if is_named name attrs then result_ok (group_id attrs) else None)
     (result_ok (group_attrs group))
 
--- the number of the first match in a message; refused where a payload has no readable groups
+-- the number of the first match in a message; refused if a payload has no readable groups
 abbrev pub match_in : List ℕ → Message → Result (Option ℕ) DeError
 match_in name m =
     option_map_or (λ attrs. after (λ all. Ok (first_found (match_number name) all)) (groups attrs))
@@ -94,17 +94,17 @@ group_answer family name items =
     (after (or_text (no_group family name))
     (as_error (last_found (match_in name) (messages items))))
 
--- memory is asked for in a message that has bytes for its groups
+-- a message that has bytes for its groups takes memory
 abbrev pub match_takes_memory : Message → Type 0
 match_takes_memory m = IsSomeAnd (attributes_said m) groups_take_memory
 
--- memory is asked for where no item is an error: for the groups of a message, or for the text
+-- if no item is an error, memory is taken: for the groups of a message, or for the text
 abbrev pub group_takes_memory : List ℕ → List ℕ → List Item → Type 0
 group_takes_memory family name items = (first_error items ≡ None)
     × (finding_takes_memory (match_in name) match_takes_memory (messages items)
     ⊎ (group_answer family name items ≡ Err (Msg (no_group family name))))
 
--- the same where the items are lent: an error among them is copied
+-- the same for lent items: an error among them is copied
 abbrev pub lent_group_takes_memory : List ℕ → List ℕ → List Item → Type 0
 lent_group_takes_memory family name items = error_copy_takes_memory items ⊎ group_takes_memory family name items
 
@@ -113,7 +113,7 @@ abbrev pub both_answer : List ℕ → List ℕ → List Item → Result (ℕ × 
 both_answer family name items =
     after (λ f. after (λ g. Ok (f, g)) (group_answer family name items)) (family_answer family items)
 
--- memory is asked for the family's number; or for the group's, where the family has one
+-- the family's number takes memory; or the group's does, if the family has one
 abbrev pub both_take_memory : List ℕ → List ℕ → List Item → Type 0
 both_take_memory family name items = lent_family_takes_memory family items
     ⊎ (IsOk (family_answer family items) × lent_group_takes_memory family name items)
@@ -131,29 +131,29 @@ name_if id group =
     then after (λ name. Ok (Some name)) (group_name attrs)
     else Ok None) (group_attrs group)
 
--- the names of a family and of its last group with this number; no groups where they can't be read
+-- the names of a family and of its last group with this number; no groups if they cannot be read
 abbrev pub names_said : ℕ → AttributesRead CtrlAttr → Result (Option (List ℕ × List ℕ)) DeError
 names_said id attrs =
     after (λ family. after (λ found. Ok (option_map (λ name. (family, name)) found))
     (last_found (name_if id) (unwrap_or (result_ok (groups attrs)) []))) (family_name attrs)
 
--- those that a message tells
+-- those in a message
 abbrev pub names_in : ℕ → Message → Result (Option (List ℕ × List ℕ)) DeError
 names_in id m = option_map_or (names_said id) (attributes_said m) (Ok None)
 
--- those that an item tells
+-- those in an item
 abbrev pub names_told : ℕ → Item → Result (Option (List ℕ × List ℕ)) Error
 names_told id item = after (λ m. as_error (names_in id m)) item
 
--- the last that are told
+-- the last ones
 abbrev pub names_answer : ℕ → List Item → Result (List ℕ × List ℕ) Error
 names_answer id items = after (or_text no_number) (last_found (names_told id) items)
 
--- memory is asked for in a message that has bytes for the name of its family
+-- a message that has bytes for the name of its family takes memory
 abbrev pub message_names_take_memory : Message → Type 0
 message_names_take_memory m = IsSomeAnd (attributes_said m) family_name_takes_memory
 
--- memory is asked for in such a message, where no item before it is refused
+-- such a message takes memory, if no item before it is refused
 abbrev pub names_take_memory : ℕ → List Item → Type 0
 names_take_memory id items =
     finding_takes_memory (names_told id) (λ item. IsOkAnd item message_names_take_memory) items

@@ -1,4 +1,4 @@
-//! What is read of attributes.
+//! Reads the controller's attributes.
 
 ghost use Rattle.std.specs.Prelude.{◌≡◌, Ok, IfErr, IfOk, map, string_bytes};
 ghost use Rattle.std.specs.Result.{result_ok};

@@ -1,4 +1,4 @@
-//! What groups say of a name or a number.
+//! Finds groups by their name or their number.
 
 ghost use Rattle.std.specs.Prelude.{◌≡◌, ◌<◌, Err, IfErr, IfOk, Ok, OnErr, None, length, map, option_map};
 ghost use Rattle.std.specs.Prelude.{string_bytes};
@@ -15,9 +15,9 @@ use neli_consts::Index;
 use neli_wire::{DeError, NoMemory};
 use std::alloc::Global;
 
-/// The number of a group that has this name. One that can't be read is passed over.
+/// The number of a group with this name. A group that cannot be read is skipped.
 ///
-/// Refused only where memory runs out, which a group without a payload does not ask for.
+/// Refused only if memory runs out; a group without a payload takes none.
 fn match_number(
     alloc: Global,
     group: &Nlattr<Index, Buffer>,
@@ -38,9 +38,9 @@ fn match_number(
     Ok(group_id(alloc, &attrs))
 }
 
-/// The number of the first of these groups that has this name and a number.
+/// The number of the first of these groups with this name and a number.
 ///
-/// Refused only where memory runs out, and never where there are no groups.
+/// Refused only if memory runs out, and never without groups.
 pub(crate) fn first_match(
     alloc: Global,
     groups: &[Nlattr<Index, Buffer>],
@@ -59,7 +59,7 @@ pub(crate) fn first_match(
     Ok(None)
 }
 
-/// The name of a group that has this number.
+/// The name of a group with this number.
 fn name_if(alloc: Global, group: &Nlattr<Index, Buffer>, id: u32) -> Result<Option<String>, DeError>
     ensures value { IfOk result
         (λ name. name_if id (nlattr_says group.now) ≡ Ok (option_map string_bytes name)) }
@@ -73,7 +73,7 @@ fn name_if(alloc: Global, group: &Nlattr<Index, Buffer>, id: u32) -> Result<Opti
     Ok(Some(group_name(alloc, &attrs)?))
 }
 
-/// The name of the last of these groups that has this number.
+/// The name of the last of these groups with this number.
 pub(crate) fn last_name(
     alloc: Global,
     groups: &[Nlattr<Index, Buffer>],

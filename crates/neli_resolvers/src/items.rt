@@ -14,7 +14,7 @@ use std::alloc::Global;
 /// A message of the controller.
 pub(crate) type CtrlMessage = Nlmsghdr<GenlId, Genlmsghdr<CtrlCmd, CtrlAttr>>;
 
-/// What comes in place of a message of the controller.
+/// The error in place of a message of the controller.
 pub type CtrlError = RouterError<GenlId, Genlmsghdr<CtrlCmd, CtrlAttr>>;
 
 /// An item of a handle of the controller's messages.
@@ -45,7 +45,7 @@ fn has_error(items: &[CtrlItem]) -> bool
     false
 }
 
-/// The items, where all of them are messages, or else the first error. It takes no memory.
+/// Returns the items if all of them are messages, or else the first error. It takes no memory.
 pub(crate) fn without_errors(items: Vec<CtrlItem>) -> Result<Vec<CtrlItem>, CtrlError>
     ensures value { IfOk result (λ kept. kept.items ≡ items.items) }
     ensures whole { OnOk result (first_error items.items ≡ None) }
@@ -58,7 +58,7 @@ pub(crate) fn without_errors(items: Vec<CtrlItem>) -> Result<Vec<CtrlItem>, Ctrl
     }
 }
 
-/// Refused with a copy of the first error among the items, or where that takes memory and memory runs out.
+/// Refused with a copy of the first error among the items, or if copying it runs out of memory.
 pub(crate) fn refuse_errors(items: &[CtrlItem]) -> Result<(), CtrlError>
     ensures whole { OnOk result (first_error items.now ≡ None) }
     ensures refused { IfErr result (IsCopyOfError items.now) }
@@ -71,7 +71,7 @@ pub(crate) fn refuse_errors(items: &[CtrlItem]) -> Result<(), CtrlError>
     Ok(())
 }
 
-/// The value, or `None` where it can't be read. That memory ran out stays a refusal.
+/// The value, or `None` if it cannot be read. Running out of memory stays a refusal.
 pub(crate) fn readable<V: Drop>(outcome: Result<V, DeError>) -> Result<Option<V>, NoMemory>
     ensures value { IfOk result (λ v. v ≡ result_ok outcome) }
     ensures enough { OnOk result (outcome ≢ Err no_memory) }

@@ -1,13 +1,13 @@
-//! What the controller of generic netlink answers: the number of a family, the number of a
-//! multicast group, and the names that belong to the number of a group.
+//! Reads the answers of the controller of generic netlink: the number of a family, the number of a multicast group, and
+//! the names for the number of a group.
 //!
-//! - [`resolve_genl_family`], [`resolve_nl_mcast_group`], [`lookup_id`]: each takes the items that
-//!   a request to the controller brought, as a router hands them out.
-//! - [`find_genl_family`], [`find_nl_mcast_group`]: the same of items that stay with the caller, and
-//!   [`find_genl_family_and_group`] gives both numbers of one reply.
+//! - [`resolve_genl_family`], [`resolve_nl_mcast_group`], [`lookup_id`]: each takes the items of a request to the
+//!   controller, as a router returns them.
+//! - [`find_genl_family`], [`find_nl_mcast_group`]: the same for items that stay with the caller;
+//!   [`find_genl_family_and_group`] returns both numbers of one reply.
 //!
-//! Nothing is sent or waited for here. The kernel's message has the family's name and number as
-//! attributes, and a list of its groups, of which each is again a list of attributes:
+//! These calls send nothing and wait for nothing. The kernel's message has the family's name and number as attributes,
+//! and a list of its groups, each of them again a list of attributes:
 //!
 //! ```text
 //! FamilyName "nlctrl"
@@ -18,8 +18,8 @@
 //!     Id   5
 //! ```
 //!
-//! `specs/Resolvers.antt` says what each call answers, `specs/Attributes.antt` what an attribute
-//! is read as, and `specs/Items.antt` what the items are.
+//! `specs/Resolvers.antt` defines the result of each call, `specs/Attributes.antt` the reading of an attribute, and
+//! `specs/Items.antt` the items.
 #![tactic(auto)]
 
 mod attributes;

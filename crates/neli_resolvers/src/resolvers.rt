@@ -23,7 +23,7 @@ use neli_reader::RouterError;
 use neli_wire::{DeError, MsgError};
 use std::alloc::Global;
 
-/// The number of a family that a message tells.
+/// The family's number in a message.
 fn number_told(alloc: Global, message: &CtrlMessage) -> Option<u16>
     ensures { result ≡ number_told message.now }
 {
@@ -31,11 +31,10 @@ fn number_told(alloc: Global, message: &CtrlMessage) -> Option<u16>
     family_id(alloc, &body.attrs().get_attr_handle())
 }
 
-/// The number of the family that was asked for: the last that a message of the controller tells. The items stay with
-/// the caller.
+/// Returns the number of the requested family: the last in the controller's messages. The items stay with the caller.
 ///
-/// Refused with a copy of the first error among the items; else, where no number is told, with a text that
-/// names the family. Memory is asked for the copy or the text alone.
+/// Refused with a copy of the first error among the items; else, if no message has a number, with a text that names the
+/// family. Only the copy or the text takes memory.
 pub fn find_genl_family(alloc: Global, family: &str, items: &[CtrlItem]) -> Result<u16, CtrlError>
     ensures value { IfOk result (λ n. family_answer family.now items.now ≡ Ok n) }
     ensures refused { IfErr result (IsRefusal (family_answer family.now items.now)
@@ -54,10 +53,10 @@ pub fn find_genl_family(alloc: Global, family: &str, items: &[CtrlItem]) -> Resu
     }
 }
 
-/// The number of the family that was asked for: the last that a message of the controller tells.
+/// Returns the number of the requested family: the last in the controller's messages.
 ///
-/// Refused with the first error among the items; else, where no number is told, with a text that
-/// names the family. Memory is asked for that text alone.
+/// Refused with the first error among the items; else, if no message has a number, with a text that names the family.
+/// Only that text takes memory.
 pub fn resolve_genl_family(
     alloc: Global,
     family: &str,
@@ -70,7 +69,7 @@ pub fn resolve_genl_family(
     find_genl_family(alloc, family, &without_errors(items)?)
 }
 
-/// The number of the first group of this name in a message.
+/// The number of the first group with this name in a message.
 fn match_in(alloc: Global, message: &CtrlMessage, name: &str) -> Result<Option<u32>, DeError>
     ensures value { IfOk result (λ n. match_in name.now message.now ≡ Ok n) }
     ensures refused { IfErr result
@@ -84,12 +83,12 @@ fn match_in(alloc: Global, message: &CtrlMessage, name: &str) -> Result<Option<u
     Ok(first_match(alloc, all.get_attrs(), name)?)
 }
 
-/// The number of the group of this name: that of the last message with such a group, and the first
-/// in that message. A group without a readable name and number is passed over. The items stay with the caller.
+/// Returns the number of the group with this name: that of the last message with such a group, and the first in that
+/// message. A group without a readable name and number is skipped. The items stay with the caller.
 ///
-/// Refused with a copy of the first error among the items; else with the refusal of the first payload of
-/// which the groups can't be read; else, where no group has the name, with a text that names both. Memory is
-/// asked for the copy, for the groups of messages, or for the text.
+/// Refused with a copy of the first error among the items; else with the refusal of the first payload whose groups
+/// cannot be read; else, if no group has the name, with a text that names both. The copy, the groups of messages and
+/// the text take memory.
 pub fn find_nl_mcast_group(
     alloc: Global,
     family: &str,
@@ -113,12 +112,12 @@ pub fn find_nl_mcast_group(
     }
 }
 
-/// The number of the group of this name: that of the last message with such a group, and the first
-/// in that message. A group without a readable name and number is passed over.
+/// Returns the number of the group with this name: that of the last message with such a group, and the first in that
+/// message. A group without a readable name and number is skipped.
 ///
-/// Refused with the first error among the items; else with the refusal of the first payload of
-/// which the groups can't be read; else, where no group has the name, with a text that names both. Where
-/// no item is an error, memory is asked for the groups of messages, or for the text.
+/// Refused with the first error among the items; else with the refusal of the first payload whose groups cannot be
+/// read; else, if no group has the name, with a text that names both. If no item is an error, the groups of messages
+/// and the text take memory.
 pub fn resolve_nl_mcast_group(
     alloc: Global,
     family: &str,
@@ -132,10 +131,10 @@ pub fn resolve_nl_mcast_group(
     find_nl_mcast_group(alloc, family, group, &without_errors(items)?)
 }
 
-/// The numbers of the family and of its group of this name, of one reply: each as [`find_genl_family`] and
-/// [`find_nl_mcast_group`] find it.
+/// Returns the numbers of the family and of its group with this name, from one reply: each as [`find_genl_family`] and
+/// [`find_nl_mcast_group`] return it.
 ///
-/// Refused as the family is; else as the group is. Memory is asked for where they ask for it.
+/// Refused as the family is; else as the group is. Memory is taken where they take it.
 pub fn find_genl_family_and_group(
     alloc: Global,
     family: &str,
@@ -151,8 +150,7 @@ pub fn find_genl_family_and_group(
     Ok((number, group))
 }
 
-/// The names of the family and of its last group with this number. Groups that can't be read as a
-/// list are passed over.
+/// The names of the family and of its last group with this number. Groups that cannot be read as a list are skipped.
 fn names_said(
     alloc: Global,
     attrs: &GenlAttrHandle<'_, CtrlAttr>,
@@ -174,7 +172,7 @@ fn names_said(
     }
 }
 
-/// The names of the family and of its last group with this number, which a message tells.
+/// The names of the family and of its last group with this number, in a message.
 fn names_in(
     alloc: Global,
     message: &CtrlMessage,
@@ -192,14 +190,12 @@ fn names_in(
     names_said(alloc, &body.attrs().get_attr_handle(), id)
 }
 
-/// The names of the family and the group with this number, as the last message with such a group
-/// tells them.
+/// Returns the names of the family and the group with this number, from the last message with such a group.
 ///
-/// Refused with the first failure, item by item, and in an item first the family's name, then group
-/// by group: an item that is an error; a payload without a readable name of the family; a group
-/// that can't be read, where the list of groups can; the group with the number, where its name
-/// can't be read. Where the number isn't found, refused with a text. Memory is asked for in a message up to the
-/// first failure, that one too, that has bytes for the name of its family.
+/// Refused with the first failure, item by item, and in an item first the family's name, then group by group: an item
+/// that is an error; a payload without a readable name of the family; a group that cannot be read, if the list of
+/// groups can; the group with the number, if its name cannot be read. If the number is not found, refused with a text.
+/// Memory is taken in a message up to the first failure, included, that has bytes for the name of its family.
 pub fn lookup_id(
     alloc: Global,
     id: u32,

@@ -1,11 +1,11 @@
-//! What the resolvers say where nothing was found.
+//! The resolvers' texts if nothing was found.
 
 ghost use Rattle.std.specs.Prelude.{Some};
 ghost use Rattle.neli_resolvers.specs.Resolvers.{no_family, no_group};
 
 use std::fmt;
 
-/// There is no family of this name.
+/// No family has this name.
 #[derive(Clone, Copy)]
 pub(crate) struct NoFamily<'a> {
     pub(crate) family: &'a str,
@@ -20,7 +20,7 @@ impl<'a> fmt::Display for NoFamily<'a> {
     }
 }
 
-/// The family of this name has no group of that name.
+/// The family with this name has no group with that name.
 #[derive(Clone, Copy)]
 pub(crate) struct NoGroup<'a> {
     pub(crate) family: &'a str,

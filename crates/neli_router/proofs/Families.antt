@@ -1,4 +1,4 @@
--- The request for a family is the frame that is said outright.
+-- The request for a family is the frame that the specs write out.
 use Rattle.std.proofs.Common.{◌≡◌, ℕ, ◌+◌, ◌*◌, ◌/◌, ◌≤◌, Bool, true, false, List, [], ◌∷◌, ◌++◌, length, Ok, refl, ap}
 use Rattle.std.proofs.Common.{arith, length-append}
 use Rattle.std.specs.Prelude.{nat_lt, replicate}
@@ -15,7 +15,7 @@ use Rattle.neli_router.specs.Requests.{family_frame, family_request, family_sent
 use Rattle.neli_router.specs.Requests.{name_attribute, name_bytes, name_text, sent_to_controller}
 use Rattle.neli_router.specs.Sends.{with_request}
 
--- a multiple of four wants no zeros
+-- a multiple of four needs no zeros
 no-zeros : (bytes : List ℕ) (k : ℕ) → length bytes ≡ k * 4 → zeros_for (length bytes) ≡ []
 no-zeros bytes k whole =
     let none : gap (length bytes) ≡ 0 = omega (arith, whole) in
@@ -34,7 +34,7 @@ sent-frame port number flags attrs bytes k wire size whole fits =
     let none : zeros_for (length frame) ≡ [] = no-zeros frame (k + 5) (omega (arith, whole)) in
     rw (small, wire, none, append-nil bytes, stated) refl
 
--- the attribute is written as the bytes that are said outright
+-- the attribute is written as the bytes that the specs write out
 name-wire : (name : List ℕ) → attrs_wire ctrl_attr_number (name_attribute name ∷ []) ≡ Ok (name_bytes name)
 name-wire name =
     let long : 4 + length (name ++ 0 ∷ []) ≡ 5 + length name = omega (arith, length-append name (0 ∷ [])) in
@@ -59,7 +59,7 @@ family-frame port number name fits =
     (name-wire name)
     (omega (arith, long, length-append name (0 ∷ []))) (omega (arith, long)) (omega (arith, long))
 
--- what is said outright is what is sent of the body, where the name fits
+-- the specs' frame is the sent one, if the name fits
 pub family_sent-body : (port number : ℕ) (in_use : Bool) (name : List ℕ) → length name ≤ 65530
     → family_sent port number in_use name ≡ sent_to_controller port number in_use (flags_of 4) (family_request name)
 family_sent-body port number true name fits = refl

@@ -1,4 +1,4 @@
--- What is kept for requests that were given up, one request more at a time.
+-- The lists of requests that were given up, one request more at a time.
 use Rattle.std.proofs.Common.{ℕ, ◌≡◌, ◌≢◌, Bool, true, false, ◌||◌, ◌&&◌, List, [], ◌∷◌, ◌++◌, length, Option, Some, None}
 use Rattle.std.proofs.Common.{Ok, Err, refl, sym, ap, subst, ◌∙◌, option_map, Result, arith, nat_eq}
 use Rattle.std.specs.Prelude.{if◌then◌else◌, ◌==◌}
@@ -61,7 +61,7 @@ differ n q isnt e = (let same : q ≡ n = cc in eqb-false n q isnt (sym same))
 
 module _ {A : Type 0} (port : ℕ) (messages : List (Lent ℕ)) (g : GivenUp) (old new : Option ℕ → Option (List A))
     (others : (w : Option ℕ) → w ≢ Some g.number → new w ≡ old w) where
-  -- of a request that came to its end the list is taken away
+  -- the list of a request that reached its end is removed
   closed-at : (q : ℕ) (b : Bool) → (g.number == q) ≡ b → list_any (ends_it port g) messages ≡ true
       → new (Some g.number) ≡ None → new (Some q) ≡ kept_of port (g ∷ []) messages (Some q) (old (Some q))
   closed-at q true is ends closed =
@@ -89,14 +89,14 @@ module _ {A : Type 0} (port : ℕ) (messages : List (Lent ℕ)) (g : GivenUp) (o
   cleared-one goes cleared None = others None (λ e. cc)
   cleared-one goes cleared (Some q) = cleared-at q (g.number == q) refl goes cleared
 
--- ---- what waits when a request is given up
+-- ---- deliveries that wait when a request is given up
 
--- how many wait
+-- the number that wait
 abbrev pub waiting_count : {A : Type 0} → Option (List A) → ℕ
 waiting_count None = 0
 waiting_count (Some xs) = length xs
 
--- what waits first is there
+-- the first delivery that waits exists
 pub first-there : (o : Option (List Delivery)) (item : Item ℕ (List ℕ))
     → IsFirst (λ n. n) (λ b. b) length (λ b. Ok b) (head_of o) (Some item)
     → (d : Delivery) × (ds : List Delivery) × (o ≡ Some (d ∷ ds))
@@ -105,7 +105,7 @@ first-there None item is = cc
 first-there (Some []) item is = cc
 first-there (Some (d ∷ ds)) item is = (d, ds, refl, is)
 
--- nothing waits
+-- no delivery waits
 pub none-there : (o : Option (List Delivery)) (ds : List Delivery)
     → IsFirst {K = ℕ} {P = List ℕ} (λ n. n) (λ b. b) length (λ b. Ok b) (head_of o) None → o ≡ Some ds → ds ≡ []
 none-there None ds is e = cc
@@ -176,7 +176,7 @@ first_ends : (a b c d : Bool) → (a || c) ≡ false → (c ≡ false → d ≡ 
 first_ends true b c d none later = cc
 first_ends false b c d none later = later none
 
--- what has its end was given up
+-- a request at its end was given up
 end_given_up : (port : ℕ) (gs : List GivenUp) (messages : List (Lent ℕ)) (q : ℕ) → is_given_up gs (Some q) ≡ false
     → has_end port gs messages q ≡ false
 end_given_up port [] messages q none = refl
@@ -184,7 +184,7 @@ end_given_up port (g ∷ gs) messages q none =
     first_ends (g.number == q) (list_any (ends_it port g) messages) (is_given_up gs (Some q)) (has_end port gs messages q)
     none (end_given_up port gs messages q)
 
--- of what was not given up all is kept
+-- the lists that were not given up are kept whole
 pub kept-apart : {A : Type 0} (port : ℕ) (gs : List GivenUp) (messages : List (Lent ℕ)) (w : Option ℕ)
     (o : Option (List A)) → is_given_up gs w ≡ false → kept_of port gs messages w o ≡ o
 kept-apart port gs messages None o none = refl
@@ -196,14 +196,14 @@ cleared-gained : {A : Type 0} (o : Option (List A)) (share : List A)
 cleared-gained None share = refl
 cleared-gained (Some xs) share = refl
 
--- of what was given up nothing, without an end
+-- of those given up nothing is kept, without an end
 pub kept-none-ended : {A : Type 0} (port : ℕ) (gs : List GivenUp) (messages : List (Lent ℕ)) (q : ℕ)
     (o : Option (List A)) (share : List A) → messages ≡ [] → is_given_up gs (Some q) ≡ true
     → kept_of port gs messages (Some q) (option_map (λ ds. ds ++ share) o) ≡ option_map (λ _. []) o
 kept-none-ended port gs messages q o share none is =
     rw none (rw (none_ends port gs q, is) (cleared-gained o share))
 
--- the same in the words of a datagram that came to groups
+-- the same in the words of a datagram that arrived for groups
 pub kept-grouped : {A : Type 0} (port : ℕ) (gs : List GivenUp) (messages all : List (Lent ℕ)) (groups : List ℕ) (q : ℕ)
     (o : Option (List A)) (share : List A) → messages ≡ [] → groups ≢ [] → is_given_up gs (Some q) ≡ true
     → kept_of port gs messages (Some q) (option_map (λ ds. ds ++ share) o)
@@ -212,7 +212,7 @@ kept-grouped port gs messages all [] q o share none some is = absurd (some refl)
 kept-grouped port gs messages all (g ∷ groups) q o share none some is =
     rw (none_ends port gs q) (kept-none-ended port gs messages q o share none is)
 
--- both over what a call made of what waited, and of what was given up
+-- both over the result of a call on the waiting lists, and over those given up
 pub grouped-kept : {A : Type 0} (port port' : ℕ) (gs gs' : List GivenUp) (messages all : List (Lent ℕ))
     (groups : List ℕ) (q : ℕ) (new mid old : Option (List A)) (share : List A) → port' ≡ port → gs' ≡ gs
     → new ≡ kept_of port' gs' messages (Some q) mid → mid ≡ option_map (λ ds. ds ++ share) old → messages ≡ []
@@ -233,9 +233,9 @@ failed-kept {A = A} port gs gs' messages q new mid old share g n m none is =
     ∙ ap (λ (xs : List GivenUp). kept_of port xs messages (Some q) (option_map (λ ds. ds ++ share) old)) g
     ∙ kept-none-ended port gs messages q old share none is
 
--- ---- what is heard
+-- ---- what is known of answers
 
--- an entry is put: it is there, and the others stay
+-- an entry is added: it exists, and the others stay
 pub heard-put : {S : Type 0} (m n : HashMap ℕ Heard S) (q : ℕ) (x : Heard) → Updates nat_eq m n q (Some x)
     → (heard_of n (Some q) ≡ Some x) × ((w : Option ℕ) → w ≢ Some q → heard_of n w ≡ heard_of m w)
 heard-put m n q x u = (u.1, others)

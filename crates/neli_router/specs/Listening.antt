@@ -1,4 +1,4 @@
--- Listening: what a read of multicast gives that goes on.
+-- Listening: reads of multicast that continue after any item.
 use Rattle.std.specs.Prelude.{ℕ, List, length, if◌then◌else◌, Option, Some, Result, Ok, Err}
 use Rattle.std.specs.declared.io.ErrorKind.{ErrorKind}
 use Rattle.std.specs.declared.io.ErrorKind.TheVariants.{Other}
@@ -19,7 +19,7 @@ abbrev pub fault_kind : SocketError → ErrorKind
 fault_kind (socket.Io kind) = kind
 fault_kind e = Other
 
--- an overrun that was not told yet stays
+-- an overrun that was not yet reported stays
 abbrev pub overrun_or : Option Missed → Missed → Missed
 overrun_or (Some missed.Overrun) m = missed.Overrun
 overrun_or before m = m
@@ -29,7 +29,7 @@ abbrev pub missed_with : Option Missed → SocketError → Option Missed
 missed_with before e = if is_would_block e then before else Some (overrun_or before (missed.Fault (fault_kind e)))
 
 module _ {K P V : Type 0} (type_of : ℕ → K) (view : P → V) (size : P → ℕ) (read : List ℕ → Result V DeError) where
-  -- the notice is this delivery: the message as the caller's types; or, where it can't be read as them, as it came
+  -- the notice is this delivery: the message as the caller's types; or, if it cannot be read as them, as it arrived
   abbrev pub IsNotice : Delivery → Notice K P → Type 0
   IsNotice d (notice.Message m) = IsReading type_of view size read d (Ok m)
   IsNotice d (notice.Untyped item) =

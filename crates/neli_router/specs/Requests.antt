@@ -23,9 +23,9 @@ use Rattle.neli_reader.specs.RouterError.{RouterError}
 use Rattle.neli_reader.specs.RouterError.TheVariants as router
 use Rattle.neli_router.specs.Sends.{frame_or_refusal}
 
--- ---- what is asked
+-- ---- the contents
 
--- what such a request carries
+-- the body of such a request
 abbrev pub Body : Type 0
 Body = Genlmsghdr CtrlCmd CtrlAttr NoUserHeader
 
@@ -42,11 +42,11 @@ abbrev pub name_attribute : List ℕ → Nlattr CtrlAttr (List ℕ)
 name_attribute name =
     with_length (record { nla_nested = false; nla_network_order = false; nla_type = FamilyName }) (name ++ 0 ∷ [])
 
--- what asks for the family of this name
+-- the request for the family with this name
 abbrev pub family_request : List ℕ → Body
 family_request name = getfamily (name_attribute name ∷ [])
 
--- what asks for all families
+-- the request for all families
 abbrev pub families_request : Body
 families_request = getfamily []
 
@@ -81,7 +81,7 @@ family_frame port number name = getfamily_frame 5 port number (name_bytes name)
 abbrev pub families_frame : ℕ → ℕ → List ℕ
 families_frame port number = getfamily_frame 769 port number []
 
--- ---- what is sent, or why nothing is
+-- ---- the sent bytes, or why nothing is sent
 
 -- the frame; or the first cause that holds: the number is in use, the name is too long for an attribute
 abbrev pub family_sent : ℕ → ℕ → Bool → List ℕ → Result (List ℕ) Error
@@ -94,6 +94,6 @@ family_sent port number in_use name =
 abbrev pub families_sent : ℕ → ℕ → Bool → Result (List ℕ) Error
 families_sent port number in_use = if in_use then Err (router.SeqInUse number) else Ok (families_frame port number)
 
--- memory is asked for: neither the number nor the name is refused
+-- memory is taken: neither the number nor the name is refused
 abbrev pub FamilyTakesMemory : Bool → List ℕ → Type 0
 FamilyTakesMemory in_use name = (in_use ≡ false) × (length name ≤ 65530)

@@ -1,4 +1,4 @@
--- The reply rule: where a handle's answers end, and what each of them is.
+-- The reply rule: where a handle's answers end, and what each read returns.
 use Rattle.std.specs.Prelude.{ℕ, suc, Bool, true, false, not, ◌&&◌, ◌||◌, ◌==◌, nat_lt, min, bit_and, if◌then◌else◌}
 use Rattle.std.specs.Prelude.{List, [], ◌∷◌, length, Option, Some, None, Ok, Err}
 use Rattle.std.specs.List.{slice_get}
@@ -12,7 +12,7 @@ use Rattle.neli_deliveries.specs.Readings.{Item}
 use Rattle.neli_router.specs.declared.reply.Reply.{Reply}
 use Rattle.neli_router.specs.declared.reply.Reply.TheVariants as reply
 
--- flags that are sent ask for an acknowledgement: ACK (4) is set, and not both bits of DUMP (0x300)
+-- sent flags request an acknowledgement: ACK (4) is set, and not both bits of DUMP (0x300)
 abbrev pub needs_ack : NlmF → Bool
 needs_ack flags = (bit_and flags.0 4 == 4) && not (bit_and flags.0 768 == 768)
 
@@ -21,7 +21,7 @@ abbrev pub has_number : Option ℕ → Bool
 has_number None = false
 has_number (Some q) = true
 
--- ---- what was read of a delivery, by its class
+-- ---- a delivery as read, by its class
 
 -- an acknowledgement, or an error of the other side
 abbrev pub is_answer : {K P : Type 0} → NlPayload K P → Bool
@@ -30,7 +30,8 @@ is_answer (payload.Err e) = true
 is_answer (payload.Capped e) = true
 is_answer p = false
 
--- nothing follows: an acknowledgement, an error, a stray, a fault, or what could not be read as the caller's types
+-- nothing follows: an acknowledgement, an error, a stray, a fault, or a message that could not be read as the caller's
+-- types
 abbrev pub ends_alone : {K P : Type 0} → Item K P → Bool
 ends_alone (Ok m) = is_answer m.payload
 ends_alone (Err e) = true
@@ -40,7 +41,7 @@ module _ {K P : Type 0} (number_of : K → ℕ) where
   abbrev pub is_whole_reply : Nlmsghdr K P → Bool
   is_whole_reply m = not (is_multi m.header.flags) || (number_of m.header.message_type == 3)
 
-  -- a single reply to a request: after it nothing comes, or the acknowledgement alone
+  -- a single reply to a request: after it nothing follows, or only the acknowledgement
   abbrev pub is_single : Bool → Item K P → Bool
   is_single numbered (Ok m) = numbered && (not (is_answer m.payload) && is_whole_reply m)
   is_single numbered (Err e) = false
@@ -57,14 +58,14 @@ abbrev pub single_place : {K P : Type 0} → (K → ℕ) → Bool → List (Item
 single_place number_of numbered items = first_place (is_single number_of numbered) items
 
 module _ {K P : Type 0} (number_of : K → ℕ) (needs numbered : Bool) where
-  -- the one place at which the answers end, past the items where they do not: that of the first that nothing follows,
-  -- or that of the first single reply, or the one after it where an acknowledgement is needed
+  -- the one place at which the answers end, past the items where they do not: that of the first item after which
+  -- nothing follows, or that of the first single reply, or the one after it if an acknowledgement is needed
   abbrev pub last_place : List (Item K P) → ℕ
   last_place items =
       min (first_place ends_alone items) (if needs then suc (single_place number_of numbered items)
       else single_place number_of numbered items)
 
--- ---- what is given
+-- ---- the returned item
 
 -- of a message at the last place, by its payload, after a single reply or not
 abbrev pub last_item_of_payload : {K P : Type 0} → Bool → Bool → Nlmsghdr K P → NlPayload K P → Item K P
@@ -79,7 +80,7 @@ last_item needs after (Ok m) = last_item_of_payload needs after m m.payload
 last_item needs after (Err e) = Err e
 
 module _ {K P : Type 0} (number_of : K → ℕ) (needs numbered : Bool) where
-  -- answer i, from 0, where the deliveries so far are read as these items, and this one stands at i
+  -- answer i, from 0, if the deliveries so far are read as these items, and this one stands at i
   abbrev pub answer_at : List (Item K P) → ℕ → Option (Item K P) → Reply K P
   answer_at items i None = if nat_lt (last_place number_of needs numbered items) (length items) then reply.End
       else reply.Waits
@@ -93,12 +94,12 @@ module _ {K P : Type 0} (number_of : K → ℕ) (needs numbered : Bool) where
   abbrev pub answer : List (Item K P) → ℕ → Reply K P
   answer items i = answer_at items i (slice_get items i)
 
-  -- ---- one read, of a handle that was given a single reply (`after`) or not
+  -- ---- one read, of a handle that returned a single reply (`after`) or not
 
   -- whether the answers end at this item
   abbrev pub ends_at : Bool → Item K P → Bool
   ends_at after item = ends_alone item || (if needs then after else is_single number_of numbered item)
 
-  -- what is given in its place
+  -- the item returned in its place
   abbrev pub item_of : Bool → Item K P → Item K P
   item_of after item = if ends_at after item then last_item needs after item else item

@@ -44,11 +44,11 @@ module _ {T P : Type 0} (number_of : T → ℕ) (wire : P → Wire) (size : P �
       else (if nat_lt 4294967295 (request_length payload) then Err (router.Msg (codes "Length does not fit its field"))
       else as_request (message_wire number_of wire (request port number message_type flags payload)))
 
-  -- memory is asked for: neither the number nor the length is refused
+  -- memory is taken: neither the number nor the length is refused
   abbrev pub TakesMemory : Bool → NlPayload T P → Type 0
   TakesMemory in_use payload = (in_use ≡ false) × (nat_lt 4294967295 (request_length payload) ≡ false)
 
--- e is why nothing is sent: the cause that holds, or that memory ran out where some is asked for
+-- e is why nothing is sent: the cause that holds, or that memory ran out if some is taken
 abbrev pub RefusesSend : {T P : Type 0} → Result (List ℕ) (RouterError T P) → Type 0 → RouterError T P → Type 0
 RefusesSend outcome takes router.Memory = takes
 RefusesSend outcome takes e = outcome ≡ Err e
@@ -57,7 +57,7 @@ RefusesSend outcome takes e = outcome ≡ Err e
 abbrev pub number_after : ℕ → ℕ
 number_after n = (n + 1) % 2 ^ 32
 
--- a handle that was given nothing yet
+-- a handle that has returned nothing yet
 abbrev pub asks : ℕ → NlmF → HandleState
 asks number flags =
     record { number = Some number; needs_ack = needs_ack flags; single_given = false; ended = false }

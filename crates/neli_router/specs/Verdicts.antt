@@ -1,4 +1,4 @@
--- How an answer stands: what is known of it by what was read, and whether all of it was given.
+-- The verdict on an answer: what is known of it by the items read, and whether it is complete.
 use Rattle.std.specs.Prelude.{ℕ, ℤ, pos, Bool, false, not, ◌&&◌, ◌||◌, ◌==◌, nat_eq, nat_lt, bit_and, if◌then◌else◌}
 use Rattle.std.specs.HashMap.{HashMap, get}
 use Rattle.std.specs.Ordering.{int_eq}
@@ -26,7 +26,7 @@ abbrev pub is_flagged : {K P : Type 0} → ℕ → Item K P → Bool
 is_flagged flag (Ok m) = bit_and m.header.flags.0 flag == flag
 is_flagged flag (Err e) = false
 
--- the code of the end of a dump, which is below zero where the dump failed; 0 elsewhere
+-- the code of the end of a dump, which is below zero for a failed dump; 0 elsewhere
 abbrev pub end_code : {K P : Type 0} → NlPayload K P → ℤ
 end_code (payload.DumpExtAck e) = e.error
 end_code p = pos 0
@@ -40,7 +40,7 @@ abbrev pub fault_verdict : SocketError → Verdict
 fault_verdict (socket.De e) = stands.Lost loss.Datagram
 fault_verdict e = stands.Lost loss.Link
 
--- of what came in place of a message
+-- of the error in place of a message
 abbrev pub error_verdict : {K P : Type 0} → RouterError K P → Verdict
 error_verdict (router.Nlmsgerr e) = stands.Failed e.error
 error_verdict (router.Capped e) = stands.Failed e.error
@@ -59,41 +59,41 @@ last_verdict (Err e) = error_verdict e
 -- ---- of an answer, by its deliveries so far, read as items
 
 module _ {K P : Type 0} (number_of : K → ℕ) (needs numbered : Bool) where
-  -- what is given at the last place, where something stands there
+  -- the item returned at the last place, if one stands there
   abbrev pub last_given : List (Item K P) → Option (Item K P) → List (Item K P)
   last_given items None = []
   last_given items (Some x) =
       last_item needs (nat_lt (single_place number_of numbered items) (last_place number_of needs numbered items)) x ∷ []
 
-  -- the items that are given, in order: all before the last place as they are, and there the last item
+  -- the returned items, in order: all before the last place as they are, and there the last item
   abbrev pub given_of : List (Item K P) → List (Item K P)
   given_of items =
       take (last_place number_of needs numbered items) items
       ++ last_given items (slice_get items (last_place number_of needs numbered items))
 
-  -- by the last item, if it was given
+  -- by the last item, if it was returned
   abbrev pub verdict_at_end : List (Item K P) → Verdict
   verdict_at_end [] = stands.Pending
   verdict_at_end (x ∷ xs) = last_verdict x
 
-  -- the verdict: interrupted where an item that is given is marked; else by the last item
+  -- the verdict: interrupted if a returned item is marked; else by the last item
   abbrev pub verdict : List (Item K P) → Verdict
   verdict items =
       if list_any (is_flagged 16) (given_of items) then stands.Interrupted
       else verdict_at_end (last_given items (slice_get items (last_place number_of needs numbered items)))
 
-  -- whether the other side did filter
+  -- whether the other side filtered
   abbrev pub is_filtered : List (Item K P) → Bool
   is_filtered items = list_any (is_flagged 32) (given_of items)
 
 -- ---- where the other side's answer ends
 
--- by type and flags: an acknowledgement or an error (type 2); or, where no acknowledgement was asked for, a message
+-- by type and flags: an acknowledgement or an error (type 2); or, if no acknowledgement was requested, a message
 -- without MULTI, or the end of a dump (type 3)
 abbrev pub ends_exchange : Bool → ℕ → NlmF → Bool
 ends_exchange needs number flags = (number == 2) || (not needs && (not (is_multi flags) || (number == 3)))
 
--- of an item; one that can't be read as the caller's types is taken for the last where no acknowledgement follows
+-- of an item; one that cannot be read as the caller's types counts as the last if no acknowledgement follows
 abbrev pub is_last : {K P : Type 0} → (K → ℕ) → Bool → Item K P → Bool
 is_last number_of needs (Ok m) = ends_exchange needs (number_of m.header.message_type) m.header.flags
 is_last number_of needs (Err (router.Socket e)) = false
@@ -111,12 +111,12 @@ abbrev pub item_verdict : {K P : Type 0} → Bool → Item K P → Verdict
 item_verdict ended x =
     if is_flagged 16 x then stands.Interrupted else (if ended then last_verdict x else stands.Pending)
 
--- a verdict but pending stays
+-- every verdict but pending stays
 abbrev pub verdict_with : {K P : Type 0} → Verdict → Bool → Item K P → Verdict
 verdict_with stands.Pending ended x = item_verdict ended x
 verdict_with v ended x = v
 
--- what is heard with one item more, which is given
+-- what is known with one more returned item
 abbrev pub heard_after : {K P : Type 0} → Bool → Bool → Item K P → Heard → Heard
 heard_after ended last x heard =
     record {
@@ -125,13 +125,13 @@ heard_after ended last x heard =
       finished = heard.finished || last;
     }
 
--- after this item was read, by a handle that was given a single reply (`after`) or not
+-- after this item was read, by a handle that returned a single reply (`after`) or not
 abbrev pub heard_with : {K P : Type 0} → (K → ℕ) → Bool → Bool → Bool → Item K P → Heard → Heard
 heard_with number_of needs numbered after x heard =
     heard_after (ends_at number_of needs numbered after x) (is_last number_of needs x)
     (item_of number_of needs numbered after x) heard
 
--- what was heard of the answer to a request, while its number is open; of multicast nothing
+-- what is known of the answer to a request, while its number is open; of multicast nothing
 abbrev pub heard_of : {S : Type 0} → HashMap ℕ Heard S → Option ℕ → Option Heard
 heard_of heard None = None
 heard_of heard (Some q) = get nat_eq heard q

@@ -1,4 +1,4 @@
-//! Giving up: a handle is left, and its number stays open until its answer has come to its end.
+//! Giving up: a handle is dropped, and its number stays open until the end of its answer.
 
 ghost use Rattle.std.specs.Prelude.{true, false, ◌≡◌, ◌||◌, ◌++◌, ◌∷◌, [], ℕ, Bool, List, None, Some, IsOk, IfOk};
 ghost use Rattle.std.specs.Prelude.{Option, OnErr, OnOk, is_some, option_map, if◌then◌else◌};
@@ -24,7 +24,7 @@ use neli_util::Groups;
 use neli_wire::NoMemory;
 use std::alloc::Global;
 
-/// A number that was given up: it is open until the last message of its answer comes.
+/// A number that was given up: it is open until the last message of its answer arrives.
 #[derive(Clone, Copy, Debug, PartialEq, Eq)]
 pub struct GivenUp {
     pub(crate) number: u32,
@@ -54,8 +54,7 @@ fn has_end(port: u32, request: &GivenUp, bytes: &[u8]) -> bool
     false
 }
 
-/// Takes away what came for a request that was given up with these bytes, and its list too where its answer has come to
-/// its end.
+/// Removes the deliveries in these bytes for a request that was given up, and its list too if its answer ends there.
 fn settle_one<D: Deliveries>(deliveries: &mut D, request: &GivenUp, bytes: &[u8])
     ensures port { D.port_of deliveries.new ≡ D.port_of deliveries.old }
     ensures kept { (w : Option ℕ) → D.pending deliveries.new w
@@ -89,16 +88,16 @@ fn either(one: bool, other: bool) -> bool
     one || other
 }
 
-/// Whether an item, which is let go of, is the last of the other side's answer.
+/// Whether an item, which is freed, is the last of the other side's answer.
 fn was_last(needs_ack: bool, item: Result<Nlmsghdr<u16, Buffer>, RouterError<u16, Buffer>>) -> bool
     ensures { result ≡ is_last (λ n. n) needs_ack item }
 {
     is_last(needs_ack, &item)
 }
 
-/// Takes away all that waits for a number, and returns whether the last message of its answer was there.
+/// Removes all that waits for a number, and returns whether the last message of its answer was there.
 ///
-/// Refused only where memory runs out, and then some of it is taken away.
+/// Refused only if memory runs out; then a part of it is removed.
 fn finishes<D: Deliveries>(
     deliveries: &mut D,
     alloc: Global,
@@ -121,7 +120,7 @@ fn finishes<D: Deliveries>(
 }
 
 impl<D: Deliveries> NlRouter<D> {
-    /// Lets go of the numbers given up that are not open any more.
+    /// Forgets the given-up numbers that are no longer open.
     pub(crate) fn forget_closed(&mut self)
         ensures deliveries { self.new.deliveries ≡ self.old.deliveries }
         ensures next_seq { self.new.next_seq ≡ self.old.next_seq }
@@ -135,8 +134,7 @@ impl<D: Deliveries> NlRouter<D> {
             .retain(|request| deliveries.is_open(Some(request.number)));
     }
 
-    /// Keeps nothing of what came for the requests that were given up with these bytes, and closes those whose answer
-    /// has come to its end.
+    /// Keeps nothing in these bytes for the requests that were given up, and closes those whose answer ends there.
     fn settle(&mut self, bytes: &[u8])
         ensures port { D.port_of self.new.deliveries ≡ D.port_of self.old.deliveries }
         ensures next_seq { self.new.next_seq ≡ self.old.next_seq }
@@ -152,16 +150,16 @@ impl<D: Deliveries> NlRouter<D> {
         self.forget_closed();
     }
 
-    /// Takes in a datagram that came to these groups, as [`NlRouter::processing_loop`] does, but keeps nothing of it for
-    /// the requests that were given up; the number of one is closed where the last message of its answer is in it.
+    /// Takes in a datagram that arrived for these groups, as [`NlRouter::processing_loop`] does, but keeps nothing of
+    /// it for the requests that were given up; closes the number of one if the last message of its answer is in it.
     ///
-    /// Refused only where memory runs out, and then nothing is handed to anybody.
+    /// Refused only if memory runs out; then nothing is delivered.
     pub fn receive(&mut self, bytes: &[u8], groups: &Groups) -> Result<(), NoMemory>
         ensures port { D.port_of self.new.deliveries ≡ D.port_of self.old.deliveries }
         ensures next_seq { self.new.next_seq ≡ self.old.next_seq }
         ensures heard { self.new.heard ≡ self.old.heard }
         ensures missed { self.new.missed ≡ self.old.missed }
-        // Whatever was given up, the others get what they get of `processing_loop`.
+        // Whatever was given up, the others get the same as from `processing_loop`.
         ensures others { OnOk result ((w : Option ℕ)
             → is_given_up self.old.given_up.items w ≡ false
             → D.pending self.new.deliveries w
@@ -189,11 +187,11 @@ impl<D: Deliveries> NlRouter<D> {
         Ok(())
     }
 
-    /// Takes in a fault of the link, as [`NlRouter::error_handling`] does, but keeps nothing of it for the requests that
-    /// were given up, which stay so: the other side may still answer them.
+    /// Takes in a fault of the link, as [`NlRouter::error_handling`] does, but keeps nothing of it for the requests
+    /// that were given up, which stay so: the other side may still answer them.
     ///
-    /// Refused only where memory runs out, and then nothing is handed to anybody; that the link would block never is,
-    /// nor any fault where no number is open.
+    /// Refused only if memory runs out; then nothing is delivered. A link that would block, and any fault while no
+    /// number is open, is never refused.
     pub fn link_failed(&mut self, error: SocketError) -> Result<(), NoMemory>
         ensures port { D.port_of self.new.deliveries ≡ D.port_of self.old.deliveries }
         ensures next_seq { self.new.next_seq ≡ self.old.next_seq }
@@ -232,10 +230,10 @@ impl<D: Deliveries> NlRouter<D> {
         }
     }
 
-    /// Takes away all that waits for a number that is open, and says whether the last message of its answer has come; where
+    /// Removes all that waits for an open number, and returns whether the last message of its answer has arrived; if
     /// not, the number is among those given up.
     ///
-    /// Refused only where memory runs out, and then some of what waits is taken away.
+    /// Refused only if memory runs out; then a part of what waits is removed.
     fn leave(&mut self, alloc: Global, number: u32, needs_ack: bool) -> Result<bool, NoMemory>
         ensures port { D.port_of self.new.deliveries ≡ D.port_of self.old.deliveries }
         ensures next_seq { self.new.next_seq ≡ self.old.next_seq }
@@ -261,16 +259,16 @@ impl<D: Deliveries> NlRouter<D> {
         Ok(finished)
     }
 
-    /// Gives a handle up: its number stays open until the last message of its answer has come, and of what waits and
-    /// still comes for it nothing is kept, where datagrams are handed in by [`NlRouter::receive`] and faults of the
-    /// link by [`NlRouter::link_failed`]. So what is on its way is no other request's stray. Where that message came
-    /// already the number is closed, as is the handle of multicast.
+    /// Gives a handle up: its number stays open until the last message of its answer has arrived, and nothing that
+    /// waits or still arrives for it is kept, if datagrams are handed in by [`NlRouter::receive`] and faults of the
+    /// link by [`NlRouter::link_failed`]. So messages on their way are no other request's strays. If that message
+    /// arrived already, the number is closed, as is the handle of multicast.
     ///
-    /// The last message is an acknowledgement or an error; or, where no acknowledgement was asked for, a message without
-    /// `NLM_F_MULTI`, or the end of a dump. No fault ends what the other side still sends. A handle that was given a
-    /// message that can't be read as the caller's types is closed at once, where no acknowledgement was asked for.
+    /// The last message is an acknowledgement or an error; or, if no acknowledgement was requested, a message without
+    /// `NLM_F_MULTI`, or the end of a dump. No fault ends the other side's answer. A handle that returned a message
+    /// which cannot be read as the caller's types is closed at once, if no acknowledgement was requested.
     ///
-    /// Refused only where memory runs out, and then the handle is closed.
+    /// Refused only if memory runs out; then the handle is closed.
     pub fn give_up<RT, RP>(
         &mut self,
         alloc: Global,

@@ -1,27 +1,27 @@
-//! The handle by which the answers to a request are read.
+//! The handle that reads the answers to a request.
 
 ghost use Rattle.std.specs.Prelude.{◌≡◌};
 
 use std::marker::{Model, PhantomData};
 
-/// What is known of a handle, whatever its types are.
+/// The state of a handle, whatever its types are.
 #[derive(Clone, Copy, Debug, PartialEq, Eq)]
 pub struct HandleState {
     /// The sequence number of the request; none for multicast.
     pub number: Option<u32>,
-    /// An acknowledgement was asked for: the request had the flag ACK, and not those of a dump.
+    /// An acknowledgement was requested: the request had the flag ACK, and not those of a dump.
     pub needs_ack: bool,
-    /// A whole reply was given, or the last message of one: the rule looks for nothing but an
-    /// acknowledgement after it.
+    /// A whole reply was returned, or the last message of one: after it the rule expects only an
+    /// acknowledgement.
     pub single_given: bool,
-    /// The last item was given: a read gives the end.
+    /// The last item was returned: a read returns the end.
     pub ended: bool,
 }
 
-/// The one who asked: it gets the replies to a request, or, of multicast, the messages that came to
+/// A handle: it gets the replies to a request, or, for multicast, the messages that arrive for
 /// groups.
 ///
-/// `T` and `P` are the types that its messages are meant to be read as. A handle is known by its
+/// `T` and `P` are the types that its messages are read as by default. A handle is known by its
 /// sequence number, so it belongs to the router that made it.
 #[derive(Drop)]
 pub struct NlRouterReceiverHandle<T, P> {
@@ -60,7 +60,7 @@ impl<T, P> NlRouterReceiverHandle<T, P> {
         self.state = state;
     }
 
-    /// The same handle, meant for messages of other types.
+    /// The same handle, for messages of other types.
     pub fn retyped<T2, P2>(self) -> NlRouterReceiverHandle<T2, P2>
         ensures { result ≡ self }
     {

@@ -4,7 +4,7 @@ ghost use Rattle.neli_wire.specs.Constants.{IsEquality};
 
 use crate::HandleState;
 
-/// `==` of what is known of handles is true exactly where the two are equal, field by field.
+/// `==` of handles' states is true exactly if the two are equal, field by field.
 pub fn equality()
     ensures { IsEquality ⟦<HandleState as PartialEq>⟧.eq }
 {}

@@ -1,16 +1,16 @@
-//! The router, call by call: requests go out with a sequence number each, and a reply that came to
-//! no group comes to the handle that asked for it.
+//! The router, call by call: each request gets a sequence number, and a reply that arrived for no group goes to the
+//! handle of its request.
 //!
-//! - [`NlRouter`]: sends, takes datagrams and faults of the link in, gives a handle its next item.
-//! - [`NlRouterReceiverHandle`]: who asked; by its sequence number, or none for multicast.
+//! - [`NlRouter`]: sends, takes in datagrams and faults of the link, returns a handle's next item.
+//! - [`NlRouterReceiverHandle`]: the handle of a request, by its sequence number, or that of multicast, without one.
 //! - [`Reply`]: what a read answers: an item, the end, or a wait.
 //! - [`Verdict`]: how an answer stands: whether what was given is all of it.
 //! - [`laws`]: `==` of what is known of handles is equality.
 //!
-//! `specs/Rule.antt` says where a handle's answers end and what each of them is; `specs/Sends.antt`
-//! what a request is as bytes, and for which three causes it is refused; `specs/Requests.antt` what
-//! the two requests to the controller of generic netlink are; `specs/Verdicts.antt` how an answer stands, and
-//! `specs/GivenUp.antt` what is kept of one that was given up.
+//! `specs/Rule.antt` defines where a handle's answers end and what each read returns; `specs/Sends.antt` the bytes of a
+//! request, and the three causes that refuse it; `specs/Requests.antt` the two requests to the controller of generic
+//! netlink; `specs/Verdicts.antt` the verdict on an answer, and `specs/GivenUp.antt` what is kept of one that was given
+//! up.
 #![tactic(auto)]
 
 mod given_up;

@@ -1,4 +1,4 @@
-//! Listening: reads of multicast that go on, whatever comes.
+//! Listening: reads of multicast that continue after any item.
 
 ghost use Rattle.std.specs.Prelude.{true, false, ◌≡◌, ◌∷◌, ◌++◌, [], ℕ, List, Option, None, Some, Ok, IfOk};
 ghost use Rattle.std.specs.Prelude.{IsOk, OnErr, OnOk, option_map};
@@ -24,22 +24,22 @@ use std::io::ErrorKind;
 /// Why messages to groups may be lost.
 #[derive(Clone, Copy, Debug, PartialEq, Eq)]
 pub enum Missed {
-    /// The socket's buffer ran over, which `ENOBUFS` says.
+    /// The socket's buffer ran over, reported as `ENOBUFS`.
     Overrun,
     /// Another fault of the link.
     Fault(ErrorKind),
 }
 
-/// What a read of multicast gives that goes on after it, whatever it is.
+/// The result of a read of multicast that continues after it, whatever it is.
 #[derive(Debug, Drop)]
 pub enum Notice<T, P> {
     /// The next message.
     Message(Nlmsghdr<T, P>),
-    /// The next message, which can't be read as the caller's types: its header and its bytes as they came.
+    /// The next message, which cannot be read as the caller's types: its header and its bytes as they arrived.
     Untyped(Result<Nlmsghdr<u16, Buffer>, RouterError<u16, Buffer>>),
     /// The link failed since the last such notice, so messages may be lost.
     Missed(Missed),
-    /// No message is here yet.
+    /// No message has arrived yet.
     Waits,
     /// Multicast is closed.
     Closed,
@@ -52,7 +52,8 @@ fn would_block(error: &SocketError) -> bool
     matches!(error, SocketError::Io(ErrorKind::WouldBlock))
 }
 
-/// What is missed by a fault of the link, after what was missed before; an overrun is said before any other.
+/// What a fault of the link makes listeners miss, after what was missed before; an overrun is reported before any
+/// other.
 pub(crate) fn missed_with(missed: Option<Missed>, error: &SocketError) -> Option<Missed>
     ensures { result ≡ missed_with missed error.now }
 {
@@ -65,7 +66,7 @@ pub(crate) fn missed_with(missed: Option<Missed>, error: &SocketError) -> Option
     }
 }
 
-/// The kind of a fault of the link; `Other` of one that says none.
+/// The kind of a fault of the link; `Other` if it has none.
 fn kind_of(error: &SocketError) -> ErrorKind
     ensures { result ≡ fault_kind error.now }
 {
@@ -76,10 +77,10 @@ fn kind_of(error: &SocketError) -> ErrorKind
 }
 
 impl<D: Deliveries> NlRouter<D> {
-    /// Takes in that the socket's buffer ran over, as `ENOBUFS` says: messages are lost. A request is told it as a fault
-    /// of the link, whose kind is `Other`; who listens by its name, [`Missed::Overrun`].
+    /// Takes in that the socket's buffer ran over (`ENOBUFS`): messages are lost. A request gets this as a fault of the
+    /// link, whose kind is `Other`; a listener as [`Missed::Overrun`].
     ///
-    /// Refused only where memory runs out, and then nothing is handed to anybody; never where no number is open.
+    /// Refused only if memory runs out; then nothing is delivered. Never refused while no number is open.
     pub fn link_overran(&mut self) -> Result<(), NoMemory>
         ensures port { D.port_of self.new.deliveries ≡ D.port_of self.old.deliveries }
         ensures next_seq { self.new.next_seq ≡ self.old.next_seq }
@@ -106,10 +107,11 @@ impl<D: Deliveries> NlRouter<D> {
         Ok(())
     }
 
-    /// What comes to groups next, read as these types: for who goes on, whatever comes. A message that can't be read as
-    /// them is given as it came, and a fault of the link since the last read is told once, before what waits.
+    /// Returns the next message for groups, read as these types, for a listener that continues after any item. A
+    /// message that cannot be read as them is returned as it arrived, and a fault of the link since the last read is
+    /// reported once, before the messages that wait.
     ///
-    /// Refused only where memory runs out, and then the router is as it was.
+    /// Refused only if memory runs out; then the router is unchanged.
     pub fn listen<T: NlType, P: FromBytesWithInput + Size + Drop>(
         &mut self,
         alloc: Global,

@@ -1,14 +1,14 @@
-//! What a read answers.
+//! The result of a read.
 
 use neli_reader::{Nlmsghdr, RouterError};
 
-/// What a read of a handle answers.
+/// The result of a read of a handle.
 #[derive(Debug, Drop)]
 pub enum Reply<T, P> {
-    /// The next item: a message, or what came in place of one.
+    /// The next item: a message, or an error in place of one.
     Item(Result<Nlmsghdr<T, P>, RouterError<T, P>>),
-    /// No item comes any more.
+    /// The handle has ended: no item follows.
     End,
-    /// No item is here yet.
+    /// No item has arrived yet.
     Waits,
 }

@@ -16,22 +16,20 @@ use neli_wire::implementing::length_refusal;
 use neli_wire::{MsgError, NoMemory};
 use std::alloc::Global;
 
-/// How many bytes a name may have: with a zero byte and the attribute's header they are 65535.
+/// The maximum length of a name in bytes: with a zero byte and the attribute's header they are 65535.
 const MAX_NAME_LENGTH: usize = 65530;
 
-/// What the controller is asked, and answers.
+/// The bodies of requests to the controller, and of its answers.
 type Ctrl = Genlmsghdr<CtrlCmd, CtrlAttr>;
 
 impl<D: Deliveries> NlRouter<D> {
-    /// A request to the controller of generic netlink for the family of this name, as bytes to be
-    /// sent, and the handle for what it answers: `Getfamily` of version 2 with the name, of type
-    /// `GenlId::Ctrl` and with the flags REQUEST and ACK. `neli_resolvers` finds the family's number
-    /// among the handle's items.
+    /// Returns a request to the controller of generic netlink for the family with this name, as bytes to send, and the
+    /// handle for its answer: `Getfamily` of version 2 with the name, of type `GenlId::Ctrl` and with the flags REQUEST
+    /// and ACK. `neli_resolvers` finds the family's number among the handle's items.
     ///
-    /// Refused, in this order, as `SeqInUse` where the number belongs to a handle that is not
-    /// closed; as `Msg` where the name has more than 65530 bytes, so that the attribute's length
-    /// passes 16 bits; else only where memory runs out. A refusal leaves the router as it was, and
-    /// the number is not used up.
+    /// Refused, in this order, as `SeqInUse` if the number belongs to a handle that is not closed; as `Msg` if the name
+    /// has more than 65530 bytes, so that the attribute's length exceeds 16 bits; else only if memory runs out. A
+    /// refusal leaves the router unchanged, and the number is not used up.
     pub fn request_genl_family(
         &mut self,
         alloc: Global,
@@ -48,7 +46,7 @@ impl<D: Deliveries> NlRouter<D> {
             (D.port_of self.old.deliveries) self.old.next_seq
             (is_some (D.pending self.old.deliveries (Some self.old.next_seq))) name.now
             ≡ Ok r.0.items) }
-        // The same bytes, as `send` says them of a body.
+        // The same bytes, as `send` states them for a body.
         ensures sent { IfOk result (λ r. sent_to_controller
             (D.port_of self.old.deliveries) self.old.next_seq
             (is_some (D.pending self.old.deliveries (Some self.old.next_seq)))
@@ -84,12 +82,12 @@ impl<D: Deliveries> NlRouter<D> {
         self.send(alloc, GenlId::Ctrl, NlmF::ACK, NlPayload::Payload(body))
     }
 
-    /// A request to the controller of generic netlink for all families, as bytes to be sent, and
-    /// the handle for what it answers: `Getfamily` of version 2 without attributes, of type
-    /// `GenlId::Ctrl` and with the flags REQUEST and DUMP.
+    /// Returns a request to the controller of generic netlink for all families, as bytes to send, and the handle for
+    /// its answer: `Getfamily` of version 2 without attributes, of type `GenlId::Ctrl` and with the flags REQUEST and
+    /// DUMP.
     ///
-    /// Refused as `SeqInUse` where the number belongs to a handle that is not closed; else only
-    /// where memory runs out. A refusal leaves the router as it was, and the number is not used up.
+    /// Refused as `SeqInUse` if the number belongs to a handle that is not closed; else only if memory runs out. A
+    /// refusal leaves the router unchanged, and the number is not used up.
     pub fn request_families(
         &mut self,
         alloc: Global,
@@ -104,7 +102,7 @@ impl<D: Deliveries> NlRouter<D> {
         ensures bytes { IfOk result (λ r. families_sent
             (D.port_of self.old.deliveries) self.old.next_seq
             (is_some (D.pending self.old.deliveries (Some self.old.next_seq))) ≡ Ok r.0.items) }
-        // The same bytes, as `send` says them of a body.
+        // The same bytes, as `send` states them for a body.
         ensures sent { IfOk result (λ r. sent_to_controller
             (D.port_of self.old.deliveries) self.old.next_seq
             (is_some (D.pending self.old.deliveries (Some self.old.next_seq)))
@@ -133,9 +131,9 @@ impl<D: Deliveries> NlRouter<D> {
     }
 }
 
-/// What asks for the family of this name.
+/// The body of the request for the family with this name.
 ///
-/// Refused only where memory runs out.
+/// Refused only if memory runs out.
 fn family_request(alloc: Global, name: &str) -> Result<Ctrl, NoMemory>
     requires { length name.now ≤ 65530 }
     ensures { IfOk result (λ body. body ≡ family_request name.now) }
@@ -147,7 +145,7 @@ fn family_request(alloc: Global, name: &str) -> Result<Ctrl, NoMemory>
 
 /// The attribute that names a family.
 ///
-/// Refused only where memory runs out.
+/// Refused only if memory runs out.
 fn name_attribute(alloc: Global, name: &str) -> Result<Nlattr<CtrlAttr, Buffer>, NoMemory>
     requires { length name.now ≤ 65530 }
     ensures { IfOk result (λ attr. attr ≡ name_attribute name.now) }

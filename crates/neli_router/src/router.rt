@@ -29,29 +29,28 @@ use neli_wire::{FromBytesWithInput, MsgError, NoMemory, Size, ToBytes};
 use std::alloc::Global;
 use std::collections::HashMap;
 
-/// A router: it gives each request a sequence number, and a reply that came to no group to the
-/// handle that asked.
+/// A router: it gives each request a sequence number, and delivers a reply that arrived for no group to the handle of
+/// its request.
 ///
-/// It has no link: requests come out as bytes, and the caller hands in the datagrams that arrive
-/// and the faults of the link. What waits for a handle is kept in a `D`; where nothing else is said
-/// in a [`Log`], which keeps each delivery once.
+/// It has no link: requests are returned as bytes, and the caller passes in the datagrams that arrive and the faults of
+/// the link. A `D` stores the deliveries of the handles; by default a [`Log`], which stores each delivery once.
 #[derive(Drop)]
 pub struct NlRouter<D = Log> {
     pub(crate) deliveries: D,
     pub(crate) next_seq: u32,
-    /// What was heard of the answer to each request that is open, and was not given up.
+    /// What is known of the answer to each request that is open, and was not given up.
     pub(crate) heard: HashMap<u32, Heard>,
     /// The numbers that were given up, and are open.
     pub(crate) given_up: Vec<GivenUp>,
-    /// What was missed of multicast, and not told yet.
+    /// What multicast missed, and was not yet reported.
     pub(crate) missed: Option<Missed>,
 }
 
 impl<D: Deliveries> NlRouter<D> {
     /// A router with this port, whose next sequence number is 0, and the handle for multicast.
     ///
-    /// `pid` is the port of the socket that requests go out by. A socket that was not bound to a port has
-    /// the one that the kernel chose, which getsockname(2) tells; 0 is the kernel's own.
+    /// `pid` is the port of the socket that sends the requests. For a socket that was not bound to a port the kernel
+    /// chose one, which getsockname(2) returns; 0 is the kernel's own.
     pub fn new(alloc: Global, pid: u32) -> (Self, NlRouterReceiverHandle<u16, Genlmsghdr<u8, u16>>)
         ensures port { D.port_of result.0.deliveries ≡ pid }
         ensures next_seq { result.0.next_seq ≡ 0 }
@@ -79,14 +78,14 @@ impl<D: Deliveries> NlRouter<D> {
         (router, handle)
     }
 
-    /// The port: requests carry it, and a message that came to no group and has another one is a stray.
+    /// Returns the port: requests have it, and a message that arrived for no group and has another one is a stray.
     pub fn pid(&self) -> u32
         ensures { result ≡ D.port_of self.now.deliveries }
     {
         self.deliveries.port()
     }
 
-    /// The store of what waits for the handles. It takes no memory.
+    /// Returns the store of the handles' deliveries. It takes no memory.
     pub fn deliveries(&self) -> &D
         ensures { result.now ≡ self.now.deliveries }
     {
@@ -104,14 +103,13 @@ impl<D: Deliveries> NlRouter<D> {
         self.next_seq = number;
     }
 
-    /// A request of this type, with these flags and REQUEST, as bytes to be sent, and the handle
-    /// for its replies. The sequence number of the first is 0, or what `set_next_seq` has set; it grows
-    /// by one with each request that is sent, modulo 2^32.
+    /// Returns a request of this type, with these flags and REQUEST, as bytes to send, and the handle for its replies.
+    /// The sequence number of the first is 0, or the one of `set_next_seq`; it grows by one with each request that is
+    /// sent, modulo 2^32.
     ///
-    /// Refused, in this order, as `SeqInUse` where the number belongs to a handle that is not
-    /// closed; as `Msg` where the length passes 32 bits; as `Socket(Ser)` where the payload is not
-    /// written, or as `Memory` where memory runs out. A refusal leaves the router as it was, and the
-    /// number is not used up.
+    /// Refused, in this order, as `SeqInUse` if the number belongs to a handle that is not closed; as `Msg` if the
+    /// length exceeds 32 bits; as `Socket(Ser)` if the payload is not written, or as `Memory` if memory runs out. A
+    /// refusal leaves the router unchanged, and the number is not used up.
     pub fn send<ST: NlType, SP: ToBytes + Drop, RT, RP>(
         &mut self,
         alloc: Global,
@@ -138,7 +136,7 @@ impl<D: Deliveries> NlRouter<D> {
             (D.pending self.old.deliveries) (D.pending self.new.deliveries)) }
         ensures err { OnErr result ((self.new.next_seq ≡ self.old.next_seq)
             × (SameLists (D.pending self.old.deliveries) (D.pending self.new.deliveries))) }
-        // Nothing is heard of the answer yet.
+        // Nothing is known of the answer yet.
         ensures heard { OnOk result
             ((heard_of self.new.heard (Some self.old.next_seq) ≡ Some begun)
             × SameListsBut (Some self.old.next_seq)
@@ -168,12 +166,12 @@ impl<D: Deliveries> NlRouter<D> {
         Ok((bytes, handle))
     }
 
-    /// Takes in a datagram that came to these groups. Where these are none, a message with the router's
-    /// port and a number that is open goes to the handle of that number, and any other is a stray: it goes
-    /// to the handle of every open number. Where there are groups, each message goes to multicast, if that is
-    /// open. The fault at which a datagram ends goes to the handle of every open number in any case.
+    /// Takes in a datagram that arrived for these groups. Without groups, a message with the router's port and an open
+    /// number goes to the handle of that number, and any other is a stray: it goes to the handle of every open number.
+    /// With groups, each message goes to multicast, if that is open. The fault that ends a datagram goes to the handle
+    /// of every open number in both cases.
     ///
-    /// Refused only where memory runs out, and then nothing is handed to anybody.
+    /// Refused only if memory runs out; then nothing is delivered.
     pub fn processing_loop(&mut self, bytes: &[u8], groups: &Groups) -> Result<(), NoMemory>
         ensures port { D.port_of self.new.deliveries ≡ D.port_of self.old.deliveries }
         ensures next_seq { self.new.next_seq ≡ self.old.next_seq }
@@ -191,11 +189,10 @@ impl<D: Deliveries> NlRouter<D> {
         self.deliveries.datagram(bytes, groups)
     }
 
-    /// Takes in a fault of the link: each handle with a number is given it, unless the link would
-    /// only block.
+    /// Takes in a fault of the link: each handle with a number gets it, unless the link would only block.
     ///
-    /// Refused only where memory runs out, and then nothing is handed to anybody; that the link
-    /// would block never is, nor any fault where no number is open.
+    /// Refused only if memory runs out; then nothing is delivered. A link that would block, and any fault while no
+    /// number is open, is never refused.
     pub fn error_handling(&mut self, error: SocketError) -> Result<(), NoMemory>
         ensures port { D.port_of self.new.deliveries ≡ D.port_of self.old.deliveries }
         ensures next_seq { self.new.next_seq ≡ self.old.next_seq }
@@ -212,12 +209,11 @@ impl<D: Deliveries> NlRouter<D> {
         self.deliveries.fault(error)
     }
 
-    /// The handle's next item, read as these types whatever the handle's own are; or the end, or
-    /// that it waits. A handle that is not open here is given `ClosedChannel`, and is ended then:
-    /// it gives the end in every router.
+    /// Returns the handle's next item, read as these types whatever the handle's own are; or the end, or that it waits.
+    /// A handle that is not open here returns `ClosedChannel`, and is then ended: it returns the end in every router.
     ///
-    /// Refused only where memory runs out, and then the router and the handle are as they were; of a message of another
-    /// type than 2 and 3 only where reading its body takes memory, so that a body which is refused is an item.
+    /// Refused only if memory runs out; then the router and the handle are unchanged. For a message of another type
+    /// than 2 and 3 only if reading its body takes memory, so a refused body is an item.
     pub fn next_typed<T: NlType, P: FromBytesWithInput + Size + Drop, RT, RP>(
         &mut self,
         alloc: Global,
@@ -253,7 +249,7 @@ impl<D: Deliveries> NlRouter<D> {
         ensures memory { handle.old.ended ≡ false → (d : Waiting) (ds : List Waiting)
             → D.pending self.old.deliveries handle.old.number ≡ Some (d ∷ ds)
             → OnErr result (ReadingTakesMemory P.takes_memory d) }
-        // Beside `gives`: what is heard by that item, for `verdict`.
+        // Beside `gives`: what that item adds for `verdict`.
         ensures heard { handle.old.ended ≡ false → (d : Waiting) (ds : List Waiting)
             → D.pending self.old.deliveries handle.old.number ≡ Some (d ∷ ds)
             → IfOk result (λ given. (item : Given T P)
@@ -293,11 +289,10 @@ impl<D: Deliveries> NlRouter<D> {
         }
     }
 
-    /// Closes a handle: what waits for it is given up, and its number may be used again. It takes
-    /// no memory.
+    /// Closes a handle: its deliveries are removed, and its number may be used again. It takes no memory.
     ///
-    /// A handle is known by its number. Where that is not open here nothing changes; a handle of
-    /// another router closes the one that has the same number here.
+    /// A handle is known by its number. If that is not open here nothing changes; a handle of another router closes the
+    /// one with the same number here.
     pub fn close<RT, RP>(&mut self, handle: NlRouterReceiverHandle<RT, RP>)
         ensures port { D.port_of self.new.deliveries ≡ D.port_of self.old.deliveries }
         ensures next_seq { self.new.next_seq ≡ self.old.next_seq }
@@ -318,10 +313,10 @@ impl<D: Deliveries> NlRouter<D> {
         self.forget_closed();
     }
 
-    /// How the answer to a request stands, by what was read of it: `Pending` until it has ended, unless a message
-    /// is marked; then one that stays, the first that holds: `Interrupted` where a message that was given is marked
-    /// `NLM_F_DUMP_INTR`; `Failed` where the other side answered with an error or ended a dump with one; `Lost` where
-    /// anything else came in place of a message; `Complete`.
+    /// Returns the verdict on the answer to a request, by the items read from it: `Pending` until it has ended, unless
+    /// a message is marked; then a final one, the first that holds: `Interrupted` if a returned message is marked
+    /// `NLM_F_DUMP_INTR`; `Failed` if the other side answered with an error or ended a dump with one; `Lost` if
+    /// anything else arrived in place of a message; `Complete`.
     ///
     /// A handle that is not open here, or was given up, is `Lost(Closed)`; that of multicast is `Pending`. It takes no
     /// memory.
@@ -338,8 +333,8 @@ impl<D: Deliveries> NlRouter<D> {
         }
     }
 
-    /// What was heard of the answer to a request, by what was read of it: its verdict, and whether the other side did
-    /// filter. Nothing of multicast, and of a handle that is not open here. It takes no memory.
+    /// Returns what is known of the answer to a request, by the items read from it: its verdict, and whether the other
+    /// side filtered. Nothing for multicast, and for a handle that is not open here. It takes no memory.
     pub fn heard<RT, RP>(&self, handle: &NlRouterReceiverHandle<RT, RP>) -> Option<Heard>
         ensures { result ≡ heard_of self.now.heard handle.now.number }
     {
@@ -350,8 +345,8 @@ impl<D: Deliveries> NlRouter<D> {
     }
 }
 
-/// Hears one item more of the answer to a request, which is given, and at which the answer ends or not; `last` says
-/// whether it is the other side's last.
+/// Notes one more returned item of the answer to a request, at which the answer ends or not; `last` is whether it is
+/// the other side's last.
 fn hear<T, P>(
     all: &mut HashMap<u32, Heard>,
     whose: Option<u32>,

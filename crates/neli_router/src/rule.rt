@@ -8,7 +8,7 @@ use bitflags::Flags;
 use neli_consts::{NLMSG_DONE, NlType, NlmF};
 use neli_reader::{NlPayload, Nlmsghdr, RouterError};
 
-/// Whether flags that are sent ask for an acknowledgement.
+/// Whether sent flags request an acknowledgement.
 pub(crate) fn needs_acknowledgement(flags: NlmF) -> bool
     ensures { result ≡ needs_ack flags }
 {
@@ -43,8 +43,8 @@ fn is_single<T: NlType, P>(numbered: bool, item: &Result<Nlmsghdr<T, P>, RouterE
     }
 }
 
-/// What is given where the answers end: an acknowledgement that was asked for, an error as such, a
-/// single reply, or what came in place of the acknowledgement.
+/// The item returned at the end of the answers: a requested acknowledgement, an error as such, a
+/// single reply, or the item in place of the acknowledgement.
 fn last_item<T: NlType, P: Drop>(
     handle: &HandleState,
     item: Result<Nlmsghdr<T, P>, RouterError<T, P>>,
@@ -74,7 +74,7 @@ fn last_item<T: NlType, P: Drop>(
     }
 }
 
-/// What a handle is given of an item, and what is known of the handle then.
+/// The item that a handle returns, and the handle's state then.
 pub(crate) fn answer<T: NlType, P: Drop>(
     handle: HandleState,
     item: Result<Nlmsghdr<T, P>, RouterError<T, P>>,

@@ -1,4 +1,4 @@
-//! What is known of an answer by what was read of it: whether all of it was given.
+//! The verdict on an answer, by the items read from it: whether it is complete.
 
 ghost use Rattle.std.specs.Prelude.{◌≡◌};
 ghost use Rattle.neli_router.specs.Verdicts.{begun, end_code, ends_exchange, error_verdict, heard_after, is_flagged};
@@ -8,15 +8,15 @@ use bitflags::Flags;
 use neli_consts::{NLMSG_DONE, NLMSG_ERROR, NlType, NlmF};
 use neli_reader::{NlPayload, Nlmsghdr, RouterError, SocketError};
 
-/// How an answer stands. All but [`Verdict::Pending`] are final.
+/// The verdict on an answer. All but [`Verdict::Pending`] are final.
 #[derive(Clone, Copy, Debug, PartialEq, Eq)]
 pub enum Verdict {
     /// It has not ended yet, and no message of it is marked as interrupted.
     Pending,
-    /// It has ended well: what was given is all of it.
+    /// It has ended well: the reads returned all of it.
     Complete,
-    /// A message of it, its end included, has the flag `NLM_F_DUMP_INTR`: what is listed changed while it was listed,
-    /// so entries may lack or stand there twice. Ask again.
+    /// A message of it, its end included, has the flag `NLM_F_DUMP_INTR`: the listed objects changed meanwhile, so
+    /// entries may be missing or repeated. Request it again.
     Interrupted,
     /// The other side answered with an error, or ended a dump with one: the code, as -19 for `ENODEV`.
     Failed(i32),
@@ -31,31 +31,31 @@ pub enum Loss {
     Link,
     /// A datagram could not be read to its end.
     Datagram,
-    /// A message came with a sequence number or a port that no request has.
+    /// A message arrived with a sequence number or a port that no request has.
     Stray,
     /// A message could not be read as the caller's types.
     Unreadable,
-    /// Something else came in place of the acknowledgement.
+    /// Something else arrived in place of the acknowledgement.
     NoAck,
-    /// An acknowledgement came that was not asked for.
+    /// An acknowledgement arrived that was not requested.
     UnexpectedAck,
     /// The handle is not open here.
     Closed,
 }
 
-/// What was heard of an answer so far.
+/// What is known of an answer so far.
 #[derive(Clone, Copy, Debug, PartialEq, Eq)]
 pub struct Heard {
-    /// How it stands.
+    /// The verdict.
     pub verdict: Verdict,
-    /// A message that was given has the flag `NLM_F_DUMP_FILTERED`: the other side did filter as it was asked to.
+    /// A returned message has the flag `NLM_F_DUMP_FILTERED`: the other side filtered as requested.
     pub filtered: bool,
     /// The other side's last message of it was read, whatever ended the answer.
     pub finished: bool,
 }
 
 /// Whether a message with this type and these flags is the last that answers a request: an acknowledgement or an error;
-/// or, where no acknowledgement was asked for, one without `NLM_F_MULTI`, or the end of a dump.
+/// or, if no acknowledgement was requested, one without `NLM_F_MULTI`, or the end of a dump.
 pub(crate) fn ends_exchange(needs_ack: bool, number: u16, flags: NlmF) -> bool
     ensures { result ≡ ends_exchange needs_ack number flags }
 {
@@ -103,7 +103,7 @@ fn fault_verdict(error: &SocketError) -> Verdict
     }
 }
 
-/// By what came in place of a message.
+/// By the error in place of a message.
 fn error_verdict<T, P>(error: &RouterError<T, P>) -> Verdict
     ensures { result ≡ error_verdict error.now }
 {
@@ -160,7 +160,7 @@ fn item_verdict<T, P>(ended: bool, item: &Result<Nlmsghdr<T, P>, RouterError<T, 
 }
 
 impl Heard {
-    /// Nothing was heard yet.
+    /// Nothing is known yet.
     pub(crate) fn begun() -> Heard
         ensures { result ≡ begun }
     {
@@ -171,8 +171,8 @@ impl Heard {
         }
     }
 
-    /// What is heard with one item more, which is given, and at which the answer ends or not; `last` says whether it is
-    /// the other side's last.
+    /// What is known with one more returned item, at which the answer ends or not; `last` is whether it is the other
+    /// side's last.
     pub(crate) fn with<T, P>(
         self,
         ended: bool,

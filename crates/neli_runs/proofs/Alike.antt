@@ -1,4 +1,4 @@
--- Histories in which the same requests were sent and the same handles closed, and what is right after them.
+-- Histories in which the same requests were sent and the same handles closed, and the same outcomes right after them.
 use Rattle.std.proofs.Common.{ℕ, zero, suc, ◌≡◌, ◌↔◌, Bool, true, false, ◌&&◌, All, List, [], ◌∷◌, ◌++◌, Option, Some}
 use Rattle.std.proofs.Common.{None, Result, refl, sym, ap, subst, ◌∙◌, arith}
 use Rattle.std.specs.Prelude.{◌==◌}
@@ -107,7 +107,7 @@ module _ {ST SP RT RP : Type 0} where
       ∙ any_same (requests_sent h') (λ k. is_handle_open k h && (number_of k h == q))
       (λ k. is_handle_open k h' && (number_of k h' == q)) (λ k. rw (alike_live k h h' a, a.numbers k) refl)
 
-  -- a handle gets the same of each command
+  -- a handle gets the same from each command
   gain-same : (port k : ℕ) (c : Command ST SP) (h h' : History ST SP RT RP) → IsAlike h h'
       → handed_over port k c h ≡ handed_over port k c h'
   gain-same port k (command.Datagram b groups) h h' a =
@@ -132,9 +132,9 @@ module _ {ST SP RT RP : Type 0} where
       ) refl
       ∙ sym (deliveries-more port k e (later ++ h'))
 
-  -- ---- histories after which the same is right
+  -- ---- histories after which the same outcomes are right
 
-  -- they are alike, and each handle that passes was delivered the same and given the same items
+  -- they are alike, and each handle that passes got the same deliveries and the same items
   pub record IsSameFor (port : ℕ) (Passes : ℕ → Type 0) (h h' : History ST SP RT RP) : Type 0 where
     pub alike : IsAlike h h'
     pub delivered : (k : ℕ) → Passes k → deliveries port k h ≡ deliveries port k h'
@@ -161,7 +161,7 @@ module _ {ST SP RT RP : Type 0} where
     same-after [] h h' s = s
     same-after (e ∷ later) h h' s = same-more e (later ++ h) (later ++ h') (same-after later h h' s)
 
-    -- what is said of commands of this kind after the one history is said after the other
+    -- a statement about commands of this kind after the one history holds after the other
     module _ (Kind : Command ST SP → Type 0) (Said : History ST SP RT RP → Command ST SP → Outcome ST SP RT RP → Type 0)
         (respects : (h h' : History ST SP RT RP) → IsSameFor port Passes h h'
         → (c : Command ST SP) (o : Outcome ST SP RT RP) → Kind c → Said h c o → Said h' c o) where
@@ -175,7 +175,7 @@ module _ {ST SP RT RP : Type 0} where
         each-same ((c, o) ∷ h) ((c, o) ∷ h') cs os (same-more (c, o) h h' s) (All-tail Kind c cs kinds) each.1,
       )
 
-      -- and the other way round, after more that came in both
+      -- and the other way round, after more events in both
       pub each-after : (h h' later : History ST SP RT RP) (cs : List (Command ST SP)) (os : List (Outcome ST SP RT RP))
           → IsSameFor port Passes h h' → All Kind cs
           → EachAfter Said (later ++ h) cs os ↔ EachAfter Said (later ++ h') cs os
@@ -200,7 +200,7 @@ module _ {ST SP RT RP : Type 0} where
       sent-same h h' s (command.Read j) o is = is
       sent-same h h' s (command.Close j) o is = is
 
--- the command reads no handle but one that passes
+-- the command reads only handles that pass
 abbrev pub ReadsOnly : {ST SP : Type 0} → (ℕ → Type 0) → Command ST SP → Type 0
 ReadsOnly Passes c = (k : ℕ) → reads k c ≡ true → Passes k
 

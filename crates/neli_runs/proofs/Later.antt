@@ -1,4 +1,4 @@
--- What comes later adds deliveries alone, and takes no answer back.
+-- Later events only add deliveries, and change no earlier answer.
 use Rattle.std.proofs.Common.{ℕ, ◌≡◌, ◌≢◌, Bool, List, [], ◌∷◌, ◌++◌, Result, sym, ap, ◌∙◌, append_assoc}
 use Rattle.std.specs.Prelude.{if◌then◌else◌}
 use Rattle.std.proofs.lemmas.List.{append-nil}

@@ -1,4 +1,4 @@
--- A datagram that came to groups leaves what is right of all handles but that for multicast.
+-- A datagram for groups leaves the right outcomes of every handle except that for multicast.
 use Rattle.std.proofs.Common.{ℕ, zero, suc, ◌≡◌, ◌≢◌, ◌↔◌, All, List, [], ◌∷◌, ◌++◌, refl, sym, ap, ◌∙◌}
 use Rattle.std.specs.Prelude.{if◌then◌else◌}
 use Rattle.neli_reader.specs.Agreement.{untyped_layout}
@@ -31,7 +31,7 @@ module _ {ST SP RT RP : Type 0} (port : ℕ) (b : Bytes) (group : ℕ) (groups :
     closed = λ k. refl;
   }
 
-  -- a handle with a number gets nothing of it
+  -- a handle with a number gets nothing from it
   same-delivered : (k : ℕ) (h : History ST SP RT RP) → deliveries port (suc k) h
       ≡ deliveries port (suc k) (notified ∷ h)
   same-delivered k h =
@@ -62,7 +62,7 @@ module _ {ST SP RT RP : Type 0} (port : ℕ) (b : Bytes) (group : ℕ) (groups :
   module _ (Kind : Command ST SP → Type 0) (Said : History ST SP RT RP → Command ST SP → Outcome ST SP RT RP → Type 0)
       (respects : (h h' : History ST SP RT RP) → IsSameFor port (λ k. k ≢ 0) h h'
       → (c : Command ST SP) (o : Outcome ST SP RT RP) → Kind c → Said h c o → Said h' c o) where
-    -- what is said of commands of this kind, with the datagram and without it
+    -- a statement about commands of this kind, with the datagram and without it
     pub each-notified : (before later : History ST SP RT RP) (commands : List (Command ST SP))
         (outcomes : List (Outcome ST SP RT RP)) → All Kind commands
         → EachAfter Said (later ++ before) commands outcomes

@@ -1,4 +1,4 @@
--- A read of one handle leaves what is right of all others.
+-- A read of one handle leaves the right outcomes of all others.
 use Rattle.std.proofs.Common.{ℕ, ◌≡◌, ◌≢◌, ◌↔◌, Bool, true, false, All, List, [], ◌∷◌, ◌++◌, refl, sym, ap, subst, ◌∙◌}
 use Rattle.std.proofs.Common.{arith}
 use Rattle.std.specs.Prelude.{◌==◌, if◌then◌else◌}
@@ -62,7 +62,7 @@ module _ {ST SP RT RP : Type 0} (port j : ℕ) where
   module _ (Kind : Command ST SP → Type 0) (Said : History ST SP RT RP → Command ST SP → Outcome ST SP RT RP → Type 0)
       (respects : (h h' : History ST SP RT RP) → IsSameFor port (λ k. k ≢ j) h h'
       → (c : Command ST SP) (o : Outcome ST SP RT RP) → Kind c → Said h c o → Said h' c o) where
-    -- what is said of commands of this kind, with the read and without it
+    -- a statement about commands of this kind, with the read and without it
     pub each-read : (o : Outcome ST SP RT RP) (before later : History ST SP RT RP) (commands : List (Command ST SP))
         (outcomes : List (Outcome ST SP RT RP)) → is_sent o ≡ false → All Kind commands
         → EachAfter Said (later ++ before) commands outcomes ↔ EachAfter Said

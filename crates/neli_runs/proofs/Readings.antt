@@ -57,7 +57,7 @@ module _ {A : Type 0} where
   pub length_push : (xs : List A) (y : A) → length (xs ++ y ∷ []) ≡ suc (length xs)
   length_push xs y = grind (arith, common_steps)
 
-  -- what is at a place of a list with one more: of the list, or the one more
+  -- the element at a place of a list with one more: of the list, or the one more
   pub pushed_get : (xs : List A) (y x : A) (i : ℕ) → slice_get (xs ++ y ∷ []) i ≡ Some x
       → (slice_get xs i ≡ Some x) ⊎ ((i ≡ length xs) × (x ≡ y))
   pushed_get [] y x zero e = inr (refl, cc)
@@ -68,7 +68,7 @@ module _ {A : Type 0} where
 -- ---- readings
 
 module _ {K P V : Type 0} (type_of : ℕ → K) (view : P → V) (size : P → ℕ) (read : List ℕ → Result V DeError) where
-  -- more deliveries come
+  -- more deliveries are added
   pub readings_append : (ds more : List Delivery) (items : List (Item K P))
       → AreReadings type_of view size read ds items → AreReadings type_of view size read (ds ++ more) items
   readings_append ds more [] a = tt
@@ -85,7 +85,7 @@ module _ {K P V : Type 0} (type_of : ℕ → K) (view : P → V) (size : P → �
   readings_push (x ∷ ds) (y ∷ items) d rest item a e is = (a.0, readings_push ds items d rest item a.1 e is)
 
 module _ {K P : Type 0} (number_of : K → ℕ) (needs numbered : Bool) where
-  -- the answer of the place of one more
+  -- the answer at the place of one more
   pub answer_push : (readings : List (Item K P)) (item : Item K P)
       → nat_lt (last_place number_of needs numbered readings) (length readings) ≡ false
       → answer number_of needs numbered (readings ++ item ∷ []) (length readings)
@@ -106,7 +106,7 @@ module _ {K P : Type 0} (number_of : K → ℕ) (needs numbered : Bool) where
       ∙ ap (λ b. b || is_single number_of numbered item)
       (single_append number_of numbered readings (item ∷ []) (length readings) (omega arith))
 
-  -- whether they are ended then
+  -- whether they have ended then
   pub last_push : (readings : List (Item K P)) (item : Item K P)
       → nat_lt (last_place number_of needs numbered readings) (length readings) ≡ false
       → nat_lt (last_place number_of needs numbered (readings ++ item ∷ [])) (suc (length readings))
@@ -117,13 +117,13 @@ module _ {K P : Type 0} (number_of : K → ℕ) (needs numbered : Bool) where
       ∙ ap (λ after. ends_at number_of needs numbered after item)
       (single_append number_of numbered readings (item ∷ []) (length readings) (omega arith))
 
-  -- the items given so far stay answers
+  -- the items returned so far stay answers
   pub were_grow : (readings more given : List (Item K P)) → WereAnswers number_of needs numbered readings given
       → WereAnswers number_of needs numbered (readings ++ more) given
   were_grow readings more given were = λ i item at. answer_grows number_of numbered needs readings more i item
       (were i item at)
 
-  -- and one more is given
+  -- and one more is returned
   pub were_push : (readings given : List (Item K P)) (item : Item K P)
       → WereAnswers number_of needs numbered readings given
       → answer number_of needs numbered readings (length given) ≡ reply.Item item
@@ -133,13 +133,13 @@ module _ {K P : Type 0} (number_of : K → ℕ) (needs numbered : Bool) where
     | inr now ↦ rw (now.0, now.1) is
   ]
 
--- ---- what a read answers
+-- ---- what a read returns
 
 module _ {K P V : Type 0} (type_of : ℕ → K) (number_of : K → ℕ) (view : P → V) (size : P → ℕ) (read : List ℕ
     → Result V DeError) (needs numbered : Bool) (ds : List Delivery) (given readings : List (Item K P))
     (are : AreReadings type_of view size read ds readings) (were : WereAnswers number_of needs numbered readings given)
     (count : length given ≡ length readings) where
-  -- past all that was read: the end or a wait
+  -- past all that was read, the end or a wait
   answer_past : answer number_of needs numbered readings (length given)
       ≡ (if nat_lt (last_place number_of needs numbered readings) (length readings) then reply.End else reply.Waits)
   answer_past = rw (slice_get_past readings (length given) (omega (arith, count))) refl

@@ -1,4 +1,4 @@
--- Datagrams that come one after the other hand over what their bytes say together.
+-- Consecutive datagrams deliver the messages of their joined bytes.
 use Rattle.std.proofs.Common.{ℕ, ◌≡◌, Bool, true, false, List, [], ◌∷◌, ◌++◌, Option, Some, None, refl, sym, ap}
 use Rattle.std.proofs.Common.{◌∙◌, append_assoc, arith}
 use Rattle.std.specs.Prelude.{⊤, if◌then◌else◌}
@@ -75,7 +75,7 @@ either false ds = refl
 -- ---- datagrams, one after the other
 
 module _ {ST SP RT RP : Type 0} where
-  -- a datagram opens and closes nothing
+  -- a datagram opens and closes no handle
   alike-datagram : (b : Bytes) (groups : List ℕ) (h : History ST SP RT RP)
       → IsAlike ((command.Datagram b groups, outcome.Done) ∷ h) h
   alike-datagram b groups h = record {
@@ -93,7 +93,7 @@ module _ {ST SP RT RP : Type 0} where
       alike-both _ _ _ (alike-came groups later ((command.Datagram b groups, outcome.Done) ∷ h))
       (alike-datagram b groups h)
 
-  -- what a handle gets of bytes that come as one datagram
+  -- the deliveries to a handle from bytes that arrive as one datagram
   part_of : ℕ → ℕ → List ℕ → History ST SP RT RP → List ℕ → List Delivery
   part_of port k groups h b = if is_handle_open k h then datagram_share port (λ q. is_open q h) (list_of_handle k h)
       (cut_of untyped_layout b) groups else []
@@ -170,7 +170,7 @@ module _ {ST SP RT RP : Type 0} where
       (λ (x : List ℕ). deliveries port k before ++ part_of port k groups before x) r.2
       ∙ sym (deliveries-came port k groups cs before r.1))
 
-  -- ---- and so with what is done next
+  -- ---- and so with every later command
 
   items-came : (k : ℕ) (groups : List ℕ) (bs : List Bytes) (h : History ST SP RT RP)
       → items_of k (history_with groups bs h) ≡ items_of k h

@@ -17,7 +17,7 @@ wire_is : {T P : Type 0} (w : Wire) (bytes : List ℕ) → as_request {T = T} {P
 wire_is (Ok text) bytes h = cc
 wire_is (Err e) bytes h = absurd cc
 
--- what is not refused for its length is what follows
+-- if the length is not refused, the result is the rest
 unless_long : {T P : Type 0} (long : Bool) (e : RouterError T P) (w : Result (List ℕ) (RouterError T P))
     (bytes : List ℕ) → cond long (Err e) w ≡ Ok bytes → (long ≡ false) × (w ≡ Ok bytes)
 unless_long true e w bytes h = absurd cc

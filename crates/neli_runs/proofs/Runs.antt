@@ -43,16 +43,16 @@ module _ {ST SP RT RP : Type 0} where
   each_map P Q f h (c ∷ cs) [] each = each
   each_map P Q f h (c ∷ cs) (o ∷ os) each = (f h c o each.0, each_map P Q f ((c, o) ∷ h) cs os each.1)
 
--- all is done where nothing is left
+-- all commands are done if none remains
 pub nothing-left : {A : Type 0} (front rest all : List A) → length rest ≡ 0 → front ++ rest ≡ all → front ≡ all
 nothing-left front [] all none e = sym (append-nil front) ∙ e
 nothing-left front (x ∷ rest) all none e = absurd (omega (arith, none))
 
--- ---- what is kept
+-- ---- the invariant
 
 module _ (ST SP : Type 0) {K P V : Type 0} (type_of : ℕ → K) (number : K → ℕ) (view : P → V) (size : P
     → ℕ) (read : List ℕ → Result V DeError) where
-  -- at the beginning
+  -- at the start
   pub holds_start : (pid next : ℕ) (pending : Pending) (handles : Handles) → next ≡ 0 → pending None ≡ Some []
       → ((q : ℕ) → pending (Some q) ≡ None) → handles ≡ Some multicast ∷ []
       → Holds {ST = ST} {SP = SP} type_of number view size read pid next pending handles []
@@ -62,7 +62,7 @@ module _ (ST SP : Type 0) {K P V : Type 0} (type_of : ℕ → K) (number : K →
 
 module _ {ST SP K P V : Type 0} (type_of : ℕ → K) (number : K → ℕ) (view : P → V) (size : P → ℕ) (read : List ℕ
     → Result V DeError) where
-  -- after one command more
+  -- after one more command
   pub went : (Said : ℕ → History ST SP K P → Command ST SP → Outcome ST SP K P
       → Type 0) (pid port next next' : ℕ) (pending pending' : Pending) (handles handles' : Handles) (c : Command ST SP)
       (o : Outcome ST SP K P) (h : History ST SP K P) → port ≡ pid

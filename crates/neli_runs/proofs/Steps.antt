@@ -1,4 +1,4 @@
--- What a session keeps of a history, one command further.
+-- The session's invariant over a history, one command further.
 use Rattle.std.proofs.Common.{ℕ, zero, suc, ◌≡◌, ◌≢◌, ◌+◌, ◌%◌, ◌^◌, ◌≤◌, ◌<◌, Bool, true, false, ◌&&◌, ◌||◌, List, []}
 use Rattle.std.proofs.Common.{◌∷◌, ◌++◌, length, drop, Option, Some, None, Result, refl, sym, ap, ◌∙◌, inl, inr, ◌⊎◌}
 use Rattle.std.proofs.Common.{arith}
@@ -131,7 +131,7 @@ any_false (suc n) p none = rw (none n, any_false n p none) refl
 abbrev no_items : {K P : Type 0} → List (Item K P)
 no_items = []
 
--- what a datagram or a fault hands over
+-- the deliveries of a datagram or a fault
 abbrev pub handed_by : {ST SP : Type 0} → ℕ → (ℕ → Bool) → Command ST SP → Option ℕ → List Delivery
 handed_by port test (command.Datagram b groups) w = datagram_share port test w (cut_of untyped_layout b.items) groups
 handed_by port test (command.Fault e) w = fault_share w e
@@ -231,7 +231,7 @@ module _ {ST SP K P V : Type 0} (type_of : ℕ → K) (number : K → ℕ) (view
         list_of_handle = whose_unsent k (command.Send t f p) o h unsent;
       }) a
 
-  -- a read that gives no item, or a close of no handle
+  -- a read that returns no item, or a close of no handle
   pub agrees_idle : (port next count : ℕ) (c : Command ST SP) (o : Outcome ST SP K P) (pending : Pending) (slots : ℕ
       → Option (Option HandleState)) (h : History ST SP K P)
       → requests_sent ((c, o) ∷ h) ≡ requests_sent h → next_number ((c, o) ∷ h) ≡ next_number h
@@ -301,7 +301,7 @@ module _ {ST SP K P V : Type 0} (type_of : ℕ → K) (number : K → ℕ) (view
         list_of_handle = whose_unsent k (command.Close i) outcome.NoHandle h refl;
       }) a
 
-  -- what a handle that is open has pending
+  -- the pending deliveries of an open handle
   kept_of : (port k : ℕ) (pending : Pending) (h : History ST SP K P) (s : Option (Option HandleState))
       → IsSlot type_of number view size read port pending k h s → is_handle_open k h ≡ true
       → (x : HandleState) × (readings : List (Item K P)) × (s ≡ Some (Some x))
@@ -460,7 +460,7 @@ module _ {ST SP K P V : Type 0} (type_of : ℕ → K) (number : K → ℕ) (view
         single_given = x.single_given || is_single number (is_numbered k) item;
         ended = ends_at number x.needs_ack (is_numbered k) x.single_given item;
       }) where
-    -- what is given
+    -- the item returned
     abbrev given_item : Item K P
     given_item = item_of number (needs_of k h) (is_numbered k)
         (nat_lt (single_place number (is_numbered k) readings) (length readings)) item
@@ -624,7 +624,7 @@ module _ {ST SP K P V : Type 0} (type_of : ℕ → K) (number : K → ℕ) (view
       → (q : ℕ) → is_some (pending (Some q)) ≡ is_open q h
   open_test port next count pending slots h a q = open_by port next count pending slots h a q (pending (Some q)) refl
 
-  -- ---- a datagram or a fault of the link: each list grows by what is handed to it
+  -- ---- a datagram or a fault of the link: each list gains its share
 
   module _ (port next count : ℕ) (pending pending' : Pending) (slots : ℕ
       → Option (Option HandleState)) (h h' : History ST SP K P)
@@ -736,7 +736,7 @@ module _ {ST SP K P V : Type 0} (type_of : ℕ → K) (number : K → ℕ) (view
     one = a.one;
   }
 
--- ---- the beginning
+-- ---- the start
 
 module _ (ST SP : Type 0) {K P V : Type 0} (type_of : ℕ → K) (number : K → ℕ) (view : P → V) (size : P
     → ℕ) (read : List ℕ → Result V DeError) where

@@ -52,7 +52,7 @@ refused-is result takes router.ClosedChannel n r = r
 refused-is result takes (router.SeqInUse q) n r = r
 refused-is result takes router.Memory n r = absurd (n refl)
 
--- what is sent has a number that is not in use
+-- each sent request has a number that is not in use
 pub sent-free : {A E : Type 0} (in_use : Bool) (e : E) (later : Result A E) (x : A)
     → (if in_use then Err e else later) ≡ Ok x → in_use ≡ false
 sent-free true e later x is = absurd cc
@@ -283,7 +283,7 @@ module _ {ST SP K P V : Type 0} (type_of : ℕ → K) (number : K → ℕ) (view
           [ inl none ↦ read_none still none | inr some ↦ read_one still some.0 some.1 some.2 ]
     ]
 
-  -- ---- the same where the handles are given by what was done with them
+  -- ---- the same with handles as the history gives them
 
   pub goes_close_none_at : (port next k : ℕ) (pending : Pending) (handles handles' : Handles) → handles' ≡ handles
       → ((x : HandleState) → slice_get handles k ≢ Some (Some x))

@@ -9,7 +9,7 @@ use Rattle.neli_runs.specs.declared.command.Command.{Command}
 use Rattle.neli_runs.specs.declared.command.Command.TheVariants as command
 use Rattle.neli_runs.specs.History.{History, is_handle_open, is_open, list_of_handle}
 
--- a moment: what was done, and the history before it
+-- a moment: a command with its outcome, and the history before it
 abbrev pub Moment : Type 0 → Type 0 → Type 0 → Type 0 → Type 0
 Moment ST SP RT RP = Command ST SP × History ST SP RT RP
 
@@ -19,7 +19,7 @@ module _ {ST SP RT RP : Type 0} where
   moments [] = []
   moments (e ∷ h) = moments h ++ (e.0, h) ∷ []
 
-  -- what handle k gets of a command that comes after this history: its part of a datagram, which is cut into messages,
+  -- the deliveries to handle k from a command after this history: its part of a datagram, which is cut into messages,
   -- or of a fault of the link
   abbrev pub handed_over : ℕ → ℕ → Command ST SP → History ST SP RT RP → List Delivery
   handed_over port k (command.Datagram b groups) h =
@@ -30,7 +30,7 @@ module _ {ST SP RT RP : Type 0} where
   handed_over port k (command.Read j) h = []
   handed_over port k (command.Close j) h = []
 
-  -- the deliveries to handle k: what it gets at each moment at which it was given and not closed, in order
+  -- the deliveries to handle k: those of each moment at which it was open, in order
   abbrev pub deliveries : ℕ → ℕ → History ST SP RT RP → List Delivery
   deliveries port k h =
       flat_map (λ m. handed_over port k m.0 m.1) (filter (λ m. is_handle_open k m.1) (moments h))

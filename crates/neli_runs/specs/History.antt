@@ -1,5 +1,4 @@
--- A history: commands with what came of them, the latest first. What follows an event in the list is the history before
--- it.
+-- A history: commands with their outcomes, the latest first. After an event, the list holds the history before it.
 use Rattle.std.specs.Prelude.{ℕ, zero, suc, ◌+◌, ◌%◌, ◌^◌, Bool, true, false, not, ◌&&◌, ◌||◌, ◌==◌, nat_le}
 use Rattle.std.specs.Prelude.{if◌then◌else◌, List, [], ◌∷◌, ◌++◌, Option, Some, None}
 use Rattle.neli_deliveries.specs.Readings.{Item}
@@ -9,7 +8,7 @@ use Rattle.neli_runs.specs.declared.command.Command.TheVariants as command
 use Rattle.neli_runs.specs.declared.command.Outcome.{Outcome}
 use Rattle.neli_runs.specs.declared.command.Outcome.TheVariants as outcome
 
--- a command, and what came of it
+-- a command and its outcome
 abbrev pub Event : Type 0 → Type 0 → Type 0 → Type 0 → Type 0
 Event ST SP RT RP = Command ST SP × Outcome ST SP RT RP
 
@@ -17,10 +16,10 @@ Event ST SP RT RP = Command ST SP × Outcome ST SP RT RP
 abbrev pub History : Type 0 → Type 0 → Type 0 → Type 0 → Type 0
 History ST SP RT RP = List (Event ST SP RT RP)
 
--- ---- what commands and outcomes say
+-- ---- facts about commands and outcomes
 
 module _ {ST SP : Type 0} where
-  -- the number that is set, or the one before
+  -- the number that the command sets, or the one before
   abbrev pub number_set_after : Command ST SP → ℕ → ℕ
   number_set_after (command.SetNextSeq n) before = n
   number_set_after (command.Send t f p) before = before
@@ -29,7 +28,7 @@ module _ {ST SP : Type 0} where
   number_set_after (command.Read k) before = before
   number_set_after (command.Close k) before = before
 
-  -- a count, which begins anew where a number is set
+  -- a count, which restarts where a number is set
   abbrev pub count_after : Command ST SP → ℕ → ℕ
   count_after (command.SetNextSeq n) count = 0
   count_after (command.Send t f p) count = count
@@ -71,12 +70,12 @@ module _ {ST SP RT RP : Type 0} where
   is_sent (outcome.Sent bytes) = true
   is_sent _ = false
 
-  -- a command was done that answers nothing else
+  -- a command with no result but that it was done
   abbrev pub is_done : Outcome ST SP RT RP → Bool
   is_done outcome.Done = true
   is_done _ = false
 
-  -- the items after an outcome: one more, where one was given to a read of theirs
+  -- the items after an outcome: one more, if a read of theirs returned one
   abbrev pub with_item : Outcome ST SP RT RP → Bool → List (Item RT RP) → List (Item RT RP)
   with_item (outcome.Item item) theirs before = if theirs then before ++ item ∷ [] else before
   with_item outcome.Done theirs before = before
@@ -88,23 +87,23 @@ module _ {ST SP RT RP : Type 0} where
 
   -- ---- sequence numbers
 
-  -- how many requests were sent
+  -- the number of sent requests
   abbrev pub requests_sent : History ST SP RT RP → ℕ
   requests_sent [] = 0
   requests_sent (e ∷ h) = if is_sent e.1 then suc (requests_sent h) else requests_sent h
 
-  -- the number that was set last; 0 where none was
+  -- the number that was set last; 0 if none was
   abbrev pub last_set_number : History ST SP RT RP → ℕ
   last_set_number [] = 0
   last_set_number (e ∷ h) = number_set_after e.0 (last_set_number h)
 
-  -- how many requests were sent since then
+  -- the number of requests sent since then
   abbrev pub requests_since_set : History ST SP RT RP → ℕ
   requests_since_set [] = 0
   requests_since_set (e ∷ h) = count_after e.0 (if is_sent e.1 then suc (requests_since_set h)
       else requests_since_set h)
 
-  -- the sequence number of a request that is sent now
+  -- the sequence number of a request sent now
   abbrev pub next_number : History ST SP RT RP → ℕ
   next_number h = (last_set_number h + requests_since_set h) % 2 ^ 32
 
@@ -130,11 +129,11 @@ module _ {ST SP RT RP : Type 0} where
   is_closed k [] = false
   is_closed k (e ∷ h) = (closes k e.0 && is_done e.1) || is_closed k h
 
-  -- it was given, and not closed
+  -- it exists and is not closed
   abbrev pub is_handle_open : ℕ → History ST SP RT RP → Bool
   is_handle_open k h = nat_le k (requests_sent h) && not (is_closed k h)
 
-  -- the items that it was given, in order
+  -- the items that its reads returned, in order
   abbrev pub items_of : ℕ → History ST SP RT RP → List (Item RT RP)
   items_of k [] = []
   items_of k (e ∷ h) = with_item e.1 (reads k e.0) (items_of k h)

@@ -1,4 +1,4 @@
--- What comes of each command of a run.
+-- The outcome of each command of a run.
 use Rattle.std.specs.Prelude.{◌≡◌, ⊤, ℕ, zero, suc, Bool, true, false, List, [], ◌∷◌, length, Some, Result, Ok, Err}
 use Rattle.std.specs.List.{slice_get}
 use Rattle.neli_wire.specs.DeError.{DeError}
@@ -22,23 +22,23 @@ abbrev pub is_numbered : ℕ → Bool
 is_numbered zero = false
 is_numbered (suc k) = true
 
--- ---- what is sent
+-- ---- requests
 
--- bytes are sent, or nothing is for this cause
+-- bytes are sent, or nothing is sent for this cause
 abbrev pub IsSending : {ST SP RT RP : Type 0} → Result (List ℕ) (RouterError ST SP) → Outcome ST SP RT RP → Type 0
 IsSending result (outcome.Sent bytes) = result ≡ Ok bytes.items
 IsSending result (outcome.NotSent e) = result ≡ Err e
 IsSending result o = ⊥
 
 module _ {ST SP RT RP : Type 0} (number_of : ST → ℕ) (wire : SP → Wire) (size : SP → ℕ) (port : ℕ) where
-  -- what comes of sending a request after a history: its frame, or the first cause for which it is not sent
+  -- the outcome of sending a request after a history: its frame, or the first cause that refuses it
   abbrev pub IsSent : History ST SP RT RP → Command ST SP → Outcome ST SP RT RP → Type 0
   IsSent h (command.Send message_type flags payload) o =
       IsSending (frame_or_refusal number_of wire size port (next_number h)
       (is_open (next_number h) h) message_type flags payload) o
   IsSent h c o = ⊤
 
--- ---- what is read
+-- ---- reads
 
 module _ {K P V : Type 0} (type_of : ℕ → K) (view : P → V) (size : P → ℕ) (read : List ℕ → Result V DeError) where
   -- the items are the first of these deliveries, read as the caller's types
@@ -47,7 +47,7 @@ module _ {K P V : Type 0} (type_of : ℕ → K) (view : P → V) (size : P → �
   AreReadings [] (item ∷ items) = ⊥
   AreReadings (d ∷ ds) (item ∷ items) = IsReading type_of view size read d item × AreReadings ds items
 
--- each of the items that were given is the answer of its place
+-- each of the returned items is the answer of its place
 abbrev pub WereAnswers : {K P : Type 0} → (K → ℕ) → Bool → Bool → List (Item K P) → List (Item K P) → Type 0
 WereAnswers {K} {P} number_of needs numbered readings given =
     (i : ℕ) (item : Item K P) → slice_get given i ≡ Some item
@@ -55,8 +55,8 @@ WereAnswers {K} {P} number_of needs numbered readings given =
 
 module _ {K P V : Type 0} (type_of : ℕ → K) (number_of : K → ℕ) (view : P → V) (size : P → ℕ) (read : List ℕ
     → Result V DeError) where
-  -- the reply to a read of a handle that was given these items before: with its first deliveries read as the caller's
-  -- types, the answer of the next place; it is to wait only where all deliveries are read
+  -- the reply to a read of a handle whose reads returned these items before: with its first deliveries read as the
+  -- caller's types, the answer of the next place; a wait only if all deliveries are read
   abbrev pub IsNextAnswer : Bool → Bool → List Delivery → List (Item K P) → Reply K P → Type 0
   IsNextAnswer needs numbered ds given r =
       (readings : List (Item K P)) × AreReadings type_of view size read ds readings
@@ -70,14 +70,14 @@ outcome_of (reply.Item item) = outcome.Item item
 outcome_of reply.End = outcome.End
 outcome_of reply.Waits = outcome.Waits
 
--- done where the handle is open
+-- done if the handle is open
 abbrev pub closed_or_not : {ST SP RT RP : Type 0} → Bool → Outcome ST SP RT RP
 closed_or_not true = outcome.Done
 closed_or_not false = outcome.NoHandle
 
 module _ {ST SP K P V : Type 0} (type_of : ℕ → K) (number_of : K → ℕ) (view : P → V) (size : P → ℕ) (read : List ℕ
     → Result V DeError) (port : ℕ) where
-  -- what comes of reading handle k after a history
+  -- the outcome of reading handle k after a history
   abbrev pub IsReadOf : History ST SP K P → ℕ → Bool → Outcome ST SP K P → Type 0
   IsReadOf h k true o =
       (r : Reply K P) × IsNextAnswer type_of number_of view size read (needs_of k h) (is_numbered k)
@@ -85,7 +85,7 @@ module _ {ST SP K P V : Type 0} (type_of : ℕ → K) (number_of : K → ℕ) (v
       × (o ≡ outcome_of r)
   IsReadOf h k false o = o ≡ outcome.NoHandle
 
-  -- what comes of every command but a request
+  -- the outcome of every command but a request
   abbrev pub IsAnswered : History ST SP K P → Command ST SP → Outcome ST SP K P → Type 0
   IsAnswered h (command.Read k) o = IsReadOf h k (is_handle_open k h) o
   IsAnswered h (command.Close k) o = o ≡ closed_or_not (is_handle_open k h)
@@ -95,13 +95,13 @@ module _ {ST SP K P V : Type 0} (type_of : ℕ → K) (number_of : K → ℕ) (v
 -- ---- a run
 
 module _ {ST SP RT RP : Type 0} (Says : History ST SP RT RP → Command ST SP → Outcome ST SP RT RP → Type 0) where
-  -- there is one outcome for each command, and this holds of each with the history before it
+  -- each command has one outcome, and this holds of each with the history before it
   abbrev pub EachAfter : History ST SP RT RP → List (Command ST SP) → List (Outcome ST SP RT RP) → Type 0
   EachAfter h [] [] = ⊤
   EachAfter h [] (o ∷ os) = ⊥
   EachAfter h (c ∷ cs) [] = ⊥
   EachAfter h (c ∷ cs) (o ∷ os) = Says h c o × EachAfter ((c, o) ∷ h) cs os
 
-  -- the same from the beginning
+  -- the same from the start
   abbrev pub Each : List (Command ST SP) → List (Outcome ST SP RT RP) → Type 0
   Each cs os = EachAfter [] cs os

@@ -1,4 +1,4 @@
--- Datagrams that come one after the other, and the same bytes in other datagrams.
+-- Consecutive datagrams, and the same bytes in other datagrams.
 use Rattle.std.specs.Prelude.{◌≡◌, ⊤, ℕ, List, [], ◌∷◌, None}
 use Rattle.std.specs.List.{flat_map}
 use Rattle.std.specs.declared.alloc.Global.{Global}
@@ -18,7 +18,7 @@ Bytes = Vec ℕ Global
 abbrev pub IsWhole : {H V : Type 0} → Layout H V → List ℕ → Type 0
 IsWhole layout b = (cut_of layout b).1 ≡ None
 
--- of these datagrams only the last may have a fault
+-- only the last of these datagrams may have a fault
 abbrev pub AreWholeBeforeLast : List Bytes → Type 0
 AreWholeBeforeLast [] = ⊤
 AreWholeBeforeLast (b ∷ []) = ⊤
@@ -33,6 +33,6 @@ abbrev pub history_with : {ST SP RT RP : Type 0} → List ℕ → List Bytes →
 history_with groups [] h = h
 history_with groups (b ∷ later) h = history_with groups later ((command.Datagram b groups, outcome.Done) ∷ h)
 
--- the same bytes in other datagrams, of which in both lists only the last may have a fault
+-- the same bytes in other datagrams; in both lists only the last may have a fault
 abbrev pub IsRegrouped : List Bytes → List Bytes → Type 0
 IsRegrouped bs cs = AreWholeBeforeLast bs × AreWholeBeforeLast cs × (concatenation bs ≡ concatenation cs)

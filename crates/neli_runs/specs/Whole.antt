@@ -1,4 +1,4 @@
--- An answer of which all was given.
+-- An answer that was read to its end.
 use Rattle.std.specs.Prelude.{◌≡◌, ◌≤◌, ℕ, suc, ℤ, pos, Bool, true, false, List, length, take, nat_lt, Some, Result, Ok}
 use Rattle.std.specs.List.{list_any, slice_get}
 use Rattle.neli_wire.specs.DeError.{DeError}
@@ -10,9 +10,9 @@ use Rattle.neli_deliveries.specs.Readings.{Item}
 use Rattle.neli_router.specs.Rule.{last_place}
 use Rattle.neli_router.specs.Verdicts.{end_code, given_of, is_flagged}
 
--- the answers to a handle with these deliveries, the first of which are read as these items, have ended; the items given
--- are all up to the end, each once, in order and as it was read; each is a message of the handle's own; none is marked as
--- interrupted; and the last has no code but 0
+-- the answers to a handle with these deliveries, the first of which are read as these items, have ended; the reads
+-- returned all items up to the end, each once, in order and as it was read; each is a message of the handle's own; none
+-- is marked as interrupted; and the last has no code but 0
 pub record IsWholeAnswer {K P V : Type 0} (type_of : ℕ → K) (number_of : K → ℕ) (view : P → V) (size : P
     → ℕ) (read : List ℕ → Result V DeError) (needs numbered : Bool) (ds : List Delivery)
     (items : List (Item K P)) : Type 0 where

@@ -1,4 +1,4 @@
-//! Laws of runs, over the definitions alone. The calls do nothing: their contracts are the laws.
+//! Laws of runs, over the definitions only. The calls do nothing: their contracts are the laws.
 
 ghost use Rattle.std.specs.Prelude.{◌≡◌, ◌≢◌, ◌<◌, ◌↔◌, ◌++◌, ◌∷◌, ℕ, suc, Bool, false, [], List, Ok, length, nat_lt};
 ghost use Rattle.neli_consts.specs.declared.nlm_f.NlmF.{NlmF as Flags};
@@ -27,7 +27,7 @@ use crate::{Command, Outcome};
 use neli_consts::NlType;
 use neli_wire::{FromBytesWithInput, Size, ToBytes};
 
-/// The bytes that are sent are one frame: read as a datagram they are one message, with the type, the flags and
+/// The bytes of a sent request are one frame: read as a datagram they are one message, with the type, the flags and
 /// REQUEST, the sequence number and the port, and with the payload's bytes and zeros up to a multiple of four; and no
 /// fault.
 pub fn request_is_one_frame<ST: NlType, SP: ToBytes>()
@@ -39,8 +39,8 @@ pub fn request_is_one_frame<ST: NlType, SP: ToBytes>()
         number t flags payload) bytes }
 {}
 
-/// Answers only grow: what was answered with some deliveries is answered with more, an item as the same item
-/// and the end as the end. A wait alone may become something else.
+/// Answers only grow: with more deliveries an item stays the same item and the end stays the end. Only a wait may
+/// become something else.
 pub fn answers_only_grow<RT: NlType, RP>()
     ensures item { (needs numbered : Bool) (items more : List (Item RT RP)) (i : ℕ) (x : Item RT RP)
         → answer RT.wire_number needs numbered items i ≡ reply.Item x
@@ -50,15 +50,15 @@ pub fn answers_only_grow<RT: NlType, RP>()
         → answer RT.wire_number needs numbered (items ++ more) i ≡ reply.End }
 {}
 
-/// Deliveries only grow: a command more leaves what was delivered to a handle, and may add to it.
+/// Deliveries only grow: one more command keeps those of a handle, and may add to them.
 pub fn deliveries_only_grow<ST, SP, RT, RP>()
     ensures { (port k : ℕ) (c : Command ST SP) (o : Outcome ST SP RT RP)
         (h : History ST SP RT RP) → (more : List Waiting)
         × (deliveries port k ((c, o) ∷ h) ≡ deliveries port k h ++ more) }
 {}
 
-/// So what comes later takes no answer back: an item or the end that is right for a read after some history is right
-/// after every history that begins with that one.
+/// So later commands change no answer: an item or the end that is right for a read after some history is right after
+/// every history that begins with that one.
 pub fn later_commands_leave_answers<ST, SP, RT, RP>()
 where
     RT: NlType,
@@ -73,7 +73,7 @@ where
         (deliveries port k (later ++ before)) given r }
 {}
 
-/// A read of one handle changes nothing of another: neither what is delivered to it nor what it was given.
+/// A read of one handle changes nothing of another: neither its deliveries nor the items that its reads returned.
 pub fn reads_of_others_change_nothing<ST, SP, RT, RP>()
     ensures deliveries { (port j k : ℕ) (r : Answer RT RP) (h : History ST SP RT RP)
         → deliveries port k ((Command.Read j, outcome_of r) ∷ h) ≡ deliveries port k h }
@@ -87,16 +87,16 @@ pub fn reads_of_others_change_nothing<ST, SP, RT, RP>()
         → is_handle_open k ((Command.Read j, outcome_of r) ∷ h) ≡ is_handle_open k h }
 {}
 
-/// So it changes no outcome: where handle `j` was read at some point of a history, or was not, the same is right for a
-/// run to answer to the commands that come later, of which none reads `j`. The read may have had any outcome but bytes
-/// to be sent, which no read has.
+/// So it changes no outcome: whether handle `j` was read at some point of a history or not, the same outcomes are right
+/// for the commands that follow, of which none reads `j`. The read may have any outcome but bytes to be sent, which no
+/// read has.
 pub fn reads_of_others_leave_outcomes<ST, SP, RT, RP>()
 where
     ST: NlType,
     SP: ToBytes,
     RT: NlType,
     RP: FromBytesWithInput + Size,
-    // What is sent is the same even where they read `j`.
+    // A request is sent as the same bytes even where they read `j`.
     ensures sent { (port j : ℕ) (o : Outcome ST SP RT RP) (before later : History ST SP RT RP)
         (commands : List (Command ST SP)) (outcomes : List (Outcome ST SP RT RP))
         → is_sent o ≡ false
@@ -113,9 +113,9 @@ where
         (later ++ (Command.Read j, o) ∷ before) commands outcomes) }
 {}
 
-/// A notification changes nothing for those who asked, whatever numbers and ports its messages have: where a datagram
-/// without a fault came to groups at some point of a history, or did not, each handle with a number is delivered the
-/// same, and the same is right for a run to answer to the commands that come later, of which none reads multicast.
+/// A notification changes nothing for requests, whatever numbers and ports its messages have: whether a datagram
+/// without a fault arrived for groups at some point of a history or not, each handle with a number gets the same
+/// deliveries, and the same outcomes are right for the commands that follow, of which none reads multicast.
 pub fn notifications_leave_outcomes<ST, SP, RT, RP>()
 where
     ST: NlType,
@@ -127,7 +127,7 @@ where
         → deliveries port (suc k)
         (later ++ (Command.Datagram b (group ∷ groups), Outcome.Done) ∷ before)
         ≡ deliveries port (suc k) (later ++ before) }
-    // What is sent is the same even where they read multicast.
+    // A request is sent as the same bytes even where they read multicast.
     ensures sent { (port group : ℕ) (groups : List ℕ) (b : Bytes)
         (before later : History ST SP RT RP) (commands : List (Command ST SP))
         (outcomes : List (Outcome ST SP RT RP)) → IsWhole untyped_layout b.items
@@ -156,9 +156,9 @@ pub fn cuts_join<T: NlType, P: FromBytesWithInput>()
         ≡ messages_before (cut_of untyped_layout a).0 (cut_of untyped_layout b) }
 {}
 
-/// Datagrams may be regrouped: where some that came one after the other, to the same groups, are replaced by others
-/// with the same bytes, every handle is delivered the same, whatever came before them and after them. Of the old
-/// datagrams and of the new ones only the last may have a fault. The same handles and numbers are open.
+/// Datagrams may be regrouped: if consecutive ones for the same groups are replaced by others with the same bytes,
+/// every handle gets the same deliveries, whatever arrived before them and after them. Of the old datagrams and of the
+/// new ones only the last may have a fault. The same handles and numbers are open.
 pub fn regrouping_leaves_deliveries<ST, SP, RT, RP>()
     ensures deliveries { (port k : ℕ) (groups : List ℕ) (bs cs : List Bytes)
         (before later : History ST SP RT RP) → IsRegrouped bs cs
@@ -174,7 +174,7 @@ pub fn regrouping_leaves_deliveries<ST, SP, RT, RP>()
         ≡ is_open q (later ++ history_with groups cs before) }
 {}
 
-/// So what is right for a run to answer after the old datagrams, to any commands, is right after the new ones.
+/// So every outcome that is right after the old datagrams is right after the new ones.
 pub fn regrouping_leaves_outcomes<ST, SP, RT, RP>()
 where
     ST: NlType,
@@ -197,8 +197,8 @@ where
         (history_with groups cs before) commands outcomes }
 {}
 
-/// A verdict is one of all that was read: nothing was read at first, and then it is pending; and one item more, of a
-/// handle whose answers have not ended, makes of it and of the items given what `NlRouter::next_typed` makes of them.
+/// A verdict follows all reads: before the first it is pending; and one item more, of a handle whose answers have not
+/// ended, changes it and the returned items exactly as `NlRouter::next_typed` does.
 pub fn verdicts_follow_reads<RT: NlType, RP>()
     ensures none { (needs numbered : Bool)
         → verdict {K = RT} {P = RP} RT.wire_number needs numbered [] ≡ stands.Pending }
@@ -218,7 +218,7 @@ pub fn verdicts_follow_reads<RT: NlType, RP>()
         (nat_lt (single_place RT.wire_number numbered items) (length items)) x ∷ [] }
 {}
 
-/// A verdict but pending is final: no delivery that comes later changes it. So what was interrupted is never complete.
+/// Every verdict but pending is final: no later delivery changes it. So an interrupted answer never becomes complete.
 pub fn verdicts_stay<RT: NlType, RP>()
     ensures { (needs numbered : Bool) (items more : List (Item RT RP))
         → verdict RT.wire_number needs numbered items ≢ stands.Pending

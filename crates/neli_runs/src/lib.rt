@@ -1,11 +1,11 @@
 //! Whole runs of the router: any list of sends, datagrams, faults, reads and closes.
 //!
-//! - [`run`] does what a list of [`Command`]s says, and answers one [`Outcome`] for each.
+//! - [`run`] performs a list of [`Command`]s, and returns one [`Outcome`] for each.
 //! - [`NlRouter`] is the router itself, call by call.
 //!
-//! What a run answers is said on three pages: `specs/History.antt` (which numbers are open),
+//! Three pages define the outcomes of a run: `specs/History.antt` (which numbers are open),
 //! `specs/Deliveries.antt` (who gets what) and `specs/Outcomes.antt` (what is sent, and what each
-//! read answers). `specs/Regrouping.antt` and `specs/OtherReads.antt` have the words of the laws.
+//! read returns). `specs/Regrouping.antt` and `specs/OtherReads.antt` have the words of the laws.
 #![tactic(auto)]
 
 mod command;

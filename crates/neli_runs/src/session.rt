@@ -1,4 +1,4 @@
-//! A router with the handles that it gave.
+//! A router with its handles.
 
 ghost use Rattle.std.specs.Prelude.{◌≡◌, ◌≢◌, ◌<◌, ℕ, ◌∷◌, [], Option, Some, None, IfOk, OnOk, length};
 ghost use Rattle.std.specs.List.{slice_get};
@@ -13,15 +13,15 @@ use neli_wire::{FromBytesWithInput, NoMemory, Size, ToBytes};
 use std::alloc::Global;
 use std::mem::replace;
 
-/// A router, and the handles that it gave: that for multicast, and one for each request that was
-/// sent. A handle that is closed has left its place empty.
+/// A router, and its handles: that for multicast, and one for each request that was sent. The place
+/// of a closed handle is empty.
 #[derive(Drop)]
 pub(crate) struct Session<D, RT, RP> {
     router: NlRouter<D>,
     handles: Vec<Option<NlRouterReceiverHandle<RT, RP>>>,
 }
 
-/// Takes the handle out of a place, if there is one.
+/// Removes the handle from a place, if there is one.
 fn take<H: Drop>(handles: &mut Vec<Option<H>>, k: usize) -> Option<H>
     ensures none { result ≡ None → (handles.new.items ≡ handles.old.items)
         × ((x : H) → slice_get handles.old.items k ≢ Some (Some x)) }
@@ -166,7 +166,7 @@ impl<D: Deliveries, RT: NlType, RP: FromBytesWithInput + Size + Drop> Session<D,
     }
 }
 
-/// What came of a read that this was answered to.
+/// Returns the outcome of a read with this reply.
 fn outcome_of<ST, SP, RT, RP>(reply: Reply<RT, RP>) -> Outcome<ST, SP, RT, RP>
     ensures { result ≡ outcome_of reply }
 {

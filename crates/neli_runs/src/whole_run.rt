@@ -9,13 +9,13 @@ use neli_consts::NlType;
 use neli_wire::{FromBytesWithInput, NoMemory, Size, ToBytes};
 use std::alloc::Global;
 
-/// Does these commands in their order, with a new router of this port, and answers one outcome for
-/// each.
+/// Performs these commands in their order, with a new router of this port, and returns one outcome
+/// for each.
 ///
-/// `ST` and `SP` are the types of what is sent, `RT` and `RP` those that every item is read as,
-/// also those of multicast. `D` keeps what waits for the handles.
+/// `ST` and `SP` are the types of sent messages and payloads, `RT` and `RP` those that every item
+/// is read as, also those of multicast. `D` stores the deliveries of the handles.
 ///
-/// Refused only where memory runs out.
+/// Refused only if memory runs out.
 pub fn run<D, ST, SP, RT, RP>(
     alloc: Global,
     pid: u32,

@@ -3,7 +3,7 @@ use Rattle.std.specs.Prelude.{ℕ}
 use Rattle.neli_schema.specs.declared.kind.Number.{Number}
 use Rattle.neli_schema.specs.declared.kind.Number.TheVariants.{U8, U16, U32, U64, S8, S16, S32, S64, Be16, Be32, Be64}
 
--- how many bytes a number takes
+-- the size of a number in bytes
 abbrev pub number_size : Number → ℕ
 number_size U8 = 1
 number_size U16 = 2

@@ -1,15 +1,15 @@
-//! What messages carry.
+//! The contents of messages.
 
 use crate::TableId;
 
-/// What the messages of a protocol and a type carry.
+/// The contents of the messages of a protocol and a type.
 #[derive(Clone, Copy, Debug)]
 pub struct Body<'t> {
-    /// The protocol of netlink (`NETLINK_ROUTE` is 0, of `linux/netlink.h`).
+    /// The netlink protocol (`NETLINK_ROUTE` is 0, of `linux/netlink.h`).
     pub protocol: u16,
-    /// The type of the message, as 16 for `RTM_NEWLINK`; of a process event its `what`.
+    /// The type of the message, as 16 for `RTM_NEWLINK`; for a process event its `what`.
     pub number: u32,
-    /// The name of that, as in the kernel's header.
+    /// The name of the type, as in the kernel's header.
     pub name: &'t str,
     /// The table with the body's structure and its attributes.
     pub table: TableId,

@@ -1,4 +1,4 @@
-//! What a payload is.
+//! The kind of a payload.
 
 ghost use Rattle.std.specs.Prelude.{◌≡◌};
 ghost use Rattle.neli_schema.specs.Kinds.{number_size};
@@ -33,7 +33,7 @@ pub enum Number {
 }
 
 impl Number {
-    /// How many bytes it takes: 1, 2, 4 or 8.
+    /// The size in bytes: 1, 2, 4 or 8.
     pub fn size(self) -> usize
         ensures { result ≡ number_size self }
     {
@@ -46,22 +46,22 @@ impl Number {
     }
 }
 
-/// What the payload of an attribute is.
+/// The kind of an attribute's payload.
 #[derive(Clone, Copy, Debug)]
 pub enum Kind<'t> {
-    /// Nothing: that the attribute is there says all (`NLA_FLAG`).
+    /// Nothing: the presence of the attribute is its meaning (`NLA_FLAG`).
     Flag,
     /// A number.
     Number(Number),
-    /// Numbers, one after the other, as many as there are.
+    /// Numbers, one after the other, up to the end.
     Numbers(Number),
-    /// A text; a zero at its end may be left out (`NLA_STRING`).
+    /// A text; the zero at its end is optional (`NLA_STRING`).
     Text,
     /// A text with a zero at its end (`NLA_NUL_STRING`).
     ZeroText,
-    /// A hardware address, of six bytes on Ethernet, of other lengths elsewhere.
+    /// A hardware address: six bytes on Ethernet, other lengths elsewhere.
     HardwareAddress,
-    /// An address of the family of the body: of 4 bytes for `AF_INET`, of 16 for `AF_INET6`, of any length for others.
+    /// An address of the body's family: 4 bytes for `AF_INET`, 16 for `AF_INET6`, any length for others.
     Address,
     /// An IPv4 address (`__be32`, `struct in_addr`).
     Ipv4,
@@ -69,34 +69,34 @@ pub enum Kind<'t> {
     Ipv6,
     /// The attributes of another table, after its structure if it has one (`NLA_NESTED`).
     Nest(TableId),
-    /// The attributes of a table that something else picks.
+    /// The attributes of a table that a choice picks.
     Chosen(Choice<'t>),
-    /// Structures that each state their length in their first two bytes, and each are followed by attributes: the table
+    /// Structures that each state their length in their first two bytes, and are each followed by attributes: the table
     /// has both, as `struct rtnexthop` in `RTA_MULTIPATH`.
     Hops(TableId),
-    /// A structure. Fields past the end of a short payload are not there.
+    /// A structure. A short payload lacks the fields past its end.
     Structure(Structure<'t>),
-    /// Structures of the same kind, one after the other, as many as there are.
+    /// Structures of the same kind, one after the other, up to the end.
     Structures(Structure<'t>),
     /// Bytes.
     Bytes,
 }
 
-/// What picks the table of a nest.
+/// Picks the table of a nest.
 #[derive(Clone, Copy, Debug)]
 pub struct Choice<'t> {
-    /// Where to look.
+    /// What to compare.
     pub by: By,
-    /// Which table is meant by what stands there.
+    /// The table for each value.
     pub cases: &'t [Case<'t>],
-    /// The table where no case fits; without one the payload is bytes.
+    /// The table if no case fits; without one the payload is bytes.
     pub otherwise: Option<TableId>,
 }
 
-/// Where to look for what picks a table.
+/// The value that picks a table.
 #[derive(Clone, Copy, Debug, PartialEq, Eq)]
 pub enum By {
-    /// The attribute with this number beside the nest, before or after it.
+    /// The attribute with this number in the list of the nest, before or after it.
     Neighbour(u16),
     /// The family of the body.
     Family,
@@ -105,13 +105,13 @@ pub enum By {
 /// A case of a choice.
 #[derive(Clone, Copy, Debug)]
 pub struct Case<'t> {
-    /// What stands there.
+    /// The value.
     pub key: Key<'t>,
-    /// The table that is meant then.
+    /// The table for it.
     pub table: TableId,
 }
 
-/// What picks a case.
+/// The value of a case.
 #[derive(Clone, Copy, Debug)]
 pub enum Key<'t> {
     /// This text, with or without a zero at its end.

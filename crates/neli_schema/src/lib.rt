@@ -1,13 +1,13 @@
-//! What attributes are called and what their payloads are, as data: tables that are read line by line against the
-//! kernel's headers.
+//! The names of attributes and the kinds of their payloads, as data: tables to compare line by line with the kernel's
+//! headers.
 //!
-//! - [`Table`]: the attributes that bytes list, a [`Row`] for each number, and the structure before them.
-//! - [`Kind`]: what a payload is: a [`Number`], a text, an address, a [`Structure`], or attributes of another table,
-//!   which [`TableId`] names or a [`Choice`] picks by a neighbour.
-//! - [`Body`]: what the messages of a protocol and a type carry.
-//! - [`Schema`]: tables together, in which one is found by its [`TableId`].
-//! - [`tables`]: the kernel's own.
-//! - [`rows!`] and [`fields!`] write rows and fields a line each. A table of your own is made of the same values.
+//! - [`Table`]: the attributes in a list, a [`Row`] for each number, and the structure before them.
+//! - [`Kind`]: the kind of a payload: a [`Number`], a text, an address, a [`Structure`], or attributes of another
+//!   table, which [`TableId`] names or a [`Choice`] picks by a neighbour.
+//! - [`Body`]: the contents of the messages of a protocol and a type.
+//! - [`Schema`]: joins tables, and finds one by its [`TableId`].
+//! - [`tables`]: the kernel's tables.
+//! - [`rows!`] and [`fields!`] write rows and fields, a line each. A table of your own has the same values.
 #![tactic(auto)]
 
 mod body;

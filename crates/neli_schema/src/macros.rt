@@ -1,7 +1,7 @@
 //! Rows and fields, a line each.
 
 /// Rows of a table, as `rows! { IFLA_VLAN_ID = 1, Number(U16), 2..=2; }`: the name and the number of the kernel's
-/// header, the kind, and the least and the largest length of the payload.
+/// header, the kind, and the least and the largest length of the payload in bytes.
 #[macro_export]
 macro_rules! rows {
     ($($name:ident = $number:literal, $kind:ident$(($of:expr))?, $least:literal ..= $largest:literal;)*) => {

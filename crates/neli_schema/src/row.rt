@@ -1,4 +1,4 @@
-//! Rows, and the tables that they make.
+//! Rows, and their tables.
 
 ghost use Rattle.std.specs.Prelude.{◌≡◌, find, nat_eq};
 ghost use Rattle.std.specs.Option.{option_copied};
@@ -6,18 +6,18 @@ ghost use Rattle.neli_schema.specs.Tables.{row_in};
 
 use crate::{Kind, Structure};
 
-/// The number of a table, by which rows name it. Those below 1000 are the library's.
+/// The number of a table, by which rows name it. Those below 1000 belong to the library.
 #[derive(Clone, Copy, Debug, PartialEq, Eq)]
 pub struct TableId(pub u16);
 
 /// An attribute by its number.
 #[derive(Clone, Copy, Debug)]
 pub struct Row<'t> {
-    /// The number, which is the attribute's type without its two flags.
+    /// The number: the attribute's type without its two flags.
     pub number: u16,
     /// The name, as in the kernel's header.
     pub name: &'t str,
-    /// What the payload is.
+    /// The kind of the payload.
     pub kind: Kind<'t>,
     /// The least length of the payload, in bytes.
     pub least: usize,
@@ -25,16 +25,16 @@ pub struct Row<'t> {
     pub largest: usize,
 }
 
-/// The attributes that bytes list, by number.
+/// The attributes in a list, by number.
 #[derive(Clone, Copy, Debug)]
 pub struct Table<'t> {
     /// The number by which rows of other tables name this one.
     pub id: TableId,
-    /// The structure before the attributes, padded to four bytes; of 0 bytes where there is none.
+    /// The structure before the attributes, padded to four bytes; 0 bytes if there is none.
     pub header: Structure<'t>,
-    /// A row for each number that has one.
+    /// The rows, one for each number that has one.
     pub rows: &'t [Row<'t>],
-    /// The row of every other number, as in a list that is indexed by number.
+    /// The row for every other number, as in a list that is indexed by number.
     pub each: Option<Row<'t>>,
 }
 
@@ -49,7 +49,7 @@ impl Table<'static> {
 }
 
 impl<'t> Table<'t> {
-    /// The row of this number, or else that of every number.
+    /// Returns the row of this number, or else the row for all other numbers.
     pub fn row(&self, number: u16) -> Option<Row<'t>>
         ensures { result ≡ row_in self.now number }
     {

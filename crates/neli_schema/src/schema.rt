@@ -1,4 +1,4 @@
-//! Tables together.
+//! Joined tables.
 
 ghost use Rattle.std.specs.Prelude.{◌≡◌, [], find, nat_eq};
 ghost use Rattle.std.specs.Option.{option_copied};
@@ -6,7 +6,7 @@ ghost use Rattle.neli_schema.specs.Tables.{table_in};
 
 use crate::{Table, TableId};
 
-/// Tables, in which one is found by its number: a caller's own before the others.
+/// Tables, found by their numbers: a caller's own before the others.
 #[derive(Clone, Copy, Debug)]
 pub struct Schema<'t> {
     own: &'t [Table<'t>],
@@ -14,7 +14,7 @@ pub struct Schema<'t> {
 }
 
 impl<'t> Schema<'t> {
-    /// These tables, as `all_tables` of `neli_kernel_tables` lists the kernel's.
+    /// These tables; `all_tables` of `neli_kernel_tables` lists the kernel's.
     pub fn new(tables: &'t [Table<'t>]) -> Self
         ensures tables { result.tables.now ≡ tables.now }
         ensures own { result.own.now ≡ [] }
@@ -22,7 +22,7 @@ impl<'t> Schema<'t> {
         Schema { own: &[], tables }
     }
 
-    /// The same with a caller's own tables, which come before others with the same number.
+    /// The same with a caller's own tables, which are found before others with the same number.
     pub fn with(self, own: &'t [Table<'t>]) -> Self
         ensures own { result.own.now ≡ own.now }
         ensures tables { result.tables.now ≡ self.entry.tables.now }
@@ -33,7 +33,7 @@ impl<'t> Schema<'t> {
         }
     }
 
-    /// The table with this number.
+    /// Returns the table with this number.
     pub fn table(&self, id: TableId) -> Option<Table<'t>>
         ensures { result ≡ table_in self.now id }
     {

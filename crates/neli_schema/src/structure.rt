@@ -2,7 +2,7 @@
 
 use crate::Number;
 
-/// A structure of the kernel's.
+/// A structure of the kernel.
 #[derive(Clone, Copy, Debug)]
 pub struct Structure<'t> {
     /// Its name, as `ifinfomsg`; empty for none.
@@ -27,15 +27,15 @@ impl Structure<'static> {
 pub struct Field<'t> {
     /// The name, as in the kernel's header.
     pub name: &'t str,
-    /// The first of its bytes.
+    /// The index of its first byte.
     pub start: usize,
-    /// The place after the last of its bytes.
+    /// The index after its last byte.
     pub end: usize,
-    /// What it is.
+    /// Its kind.
     pub kind: FieldKind,
 }
 
-/// What a field of a structure is.
+/// The kind of a structure's field.
 #[derive(Clone, Copy, Debug, PartialEq, Eq)]
 pub enum FieldKind {
     /// A number.
@@ -48,6 +48,6 @@ pub enum FieldKind {
     Ipv4,
     /// An IPv6 address (`struct in6_addr`).
     Ipv6,
-    /// Bytes, and padding. Where a payload ends within them, they are as many as are there.
+    /// Bytes, and padding. If a payload ends within them, those that remain.
     Bytes,
 }

@@ -1,12 +1,12 @@
-//! The kernel's tables, file by file: `all_tables` of `neli_kernel_tables` is the list of all but those of process
-//! events, which are [`process_event::TABLES`], and [`crate::Schema::with`] joins them.
+//! The kernel's tables, file by file. `all_tables` of `neli_kernel_tables` lists all but those of process events, which
+//! are [`process_event::TABLES`]; [`crate::Schema::with`] joins them.
 //!
 //! - [`extended_acknowledgement`]: extended acknowledgements.
 //! - [`link`]: links.
-//! - [`link_info`]: kinds of links, and what each has.
+//! - [`link_info`]: kinds of links, and the attributes of each.
 //! - [`bridge`]: bridges and their ports.
 //! - [`bond`]: bonds and their ports.
-//! - [`link_family`]: what address families have of a link.
+//! - [`link_family`]: a link's attributes in each address family.
 //! - [`virtual_function`]: virtual functions of a link.
 //! - [`statistics`]: statistics of links.
 //! - [`address`]: addresses.

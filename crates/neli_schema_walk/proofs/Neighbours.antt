@@ -1,4 +1,4 @@
--- The attribute beside another, and the one at an offset, attribute by attribute.
+-- The neighbour of an attribute, and the attribute at an offset, attribute by attribute.
 use Rattle.std.proofs.Common.{◌≡◌, ◌<◌, ◌≤◌, ℕ, zero, suc, ◌+◌, ◌-◌, Bool, true, false, List, [], Option, Some, None}
 use Rattle.std.proofs.Common.{refl, sym, ap, ◌∙◌, arith, take, find, ltb}
 use Rattle.std.specs.Prelude.{option_map}

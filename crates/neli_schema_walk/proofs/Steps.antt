@@ -10,13 +10,13 @@ use Rattle.neli_schema_walk.specs.declared.item.Step.{Step}
 use Rattle.neli_schema_walk.specs.declared.offset.Place.{Place}
 use Rattle.neli_schema_walk.specs.Found.{At, Stepped, place_seen, step_at, steps_at, steps_of}
 
--- there is room for one more where not all is full
+-- there is room for one more if not all is full
 pub room-left : (n : ℕ) (full : Bool) → full ≡ (n == 10) → full ≡ false → n ≤ 10 → n < 10
 room-left n full value false_is fits =
     let other : n ≢ 10 = λ e. false≢true (sym false_is ∙ value ∙ eq-eqb _ _ e) in
     omega (arith, other, fits)
 
--- what a step says
+-- the view of a step
 abbrev pub stepped_seen : Option (Step × Option Place) → Stepped
 stepped_seen r = option_map (λ (s : Step × Option Place). (s.0, option_map place_seen s.1)) r
 
@@ -42,7 +42,7 @@ module _ (c : Context) where
         is ∙ ap (λ (n : ℕ). s ++ steps_at n c at) one ∙ ap (λ (x : List Step). s ++ x)
         (steps-at (9 - length s) at (stepped_seen r) seen)
 
-    -- no attribute is there
+    -- no attribute is at the offset
     pub follows-none : (s : List Step) (at : At) (r : Option (Step × Option Place)) → Follows s at → length s < 10
         → stepped_seen r ≡ step_at c at → r ≡ None → s ≡ steps_at 10 c start
     follows-none s at r is room seen none =
@@ -68,7 +68,7 @@ module _ (c : Context) where
         ∙ sym (append_assoc s (step ∷ []) (steps_at (9 - length s) c (place_seen inner)))
         ∙ ap (λ (n : ℕ). (s ++ step ∷ []) ++ steps_at n c (place_seen inner)) left
 
-    -- no room is left
+    -- no room remains
     pub follows-full : (s : List Step) (at : At) → Follows s at → length s ≡ 10 → s ≡ steps_at 10 c start
     follows-full s at is full =
         sym (is ∙ ap (λ (x : List Step). s ++ x) (steps-end (10 - length s) at (omega (arith, full))) ∙ append-nil s)

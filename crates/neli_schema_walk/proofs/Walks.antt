@@ -36,7 +36,7 @@ pub attributes-fault : (s : List ℕ) (e : DeError) → s ≢ [] → frame_at at
     → attributes_of s ≡ ([], Some e)
 attributes-fault = cut_of-fault attribute_layout (attribute-placed (type_of (λ n. n)) _) (omega arith)
 
--- what is refused has no attribute
+-- a refused list has no attribute
 pub attributes-none : (s : List ℕ) (e : DeError) → frame_at attribute_layout s ≡ Err e → (attributes_of s).0 ≡ []
 attributes-none [] e is = ap (λ (cut : Cut Lent). cut.0) (attributes-end [] refl)
 attributes-none (b ∷ s) e is = ap (λ (cut : Cut Lent). cut.0) (attributes-fault (b ∷ s) e (λ none. absurd cc) is)
@@ -84,7 +84,7 @@ left-last c path (level ∷ levels) last =
     ∙ ap (λ (p : List Step). level_items c p last ++ (left_items c deeper levels ++ level_items c path level))
     (append_assoc path (level.inside ∷ []) (insides levels))
 
--- nothing is left of it
+-- it is at its end
 pub left-end : (c : Context) (levels : List Level) (last : Level) → last.rest.now ≡ []
     → left_items c [] (levels ++ last ∷ []) ≡ left_items c [] levels
 left-end c levels last none =
@@ -94,12 +94,12 @@ left-end c levels last none =
     ∙ ap (λ (x : List Seen). x ++ left_items c [] levels)
     (walked-none c (insides levels) last.table last.bytes.now (9 - length (insides levels)) None)
 
--- a list of which nothing is left may be taken out
+-- a list at its end may be removed
 pub left-out : (c : Context) (levels old : List Level) (last : Level) → old ≡ levels ++ last ∷ [] → last.rest.now ≡ []
     → left_items c [] old ≡ left_items c [] levels
 left-out c levels old last old_is none = ap (left_items c []) old_is ∙ left-end c levels last none
 
--- what a nest has comes before what else is left
+-- the items of a nest stand before the other remaining ones
 pub left-nest : (c : Context) (levels new : List Level) (nest : Level) (table : Table) (payload : List ℕ)
     → new ≡ levels ++ nest ∷ [] → nest.table ≡ table → nest.bytes.now ≡ nested_bytes table payload
     → nest.rest.now ≡ nested_bytes table payload → left_items c [] new
@@ -116,7 +116,7 @@ left-nest c levels new nest table payload new_is table_is bytes_is rest_is =
     ∙ ap (λ (b : List ℕ). walked c (9 - length levels) (insides levels) table (nested_bytes table payload)
     (attributes_of b) ++ left_items c [] levels) rest_is
 
--- a fault is left of it
+-- it has a fault next
 pub left-fault : (c : Context) (levels : List Level) (last : Level) (e : DeError) → last.rest.now ≢ []
     → frame_at attribute_layout last.rest.now ≡ Err e → left_items c [] (levels ++ last ∷ [])
     ≡ fault_seen (insides levels) e ∷ left_items c [] levels
@@ -127,9 +127,9 @@ left-fault c levels last e any is =
     ∙ ap (λ (x : List Seen). x ++ left_items c [] levels)
     (walked-none c (insides levels) last.table last.bytes.now (9 - length (insides levels)) (Some e))
 
--- ---- an attribute is left of it
+-- ---- it has an attribute next
 
--- it, with this left and this attribute given last
+-- the list, with this rest and this latest attribute
 abbrev pub later_level : Level → Bor (List ℕ) → Step → Level
 later_level level rest step = record level { rest = rest; inside = step }
 
@@ -190,7 +190,7 @@ module _ (c : Context) (levels : List Level) (last : Level) (rest : Bor (List �
       ∙ ap (λ (x : List Seen). item ∷ x) (append_assoc nested (at_last (attributes_of rest.now))
       (left_items c [] levels) ∙ ap (λ (x : List Seen). nested ++ x) (left-after step))
 
-  -- what is said of it where its list is the tenth, and where it is not
+  -- its items if its list is the tenth, and if it is not
   pub given-full : (shape : Shaped) (new : List Level) → length levels ≡ 9
       → shape ≡ closed (shape_in c last.table last.bytes.now a)
       → left_items c [] new ≡ left_items c [] (after (step_of last.table a))
@@ -225,9 +225,9 @@ module _ (c : Context) (levels : List Level) (last : Level) (rest : Bor (List �
       (shape_in c last.table last.bytes.now a) a.1 ++ left_items c [] (after (step_of last.table a)))) (sym is_open)
       ∙ ap (λ (x : List Seen). attribute_item last.table (insides levels) a shape ∷ x) (sym same))
 
--- ---- what a step says
+-- ---- the view of a step
 
--- a fault, after which nothing is left of the innermost list
+-- a fault, which ends the innermost list
 pub given-fault : (c : Context) (levels new : List Level) (last ended : Level) (e : DeError) (path : List Step)
     → path ≡ insides levels → new ≡ levels ++ ended ∷ [] → ended.rest.now ≡ [] → last.rest.now ≢ []
     → frame_at attribute_layout last.rest.now ≡ Err e → fault_seen path e ∷ left_items c [] new
@@ -253,7 +253,7 @@ nine-or-fewer n room = by (ltb n 9) refl
     by true e = inr (ltb-true n 9 e)
     by false e = inl (omega (arith, ltb-false n 9 e, room))
 
--- an attribute, after which the rest of its list is left, and before that its own attributes if it is a nest
+-- an attribute, then its own attributes if it is a nest, then the rest of its list
 module _ (c : Context) (levels : List Level) (last : Level) (rest : Bor (List ℕ)) (a : Lent)
     (is : frame_at attribute_layout last.rest.now ≡ Ok (a, rest.now)) where
   abbrev later : Step → List Level

@@ -1,4 +1,4 @@
--- The attribute in which an offset lies.
+-- The attribute that contains an offset.
 use Rattle.std.specs.Prelude.{ℕ, zero, suc, ◌+◌, ◌-◌, List, [], ◌∷◌, Option, Some, None, Ok, nat_lt, if◌then◌else◌}
 use Rattle.neli_wire.specs.Sizes.{align}
 use Rattle.neli_schema.specs.declared.row.Table.{Table}
@@ -9,15 +9,15 @@ use Rattle.neli_schema_walk.specs.declared.shape.Shape.TheVariants.{Nest}
 use Rattle.neli_schema_walk.specs.Shapes.{Lent, Shaped, attributes_of}
 use Rattle.neli_schema_walk.specs.Walks.{nested_bytes, shape_in, step_of}
 
--- an offset in bytes that a table's attributes are
+-- an offset in bytes that list a table's attributes
 abbrev pub At : Type 0
 At = Table × List ℕ × ℕ
 
--- what a place says
+-- the view of a place
 abbrev pub place_seen : Place → At
 place_seen place = (place.table, place.list.now, place.offset)
 
--- the attribute in which an offset lies, with its padding, and the offset from its first byte
+-- the attribute that contains an offset, with its padding, and the offset from its first byte
 abbrev pub containing : ℕ → List Lent → Option (Lent × ℕ)
 containing offset [] = None
 containing offset (a ∷ later) =

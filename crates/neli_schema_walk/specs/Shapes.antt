@@ -1,4 +1,4 @@
--- What a payload is by its row, or how it breaks the row.
+-- The meaning of a payload by its row, or how it breaks the row.
 use Rattle.std.specs.Prelude.{ℕ, ◌-◌, Bool, ◌&&◌, ◌==◌, nat_eq, nat_lt, if◌then◌else◌, List, [], ◌∷◌, length, take}
 use Rattle.std.specs.Prelude.{find, slice_index, Option, Some, None, option_map, Result, Ok, Err, ◌%◌}
 use Rattle.std.specs.Str.{bytes_eq, is_utf8}
@@ -28,7 +28,7 @@ use Rattle.neli_schema_walk.specs.declared.shape.Broken.TheVariants.{Short, Long
 use Rattle.neli_schema_walk.specs.declared.shape.Shape.{Shape}
 use Rattle.neli_schema_walk.specs.declared.shape.Shape.TheVariants as shape
 
--- what a payload is, or how it breaks its row
+-- the meaning of a payload, or how it breaks its row
 abbrev pub Shaped : Type 0
 Shaped = Result Shape Broken
 
@@ -85,7 +85,7 @@ Lent = Attr (AttrType ℕ) (List ℕ)
 abbrev pub attribute_layout : Layout (Head (AttrType ℕ)) (List ℕ)
 attribute_layout = lent_attribute (type_of (λ n. n))
 
--- the attributes that bytes list, and the fault after them
+-- the attributes in a list, and the fault after them
 abbrev pub attributes_of : List ℕ → Cut Lent
 attributes_of = cut_of attribute_layout
 
@@ -97,7 +97,7 @@ has_number number a = nat_eq a.0.kind.nla_type number
 abbrev pub beside : List ℕ → ℕ → Option (List ℕ)
 beside list number = option_map (λ (a : Lent). a.1) (find (has_number number) (take 64 (attributes_of list).0))
 
--- what a choice goes by
+-- the value that a choice compares
 abbrev pub picker : Context → List ℕ → By → Option (List ℕ)
 picker context list (Neighbour number) = beside list number
 picker context list Family = Some (context.family ∷ [])
@@ -113,19 +113,19 @@ abbrev pub case_table : List Case → Option (List ℕ) → Option TableId
 case_table cases None = None
 case_table cases (Some bytes) = option_map (λ (c : Case). c.table) (find (λ (c : Case). key_fits c.key bytes) cases)
 
--- the table that a choice means
+-- the table that a choice picks
 abbrev pub chosen_table : Context → List ℕ → Choice → Option TableId
 chosen_table context list choice = or_else (case_table choice.cases.now
     (picker context list choice.by)) choice.otherwise
 
--- the attributes of the table that a choice means; bytes where it means none
+-- the attributes of the table that a choice picks; bytes if it picks none
 abbrev pub chosen_shape : Context → Option TableId → List ℕ → Shaped
 chosen_shape context None payload = Ok shape.Bytes
 chosen_shape context (Some id) payload = nest_shape (table_in context.schema id) payload
 
 -- ---- payloads
 
--- what a payload is by its kind, in this list of attributes
+-- the meaning of a payload by its kind, in this list of attributes
 abbrev pub kind_shape : Context → List ℕ → Kind → List ℕ → Shaped
 kind_shape context list kind.Flag payload = Ok shape.Flag
 kind_shape context list (kind.Number n) payload = of_size (number_size n) payload (shape.Number n)
@@ -143,7 +143,7 @@ kind_shape context list (kind.Structure s) payload = Ok (shape.Structure s)
 kind_shape context list (kind.Structures s) payload = in_parts s.size payload (shape.Structures s)
 kind_shape context list kind.Bytes payload = Ok shape.Bytes
 
--- what it is by its row: first its length counts, then its kind; bytes without a row
+-- its meaning by its row: the length is checked before the kind; bytes without a row
 abbrev pub row_shape : Context → List ℕ → Option Row → List ℕ → Shaped
 row_shape context list None payload = Ok shape.Bytes
 row_shape context list (Some row) payload =

@@ -1,4 +1,4 @@
--- Walks: the attributes of a list, each with its path, and after a nest those in it.
+-- Walks: the attributes of a list, each with its path, and after a nest its attributes.
 use Rattle.std.specs.Prelude.{ℕ, zero, suc, ◌-◌, List, [], ◌∷◌, ◌++◌, length, drop, Option, Some, None, option_map}
 use Rattle.std.specs.Prelude.{Result, Ok, Err}
 use Rattle.std.specs.List.{flat_map}
@@ -17,11 +17,11 @@ use Rattle.neli_schema_walk.specs.declared.shape.Broken.TheVariants.{TooDeep}
 use Rattle.neli_schema_walk.specs.declared.shape.Shape.TheVariants.{Nest}
 use Rattle.neli_schema_walk.specs.Shapes.{Lent, Shaped, attributes_of, row_shape}
 
--- what is said of an attribute: its row, its payload's bytes, and what these are
+-- the view of an attribute: its row, its payload's bytes, and their meaning
 abbrev pub Said : Type 0
 Said = Option Row × List ℕ × Shaped
 
--- an item: where it stands, and an attribute or the fault of what follows those of a list
+-- an item: its path, and an attribute or the fault after those of a list
 abbrev pub Seen : Type 0
 Seen = List Step × Result Said DeError
 
@@ -29,7 +29,7 @@ abbrev pub attribute_seen : Result Attribute DeError → Result Said DeError
 attribute_seen (Ok a) = Ok (a.row, a.payload.now, a.shape)
 attribute_seen (Err e) = Err e
 
--- what an item says
+-- the view of an item
 abbrev pub item_seen : Item → Seen
 item_seen item = (item.path.steps.items, attribute_seen item.content)
 
@@ -40,7 +40,7 @@ abbrev pub step_of : Table → Lent → Step
 step_of table a =
     record { number = a.0.kind.nla_type; name = option_map (λ (row : Row). row.name) (row_in table a.0.kind.nla_type) }
 
--- what an attribute's payload is in a list of a table's attributes
+-- the meaning of an attribute's payload in a list of a table's attributes
 abbrev pub shape_in : Context → Table → List ℕ → Lent → Shaped
 shape_in context table list a = row_shape context list (row_in table a.0.kind.nla_type) a.1
 
@@ -79,7 +79,7 @@ nest_items inner shaped payload = []
 
 -- ---- nests in nests
 
--- the items of attributes of a table's that stand in a list, with those of nests that are at most `depth` deep
+-- the items of a list of a table's attributes, with those of nests that are at most `depth` deep
 unfoldable pub walked : Context → ℕ → List Step → Table → List ℕ → Cut Lent → List Seen
 walked context zero path table list cut =
     flat_map (λ (a : Lent). attribute_item table path a (closed (shape_in context table list a)) ∷ []) cut.0
@@ -89,24 +89,24 @@ walked context (suc depth) path table list cut =
     ∷ nest_items (walked context depth (path ++ step_of table a ∷ [])) (shape_in context table list a) a.1) cut.0
     ++ fault_items path cut.1
 
--- the items of a body's attributes: ten lists of attributes are open at most
+-- the items of a body's attributes: at most ten lists of attributes are open
 abbrev pub walk_items : Context → Table → List ℕ → List Seen
 walk_items context table bytes = walked context 9 [] table bytes (attributes_of bytes)
 
--- ---- what is left of a walk
+-- ---- the rest of a walk
 
--- the items that are left of a list, at this path
+-- the items that remain in a list, at this path
 abbrev pub level_items : Context → List Step → Level → List Seen
 level_items context path level =
     walked context (9 - length path) path level.table level.bytes.now (attributes_of level.rest.now)
 
--- the items that are left of lists of which each is in a nest of the one before, the innermost first
+-- the items that remain in lists, each in a nest of the one before, the innermost first
 abbrev pub left_items : Context → List Step → List Level → List Seen
 left_items context path [] = []
 left_items context path (level ∷ deeper) =
     left_items context (path ++ level.inside ∷ []) deeper ++ level_items context path level
 
--- what was left before an item, where `later` is left after it: nothing where there is none
+-- the items that remained before an item, if `later` remain after it: none if there is no item
 abbrev pub next_item : Option Item → List Seen → List Seen
 next_item None later = []
 next_item (Some item) later = item_seen item ∷ later

@@ -1,4 +1,4 @@
-//! A request's attributes against the tables.
+//! Checks a request's attributes against the tables.
 
 ghost use Rattle.std.specs.Prelude.{◌≡◌};
 ghost use Rattle.neli_schema_walk.specs.Breaches.{breach_of, check_seen, first_breach, option_breach_seen};
@@ -8,28 +8,28 @@ use crate::{Broken, Context, Item, Path, Walk};
 use neli_schema::Table;
 use neli_wire::DeError;
 
-/// What is wrong with attributes, and where.
+/// The place and the reason of a violation.
 #[derive(Debug, Drop)]
 pub struct Breach<'t> {
-    /// The attribute that is wrong, or the nest whose attributes do not end where it ends.
+    /// The wrong attribute, or the nest whose attributes do not end at its end.
     pub path: Path<'t>,
-    /// What is wrong there.
+    /// The reason.
     pub wrong: Wrong,
 }
 
-/// What is wrong with an attribute or a list of them.
+/// Why an attribute or a list of them is wrong.
 #[derive(Debug, Drop)]
 pub enum Wrong {
     /// The payload breaks the attribute's row.
     Payload(Broken),
-    /// This fault is left where a list of attributes stops.
+    /// A list of attributes ends in this fault.
     Rest(DeError),
 }
 
-/// Whether attributes keep their rows, as those of a request before it is sent. An attribute without a row is let pass,
-/// as the kernel lets it.
+/// Checks that attributes match their rows, as those of a request before it is sent. An attribute without a row passes,
+/// as in the kernel.
 ///
-/// Refused with the first that does not, in the order in which a walk gives them.
+/// Refused with the first violation, in the order of a walk.
 pub fn check<'t>(
     context: Context<'t>,
     table: Table<'t>,
@@ -47,7 +47,7 @@ pub fn check<'t>(
     Ok(())
 }
 
-/// What is wrong with an item, if anything is.
+/// Returns the violation of an item, if there is one.
 fn breach_of<'t>(item: Item<'_, 't>) -> Option<Breach<'t>>
     ensures { option_breach_seen result ≡ breach_of (item_seen item.entry) }
 {

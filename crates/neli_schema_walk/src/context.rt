@@ -1,4 +1,4 @@
-//! What payloads are read by.
+//! The context in which payloads are read.
 
 ghost use Rattle.std.specs.Prelude.{◌≡◌, Some, find};
 ghost use Rattle.std.specs.Option.{option_copied};
@@ -17,17 +17,17 @@ const INET: u8 = 2;
 /// `AF_INET6`.
 const INET6: u8 = 10;
 
-/// What payloads are read by: the tables, and the address family of the body.
+/// The context in which payloads are read: the tables, and the address family of the body.
 #[derive(Clone, Copy, Debug)]
 pub struct Context<'t> {
     /// The tables.
     pub schema: Schema<'t>,
-    /// The family of the body, which is its first byte in messages of routing; 0 where it has none.
+    /// The family of the body: its first byte in messages of routing; 0 if it has none.
     pub family: u8,
 }
 
 impl<'t> Context<'t> {
-    /// What a payload is by its row, in a list of attributes that these bytes are.
+    /// Returns the meaning of a payload by its row, in the list of attributes in these bytes.
     pub(crate) fn shape_of(
         &self,
         list: &[u8],
@@ -48,7 +48,7 @@ impl<'t> Context<'t> {
         self.kind_shape(list, &row.kind, payload)
     }
 
-    /// What a payload is by its kind.
+    /// Returns the meaning of a payload by its kind.
     fn kind_shape(&self, list: &[u8], kind: &Kind<'t>, payload: &[u8]) -> Result<Shape<'t>, Broken>
         ensures { result ≡ kind_shape self.now list.now kind.now payload.now }
     {
@@ -73,7 +73,7 @@ impl<'t> Context<'t> {
         }
     }
 
-    /// What an address of the body's family is.
+    /// The meaning of an address of the body's family.
     fn address_shape(&self, payload: &[u8]) -> Result<Shape<'t>, Broken>
         ensures { result ≡ address_shape self.now.family payload.now }
     {
@@ -84,7 +84,7 @@ impl<'t> Context<'t> {
         }
     }
 
-    /// What a nest is whose table a choice means.
+    /// The meaning of a nest whose table a choice picks.
     fn chosen_shape(
         &self,
         list: &[u8],
@@ -100,7 +100,7 @@ impl<'t> Context<'t> {
         }
     }
 
-    /// The table that a choice means.
+    /// The table that a choice picks.
     fn chosen_table(&self, list: &[u8], choice: &Choice<'t>) -> Option<TableId>
         ensures { result ≡ chosen_table self.now list.now choice.now }
     {

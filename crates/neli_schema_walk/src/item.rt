@@ -1,4 +1,4 @@
-//! What a walk gives.
+//! The items of a walk.
 
 ghost use Rattle.std.specs.Prelude.{◌≡◌};
 
@@ -8,7 +8,7 @@ use arrayvec::ArrayVec;
 use neli_schema::Row;
 use neli_wire::DeError;
 
-/// A part of a path: an attribute by its number, and by its name where it has a row.
+/// A part of a path: an attribute by its number, and by its name if it has a row.
 #[derive(Clone, Copy, Debug, Default)]
 pub struct Step<'t> {
     /// The number.
@@ -17,7 +17,7 @@ pub struct Step<'t> {
     pub name: Option<&'t str>,
 }
 
-/// Where an attribute stands: the nests that it is in from the outside in, and itself.
+/// The path of an attribute: its nests from the outside in, and itself.
 #[derive(Debug, Drop)]
 pub struct Path<'t> {
     pub(crate) steps: ArrayVec<Step<'t>, MAX_DEPTH>,
@@ -32,22 +32,21 @@ impl<'t> Path<'t> {
     }
 }
 
-/// An attribute, as its row sees it.
+/// An attribute, with its row.
 #[derive(Clone, Copy, Debug)]
 pub struct Attribute<'b, 't> {
     /// Its row, if its number has one.
     pub row: Option<Row<'t>>,
-    /// Its payload. It lives as long as the bytes that are walked.
+    /// Its payload, lent from the bytes of the walk.
     pub payload: &'b [u8],
-    /// What the payload is, or how it breaks the row; bytes where there is no row.
+    /// The meaning of the payload, or how it breaks the row; bytes if there is no row.
     pub shape: Result<Shape<'t>, Broken>,
 }
 
-/// An attribute and where it stands; or the fault of what follows the attributes of a list, and the nest that this list
-/// is in.
+/// An attribute and its path; or the fault after the attributes of a list, and the path of the list's nest.
 #[derive(Debug, Drop)]
 pub struct Item<'b, 't> {
-    /// Where it stands.
+    /// The path.
     pub path: Path<'t>,
     /// The attribute, or the fault.
     pub content: Result<Attribute<'b, 't>, DeError>,

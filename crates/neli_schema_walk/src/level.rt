@@ -1,22 +1,22 @@
-//! A list of attributes that a walk is in.
+//! A list of attributes that a walk has entered.
 
 use crate::Step;
 use neli_schema::Table;
 
-/// How many lists of attributes, each in a nest of the one before, a walk enters at most: as many as the kernel itself
-/// follows in a policy (`MAX_POLICY_RECURSION_DEPTH` of `lib/nlattr.c`).
+/// The maximum number of lists of attributes, each in a nest of the one before, that a walk enters: the depth to which
+/// the kernel follows a policy (`MAX_POLICY_RECURSION_DEPTH` of `lib/nlattr.c`).
 pub const MAX_DEPTH: usize = 10;
 
-/// A list of attributes that a walk is in.
+/// A list of attributes that a walk has entered.
 #[derive(Clone, Copy, Debug)]
 pub struct Level<'b, 't> {
-    /// What the attributes are.
+    /// The table of the attributes.
     pub table: Table<'t>,
     /// All of them.
     pub bytes: &'b [u8],
-    /// Those that are left.
+    /// Those that remain.
     pub rest: &'b [u8],
-    /// The one that was given last.
+    /// The latest one returned.
     pub inside: Step<'t>,
 }
 

@@ -1,4 +1,4 @@
-//! The lists of attributes that a walk is in.
+//! The lists of attributes that a walk has entered.
 
 ghost use Rattle.std.specs.Prelude.{◌≡◌, ◌≢◌, ◌-◌, ◌<◌, ◌≤◌, [], ◌∷◌, ◌++◌, Ok, Err, IsNone, length, map, option_map};
 ghost use Rattle.arrayvec.specs.ArrayVec.{array_vec_len};
@@ -15,7 +15,7 @@ use neli_lent::LentNlattr;
 use neli_schema::{Row, Table};
 use neli_wire::{Cursor, DeError, alignto};
 
-/// The lists of attributes that a walk is in, the outermost first.
+/// The lists of attributes that a walk has entered, the outermost first.
 #[derive(Drop)]
 pub struct Levels<'b, 't> {
     pub context: Context<'t>,
@@ -23,7 +23,7 @@ pub struct Levels<'b, 't> {
 }
 
 impl<'b, 't> Levels<'b, 't> {
-    /// The next item: of the innermost list that has something left.
+    /// The next item: of the innermost list that is not at its end.
     pub fn take_item(&mut self) -> Option<Item<'b, 't>>
         ensures context { self.new.context ≡ self.old.context }
         ensures items { left_items self.old.context [] self.old.open.items
@@ -40,7 +40,7 @@ impl<'b, 't> Levels<'b, 't> {
         None
     }
 
-    /// The next item of a list that was taken out as the innermost, and is put back.
+    /// Returns the next item of the innermost list, which was removed and is put back.
     fn advance(&mut self, level: Level<'b, 't>) -> Item<'b, 't>
         requires room { array_vec_len self.old.open < MAX_DEPTH }
         requires some { level.rest.now ≢ [] }
@@ -55,7 +55,7 @@ impl<'b, 't> Levels<'b, 't> {
         }
     }
 
-    /// The fault of what is left of a list, which then has nothing left.
+    /// Returns the fault in the rest of a list, which is then at its end.
     fn give_fault(&mut self, level: Level<'b, 't>, error: DeError) -> Item<'b, 't>
         requires room { array_vec_len self.old.open < MAX_DEPTH }
         requires some { level.rest.now ≢ [] }
@@ -70,7 +70,7 @@ impl<'b, 't> Levels<'b, 't> {
         Item { path, content }
     }
 
-    /// The attribute that is next in a list; if it is a nest, its attributes come next.
+    /// Returns the next attribute of a list; if it is a nest, its attributes come next.
     fn give_attribute(
         &mut self,
         level: Level<'b, 't>,
@@ -108,7 +108,7 @@ impl<'b, 't> Levels<'b, 't> {
         Item { path, content }
     }
 
-    /// Makes the attributes of a nest the innermost list. A nest in too many is not entered.
+    /// Makes the attributes of a nest the innermost list. A nest below ten lists is not entered.
     fn enter(
         &mut self,
         shape: Result<Shape<'t>, Broken>,

@@ -1,7 +1,7 @@
-//! Attributes by name: a walk over lent bytes that gives each attribute with its path and its row, nests and all.
+//! Walks lent bytes and returns each attribute with its name, its path and its row, those in nests too.
 //!
-//! - [`Walk`]: each attribute of a body, those in nests after the nest, and the fault of what is left.
-//! - [`Item`]: the path of an attribute, its row, and what its payload is ([`Shape`]) or how it breaks its row
+//! - [`Walk`]: each attribute of a body, those in nests after the nest, and the fault of each list.
+//! - [`Item`]: the path of an attribute, its row, and the meaning of its payload ([`Shape`]) or how it breaks its row
 //!   ([`Broken`]).
 //!
 //! The walk takes no memory: at most [`MAX_DEPTH`] lists of attributes are open at once, and a nest below these is

@@ -17,7 +17,7 @@ use neli_wire::{Cursor, alignto};
 /// An offset in a list of attributes.
 #[derive(Clone, Copy, Debug)]
 pub struct Place<'b, 't> {
-    /// What the attributes are.
+    /// The table of the attributes.
     pub table: Table<'t>,
     /// The attributes.
     pub list: &'b [u8],
@@ -25,9 +25,9 @@ pub struct Place<'b, 't> {
     pub offset: usize,
 }
 
-/// The path to the attribute in which an offset lies, its header and its padding counted: of nests in one another the
-/// innermost, of ten at most. The offset counts from the first byte of the attributes, so that of an extended
-/// acknowledgement is less by the headers of the message and of the body. `None` where no attribute is there.
+/// Returns the path to the attribute that contains an offset, including its header and its padding: of nests the
+/// innermost, of ten at most. The offset counts bytes from the first byte of the attributes; from the offset of an
+/// extended acknowledgement, subtract the headers of the message and of the body. `None` if no attribute is there.
 pub fn find<'t>(
     context: Context<'t>,
     table: Table<'t>,
@@ -116,7 +116,7 @@ fn inner_place<'b, 't>(
     })
 }
 
-/// The attribute in which an offset lies, and the offset from its first byte.
+/// The attribute that contains an offset, and the offset from its first byte.
 fn attribute_at(list: &[u8], offset: usize) -> Option<(LentNlattr<'_, u16>, usize)>
     ensures { option_map (λ p. (attribute_said p.0, p.1)) result
         ≡ containing offset (attributes_of list.now).0 }

@@ -1,4 +1,4 @@
-//! Payloads by their lengths, as texts, and beside others.
+//! Payloads by their lengths, as texts, and with their neighbours.
 
 ghost use Rattle.std.specs.Prelude.{◌≡◌, option_map};
 ghost use Rattle.neli_schema_walk.specs.Shapes.{beside, ends_in_zero, hops_shape, in_parts, key_fits, nest_shape};
@@ -11,7 +11,7 @@ use neli_schema::{Key, Table};
 use neli_wire::Cursor;
 use std::str;
 
-/// Among how many attributes at the front of a list the neighbour of a nest is sought.
+/// The number of attributes at the front of a list in which the neighbour of a nest is sought.
 const NEIGHBOURS: usize = 64;
 
 /// This shape, of exactly so many bytes.
@@ -78,7 +78,7 @@ pub fn zero_text_shape<'t>(payload: &[u8]) -> Result<Shape<'t>, Broken>
     }
 }
 
-/// The attributes of a table, after its structure; bytes where there is no table.
+/// The attributes of a table, after its structure; bytes if there is no table.
 pub fn nest_shape<'t>(table: Option<Table<'t>>, payload: &[u8]) -> Result<Shape<'t>, Broken>
     ensures { result ≡ nest_shape table.entry payload.now }
 {
@@ -91,7 +91,7 @@ pub fn nest_shape<'t>(table: Option<Table<'t>>, payload: &[u8]) -> Result<Shape<
     Ok(Shape::Nest(table))
 }
 
-/// Structures with attributes; bytes where there is no table.
+/// Structures with attributes; bytes if there is no table.
 pub fn hops_shape(table: Option<Table<'_>>) -> Shape<'_>
     ensures { result ≡ hops_shape table.entry }
 {

@@ -1,17 +1,18 @@
-//! What a payload is, or how it breaks its row.
+//! The meaning of a payload, or how it breaks its row.
 
 use neli_schema::{Number, Structure, Table};
 
-/// What a payload is: as its row says, with tables and addresses found and with its length checked.
+/// The meaning of a payload by its row: its table or address family is found, and its length
+/// checked.
 #[derive(Clone, Copy, Debug)]
 pub enum Shape<'t> {
     /// Nothing.
     Flag,
-    /// A number, of as many bytes as the payload has.
+    /// A number, of the payload's size.
     Number(Number),
     /// Numbers, one after the other.
     Numbers(Number),
-    /// A text in UTF-8; a zero at the end of the payload is no part of it.
+    /// A text in UTF-8, without a zero at the end of the payload.
     Text,
     /// A hardware address.
     HardwareAddress,
@@ -23,7 +24,7 @@ pub enum Shape<'t> {
     Nest(Table<'t>),
     /// Structures that each state their length, each with attributes: both of this table.
     Hops(Table<'t>),
-    /// A structure, or as much of it as is there.
+    /// A structure, or its first fields in a short payload.
     Structure(Structure<'t>),
     /// Structures, one after the other.
     Structures(Structure<'t>),
@@ -38,12 +39,12 @@ pub enum Broken {
     Short(usize),
     /// It is longer than this many bytes.
     Long(usize),
-    /// It is not made of whole parts of this many bytes.
+    /// Its length is not a multiple of this many bytes.
     Uneven(usize),
     /// It is not UTF-8.
     NotText,
-    /// It is a text that has to end with a zero, and does not.
+    /// The text must end with a zero, and does not.
     NoZero,
-    /// It is a nest in as many lists of attributes as a walk enters.
+    /// It is a nest below the lists that a walk enters at most.
     TooDeep,
 }

@@ -13,7 +13,8 @@ use std::marker::Model;
 
 /// The attributes of a body, each with its path and its row, and after each nest those in it.
 ///
-/// An iterator. After the attributes of a list comes the fault of what is left of it, if it has one, and then what
+/// An iterator. After the attributes of a list come the fault in its rest, if it has one, and then the attributes after
+/// the nest of this list. It takes no memory. Contracts see it as the items that remain.
 /// follows the nest that this list is in. It takes no memory. Contracts see it as the items that are left.
 #[derive(Drop)]
 pub struct Walk<'b, 't> {
@@ -27,7 +28,7 @@ impl<'b, 't> Model for Walk<'b, 't> {
 }
 
 impl<'b, 't> Walk<'b, 't> {
-    /// The attributes that these bytes list, which are those of a table, after a structure that it may have.
+    /// Walks the attributes of a table in these bytes, after its structure if it has one.
     pub fn new(context: Context<'t>, table: Table<'t>, bytes: &'b [u8]) -> Self
         ensures { result ≡ walk_items context.entry table.entry bytes.now }
     {
@@ -47,7 +48,7 @@ impl<'b, 't> Walk<'b, 't> {
         }
     }
 
-    /// The next item.
+    /// Returns the next item.
     pub(crate) fn step(&mut self) -> Option<Item<'b, 't>>
         ensures items { self.old ≡ next_item result self.new }
         ensures end { IsNone result → self.new ≡ [] }

@@ -1,4 +1,4 @@
--- Addresses of IP have no byte that a string escapes.
+-- IP addresses have no byte that a string escapes.
 use Rattle.std.proofs.Common.{◌≡◌, ℕ, zero, suc, ◌+◌, ◌/◌, ◌%◌, true, List, [], ◌∷◌, ◌++◌, codes, take, drop, refl}
 use Rattle.std.specs.Prelude.{nat_lt, bytes_eq}
 use Rattle.std.specs.Char.{digit_char}

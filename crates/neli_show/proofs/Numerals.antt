@@ -1,4 +1,4 @@
--- What words are read as.
+-- The numbers in words.
 use Rattle.std.proofs.Common.{◌≡◌, ℕ, true, true≢false, List, length, Some, None, Result, Ok, Err, Option, sym}
 use Rattle.std.proofs.Common.{◌∙◌, ap, refl}
 use Rattle.std.specs.Prelude.{◌&&◌, nat_lt}
@@ -12,7 +12,7 @@ use Rattle.neli_show.specs.Requests.{is_numeral, named_protocol, number_in, prot
 numerals : IsNumeralModel (λ ds. all_ascii_digits ds ≡ true) (digits_value 10)
 numerals = numerals_by_value _ tells_all_ascii_digits
 
--- what is parsed of a word is its number
+-- parsing a word returns its number
 pub number_is : {E : Type 0} (word : List ℕ) (r : Result ℕ E) → ParsesUnsigned 16 10 word r
     → result_ok r ≡ number_in word
 number_is word (Ok n) read =

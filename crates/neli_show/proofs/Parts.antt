@@ -70,7 +70,7 @@ natural n = integer (pos n)
 
 -- ---- objects of a message and of a request
 
--- members go on in an object that is begun
+-- members follow in an open object
 pub begun_more : (level : ℕ) (text : List ℕ) → Turns AreMembers AreMembers text
     → Turns (IsBegun level) (IsBegun level) text
 begun_more level text more before is = (
@@ -200,7 +200,7 @@ pub object_end : (n : ℕ) → Turns (IsElement n) (IsOpen n false) (codes "}")
 object_end zero before is = absurd is
 object_end (suc n) before is = element_end (IsListBegun n) before is
 
--- structures with attributes, in the element that they are of
+-- structures with attributes, in their element
 pub hops_end :
     (n : ℕ) (hops : List ℕ) → AreHops hops → Turns (IsElement n) (IsOpen n false) (codes ",\"structures\":[" ++ hops)
 hops_end zero hops are before is = absurd is
@@ -228,7 +228,7 @@ hop_end before is =
     ∙ ap (λ (l : List ℕ). is.0 ++ l) (append_assoc (comma is.2) (codes "{" ++ is.1) (codes "}"))))
     (first_elements_more is.2 is.0 (codes "{" ++ (is.1 ++ codes "}")) is.3 (object is.1 is.4))
 
--- ---- values that are begun
+-- ---- open values
 
 abbrev pub IsObjectBegun : Bool → List ℕ → Type 0
 IsObjectBegun first text = (inner : List ℕ) × FirstMembers first inner × (text ≡ codes "{" ++ inner)
@@ -305,7 +305,7 @@ pub writes_recounted :
     (n m : ℕ) (a b : Option (List ℕ)) → n ≡ m → Writes a b (AreSoManyLines n) → Writes a b (AreSoManyLines m)
 writes_recounted n m a b same = subst (λ (k : ℕ). Writes a b (AreSoManyLines k)) same
 
--- lines that are counted go on as lines
+-- lines that are counted follow as lines
 pub lines_extend :
     (n : ℕ) (a b : Option (List ℕ)) → Writes a b (AreSoManyLines n) → Extends a b AreLines AreLines
 lines_extend n a b some =

@@ -1,4 +1,4 @@
--- What the program writes as JSON, piece by piece.
+-- The program's JSON output, piece by piece.
 use Rattle.std.proofs.Common.{◌≡◌, ℕ, zero, suc, ◌-◌, ◌<◌, ◌≤◌, Bool, true, false, List, [], ◌++◌, codes, Option}
 use Rattle.std.proofs.Common.{refl, sym, ap, subst, ◌∙◌, append_assoc, Result, arith}
 use Rattle.std.specs.Prelude.{OnOk}
@@ -130,7 +130,7 @@ request_end (suc level) inner before is = begun_end-request level before is
 
 -- ---- attributes
 
--- members go on in an element
+-- members follow in an element
 pub element_goes_on :
     (P : List ℕ → Type 0) (n : ℕ) (a b c : Option (List ℕ)) → Extends a b P (IsElement n)
     → Extends b c AreMembers AreMembers → Extends a c P (IsElement n)

@@ -13,7 +13,7 @@ escaped_first :
     → escaped bs ≡ escaped_char c ++ escaped rest
 escaped_first bs rest c text is = ap (flat_map escaped_char) (chars_past_char bs rest c text is)
 
--- and is written before what is left
+-- and is written before the rest
 pub escaped_step :
     (done bs rest all : List ℕ) (c : ℕ) → IsUtf8 bs → bs ≡ encode_utf8 c ++ rest → done ++ escaped bs ≡ all
     → (done ++ escaped_char c) ++ escaped rest ≡ all
@@ -21,7 +21,7 @@ escaped_step done bs rest all c text is so_far =
     append_assoc done (escaped_char c) (escaped rest) ∙ ap (λ (l : List ℕ). done ++ l)
     (sym (escaped_first bs rest c text is)) ∙ so_far
 
--- of a text with nothing left all is written
+-- the text before an empty rest is all written
 pub escaped_end : (done bs all : List ℕ) → length bs ≡ 0 → done ++ escaped bs ≡ all → done ≡ all
 escaped_end done bs all empty so_far =
     sym (append-nil done) ∙ ap (λ (l : List ℕ). done ++ l)

@@ -18,7 +18,7 @@ breach_text NotText = codes "not UTF-8"
 breach_text NoZero = codes "no zero at the end"
 breach_text TooDeep = codes "nested too deep"
 
--- why bytes are no message, or no attributes
+-- why bytes are not a message, or not attributes
 abbrev pub datagram_fault_text : DeError → List ℕ
 datagram_fault_text (de.InvalidInput n) = codes "a wrong length, " ++ decimal n
 datagram_fault_text (de.Io kind) = codes "the bytes end too early"
@@ -26,12 +26,12 @@ datagram_fault_text de.Memory = codes "out of memory"
 datagram_fault_text (de.Msg text) = codes "unreadable"
 datagram_fault_text (de.Utf8 error) = codes "unreadable"
 
--- what the place of a fault is in: a byte of a datagram, or a place of the input
+-- the unit of a fault's place: a byte of a datagram, or a place of the input
 abbrev pub fault_kind : Fault → List ℕ
 fault_kind (Datagram error) = codes "at"
 fault_kind (Input refusal) = codes "input"
 
--- the same, or why a part of the input is no datagram
+-- the same, or why a part of the input is not a datagram
 abbrev pub fault_text : Fault → List ℕ
 fault_text (Datagram error) = datagram_fault_text error.now
 fault_text (Input refusal) = refusal_text refusal

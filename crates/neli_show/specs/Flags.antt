@@ -1,4 +1,4 @@
--- Flags that are left to be written.
+-- Flags that remain to be written.
 use Rattle.std.specs.Prelude.{ℕ, ◌-◌, bit_and}
 
 -- bits without those of a flag

@@ -28,18 +28,19 @@ name_of_type names protocol message_type =
     option_or (common_name message_type)
     (if protocol == 11 then None else body_name names protocol message_type)
 
--- the name that a header has
+-- the name of a header's type
 abbrev pub head_name : Head → Option (List ℕ)
 head_name head = option_map (λ name. name.now) head.name
 
--- what bytes say of it: the length at place 0, the type at 4, the flags at 6, the number at 8, the port at 12
+-- the fields of a header in bytes: the length at place 0, the type at 4, the flags at 6, the number at 8, the port at
+-- 12
 abbrev pub IsHead : ℕ → List ℕ → Head → Type 0
 IsHead protocol bytes head =
     (head.protocol ≡ protocol) × (head.length ≡ little_number 4 bytes)
     × (head.message_type ≡ little_number 2 (drop 4 bytes)) × (head.flags ≡ little_number 2 (drop 6 bytes))
     × (head.number ≡ little_number 4 (drop 8 bytes)) × (head.port ≡ little_number 4 (drop 12 bytes))
 
--- what a message that was read says of it
+-- the fields of a message that was read
 abbrev pub IsHeadOf : ℕ → LentMessage ℕ → Head → Type 0
 IsHeadOf protocol message head =
     (head.protocol ≡ protocol) × (head.length ≡ message.header.len)

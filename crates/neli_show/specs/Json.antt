@@ -7,7 +7,7 @@ use Rattle.std.specs.List.{list_all}
 abbrev pub is_plain : ℕ → Bool
 is_plain b = nat_le 32 b && not (b == 34 || b == 92)
 
--- what a reverse solidus may stand before: a quote, itself, a solidus, b, f, n, r or t
+-- a byte that may follow a reverse solidus: a quote, itself, a solidus, b, f, n, r or t
 abbrev pub is_letter : ℕ → Bool
 is_letter b = b == 34 || b == 92 || b == 47 || b == 98 || b == 102 || b == 110 || b == 114 || b == 116
 
@@ -15,7 +15,7 @@ is_letter b = b == 34 || b == 92 || b == 47 || b == 98 || b == 102 || b == 110 |
 abbrev pub is_hex : ℕ → Bool
 is_hex b = (nat_le 48 b && nat_le b 57) || (nat_le 65 b && nat_le b 70) || (nat_le 97 b && nat_le b 102)
 
--- what stands between the quotes of a string: characters as themselves, by a letter or by their number
+-- the text between the quotes of a string: characters as themselves, by a letter or by their number
 pub data IsChars : List ℕ → Type 0 where
   plain : (text : List ℕ) → list_all is_plain text ≡ true → IsChars text
   letter : (b : ℕ) → is_letter b ≡ true → IsChars (codes "\\" ++ b ∷ [])
@@ -44,7 +44,7 @@ mutual
         → AreMembers (codes "\"" ++ (name ++ (codes "\":" ++ value)))
     members : (text more : List ℕ) → AreMembers text → AreMembers more → AreMembers (text ++ (codes "," ++ more))
 
--- a line, which is the text of one value
+-- a line: the text of one value
 abbrev pub IsLine : List ℕ → Type 0
 IsLine text = (value : List ℕ) × IsJson value × (text ≡ value ++ codes "\n")
 

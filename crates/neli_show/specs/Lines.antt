@@ -1,4 +1,4 @@
--- How many lines of JSON are printed of an input, and whether it is messages alone.
+-- The number of lines of JSON printed for an input, and whether the input is only messages.
 use Rattle.std.specs.Prelude.{ℕ, Bool, false, ◌&&◌, if◌then◌else◌, nat_le, List, [], length, slice_range}
 use Rattle.std.specs.Prelude.{Option, is_none, Result, Ok, Err}
 use Rattle.std.specs.List.{list_all, sum_by}
@@ -11,11 +11,11 @@ use Rattle.neli_lent.specs.Walks.{items_of}
 use Rattle.neli_show.specs.Json.{AreSoManyLines}
 use Rattle.neli_show.specs.Written.{Writes}
 
--- of a datagram: one a message, and one where a fault follows them
+-- of a datagram: one for each message, and one if a fault follows them
 abbrev pub datagram_lines : List ℕ → ℕ
 datagram_lines bytes = length (items_of (messages_in (λ n. n) bytes))
 
--- the bytes of a datagram of an input; none where its places are not within it
+-- the bytes of a datagram of an input; none if its bounds are not within the input
 abbrev pub packet_bytes : List ℕ → Packet → List ℕ
 packet_bytes bytes packet =
     if nat_le packet.start packet.«end» && nat_le packet.«end» (length bytes)
@@ -30,13 +30,13 @@ packet_lines bytes (Err refusal) = 1
 abbrev pub input_lines : List ℕ → List Item → ℕ
 input_lines bytes items = sum_by (λ item. packet_lines bytes item.packet) items
 
--- the lines of this input are written, as many as it has
+-- the lines of this input are written, all of them
 abbrev pub WritesInput : List ℕ → Option (List ℕ) → Option (List ℕ) → Type 0
 WritesInput input old new =
     (bytes : List ℕ) × (items : List Item) × IsInput input bytes items
     × Writes old new (AreSoManyLines (input_lines bytes items))
 
--- ---- what is messages alone
+-- ---- only messages
 
 -- a datagram: no fault follows its messages
 abbrev pub is_whole_datagram : List ℕ → Bool

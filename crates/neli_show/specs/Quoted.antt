@@ -7,8 +7,8 @@ use Rattle.std.specs.Str.{chars}
 use Rattle.neli_show.specs.declared.quoted.Escape.{Escape}
 use Rattle.neli_show.specs.declared.quoted.Escape.TheVariants.{Plain, Letter, Number}
 
--- how a character stands there: a quote, a reverse solidus, a line feed, a carriage return and a tabulator by a letter,
--- other control characters by their number
+-- the form of a character: a letter for a quote, a reverse solidus, a line feed, a carriage return and a tab, the
+-- number for other control characters
 abbrev pub escape_of : ℕ → Escape
 escape_of c =
     if c == 34 || c == 92 then Letter c

@@ -1,4 +1,4 @@
--- What the words of the command line name, and what they ask for.
+-- The command line's words, and their meaning.
 use Rattle.std.specs.Prelude.{ℕ, Bool, List, [], ◌∷◌, codes, bytes_eq, length, nat_lt, ◌&&◌, if◌then◌else◌}
 use Rattle.std.specs.Prelude.{Option, Some, None}
 use Rattle.std.specs.Option.{option_or}
@@ -25,7 +25,7 @@ named_protocol word =
 abbrev pub is_numeral : List ℕ → Bool
 is_numeral digits = nat_lt 0 (length digits) && all_ascii_digits digits
 
--- the number that a word is, before which a plus may stand, where it has 16 bits at most
+-- the number in a word, after an optional plus, if it has at most 16 bits
 abbrev pub number_in : List ℕ → Option ℕ
 number_in word =
     let digits = without_leading_plus word in
@@ -35,13 +35,13 @@ number_in word =
 abbrev pub protocol_in : List ℕ → Option ℕ
 protocol_in word = option_or (named_protocol word) (number_in word)
 
--- this output for this protocol, where there are both
+-- this output for this protocol, if both exist
 abbrev pub both_asked : Option Output → Option ℕ → Option Request
 both_asked (Some output) (Some protocol) = Some (record { output = output; protocol = protocol })
 both_asked (Some output) None = None
 both_asked None protocol = None
 
--- what words ask for: first an output, then a protocol; lines of text where there is none, and routing
+-- the request in words: first an output, then a protocol; without them lines of text, and routing
 abbrev pub request_in : List (List ℕ) → Option Request
 request_in [] = both_asked (Some output.Text) (Some 0)
 request_in (word ∷ []) =

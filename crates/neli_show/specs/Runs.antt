@@ -26,7 +26,7 @@ status_code status.NoOutput = 1
 status_code status.Usage = 2
 status_code status.Memory = 3
 
--- what is said of it on standard error
+-- the message about it on standard error
 abbrev pub complaint_text : Status → Option (List ℕ)
 complaint_text status.Whole = None
 complaint_text status.Fault = None
@@ -36,17 +36,17 @@ complaint_text status.Usage =
     Some (codes "usage: neli_show [json | color] [route | connector | generic | NUMBER] < FILE")
 complaint_text status.Memory = Some (codes "neli_show: out of memory")
 
--- how a run ends whose words were not read: memory ran out, or they are not what the program takes
+-- the status if the words were not read: memory ran out, or they are not accepted
 abbrev pub unread_status : ErrorKind → Status
 unread_status OutOfMemory = status.Memory
 unread_status kind = status.Usage
 
--- what words ask for, or else how a run ends that prints nothing
+-- the request in the words, or else the status of a run that prints nothing
 abbrev pub asked_in : Result (Vec (String Global) Global) Error → Result Request Status
 asked_in (Ok words) = ok_or (request_in (map string_bytes words.items)) status.Usage
 asked_in (Err error) = Err (unread_status (error_kind error))
 
--- how a run ends that printed its input: it is messages alone, or not
+-- the status of a run that printed its input: it is only messages, or not
 abbrev pub printed_status : Bool → Status
 printed_status true = status.Whole
 printed_status false = status.Fault
@@ -56,7 +56,7 @@ abbrev pub shown_status : Result Bool Error → Status
 shown_status (Ok is_whole) = printed_status is_whole
 shown_status (Err error) = status.NoOutput
 
--- so ends a run that printed this input
+-- a run that printed this input ends with this status
 abbrev pub EndsAfter : List ℕ → Status → Type 0
 EndsAfter input end =
     (bytes : List ℕ) × (items : List Item) × IsInput input bytes items

@@ -61,7 +61,7 @@ value_json (value.Bytes bytes) = codes "{\"bytes\":\"" ++ hex_text bytes.now ++ 
 abbrev pub bits_json : ℕ → List ℕ
 bits_json bits = codes "\"0x" ++ (digits 16 false bits ++ codes "\"")
 
--- a zero at the end is left out
+-- a zero at the end is removed
 abbrev pub IsWithoutZero : List ℕ → List ℕ → Type 0
 IsWithoutZero bytes rest = (bytes ≡ rest ++ 0 ∷ []) ⊎ ((rest ≡ bytes) × ((before : List ℕ) → bytes ≢ before ++ 0 ∷ []))
 
@@ -71,7 +71,7 @@ IsWithoutZero bytes rest = (bytes ≡ rest ++ 0 ∷ []) ⊎ ((rest ≡ bytes) ×
 abbrev pub signed_text : ℕ → List ℕ → List ℕ
 signed_text n bytes = signed_decimal (twos_complement n (little_number n bytes))
 
--- the number that as many bytes as it has are
+-- the number in as many bytes as it has
 abbrev pub whole_number_text : Number → List ℕ → List ℕ
 whole_number_text U8 bytes = decimal (little_number 1 bytes)
 whole_number_text U16 bytes = decimal (little_number 2 bytes)
@@ -85,7 +85,7 @@ whole_number_text Be16 bytes = decimal (big_number 2 bytes)
 whole_number_text Be32 bytes = decimal (big_number 4 bytes)
 whole_number_text Be64 bytes = decimal (big_number 8 bytes)
 
--- the number at the front of bytes, or these where they are too few
+-- the number at the front of bytes, or these if they are too few
 abbrev pub number_text : Number → List ℕ → List ℕ
 number_text number bytes =
     if nat_lt (length bytes) (number_size number) then bytes_text bytes else whole_number_text number bytes

@@ -1,4 +1,4 @@
--- What is written as JSON, part by part.
+-- JSON output, part by part.
 use Rattle.std.specs.Prelude.{◌≡◌, ℕ, zero, suc, List, [], ◌++◌, codes, Bool, true, false, Option}
 use Rattle.std.specs.Io.KnownBytes.{Appends}
 use Rattle.neli_show.specs.Json.{AreElements, AreMembers, IsLine}
@@ -7,14 +7,14 @@ use Rattle.neli_show.specs.Json.{AreElements, AreMembers, IsLine}
 abbrev pub Writes : Option (List ℕ) → Option (List ℕ) → (List ℕ → Type 0) → Type 0
 Writes old new P = (text : List ℕ) × Appends old new text × P text
 
--- after a text with P, what is written makes one with Q
+-- after a text with P, the output makes one with Q
 abbrev pub Turns : (List ℕ → Type 0) → (List ℕ → Type 0) → List ℕ → Type 0
 Turns P Q text = (before : List ℕ) → P before → Q (before ++ text)
 
 abbrev pub Extends : Option (List ℕ) → Option (List ℕ) → (List ℕ → Type 0) → (List ℕ → Type 0) → Type 0
 Extends old new P Q = Writes old new (Turns P Q)
 
--- what stands before an element or a member: nothing before the first
+-- the text before an element or a member: nothing before the first
 abbrev pub comma : Bool → List ℕ
 comma true = []
 comma false = codes ","
@@ -31,7 +31,7 @@ FirstMembers false text = AreMembers text
 
 -- ---- objects of a message and of a request
 
--- what an object of this level follows: nothing, as each message is written by itself, or members of a message
+-- the text before an object of this level: nothing, as each message is written by itself, or members of a message
 abbrev pub IsAround : ℕ → List ℕ → Type 0
 IsAround zero text = text ≡ []
 IsAround (suc level) text = AreMembers text
@@ -40,13 +40,13 @@ abbrev pub opening : ℕ → List ℕ
 opening zero = codes "{"
 opening (suc level) = codes ",\"request\":{"
 
--- such an object with members, which is not closed yet
+-- such an object with members, not closed yet
 abbrev pub IsBegun : ℕ → List ℕ → Type 0
 IsBegun level text =
     (around members : List ℕ) × IsAround level around × AreMembers members ×
     (text ≡ around ++ (opening level ++ members))
 
--- and what there is with its end: a line, or members of a message
+-- and the text with its end: a line, or members of a message
 abbrev pub IsClosed : ℕ → List ℕ → Type 0
 IsClosed zero text = IsLine text
 IsClosed (suc level) text = AreMembers text
@@ -61,7 +61,7 @@ InArray P first text = (start inner : List ℕ) × P start × FirstElements firs
 abbrev pub InPlace : (List ℕ → Type 0) → List ℕ → Type 0
 InPlace P text = (start : List ℕ) × (first : Bool) × InArray P first start × (text ≡ start ++ comma first)
 
--- an element that is an object with members, which is not closed yet
+-- an element that is an object with members, not closed yet
 abbrev pub InElement : (List ℕ → Type 0) → List ℕ → Type 0
 InElement P text =
     (start members : List ℕ) × InPlace P start × AreMembers members × (text ≡ start ++ (codes "{" ++ members))
@@ -88,7 +88,7 @@ IsElement (suc n) text = InElement (IsListBegun n) text
 
 -- ---- structures with attributes
 
--- an object after elements, with members, which is not closed yet
+-- an object after elements, with members, not closed yet
 abbrev pub IsHopBegun : List ℕ → Type 0
 IsHopBegun text =
     (start members : List ℕ) × (first : Bool) × FirstElements first start × AreMembers members

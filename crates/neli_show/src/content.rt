@@ -1,4 +1,4 @@
-//! What an attribute has, whatever the form that it is printed in.
+//! The content of an attribute, whatever the form that prints it.
 
 ghost use Rattle.std.specs.Prelude.{◌≡◌, IfErr};
 ghost use Rattle.neli_show.specs.declared.value.Value.TheVariants as value;
@@ -7,10 +7,10 @@ use crate::value::{Value, ipv4_value, ipv6_value, number_value, text_value, with
 use neli_schema::{Number, Structure};
 use neli_schema_walk::{Attribute, Shape};
 
-/// What an attribute has.
+/// The content of an attribute.
 #[derive(Clone, Copy)]
 pub enum Content<'b, 't> {
-    /// Nothing: that it is there says all.
+    /// Nothing: the attribute's presence is its meaning.
     Flag,
     /// A value.
     Value(Value<'b>),
@@ -24,7 +24,7 @@ pub enum Content<'b, 't> {
     Nest(Structure<'t>, &'b [u8]),
 }
 
-/// What a payload of this shape has.
+/// The content of a payload of this shape.
 fn content_of<'b, 't>(shape: &Shape<'t>, payload: &'b [u8]) -> Content<'b, 't> {
     match shape {
         Shape::Flag => Content::Flag,
@@ -41,7 +41,7 @@ fn content_of<'b, 't>(shape: &Shape<'t>, payload: &'b [u8]) -> Content<'b, 't> {
     }
 }
 
-/// What an attribute has; the bytes of one that breaks its row.
+/// Returns the content of an attribute; the bytes of one that breaks its row.
 pub fn content_in<'b, 't>(attribute: &Attribute<'b, 't>) -> Content<'b, 't>
     ensures { IfErr attribute.now.shape
         (λ _. result ≡ Content.Value (value.Bytes attribute.now.payload)) }

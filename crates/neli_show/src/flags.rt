@@ -25,7 +25,7 @@ const COMMON: [Flag; 6] = [
     (0x20, "NLM_F_DUMP_FILTERED"),
 ];
 
-/// Those of a message that makes something.
+/// Those of a message that creates an object.
 const NEW: [Flag; 4] = [
     (0x100, "NLM_F_REPLACE"),
     (0x200, "NLM_F_EXCL"),
@@ -33,10 +33,10 @@ const NEW: [Flag; 4] = [
     (0x800, "NLM_F_APPEND"),
 ];
 
-/// Those of a message that deletes something.
+/// Those of a message that deletes an object.
 const DELETE: [Flag; 2] = [(0x100, "NLM_F_NONREC"), (0x200, "NLM_F_BULK")];
 
-/// Those of a message that asks for something.
+/// Those of a message that requests objects.
 const GET: [Flag; 3] = [
     (0x100, "NLM_F_ROOT"),
     (0x200, "NLM_F_MATCH"),
@@ -46,8 +46,8 @@ const GET: [Flag; 3] = [
 /// Those of an error, an acknowledgement or the end of a dump.
 const ANSWER: [Flag; 2] = [(0x100, "NLM_F_CAPPED"), (0x200, "NLM_F_ACK_TLVS")];
 
-/// The flags that mean something for messages of this protocol and type alone. Types of routing come in fours: new,
-/// delete, get and set.
+/// The flags with a meaning only for messages of this protocol and type. Types of routing come in fours: new, delete,
+/// get and set.
 fn own_flags(protocol: u16, message_type: u16) -> &'static [Flag] {
     match (protocol, message_type) {
         (_, 2 | 3) => &ANSWER,
@@ -61,7 +61,7 @@ fn own_flags(protocol: u16, message_type: u16) -> &'static [Flag] {
     }
 }
 
-/// How flags are written.
+/// The form of written flags.
 #[derive(Clone, Copy, Debug, PartialEq, Eq)]
 pub enum FlagForm {
     /// As names with bars between them.
@@ -71,7 +71,7 @@ pub enum FlagForm {
 }
 
 impl FlagForm {
-    /// Writes what stands before a flag.
+    /// Writes the separator before a flag.
     fn write_between<W: Write>(self, out: &mut W, is_first: bool) -> io::Result<()>
         ensures { self ≡ FlagForm.Strings → OnOk result
             (Appends (W.contents out.old) (W.contents out.new) (comma is_first)) }
@@ -109,7 +109,7 @@ impl FlagForm {
     }
 }
 
-/// Flags of a message that are not written yet.
+/// Flags of a message that remain to be written.
 #[derive(Drop)]
 struct Left {
     /// Their bits.
@@ -118,7 +118,7 @@ struct Left {
     is_first: bool,
 }
 
-/// Writes a flag, if its bit is left.
+/// Writes a flag, if its bit remains.
 fn write_flag<W: Write>(out: &mut W, form: FlagForm, flag: &Flag, left: &mut Left) -> io::Result<()>
     ensures written { form ≡ FlagForm.Strings → OnOk result
         (Extends (W.contents out.old) (W.contents out.new)
@@ -137,7 +137,7 @@ fn write_flag<W: Write>(out: &mut W, form: FlagForm, flag: &Flag, left: &mut Lef
     Ok(())
 }
 
-/// Writes those of these flags that are left.
+/// Writes those of these flags that remain.
 fn write_set<W: Write>(
     out: &mut W,
     form: FlagForm,
@@ -156,7 +156,7 @@ fn write_set<W: Write>(
     Ok(())
 }
 
-/// Writes the flags of a message of this protocol and type by their names, and what is left of them as one number.
+/// Writes the flags of a message of this protocol and type by their names, and the remaining bits as one number.
 pub fn write_flags<W: Write>(
     out: &mut W,
     form: FlagForm,

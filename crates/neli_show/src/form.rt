@@ -1,4 +1,4 @@
-//! What a form of the output does for each part of a message.
+//! A form of the output: what it writes for each part of a message.
 
 ghost use Rattle.std.specs.Prelude.{◌≡◌, ℕ, List, ◌++◌, Bool, true, OnOk, Some};
 ghost use Rattle.neli_show.specs.Faults.{breach_text, fault_kind, fault_text};
@@ -15,12 +15,12 @@ use neli_wire::DeError;
 use std::io::Write;
 use std::{fmt, io};
 
-/// Where a line or an attribute stands: how deep in its message, and in how many lists of attributes.
+/// The place of a line or an attribute: its depth in the message, and the lists of attributes around it.
 #[derive(Clone, Copy, Debug)]
 pub struct Place {
-    /// How deep in its message: what a message has is at 1.
+    /// The depth in the message: the parts of a message are at 1.
     pub level: usize,
-    /// In how many lists of one body.
+    /// The number of lists of one body around it.
     pub lists: usize,
 }
 
@@ -29,13 +29,12 @@ pub struct Place {
 /// The parts of a message come in this order: its head; the code of an answer; the head and the body of the request
 /// that it answers, and their end; a structure and its attributes, or bytes; its end.
 ///
-/// Where it is JSON, its clauses say what each part makes of what is written: lines that are the text of one value
-/// each.
+/// For a JSON form, the clauses state how each part extends the output: lines that are the text of one value each.
 pub trait Form: Copy + Drop {
-    // Whether it is JSON.
+    // Whether the form is JSON.
     ghost is_json: { Bool };
 
-    // What is written of a message, where lists of attributes are open.
+    // The output of a message while lists of attributes are open.
     ghost is_open: { Self → List ℕ → Type 0 };
 
     /// The head of a message, at level 0, or of the request that an answer is for.
@@ -48,7 +47,7 @@ pub trait Form: Copy + Drop {
         ensures { is_json ≡ true → OnOk result
             (Extends (W.contents out.old) (W.contents out.new) AreMembers AreMembers) };
 
-    /// A structure with this name, of which these bytes are as much as there is.
+    /// A structure with this name; a short payload has only these first bytes of it.
     fn structure<W: Write>(
         &mut self,
         out: &mut W,
@@ -60,7 +59,7 @@ pub trait Form: Copy + Drop {
         ensures { is_json ≡ true → OnOk result
             (Extends (W.contents out.old) (W.contents out.new) AreMembers AreMembers) };
 
-    /// Bytes of which no more is known.
+    /// Bytes of unknown meaning.
     fn bytes<W: Write>(&mut self, out: &mut W, level: usize, bytes: &[u8]) -> io::Result<()>
         ensures { is_json ≡ true → OnOk result
             (Extends (W.contents out.old) (W.contents out.new) AreMembers AreMembers) };
@@ -70,7 +69,7 @@ pub trait Form: Copy + Drop {
         ensures { is_json ≡ true → OnOk result
             (Extends (W.contents out.old) (W.contents out.new) AreMembers (is_open self.new)) };
 
-    /// An attribute, of which nests come after it.
+    /// An attribute; those in it, if it is a nest, come after it.
     fn attribute<W: Write>(
         &mut self,
         out: &mut W,
@@ -82,7 +81,7 @@ pub trait Form: Copy + Drop {
             (Extends (W.contents out.old) (W.contents out.new)
             (is_open self.old) (is_open self.new)) };
 
-    /// What follows the attributes of a list, and is none.
+    /// The bytes after the attributes of a list that are not an attribute.
     fn rest<W: Write>(&mut self, out: &mut W, place: Place, error: &DeError) -> io::Result<()>
         ensures { is_json ≡ true → OnOk result
             (Extends (W.contents out.old) (W.contents out.new)
@@ -112,7 +111,7 @@ pub trait Form: Copy + Drop {
         ensures { is_json ≡ true → OnOk result
             (Extends (W.contents out.old) (W.contents out.new) IsHopBegun AreElements) };
 
-    /// What follows such structures, and is none.
+    /// The bytes after such structures that are not one.
     fn end_hops<W: Write>(
         &self,
         out: &mut W,
@@ -133,7 +132,7 @@ pub trait Form: Copy + Drop {
         ensures { is_json ≡ true → OnOk result
             (Extends (W.contents out.old) (W.contents out.new) (IsBegun level) (IsClosed level)) };
 
-    /// A fault and its place, where there is no message.
+    /// A fault and its place, in place of a message.
     fn fault<W: Write>(&mut self, out: &mut W, place: usize, fault: Fault<'_>) -> io::Result<()>
         ensures { is_json ≡ true → OnOk result
             (Writes (W.contents out.old) (W.contents out.new) IsLine) };
@@ -168,7 +167,7 @@ pub enum Fault<'e> {
 }
 
 impl Fault<'_> {
-    /// What its place is in.
+    /// The unit of its place.
     pub fn kind(self) -> &'static str
         ensures plain { list_all is_plain result.now ≡ true }
         ensures word { result.now ≡ fault_kind self.entry }

@@ -1,4 +1,4 @@
-//! The header of a message, and the names of what it says.
+//! The header of a message, and the names of its fields.
 
 ghost use Rattle.std.specs.Prelude.{◌≡◌, ◌&&◌, ◌≤◌, ◌↔◌, IfSome, IsSome, find, length, nat_eq};
 ghost use Rattle.std.specs.Option.{option_copied, option_map};
@@ -19,12 +19,12 @@ pub const CONNECTOR: u16 = 11;
 /// `NETLINK_GENERIC`.
 pub const GENERIC: u16 = 16;
 
-/// What messages are read by: tables, and what carries which.
+/// Finds the tables of messages.
 #[derive(Clone, Copy)]
 pub struct Names<'t> {
     /// The tables.
     pub schema: Schema<'t>,
-    /// What messages carry, by protocol and type.
+    /// The contents of messages, by protocol and type.
     pub bodies: &'t [Body<'t>],
 }
 
@@ -69,7 +69,7 @@ impl<'t> Names<'t> {
 /// The header of a message.
 #[derive(Clone, Copy)]
 pub struct Head<'t> {
-    /// The protocol of netlink that it is of.
+    /// The netlink protocol of the message.
     pub protocol: u16,
     /// The length that it states.
     pub length: u32,
@@ -103,7 +103,7 @@ impl<'t> Head<'t> {
         }
     }
 
-    /// The header that these bytes begin with, if they are as many as it has: 16 (`struct nlmsghdr`).
+    /// Returns the header at the front of these bytes, if they have all its 16 (`struct nlmsghdr`).
     pub fn read(names: &Names<'t>, protocol: u16, bytes: &[u8]) -> Option<Head<'t>>
         ensures there { IsSome result ↔ (16 ≤ length bytes.now) }
         ensures read { IfSome result (λ head. IsHead protocol bytes.now head) }

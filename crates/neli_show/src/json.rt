@@ -20,14 +20,14 @@ use neli_wire::DeError;
 use std::io;
 use std::io::Write;
 
-/// Objects of JSON, and how many lists of attributes are open in the one that is written.
+/// Objects of JSON, and the number of open lists of attributes in the current one.
 #[derive(Clone, Copy)]
 pub struct Json {
     lists: usize,
     is_first: bool,
 }
 
-/// Writes a value. Bytes, which JSON has no form for, are an object with their hexadecimal digits.
+/// Writes a value. Bytes, for which JSON has no form, are an object with their hexadecimal digits.
 fn write_value<W: Write>(out: &mut W, value: &Value<'_>) -> io::Result<()>
     ensures { OnOk result
         (Appends (W.contents out.old) (W.contents out.new) (value_json value.now)) }
@@ -61,7 +61,7 @@ fn write_comma<W: Write>(out: &mut W, is_first: bool) -> io::Result<()>
     write!(out, ",")
 }
 
-/// Writes the fields of a structure that are there, as an object.
+/// Writes the existing fields of a structure, as an object.
 fn write_fields<W: Write>(out: &mut W, structure: &Structure<'_>, bytes: &[u8]) -> io::Result<()>
     ensures { OnOk result (Writes (W.contents out.old) (W.contents out.new) IsJson) }
 {
@@ -111,7 +111,7 @@ fn write_structures<W: Write>(
     write!(out, "]")
 }
 
-/// Writes what an attribute has, as one value.
+/// Writes the content of an attribute, as one value.
 fn write_content<W: Write>(out: &mut W, content: &Content<'_, '_>) -> io::Result<()>
     ensures { OnOk result (Writes (W.contents out.old) (W.contents out.new) IsJson) }
 {
@@ -172,7 +172,7 @@ fn write_flag_list<W: Write>(out: &mut W, head: &Head<'_>) -> io::Result<()>
     write!(out, "]")
 }
 
-/// Writes what the header of a message says.
+/// Writes the fields of a message's header.
 fn write_header<W: Write>(out: &mut W, head: &Head<'_>) -> io::Result<()>
     ensures { OnOk result (Writes (W.contents out.old) (W.contents out.new) AreMembers) }
 {
@@ -199,7 +199,7 @@ fn write_broken<W: Write>(out: &mut W, shape: &Result<Shape<'_>, Broken>) -> io:
     }
 }
 
-/// Writes what an attribute has, as a member.
+/// Writes the content of an attribute, as a member.
 fn write_content_member<W: Write>(out: &mut W, content: &Content<'_, '_>) -> io::Result<()>
     ensures { OnOk result
         (Extends (W.contents out.old) (W.contents out.new) AreMembers AreMembers) }
@@ -208,7 +208,7 @@ fn write_content_member<W: Write>(out: &mut W, content: &Content<'_, '_>) -> io:
     write_content(out, content)
 }
 
-/// Writes what an attribute has, and ends its element.
+/// Writes the content of an attribute, and ends its element.
 fn write_content_end<W: Write>(out: &mut W, content: &Content<'_, '_>) -> io::Result<()>
     ensures { (n : ℕ) → OnOk result (Extends (W.contents out.old) (W.contents out.new)
         (IsElement n) (IsOpen n false)) }
@@ -217,7 +217,7 @@ fn write_content_end<W: Write>(out: &mut W, content: &Content<'_, '_>) -> io::Re
     write!(out, "}}")
 }
 
-/// Writes the name of an error, and what it means.
+/// Writes the name of an error, and its meaning.
 fn write_error<W: Write>(out: &mut W, errno: Errno) -> io::Result<()>
     ensures { OnOk result
         (Extends (W.contents out.old) (W.contents out.new) AreMembers AreMembers) }
@@ -226,7 +226,7 @@ fn write_error<W: Write>(out: &mut W, errno: Errno) -> io::Result<()>
     write_optional(out, "meaning", Some(errno.meaning()))
 }
 
-/// Writes the structure that a nest begins with, if it has one.
+/// Writes the structure at the front of a nest, if it has one.
 fn write_nest_header<W: Write>(
     out: &mut W,
     structure: &Structure<'_>,
@@ -242,7 +242,7 @@ fn write_nest_header<W: Write>(
 }
 
 impl Json {
-    /// Objects, of which none is begun.
+    /// Objects, with none open.
     pub fn new() -> Json
         ensures { result ≡ record { lists = 0; is_first = true } }
     {
@@ -252,7 +252,7 @@ impl Json {
         }
     }
 
-    /// Ends the lists of attributes past this many, with the attributes that they are in. The first stays open.
+    /// Ends the lists of attributes past this many, with the attributes around them. The first stays open.
     fn close_to<W: Write>(&mut self, out: &mut W, lists: usize) -> io::Result<()>
         ensures ended { OnOk result (Extends (W.contents out.old) (W.contents out.new)
             (IsOpen self.old.lists self.old.is_first) (IsOpen self.new.lists self.new.is_first)) }
@@ -294,7 +294,7 @@ impl Json {
         write_optional(out, "name", step.name)
     }
 
-    /// Begins the list of a nest, so that so many are open.
+    /// Begins the list of a nest; then this many are open.
     fn begin_nest<W: Write>(
         &mut self,
         out: &mut W,

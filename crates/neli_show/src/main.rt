@@ -1,13 +1,14 @@
-//! `neli_show`: netlink messages as a person reads them: types, flags and attributes by name, and values as what they
-//! are. `neli_show json` prints an object a message, `neli_show color` names in colours.
+//! `neli_show` prints netlink messages for people: types, flags and attributes by name, and typed values. `neli_show
+//! json` prints an object for each message, `neli_show color` names in colours.
 //!
-//! Standard input is raw bytes, hexadecimal text or a pcap file of `nlmon`; which it is is found out. docs/SHOW.md
-//! shows what is printed.
+//! Standard input is raw bytes, hexadecimal text or a pcap file of `nlmon`; the format is detected. docs/SHOW.md shows
+//! the output.
 //!
-//! - [`run`]: what the words ask for, the input, and how a run ends. [`request`]: the words.
-//! - [`show`]: a message, part by part. [`head`]: its header, and which table is meant. [`flags`]: flags by name.
-//! - [`form`]: what a form of the output does for each part; [`text`] and [`json`] are the two.
-//! - [`content`]: what an attribute has. [`value`]: numbers, texts, addresses, bytes. [`quoted`]: texts in quotes.
+//! - [`run`]: the request, the input, and the status of a run. [`request`]: the words of the command line.
+//! - [`show`]: a message, part by part. [`head`]: its header, and its table. [`flags`]: flags by name.
+//! - [`form`]: what a form of the output writes for each part; [`text`] and [`json`] are the two.
+//! - [`content`]: the content of an attribute. [`value`]: numbers, texts, addresses, bytes. [`quoted`]: texts in
+//!   quotes.
 #![tactic(auto)]
 
 mod content;

@@ -5,7 +5,7 @@ ghost use Rattle.neli_show.specs.Quoted.{escape_of, escaped, escaped_char, quote
 
 use std::fmt;
 
-/// How a character stands in a string of JSON.
+/// The form of a character in a string of JSON.
 #[derive(Clone, Copy, Debug, PartialEq, Eq)]
 enum Escape {
     /// As itself.
@@ -16,9 +16,8 @@ enum Escape {
     Number,
 }
 
-/// How a character stands in a string: quotes, the reverse solidus and control characters do not stand there as
-/// themselves. DEL and the control characters above it, which a string may have, are escaped too, since a terminal
-/// obeys them.
+/// Returns the form of a character in a string: quotes, the reverse solidus and control characters are escaped. So are
+/// DEL and the control characters above it, which a string may have, since a terminal obeys them.
 fn escape_of(c: char) -> Escape
     ensures { result ≡ escape_of c }
 {
@@ -32,7 +31,7 @@ fn escape_of(c: char) -> Escape
     }
 }
 
-/// A character as it stands in a string.
+/// A character in its form in a string.
 #[derive(Clone, Copy)]
 struct EscapedChar(char);
 
@@ -53,7 +52,7 @@ impl fmt::Display for EscapedChar {
     }
 }
 
-/// The characters of a text as they stand in a string.
+/// The characters of a text in their form in a string.
 #[derive(Clone, Copy)]
 struct Escaped<'t>(&'t str);
 

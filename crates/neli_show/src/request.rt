@@ -1,11 +1,11 @@
-//! What the words of the command line ask for.
+//! The request in the words of the command line.
 
 ghost use Rattle.std.specs.Prelude.{◌≡◌, ◌<◌, None, IfSome, [], Some, codes, length, map, string_bytes};
 ghost use Rattle.neli_show.specs.Requests.{named_output, named_protocol, protocol_in, request_in};
 
 use crate::head::{CONNECTOR, GENERIC, ROUTE};
 
-/// How messages are printed.
+/// The form of printed messages.
 #[derive(Clone, Copy, Debug, PartialEq, Eq)]
 pub enum Output {
     /// As lines of text.
@@ -16,16 +16,16 @@ pub enum Output {
     Json,
 }
 
-/// What is asked for.
+/// A request of the command line.
 #[derive(Clone, Copy, Debug, PartialEq, Eq)]
 pub struct Request {
-    /// How messages are printed.
+    /// The form of printed messages.
     pub output: Output,
-    /// The protocol of netlink of datagrams of which the input does not say it.
+    /// The netlink protocol of datagrams for which the input states none.
     pub protocol: u16,
 }
 
-/// The output that a word asks for.
+/// The output that a word names.
 fn output_of(word: &str) -> Option<Output>
     ensures { result ≡ named_output word.now }
 {
@@ -49,7 +49,7 @@ fn protocol_of(word: &str) -> Option<u16>
     }
 }
 
-/// What these words ask for: first an output, then a protocol, each of which may be left out.
+/// Returns the request in these words: first an output, then a protocol, each of them optional.
 pub fn request_of(words: &[String]) -> Option<Request>
     ensures none { words.now ≡ [] → result ≡ Some (record { output = Output.Text; protocol = 0 }) }
     ensures many { 2 < length words.now → result ≡ None }

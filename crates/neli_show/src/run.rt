@@ -26,18 +26,18 @@ use std::alloc::{AllocError, Global};
 use std::io;
 use std::io::{ErrorKind, Read, Write};
 
-/// How a run ends.
+/// How a run ended.
 #[derive(Clone, Copy, Debug, PartialEq, Eq)]
 pub enum Status {
     /// All of the input is printed.
     Whole,
-    /// A part of the input is no message, and a line says so.
+    /// A part of the input is not a message, and a line reports it.
     Fault,
     /// The input failed, and nothing is printed.
     NoInput,
     /// The output failed; a part of it may be written.
     NoOutput,
-    /// The words ask for nothing that the program does.
+    /// The words are not a request of the program.
     Usage,
     /// Memory ran out before anything was printed.
     Memory,
@@ -56,7 +56,7 @@ impl Status {
         }
     }
 
-    /// What is said of it on standard error.
+    /// The message about it on standard error.
     fn complaint(self) -> Option<&'static str>
         ensures { option_map (λ text. text.now) result ≡ complaint_text self }
     {
@@ -72,7 +72,7 @@ impl Status {
     }
 }
 
-/// The protocol of a datagram: the one that the input says, or else this one.
+/// The protocol of a datagram: the one that the input states, or else this one.
 fn protocol_of(packet: &Packet, asked: u16) -> u16
     ensures { result ≡ unwrap_or packet.now.family asked }
 {
@@ -86,7 +86,7 @@ fn packet_bytes<'a>(input: &'a Input, packet: &Packet) -> &'a [u8]
     input.bytes.get(packet.start..packet.end).unwrap_or(&[])
 }
 
-/// Prints a part of an input, and answers whether it is messages.
+/// Prints a part of an input, and returns whether it is messages.
 fn show_part<F: Form, W: Write>(
     form: &mut F,
     out: &mut W,
@@ -112,7 +112,7 @@ fn show_part<F: Form, W: Write>(
     }
 }
 
-/// Prints the parts of an input, and answers whether all of them are messages.
+/// Prints the parts of an input, and returns whether all of them are messages.
 fn show_input<F: Form, W: Write>(
     form: &mut F,
     out: &mut W,
@@ -133,7 +133,7 @@ fn show_input<F: Form, W: Write>(
     Ok(is_whole)
 }
 
-/// Prints an input in the form that is asked for.
+/// Prints an input in the requested form.
 fn show_request<W: Write>(
     out: &mut W,
     names: &Names<'_>,
@@ -159,7 +159,7 @@ fn show_request<W: Write>(
     }
 }
 
-/// How a run ends that printed its input so.
+/// The status of a run with this output.
 fn status_of(shown: &io::Result<bool>) -> Status
     ensures { result ≡ shown_status shown.now }
 {
@@ -170,7 +170,7 @@ fn status_of(shown: &io::Result<bool>) -> Status
     }
 }
 
-/// Prints an input by these tables, in the form that is asked for.
+/// Prints an input by these tables, in the requested form.
 fn show_by<W: Write>(out: &mut W, tables: &[Table<'_>], request: Request, input: &Input) -> Status
     ensures json { request.output ≡ Output.Json → result ≢ Status.NoOutput
         → Writes (W.contents out.old) (W.contents out.new)
@@ -186,7 +186,7 @@ fn show_by<W: Write>(out: &mut W, tables: &[Table<'_>], request: Request, input:
     status_of(&show_request(out, &names, request, input))
 }
 
-/// Prints bytes in the form that is asked for.
+/// Prints bytes in the requested form.
 fn show_bytes<W: Write>(
     alloc: Global,
     request: Request,
@@ -205,7 +205,7 @@ fn show_bytes<W: Write>(
     Ok(show_by(out, tables.as_slice(), request, &input))
 }
 
-/// Reads the input, and prints it in the form that is asked for.
+/// Reads the input, and prints it in the requested form.
 fn show<R: Read, W: Write>(alloc: Global, request: Request, input: &mut R, out: &mut W) -> Status
     ensures json { request.output ≡ Output.Json → result ≢ Status.NoOutput
         → Extends (W.contents out.old) (W.contents out.new) AreLines AreLines }
@@ -230,7 +230,7 @@ fn show<R: Read, W: Write>(alloc: Global, request: Request, input: &mut R, out: 
     }
 }
 
-/// What these words ask for; where they were not read, how the run ends.
+/// Returns the request in these words, or the status of a run whose words were not read.
 fn asked(words: &io::Result<Vec<String>>) -> Result<Request, Status>
     ensures unread { IfErr words.now (λ error. result ≡ Err (unread_status (error_kind error))) }
     ensures any { result ≡ asked_in words.now }
@@ -242,7 +242,8 @@ fn asked(words: &io::Result<Vec<String>>) -> Result<Request, Status>
     }
 }
 
-/// Does what these words ask for, and answers how the run ends; what went wrong is said on `complaints`.
+/// Performs the request in these words, and returns the status of the run; writes the cause of a failure to
+/// `complaints`.
 pub fn run<R: Read, W: Write, C: Write>(
     alloc: Global,
     words: &io::Result<Vec<String>>,
@@ -273,7 +274,7 @@ pub fn run<R: Read, W: Write, C: Write>(
         Err(status) => status,
     };
     if let Some(complaint) = status.complaint() {
-        // Where this fails too, the status alone says it.
+        // If this fails too, only the status reports it.
         let _ = writeln!(complaints, "{complaint}");
     }
     status

@@ -1,4 +1,4 @@
-//! Messages, part by part, whatever the form that they are printed in.
+//! Messages, part by part, whatever the form that prints them.
 
 ghost use Rattle.std.specs.Prelude.{◌≡◌, ◌+◌, ◌-◌, ◌<◌, ◌≤◌, ◌^◌, IfOk, IfSome, OnOk, bit_and, drop, length};
 ghost use Rattle.std.specs.Prelude.{◌≢◌, ◌⊎◌, pos, true};
@@ -20,8 +20,8 @@ use neli_wire::implementing::padded_length;
 use std::io;
 use std::io::Write;
 
-/// What every message of generic netlink begins with (`struct genlmsghdr` of `linux/genetlink.h`), and attributes of
-/// which the family alone knows what they are.
+/// The first fields of every message of generic netlink (`struct genlmsghdr` of `linux/genetlink.h`), and attributes
+/// whose meaning only the family defines.
 const ANY_GENERIC: Table<'static> = Table {
     id: TableId(u16::MAX),
     header: Structure {
@@ -47,7 +47,7 @@ fn bytes_from(bytes: &[u8], start: usize) -> &[u8]
     }
 }
 
-/// Where an item stands whose body is at this level.
+/// The place of an item of a body at this level.
 fn place_of(level: usize, item: &Item<'_, '_>) -> Place
     ensures lists { result.lists ≡ lists_of item.now }
     ensures level { level + lists_of item.now < 2 ^ 64
@@ -64,7 +64,7 @@ fn place_of(level: usize, item: &Item<'_, '_>) -> Place
     }
 }
 
-/// The attribute that an item is, by its number and its name.
+/// The attribute of an item, by its number and its name.
 fn step_of<'t>(item: &Item<'_, 't>) -> Step<'t> {
     match item.path.steps().last() {
         Some(step) => *step,
@@ -72,7 +72,7 @@ fn step_of<'t>(item: &Item<'_, 't>) -> Step<'t> {
     }
 }
 
-/// How the items of a walk are printed.
+/// How to print the items of a walk.
 trait ShowItem {
     /// Prints an item of a walk whose list is at this level.
     fn show_item<F: Form, W: Write>(
@@ -87,7 +87,7 @@ trait ShowItem {
             (F.is_open form.old) (F.is_open form.new)) };
 }
 
-/// Structures with attributes in them are printed as bytes.
+/// Prints structures with attributes in them as bytes.
 #[derive(Drop)]
 struct HopsAsBytes;
 
@@ -107,7 +107,7 @@ impl ShowItem for HopsAsBytes {
     }
 }
 
-/// Structures with attributes in them are printed with these.
+/// Prints structures with attributes in them with these.
 #[derive(Drop)]
 struct HopsInFull<'s> {
     context: Context<'s>,
@@ -151,7 +151,7 @@ fn show_list<F: Form, W: Write, S: ShowItem>(
     form.end_list(out)
 }
 
-/// How many bytes a structure and its attributes have, which it states first: as many as there are at most.
+/// The number of bytes of a structure and its attributes, which it states first; at most all of the bytes.
 fn hop_length(bytes: &[u8], least: usize) -> Option<usize>
     ensures few { IfSome result (λ n. n ≤ length bytes.now) }
     ensures size { result ≡ hop_size least bytes.now }
@@ -213,7 +213,7 @@ fn show_hops<F: Form, W: Write>(
     form.end_hops(out, level, is_first, rest)
 }
 
-/// The table of what a message of this protocol and type carries, and its name.
+/// The table of messages of this protocol and type, and its name.
 fn table_of<'t>(
     names: &Names<'t>,
     protocol: u16,
@@ -233,7 +233,7 @@ fn table_of<'t>(
     }
 }
 
-/// The table of a process event, which says at 20 what it is, and its name.
+/// The table of a process event, whose kind stands at place 20, and its name.
 fn event_table<'t>(names: &Names<'t>, payload: &[u8]) -> Option<(&'t str, Table<'t>)> {
     if payload.len() < 24 {
         return None;
@@ -308,13 +308,13 @@ fn show_extended<F: Form, W: Write>(
     }
 }
 
-/// `NLM_F_CAPPED` of `linux/netlink.h`: the request's header alone is echoed.
+/// `NLM_F_CAPPED` of `linux/netlink.h`: only the request's header is echoed.
 const CAPPED: u16 = 0x100;
 
 /// `NLM_F_ACK_TLVS`: attributes follow.
 const ACK_TLVS: u16 = 0x200;
 
-/// Prints the body of a request that is echoed, and answers how long it is.
+/// Prints the body of an echoed request, and returns its length in bytes.
 fn show_echo<F: Form, W: Write>(
     form: &mut F,
     out: &mut W,
@@ -334,7 +334,7 @@ fn show_echo<F: Form, W: Write>(
     Ok(length)
 }
 
-/// Prints the rest of a request that is echoed whole, and answers where it ends in an answer's payload.
+/// Prints the rest of a request that is echoed whole, and returns the place of its end in an answer's payload.
 fn show_whole_request<F: Form, W: Write>(
     form: &mut F,
     out: &mut W,
@@ -352,7 +352,7 @@ fn show_whole_request<F: Form, W: Write>(
     Ok(padded_length(length.saturating_add(20)))
 }
 
-/// Where the attributes of an answer begin in its payload, if it echoes a header alone.
+/// The start of the attributes in an answer's payload, if it echoes only a header.
 fn attributes_start(answer: &Head<'_>, payload: &[u8]) -> usize
     ensures { result ≡ header_end answer.now.flags payload.now }
 {
@@ -363,7 +363,7 @@ fn attributes_start(answer: &Head<'_>, payload: &[u8]) -> usize
     }
 }
 
-/// Prints the request that an answer is for, and answers where the answer's attributes begin in its payload.
+/// Prints the request of an answer, and returns the start of the answer's attributes in its payload.
 fn show_request<F: Form, W: Write>(
     form: &mut F,
     out: &mut W,
@@ -430,7 +430,7 @@ fn show_done<F: Form, W: Write>(
     show_extended(form, out, names, &payload[4..])
 }
 
-/// Prints what a message carries.
+/// Prints the contents of a message.
 fn show_payload<F: Form, W: Write>(
     form: &mut F,
     out: &mut W,
@@ -465,7 +465,7 @@ fn show_message<F: Form, W: Write>(
     form.end(out, 0)
 }
 
-/// Prints the messages of a datagram, and the fault of what follows them; answers whether there is none.
+/// Prints the messages of a datagram, and the fault after them; returns whether there is none.
 pub fn show_datagram<F: Form, W: Write>(
     form: &mut F,
     out: &mut W,

@@ -21,7 +21,7 @@ pub struct Text {
     pub is_coloured: bool,
 }
 
-/// Writes two blanks a level.
+/// Writes two blanks for each level.
 fn indent<W: Write>(out: &mut W, level: usize) -> io::Result<()> {
     for _level in 0..level {
         write!(out, "  ")?;
@@ -29,7 +29,7 @@ fn indent<W: Write>(out: &mut W, level: usize) -> io::Result<()> {
     Ok(())
 }
 
-/// Writes the fields of a structure that are there, each after a blank.
+/// Writes the existing fields of a structure, each after a blank.
 fn write_fields<W: Write>(out: &mut W, structure: &Structure<'_>, bytes: &[u8]) -> io::Result<()> {
     for field in structure.fields {
         if let Some(value) = field_value(field, bytes) {
@@ -63,7 +63,7 @@ fn write_structures<W: Write>(
     Ok(())
 }
 
-/// Writes what an attribute has, after a blank if it has something.
+/// Writes the content of an attribute, after a blank if it has one.
 fn write_content<W: Write>(out: &mut W, content: &Content<'_, '_>) -> io::Result<()> {
     match content {
         Content::Flag => Ok(()),
@@ -77,7 +77,7 @@ fn write_content<W: Write>(out: &mut W, content: &Content<'_, '_>) -> io::Result
 }
 
 impl Text {
-    /// Writes a name, in a colour if there are colours.
+    /// Writes a name, in colour if colours are on.
     fn write_name<W: Write>(self, out: &mut W, colour: &str, name: &str) -> io::Result<()> {
         if self.is_coloured {
             write!(out, "\x1b[{colour}m{name}\x1b[0m")
@@ -86,7 +86,7 @@ impl Text {
         }
     }
 
-    /// Writes the name of an attribute, or its number where it has none, on a line of its own.
+    /// Writes the name of an attribute, or its number if it has none, on a line of its own.
     fn write_step<W: Write>(self, out: &mut W, place: Place, step: &Step<'_>) -> io::Result<()> {
         indent(out, place.level)?;
         match step.name {
@@ -98,7 +98,7 @@ impl Text {
         }
     }
 
-    /// Writes the type of a message by its name, or its number where it has none.
+    /// Writes the type of a message by its name, or its number if it has none.
     fn write_type<W: Write>(self, out: &mut W, head: &Head<'_>) -> io::Result<()> {
         match head.name {
             Some(name) => self.write_name(out, "1;33", name),

@@ -1,4 +1,4 @@
-//! Values: what payloads and fields of structures say.
+//! Values of payloads and of fields of structures.
 
 ghost use Rattle.std.specs.Prelude.{◌≡◌, ◌≢◌, ◌≤◌, ◌<◌, ◌==◌, Some, IfSome, IsNone, IsSomeAnd, drop, length};
 ghost use Rattle.std.specs.Prelude.{slice_range};
@@ -17,7 +17,7 @@ use neli_schema::{Field, FieldKind, Number};
 use std::net::IpAddr;
 use std::{fmt, str};
 
-/// What a payload or a field says.
+/// The value of a payload or a field.
 #[derive(Clone, Copy, Debug)]
 pub enum Value<'b> {
     /// A number without a sign.
@@ -34,7 +34,7 @@ pub enum Value<'b> {
     Bytes(&'b [u8]),
 }
 
-/// The number with a sign that these many bytes at the front are.
+/// The signed number in the first bytes, of this many.
 fn signed_value(bytes: &[u8], size: usize) -> Value<'_>
     requires some { 1 ≤ size }
     requires few { size ≤ 8 }
@@ -45,7 +45,7 @@ fn signed_value(bytes: &[u8], size: usize) -> Value<'_>
     Value::Signed(number)
 }
 
-/// The number at the front of these bytes; bytes where they are too few.
+/// The number at the front of these bytes; bytes if they are too few.
 pub fn number_value(number: Number, bytes: &[u8]) -> Value<'_>
     ensures text { value_text result ≡ Some (number_text number bytes.now) }
     ensures short { length bytes.now < number_size number → result ≡ Value.Bytes bytes.entry }
@@ -68,7 +68,7 @@ pub fn number_value(number: Number, bytes: &[u8]) -> Value<'_>
     }
 }
 
-/// The text that these bytes are; bytes where they are not UTF-8.
+/// The text in these bytes; bytes if they are not UTF-8.
 pub fn text_value(bytes: &[u8]) -> Value<'_>
     ensures text { IsUtf8 bytes.now → value_text result ≡ Some (quoted bytes.now) }
     ensures other { ¬ (IsUtf8 bytes.now) → value_text result ≡ Some (bytes_text bytes.now) }
@@ -88,7 +88,7 @@ fn first_zero(bytes: &[u8]) -> Option<usize>
     bytes.iter().position(|byte| *byte == 0)
 }
 
-/// The bytes before the first zero; all where none is zero.
+/// The bytes before the first zero; all if none is zero.
 fn before_zero(bytes: &[u8]) -> &[u8]
     ensures { result.now ≡ before_first (λ b. b == 0) bytes.now }
 {
@@ -108,7 +108,7 @@ pub fn without_zero(bytes: &[u8]) -> &[u8]
     }
 }
 
-/// The IPv4 address that these four bytes are; bytes where they are not four.
+/// The IPv4 address in these four bytes; bytes if they are not four.
 pub fn ipv4_value(bytes: &[u8]) -> Value<'_>
     ensures four { length bytes.now ≡ 4 → value_text result ≡ Some (ipv4_text bytes.now) }
     ensures other { length bytes.now ≢ 4 → value_text result ≡ Some (bytes_text bytes.now) }
@@ -120,7 +120,7 @@ pub fn ipv4_value(bytes: &[u8]) -> Value<'_>
     }
 }
 
-/// The IPv6 address that these sixteen bytes are; bytes where they are not sixteen.
+/// The IPv6 address in these sixteen bytes; bytes if they are not sixteen.
 pub fn ipv6_value(bytes: &[u8]) -> Value<'_>
     ensures sixteen { length bytes.now ≡ 16
         → value_text result ≡ Some (ipv6_text (segments_of bytes.now)) }
@@ -133,13 +133,13 @@ pub fn ipv6_value(bytes: &[u8]) -> Value<'_>
     }
 }
 
-/// The bytes of a field in a structure that may end early: as many as are there of bytes, and else all or none.
+/// The bytes of a field in a structure that may end early: those that exist for a field of bytes, and else all or none.
 fn field_bytes<'b>(field: &Field<'_>, structure: &'b [u8]) -> Option<&'b [u8]>
     ensures whole { field.now.start ≤ field.now.«end» → field.now.«end» ≤ length structure.now
         → IsSomeAnd result (λ bytes. bytes.now
         ≡ slice_range structure.now field.now.start field.now.«end») }
 
-    // Of a field that is cut off nothing is there, or of bytes those that are left.
+    // A cut-off field has no bytes, or, if it is one of bytes, those that remain.
     ensures cut { length structure.now < field.now.«end» → field.now.kind ≢ FieldKind.Bytes
         → IsNone result }
     ensures past { length structure.now < field.now.«end» → length structure.now ≤ field.now.start
@@ -157,7 +157,7 @@ fn field_bytes<'b>(field: &Field<'_>, structure: &'b [u8]) -> Option<&'b [u8]>
     }
 }
 
-/// What a field of a structure says, if it is there.
+/// The value of a structure's field, if it exists.
 pub fn field_value<'b>(field: &Field<'_>, structure: &'b [u8]) -> Option<Value<'b>> {
     let bytes = field_bytes(field, structure)?;
     Some(match field.kind {

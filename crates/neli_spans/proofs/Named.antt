@@ -18,7 +18,7 @@ apart_tail s (t ∷ ts) h = h.1
 tail_same : (x y : ℕ) (xs ys : List ℕ) → x ∷ xs ≡ y ∷ ys → xs ≡ ys
 tail_same x y xs ys h = cc
 
--- the last span of the first datagram goes
+-- the last span of the first datagram is removed
 pub released_last : (first : ℕ) (d : Datagram) (ds : List Datagram) (s : Span) (ss : List Span) → d.spans ≡ 1
     → SpansNameFrom first (d ∷ ds) (s ∷ ss) → SpansNameFrom (first + 1) ds ss
 released_last first d ds s ss one h = record {
@@ -30,7 +30,7 @@ released_last first d ds s ss one h = record {
   within = λ i j t x at is there. h.within (suc i) (suc j) t x at (omega (arith, is)) there;
 }
 
--- another span of it goes
+-- another span of it is removed
 pub released_one : (first n : ℕ) (d d' : Datagram) (ds : List Datagram) (s : Span) (ss : List Span)
     → d.spans ≡ suc (suc n) → d'.spans ≡ suc n → d'.bytes ≡ d.bytes → SpansNameFrom first (d ∷ ds) (s ∷ ss)
     → SpansNameFrom first (d' ∷ ds) ss
@@ -144,7 +144,7 @@ apart_append serial [] new low of h g = g
 apart_append serial (s ∷ ss) new low of h g = apart_join serial s ss new (low 0 s refl)
     (λ i t at. low (suc i) t at) of h g
 
--- a datagram is kept, with the spans of it after all others
+-- a datagram is added, with its spans after all others
 pub kept : (first : ℕ) (ds ds' : List Datagram) (x : Datagram) (old new : List Span) → ds' ≡ ds ++ x ∷ []
     → first + length ds + 1 < 2 ^ 64 → 0 < x.spans → length new ≡ x.spans
     → AreSpansOf (first + length ds) (length x.bytes.items) new → SpansNameFrom first ds old
@@ -258,7 +258,7 @@ text_set d x d' es items t j is read bytes =
     let same : x ≡ d = (let a = rw is at read in a) in
     rw is (text_head t d d' es j (bytes ∙ ap (λ y. y.bytes) same))
 
--- where no span is left no datagram is
+-- if no span remains, no datagram does
 pub none_named : (first : ℕ) (ds : List Datagram) → SpansNameFrom first ds [] → ds ≡ []
 none_named first [] h = refl
 none_named first (d ∷ ds) h = by d.spans (h.some 0 d refl) h.serials
@@ -267,7 +267,7 @@ none_named first (d ∷ ds) h = by d.spans (h.some 0 d refl) h.serials
     by zero some is = absurd (omega arith)
     by (suc n) some is = cc
 
--- a datagram that is kept leaves the text of each span of before
+-- adding a datagram leaves the text of each earlier span
 pub text_pushed : (first : ℕ) (ds ds' : List Datagram) (x : Datagram) (old : List Span) (i : ℕ) (s : Span)
     → ds' ≡ ds ++ x ∷ [] → SpansNameFrom first ds old → slice_get old i ≡ Some s
     → span_bytes_in s (slice_get ds' (s.datagram - first)) ≡ span_bytes_in s (slice_get ds (s.datagram - first))
@@ -277,7 +277,7 @@ text_pushed first ds ds' x old i s is h at =
     let lt : s.datagram - first < length ds = omega arith in
     rw (is, get_left ds (x ∷ []) (s.datagram - first) lt) refl
 
--- a span of the datagram that is kept means its bytes
+-- a span of the added datagram means its bytes
 pub text_new : (first : ℕ) (ds ds' : List Datagram) (x : Datagram) (s : Span) → ds' ≡ ds ++ x ∷ []
     → s.datagram ≡ first + length ds
     → span_bytes_in s (slice_get ds' (s.datagram - first)) ≡ slice_range x.bytes.items s.start s.end

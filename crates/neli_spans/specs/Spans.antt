@@ -1,4 +1,4 @@
--- Spans: which bytes they mean, and when they name the kept datagrams.
+-- Spans: the bytes that they mean, and when they name the kept datagrams.
 use Rattle.std.specs.Prelude.{ℕ, zero, suc, ◌≡◌, ◌≤◌, ◌<◌, ◌+◌, ◌-◌, ◌^◌, List, [], ◌∷◌, ◌++◌, Option, Some, None}
 use Rattle.std.specs.Prelude.{length, map, slice_range}
 use Rattle.std.specs.List.{slice_get}
@@ -8,9 +8,9 @@ use Rattle.neli_spans.specs.declared.span.Datagram.{Datagram}
 use Rattle.neli_spans.specs.declared.datagrams.Datagrams.{Datagrams}
 use Rattle.neli_spans.specs.Bytes.{byte_count}
 
--- ---- which bytes a span means
+-- ---- the bytes of a span
 
--- those between its ends, of its datagram
+-- those between its bounds, in its datagram
 abbrev pub span_bytes_in : Span → Option Datagram → List ℕ
 span_bytes_in s None = []
 span_bytes_in s (Some d) = slice_range d.bytes.items s.start s.end
@@ -25,13 +25,13 @@ abbrev pub copies : ℕ → ℕ → List ℕ
 copies zero x = []
 copies (suc n) x = x ∷ copies n x
 
--- the serial numbers that the spans name, in their order, where the first one is n: each datagram as often as it
--- has spans
+-- the serial numbers that the spans name, in their order, if the first one is n: each datagram once for each of its
+-- spans
 abbrev pub serials_by_span : ℕ → List Datagram → List ℕ
 serials_by_span n [] = []
 serials_by_span n (d ∷ ds) = copies d.spans n ++ serials_by_span (suc n) ds
 
--- of two neighbours in one datagram the later begins at or after the earlier's end
+-- of two neighbours in one datagram, the later begins at or after the earlier's end
 abbrev pub Apart : Span → List Span → Type 0
 Apart s [] = Unit {0}
 Apart s (t ∷ ts) = (s.datagram ≡ t.datagram → s.end ≤ t.start) × Apart t ts
@@ -41,12 +41,12 @@ abbrev pub AreApart : List Span → Type 0
 AreApart [] = Unit {0}
 AreApart (s ∷ ss) = Apart s ss
 
--- a span ends where its datagram does or before, and begins where it ends or before
+-- a span ends at or before its datagram's end, and begins at or before its own end
 abbrev pub IsWithin : ℕ → Span → Type 0
 IsWithin size s = (s.start ≤ s.end) × (s.end ≤ size)
 
--- the spans name the datagrams from the serial number `first` on, in order and without a gap: the first span the first
--- datagram, each later one the same or the next, the last one the last; and none is kept without a span
+-- the spans name the datagrams from the serial number `first` on, in order and without a gap: the first span names the
+-- first datagram, each later one the same or the next, the last one the last; no datagram is without a span
 pub record SpansNameFrom (first : ℕ) (ds : List Datagram) (ss : List Span) : Type 0 where
   pub fits : first + length ds < 2 ^ 64
   pub serials : map (λ s. s.datagram) ss ≡ serials_by_span first ds
@@ -67,13 +67,13 @@ AreNamed kept = (ss : List Span) × SpansName kept ss
 abbrev pub IsNamed : Datagrams → Span → Type 0
 IsNamed kept s = (ss : List Span) × (i : ℕ) × SpansName kept ss × (slice_get ss i ≡ Some s)
 
--- ---- a datagram that comes
+-- ---- a new datagram
 
 -- its serial number
 abbrev pub next_serial : Datagrams → ℕ
 next_serial kept = kept.first + length kept.list.items
 
--- spans of the one with this serial number and so many bytes, one after the other
+-- spans of the datagram with this serial number and so many bytes, one after the other
 pub record AreSpansOf (serial size : ℕ) (ss : List Span) : Type 0 where
   pub one : (i : ℕ) (s : Span) → slice_get ss i ≡ Some s → (s.datagram ≡ serial) × IsWithin size s
   pub apart : AreApart ss
@@ -86,7 +86,7 @@ pub record HasRoom (size : ℕ) (kept : Datagrams) : Type 0 where
 
 -- ---- the whole
 
--- how many bytes are kept
+-- the number of bytes kept
 abbrev pub bytes_of : Datagrams → ℕ
 bytes_of kept = byte_count kept.list.items
 

@@ -8,7 +8,7 @@ use crate::span::{Datagram, Span};
 use std::alloc::{AllocError, Global};
 use std::collections::VecDeque;
 
-/// The datagrams that spans name, each kept once, by serial numbers without a gap.
+/// The datagrams that spans name, each stored once, by serial numbers without a gap.
 #[derive(Drop)]
 pub struct Datagrams {
     pub(crate) first: u64,
@@ -36,7 +36,7 @@ impl Datagrams {
         }
     }
 
-    /// The serial number of the datagram that is kept next.
+    /// Returns the serial number of the next datagram to keep.
     pub fn next_serial(&self) -> u64
         requires { AreNamed self.now }
         ensures { result ≡ next_serial self.now }
@@ -44,7 +44,7 @@ impl Datagrams {
         self.first + self.list.len() as u64
     }
 
-    /// How many bytes the kept datagrams have; none where no span is left.
+    /// Returns the number of bytes in the kept datagrams; 0 if no span remains.
     pub fn byte_count(&self) -> usize
         ensures bytes { result ≡ bytes_of self.now }
         ensures none { SpansName self.now [] → result ≡ 0 }
@@ -52,10 +52,10 @@ impl Datagrams {
         self.bytes
     }
 
-    /// Makes room for one more datagram, of `size` bytes. Where it is there already, no memory is taken.
+    /// Makes room for one more datagram, of `size` bytes. Takes no memory if the room exists already.
     ///
-    /// Refused where memory runs out, where the next serial number is 2^64 - 1, and where the bytes of all
-    /// datagrams would pass a usize. Nothing else changes in either case.
+    /// Refused if memory runs out, if the next serial number is 2^64 - 1, or if the bytes of all datagrams would exceed
+    /// a `usize`. In each case nothing else changes.
     pub fn reserve(&mut self, size: usize) -> Result<(), AllocError>
         requires { AreNamed self.old }
         ensures unchanged { IsUnchanged self.old self.new }
@@ -68,7 +68,7 @@ impl Datagrams {
         self.list.reserve(1)
     }
 
-    /// Keeps a datagram of which there are so many spans, one at least, where there is room.
+    /// Keeps a datagram that has this many spans, at least one; the room must exist.
     pub fn keep(&mut self, bytes: Vec<u8>, spans: usize)
         requires some { 0 < spans }
         requires room { HasRoom (length bytes.items) self.old }
@@ -87,8 +87,7 @@ impl Datagrams {
         self.bytes += size;
     }
 
-    /// The first span goes, and its datagram where no other span names it. Every other span means the bytes that it
-    /// did.
+    /// Removes the first span, and its datagram if no other span names it. Every other span keeps its bytes.
     pub fn release(&mut self)
         requires { (s : Named) × (ss : List Named) × SpansName self.old (s ∷ ss) }
         ensures names { (s : Named) (ss : List Named) → SpansName self.old (s ∷ ss)
@@ -111,7 +110,7 @@ impl Datagrams {
         }
     }
 
-    /// The bytes that a span means.
+    /// Returns the bytes of a span.
     pub fn span_bytes(&self, s: Span) -> &[u8]
         requires { IsNamed self.now s }
         ensures { result.now ≡ span_bytes self.now s }

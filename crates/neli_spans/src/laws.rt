@@ -6,7 +6,7 @@ ghost use Rattle.neli_spans.specs.declared.span.Span.{Span as Part};
 
 use crate::Span;
 
-/// `==` of spans is true exactly where the two are the same bytes of the same datagram.
+/// `==` of spans is true exactly if both name the same bytes of the same datagram.
 pub fn equality()
     ensures { (a b : Part) → Decides (⟦<Span as PartialEq>⟧.eq a b) (a ≡ b) }
 {}

@@ -1,7 +1,7 @@
-//! Datagrams that are kept once, as long as somebody names a part of them.
+//! Stores each datagram once, as long as a span names a part of it.
 //!
 //! A span names bytes of a kept datagram: the serial number of the datagram, and where its bytes begin and end. Spans
-//! come in the order of the datagrams, and go in that order too:
+//! are added in the order of the datagrams, and removed in that order too:
 //!
 //! ```text
 //!  spans        5:0..16   5:32..48   6:0..20   7:0..16
@@ -9,14 +9,14 @@
 //!  datagrams     5, 48 bytes     6, 20 bytes   7, 16 bytes
 //! ```
 //!
-//! No datagram is kept without a span, and the serial numbers of the kept ones have no gap. A datagram's bytes go with
-//! the last span that names them: with the second one here, those of datagram 5.
+//! No datagram is kept without a span, and the serial numbers of the kept ones have no gap. A datagram's bytes are
+//! freed with the last span that names them: here those of datagram 5 with the second span.
 //!
-//! - [`Span`]: which bytes of which datagram.
-//! - [`Datagrams`]: the kept datagrams, and how many bytes they are.
+//! - [`Span`]: names bytes of one datagram.
+//! - [`Datagrams`]: the kept datagrams, and their number of bytes.
 //! - [`laws`]: `==` of spans is equality.
 //!
-//! `specs/Spans.antt` says when spans name the kept datagrams, and which bytes a span means.
+//! `specs/Spans.antt` defines when spans name the kept datagrams, and the bytes of a span.
 #![tactic(auto)]
 
 mod datagrams;

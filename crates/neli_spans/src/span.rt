@@ -3,7 +3,7 @@
 /// The bytes from `start` up to `end` of the datagram with this serial number.
 #[derive(Clone, Copy, Debug, PartialEq, Eq)]
 pub struct Span {
-    /// The serial number of the datagram: how many were kept before it.
+    /// The serial number of the datagram: the number of datagrams kept before it.
     pub datagram: u64,
     /// Where the bytes begin in the datagram.
     pub start: usize,
@@ -11,7 +11,7 @@ pub struct Span {
     pub end: usize,
 }
 
-/// A datagram, and how many spans of it are left.
+/// A datagram, and the number of its spans that remain.
 #[derive(Drop)]
 pub(crate) struct Datagram {
     pub(crate) bytes: Vec<u8>,

@@ -1,8 +1,8 @@
--- Finding a row by what is seen of it.
+-- Finding a row by its view.
 use Rattle.std.proofs.Common.{◌≡◌, refl, Bool, true, false, List, [], ◌∷◌, Some, map, find, cond}
 use Rattle.std.specs.Option.{option_map}
 
--- what is found first, seen, is what is found first of all that is seen
+-- the view of the first row found is the first view found
 pub find_viewed : {A B : Type 0} (view : A → B) (p : B → Bool) (xs : List A)
     → option_map view (find (λ x. p (view x)) xs) ≡ find p (map view xs)
 find_viewed view p [] = refl

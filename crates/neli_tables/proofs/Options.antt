@@ -15,7 +15,7 @@ Find = Word → List ℕ → Option ℕ
 abbrev Seen : Type 0
 Seen = Setting (List ℕ)
 
--- the options, where this is the next
+-- the options, if this is the next
 abbrev next : Find → List Seen → List (List ℕ) → Result Seen Why → Result (List Seen) Why
 next find before words read =
     and_then (and_then read (once before)) (λ setting. settings_from find (before ++ setting ∷ []) words)

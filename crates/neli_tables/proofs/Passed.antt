@@ -1,4 +1,4 @@
--- Options that were passed, and those to come.
+-- Options read so far, and those to come.
 use Rattle.std.proofs.Common.{Bor, get_or, ◌<◌, ◌≡◌, ◌∙◌, ℕ, ◌+◌, Bool, ◌||◌, ◌&&◌, eqb, List, ◌∷◌, length}
 use Rattle.std.proofs.Common.{drop, map, Option, ap, arith}
 use Rattle.std.proofs.lemmas.List.{drop_more, get_or-map, length-map}
@@ -13,7 +13,7 @@ use Rattle.neli_tables.specs.Settings.{has_slot, setting_seen, slot}
 abbrev Lent : Type 0
 Lent = Setting (Bor (List ℕ))
 
--- what is said of the options from this one on
+-- a statement about the options from this one on
 turn : {R : Type 0} (f : List (Setting (List ℕ)) → R) (whole : R) (settings : List Lent) (i : ℕ) (d : Lent)
     → whole ≡ f (drop i (map setting_seen settings)) → i < length settings
     → whole ≡ f (setting_seen (get_or settings i d) ∷ drop (i + 1) (map setting_seen settings))

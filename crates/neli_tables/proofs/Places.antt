@@ -1,4 +1,4 @@
--- Where lines stand.
+-- The places of lines.
 use Rattle.std.proofs.Common.{Bor, get_or, ◌<◌, ◌≡◌, ◌∙◌, ℕ, ◌+◌, ◌&&◌, cond, List, ◌∷◌, length}
 use Rattle.std.proofs.Common.{drop, map, Option, Ordering, Less, Equal, Greater, Some, refl, sym, ap, arith}
 use Rattle.std.specs.Cmp.Lexicographic.{slice_cmp}
@@ -16,7 +16,7 @@ then_eq Less b = refl
 then_eq Equal b = refl
 then_eq Greater b = refl
 
--- two keys are the same where both their texts are
+-- two keys are the same if both their texts are
 pub same_key : (first name w n : List ℕ)
     → is_eq (ordering_then (slice_cmp nat_cmp first w) (slice_cmp nat_cmp name n)) ≡ (bytes_eq first w && bytes_eq name n)
 same_key first name w n =
@@ -48,7 +48,7 @@ Key = Bor (List ℕ) × Bor (List ℕ)
 abbrev key_cmp : Key → Key → Ordering
 key_cmp x y = ordering_then (slice_cmp nat_cmp x.0.now y.0.now) (slice_cmp nat_cmp x.1.now y.1.now)
 
--- what is found once a line is noted
+-- the result of a search once a line is noted
 pub place_noted : (w : Word) (name : List ℕ) (place : ℕ) (words : List (List ℕ)) (key : Key)
     (found before : Option ℕ) → Some (head_seen key) ≡ head_of words
     → found ≡ cond (is_eq (ordering_then (slice_cmp nat_cmp key.0.now (word_text w)) (slice_cmp nat_cmp key.1.now name)))

@@ -32,7 +32,7 @@ before_more : (lines : List LineSeen) (read : LineSeen) (later : Outcome)
 before_more lines read (Ok others) = ap Ok (sym (append_assoc lines (read ∷ []) others))
 before_more lines read (Err refused) = refl
 
--- what follows the next line
+-- the lines after the next one
 abbrev next : Find → Option Word → ℕ → List (ℕ × List (List ℕ)) → Result LineSeen Why → Outcome
 next find section number others read =
     with_line number read (λ line. lines_from find (section_after section line.word) others)
@@ -57,7 +57,7 @@ pass_bad find whole lines section worded i x w said within at is =
     turn find whole lines section worded i x said within at
     ∙ ap (λ read. before lines (next find section x.number (drop (i + 1) (map worded_seen worded)) read)) is
 
--- the line of these words is not read
+-- the line of these words is refused
 pub pass_unread : (find : Find) (whole : Outcome) (lines : List LineSeen) (section : Option Word) (worded : List Worded)
     (i : ℕ) (x : Worded) (words : List (Bor (List ℕ))) (unread : Unread)
     → whole ≡ before lines (lines_from find section (drop i (map worded_seen worded))) → i < length worded
@@ -81,7 +81,7 @@ pass_read find whole lines section worded i x read said within at is =
     ∙ ap (λ r. before lines (next find section x.number (drop (i + 1) (map worded_seen worded)) r)) is
     ∙ before_more lines read (lines_from find (section_after section read.word) (drop (i + 1) (map worded_seen worded)))
 
--- the lines of a text, where the places are found
+-- the lines of a text, with the places found
 pub found_so : (find places : Find) (section : Option Word) (lines : List (ℕ × List (List ℕ)))
     → ((w : Word) (name : List ℕ) → find w name ≡ places w name) → lines_from find section lines ≡ lines_from places section lines
 found_so find places section lines same = ap (λ f. lines_from f section lines) (fun_ext (λ w. fun_ext (λ name. same w name)))

@@ -1,11 +1,11 @@
--- The options of a line, but for its kind (docs/TABLES.md).
+-- The options of a line, except its kind (docs/TABLES.md).
 use Rattle.std.specs.Prelude.{ℕ, List, [], ◌∷◌, Option, codes}
 use Rattle.neli_tables.specs.declared.key.Key.{Key}
 use Rattle.neli_tables.specs.declared.key.Key.TheVariants.{After, By, ByFamily, Enum, Flags, Array, Multi, Length, Range}
 use Rattle.neli_tables.specs.declared.key.Key.TheVariants.{Mask, Hex, Request, Reply, Family, Version, Id, At, Prefix}
 use Rattle.neli_tables.specs.Rows.{named}
 
--- each name, and what it says
+-- each name, and its option
 unfoldable pub keys : List (List ℕ × Key)
 keys =
     (codes "after", After) ∷
@@ -28,6 +28,6 @@ keys =
     (codes "prefix", Prefix) ∷
     []
 
--- what this name says
+-- the option with this name
 abbrev pub key_named : List ℕ → Option Key
 key_named name = named keys name

@@ -1,4 +1,4 @@
--- What a payload, a field, a body or a case is (docs/TABLES.md).
+-- The kinds of a payload, a field, a body or a case (docs/TABLES.md).
 use Rattle.std.specs.Prelude.{ℕ, List, [], ◌∷◌, Option, codes}
 use Rattle.neli_tables.specs.declared.kind.Kind.{Kind}
 use Rattle.neli_tables.specs.declared.kind.Kind.TheVariants.{Flag, U8, U16, U32, U64, S8, S16, S32, S64, Be16, Be32, Be64, Sbe32}
@@ -6,7 +6,7 @@ use Rattle.neli_tables.specs.declared.kind.Kind.TheVariants.{Uint, Sint, Text, Z
 use Rattle.neli_tables.specs.declared.kind.Kind.TheVariants.{Uuid, Bits, Struct, Nest, Hops, Choice, Bytes, Pad}
 use Rattle.neli_tables.specs.Rows.{named}
 
--- each name, and what it says
+-- each name, and its kind
 unfoldable pub kinds : List (List ℕ × Kind)
 kinds =
     (codes "flag", Flag) ∷
@@ -42,6 +42,6 @@ kinds =
     (codes "pad", Pad) ∷
     []
 
--- what this name says
+-- the kind with this name
 abbrev pub kind_named : List ℕ → Option Kind
 kind_named name = named kinds name

@@ -1,4 +1,4 @@
--- A line, as its words say it.
+-- A line, read from its words.
 use Rattle.std.specs.Prelude.{ℕ, Bool, true, false, ◌&&◌, ◌==◌, nat_le, if◌then◌else◌, List, [], ◌∷◌, drop}
 use Rattle.std.specs.Prelude.{slice_index, Option, Some, None, Result, Ok, Err}
 use Rattle.std.specs.List.{list_all}
@@ -26,7 +26,7 @@ use Rattle.neli_tables.specs.Words.{word_named}
 
 -- ---- the number after a name
 
--- which numbers lines with this first word have
+-- the numbers that lines with this first word have
 abbrev pub numbers_of : Word → Numbers
 numbers_of word.Set = numbers.Never
 numbers_of word.Each = numbers.Never
@@ -43,7 +43,7 @@ numbers_of word.Attr = numbers.One
 numbers_of word.Value = numbers.One
 numbers_of word.Field = numbers.Range
 
--- one number, and no longer range
+-- one number, not a range of several
 abbrev pub single : Span → Result Span Why
 single span = if span.first == span.last then Ok span else Err why.NotANumber
 
@@ -74,17 +74,17 @@ number_if n (Some span) = as_number (number_allowed n span)
 abbrev pub number_at : Numbers → List ℕ → Result (Option Span) Why
 number_at n w = number_if n (span_of w)
 
--- the number of a line, where these words follow its name
+-- the number of a line, if these words follow its name
 abbrev pub number_in : Numbers → List (List ℕ) → Result (Option Span) Why
 number_in n [] = no_number n
 number_in n (w ∷ ws) = if is_countable w then number_at n w else no_number n
 
--- the words after the number, where there is one
+-- the words after the number, if there is one
 abbrev pub after_number : List (List ℕ) → Option Span → List (List ℕ)
 after_number ws None = ws
 after_number ws (Some span) = drop 1 ws
 
--- ---- which options stand on a line
+-- ---- the options that a line may have
 
 abbrev pub kind_said : Said → Option Kind
 kind_said (said.Kind k) = Some k
@@ -181,7 +181,7 @@ has_values word.Enum = true
 has_values word.Flags = true
 has_values w = false
 
--- an option that is no kind stands on such a line, with a kind of this class
+-- whether an option that is no kind may stand on such a line, with a kind of this class
 abbrev pub key_belongs : Word → Class → Key → Bool
 key_belongs w c key.After = is_nest c
 key_belongs w c key.By = is_choice c
@@ -206,13 +206,13 @@ abbrev pub belongs : Word → Class → Said → Bool
 belongs w c (said.Kind k) = has_kind w
 belongs w c (said.Key k) = key_belongs w c k
 
--- all these options stand on such a line
+-- whether all these options may stand on such a line
 abbrev pub all_belong : Word → Class → List (Setting (List ℕ)) → Bool
 all_belong w c settings = list_all (λ (setting : Setting (List ℕ)). belongs w c setting.said) settings
 
 -- ---- a line
 
--- what is seen of a line
+-- the view of a line
 pub record LineSeen : Type 0 where
   pub number : ℕ
   pub word : Word
@@ -229,14 +229,14 @@ line_seen line = record {
   settings = settings_seen line.settings;
 }
 
--- a line with these options, where all of them stand on such a line
+-- a line with these options, if all of them may stand on it
 abbrev pub line_of : ℕ → Word → List ℕ → Option Span → List (Setting (List ℕ)) → Result LineSeen Why
 line_of number w name span settings =
     if all_belong w (class_of (kind_in settings)) settings
     then Ok (record { number = number; word = w; name = name; span = span; settings = settings })
     else Err why.OptionElsewhere
 
--- the line that has this first word, this name, and these words after it: its number, and its options
+-- the line with this first word, this name, and these words after it: its number, and its options
 abbrev pub line_with : (Word → List ℕ → Option ℕ) → ℕ → Word → List ℕ → List (List ℕ) → Result LineSeen Why
 line_with find number w name words =
     and_then (number_in (numbers_of w) words) (λ span.

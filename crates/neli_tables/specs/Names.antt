@@ -1,4 +1,4 @@
--- Where the lines stand that others refer to.
+-- The places of the lines that others refer to.
 use Rattle.std.specs.Prelude.{ℕ, ◌+◌, Bool, false, ◌&&◌, if◌then◌else◌, List, [], ◌∷◌, Option, Some, None, codes}
 use Rattle.std.specs.BTreeMap.{get_by}
 use Rattle.std.specs.Borrow.{Bor}
@@ -26,7 +26,7 @@ word_text word.Enum = codes "enum"
 word_text word.Flags = codes "flags"
 word_text word.Value = codes "value"
 
--- what names have at a first word and a name
+-- the state of the names at a first word and a name
 abbrev pub finds : Names → Word → List ℕ → Option ℕ
 finds names w name =
     get_by (λ (k : Bor (List ℕ) × Bor (List ℕ)).
@@ -45,11 +45,11 @@ abbrev pub is_head : Word → List ℕ → Option (List ℕ × List ℕ) → Boo
 is_head w name (Some head) = bytes_eq head.0 (word_text w) && bytes_eq head.1 name
 is_head w name None = false
 
--- this place, where the line of these words is meant, or else a later one
+-- this place, if the line of these words is the wanted one, or else a later one
 abbrev pub place_before : Word → List ℕ → ℕ → List (List ℕ) → Option ℕ → Option ℕ
 place_before w name place words later = if is_head w name (head_of words) then Some place else later
 
--- the place of the first of these lines with this first word and this name, where the first line has this place
+-- the place of the first of these lines with this first word and this name; the first line has this place
 abbrev pub place_in : Word → List ℕ → ℕ → List (ℕ × List (List ℕ)) → Option ℕ
 place_in w name place [] = None
 place_in w name place (line ∷ lines) = place_before w name place line.1 (place_in w name (place + 1) lines)

@@ -4,13 +4,13 @@ use Rattle.std.specs.Prelude.{take, drop, slice_index, Option, Some, None, fold}
 use Rattle.std.specs.List.{position}
 use Rattle.neli_tables.specs.declared.number.Span.{Span}
 
--- what a digit counts: `0` to `9`, and `a` to `f`
+-- the value of a digit: `0` to `9`, and `a` to `f`
 abbrev pub digit_of : ℕ → Option ℕ
 digit_of c =
     if nat_le 48 c && nat_le c 57 then Some (c - 48)
     else (if nat_le 97 c && nat_le c 102 then Some (c - 97 + 10) else None)
 
--- a number with one digit more, where that is a digit of the base, and the number has 64 bits at most
+-- a number with one digit more, if that is a digit of the base, and the number has at most 64 bits
 abbrev pub and_digit : ℕ → Option ℕ → Option ℕ → Option ℕ
 and_digit base (Some number) (Some digit) =
     if nat_lt digit base && nat_lt (number * base + digit) (2 ^ 64) then Some (number * base + digit) else None
@@ -19,7 +19,7 @@ and_digit base number digit = None
 abbrev pub with_digit : ℕ → Option ℕ → ℕ → Option ℕ
 with_digit base number c = and_digit base number (digit_of c)
 
--- the number that one digit or more of this base write
+-- the number in one or more digits of this base
 abbrev pub digits_in : ℕ → List ℕ → Option ℕ
 digits_in base digits = if length digits == 0 then None else fold (with_digit base) (Some 0) digits
 
@@ -29,7 +29,7 @@ number_of word =
     if nat_le 2 (length word) && ((slice_index word 0 == 48) && (slice_index word 1 == 120))
     then digits_in 16 (drop 2 word) else digits_in 10 word
 
--- from one number to another, where they are in order
+-- from one number to another, if they are in order
 abbrev pub ordered : Option ℕ → Option ℕ → Option Span
 ordered (Some first) (Some last) = if nat_le first last then Some (record { first = first; last = last }) else None
 ordered first last = None

@@ -1,4 +1,4 @@
--- Why texts are not read, and what is printed of it.
+-- Why texts are not read, and the printed text of each refusal.
 use Rattle.std.specs.Prelude.{⊤, ◌≡◌, ℕ, List, codes, Result, Ok, Err}
 use Rattle.neli_tables.specs.declared.why.Unread.{Unread}
 use Rattle.neli_tables.specs.declared.why.Unread.TheVariants.{Memory, Refused}
@@ -21,18 +21,18 @@ why_text FamilyFirst = codes "the family comes first, and once"
 why_text RowElsewhere = codes "a row that does not belong here"
 why_text NothingNamed = codes "a name that no such line has"
 
--- what stands there is read, as it is seen, or refused; or memory ran out
+-- the call returns a value with this view, or this refusal; or it runs out of memory
 abbrev pub Reads : {A B : Type 0} → (A → B) → Result B Why → Result A Unread → Type 0
 Reads seen said (Ok read) = said ≡ Ok (seen read)
 Reads seen said (Err (Refused why)) = said ≡ Err why
 Reads seen said (Err Memory) = ⊤
 
--- what is seen of what is read, or the refusal
+-- the view of a value, or the refusal
 abbrev pub seen_as : {A B : Type 0} → (A → B) → Result A Why → Result B Why
 seen_as seen (Ok read) = Ok (seen read)
 seen_as seen (Err why) = Err why
 
--- what follows from what is read, or its refusal
+-- the next step with a value, or its refusal
 abbrev pub and_then : {A B : Type 0} → Result A Why → (A → Result B Why) → Result B Why
 and_then (Ok read) next = next read
 and_then (Err why) next = Err why

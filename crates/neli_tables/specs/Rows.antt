@@ -4,10 +4,10 @@ use Rattle.std.specs.Borrow.{Bor}
 use Rattle.std.specs.Option.{option_map}
 use Rattle.std.specs.Str.{bytes_eq}
 
--- what is seen of a row: its name, and what it says
+-- the view of a row: its name, and its value
 abbrev pub row_seen : {V : Type 0} → Bor (List ℕ) × V → List ℕ × V
 row_seen row = (row.0.now, row.1)
 
--- what the first row with this name says
+-- the value of the first row with this name
 abbrev pub named : {V : Type 0} → List (List ℕ × V) → List ℕ → Option V
 named rows name = option_map (λ row. row.1) (find (λ row. bytes_eq row.0 name) rows)

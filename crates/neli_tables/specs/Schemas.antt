@@ -1,4 +1,4 @@
--- A text of a family: its lines, each in its place, or its first bad line.
+-- A text of a family: its lines, each in a valid place, or its first bad line.
 use Rattle.std.specs.Prelude.{⊤, ◌≡◌, ℕ, Bool, true, false, if◌then◌else◌, List, [], ◌∷◌, ◌++◌, codes, Option, Some, None}
 use Rattle.std.specs.Prelude.{Result, Ok, Err}
 use Rattle.std.specs.Fmt.{decimal}
@@ -15,7 +15,7 @@ use Rattle.neli_tables.specs.Names.{place_in}
 use Rattle.neli_tables.specs.Refusals.{and_then, why_text}
 use Rattle.neli_tables.specs.Text.{worded_in}
 
--- ---- which lines stand below which
+-- ---- the lines that may stand below others
 
 -- the section that the lines below belong to: that of a row, or the one that begins
 abbrev pub section_after : Option Word → Word → Option Word
@@ -39,7 +39,7 @@ abbrev pub is_choice : Word → Bool
 is_choice word.Choice = true
 is_choice w = false
 
--- a row stands in a section of its sort
+-- a row stands in a section of its kind
 abbrev pub row_fits : Word → Word → Bool
 row_fits section word.Value = has_values section
 row_fits section word.Field = is_struct section
@@ -65,7 +65,7 @@ abbrev pub placed : Option Why → LineSeen → Result LineSeen Why
 placed None line = Ok line
 placed (Some w) line = Err w
 
--- the line of these words, where it stands in its place
+-- the line of these words, if its place is valid
 abbrev pub line_at : (Word → List ℕ → Option ℕ) → Option Word → ℕ → List (List ℕ) → Result LineSeen Why
 line_at find section number words =
     and_then (line_in find number words) (λ line. placed (place_fault section line.word) line)
@@ -75,7 +75,7 @@ abbrev pub before : List LineSeen → Result (List LineSeen) (ℕ × Why) → Re
 before lines (Ok others) = Ok (lines ++ others)
 before lines (Err refused) = Err refused
 
--- a line, and what follows it; or its number, and why it is refused
+-- a line, and those after it; or its number, and why it is refused
 abbrev pub with_line : ℕ → Result LineSeen Why → (LineSeen → Result (List LineSeen) (ℕ × Why))
     → Result (List LineSeen) (ℕ × Why)
 with_line number (Err w) others = Err (number, w)
@@ -95,7 +95,7 @@ table_in text = lines_from (λ w name. place_in w name 0 (worded_in text)) None 
 
 -- ---- why a text is not read
 
--- what is reported where the line with this number is not read
+-- the reported refusal of the line with this number
 abbrev pub error_at : ℕ → Unread → ReadError
 error_at number (unread.Refused w) = Line number w
 error_at number unread.Memory = Memory

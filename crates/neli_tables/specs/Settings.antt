@@ -1,4 +1,4 @@
--- The options of lines: what each says and takes.
+-- The options of lines, with the values that they take.
 use Rattle.std.specs.Prelude.{ℕ, ◌+◌, Bool, ◌==◌, if◌then◌else◌, List, [], ◌∷◌, ◌++◌, length, map, take, drop}
 use Rattle.std.specs.Prelude.{Option, Some, None, Result, Ok, Err}
 use Rattle.std.specs.Borrow.{Bor}
@@ -26,9 +26,9 @@ use Rattle.neli_tables.specs.Kinds.{kind_named}
 use Rattle.neli_tables.specs.Numbers.{span_of}
 use Rattle.neli_tables.specs.Refusals.{and_then}
 
--- ---- what options say and take
+-- ---- the meaning and the value of an option
 
--- what the option with this name says: a kind, or something else
+-- the meaning of the option with this name: a kind, or something else
 abbrev pub kind_or_key : Option Kind → Option Key → Option Said
 kind_or_key (Some k) other = Some (said.Kind k)
 kind_or_key None other = option_map said.Key other
@@ -58,7 +58,7 @@ key_takes key.Id = asks.Span
 key_takes key.At = asks.Span
 key_takes k = asks.Nothing
 
--- what an option takes after a `=`
+-- the value that an option takes after a `=`
 abbrev pub takes : Said → Takes
 takes (said.Kind k) = kind_takes k
 takes (said.Key k) = key_takes k
@@ -94,12 +94,12 @@ abbrev pub span_value : Option Span → Result (Value (List ℕ)) Why
 span_value (Some span) = Ok (value.Span span)
 span_value None = Err why.NotANumber
 
--- the line that is meant
+-- the line that the name refers to
 abbrev pub line_value : Option ℕ → Result (Value (List ℕ)) Why
 line_value (Some place) = Ok (value.Line place)
 line_value None = Err why.NothingNamed
 
--- in the following `find` is where a line with a first word and a name stands
+-- below, `find` returns the place of the line with a first word and a name
 
 abbrev pub taken : (Word → List ℕ → Option ℕ) → Takes → List ℕ → Result (Value (List ℕ)) Why
 taken find asks.Nothing word = Err why.Value
@@ -107,11 +107,11 @@ taken find (asks.Line first) word = line_value (find first word)
 taken find asks.Word word = Ok (value.Word word)
 taken find asks.Span word = span_value (span_of word)
 
--- the value that stands after a `=`
+-- the value after a `=`
 abbrev pub value_in : (Word → List ℕ → Option ℕ) → Takes → List ℕ → Result (Value (List ℕ)) Why
 value_in find t word = if length word == 0 then Err why.Value else taken find t word
 
--- where no value stands, the option takes none
+-- without a value, the option must take none
 abbrev pub without_value : Takes → Result (Value (List ℕ)) Why
 without_value asks.Nothing = Ok value.Nothing
 without_value t = Err why.Value
@@ -125,7 +125,7 @@ said_with find None word = Err why.UnknownOption
 said_with find (Some s) word =
     and_then (value_or_none find (takes s) word) (λ v. Ok (record { said = s; value = v }))
 
--- the option with this name, and what stands after its `=`
+-- the option with this name, and the text after its `=`
 abbrev pub setting_with : (Word → List ℕ → Option ℕ) → List ℕ → Option (List ℕ) → Result (Setting (List ℕ)) Why
 setting_with find name word = said_with find (said_named name) word
 
@@ -133,13 +133,13 @@ abbrev pub setting_at : (Word → List ℕ → Option ℕ) → List ℕ → Opti
 setting_at find word None = setting_with find word None
 setting_at find word (Some at) = setting_with find (take at word) (Some (drop (at + 1) word))
 
--- the option that a word says: its name, up to the first `=`, and its value
+-- the option in a word: its name, up to the first `=`, and its value
 abbrev pub setting_in : (Word → List ℕ → Option ℕ) → List ℕ → Result (Setting (List ℕ)) Why
 setting_in find word = setting_at find word (position (λ b. b == 61) word)
 
 -- ---- the options of a line
 
--- one of these has the number of this one
+-- one of these has the same number as this one
 abbrev pub has_slot : List (Setting (List ℕ)) → Said → Bool
 has_slot settings s = list_any (λ (setting : Setting (List ℕ)). slot setting.said == slot s) settings
 
@@ -147,7 +147,7 @@ has_slot settings s = list_any (λ (setting : Setting (List ℕ)). slot setting.
 abbrev pub once : List (Setting (List ℕ)) → Setting (List ℕ) → Result (Setting (List ℕ)) Why
 once before setting = if has_slot before setting.said then Err why.Twice else Ok setting
 
--- these options, and those that the words say, each of which stands once; or why the first is refused that is
+-- these options, and those in the words, each once; or why the first bad one is refused
 abbrev pub settings_from : (Word → List ℕ → Option ℕ) → List (Setting (List ℕ)) → List (List ℕ)
     → Result (List (Setting (List ℕ))) Why
 settings_from find before [] = Ok before
@@ -158,7 +158,7 @@ settings_from find before (word ∷ words) =
 abbrev pub settings_in : (Word → List ℕ → Option ℕ) → List (List ℕ) → Result (List (Setting (List ℕ))) Why
 settings_in find words = settings_from find [] words
 
--- ---- what is seen
+-- ---- views
 
 abbrev pub value_seen : Value (Bor (List ℕ)) → Value (List ℕ)
 value_seen value.Nothing = value.Nothing

@@ -3,11 +3,11 @@ use Rattle.std.specs.Prelude.{ℕ, ◌+◌, Bool, ◌==◌, if◌then◌else◌,
 use Rattle.std.specs.List.{slice_split}
 use Rattle.neli_tables.specs.declared.text.Worded.{Worded}
 
--- a word that starts a comment begins with `#`
+-- a word that begins with `#` starts a comment
 abbrev pub begins_comment : List ℕ → Bool
 begins_comment word = slice_index word 0 == 35
 
--- the words among what stands between blanks: what is not empty, up to a comment
+-- the words among the parts between blanks: those that are not empty, up to a comment
 abbrev pub words_among : List (List ℕ) → List (List ℕ)
 words_among [] = []
 words_among (part ∷ parts) =
@@ -18,20 +18,20 @@ words_among (part ∷ parts) =
 abbrev pub words_in : List ℕ → List (List ℕ)
 words_in line = words_among (slice_split (λ b. b == 32) line)
 
--- a line's number and its words, before those of the other lines, where it has words
+-- a line's number and its words, if it has words, before those of the other lines
 abbrev pub with_words : ℕ → List (List ℕ) → List (ℕ × List (List ℕ)) → List (ℕ × List (List ℕ))
 with_words number [] others = others
 with_words number (word ∷ words) others = (number, word ∷ words) ∷ others
 
--- of these lines, the first of them with this number, those that have words
+-- of these lines, the first of them with this number, those with words
 abbrev pub worded_from : ℕ → List (List ℕ) → List (ℕ × List (List ℕ))
 worded_from number [] = []
 worded_from number (line ∷ lines) = with_words number (words_in line) (worded_from (number + 1) lines)
 
--- the lines of a text that have words, counted from 1
+-- the lines of a text with words, counted from 1
 abbrev pub worded_in : List ℕ → List (ℕ × List (List ℕ))
 worded_in text = worded_from 1 (slice_split (λ b. b == 10) text)
 
--- what is seen of such a line
+-- the view of such a line
 abbrev pub worded_seen : Worded → ℕ × List (List ℕ)
 worded_seen line = (line.number, map (λ word. word.now) line.words.items)

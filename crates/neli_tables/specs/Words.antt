@@ -5,7 +5,7 @@ use Rattle.neli_tables.specs.declared.word.Word.TheVariants.{Family, Group, Mess
 use Rattle.neli_tables.specs.declared.word.Word.TheVariants.{Case, Else, Enum, Flags, Value}
 use Rattle.neli_tables.specs.Rows.{named}
 
--- each name, and what it says
+-- each first word, and its line
 unfoldable pub words : List (List ℕ × Word)
 words =
     (codes "family", Family) ∷
@@ -24,6 +24,6 @@ words =
     (codes "value", Value) ∷
     []
 
--- what this name says
+-- the line with this first word
 abbrev pub word_named : List ℕ → Option Word
 word_named name = named words name

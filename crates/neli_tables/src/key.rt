@@ -1,4 +1,4 @@
-//! The options of a line, but for its kind.
+//! The options of a line, except its kind.
 
 ghost use Rattle.std.specs.Prelude.{◌≡◌, map};
 ghost use Rattle.neli_tables.specs.Rows.{row_seen};
@@ -6,7 +6,7 @@ ghost use Rattle.neli_tables.specs.Keys.{key_named, keys};
 
 use crate::rows::row_named;
 
-/// An option of a line, but for its kind.
+/// An option of a line, except its kind.
 #[derive(Clone, Copy, Debug, PartialEq, Eq)]
 pub enum Key {
     /// `after`. The structure before the attributes.
@@ -19,11 +19,11 @@ pub enum Key {
     Enum,
     /// `flags`. The names of the value's bits.
     Flags,
-    /// `array`. One after the other, as many as there are.
+    /// `array`. Values one after the other, up to the end.
     Array,
-    /// `multi`. The attribute may stand several times.
+    /// `multi`. The attribute may occur several times.
     Multi,
-    /// `length`. The least and the largest length, in bytes.
+    /// `length`. The least and the largest length in bytes.
     Length,
     /// `range`. The least and the largest value.
     Range,
@@ -39,15 +39,15 @@ pub enum Key {
     Family,
     /// `version`. The version of generic netlink.
     Version,
-    /// `id`. The family's number, where that is fixed.
+    /// `id`. The family's number, if it is fixed.
     Id,
-    /// `at`. The bytes of the body in which the message's number stands.
+    /// `at`. The bytes of the body that hold the message's number.
     At,
-    /// `prefix`. What the header's names begin with.
+    /// `prefix`. The prefix of the header's names.
     Prefix,
 }
 
-/// Each option, and what it says.
+/// Each name, and its option.
 static KEYS: [(&[u8], Key); 18] = [
     (b"after", Key::After),
     (b"by", Key::By),
@@ -77,7 +77,7 @@ fn key_rows() -> &'static [(&'static [u8], Key)]
     &KEYS
 }
 
-/// The option with this name.
+/// Returns the option with this name.
 pub(crate) fn key_named(name: &[u8]) -> Option<Key>
     ensures { result ≡ key_named name.now }
 {

@@ -1,4 +1,4 @@
-//! What a payload, a field, a body or a case is.
+//! The kinds of a payload, a field, a body or a case.
 
 ghost use Rattle.std.specs.Prelude.{◌≡◌, map};
 ghost use Rattle.neli_tables.specs.Rows.{row_seen};
@@ -6,10 +6,10 @@ ghost use Rattle.neli_tables.specs.Kinds.{kind_named, kinds};
 
 use crate::rows::row_named;
 
-/// What a payload, a field, a message's body or a case is.
+/// The kind of a payload, a field, a message's body or a case.
 #[derive(Clone, Copy, Debug, PartialEq, Eq)]
 pub enum Kind {
-    /// `flag`. Nothing: that the attribute is there says all.
+    /// `flag`. Nothing: the presence of the attribute is its meaning.
     Flag,
     /// `u8`. 8 bits, no sign.
     U8,
@@ -39,7 +39,7 @@ pub enum Kind {
     Uint,
     /// `sint`. A number of 4 or 8 bytes with a sign.
     Sint,
-    /// `text`. A text; a zero at its end may be left out.
+    /// `text`. A text; the zero at its end is optional.
     Text,
     /// `ztext`. A text with a zero at its end.
     Ztext,
@@ -57,7 +57,7 @@ pub enum Kind {
     Sockaddr,
     /// `uuid`. 16 bytes.
     Uuid,
-    /// `bits`. `struct nla_bitfield32`: bits, and which of them count.
+    /// `bits`. `struct nla_bitfield32`: bits, and the mask of those that count.
     Bits,
     /// `struct`. The fields of a structure.
     Struct,
@@ -65,7 +65,7 @@ pub enum Kind {
     Nest,
     /// `hops`. Structures that state their length, each followed by attributes of a set.
     Hops,
-    /// `choice`. What a choice picks.
+    /// `choice`. The kind that a choice picks.
     Choice,
     /// `bytes`. Bytes.
     Bytes,
@@ -73,7 +73,7 @@ pub enum Kind {
     Pad,
 }
 
-/// Each kind, and what it says.
+/// Each name, and its kind.
 static KINDS: [(&[u8], Kind); 31] = [
     (b"flag", Kind::Flag),
     (b"u8", Kind::U8),
@@ -116,7 +116,7 @@ fn kind_rows() -> &'static [(&'static [u8], Kind)]
     &KINDS
 }
 
-/// The kind with this name.
+/// Returns the kind with this name.
 pub(crate) fn kind_named(name: &[u8]) -> Option<Kind>
     ensures { result ≡ kind_named name.now }
 {

@@ -1,4 +1,4 @@
-//! A line, as its words say it.
+//! A line, read from its words.
 
 ghost use Rattle.std.specs.Prelude.{◌≡◌, map};
 ghost use Rattle.neli_tables.specs.Lines.{after_number, all_belong, belongs, class_of, is_countable, key_belongs};
@@ -22,17 +22,17 @@ use std::alloc::Global;
 pub struct Line<'t> {
     /// Its number in the text, counted from 1.
     pub number: usize,
-    /// What it is.
+    /// Its kind, by its first word.
     pub word: Word,
     /// Its name.
     pub name: &'t [u8],
-    /// The number after its name, or the range; `None` where it has none.
+    /// The number after its name, or the range; `None` if it has none.
     pub span: Option<Span>,
     /// Its options, in order.
     pub settings: Vec<Setting<&'t [u8]>>,
 }
 
-/// Which numbers lines have after their names.
+/// The numbers that lines have after their names.
 #[derive(Clone, Copy, Debug, PartialEq, Eq)]
 pub(crate) enum Numbers {
     /// None.
@@ -45,7 +45,7 @@ pub(crate) enum Numbers {
     Range,
 }
 
-/// Which numbers lines with this first word have.
+/// Returns the numbers that lines with this first word have.
 fn numbers_of(word: Word) -> Numbers
     ensures { result ≡ numbers_of word }
 {
@@ -59,7 +59,7 @@ fn numbers_of(word: Word) -> Numbers
     }
 }
 
-/// The number of a line that has a word in the place of a number.
+/// Checks the number of a line that has one.
 fn number_allowed(numbers: Numbers, span: Span) -> Result<Span, Why>
     ensures { result ≡ number_allowed numbers span }
 {
@@ -76,7 +76,7 @@ fn number_allowed(numbers: Numbers, span: Span) -> Result<Span, Why>
     }
 }
 
-/// The number of a line that has none.
+/// Checks that a line may lack its number.
 fn no_number(numbers: Numbers) -> Result<Option<Span>, Why>
     ensures { result ≡ no_number numbers }
 {
@@ -109,7 +109,7 @@ fn number_at(numbers: Numbers, word: &[u8]) -> Result<Option<Span>, Why>
     }
 }
 
-/// The number after a name, where these words follow it.
+/// The number after a name, if these words follow it.
 fn number_in(numbers: Numbers, words: &[&[u8]]) -> Result<Option<Span>, Why>
     ensures { result ≡ number_in numbers (map (λ word. word.now) words.now) }
 {
@@ -119,7 +119,7 @@ fn number_in(numbers: Numbers, words: &[&[u8]]) -> Result<Option<Span>, Why>
     }
 }
 
-/// The kind that an option says.
+/// The kind in an option.
 fn kind_said(said: Said) -> Option<Kind>
     ensures { result ≡ kind_said said }
 {
@@ -141,18 +141,18 @@ fn kind_in(settings: &[Setting<&[u8]>]) -> Option<Kind>
     None
 }
 
-/// What an option asks of the kind beside it.
+/// What an option requires of the kind beside it.
 #[derive(Clone, Copy, Debug, PartialEq, Eq)]
 pub(crate) enum Class {
     /// A number.
     Number,
     /// A nest, or hops.
     Nest,
-    /// What a choice picks.
+    /// The kind that a choice picks.
     Choice,
     /// A structure.
     Struct,
-    /// Bits, with those that count.
+    /// Bits, with the mask of those that count.
     Bits,
     /// Bytes.
     Bytes,
@@ -183,7 +183,7 @@ fn class_of(kind: Option<Kind>) -> Class
     }
 }
 
-/// Whether an option stands on a line with this first word and a kind of this class.
+/// Whether an option may stand on a line with this first word and a kind of this class.
 fn belongs(word: Word, class: Class, said: Said) -> bool
     ensures { result ≡ belongs word class said }
 {
@@ -196,7 +196,7 @@ fn belongs(word: Word, class: Class, said: Said) -> bool
     }
 }
 
-/// Whether this option, which is no kind, stands on such a line.
+/// Whether this option, which is no kind, may stand on such a line.
 fn key_belongs(word: Word, class: Class, key: Key) -> bool
     ensures { result ≡ key_belongs word class key }
 {
@@ -215,7 +215,7 @@ fn key_belongs(word: Word, class: Class, key: Key) -> bool
     }
 }
 
-/// Whether all these options stand on such a line.
+/// Whether all these options may stand on such a line.
 fn all_belong(word: Word, class: Class, settings: &[Setting<&[u8]>]) -> bool
     ensures { result ≡ all_belong word class (map setting_seen settings.now) }
 {
@@ -227,7 +227,7 @@ fn all_belong(word: Word, class: Class, settings: &[Setting<&[u8]>]) -> bool
     true
 }
 
-/// The words after a number, where there is one.
+/// The words after a number, if there is one.
 fn after_number<'w, 't>(words: &'w [&'t [u8]], span: Option<Span>) -> &'w [&'t [u8]]
     ensures { map (λ word. word.now) result.now
         ≡ after_number (map (λ word. word.now) words.now) span }
@@ -238,7 +238,7 @@ fn after_number<'w, 't>(words: &'w [&'t [u8]], span: Option<Span>) -> &'w [&'t [
     }
 }
 
-/// The line that has this first word, this name, and these words after it.
+/// Returns the line with this first word, this name, and these words after it.
 fn read_named<'t>(
     alloc: Global,
     names: &Names<'t>,
@@ -267,7 +267,7 @@ fn read_named<'t>(
     })
 }
 
-/// The line of these words, which has this number in its text.
+/// Returns the line of these words, which has this number in its text.
 pub(crate) fn read_line<'t>(
     alloc: Global,
     names: &Names<'t>,

@@ -1,4 +1,4 @@
-//! Where the lines stand that others refer to.
+//! The places of the lines that others refer to.
 
 ghost use Rattle.std.specs.Prelude.{◌≡◌, ℕ, List, map, IfOk, OnOk};
 ghost use Rattle.std.specs.Option.{option_map};
@@ -11,8 +11,8 @@ use crate::word::Word;
 use std::alloc::{AllocError, Global};
 use std::collections::BTreeMap;
 
-/// The lines of a text by their first word and their name: of each the first, by its place among the lines that have
-/// words, counted from 0.
+/// The lines of a text by their first word and their name: the first of each, by its place among the lines with words,
+/// counted from 0.
 #[derive(Drop)]
 pub(crate) struct Names<'t> {
     map: BTreeMap<(&'t [u8], &'t [u8]), usize>,
@@ -67,7 +67,7 @@ impl<'t> Names<'t> {
         Ok(names)
     }
 
-    /// Notes that a line with these words stands here, in place of a later one with its first word and name.
+    /// Notes that a line with these words stands here; it replaces a later one with its first word and name.
     fn add(&mut self, words: &[&'t [u8]], place: usize) -> Result<(), AllocError>
         ensures { OnOk result ((w : Word) (name : List ℕ) → finds self.new w name
             ≡ place_before w name place (map (λ word. word.now) words.now) (finds self.old w name)) }
@@ -79,7 +79,7 @@ impl<'t> Names<'t> {
         Ok(())
     }
 
-    /// The place of the line with this first word and this name.
+    /// Returns the place of the line with this first word and this name.
     pub(crate) fn find(&self, word: Word, name: &'t [u8]) -> Option<usize>
         ensures { result ≡ finds self.now word name.now }
     {

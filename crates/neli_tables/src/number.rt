@@ -4,7 +4,7 @@ ghost use Rattle.std.specs.Prelude.{◌≡◌, ◌==◌, ◌<◌, length, IfSome
 ghost use Rattle.std.specs.List.{position};
 ghost use Rattle.neli_tables.specs.Numbers.{digit_of, digits_in, number_of, ordered, span_of, with_digit};
 
-/// From one number to another, both among them.
+/// From one number to another, both included.
 #[derive(Clone, Copy, Debug, PartialEq, Eq)]
 pub struct Span {
     /// The least.
@@ -13,7 +13,7 @@ pub struct Span {
     pub last: u64,
 }
 
-/// What a digit of a base up to 16 counts.
+/// The value of a digit of a base up to 16.
 fn digit_of(byte: u8) -> Option<u64>
     ensures { result ≡ digit_of byte }
 {
@@ -24,7 +24,7 @@ fn digit_of(byte: u8) -> Option<u64>
     }
 }
 
-/// A number with one digit more, where it has 64 bits at most.
+/// A number with one digit more, if it has at most 64 bits.
 fn with_digit(base: u64, number: Option<u64>, byte: u8) -> Option<u64>
     ensures { result ≡ with_digit base number byte }
 {
@@ -36,7 +36,7 @@ fn with_digit(base: u64, number: Option<u64>, byte: u8) -> Option<u64>
     }
 }
 
-/// The number that digits of this base write.
+/// The number in digits of this base.
 fn digits_in(base: u64, digits: &[u8]) -> Option<u64>
     ensures { result ≡ digits_in base digits.now }
 {
@@ -61,7 +61,7 @@ pub(crate) fn number_of(word: &[u8]) -> Option<u64>
     }
 }
 
-/// The range between two numbers that are in order.
+/// The range between two numbers, if they are in order.
 fn ordered(first: Option<u64>, last: Option<u64>) -> Option<Span>
     ensures { result ≡ ordered first last }
 {

@@ -12,7 +12,7 @@ fn find_row<'r, 'n, V: Copy>(rows: &'r [(&'n [u8], V)], name: &[u8]) -> Option<&
     rows.iter().find(|row| row.0 == name)
 }
 
-/// The first row with this name, where there is one.
+/// The first row with this name, if there is one.
 fn row_of<'n, V: Copy>(rows: &[(&'n [u8], V)], name: &[u8]) -> Option<(&'n [u8], V)>
     ensures { option_map row_seen result
         ≡ find (λ row. bytes_eq row.0 name.now) (map row_seen rows.now) }
@@ -20,7 +20,7 @@ fn row_of<'n, V: Copy>(rows: &[(&'n [u8], V)], name: &[u8]) -> Option<(&'n [u8],
     find_row(rows, name).copied()
 }
 
-/// What the first row with this name says.
+/// The value of the first row with this name.
 pub(crate) fn row_named<V: Copy>(rows: &[(&[u8], V)], name: &[u8]) -> Option<V>
     ensures { result ≡ named (map row_seen rows.now) name.now }
 {

@@ -1,4 +1,4 @@
-//! A text, read.
+//! Reads a text.
 
 ghost use Rattle.std.specs.Prelude.{◌≡◌, Ok, None, Some, map, IfErr, IfOk};
 ghost use Rattle.neli_tables.specs.Lines.{line_seen};
@@ -20,7 +20,7 @@ use std::fmt;
 /// Why a text is not read.
 #[derive(Clone, Copy, Debug, PartialEq, Eq)]
 pub enum ReadError {
-    /// The line of this number, counted from 1, is the first that is refused, for this.
+    /// The line with this number, counted from 1, is the first that is refused, for this cause.
     Line(usize, Why),
     /// Memory ran out.
     Memory,
@@ -53,7 +53,7 @@ impl<V: Drop> From<AllocFailed<V>> for ReadError {
     }
 }
 
-/// The line of these words, where it stands in its place.
+/// The line of these words, if its place is valid.
 fn read_placed<'t>(
     alloc: Global,
     names: &Names<'t>,
@@ -73,7 +73,7 @@ fn read_placed<'t>(
     }
 }
 
-/// What is reported where the line of this number is not read.
+/// The reported refusal of the line with this number.
 fn error_at(number: usize, unread: Unread) -> ReadError
     ensures { result ≡ error_at number unread }
 {
@@ -109,9 +109,9 @@ fn read_lines<'t>(
     Ok(lines)
 }
 
-/// The lines of a text of a family, read.
+/// Reads the lines of a family's text.
 ///
-/// Refused where a line is none, by the number of the first such line, and where memory runs out.
+/// Refused with the number of the first bad line, or if memory runs out.
 pub fn read_table<'t>(alloc: Global, text: &'t [u8]) -> Result<Vec<Line<'t>>, ReadError>
     ensures lines { IfOk result (λ lines. table_in text.now ≡ Ok (map line_seen lines.items)) }
     ensures refused { IfErr result (IsWhyNot (table_in text.now)) }

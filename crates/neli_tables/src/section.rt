@@ -1,4 +1,4 @@
-//! Which lines stand below which.
+//! The lines that may stand below others.
 
 ghost use Rattle.std.specs.Prelude.{◌≡◌};
 ghost use Rattle.neli_tables.specs.Schemas.{place_fault, row_fits, section_after};
@@ -17,7 +17,7 @@ pub(crate) fn section_after(section: Option<Word>, word: Word) -> Option<Word>
     }
 }
 
-/// Whether a line with this first word can stand in this section, or begins one.
+/// Whether a line with this first word may stand in this section, or begins one.
 fn row_fits(section: Word, word: Word) -> bool
     ensures { result ≡ row_fits section word }
 {
@@ -30,7 +30,7 @@ fn row_fits(section: Word, word: Word) -> bool
     }
 }
 
-/// Why a line with this first word does not stand in this section, or at the front of a text.
+/// Why a line with this first word may not stand in this section, or at the front of a text.
 pub(crate) fn place_fault(section: Option<Word>, word: Word) -> Option<Why>
     ensures { result ≡ place_fault section word }
 {

@@ -17,7 +17,7 @@ use crate::why::{Unread, Why};
 use crate::word::Word;
 use std::alloc::Global;
 
-/// What an option says.
+/// The meaning of an option.
 #[derive(Clone, Copy, Debug, PartialEq, Eq)]
 pub enum Said {
     /// The kind.
@@ -26,7 +26,7 @@ pub enum Said {
     Key(Key),
 }
 
-/// What an option takes after a `=`.
+/// The value that an option takes after a `=`.
 #[derive(Clone, Copy, Debug, PartialEq, Eq)]
 pub(crate) enum Takes {
     /// No value.
@@ -48,21 +48,21 @@ pub enum Value<N> {
     Word(N),
     /// A number or a range.
     Span(Span),
-    /// The line that is meant: its place among the lines of the text that have words, counted from 0.
+    /// The line that it refers to: its place among the lines of the text with words, counted from 0.
     Line(usize),
 }
 
 /// An option of a line.
 #[derive(Clone, Copy, Debug)]
 pub struct Setting<N> {
-    /// What it says.
+    /// Its meaning.
     pub said: Said,
     /// Its value.
     pub value: Value<N>,
 }
 
 impl Said {
-    /// What it takes.
+    /// The value that it takes.
     pub(crate) fn takes(self) -> Takes
         ensures { result ≡ takes self }
     {
@@ -116,7 +116,7 @@ fn slot(said: Said) -> u8
     }
 }
 
-/// What the option with this name says.
+/// The meaning of the option with this name.
 fn said_named(name: &[u8]) -> Option<Said>
     ensures { result ≡ said_named name.now }
 {
@@ -129,7 +129,7 @@ fn said_named(name: &[u8]) -> Option<Said>
     }
 }
 
-/// The value that this word is, where the option takes this.
+/// The value of this word, if the option takes this.
 fn taken<'t>(names: &Names<'t>, takes: Takes, word: &'t [u8]) -> Result<Value<&'t [u8]>, Why>
     ensures { seen_as value_seen result ≡ taken (finds names.now) takes word.now }
 {
@@ -147,7 +147,7 @@ fn taken<'t>(names: &Names<'t>, takes: Takes, word: &'t [u8]) -> Result<Value<&'
     }
 }
 
-/// The value that stands after a `=`, where the option takes this.
+/// The value after a `=`, if the option takes this.
 fn value_in<'t>(names: &Names<'t>, takes: Takes, word: &'t [u8]) -> Result<Value<&'t [u8]>, Why>
     ensures { seen_as value_seen result ≡ value_in (finds names.now) takes word.now }
 {
@@ -158,7 +158,7 @@ fn value_in<'t>(names: &Names<'t>, takes: Takes, word: &'t [u8]) -> Result<Value
     }
 }
 
-/// The value of an option that takes this, where one may stand after a `=`.
+/// The value of an option that takes this, if a `=` may follow its name.
 fn value_or_none<'t>(
     names: &Names<'t>,
     takes: Takes,
@@ -176,7 +176,7 @@ fn value_or_none<'t>(
     }
 }
 
-/// The option that these two words say, of which the second stands after a `=`.
+/// The option in these two words; the second one followed a `=`.
 fn setting_with<'t>(
     names: &Names<'t>,
     name: &[u8],
@@ -202,7 +202,7 @@ fn equals_in(word: &[u8]) -> Option<usize>
     word.iter().position(|byte| *byte == b'=')
 }
 
-/// The option that a word says.
+/// The option in a word.
 fn setting_of<'t>(names: &Names<'t>, word: &'t [u8]) -> Result<Setting<&'t [u8]>, Why>
     ensures { seen_as setting_seen result ≡ setting_in (finds names.now) word.now }
 {
@@ -231,7 +231,7 @@ fn has_slot(settings: &[Setting<&[u8]>], said: Said) -> bool
     false
 }
 
-/// The options that these words say.
+/// Returns the options in these words.
 pub(crate) fn settings_of<'t>(
     alloc: Global,
     names: &Names<'t>,

@@ -13,7 +13,7 @@ pub(crate) struct Worded<'t> {
     pub words: Vec<&'t [u8]>,
 }
 
-/// What stands between the bytes of this value. The parts are lent.
+/// The parts between the bytes with this value, lent.
 fn parts_of<'t>(alloc: Global, text: &'t [u8], mark: u8) -> Result<Vec<&'t [u8]>, AllocError>
     ensures { IfOk result (λ parts. map (λ part. part.now) parts.items
         ≡ slice_split (λ b. b == mark) text.now) }
@@ -31,7 +31,7 @@ fn begins_comment(word: &[u8]) -> bool
     }
 }
 
-/// The words of a line, without a comment. They are lent.
+/// The words of a line, without a comment, lent.
 fn words_of<'t>(alloc: Global, line: &'t [u8]) -> Result<Vec<&'t [u8]>, AllocError>
     ensures { IfOk result (λ words. map (λ word. word.now) words.items ≡ words_in line.now) }
 {
@@ -49,7 +49,7 @@ fn words_of<'t>(alloc: Global, line: &'t [u8]) -> Result<Vec<&'t [u8]>, AllocErr
     Ok(words)
 }
 
-/// The lines of a text that have words.
+/// Returns the lines of a text that have words.
 pub(crate) fn worded_lines<'t>(alloc: Global, text: &'t [u8]) -> Result<Vec<Worded<'t>>, AllocError>
     ensures { IfOk result (λ lines. map worded_seen lines.items ≡ worded_in text.now) }
 {

@@ -18,21 +18,21 @@ pub enum Why {
     NumberMissing,
     /// It has a number, and lines with its first word have none.
     NumberElsewhere,
-    /// A word in the place of a number is none of 64 bits at most, and no range in order.
+    /// A word in the place of a number is not a number of at most 64 bits, nor a range in order.
     NotANumber,
-    /// A word is no option.
+    /// A word is not an option.
     UnknownOption,
     /// An option has no value and needs one, or has one and takes none.
     Value,
-    /// An option stands twice, or a second kind.
+    /// An option occurs twice, or a second kind does.
     Twice,
-    /// An option does not stand on such a line, or with such a kind.
+    /// An option is not allowed on such a line, or with such a kind.
     OptionElsewhere,
     /// The first line is not the family, or a later one is.
     FamilyFirst,
-    /// A row is not below a line to which it can belong.
+    /// A row is below no line to which it can belong.
     RowElsewhere,
-    /// A name is that of no line that is meant.
+    /// No line of the wanted sort has the name.
     NothingNamed,
 }
 

@@ -6,7 +6,7 @@ ghost use Rattle.neli_tables.specs.Words.{word_named, words};
 
 use crate::rows::row_named;
 
-/// What a line is, by its first word.
+/// The sort of a line, by its first word.
 #[derive(Clone, Copy, Debug, PartialEq, Eq)]
 pub enum Word {
     /// `family`.
@@ -39,7 +39,7 @@ pub enum Word {
     Value,
 }
 
-/// Each first word, and what it says.
+/// Each first word, and its line.
 static WORDS: [(&[u8], Word); 14] = [
     (b"family", Word::Family),
     (b"group", Word::Group),
@@ -65,7 +65,7 @@ fn word_rows() -> &'static [(&'static [u8], Word)]
     &WORDS
 }
 
-/// The first word with this name.
+/// Returns the line with this first word.
 pub(crate) fn word_named(name: &[u8]) -> Option<Word>
     ensures { result ≡ word_named name.now }
 {

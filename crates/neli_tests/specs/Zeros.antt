@@ -15,10 +15,10 @@ zeros n = Ok (replicate n 0)
 pub zeros-count : (n : ℕ) (bytes : List ℕ) → zeros n ≡ Ok bytes → length bytes ≡ n
 zeros-count n bytes e = written-length (replicate n 0) bytes n (length-replicate {A = ℕ} n 0) e
 
--- after the first n come zeros
+-- zeros follow the first n
 pub zeros-again : (n : ℕ) (bytes : List ℕ) → zeros n ≡ Ok bytes → EndsInZeros n bytes
 zeros-again n bytes e = unpadded-zeros n bytes (zeros-count n bytes e)
 
--- they are not refused because memory ran out
+-- they are not refused for memory
 pub zeros-written : (n : ℕ) → zeros n ≢ Err ser.Memory
 zeros-written n = written-no_memory (replicate n 0)

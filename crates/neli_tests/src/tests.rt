@@ -3,8 +3,8 @@
 //! - [`values`]: worked examples of numbers and texts. [`zeros`]: lengths past 32 bits, by a payload of a type of its
 //!   own. Worked examples of bodies, attributes, messages, constants, groups, resolvers and the router stand in crates
 //!   of tests of their own, which use the same paths.
-//! - [`conversations`]: conversations with a kernel. [`routes`]: one whose answers are shown. [`talk`]: how one is
-//!   played. [`store`]: what is kept meanwhile.
+//! - [`conversations`]: conversations with a kernel. [`routes`]: one whose answers are printed. [`talk`]: plays one.
+//!   [`store`]: the store's contents after each read.
 //! - [`nests`]: a request whose attributes have attributes.
 //! - [`readme`], [`tour`], [`pages`]: the examples of the README, of the page of `neli`, and of the pages on
 //!   attributes, the router and groups, line by line.

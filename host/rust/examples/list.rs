@@ -1,7 +1,7 @@
-//! Lists links and their IPv4 addresses, as `link 1 lo mtu 65536 up` and `address 1 127.0.0.1/8`; `list INDEX` the
-//! addresses of that link alone. What changes while it is listed is asked for again. The status says whether all of it
-//! is there: 0; 2 where it still changed, 3 where the kernel ended the list with an error, 4 where some was lost, with
-//! a line on stderr. What came is printed all the same.
+//! Lists links and their IPv4 addresses, as `link 1 lo mtu 65536 up` and `address 1 127.0.0.1/8`; `list INDEX` only the
+//! addresses of that link. A list that changes meanwhile is requested again. The status reports whether it is complete:
+//! 0; 2 if it still changed, 3 if the kernel ended the list with an error, 4 if a part was lost, with a line on stderr.
+//! The part that arrived is printed in any case.
 
 mod status;
 
@@ -18,7 +18,7 @@ use std::io::{self, Write};
 use std::net::Ipv4Addr;
 use std::process::ExitCode;
 
-/// How many times a list is asked for that changes meanwhile.
+/// The maximum number of requests for a list that changes meanwhile.
 const TIMES: usize = 5;
 
 fn print_link(link: &Ifinfomsg) -> Result<(), RouterError> {
@@ -68,7 +68,7 @@ fn run() -> status::Result<u8> {
     let index = std::env::args().nth(1).map(|it| it.parse::<u32>()).transpose()?;
     let (router, _multicast) = NlRouter::connect(NlFamily::Route, None, Groups::empty()).map_err(status::not_begun)?;
     if let Some(index) = index {
-        // Only so does the kernel look at the index.
+        // Only then does the kernel check the index.
         router.enable_strict_checking(true)?;
         return list_addresses(&router, index);
     }

@@ -1,6 +1,6 @@
-//! `make add NAME PEER ADDRESS/BITS NET/BITS` makes a pair of links, sets both up, and gives the first an address
-//! and a route; `make del` with the same words takes route, address and links away. It says why the kernel refuses, and
-//! ends with status 3 then, and with 4 where it was not answered: it may be done or not.
+//! `make add NAME PEER ADDRESS/BITS NET/BITS` makes a pair of links, sets both up, and gives the first an address and a
+//! route; `make del` with the same words removes route, address and links. It prints why the kernel refuses, and then
+//! ends with status 3, and with 4 without an answer: the change may be done or not.
 
 mod status;
 
@@ -26,7 +26,7 @@ fn net(text: &str) -> Result<([u8; 4], u8)> {
     Ok((address.parse::<Ipv4Addr>()?.octets(), bits.parse()?))
 }
 
-/// Has something done, and waits for the kernel's word that it was.
+/// Sends a change, and waits for the kernel's acknowledgement.
 fn ask(router: &NlRouter, kind: Rtm, flags: NlmF, body: impl ToBytes) -> std::result::Result<(), RouterError> {
     let replies = router.send::<_, _, Rtm, Buffer>(kind, flags | NlmF::ACK, NlPayload::Payload(body))?;
     for reply in replies {

@@ -1,5 +1,5 @@
-//! `processes COUNT` prints the next COUNT process events of the connector, as `Fork` or `Exit`. The kernel tells them
-//! to the machine's own network namespace alone, and to whoever may administer it.
+//! `processes COUNT` prints the next COUNT process events of the connector, as `Fork` or `Exit`. The kernel reports
+//! them only to the machine's own network namespace, and to its administrators.
 
 use neli::ToBytes;
 use neli::connector::{CnMsg, CnMsgBuilder};
@@ -12,7 +12,7 @@ use neli::types::Buffer;
 use neli::utils::Groups;
 use std::error::Error;
 
-/// Asks for process events, or for none any more.
+/// Requests process events, or their end.
 fn ask(socket: &NlSocketHandle, wish: ProcCnMcastOp) -> Result<(), Box<dyn Error>> {
     let mut bytes = Vec::new();
     u32::from(wish).to_bytes(&mut bytes)?;
@@ -21,7 +21,7 @@ fn ask(socket: &NlSocketHandle, wish: ProcCnMcastOp) -> Result<(), Box<dyn Error
     Ok(socket.send(&message)?)
 }
 
-/// What happened: the first number of a `struct proc_event`.
+/// The kind of the event: the first number of a `struct proc_event`.
 fn event(body: &CnMsg<Buffer>) -> Option<ProcEventType> {
     let bytes = body.payload().as_ref().first_chunk()?;
     Some(ProcEventType::from(u32::from_ne_bytes(*bytes)))

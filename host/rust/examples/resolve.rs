@@ -1,5 +1,5 @@
 //! `resolve FAMILY` prints the number of a family of generic netlink, and those of its multicast groups. It ends with
-//! status 3 where there is none, and 4 where its answer was lost.
+//! status 3 if no family has the name, and 4 if the answer was lost.
 
 mod status;
 

@@ -41,7 +41,7 @@ fn code_of(error: &RouterError) -> (i32, i32) {
     }
 }
 
-/// `EAGAIN`, by which a wait is over.
+/// `EAGAIN`, which ends a wait.
 const LATE: (i32, i32) = (-11, 11);
 
 impl Storm {
@@ -130,7 +130,7 @@ impl Storm {
         }
     }
 
-    /// Reads what came to groups; false where nothing came in time.
+    /// Reads messages for groups; false if none arrived in time.
     fn listen_once(&self, multicast: &mut Handle, wait: Duration) -> bool {
         self.router.socket().set_recv_timeout(Some(wait)).expect("a time is set");
         match multicast.next() {

@@ -1,6 +1,6 @@
-//! `watch [COUNT]` prints changes of links, addresses and routes as they come: as `Newlink 3 veth0`. It goes on where
-//! some were lost or one cannot be read, and says so, as `lost some: the socket's buffer ran over`. At the end of COUNT
-//! the status says whether all are there: 0, or 4 where not.
+//! `watch [COUNT]` prints changes of links, addresses and routes as they arrive: as `Newlink 3 veth0`. It continues
+//! after lost messages and after one that cannot be read, and reports both, as `lost some: the socket's buffer ran
+//! over`. After COUNT changes the status reports whether all arrived: 0, or 4 if not.
 
 mod status;
 

@@ -6,22 +6,22 @@ use crate::types::Buffer;
 use crate::{FromBytes, ToBytes};
 use std::marker::PhantomData;
 
-/// The flag of a type field that says that the payload lists attributes.
+/// The flag of a type field for a payload that lists attributes.
 const NESTED: u16 = 0x8000;
 /// Both flags of a type field.
 const FLAGS: u16 = 0xc000;
 
-/// So many attributes are read by one call.
+/// The number of attributes that one call reads.
 const AT_ONCE: usize = 16;
 
-/// A number that tells what an attribute is.
+/// The number of an attribute's kind.
 pub trait AttrNumber: Copy + From<u16> + Into<u16> {}
 
 impl<T: Copy + From<u16> + Into<u16>> AttrNumber for T {}
 
 /// An attribute of routing or of generic netlink.
 pub trait Attribute: Sized {
-    /// What its number means.
+    /// The kind of its number.
     type Number: AttrNumber;
 
     /// The attribute with this type field and these bytes as its payload.
@@ -80,17 +80,17 @@ impl<A> AttrList<A> {
         self.0.iter()
     }
 
-    /// How many there are.
+    /// Returns the number of attributes.
     pub fn len(&self) -> usize {
         self.0.len()
     }
 
-    /// Whether there is none.
+    /// Whether the list is empty.
     pub fn is_empty(&self) -> bool {
         self.0.is_empty()
     }
 
-    /// What looks attributes up.
+    /// Looks attributes up.
     pub fn get_attr_handle(&self) -> AttrHandle<'_, A> {
         AttrHandle { attributes: Held::Lent(&self.0) }
     }
@@ -147,7 +147,7 @@ enum Held<'a, A> {
     Owned(Vec<A>),
 }
 
-/// What looks attributes of a list up by their numbers.
+/// Looks attributes of a list up by their numbers.
 #[derive(Clone, Debug)]
 pub struct AttrHandle<'a, A> {
     attributes: Held<'a, A>,
@@ -194,14 +194,14 @@ impl<A: Attribute> AttrHandle<'_, A> {
 }
 
 impl<T: AttrNumber> RtAttrHandle<'_, T> {
-    /// What looks up in the list that the payload of an attribute is.
+    /// Looks up in the list in an attribute's payload.
     pub fn get_nested_attributes<S: AttrNumber>(&self, number: T) -> Result<RtAttrHandle<'_, S>, DeError> {
         self.wanted(number)?.get_attr_handle()
     }
 }
 
 impl<T: AttrNumber> GenlAttrHandle<'_, T> {
-    /// What looks up in the list that the payload of an attribute is.
+    /// Looks up in the list in an attribute's payload.
     pub fn get_nested_attributes<S: AttrNumber>(&self, number: T) -> Result<GenlAttrHandle<'_, S>, DeError> {
         self.wanted(number)?.get_attr_handle()
     }
@@ -237,7 +237,7 @@ impl<T: AttrNumber> Attribute for Rtattr<T> {
 }
 
 impl<T: AttrNumber> Rtattr<T> {
-    /// The number that tells what it is.
+    /// The number of its kind.
     pub fn rta_type(&self) -> &T {
         &self.rta_type
     }
@@ -253,7 +253,7 @@ impl<T: AttrNumber> Rtattr<T> {
         Ok(self)
     }
 
-    /// What looks up in the list that the payload is.
+    /// Looks up in the list in the payload.
     pub fn get_attr_handle<S: AttrNumber>(&self) -> Result<RtAttrHandle<'_, S>, DeError> {
         handle_in(&self.payload)
     }
@@ -317,7 +317,7 @@ impl<T> AttrTypeBuilder<T> {
         self
     }
 
-    /// The type, where a number was given.
+    /// Returns the type, if a number was given.
     pub fn build(self) -> Result<AttrType<T>, BuildError> {
         let nla_type = self.nla_type.ok_or(UninitializedFieldError("nla_type"))?;
         Ok(AttrType { nla_nested: self.nla_nested, nla_network_order: self.nla_network_order, nla_type })
@@ -355,7 +355,7 @@ impl<T: AttrNumber> Attribute for Nlattr<T> {
 }
 
 impl<T: AttrNumber> Nlattr<T> {
-    /// The number that tells what it is, and its flags.
+    /// The number of its kind, and its flags.
     pub fn nla_type(&self) -> &AttrType<T> {
         &self.nla_type
     }
@@ -372,7 +372,7 @@ impl<T: AttrNumber> Nlattr<T> {
         Ok(self)
     }
 
-    /// What looks up in the list that the payload is.
+    /// Looks up in the list in the payload.
     pub fn get_attr_handle<S: AttrNumber>(&self) -> Result<GenlAttrHandle<'_, S>, DeError> {
         handle_in(&self.payload)
     }
@@ -392,7 +392,7 @@ impl<T, P> Default for RtattrBuilder<T, P> {
 }
 
 impl<T: AttrNumber, P: ToBytes> RtattrBuilder<T, P> {
-    /// The number that tells what it is.
+    /// The number of its kind.
     pub fn rta_type(mut self, number: T) -> Self {
         self.rta_type = Some(number);
         self
@@ -404,7 +404,7 @@ impl<T: AttrNumber, P: ToBytes> RtattrBuilder<T, P> {
         self
     }
 
-    /// The attribute, where both were given.
+    /// Returns the attribute, if both were given.
     pub fn build(self) -> Result<Rtattr<T>, BuildError> {
         let rta_type = self.rta_type.ok_or(UninitializedFieldError("rta_type"))?;
         let payload = self.rta_payload.ok_or(UninitializedFieldError("rta_payload"))?;
@@ -426,7 +426,7 @@ impl<T, P> Default for NlattrBuilder<T, P> {
 }
 
 impl<T: AttrNumber, P: ToBytes> NlattrBuilder<T, P> {
-    /// The number that tells what it is, and its flags.
+    /// The number of its kind, and its flags.
     pub fn nla_type(mut self, nla_type: AttrType<T>) -> Self {
         self.nla_type = Some(nla_type);
         self
@@ -438,7 +438,7 @@ impl<T: AttrNumber, P: ToBytes> NlattrBuilder<T, P> {
         self
     }
 
-    /// The attribute, where both were given.
+    /// Returns the attribute, if both were given.
     pub fn build(self) -> Result<Nlattr<T>, BuildError> {
         let nla_type = self.nla_type.ok_or(UninitializedFieldError("nla_type"))?;
         let payload = self.nla_payload.ok_or(UninitializedFieldError("nla_payload"))?;

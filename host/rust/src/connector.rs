@@ -1,4 +1,4 @@
-//! The body of the connector: whom it is for, and bytes.
+//! The body of the connector: its receiver, and bytes.
 
 use crate::consts::connector::{CnMsgIdx, CnMsgVal};
 use crate::err::{BuildError, DeError, SerError, UninitializedFieldError};
@@ -16,12 +16,12 @@ pub struct CnMsg<P> {
 }
 
 impl<P> CnMsg<P> {
-    /// Whom it is for.
+    /// The receiver.
     pub fn idx(&self) -> CnMsgIdx {
         self.idx
     }
 
-    /// Whom it is for, more closely.
+    /// The receiver's part.
     pub fn val(&self) -> CnMsgVal {
         self.val
     }
@@ -31,7 +31,7 @@ impl<P> CnMsg<P> {
         self.seq
     }
 
-    /// What is acknowledged.
+    /// The acknowledged number.
     pub fn ack(&self) -> u32 {
         self.ack
     }
@@ -87,13 +87,13 @@ impl<P> Default for CnMsgBuilder<P> {
 }
 
 impl<P> CnMsgBuilder<P> {
-    /// Whom it is for.
+    /// The receiver.
     pub fn idx(mut self, idx: CnMsgIdx) -> Self {
         self.idx = Some(idx);
         self
     }
 
-    /// Whom it is for, more closely.
+    /// The receiver's part.
     pub fn val(mut self, val: CnMsgVal) -> Self {
         self.val = Some(val);
         self
@@ -105,7 +105,7 @@ impl<P> CnMsgBuilder<P> {
         self
     }
 
-    /// The body, where each of these was given; its numbers and flags are 0.
+    /// Returns the body, if each of these was given; its numbers and flags are 0.
     pub fn build(self) -> Result<CnMsg<P>, BuildError> {
         let idx = self.idx.ok_or(UninitializedFieldError("idx"))?;
         let val = self.val.ok_or(UninitializedFieldError("val"))?;

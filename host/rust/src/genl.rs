@@ -80,7 +80,7 @@ impl<C, T> GenlmsghdrBuilder<C, T> {
         self
     }
 
-    /// The body, where command and version were given.
+    /// Returns the body, if command and version were given.
     pub fn build(self) -> Result<Genlmsghdr<C, T>, BuildError> {
         let cmd = self.cmd.ok_or(UninitializedFieldError("cmd"))?;
         let version = self.version.ok_or(UninitializedFieldError("version"))?;

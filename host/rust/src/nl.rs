@@ -9,7 +9,7 @@ use std::fmt;
 use std::io;
 use std::marker::PhantomData;
 
-/// A number that tells what a message is.
+/// The number of a message's type.
 pub trait NlType: Copy + fmt::Debug + From<u16> + Into<u16> {}
 
 impl<T: Copy + fmt::Debug + From<u16> + Into<u16>> NlType for T {}
@@ -28,14 +28,14 @@ pub struct Nlmsghdr<T, P> {
     nl_payload: NlPayload<T, P>,
 }
 
-/// What a message carries.
+/// The payload of a message.
 #[derive(Clone, Debug)]
 pub enum NlPayload<T, P> {
     /// The request was done: an error of code 0.
     Ack(Nlmsgerr<T>),
     /// The request was refused.
     Err(Nlmsgerr<T>),
-    /// The end of a dump that says something: a code, which is 0 or below, and attributes.
+    /// The end of a dump with a payload: a code, which is 0 or below, and attributes.
     DumpExtAck(Nlmsgerr<T>),
     /// A body.
     Payload(P),
@@ -43,7 +43,7 @@ pub enum NlPayload<T, P> {
     Empty,
 }
 
-/// What the kernel answers to a request.
+/// The kernel's answer to a request.
 #[derive(Clone, Debug)]
 pub struct Nlmsgerr<T> {
     error: i32,
@@ -51,7 +51,7 @@ pub struct Nlmsgerr<T> {
     ext_ack: AttrList<Nlattr<NlmsgerrAttr>>,
 }
 
-/// The header of the request that is answered; of the end of a dump, zeros.
+/// The header of the answered request; zeros for the end of a dump.
 #[derive(Clone, Debug, PartialEq, Eq)]
 pub struct NlmsghdrAck<T> {
     nl_len: u32,
@@ -82,7 +82,7 @@ impl<T> NlmsghdrAck<T> {
         &self.nl_seq
     }
 
-    /// The port that it came from.
+    /// The port from which it was sent.
     pub fn nl_pid(&self) -> &u32 {
         &self.nl_pid
     }
@@ -104,12 +104,12 @@ impl<T> Nlmsgerr<T> {
         self.ext_ack.get_attr_handle()
     }
 
-    /// What the kernel says in words.
+    /// The kernel's text.
     pub fn text(&self) -> Option<String> {
         self.ext_ack().get_attr_payload_as_with_len(NlmsgerrAttr::Msg).ok()
     }
 
-    /// Where in the request the kernel found what it refuses, in bytes from the front of its header.
+    /// The place in the request that the kernel refuses, in bytes from the start of its header.
     pub fn offset(&self) -> Option<u32> {
         self.ext_ack().get_attr_payload_as(NlmsgerrAttr::Offset).ok()
     }
@@ -124,7 +124,7 @@ impl<T> Nlmsgerr<T> {
     }
 }
 
-/// The meaning of the error number, and the text and the offset where the kernel gives them.
+/// The meaning of the error number, and the text and the offset if the kernel sent them.
 impl<T> fmt::Display for Nlmsgerr<T> {
     fn fmt(&self, f: &mut fmt::Formatter<'_>) -> fmt::Result {
         write!(f, "{}", io::Error::from_raw_os_error(self.error.wrapping_neg()))?;
@@ -144,7 +144,7 @@ impl<T, P> Nlmsghdr<T, P> {
         self.nl_len
     }
 
-    /// What the message is.
+    /// The type of the message.
     pub fn nl_type(&self) -> &T {
         &self.nl_type
     }
@@ -159,17 +159,17 @@ impl<T, P> Nlmsghdr<T, P> {
         &self.nl_seq
     }
 
-    /// The port of the one who asks.
+    /// The port of the requesting socket.
     pub fn nl_pid(&self) -> &u32 {
         &self.nl_pid
     }
 
-    /// What it carries.
+    /// Its payload.
     pub fn nl_payload(&self) -> &NlPayload<T, P> {
         &self.nl_payload
     }
 
-    /// The body, where there is one.
+    /// The body, if there is one.
     pub fn get_payload(&self) -> Option<&P> {
         match &self.nl_payload {
             NlPayload::Payload(body) => Some(body),
@@ -177,7 +177,7 @@ impl<T, P> Nlmsghdr<T, P> {
         }
     }
 
-    /// The error, where it is one.
+    /// The error, if it is one.
     pub fn get_err(&self) -> Option<&Nlmsgerr<T>> {
         match &self.nl_payload {
             NlPayload::Err(answer) => Some(answer),
@@ -187,7 +187,7 @@ impl<T, P> Nlmsghdr<T, P> {
 }
 
 impl<T: NlType, P: FromBytes> Nlmsghdr<T, P> {
-    /// The message that lies in these bytes.
+    /// The message in these bytes.
     pub(crate) fn of_message(bytes: &[u8], head: &ffi::Message) -> Result<Self, DeError> {
         let payload = &bytes[head.payload..][..head.payload_length];
         let nl_payload = match head.kind {
@@ -211,7 +211,7 @@ impl<T: NlType, P: FromBytes> Nlmsghdr<T, P> {
         })
     }
 
-    /// The one message that these bytes are, padding left out.
+    /// The one message in these bytes, padding left out.
     pub(crate) fn of_bytes(bytes: &[u8]) -> Result<Self, DeError> {
         let mut padded = bytes.to_vec();
         padded.resize(bytes.len().next_multiple_of(4), 0);
@@ -225,7 +225,7 @@ impl<T: NlType, P: FromBytes> Nlmsghdr<T, P> {
 }
 
 impl<T: NlType, P> Nlmsghdr<T, P> {
-    /// The answer by which the kernel refuses, with its type as a number.
+    /// The kernel's refusal, with its type as a number.
     pub(crate) fn into_err(self) -> Option<Nlmsgerr<u16>> {
         match self.nl_payload {
             NlPayload::Err(answer) => Some(answer.with_number()),
@@ -240,7 +240,7 @@ impl<T: NlType, P> Nlmsghdr<T, P> {
         self.nl_type.into() == DONE
     }
 
-    /// What the end of a dump says that failed.
+    /// The answer at the end of a dump that failed.
     pub(crate) fn failed_end(&self) -> Option<Nlmsgerr<u16>> {
         match &self.nl_payload {
             NlPayload::DumpExtAck(answer) if answer.error != 0 => Some(answer.clone().with_number()),
@@ -313,7 +313,7 @@ impl<T, P> Default for NlmsghdrBuilder<T, P> {
 }
 
 impl<T: NlType, P: ToBytes> NlmsghdrBuilder<T, P> {
-    /// What the message is.
+    /// The type of the message.
     pub fn nl_type(mut self, nl_type: T) -> Self {
         self.nl_type = Some(nl_type);
         self
@@ -331,19 +331,19 @@ impl<T: NlType, P: ToBytes> NlmsghdrBuilder<T, P> {
         self
     }
 
-    /// Its port; 0, which the kernel takes for that of the socket, if it is not given.
+    /// Its port; 0, which the kernel reads as that of the socket, if it is not given.
     pub fn nl_pid(mut self, port: u32) -> Self {
         self.nl_pid = port;
         self
     }
 
-    /// What it carries.
+    /// Its payload.
     pub fn nl_payload(mut self, payload: NlPayload<T, P>) -> Self {
         self.nl_payload = Some(payload);
         self
     }
 
-    /// The message, where type and payload were given.
+    /// Returns the message, if type and payload were given.
     pub fn build(self) -> Result<Nlmsghdr<T, P>, BuildError> {
         let nl_type = self.nl_type.ok_or(UninitializedFieldError("nl_type"))?;
         let nl_payload = self.nl_payload.ok_or(UninitializedFieldError("nl_payload"))?;
@@ -361,7 +361,7 @@ impl<T: NlType, P: ToBytes> NlmsghdrBuilder<T, P> {
 }
 
 impl<T, P: ToBytes> NlPayload<T, P> {
-    /// The bytes of a body; none of another kind, which a program does not send.
+    /// The bytes of a body; none for another kind, which a program does not send.
     pub(crate) fn body(&self) -> Result<Vec<u8>, SerError> {
         let mut out = Vec::new();
         if let NlPayload::Payload(body) = self {

@@ -1,4 +1,4 @@
-//! A router: it gives each reply to the request that it answers.
+//! A router: it delivers each reply to its request.
 
 mod ledger;
 mod names;

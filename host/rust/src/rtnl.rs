@@ -1,4 +1,4 @@
-//! Bodies of routing: links, addresses and routes, with what makes them.
+//! Bodies of routing: links, addresses and routes, with their builders.
 
 use crate::attr::RtBuffer;
 use crate::consts::rtnl::{Arphrd, Ifa, IfaF, Iff, Ifla, RtAddrFamily, RtScope, RtTable, Rta, RtmF, Rtn, Rtprot};
@@ -8,8 +8,8 @@ use crate::{Fields, FromBytes, ToBytes};
 
 pub use crate::attr::{RtAttrHandle, Rtattr, RtattrBuilder};
 
-/// A body of fields and attributes, its getters, its builder, and how it is written and read. A field is
-/// `name: type as number`; zeros stand before it where `gap` says how many.
+/// A body of fields and attributes, its getters, its builder, and its reading and writing. A field is `name: type as
+/// number`; `gap` is the number of zeros before it.
 macro_rules! body {
     (
         $(#[$doc:meta])*
@@ -59,7 +59,7 @@ macro_rules! body {
                 self
             }
 
-            /// The body, where each field without a default was given.
+            /// Returns the body, if each field without a default was given.
             pub fn build(self) -> Result<$body, BuildError> {
                 Ok($body {
                     $($field: body!(@field self.$field, stringify!($field) $(, $default)?),)*
@@ -144,19 +144,19 @@ body! {
     ifi_index: i32 as i32 = 0,
     /// The flags; none, if they are not given.
     ifi_flags: Iff as u32 = Iff::empty(),
-    /// Which flags are to be changed; none, if they are not given.
+    /// The mask of flags to change; none, if they are not given.
     ifi_change: Iff as u32 = Iff::empty(),
 }
 
 impl IfinfomsgBuilder {
-    /// The link is to be set up.
+    /// Sets the link up.
     pub fn up(mut self) -> Self {
         self.ifi_flags = Some(self.ifi_flags.unwrap_or_default() | Iff::UP);
         self.ifi_change = Some(self.ifi_change.unwrap_or_default() | Iff::UP);
         self
     }
 
-    /// The link is to be set down.
+    /// Sets the link down.
     pub fn down(mut self) -> Self {
         let flags = self.ifi_flags.unwrap_or_default().bits() & !Iff::UP.bits();
         self.ifi_flags = Some(Iff::from_bits_retain(flags));
@@ -170,11 +170,11 @@ body! {
     Ifaddrmsg, IfaddrmsgBuilder, 8 bytes, attributes Ifa;
     /// The address family.
     ifa_family: RtAddrFamily as u8,
-    /// How many bits of the address are those of the net.
+    /// The number of the address's bits that are those of the net.
     ifa_prefixlen: u8 as u8,
     /// The flags; none, if they are not given.
     ifa_flags: IfaF as u8 = IfaF::empty(),
-    /// How far the address is valid.
+    /// The scope in which the address is valid.
     ifa_scope: RtScope as u8,
     /// The index of the link.
     ifa_index: u32 as u32,
@@ -185,19 +185,19 @@ body! {
     Rtmsg, RtmsgBuilder, 12 bytes, attributes Rta;
     /// The address family.
     rtm_family: RtAddrFamily as u8,
-    /// How many bits of the destination count.
+    /// The number of bits of the destination that count.
     rtm_dst_len: u8 as u8,
-    /// How many bits of the source count.
+    /// The number of bits of the source that count.
     rtm_src_len: u8 as u8,
     /// The type of service.
     rtm_tos: u8 as u8,
     /// The table.
     rtm_table: RtTable as u8,
-    /// Who made the route.
+    /// The origin of the route.
     rtm_protocol: Rtprot as u8,
-    /// How far the destination is.
+    /// The distance of the destination.
     rtm_scope: RtScope as u8,
-    /// What is done with a packet.
+    /// The treatment of a packet.
     rtm_type: Rtn as u8,
     /// The flags; none, if they are not given.
     rtm_flags: RtmF as u32 = RtmF::empty(),

@@ -1,4 +1,4 @@
-//! What is written and read, without a kernel: the bytes are those of the structs in the kernel's headers.
+//! Writing and reading, without a kernel: the bytes are those of the structs in the kernel's headers.
 
 use neli::connector::{CnMsg, CnMsgBuilder};
 use neli::consts::connector::{CnMsgIdx, CnMsgVal};

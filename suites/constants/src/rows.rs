@@ -33,7 +33,7 @@ where
     Ok(())
 }
 
-/// The line of a value that no number is read as.
+/// The line of a value that is no number's reading.
 pub fn write_name<T, N>(out: &mut impl Write, table: &str, value: T) -> io::Result<()>
 where
     N: From<T> + Debug,

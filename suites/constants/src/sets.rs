@@ -33,16 +33,16 @@ where
 pub struct Samples<T> {
     /// The set without any bit.
     pub empty: T,
-    /// What `From` makes of the first number.
+    /// The result of `From` for the first number.
     pub named: T,
-    /// What is read as the first number.
+    /// The reading of the first number.
     pub first: T,
-    /// What is read as the second.
+    /// The reading of the second.
     pub second: T,
 }
 
-/// The lines of the operators: what each makes of the first and the second value, and then what its
-/// assigning form makes of them.
+/// The lines of the operators: the result of each for the first and the second value, and then that
+/// of its assigning form.
 pub fn write_operators<T, N, Bits>(
     out: &mut impl Write,
     set: &str,

@@ -3,12 +3,12 @@
 //! The bodies were recorded from Linux 6.18 on x86-64; their numbers are those of docs/RECORDINGS.md. Their fields were
 //! read by pyroute2.
 //!
-//! - [`builders`]: what builders make of their fields.
+//! - [`builders`]: results of builders.
 //! - [`links`], [`routes`], [`generic`]: recorded bodies, a file a family.
-//! - [`cuts`]: bodies at each length, and lengths of attributes that lie.
+//! - [`cuts`]: bodies at each length, and wrong lengths of attributes.
 //! - [`laws`]: that each law can be called.
-//! - [`printed`]: what `Debug` prints of the bodies of routing.
-//! - [`support`]: what the tests share.
+//! - [`printed`]: the `Debug` output of the bodies of routing.
+//! - [`support`]: shared parts of the tests.
 
 mod builders;
 mod cuts;

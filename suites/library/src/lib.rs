@@ -1,9 +1,9 @@
 //! Tests of the library by the paths of `neli`, a module a subject.
 //!
 //! - [`values`]: the wire layer, constants, groups and bit arrays. [`attributes`]: attributes and lists of them.
-//! - [`bodies`]: the bodies of all families. [`payloads`]: what attributes hold beside numbers and texts.
+//! - [`bodies`]: the bodies of all families. [`payloads`]: attributes' payloads other than numbers and texts.
 //! - [`messages`]: messages, owned and lent. [`router`]: the router and the resolvers, over each store.
-//! - [`simulator`]: what a kernel answers.
+//! - [`simulator`]: a kernel's answers.
 #![tactic(auto)]
 
 #[cfg(test)]

@@ -1,7 +1,7 @@
 //! Tests of `neli_payloads`: hardware addresses, counters, cache entries, next hops and virtual functions.
 //!
 //! The bytes are payloads of recorded datagrams, named by their numbers (docs/RECORDINGS.md), or were made by hand.
-//! What is wanted of them was counted by hand from the structs of linux/if_link.h, linux/if_addr.h and
+//! Their expected values were counted by hand from the structs of linux/if_link.h, linux/if_addr.h and
 //! linux/rtnetlink.h.
 
 mod addresses;

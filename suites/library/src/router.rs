@@ -4,20 +4,20 @@
 //! Expected values are worked out by hand from RFC 3549 section 2.3.2 and the headers of Linux; those of
 //! the recorded conversations are what libmnl reads in them.
 //!
-//! - [`script`]: a list of steps with what each of them answers, played over each store by one run, and by the
-//!   router's own calls, as [`steps`] makes them. The other files are tables of scripts.
-//! - [`numbers`]: requests as bytes, and which number each has. [`answers`]: where a handle's answers end.
+//! - [`script`]: a list of steps with the outcome of each, played over each store by one run, and by the router's own
+//!   calls, as [`steps`] makes them. The other files are tables of scripts.
+//! - [`numbers`]: requests as bytes, and their numbers. [`answers`]: where a handle's answers end.
 //! - [`datagrams`]: who gets what of a datagram. [`faults`]: faults of the link.
-//! - [`strays`]: in all combinations what comes before and after a close, and numbers that are used again.
-//! - [`handles`]: handles that another router made. [`many`]: thousands of requests, and of deliveries to one handle.
-//! - [`requests`]: requests to the controller of generic netlink, and what comes of its answers.
+//! - [`strays`]: all combinations of messages before and after a close, and numbers that are used again.
+//! - [`handles`]: handles of another router. [`many`]: thousands of requests, and of deliveries to one handle.
+//! - [`requests`]: requests to the controller of generic netlink, and its answers.
 //! - [`refused_bodies`]: bodies that are refused as the types that a caller reads them as.
-//! - [`resolvers`]: what the resolvers find in lists of answers, as [`controller`] looks it up.
+//! - [`resolvers`]: the resolvers' results for lists of answers, as [`controller`] looks them up.
 //! - [`conversations`]: conversations with a kernel, as they were recorded.
 //! - [`random`]: scripts that a generator makes, over both stores. [`entries`]: what the log keeps.
 //! - [`out_of_memory`]: each allocation of a run refused in turn. [`limited`]: a store with a limit.
-//! - [`verdicts`]: how answers stand, requests that are given up, and listening that goes on.
-//! - [`laws`]: the laws of runs, called. [`support`]: what the tests share.
+//! - [`verdicts`]: verdicts on answers, requests that are given up, and listening that continues.
+//! - [`laws`]: the laws of runs, called. [`support`]: shared parts of the tests.
 
 mod answers;
 mod controller;

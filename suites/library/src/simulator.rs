@@ -1,11 +1,11 @@
-//! Tests of what a kernel answers.
+//! Tests of a kernel's answers.
 //!
 //! - [`answers`]: acknowledgements and errors. [`dumps`]: dumps. [`single`]: single replies and notifications. Each is
-//!   a table of what was recorded from a kernel, built again from its values. Numbers are those of docs/RECORDINGS.md.
+//!   a table of recordings of a kernel, built again from their values. Numbers are those of docs/RECORDINGS.md.
 //! - [`family`]: a family of generic netlink, served, and its client on the router.
-//! - [`notified`]: notifications, and a client that asks meanwhile. [`said`]: interrupted, filtered and failed dumps,
-//!   messages without MULTI, control messages, and which requests ask for a dump.
-//! - [`laws`], [`more_laws`]: the laws are called. [`support`]: what the tests share.
+//! - [`notified`]: notifications, and a client with a request meanwhile. [`said`]: interrupted, filtered and failed
+//!   dumps, messages without MULTI, control messages, and which requests are for a dump.
+//! - [`laws`], [`more_laws`]: the laws are called. [`support`]: shared parts of the tests.
 
 mod answers;
 mod dumps;

@@ -8,20 +8,20 @@
 //! `nl_groups` as linux/netlink.h and netlink(7) have them, group 1 the lowest; lengths of bit arrays are
 //! worked out from words of 32 bits.
 //!
-//! - [`numbers`], [`texts`], [`lists`], [`octets`], [`nothing`]: what values of each kind are written as, and
-//!   what is read. [`padding`] and [`frames`]: what stands around them. [`cursor`]: the place in bytes.
-//! - [`errors`]: what refusals are made of. [`printed`]: what every error prints, those of builders and of
-//!   the reader of messages too.
-//! - [`constants`], [`types`], [`wrappers`]: constants on the wire, and the traits and wrappers over the
-//!   tables. [`sets`]: flags as sets. [`equality`]: which constants are equal. What each number is read as,
-//!   what it is written as and what each flag is, `neli_constants` lists.
+//! - [`numbers`], [`texts`], [`lists`], [`octets`], [`nothing`]: the bytes and the readings of each kind of value.
+//!   [`padding`] and [`frames`]: the bytes around them. [`cursor`]: the place in bytes.
+//! - [`errors`]: the parts of refusals. [`printed`]: the text of every error, those of builders and of the reader of
+//!   messages too.
+//! - [`constants`], [`types`], [`wrappers`]: constants on the wire, and the traits and wrappers over the tables.
+//!   [`sets`]: flags as sets. [`equality`]: which constants are equal. `neli_constants` lists the reading of each
+//!   number, the number written for it, and each flag.
 //! - [`shown`]: exit codes, sets of flags and headers of messages as texts. [`body_lines`]: the fields of bodies.
 //! - [`groups`] and [`masks`]: lists of multicast groups, and their masks. [`bit_arrays`]: bit arrays.
 //! - [`own_types`], [`own_enums`]: a user's own types, those of `example_body`, and enums, those of
 //!   `example_enum`.
 //! - [`laws`]: the laws, called.
-//! - [`out_of_memory`], [`groups_out_of_memory`]: what each call answers where an allocation is refused.
-//! - [`support`]: what the tests share.
+//! - [`out_of_memory`], [`groups_out_of_memory`]: the result of each call when an allocation is refused.
+//! - [`support`]: shared parts of the tests.
 
 mod bit_arrays;
 mod body_lines;

@@ -1,4 +1,4 @@
-//! Tests of what the programs are made of, a module a subject.
+//! Tests of the programs' crates, a module a subject.
 //!
 //! - [`tool`]: `neli_tool`, which lists datagrams, writes them again and replays scripts.
 //! - [`inputs`]: pcap files and pasted texts, as `neli_show` reads them. [`schema`]: attributes by name.

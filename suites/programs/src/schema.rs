@@ -1,6 +1,6 @@
 //! Tests of attributes by name.
 //!
-//! - [`walks`]: what a walk gives, nests and all. [`payloads`]: each kind of payload,
+//! - [`walks`]: the items of a walk, those in nests too. [`payloads`]: each kind of payload,
 //!   right and broken. [`breaches`]: what a check refuses. [`offsets`]: the attribute at each offset.
 //! - [`finding`]: tables and rows are found by their numbers.
 //! - [`own`]: tables of a caller's own. [`support`]: what the tests share.

@@ -1,4 +1,4 @@
-//! What all readings of a datagram have in common.
+//! Common facts of all readings of a datagram.
 
 use crate::zeroed::clear_padding;
 use neli::connector::{CnMsg, ProcEventHeader};
@@ -13,15 +13,15 @@ use neli::{FromBytesWithInput, ToBytes};
 use std::alloc::{AllocError, Global};
 use std::fmt::Display;
 
-/// A message that no type is given to.
+/// A message with untyped payload.
 type Raw = Nlmsghdr<u16, Buffer>;
 
-/// Why a datagram is given up.
+/// Why a datagram is rejected.
 #[derive(Clone, Copy)]
 pub enum Trouble {
     /// Memory ran out.
     Memory,
-    /// Two readings differ, or what was written.
+    /// Two readings differ, or the written bytes do.
     Differs(&'static str),
 }
 
@@ -37,7 +37,7 @@ impl From<AllocError> for Trouble {
     }
 }
 
-/// How many messages and faults were read.
+/// The number of messages and faults read.
 #[derive(Clone, Copy, Default)]
 pub struct Counts {
     pub messages: u64,
@@ -71,7 +71,7 @@ fn written<V: ToBytes>(alloc: Global, value: &V) -> Result<Vec<u8>, Trouble> {
     }
 }
 
-/// A walk over lent messages gives the owned ones, and the same fault.
+/// A walk over lent messages returns the owned ones, and the same fault.
 fn lent(
     alloc: Global,
     bytes: &[u8],
@@ -89,7 +89,7 @@ fn lent(
             Err(_) => return Err(Trouble::Differs("a lent message is refused")),
         }
     }
-    // The walk does not look into payloads: it goes on where one is refused, and misses the padding after it first.
+    // The walk does not read payloads: it continues past a refused one, and reports the padding after it first.
     let refusal = match walk.next() {
         None => None,
         Some(Err(_)) if bytes.len() % 4 != 0 => return agree(fault.is_some(), "a lent fault"),
@@ -100,7 +100,7 @@ fn lent(
     agree(refusal == text_of(alloc, fault)?, "the lent fault")
 }
 
-/// The cause of a refusal to retype, as a reader would give it.
+/// The cause of a refusal to retype, as a reader would return it.
 fn cause<T: Drop, P: Drop>(error: RouterError<T, P>) -> Result<DeError, Trouble> {
     match error {
         RouterError::De(DeError::Memory) | RouterError::Memory => Err(Trouble::Memory),
@@ -109,7 +109,7 @@ fn cause<T: Drop, P: Drop>(error: RouterError<T, P>) -> Result<DeError, Trouble>
     }
 }
 
-/// What is written of a message but for its length and that of an echoed one, which retyping rounds up.
+/// The bytes of a message except its length and that of an echoed one, which retyping rounds up.
 fn without_lengths<P: ToBytes>(
     alloc: Global,
     message: &Nlmsghdr<u16, P>,
@@ -139,8 +139,8 @@ fn same_typed<P: ToBytes>(
     agree(is_same, "a typed message is another one")
 }
 
-/// Reading as messages with a `P` gives what comes of retyping, up to the first that is refused. Where reading ends in
-/// a fault, so does this; by which one is open, since a body may be refused before.
+/// Reading as messages with a `P` returns the results of retyping, up to the first that is refused. If reading ends in
+/// a fault, so does this; which fault is open, since a body may be refused earlier.
 fn typed<P: FromBytesWithInput + ToBytes>(
     alloc: Global,
     bytes: &[u8],
@@ -186,7 +186,7 @@ fn again(alloc: Global, bytes: &[u8], messages: &Vec<Raw>) -> Result<(), Trouble
     agree(read == *messages, "what is written again is read otherwise")
 }
 
-/// Asks all this of a datagram.
+/// Checks all this for a datagram.
 pub fn check(alloc: Global, bytes: &[u8], counts: &mut Counts) -> Result<(), Trouble> {
     let (messages, fault) = cut::<u16, Buffer>(alloc, bytes)?;
     let fault = fault.as_ref();

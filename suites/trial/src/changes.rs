@@ -22,7 +22,7 @@ pub fn one_of<'a>(random: &mut SmallRng, recorded: &'a [Vec<u8>]) -> &'a [u8] {
     }
 }
 
-/// A number that a length is set to in place of the right one.
+/// A wrong number for a length.
 fn wrong(random: &mut SmallRng, right: u32) -> u32 {
     match below(random, 9) {
         0 => 0,

@@ -3,7 +3,7 @@
 use std::alloc::Global;
 use std::io;
 
-/// What is wanted: a seed, and how many datagrams and scripts.
+/// The request: a seed, and the numbers of datagrams and scripts.
 #[derive(Clone, Copy)]
 pub struct Wanted {
     pub seed: u64,
@@ -11,7 +11,7 @@ pub struct Wanted {
     pub scripts: u64,
 }
 
-/// The error of words or lines that can't be read.
+/// The error of words or lines that cannot be read.
 fn unreadable() -> io::Error {
     io::Error::from(io::ErrorKind::InvalidInput)
 }
@@ -22,7 +22,7 @@ fn number(words: &[String], at: usize) -> io::Result<u64> {
     word.parse().map_err(|_| unreadable())
 }
 
-/// What the words ask for.
+/// The request in the words.
 pub fn read_words(words: &[String]) -> io::Result<Wanted> {
     Ok(Wanted {
         seed: number(words, 0)?,

@@ -1,11 +1,11 @@
 //! `neli_trial SEED DATAGRAMS SCRIPTS`: takes recorded datagrams from standard input, a line of hexadecimal digits
-//! each, changes them at random so many times, and makes so many scripts of what came of that. It asks of each what is
-//! proved of all, and prints what differs: there is nothing to be printed but the last line, which counts. How many
-//! messages and faults were read stands on standard error.
+//! each, changes them at random so many times, and makes so many scripts of the results. It checks each against what is
+//! proved of all, and prints the differences: the only line to expect is the last one, which counts. Standard error
+//! gets the numbers of messages and faults that were read.
 //!
 //! - [`agree`]: a datagram read lent, untyped and typed is the same, and written again it is itself, with zeros for its
 //!   padding, as [`zeroed`] walks over it.
-//! - [`scripts`]: both stores of the router answer a script alike.
+//! - [`scripts`]: both stores of the router have the same outcomes for a script.
 //! - [`changes`]: cuts, lengths, flips, splices and other orders. [`input`]: words and lines.
 //!
 //! `bench/run-trial` runs it.
@@ -29,12 +29,12 @@ use std::io::{Read, Write};
 use std::process::ExitCode;
 use std::{env, io};
 
-/// The error where memory runs out.
+/// The error when memory runs out.
 fn out_of_memory() -> io::Error {
     io::Error::from(io::ErrorKind::OutOfMemory)
 }
 
-/// What differs, and the datagram or the script's seed: a line.
+/// The difference, and the datagram or the script's seed: a line.
 fn tell(out: &mut impl Write, what: &str, bytes: &[u8]) -> io::Result<()> {
     write!(out, "differs: {what}: ")?;
     for byte in bytes {
@@ -43,7 +43,7 @@ fn tell(out: &mut impl Write, what: &str, bytes: &[u8]) -> io::Result<()> {
     writeln!(out)
 }
 
-/// Tries so many datagrams, and gives how many differ.
+/// Tries so many datagrams, and returns the number that differ.
 fn try_datagrams(
     alloc: Global,
     out: &mut impl Write,
@@ -67,7 +67,7 @@ fn try_datagrams(
     Ok(differing)
 }
 
-/// Tries so many scripts, each of a seed of its own, and gives how many differ.
+/// Tries so many scripts, each of a seed of its own, and returns the number that differ.
 fn try_scripts(
     alloc: Global,
     out: &mut impl Write,
@@ -85,7 +85,7 @@ fn try_scripts(
     Ok(differing)
 }
 
-/// Does what the words of the command line ask for, and says whether nothing differed.
+/// Performs the request in the words of the command line, and returns whether nothing differed.
 fn run<R: Env + AllocGlobal>(
     rt: &R,
     stdin: &mut impl Read,

@@ -88,7 +88,7 @@ fn script(alloc: Global, seed: u64, recorded: &[Vec<u8>]) -> Result<Vec<Asked>, 
     Ok(commands)
 }
 
-/// Appends what is written of a value; what is never refused but for memory.
+/// Appends the bytes of a value that is refused only for memory.
 fn push<V: ToBytes>(out: &mut Vec<u8>, value: &V) -> Result<(), NoMemory> {
     match value.to_bytes(out) {
         Err(SerError::Memory) => Err(NoMemory),
@@ -117,7 +117,7 @@ fn push_refusal(
     }
 }
 
-/// Appends what came of a command.
+/// Appends the outcome of a command.
 fn push_outcome(alloc: Global, out: &mut Vec<u8>, outcome: &Came) -> Result<(), NoMemory> {
     match outcome {
         Outcome::Done => push_text(out, "done"),
@@ -132,7 +132,7 @@ fn push_outcome(alloc: Global, out: &mut Vec<u8>, outcome: &Came) -> Result<(), 
     push_text(out, "\n")
 }
 
-/// What comes of these commands over this store.
+/// The outcomes of these commands over this store.
 fn told<D: Deliveries>(alloc: Global, commands: Vec<Asked>) -> Result<Vec<u8>, NoMemory> {
     let came = run::<D, u16, Buffer, u16, Buffer>(alloc, PORT, commands)?;
     let mut out = Vec::new(alloc);
@@ -142,7 +142,7 @@ fn told<D: Deliveries>(alloc: Global, commands: Vec<Asked>) -> Result<Vec<u8>, N
     Ok(out)
 }
 
-/// Whether the script of a seed is answered alike over both stores.
+/// Whether the script of a seed has the same outcomes over both stores.
 pub fn compare(alloc: Global, seed: u64, recorded: &[Vec<u8>]) -> Result<bool, NoMemory> {
     let plain = told::<Queues>(alloc, script(alloc, seed, recorded)?)?;
     let shared = told::<Log>(alloc, script(alloc, seed, recorded)?)?;

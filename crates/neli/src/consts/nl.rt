@@ -1,3 +1,3 @@
-//! What every message has: types and flags.
+//! Types and flags of every message.
 
 pub use neli_consts::{GenlId, NlType, NlTypeWrapper, NlmF, Nlmsg, NlmsgerrAttr};

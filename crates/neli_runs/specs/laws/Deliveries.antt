@@ -1,4 +1,4 @@
--- The deliveries to a handle, event by event, and that they are those by moments.
+-- The deliveries to a handle, event by event; they equal those by moments.
 use Rattle.std.proofs.Common.{◌≡◌, ℕ, Bool, true, false, List, [], ◌∷◌, ◌++◌, refl, sym, ap, ◌∙◌, append_assoc}
 use Rattle.std.specs.Prelude.{if◌then◌else◌}
 use Rattle.std.specs.List.{filter, flat_map}
@@ -21,7 +21,7 @@ gain-some true xs ys = refl
 gain-some false xs ys = append-nil xs
 
 module _ {ST SP RT RP : Type 0} where
-  -- what was delivered, with what a command adds
+  -- the deliveries so far, with those of one command more
   abbrev pub with_gain : ℕ → ℕ → History ST SP RT RP → Command ST SP → List Delivery → List Delivery
   with_gain port k h (command.Datagram b groups) before =
       if is_handle_open k h then before ++ datagram_share port (λ q. is_open q h) (list_of_handle k h)
@@ -72,7 +72,7 @@ module _ {ST SP RT RP : Type 0} where
   gain-is port k h (command.Read j) before = gain-nothing (is_handle_open k h) before
   gain-is port k h (command.Close j) before = gain-nothing (is_handle_open k h) before
 
-  -- a command more adds what it hands over
+  -- one more command adds its deliveries
   pub deliveries-more : (port k : ℕ) (e : Event ST SP RT RP) (h : History ST SP RT RP)
       → deliveries port k (e ∷ h) ≡ deliveries port k h ++ (if is_handle_open k h then handed_over port k e.0 h else [])
   unfolding by_moment live_at

@@ -1,4 +1,4 @@
--- What a session keeps of a history: the router's lists, and of each handle what its reads need.
+-- The session's invariant over a history: the router's lists, and what the reads of each handle need.
 use Rattle.std.specs.Prelude.{ℕ, suc, ◌≡◌, ◌≤◌, true, false, nat_lt, nat_le, List, [], ◌∷◌, drop, length, Option, Some}
 use Rattle.std.specs.Prelude.{None, Result}
 use Rattle.std.specs.List.{slice_get}
@@ -15,15 +15,15 @@ use Rattle.neli_runs.specs.History.{list_of_handle}
 use Rattle.neli_runs.specs.Outcomes.{AreReadings, IsAnswered, IsSent, WereAnswers, is_numbered}
 use Rattle.neli_runs.specs.laws.Deliveries.{delivered}
 
--- what waits, for each number and for multicast
+-- the deliveries that wait, for each number and for multicast
 abbrev pub Pending : Type 0
 Pending = Option ℕ → Option (List Delivery)
 
--- the handles that were given; none where one is closed
+-- the handles given so far; none in the place of a closed one
 abbrev pub Handles : Type 0
 Handles = List (Option HandleState)
 
--- the handle for multicast, as it begins
+-- the handle for multicast at the start
 abbrev pub multicast : HandleState
 multicast = record { number = None; needs_ack = false; single_given = false; ended = false }
 
@@ -49,7 +49,7 @@ pub record IsFresh {ST SP K P : Type 0} (port k : ℕ) (h : History ST SP K P) :
   pub items_none : items_of k h ≡ []
   pub deliveries_none : delivered port k h ≡ []
 
--- a list of deliveries belongs to a handle that is open
+-- each list of deliveries belongs to an open handle
 abbrev pub IsOwned : {ST SP K P : Type 0} → ℕ → History ST SP K P → Type 0
 IsOwned q h = (k : ℕ) × (is_handle_open k h ≡ true) × (list_of_handle k h ≡ Some q)
 
@@ -78,22 +78,22 @@ module _ {ST SP K P V : Type 0} (type_of : ℕ → K) (number_of : K → ℕ) (v
   Holds port next pending handles h = Agrees type_of number_of view size read port next (length handles) pending
       (λ k. slice_get handles k) h
 
-  -- a command with this outcome leads from what is kept of any history to what is kept of it and the command, and the
-  -- outcome is what is said
+  -- a command with this outcome leads from the invariant of any history to that of it and the command, and the outcome
+  -- is right
   abbrev pub StepKeeps : (History ST SP K P → Command ST SP → Outcome ST SP K P → Type 0) → ℕ → ℕ → Pending → Handles
       → ℕ → Pending → Handles → Command ST SP → Outcome ST SP K P → Type 0
   StepKeeps StepIsRight port next pending handles next' pending' handles' c o =
       (h : History ST SP K P) → Holds port next pending handles h
       → StepIsRight h c o × Holds port next' pending' handles' ((c, o) ∷ h)
 
--- what holds of an outcome, whatever its command is
+-- a property of an outcome, whatever its command is
 abbrev pub StepIsRight : {ST SP K P V : Type 0} → (ℕ → K) → (K → ℕ) → (P → V) → (P → ℕ) → (List ℕ → Result V DeError)
     → (ST → ℕ) → (SP → Wire) → (SP → ℕ) → ℕ → History ST SP K P → Command ST SP → Outcome ST SP K P → Type 0
 StepIsRight type_of number view size read number_of wire wire_size port h c o =
     IsSent number_of wire wire_size port h c o × IsAnswered type_of number view size read port h c o
 
--- a step of a session: its command with this outcome leads from what is kept of any history to what is kept of it and
--- the command, and the outcome is right
+-- a step of a session: its command with this outcome leads from the invariant of any history to that of it and the
+-- command, and the outcome is right
 abbrev pub IsStep : {ST SP K P V : Type 0} → (ℕ → K) → (K → ℕ) → (P → V) → (P → ℕ) → (List ℕ → Result V DeError)
     → (ST → ℕ) → (SP → Wire) → (SP → ℕ) → ℕ → ℕ → Pending → Handles → ℕ → Pending → Handles → Command ST SP
     → Outcome ST SP K P → Type 0

@@ -1,4 +1,4 @@
-//! What messages carry, by protocol (`NETLINK_*` of `linux/netlink.h`) and type.
+//! The contents of messages, by protocol (`NETLINK_*` of `linux/netlink.h`) and type.
 //!
 //! 0 is `NETLINK_ROUTE` with the types `RTM_*` of `linux/rtnetlink.h`, 11 is `NETLINK_CONNECTOR` with the events
 //! `PROC_EVENT_*` of `linux/cn_proc.h`, 16 is `NETLINK_GENERIC` with the controller's type of `linux/genetlink.h`.
@@ -31,7 +31,7 @@ macro_rules! bodies {
     };
 }
 
-/// What messages carry, by protocol and type.
+/// The contents of messages, by protocol and type.
 pub static BODIES: [Body<'static>; 72] = bodies! {
     0, RTM_NEWLINK = 16, LINK;
     0, RTM_DELLINK = 17, LINK;

@@ -141,7 +141,7 @@ pub const POLICY_TABLE: Table<'static> = Table {
     }),
 };
 
-/// `NL_POLICY_TYPE_ATTR_*` of `linux/netlink.h`: what a policy says of an attribute.
+/// `NL_POLICY_TYPE_ATTR_*` of `linux/netlink.h`: a policy's rules for an attribute.
 pub const ATTRIBUTE_POLICY_TABLE: Table<'static> = Table {
     id: ATTRIBUTE_POLICY,
     header: Structure::NONE,
@@ -162,7 +162,7 @@ pub const ATTRIBUTE_POLICY_TABLE: Table<'static> = Table {
     each: None,
 };
 
-/// The payload of `CTRL_ATTR_OP_POLICY` of `linux/genetlink.h`: which policies commands have, by command.
+/// The payload of `CTRL_ATTR_OP_POLICY` of `linux/genetlink.h`: the policies of commands, by command.
 pub const COMMAND_POLICIES_TABLE: Table<'static> = Table {
     id: COMMAND_POLICIES,
     header: Structure::NONE,
@@ -176,7 +176,7 @@ pub const COMMAND_POLICIES_TABLE: Table<'static> = Table {
     }),
 };
 
-/// `CTRL_ATTR_POLICY_*` of `linux/genetlink.h`: which policies a command has.
+/// `CTRL_ATTR_POLICY_*` of `linux/genetlink.h`: the policies of a command.
 pub const COMMAND_POLICY_TABLE: Table<'static> = Table {
     id: COMMAND_POLICY,
     header: Structure::NONE,

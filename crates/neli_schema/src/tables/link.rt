@@ -51,7 +51,7 @@ const RTNL_LINK_STATS: Structure<'static> = Structure {
     },
 };
 
-/// `struct rtnl_link_ifmap` of `linux/if_link.h`: where the hardware of a link is, 32 bytes.
+/// `struct rtnl_link_ifmap` of `linux/if_link.h`: the place of a link's hardware, 32 bytes.
 const RTNL_LINK_IFMAP: Structure<'static> = Structure {
     name: "rtnl_link_ifmap",
     size: 32,
@@ -111,7 +111,7 @@ pub const IFINFOMSG: Structure<'static> = Structure {
     },
 };
 
-/// What `IFLA_PROTINFO` has for a family.
+/// The table of `IFLA_PROTINFO`, by family.
 const BY_FAMILY: Choice<'static> = Choice {
     by: By::Family,
     cases: &[
@@ -129,7 +129,7 @@ const BY_FAMILY: Choice<'static> = Choice {
     otherwise: None,
 };
 
-/// What `IFLA_AF_SPEC` has: a bridge's own attributes for `AF_BRIDGE`, else those of each family.
+/// The table of `IFLA_AF_SPEC`: a bridge's own attributes for `AF_BRIDGE`, else those of each family.
 const BY_BRIDGE: Choice<'static> = Choice {
     by: By::Family,
     cases: &[
@@ -241,7 +241,7 @@ pub const PROTO_DOWN_REASON_TABLE: Table<'static> = Table {
     each: None,
 };
 
-/// `IFLA_XDP_*` of `linux/if_link.h`: programs that see packets first.
+/// `IFLA_XDP_*` of `linux/if_link.h`: programs that get packets first.
 pub const XDP_TABLE: Table<'static> = Table {
     id: XDP,
     header: Structure::NONE,

@@ -1,4 +1,4 @@
-//! What address families have of a link (`linux/if_link.h`).
+//! A link's attributes in each address family (`linux/if_link.h`).
 
 use crate::Number::{S32, U8, U32, U64};
 use crate::{Structure, Table, TableId, fields, rows};
@@ -136,7 +136,7 @@ pub(crate) const IFLA_CACHEINFO: Structure<'static> = Structure {
     },
 };
 
-/// `IFLA_AF_SPEC` of `linux/if_link.h`: what address families have of a link.
+/// `IFLA_AF_SPEC` of `linux/if_link.h`: a link's attributes in each address family.
 pub const TABLE: Table<'static> = Table {
     id: FAMILIES,
     header: Structure::NONE,

@@ -1,4 +1,4 @@
-//! Kinds of links, and what each has (`linux/if_link.h`, `linux/veth.h`).
+//! Kinds of links, and the attributes of each (`linux/if_link.h`, `linux/veth.h`).
 
 use crate::Number::{Be16, Be32, S32, U8, U16, U32};
 use crate::tables::bond::{BOND, BOND_PORT};
@@ -36,7 +36,7 @@ pub const VRF_PORT: TableId = TableId(28);
 /// The table of `IFLA_TUN_*`.
 pub const TUN: TableId = TableId(29);
 
-/// `struct ifla_vlan_flags` of `linux/if_link.h`: flags of a VLAN and which of them are set, 8 bytes.
+/// `struct ifla_vlan_flags` of `linux/if_link.h`: flags of a VLAN and the mask of those that are set, 8 bytes.
 const IFLA_VLAN_FLAGS: Structure<'static> = Structure {
     name: "ifla_vlan_flags",
     size: 8,
@@ -66,7 +66,7 @@ const IFLA_VXLAN_PORT_RANGE: Structure<'static> = Structure {
     },
 };
 
-/// Which attributes stand beside `IFLA_INFO_KIND`.
+/// The table of `IFLA_INFO_DATA`, by `IFLA_INFO_KIND` in the same list.
 const BY_KIND: Choice<'static> = Choice {
     by: By::Neighbour(1),
     cases: &[
@@ -110,7 +110,7 @@ const BY_KIND: Choice<'static> = Choice {
     otherwise: None,
 };
 
-/// Which attributes stand beside `IFLA_INFO_SLAVE_KIND`.
+/// The table of `IFLA_INFO_SLAVE_DATA`, by `IFLA_INFO_SLAVE_KIND` in the same list.
 const BY_PORT_KIND: Choice<'static> = Choice {
     by: By::Neighbour(4),
     cases: &[

@@ -44,7 +44,7 @@ pub const NHMSG: Structure<'static> = Structure {
     },
 };
 
-/// Which attributes stand beside `NHA_ENCAP_TYPE`.
+/// The table of `NHA_ENCAP`, by `NHA_ENCAP_TYPE` in the same list.
 const BY_ENCAP_TYPE: Choice<'static> = Choice {
     by: By::Neighbour(7),
     cases: &[

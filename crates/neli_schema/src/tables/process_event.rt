@@ -1,5 +1,5 @@
 //! Process events of the connector (`linux/cn_proc.h`, `linux/connector.h`): the header of the connector (`struct
-//! cn_msg`, 20 bytes), then an event (`struct proc_event`, 40 bytes with what no event uses).
+//! cn_msg`, 20 bytes), then an event (`struct proc_event`, 40 bytes including the unused ones).
 
 use crate::Number::{S32, U16, U32, U64};
 use crate::{Structure, Table, TableId, fields};
@@ -183,7 +183,7 @@ pub const SID_TABLE: Table<'static> = Table {
     each: None,
 };
 
-/// `PROC_EVENT_PTRACE` of `linux/cn_proc.h`: a task is traced, or no more (the member `ptrace` of `struct
+/// `PROC_EVENT_PTRACE` of `linux/cn_proc.h`: tracing of a task began or ended (the member `ptrace` of `struct
 /// proc_event`).
 pub const PTRACE_TABLE: Table<'static> = Table {
     id: PTRACE,
@@ -235,8 +235,7 @@ pub const COMM_TABLE: Table<'static> = Table {
     each: None,
 };
 
-/// `PROC_EVENT_COREDUMP` of `linux/cn_proc.h`: a task leaves a dump of its memory (the member `coredump` of `struct
-/// proc_event`).
+/// `PROC_EVENT_COREDUMP` of `linux/cn_proc.h`: a task dumps its memory (the member `coredump` of `struct proc_event`).
 pub const COREDUMP_TABLE: Table<'static> = Table {
     id: COREDUMP,
     header: Structure {

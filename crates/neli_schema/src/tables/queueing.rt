@@ -28,7 +28,7 @@ const TC_STATS: Structure<'static> = Structure {
     },
 };
 
-/// `struct gnet_estimator` of `linux/gen_stats.h`: how a rate is estimated, 2 bytes.
+/// `struct gnet_estimator` of `linux/gen_stats.h`: settings of a rate's estimation, 2 bytes.
 const GNET_ESTIMATOR: Structure<'static> = Structure {
     name: "gnet_estimator",
     size: 2,
@@ -38,7 +38,7 @@ const GNET_ESTIMATOR: Structure<'static> = Structure {
     },
 };
 
-/// `struct nla_bitfield32` of `linux/netlink.h`: bits and which of them are set, 8 bytes.
+/// `struct nla_bitfield32` of `linux/netlink.h`: bits and the mask of those that are set, 8 bytes.
 pub(crate) const NLA_BITFIELD32: Structure<'static> = Structure {
     name: "nla_bitfield32",
     size: 8,
@@ -104,7 +104,7 @@ const GNET_STATS_RATE_EST64: Structure<'static> = Structure {
     },
 };
 
-/// `struct tc_sizespec` of `linux/pkt_sched.h`: how sizes are rounded, 24 bytes.
+/// `struct tc_sizespec` of `linux/pkt_sched.h`: rounding of sizes, 24 bytes.
 const TC_SIZESPEC: Structure<'static> = Structure {
     name: "tc_sizespec",
     size: 24,
@@ -162,7 +162,7 @@ pub const QUEUE_STATISTICS_TABLE: Table<'static> = Table {
     each: None,
 };
 
-/// `TCA_STAB_*` of `linux/pkt_sched.h`: how sizes are rounded.
+/// `TCA_STAB_*` of `linux/pkt_sched.h`: rounding of sizes.
 pub const SIZES_TABLE: Table<'static> = Table {
     id: SIZES,
     header: Structure::NONE,

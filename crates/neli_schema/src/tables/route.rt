@@ -79,7 +79,7 @@ pub const RTNEXTHOP: Structure<'static> = Structure {
     },
 };
 
-/// Which attributes stand beside `RTA_ENCAP_TYPE`.
+/// The table of `RTA_ENCAP`, by `RTA_ENCAP_TYPE` in the same list.
 const BY_ENCAP_TYPE: Choice<'static> = Choice {
     by: By::Neighbour(21),
     cases: &[

@@ -84,8 +84,8 @@ const IFLA_VF_RATE: Structure<'static> = Structure {
     },
 };
 
-/// `struct ifla_vf_rss_query_en` of `linux/if_link.h`: whether the receive queues of a virtual function may be asked
-/// for, 8 bytes.
+/// `struct ifla_vf_rss_query_en` of `linux/if_link.h`: whether a virtual function's receive queues may be queried, 8
+/// bytes.
 const IFLA_VF_RSS_QUERY_EN: Structure<'static> = Structure {
     name: "ifla_vf_rss_query_en",
     size: 8,
@@ -105,8 +105,8 @@ const IFLA_VF_TRUST: Structure<'static> = Structure {
     },
 };
 
-/// `struct ifla_vf_guid` of `linux/if_link.h`: an InfiniBand identity of a virtual function, 16 bytes where numbers
-/// of 64 bits stand at multiples of 8.
+/// `struct ifla_vf_guid` of `linux/if_link.h`: an InfiniBand identity of a virtual function, 16 bytes on machines that
+/// align numbers of 64 bits to 8.
 const IFLA_VF_GUID: Structure<'static> = Structure {
     name: "ifla_vf_guid",
     size: 16,

@@ -1,5 +1,5 @@
-//! Conversations with a kernel, Linux 6.18 on x86-64, as they were recorded: the request that a program sent, and each
-//! datagram that came for it. What the messages hold was read by libmnl and pyroute2.
+//! Conversations with a kernel, Linux 6.18 on x86-64, as recorded: a program's request, and each datagram that arrived
+//! for it. libmnl and pyroute2 read the contents of the messages.
 
 use super::pages::generic;
 use super::support::assert_is;
@@ -16,7 +16,7 @@ use neli::types::{Buffer, GenlBuffer};
 use std::alloc::Global;
 use std::process::Abort;
 
-/// What the controller is asked, and answers.
+/// A request to the controller, and its answer.
 type Ctrl = Genlmsghdr<CtrlCmd, CtrlAttr>;
 
 /// A request for the family of this name.
@@ -32,7 +32,7 @@ fn family(rt: &impl Abort, alloc: Global, name: &str) -> Ctrl {
         .expect(rt, "a request")
 }
 
-/// What the controller answers to a request for the family of this name.
+/// The controller's answer to a request for the family of this name.
 fn controller(
     rt: &impl Abort,
     alloc: Global,
@@ -78,7 +78,7 @@ const NLCTRL: Talk = Talk {
     ],
 };
 
-/// What the controller told of itself.
+/// The controller's facts about itself.
 fn nlctrl(rt: &impl Abort, alloc: Global) -> Vec<Item<GenlId, Ctrl>> {
     controller(rt, alloc, &NLCTRL, NlmF::empty(), "nlctrl")
 }
@@ -107,7 +107,7 @@ const ADDRESSES: Talk = Talk {
     ],
 };
 
-/// The addresses that the kernel was asked for.
+/// The addresses in the kernel's answer.
 fn addresses(rt: &impl Abort, alloc: Global) -> Vec<Item<Rtm, Ifaddrmsg>> {
     let asked = IfaddrmsgBuilder::default()
         .ifa_family(RtAddrFamily::Inet)
@@ -184,7 +184,7 @@ fn an_error_says_why(rt: HostRuntime) {
     assert_policy(&rt, alloc, answer.ext_ack());
 }
 
-/// Asserts what the kernel's three attributes say.
+/// Asserts the values of the kernel's three attributes.
 fn assert_why(rt: &impl Abort, alloc: Global, ext_ack: &GenlBuffer<NlmsgerrAttr, Buffer>) {
     let attrs = ext_ack.get_attr_handle();
     let said: Option<&str> = attrs
@@ -199,8 +199,8 @@ fn assert_why(rt: &impl Abort, alloc: Global, ext_ack: &GenlBuffer<NlmsgerrAttr,
     );
 }
 
-/// Asserts what the third attribute says that the kernel takes: a text that ends in a zero (`NL_ATTR_TYPE_NUL_STRING`,
-/// 12), of 15 bytes at most. The numbers are those of linux/netlink.h.
+/// Asserts the policy in the kernel's third attribute: a text that ends in a zero (`NL_ATTR_TYPE_NUL_STRING`, 12), of
+/// at most 15 bytes. The numbers are those of linux/netlink.h.
 fn assert_policy(rt: &impl Abort, alloc: Global, ext_ack: &GenlBuffer<NlmsgerrAttr, Buffer>) {
     let attrs = ext_ack.get_attr_handle();
     let policy = attrs

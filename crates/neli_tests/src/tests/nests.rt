@@ -1,7 +1,7 @@
-//! A request whose attributes have attributes: a bridge is made, with settings of its own.
+//! A request with nested attributes: it creates a bridge with settings of its own.
 //!
-//! Its bytes are those that iproute2 hands to the kernel, as 1090 of docs/RECORDINGS.md has them, for
-//! `ip link add br0 type bridge mcast_snooping 1 stp_state 1 priority 5`.
+//! Its bytes are those that iproute2 sends to the kernel, as 1090 of docs/RECORDINGS.md has them, for `ip link add br0
+//! type bridge mcast_snooping 1 stp_state 1 priority 5`.
 
 use super::support::assert_spelled;
 use neli::ToBytes;
@@ -27,7 +27,7 @@ fn attribute<T: RtaType, P: ToBytes + Drop>(
         .build(alloc)
 }
 
-/// What the link is: a bridge with these settings, made from the inside out.
+/// The link's kind: a bridge with these settings, made from the inside out.
 fn bridge(alloc: Global) -> Result<Rtattr<Ifla, Buffer>, Fail> {
     let settings = attribute(alloc, IflaInfo::Data, ())?
         .nest(&attribute(alloc, IflaBr::McastSnooping, 1u8)?)?
@@ -39,7 +39,7 @@ fn bridge(alloc: Global) -> Result<Rtattr<Ifla, Buffer>, Fail> {
     Ok(info)
 }
 
-/// The link to be made.
+/// The link to create.
 fn link(alloc: Global, name: &str) -> Result<Ifinfomsg, Fail> {
     let mut attrs = RtBuffer::new(alloc);
     attrs.push(attribute(alloc, Ifla::Ifname, name)?)?;

@@ -51,7 +51,7 @@ fn nested_attributes(rt: HostRuntime) -> Result<(), Fail> {
     Ok(())
 }
 
-/// The state of a bridge's port, where the link tells it.
+/// The state of a bridge's port, if the link has it.
 fn state_of_a_port(alloc: Global, link: &Ifinfomsg) -> Result<Option<u8>, Fail> {
     let attrs = link.rtattrs().get_attr_handle();
     if let Some(port) = attrs.get_attribute_masked(Ifla::Protinfo) {
@@ -63,7 +63,7 @@ fn state_of_a_port(alloc: Global, link: &Ifinfomsg) -> Result<Option<u8>, Fail> 
     Ok(None)
 }
 
-/// How many attributes a bridge's port has, where the link tells them.
+/// The number of a bridge port's attributes, if the link has them.
 fn attributes_of_a_port(attrs: &LentRtattrs<'_, Ifla>) -> Result<Option<usize>, Fail> {
     if let Some(port) = attrs.get_attribute_masked(Ifla::Protinfo)? {
         let inner = port.get_attrs::<u16>();
@@ -72,7 +72,7 @@ fn attributes_of_a_port(attrs: &LentRtattrs<'_, Ifla>) -> Result<Option<usize>, 
     Ok(None)
 }
 
-/// A link's fields, 16 bytes, and the front of the list that a port of a bridge has as `IFLA_PROTINFO`, marked as
+/// A link's fields, 16 bytes, and the start of the list that a port of a bridge has as `IFLA_PROTINFO`, marked as
 /// nested: its state, 3, and its priority, 32.
 const PORT: &str = "0700000005000000000000000000000014000c8005000100030000000600020020000000";
 
@@ -135,7 +135,7 @@ fn reply_in(
     Ok(reply)
 }
 
-// The controller is asked for `nlctrl`, and tells the number 16.
+// The controller receives a request for `nlctrl`, and returns the number 16.
 #[test]
 fn the_first_reply_of_a_datagram(rt: HostRuntime) -> Result<(), Fail> {
     let alloc = rt.alloc();

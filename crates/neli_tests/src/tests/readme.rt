@@ -1,4 +1,4 @@
-//! The example of the README, and those that docs/ATTRIBUTES.md and docs/LENT.md begin with, line by line.
+//! The example of the README, and the first ones of docs/ATTRIBUTES.md and docs/LENT.md, line by line.
 
 use super::support::{assert_is, assert_spelled, bytes_of};
 use neli::consts::nl::NlmF;
@@ -12,14 +12,13 @@ use std::alloc::Global;
 use std::net::Ipv4Addr;
 use std::test::Fail;
 
-/// What the link, the router or a builder refused.
+/// A refusal of the link, the router or a builder.
 type Trouble = RouterError<Rtm, Ifaddrmsg>;
 
 /// Reads the answers to the request.
 type Handle = neli::router::synchronous::NlRouterReceiverHandle<Rtm, Ifaddrmsg>;
 
-/// What the kernel is asked for the addresses of a link, and the first of them in its answer, which the function below
-/// reads.
+/// A request for the addresses of a link, and the first of them in the kernel's answer, which the function below reads.
 fn first_address(
     alloc: Global,
     port: u32,
@@ -79,7 +78,7 @@ fn addresses_of_a_link(rt: HostRuntime) -> Result<(), Fail> {
     Ok(())
 }
 
-/// A gateway of a route: its bytes, and the address that is read of them.
+/// A gateway of a route: its bytes, and the address that they are read as.
 fn gateway(alloc: Global) -> Result<(Vec<u8>, [u8; 4]), Fail> {
     use neli::consts::rtnl::Rta;
     use neli::rtnl::RtattrBuilder;
@@ -116,8 +115,8 @@ fn gateway_of_a_route(rt: HostRuntime) -> Result<(), Fail> {
     Ok(())
 }
 
-/// The names of the links in a datagram. Each is the datagram's own bytes, so it outlives the message and the attribute
-/// that it was read in.
+/// The names of the links in a datagram. Each is lent from the datagram, so it outlives the message and the attribute
+/// that it was read from.
 fn names_of<'a>(alloc: Global, datagram: &'a [u8]) -> Result<Vec<&'a str>, Fail> {
     use neli::consts::rtnl::Ifla;
     use neli::lent::LentMessages;

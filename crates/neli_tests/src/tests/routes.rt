@@ -1,7 +1,7 @@
-//! The routes of a host: they are asked for, and each is a line, as `Unicast 10.1.0.0/16 via 192.0.2.10 link 3`.
+//! The routes of a host: a request for them, and a line for each, as `Unicast 10.1.0.0/16 via 192.0.2.10 link 3`.
 //!
-//! Recorded from Linux 6.18: 0157 to 0159 of docs/RECORDINGS.md, with three of the 26 routes. What these say was read
-//! by pyroute2.
+//! Recorded from Linux 6.18: 0157 to 0159 of docs/RECORDINGS.md, with three of the 26 routes. pyroute2 read their
+//! fields.
 
 use super::support::assert_is;
 use super::talk::{Talk, answered, payload_of};
@@ -44,7 +44,7 @@ fn all_routes(alloc: Global) -> Result<Rtmsg, Fail> {
     Ok(all)
 }
 
-/// The value of an attribute, where the route has it.
+/// The value of an attribute, if the route has it.
 fn value_in<R: FromBytes>(
     alloc: Global,
     attrs: &RtAttrHandle<'_, Rta>,
@@ -56,7 +56,7 @@ fn value_in<R: FromBytes>(
     }
 }
 
-/// The line of a route: its kind, where to, by which gateway, over which link and from which address.
+/// The line of a route: its kind, its destination, its gateway, its link and its source address.
 fn line_of(alloc: Global, route: &Rtmsg) -> Result<String, DeError> {
     let attrs = route.rtattrs().get_attr_handle();
     let mut line = match value_in::<Ipv4Addr>(alloc, &attrs, Rta::Dst)? {
@@ -75,7 +75,7 @@ fn line_of(alloc: Global, route: &Rtmsg) -> Result<String, DeError> {
     Ok(line)
 }
 
-/// What the routes print.
+/// The printed lines of the routes.
 const LINES: [&str; 3] = [
     "Unicast 10.1.0.0/16 via 192.0.2.10 link 3",
     "Blackhole 10.3.0.0/16",

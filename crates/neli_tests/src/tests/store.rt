@@ -1,4 +1,4 @@
-//! What the shared store keeps after each read: the run that docs/STORE.md draws, and a fault.
+//! The contents of the shared store after each read: the run that docs/STORE.md draws, and a fault.
 
 use super::support::{assert_is, bytes_of};
 use neli::consts::nl::NlmF;
@@ -9,7 +9,7 @@ use neli::utils::Groups;
 use std::alloc::Global;
 use std::process::Abort;
 
-/// Three messages: the numbers 0 and 1, and 9, which nobody has.
+/// Three messages: the numbers 0 and 1, and 9, which no handle has.
 const THREE: &str =
     "100000001000020000000000000000001000000010000200010000000000000010000000100000000900000000000000";
 
@@ -29,7 +29,7 @@ pub fn asked<R: Abort>(
     }
 }
 
-/// Hands in a datagram that came to the groups of a mask.
+/// Hands in a datagram that arrived for the groups of a mask.
 fn take<R: Abort>(rt: &R, alloc: Global, router: &mut NlRouter, digits: &str, mask: u32) {
     let datagram = bytes_of(rt, alloc, digits);
     let groups = Groups::new_bitmask(alloc, mask).expect(rt, "memory");
@@ -38,13 +38,13 @@ fn take<R: Abort>(rt: &R, alloc: Global, router: &mut NlRouter, digits: &str, ma
         .expect(rt, "memory");
 }
 
-/// Asserts that so many entries are kept, and so many bytes.
+/// Asserts the number of kept entries, and of kept bytes.
 fn assert_kept<R: Abort>(rt: &R, router: &NlRouter, want: (usize, usize)) {
     let store = router.deliveries();
     assert_is(rt, (store.kept(), store.kept_bytes()), want);
 }
 
-/// Reads an item of a handle. Then so many entries are kept, and so many bytes.
+/// Reads an item of a handle. Then this many entries and bytes are kept.
 fn read<T, P, R: Abort>(
     rt: &R,
     alloc: Global,

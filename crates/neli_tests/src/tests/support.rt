@@ -1,27 +1,27 @@
-//! What the tests share: what is wanted, bytes as hexadecimal digits, what is written and printed.
+//! Shared parts of the tests: comparison, bytes as hexadecimal digits, written and printed values.
 
 use neli::ToBytes;
 use std::alloc::Global;
 use std::fmt::{Debug, Display};
 use std::process::Abort;
 
-/// Asserts that this is what is wanted.
+/// Asserts that this is the expected value.
 pub fn assert_is<T: Copy + PartialEq + Debug>(rt: &impl Abort, got: T, want: T) {
     assert_eq!(rt; got, want);
 }
 
-/// The bytes that hexadecimal digits spell.
+/// The bytes in hexadecimal digits.
 pub fn bytes_of(rt: &impl Abort, alloc: Global, digits: &str) -> Vec<u8> {
     hex::decode(alloc, digits).expect(rt, "hexadecimal digits")
 }
 
-/// Asserts that these are the bytes that the digits spell.
+/// Asserts that these are the bytes in the digits.
 pub fn assert_spelled(rt: &impl Abort, alloc: Global, bytes: &[u8], digits: &str) {
     let want = bytes_of(rt, alloc, digits);
     assert_is(rt, bytes, want.as_slice());
 }
 
-/// Asserts that the value is written as the bytes that these digits spell.
+/// Asserts that the value is written as the bytes in these digits.
 pub fn assert_written<V: ToBytes>(rt: &impl Abort, alloc: Global, value: &V, digits: &str) {
     let mut bytes = Vec::new(alloc);
     value.to_bytes(&mut bytes).expect(rt, digits);

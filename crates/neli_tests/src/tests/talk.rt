@@ -1,4 +1,4 @@
-//! A conversation: one request, the datagrams that answer it, and the items that its handle gives.
+//! A conversation: one request, the datagrams that answer it, and the items of its handle.
 
 use super::support::{assert_is, bytes_of};
 use neli::consts::nl::{NlType, NlmF};
@@ -10,7 +10,7 @@ use neli::{FromBytesWithInput, Size, ToBytes};
 use std::alloc::Global;
 use std::process::Abort;
 
-/// What goes over the link, in hexadecimal digits.
+/// The bytes on the link, in hexadecimal digits.
 pub struct Talk {
     /// The router's port, and the request's number.
     pub port: u32,
@@ -24,7 +24,7 @@ pub struct Talk {
 /// An item of a handle.
 pub type Item<T, P> = Result<Nlmsghdr<T, P>, RouterError<T, P>>;
 
-/// Asserts that these bytes are the recorded ones, but for the port.
+/// Asserts that these bytes are the recorded ones, except for the port.
 fn assert_asked(rt: &impl Abort, alloc: Global, bytes: &[u8], digits: &str) {
     let want = bytes_of(rt, alloc, digits);
     assert_is(rt, bytes.get(..12), want.get(..12));
@@ -50,7 +50,7 @@ fn items_of<T: NlType, P: FromBytesWithInput + Size + Drop>(
     rt.panic("no end of nine items")
 }
 
-/// Sends a request, hands in its answers, and gives all items of its handle, up to the end.
+/// Sends a request, hands in its answers, and returns all items of its handle, up to the end.
 pub fn answered<T: NlType, S: ToBytes + Drop, P: FromBytesWithInput + Size + Drop>(
     rt: &impl Abort,
     alloc: Global,
@@ -77,7 +77,7 @@ pub fn answered<T: NlType, S: ToBytes + Drop, P: FromBytesWithInput + Size + Dro
     items_of(rt, alloc, &mut router, handle)
 }
 
-/// The payload of an item, which is to be a message with one.
+/// The payload of an item, which must be a message with one.
 pub fn payload_of<'a, T, P>(rt: &impl Abort, item: &'a Item<T, P>) -> &'a P {
     match item {
         Ok(message) => message.get_payload().expect(rt, "a payload"),

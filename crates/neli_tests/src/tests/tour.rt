@@ -1,4 +1,4 @@
-//! The tour of the page of `neli`: the code of each of its sections stands there, line by line.
+//! The tour of the page of `neli`, which has the code of each of its sections, line by line.
 
 use super::support::{assert_is, assert_spelled, assert_written, bytes_of};
 use neli::connector::CnMsg;
@@ -134,7 +134,7 @@ fn a_generic_client(rt: HostRuntime) -> Result<(), Fail> {
     Ok(())
 }
 
-/// Listens to processes: what to send for it, and which processes a datagram says have ended, with their codes.
+/// Listens to processes: the request to send, and the ended processes in a datagram, with their codes.
 fn listen(alloc: Global, datagram: &[u8]) -> Result<(CnMsg<ProcCnMcastOp>, Vec<(i32, u32)>), Fail> {
     use neli::connector::{CnMsg, CnMsgBuilder, ProcEvent, ProcEventHeader};
     use neli::consts::connector::{CnMsgIdx, CnMsgVal, ProcCnMcastOp};

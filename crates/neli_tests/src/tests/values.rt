@@ -18,7 +18,7 @@ fn numbers_written(rt: HostRuntime) {
     assert_written(&rt, alloc, &-600000i32, "40d8f6ff");
 }
 
-/// Asserts that the bytes, and one more that is left, are read as this value.
+/// Asserts that the bytes, with one more after them, are read as this value.
 fn assert_read<V: FromBytes + Copy + PartialEq + Debug>(
     rt: &impl Abort,
     alloc: Global,
@@ -70,7 +70,7 @@ fn booleans_are_one_byte(rt: HostRuntime) {
 /// Five letters and a byte that is no letter.
 const TEXT: &[u8; 6] = b"AAAAA\0";
 
-/// The count that a refusal names.
+/// The count in a refusal.
 fn count_of(error: DeError) -> Option<usize> {
     match error {
         DeError::InvalidInput(count) => Some(count),

@@ -1,4 +1,4 @@
-//! Payloads whose message passes 32 bits: a type of a user's own, that writes zeros and takes no memory itself.
+//! Payloads whose message exceeds 32 bits: a user's own type, which writes zeros and takes no memory itself.
 
 use super::store::asked;
 use super::support::{assert_is, assert_prints};
@@ -53,7 +53,7 @@ impl ToBytes for Zeros {
     }
 }
 
-/// The first count at which a header and this payload pass 32 bits.
+/// The first count at which a header and this payload exceed 32 bits.
 const PAST: usize = 4294967277;
 
 /// The number of the handle that an empty request gets.
@@ -95,7 +95,7 @@ fn a_payload_past_32_bits_is_not_put_in(rt: HostRuntime) {
     assert_is(&rt, (*message.nl_len(), kept), (20, Some(3)));
 }
 
-// The length is rounded up to four, and the last that is so in 32 bits is 4294967292.
+// The length is rounded up to four, and the largest such length in 32 bits is 4294967292.
 #[test]
 fn a_payload_up_to_32_bits_is_put_in(rt: HostRuntime) {
     for (count, length) in [

@@ -71,7 +71,7 @@ fn zeros(
         .build(alloc)
 }
 
-/// What is said of a length above its field.
+/// The refusal of a length above its field.
 const TOO_LONG: &str = "Length does not fit its field";
 
 #[test]
@@ -137,7 +137,7 @@ fn lists_from_bytes(rt: HostRuntime) {
     }
 }
 
-// Number 3 has two names; what is read has the first.
+// Number 3 has two names; the value read has the first.
 #[test]
 fn lookup_by_type(rt: HostRuntime) {
     let mut cursor = Cursor::new(&[5, 0, 3, 0, 9, 0, 0, 0]);
@@ -153,7 +153,7 @@ fn lookup_by_type(rt: HostRuntime) {
     assert_is_at(&rt, "two names", (found, older), (true, false));
 }
 
-/// A generic attribute with another one nested in it, behind what it has.
+/// A generic attribute with another one nested in it, after its other contents.
 fn with<T: NlAttrType, S: NlAttrType>(
     rt: &impl Abort,
     outer: Nlattr<T, Buffer>,

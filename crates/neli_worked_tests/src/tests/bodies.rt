@@ -74,11 +74,11 @@ fn generic_messages_with_a_header(rt: HostRuntime) {
     assert_read::<Genlmsghdr<CtrlCmd, u16, u16>>(&rt, alloc, &row);
 }
 
-/// A process begins to run a program, as the connector reports it.
+/// A process runs a program, as the connector reports it.
 const EXEC: &str = "01000000010000008302000000000000280000000200000001000000b834541947020000\
     7f1600007f160000";
 
-/// It, whole, and without its last two bytes.
+/// The event, whole, and without its last two bytes.
 const EVENTS: [Read; 2] = [
     ("an event", EXEC, 44, Ok(EXEC)),
     (
@@ -107,7 +107,7 @@ fn connector_message<P: FromBytesWithInput>(
     CnMsg::from_bytes_with_input(alloc, &mut Cursor::new(bytes), bytes.len())
 }
 
-/// The processes of an event that begins to run a program.
+/// The processes of an exec event.
 fn program_of(event: &ProcEvent) -> Option<(i32, i32)> {
     match event {
         ProcEvent::Exec {

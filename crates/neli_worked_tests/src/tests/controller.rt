@@ -1,4 +1,4 @@
-//! Requests to the controller of generic netlink, and what is looked up in its answers.
+//! Requests to the controller of generic netlink, and look-ups in its answers.
 
 use super::support::{assert_is_at, assert_prints, assert_refused, decoded};
 use neli::consts::genl::{CtrlAttr, CtrlCmd};
@@ -15,7 +15,7 @@ use std::alloc::Global;
 use std::fmt::Display;
 use std::process::Abort;
 
-/// A handle for what the controller answers.
+/// A handle for the controller's answers.
 type Handle = NlRouterReceiverHandle<GenlId, Genlmsghdr<CtrlCmd, CtrlAttr>>;
 
 /// The first request of a router with port 0 for the family `nlctrl`.
@@ -62,7 +62,7 @@ fn kind(item: Option<&CtrlItem>) -> (bool, bool) {
     }
 }
 
-/// Asks a new router's controller for the family `nlctrl`, and gives the items that come of these datagrams.
+/// Requests the family `nlctrl` from a new router's controller, and returns the items of these datagrams.
 fn asked<D: Deliveries>(rt: &impl Abort, alloc: Global, datagrams: &[&str]) -> Vec<CtrlItem> {
     let (mut router, _multicast) = NlRouter::<D>::new(alloc, 0);
     let (request, mut handle) = router
@@ -126,7 +126,7 @@ fn only(rt: &impl Abort, alloc: Global, digits: &str) -> Vec<CtrlItem> {
     vec![in alloc; Ok(read)].expect(rt, "memory")
 }
 
-/// Asserts that this is found.
+/// Asserts that this is the result.
 fn assert_found<T: Display + Drop>(
     rt: &impl Abort,
     alloc: Global,

@@ -1,5 +1,5 @@
-//! Datagrams that are cut, and lengths that lie: the fault, as it is listed, as a reader of owned messages gives it,
-//! and where the datagram is to be written again.
+//! Datagrams that are cut, and wrong lengths: the fault, as it is listed, as a reader of owned messages returns it, and
+//! where the datagram is written again.
 
 use super::listing::ERROR;
 use super::support::{assert_is_at, assert_prints, decoded};
@@ -44,7 +44,7 @@ const CUTS: [Row; 4] = [
     ),
 ];
 
-/// Lengths that lie.
+/// Wrong lengths.
 const LENGTHS: [Row; 11] = [
     (
         "a length below the header",
@@ -121,7 +121,7 @@ const LENGTHS: [Row; 11] = [
     ),
 ];
 
-/// How the first message of the bytes ends a reading of owned messages.
+/// How a reading of owned messages ends at the first message of the bytes.
 fn owned_ending(alloc: Global, bytes: &[u8]) -> Ending {
     match NlBufferIter::<'_, u16, Buffer>::new(bytes).next(alloc) {
         Some(Err(SocketError::De(fault))) => fault_ending(&fault),
@@ -129,7 +129,7 @@ fn owned_ending(alloc: Global, bytes: &[u8]) -> Ending {
     }
 }
 
-/// Asserts that this line alone comes of the bytes, on each way.
+/// Asserts that the bytes give only this line, on each way.
 fn assert_fault(rt: &impl Abort, alloc: Global, row: &str, bytes: &[u8], line: &str) {
     let mut listed = Vec::new(alloc);
     let status = list(alloc, &mut &*bytes, &mut listed);

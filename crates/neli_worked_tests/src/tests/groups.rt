@@ -24,7 +24,7 @@ fn array(rt: &impl Abort, alloc: Global, bits: usize) -> NetlinkBitArray {
     NetlinkBitArray::new(alloc, bits).expect(rt, "memory")
 }
 
-/// The array with this number set, where there is room for it.
+/// The array with this number set, if there is room for it.
 fn set(array: &mut NetlinkBitArray, number: usize) {
     if number <= array.len_bits() {
         array.set(number);

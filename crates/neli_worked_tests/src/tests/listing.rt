@@ -1,4 +1,4 @@
-//! Datagrams, and the lines that are listed of each.
+//! Datagrams, and the listed lines of each.
 
 use super::support::{assert_is_at, decoded};
 use neli_program::listing::list;
@@ -6,13 +6,13 @@ use neli_program::status::Status;
 use std::alloc::Global;
 use std::process::Abort;
 
-/// A datagram with its name, the lines that are listed of it, and how that ends.
+/// A datagram with its name, its listed lines, and its end.
 type Row = (&'static str, &'static str, &'static str, Status);
 
 /// A payload of one byte, and padding of any value.
 pub const ONE: &str = "1100000000040000000000000000000061ffffff";
 
-/// An error, its code -22, that echoes a request of five bytes and says `bad`.
+/// An error, its code -22, that echoes a request of five bytes, with the text `bad`.
 pub const ERROR: &str = "34000000020000020000000000000000eaffffff\
     150000000004050000000000000000006162636465000000\
     0800010062616400";
@@ -122,7 +122,7 @@ const ANSWERS: [Row; 9] = [
     ),
 ];
 
-/// Asserts that these lines are listed, and that the listing ends so.
+/// Asserts that these lines are listed, and this end.
 fn assert_listed(rt: &impl Abort, alloc: Global, row: Row) {
     let (name, digits, lines, status) = row;
     let bytes = decoded(rt, alloc, digits);

@@ -22,13 +22,13 @@ fn raw_message(rt: &impl Abort, alloc: Global, digits: &str) -> Raw {
     Nlmsghdr::from_bytes(alloc, &mut Cursor::new(&bytes)).expect(rt, "a message")
 }
 
-/// It, with known types.
+/// The message, with known types.
 fn typed_message(rt: &impl Abort, alloc: Global, digits: &str) -> Typed {
     let typed = raw_message(rt, alloc, digits).to_typed(alloc);
     typed.ok().expect(rt, "a typed message")
 }
 
-/// The error that the message carries.
+/// The error in the message.
 fn error_in<'a, T, P>(
     rt: &impl Abort,
     message: &'a Nlmsghdr<T, P>,
@@ -39,7 +39,7 @@ fn error_in<'a, T, P>(
     }
 }
 
-/// Asserts the code of an error, and that its one attribute says `bad`.
+/// Asserts the code of an error, and the text `bad` of its one attribute.
 fn assert_bad<T: NlType, P>(
     rt: &impl Abort,
     alloc: Global,
@@ -63,7 +63,7 @@ fn an_error_with_its_echo(rt: HostRuntime) {
     assert_is_at(&rt, "its echo", echo, (1024, 5));
 }
 
-// The echo's length is reckoned anew, and rounded up.
+// The echo's length is computed anew, and rounded up.
 #[test]
 fn a_retyped_error(rt: HostRuntime) {
     let message = typed_message(&rt, rt.alloc(), ERROR);

@@ -9,7 +9,7 @@ use neli_program::status::Status;
 use std::alloc::Global;
 use std::process::Abort;
 
-/// Datagrams, each with its name, and what is written.
+/// Datagrams, each with its name, and the bytes written.
 const WRITTEN: [(&str, &str, &str); 9] = [
     (
         "padding after a payload of one byte",
@@ -65,7 +65,7 @@ const WRITTEN: [(&str, &str, &str); 9] = [
     ),
 ];
 
-/// Asserts that this is written of the datagram, and of its messages as owned ones.
+/// Asserts the bytes written for the datagram, and for its messages as owned ones.
 fn assert_rewritten(rt: &impl Abort, alloc: Global, row: &str, datagram: &str, want: &str) {
     let bytes = decoded(rt, alloc, datagram);
     let zeroed = decoded(rt, alloc, want);
@@ -84,7 +84,7 @@ fn padding_is_written_as_zeros(rt: HostRuntime) {
     }
 }
 
-/// Datagrams with bytes that no message keeps.
+/// Datagrams with bytes that belong to no message.
 const TAILS: [(&str, &str); 3] = [
     (
         "bytes after the header that an acknowledgement answers",

@@ -1,5 +1,5 @@
-//! What the shared store keeps after each read, an error that a router gives with the header that it echoes, and
-//! handles that another router made.
+//! The contents of the shared store after each read, an error that a router returns with the echoed header, and handles
+//! of another router.
 
 use super::support::{assert_is_at, decoded};
 use neli::consts::nl::NlmF;
@@ -36,7 +36,7 @@ fn sent<D: Deliveries>(
     }
 }
 
-/// Hands in a datagram that came to the groups of a mask.
+/// Hands in a datagram that arrived for the groups of a mask.
 fn come<D: Deliveries>(
     rt: &impl Abort,
     alloc: Global,
@@ -51,12 +51,12 @@ fn come<D: Deliveries>(
         .expect(rt, "memory");
 }
 
-/// What a read gives, by what the tests compare of it.
+/// The result of a read, as far as the tests compare it.
 #[derive(Clone, Copy, Debug, PartialEq, Eq)]
 enum Given {
     /// A message.
     Message,
-    /// A message that is meant for nobody here.
+    /// A message for no handle here.
     Stray,
     /// A capped error: its code, and the length of the request whose header it echoes.
     Capped(i32, u32),
@@ -68,7 +68,7 @@ enum Given {
     Waits,
 }
 
-/// What an error is.
+/// The kind of an error.
 fn error_given(error: &RouterError<u16, Buffer>) -> Given {
     match error {
         RouterError::BadSeqOrPid(_) => Given::Stray,
@@ -78,7 +78,7 @@ fn error_given(error: &RouterError<u16, Buffer>) -> Given {
     }
 }
 
-/// What a reply is.
+/// The kind of a reply.
 fn given_by(reply: Reply<u16, Buffer>) -> Given {
     match &reply {
         Reply::Item(Ok(_)) => Given::Message,
@@ -98,13 +98,13 @@ fn read<D: Deliveries>(
     given_by(router.next_typed(alloc, handle).expect(rt, "memory"))
 }
 
-/// Asserts that so many entries are kept, and so many bytes of datagrams.
+/// Asserts the number of kept entries, and of kept bytes of datagrams.
 fn assert_kept(rt: &impl Abort, row: &str, router: &NlRouter<Log>, want: (usize, usize)) {
     let log = router.deliveries();
     assert_is_at(rt, row, (log.kept(), log.kept_bytes()), want);
 }
 
-/// Asserts what a read gives, and what is kept then.
+/// Asserts the result of a read, and the kept entries and bytes then.
 fn assert_read_kept(
     rt: &impl Abort,
     alloc: Global,

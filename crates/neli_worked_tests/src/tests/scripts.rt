@@ -1,4 +1,4 @@
-//! Scripts and what is answered, over both stores.
+//! Scripts and their output, over both stores.
 
 use super::support::assert_is_at;
 use neli::router::synchronous::{Deliveries, Log, Queues};
@@ -7,7 +7,7 @@ use neli_program::replay::replay;
 use std::alloc::Global;
 use std::process::Abort;
 
-/// A script with its name, and what is answered.
+/// A script with its name, and its output.
 type Row = (&'static str, &'static str, &'static str);
 
 /// Requests, their numbers, and whether they are acknowledged.
@@ -160,7 +160,7 @@ const ENDS: [Row; 8] = [
     ),
 ];
 
-/// Datagrams, and whom they come to.
+/// Datagrams, and their receivers.
 const RECEIVERS: [Row; 8] = [
     (
         "an empty datagram, and one of 15 bytes",
@@ -238,7 +238,7 @@ const BAD: &str = "send 16 4 -\n\
     data 1 10000000100000000000000000000000\n\
     read 0\nread 0\nread x\n";
 
-/// Asserts that this script is answered so over deliveries that are kept in a `D`, and ends so.
+/// Asserts that this script has this output over deliveries in a `D`, and this end.
 fn answers<D: Deliveries>(rt: &impl Abort, alloc: Global, row: Row, status: Status) {
     let mut output = Vec::new(alloc);
     let ended = replay::<D, _, _>(alloc, &mut row.1.as_bytes(), &mut output);
@@ -246,7 +246,7 @@ fn answers<D: Deliveries>(rt: &impl Abort, alloc: Global, row: Row, status: Stat
     assert_is_at(rt, row.0, answered, (row.2.as_bytes(), status));
 }
 
-/// Asserts that the scripts are answered over deliveries that are kept in a `D`.
+/// Asserts the output of the scripts over deliveries in a `D`.
 fn all_answered<D: Deliveries>(rt: &impl Abort, alloc: Global) {
     for row in REQUESTS {
         answers::<D>(rt, alloc, row, Status::Whole);

@@ -1,5 +1,4 @@
-//! What the tests share: the comparison, which stands in one place, bytes as hexadecimal digits, values that are
-//! written, and refusals.
+//! Shared parts of the tests: the one comparison, bytes as hexadecimal digits, written values, and refusals.
 
 use neli::err::DeError;
 use neli::{Cursor, FromBytesWithInput, ToBytes};
@@ -8,17 +7,17 @@ use std::fmt::{Debug, Display};
 use std::io::ErrorKind;
 use std::process::Abort;
 
-/// Asserts that this is what is wanted, in the row of a table that has this name.
+/// Asserts that this is the expected value, in the row of a table that has this name.
 pub fn assert_is_at<T: Copy + PartialEq + Debug>(rt: &impl Abort, row: &str, got: T, want: T) {
     assert_eq!(rt; (row, got), (row, want));
 }
 
-/// The bytes that hexadecimal digits spell.
+/// The bytes in hexadecimal digits.
 pub fn decoded(rt: &impl Abort, alloc: Global, digits: &str) -> Vec<u8> {
     hex::decode(alloc, digits).expect(rt, "hexadecimal digits")
 }
 
-/// Asserts that the value is written as the bytes that these digits spell.
+/// Asserts that the value is written as the bytes in these digits.
 pub fn assert_written<V: ToBytes>(
     rt: &impl Abort,
     alloc: Global,
@@ -62,7 +61,7 @@ pub enum Refusal {
     Other,
 }
 
-/// The refusal of a read, or None where there is a value.
+/// The refusal of a read, or None if there is a value.
 pub fn refusal_in<V: Drop>(read: Result<V, DeError>) -> Option<Refusal> {
     match read {
         Ok(_) => None,
@@ -72,8 +71,8 @@ pub fn refusal_in<V: Drop>(read: Result<V, DeError>) -> Option<Refusal> {
     }
 }
 
-/// What is read with an input: the name, the bytes as hexadecimal digits, the input, and the bytes that the value is
-/// written as, or the count that the refusal names.
+/// A read with an input: the name, the bytes as hexadecimal digits, the input, and the bytes that the value is written
+/// as, or the count in the refusal.
 pub type Read = (
     &'static str,
     &'static str,
@@ -81,8 +80,8 @@ pub type Read = (
     Result<&'static str, usize>,
 );
 
-/// Asserts that the row's bytes are read as a value of this type that is written so, past all of its input; or that
-/// they are refused, and that the cursor stays.
+/// Asserts that the row's bytes are read as a value of this type that is written as the row states, past all of its
+/// input; or that they are refused, and that the cursor stays.
 pub fn assert_read<V: FromBytesWithInput + ToBytes + Drop>(
     rt: &impl Abort,
     alloc: Global,

@@ -1,5 +1,5 @@
-//! How a program ends: with a status that says whether what it was given is all of the kernel's answer, and a line on
-//! stderr where it is not.
+//! How a program ends: with a status that reports whether it printed all of the kernel's answer, and a line on stderr
+//! if not.
 #![allow(dead_code, reason = "not every program lists")]
 
 use neli::err::{RouterError, SocketError};
@@ -7,25 +7,25 @@ use neli::router::synchronous::{Dump, Verdict};
 use std::error::Error;
 use std::process::ExitCode;
 
-/// All of it was given.
+/// The answer is complete.
 pub const COMPLETE: u8 = 0;
 
-/// The words of the call, the socket or memory; nothing is known of an answer.
+/// The words of the call, the socket or memory; no answer is known.
 pub const NOT_BEGUN: u8 = 1;
 
-/// What was listed changed meanwhile, however often it was asked for.
+/// The listed objects changed meanwhile, however often they were requested.
 pub const INTERRUPTED: u8 = 2;
 
 /// The kernel refused, or ended a list with an error.
 pub const FAILED: u8 = 3;
 
-/// The link failed, or what came is no answer: some is missing.
+/// The link failed, or a message is no answer: a part is missing.
 pub const LOST: u8 = 4;
 
-/// Why a program ends before it has done what it is for.
+/// Why a program ends before its work is done.
 pub type Result<T> = std::result::Result<T, Box<dyn Error>>;
 
-/// That of a list, and the line that says why it is not complete.
+/// That of a list, and the line that reports why it is incomplete.
 pub fn of_dump<T, P>(program: &str, dump: &Dump<T, P>) -> u8 {
     match (dump.verdict, &dump.error) {
         (Verdict::Complete, _) => return COMPLETE,
@@ -51,7 +51,7 @@ fn of_error(error: &(dyn Error + 'static)) -> u8 {
     }
 }
 
-/// An error by which nothing was begun, whatever it is.
+/// An error before the work began, whatever it is.
 pub fn not_begun(error: impl Error) -> Box<dyn Error> {
     error.to_string().into()
 }

@@ -1,4 +1,4 @@
-//! The requests whose answers may still come, and whom a message is for.
+//! The requests whose answers may still arrive, and the receiver of a message.
 
 use crate::consts::nl::NlmF;
 use crate::ffi;
@@ -11,7 +11,7 @@ const DONE: u16 = 3;
 /// A request that the kernel may still answer, or whose handle is open.
 #[derive(Debug)]
 struct Open {
-    /// The handle of the library's router; none where nobody reads the answer any more.
+    /// The handle of the library's router; none if the answer is no longer read.
     handle: Option<usize>,
     flags: NlmF,
     /// Whether the kernel has sent the last message of its answer.
@@ -30,14 +30,14 @@ impl Open {
     }
 }
 
-/// Whom a message is for. Nobody, where its request was given up.
+/// The receiver of a message. None, if its request was given up.
 #[derive(Clone, Copy, Debug, Default, PartialEq, Eq)]
 pub(super) struct Owners {
     /// The handle of its request.
     pub(super) request: Option<usize>,
-    /// Who listens to groups.
+    /// The listeners to groups.
     pub(super) is_group: bool,
-    /// Who asks for what no request has asked for.
+    /// The reader of messages without a request.
     pub(super) is_unasked: bool,
 }
 
@@ -62,12 +62,12 @@ impl Ledger {
         self.is_settled
     }
 
-    /// How many requests there are.
+    /// The number of requests.
     pub(super) fn count(&self) -> usize {
         self.open.len()
     }
 
-    /// Whether a request has this number whose answer may still come.
+    /// Whether a request with this number may still get an answer.
     pub(super) fn has(&self, number: u32) -> bool {
         self.open.contains_key(&number)
     }
@@ -79,8 +79,7 @@ impl Ledger {
         self.open.insert(number, open);
     }
 
-    /// Nobody reads this request any more: the handle that is to be closed. Its number stays until its answer has
-    /// ended.
+    /// This request is no longer read: returns the handle to close. Its number stays until its answer has ended.
     pub(super) fn give_up(&mut self, number: u32) -> Option<usize> {
         let open = self.open.get_mut(&number)?;
         let handle = open.handle.take();
@@ -92,7 +91,7 @@ impl Ledger {
         handle
     }
 
-    /// A request was not sent: the handle that is to be closed.
+    /// A request was not sent: returns the handle to close.
     pub(super) fn take_back(&mut self, number: u32) -> Option<usize> {
         self.open.remove(&number)?.handle
     }
@@ -102,14 +101,14 @@ impl Ledger {
         self.is_congested
     }
 
-    /// Something was lost. From then on the kernel drops all that is for the socket, replies too, until it is empty.
+    /// A datagram was lost. From then on the kernel drops all for the socket, replies too, until it is empty.
     pub(super) fn note_loss(&mut self) {
         self.is_congested = true;
         self.is_settled = false;
     }
 
-    /// Nothing is left in the socket. The kernel answers while a request is sent, and goes on with a dump whenever the
-    /// socket is received from; so no dump runs, and what was given up is answered, or will never be.
+    /// The socket is empty. The kernel answers while a request is sent, and continues a dump whenever the socket is
+    /// received from; so no dump runs, and given-up requests are answered, or will never be.
     pub(super) fn note_quiet(&mut self) {
         self.is_congested = false;
         if std::mem::replace(&mut self.is_settled, true) {
@@ -121,8 +120,8 @@ impl Ledger {
         }
     }
 
-    /// Whom a message is for that came to a group, or to none, which is 0. `is_joined` says whether the socket is in
-    /// that group: the kernel sends its copy to one who asked with ECHO in the group's name, whether or not.
+    /// The receiver of a message that arrived for a group, or for none, which is 0. `is_joined` is whether the socket
+    /// is in that group: the kernel sends its copy for a request with ECHO in the group's name, whether or not.
     pub(super) fn owners(&self, message: &ffi::Message, group: u32, is_joined: impl FnOnce() -> bool) -> Owners {
         let is_own = message.port == self.port;
         let open = self.answered(message, group);

@@ -1,21 +1,21 @@
-//! Whether what was given is all of an answer.
+//! The verdict on an answer: whether it is complete.
 
 use crate::err::RouterError;
 use crate::ffi;
 use crate::nl::Nlmsghdr;
 
-/// The errors of the kernel after which a dump can be asked for again, negated: `EBUSY` and `ENOBUFS`.
+/// The errors of the kernel after which a dump can be requested again, negated: `EBUSY` and `ENOBUFS`.
 const PASSING: [i32; 2] = [-16, -105];
 
-/// How an answer stands. All but [`Verdict::Pending`] are final.
+/// The verdict on an answer. All but [`Verdict::Pending`] are final.
 #[derive(Clone, Copy, Debug, PartialEq, Eq)]
 pub enum Verdict {
     /// It has not ended yet, and no message of it is marked as interrupted.
     Pending,
-    /// It has ended well: what was given is all of it.
+    /// It has ended well: the reads returned all of it.
     Complete,
-    /// A message of it, its end included, has the flag `NLM_F_DUMP_INTR`: what is listed changed while it was listed,
-    /// so entries may lack or stand there twice. Ask again.
+    /// A message of it, its end included, has the flag `NLM_F_DUMP_INTR`: the listed objects changed meanwhile, so
+    /// entries may be missing or repeated. Request it again.
     Interrupted,
     /// The kernel answered with an error, or ended a dump with one: the code, as -19 for `ENODEV`.
     Failed(i32),
@@ -30,13 +30,13 @@ pub enum Loss {
     Link,
     /// A datagram could not be read to its end.
     Datagram,
-    /// A message came with a sequence number or a port that no request has.
+    /// A message arrived with a sequence number or a port that no request has.
     Stray,
-    /// A message could not be read as the caller's types. It was told as an error, and what came after it was given.
+    /// A message could not be read as the caller's types. It was returned as an error, and later ones were returned.
     Unreadable,
-    /// Something else came in place of the acknowledgement.
+    /// Something else arrived in place of the acknowledgement.
     NoAck,
-    /// An acknowledgement came that was not asked for.
+    /// An acknowledgement arrived that was not requested.
     UnexpectedAck,
     /// The handle is not open.
     Closed,
@@ -59,28 +59,28 @@ impl Verdict {
         }
     }
 
-    /// With a message more that could not be read as the caller's types.
+    /// The verdict with one more message that could not be read as the caller's types.
     pub(super) fn unreadable(self) -> Self {
         if self == Verdict::Interrupted { self } else { Verdict::Lost(Loss::Unreadable) }
     }
 }
 
-/// A list that was asked for, and whether all of it is there.
+/// A requested list, and whether it is complete.
 #[derive(Debug)]
 pub struct Dump<T, P> {
     /// Its messages, in order, without the end.
     pub messages: Vec<Nlmsghdr<T, P>>,
     /// Whether they are all.
     pub verdict: Verdict,
-    /// Whether the kernel did filter as it was asked to, by the flag `NLM_F_DUMP_FILTERED`. One that cannot filter
-    /// lists everything.
+    /// Whether the kernel filtered as requested, by the flag `NLM_F_DUMP_FILTERED`. A kernel that cannot filter lists
+    /// everything.
     pub is_filtered: bool,
     /// The first error among the replies: why the kernel refuses, in its words, or what was lost.
     pub error: Option<RouterError>,
 }
 
 impl<T, P> Dump<T, P> {
-    /// Whether it may be complete when it is asked for again.
+    /// Whether it may be complete when it is requested again.
     pub(super) fn is_passing(&self) -> bool {
         match self.verdict {
             Verdict::Interrupted | Verdict::Lost(Loss::Link) => true,
@@ -89,7 +89,7 @@ impl<T, P> Dump<T, P> {
         }
     }
 
-    /// Why it is not complete.
+    /// Why it is incomplete.
     pub(super) fn into_error(self) -> RouterError {
         self.error.unwrap_or_else(|| RouterError::new("what was listed changed meanwhile"))
     }

@@ -1,4 +1,4 @@
-//! Links to try with.
+//! Links for the tests.
 
 use neli::ToBytes;
 use neli::consts::nl::NlmF;
@@ -17,12 +17,12 @@ pub const LINK_GROUP: u32 = 1;
 /// The handle of a dump of links.
 pub type Links = NlRouterReceiverHandle<Rtm, Ifinfomsg>;
 
-/// A router of routing in these groups, and the handle of what comes to them.
+/// A router of routing in these groups, and their handle.
 pub fn router(groups: &[u32]) -> (NlRouter, NlRouterReceiverHandle<u16, Buffer>) {
     NlRouter::connect(NlFamily::Route, None, Groups::new_groups(groups)).expect("a router connects")
 }
 
-/// A link with this index, and nothing else said of it.
+/// A link with this index, and no other field.
 pub fn link(index: i32) -> IfinfomsgBuilder {
     IfinfomsgBuilder::default().ifi_family(RtAddrFamily::Unspecified).ifi_index(index)
 }
@@ -37,7 +37,7 @@ pub fn named(kind: &str, name: &str) -> Ifinfomsg {
     link(0).rtattrs(attributes).build().expect("a link")
 }
 
-/// Has something done, and waits for the acknowledgement.
+/// Sends a change, and waits for the acknowledgement.
 pub fn ask(router: &NlRouter, kind: Rtm, flags: NlmF, body: impl ToBytes) -> Result<(), RouterError> {
     let replies: NlRouterReceiverHandle<Rtm, Buffer> =
         router.send(kind, flags | NlmF::ACK, NlPayload::Payload(body))?;
@@ -47,7 +47,7 @@ pub fn ask(router: &NlRouter, kind: Rtm, flags: NlmF, body: impl ToBytes) -> Res
     Ok(())
 }
 
-/// Makes pairs of links, and gives how many links there are then.
+/// Makes pairs of links, and returns the number of links then.
 pub fn make_pairs(count: usize) -> usize {
     let (router, _) = router(&[]);
     for at in 0..count {
@@ -57,7 +57,7 @@ pub fn make_pairs(count: usize) -> usize {
     names(dump(&router)).len()
 }
 
-/// Asks for all links.
+/// Requests all links.
 pub fn dump(router: &NlRouter) -> Links {
     let all = link(0).build().expect("a link");
     router.send(Rtm::Getlink, NlmF::DUMP, NlPayload::Payload(all)).expect("a dump is asked for")

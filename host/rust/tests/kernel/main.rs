@@ -38,7 +38,7 @@ fn asked(router: &NlRouter, index: i32) -> NlRouterReceiverHandle<Rtm, Ifinfomsg
     router.send(Rtm::Getlink, NlmF::ACK, body).expect("a link is asked for")
 }
 
-/// The number by which a request is refused.
+/// The number with which a request is refused.
 fn refusal(mut replies: NlRouterReceiverHandle<Rtm, Ifinfomsg>) -> Option<i32> {
     let error = replies.next()?.err()?;
     assert!(replies.next().is_none(), "nothing follows an error");
@@ -147,7 +147,7 @@ fn a_socket_whose_buffer_ran_over_goes_on() {
             RouterError::Socket(SocketError::Io(it)) => it.raw_os_error() == Some(ENOBUFS),
             _ => false,
         };
-        // The request that was under way is told, and multicast is told once.
+        // The open request gets the fault, and multicast gets it once.
         assert!(waiting.filter_map(Result::err).all(|it| lost(&it)));
         let mut told = 0;
         router.socket().set_recv_timeout(Some(Duration::from_millis(200))).expect("a time is set");
@@ -217,7 +217,7 @@ fn a_dump_that_is_given_up_disturbs_nobody() {
         let first = asked(&router, 1);
         drop(links);
         assert_eq!(names(first), ["lo"]);
-        // Its number is free again once its last reply has come: a reply comes after what was under way before it.
+        // Its number is free again once its last reply has arrived: a reply arrives after all that was sent before it.
         assert!((0..100).all(|_| names(asked(&router, 1)) == ["lo"]));
         router.set_next_seq(0);
         assert_eq!(names(asked(&router, 1)), ["lo"]);
@@ -282,7 +282,8 @@ fn families_and_groups_are_resolved() {
     });
 }
 
-/// It listens in the machine's own namespace, where alone the kernel tells of processes; that touches no interface.
+/// It listens in the machine's own namespace, the only one in which the kernel reports processes; that touches no
+/// interface.
 #[test]
 fn the_connector_tells_of_processes() {
     let socket = match NlSocketHandle::connect(NlFamily::Connector, None, Groups::new_groups(&[1])) {

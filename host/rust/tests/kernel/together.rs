@@ -13,7 +13,7 @@ type Request = (Rtm, NlmF, NlPayload<Rtm, Ifinfomsg>);
 /// `ENODEV` of `errno.h`.
 const NO_DEVICE: Option<i32> = Some(19);
 
-/// A question for a link.
+/// A request for a link.
 fn question(index: i32) -> Request {
     (Rtm::Getlink, NlmF::ACK, NlPayload::Payload(link(index).build().expect("a link")))
 }
@@ -22,7 +22,7 @@ fn dump_of_links() -> Request {
     (Rtm::Getlink, NlmF::DUMP, NlPayload::Payload(link(0).build().expect("a link")))
 }
 
-/// The name that a question is answered with, or the number by which it is refused.
+/// The name in an answer, or the number with which it is refused.
 fn answer(mut replies: Links) -> Result<String, Option<i32>> {
     let reply = replies.next().expect("there is an answer").map_err(|error| error.errno())?;
     Ok(name(reply.get_payload().expect("a link")))

@@ -1,4 +1,5 @@
-//! The router over a socket under trouble: what is dropped early, lost, echoed, never answered or not asked for.
+//! The router over a socket under trouble: requests that are dropped early, lost, echoed or never answered, and
+//! messages without a request.
 
 use crate::links::{LINK_GROUP, Links, ask, dump, link, make_pairs, name, named, names, router, set_loopback};
 use crate::space::alone;
@@ -69,7 +70,7 @@ fn a_handle_is_dropped_at_any_time() {
             assert!(asked(&router, 1).next().is_some_and(|it| it.is_ok()));
             assert_eq!(names(asked(&router, 1)), ["lo"]);
         }
-        // The answers of a request end with a loss, and the kernel's replies come all the same.
+        // The answers of a request end with a loss, and the kernel's replies arrive all the same.
         router.socket().set_recv_buffer_size(1).expect("the buffer is made small");
         (0..100).for_each(|at| set_loopback(&other, at % 2 == 0));
         router.socket().set_recv_buffer_size(1 << 20).expect("the buffer is made large");
@@ -112,7 +113,7 @@ fn a_dump_that_is_broken_off_hinders_no_other() {
     });
 }
 
-/// How much memory the process has, in bytes.
+/// The memory of the process, in bytes.
 fn memory() -> usize {
     let words = fs::read_to_string("/proc/self/statm").expect("the process has a memory");
     words.split(' ').nth(1).and_then(|it| it.parse::<usize>().ok()).expect("pages are counted") * 4096
@@ -123,7 +124,7 @@ fn what_nobody_reads_is_not_kept() {
     alone(|| {
         let (other, _) = router(&[]);
         let (router, mut multicast) = router(&[LINK_GROUP]);
-        // What is dropped unread is told of a loss, and never answered.
+        // A request that is dropped unread gets a loss, and no answer.
         drop(unanswered(&router));
         router.socket().set_recv_buffer_size(1).expect("the buffer is made small");
         (0..100).for_each(|at| set_loopback(&other, at % 2 == 0));
@@ -159,7 +160,7 @@ fn add_address(router: &NlRouter, flags: NlmF, last: u8) -> NlRouterReceiverHand
     router.send(Rtm::Newaddr, flags | NlmF::CREATE | NlmF::EXCL, body).expect("an address is asked for")
 }
 
-/// What kinds of messages a request is answered with.
+/// The kinds of messages in a request's answer.
 fn kinds(replies: NlRouterReceiverHandle<Rtm, Ifaddrmsg>) -> Vec<u16> {
     replies.map(|it| (*it.expect("no error comes").nl_type()).into()).collect()
 }
@@ -179,7 +180,7 @@ fn an_echo_reaches_its_request() {
         wait_shortly(&router);
         assert_eq!(kinds(add_address(&router, NlmF::ECHO | NlmF::ACK, 3)), [newaddr, ack]);
         assert!(multicast.next_typed::<Rtm, Ifaddrmsg>().is_some_and(|it| it.is_ok()));
-        // Without ECHO what the request causes is a notification alone, though it has the request's number.
+        // Without ECHO the request causes only a notification, though it has the request's number.
         assert_eq!(kinds(add_address(&router, NlmF::ACK, 4)), [ack]);
         assert!(multicast.next_typed::<Rtm, Ifaddrmsg>().is_some_and(|it| it.is_ok()));
         assert!(multicast.next().is_some_and(|it| it.is_err_and(|it| is_late(&it))));
@@ -227,7 +228,7 @@ fn resynced(multicast: &mut NlRouterReceiverHandle<u16, Buffer>) -> Picture {
     picture
 }
 
-/// Makes and removes links, and changes the MTU of another, as fast as it can. It says when it is under way.
+/// Makes and removes links, and changes the MTU of another, as fast as it can. It reports when it has begun.
 fn storm(first: u32, under_way: &Sender<()>) {
     let (router, _) = router(&[]);
     for at in first..first + 30 {
@@ -336,7 +337,7 @@ fn who_waits_at_the_socket_is_given_what_another_receives() {
         const MANY: usize = 2000;
         let (router, multicast) = router(&[LINK_GROUP]);
         let (heard, count) = channel();
-        // It waits at the socket, and what comes for it is mostly received by who asks.
+        // It waits at the socket, and another thread mostly receives its messages.
         let news = thread::spawn(move || {
             let is_well = multicast.take(MANY).all(|it| it.is_ok());
             heard.send(is_well).expect("the test waits for it");
@@ -422,14 +423,14 @@ fn a_signal_ends_a_wait_of_who_asks_for_it() {
     });
 }
 
-// ---- Not asked for, and other small things
+// ---- Messages without a request, and other small things
 
 #[test]
 fn what_was_not_asked_for_ends_nothing() {
     alone(|| {
         let (router, _) = router(&[]);
         wait_shortly(&router);
-        // Questions behind the router's back: their answers have numbers that no request has.
+        // Requests behind the router's back: their answers have numbers that no request has.
         let by_hand = |number| {
             let body = NlPayload::Payload(link(1).build().expect("a link"));
             let flags = NlmF::REQUEST | NlmF::ACK;
@@ -455,7 +456,7 @@ fn what_was_not_asked_for_ends_nothing() {
     });
 }
 
-/// A type of messages whose number is found by the router's help.
+/// A type of messages whose number is found through the router.
 #[derive(Clone, Copy, Debug)]
 struct Asking;
 

@@ -1,4 +1,4 @@
-//! Whether what was given is all: answers that are complete, interrupted or fail, and listening that goes on.
+//! Whether an answer is complete: answers that are complete, interrupted or fail, and listening that continues.
 
 use crate::links::{LINK_GROUP, Links, ask, dump, link, make_pairs, names, router, set_loopback};
 use crate::space::alone;
@@ -23,7 +23,7 @@ const NO_DEVICE: i32 = -19;
 /// So many pairs of links are listed in several datagrams.
 const MANY: usize = 150;
 
-/// A router, and so many links that it lists them in many datagrams, one of which has room in its socket.
+/// A router, and so many links that it lists them in many datagrams, one of which fits its socket.
 fn with_many_links() -> NlRouter {
     make_pairs(MANY);
     let (router, _) = router(&[]);
@@ -61,12 +61,12 @@ fn a_dump_is_interrupted() {
     });
 }
 
-/// How many lists were begun, at how many more of them a link is to be removed, and how many were removed in all.
+/// The number of lists begun, the number of further lists at which a link is removed, and the number removed in all.
 static BEGUN: AtomicUsize = AtomicUsize::new(0);
 static REMOVALS: AtomicUsize = AtomicUsize::new(0);
 static REMOVED: AtomicUsize = AtomicUsize::new(0);
 
-/// A link. While the first of a list is read, which is the loopback link, another one is removed.
+/// A link. While the first link of a list, the loopback, is read, another one is removed.
 struct Removing;
 
 impl FromBytes for Removing {
@@ -81,7 +81,7 @@ impl FromBytes for Removing {
     }
 }
 
-/// Asks for all links, some of which are removed: the list, and how often it was begun.
+/// Requests all links, some of which are removed: returns the list, and the number of times that it was begun.
 fn list(router: &NlRouter, times: usize, removals: usize) -> (Dump<Rtm, Removing>, usize) {
     BEGUN.store(0, Ordering::Relaxed);
     REMOVALS.store(removals, Ordering::Relaxed);
@@ -118,7 +118,7 @@ fn addresses(router: &NlRouter, index: u32) -> Dump<Rtm, Ifaddrmsg> {
     router.dump(Rtm::Getaddr, NlmF::empty(), asked, 3).expect("a dump is asked for")
 }
 
-/// The kernel ends the list of a link that is not there with NLMSG_DONE and ENODEV, where it looks at the index.
+/// The kernel ends the list of a missing link with NLMSG_DONE and ENODEV, if it checks the index.
 #[test]
 fn a_dump_fails_at_its_end() {
     alone(|| {
@@ -153,7 +153,7 @@ fn other_answers_have_a_verdict() {
         let mut not_there: Links = asked(&router, 4711);
         assert!(not_there.next().is_some_and(|it| it.is_err()));
         assert_eq!(not_there.verdict(), Verdict::Failed(NO_DEVICE));
-        // A link is no u16, and what follows comes all the same.
+        // A link is no u16, and later messages arrive all the same.
         let mut unreadable = asked::<u16>(&router, 1);
         assert!(matches!(unreadable.next(), Some(Err(RouterError::De(_)))));
         assert!(unreadable.next().is_some_and(|it| it.is_ok()) && unreadable.next().is_none());
@@ -162,7 +162,7 @@ fn other_answers_have_a_verdict() {
     });
 }
 
-/// What a listener is given, in a word; nothing where the wait is over.
+/// The result of a listener's read, in a word; nothing if the wait has ended.
 fn heard<P: FromBytes>(multicast: &mut NlRouterReceiverHandle<u16, Buffer>) -> &'static str {
     match multicast.listen::<Rtm, P>() {
         Ok(Notice::Message(_)) => "a message",
@@ -193,7 +193,7 @@ fn who_listens_goes_on() {
         router.socket().set_recv_buffer_size(1 << 20).expect("the buffer is made large");
         set_loopback(&other, false);
         assert_eq!(heard::<Ifinfomsg>(&mut multicast), "a message");
-        // Who is in no group waits, and the handle of a request is told that it is none of multicast.
+        // A listener in no group waits, and the handle of a request reports that it is not that of multicast.
         other.socket().set_recv_timeout(Some(Duration::from_millis(50))).expect("a time is set");
         assert_eq!(heard::<Ifinfomsg>(&mut nothing), "");
         assert!(matches!(dump(&router).listen::<Rtm, Ifinfomsg>(), Err(RouterError::ClosedChannel)));

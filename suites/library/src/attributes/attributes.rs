@@ -19,7 +19,7 @@ use std::process::Abort;
 /// An attribute of type 1 with the payload `07 01 09 09`.
 const BYTES: [u8; 8] = [8, 0, 1, 0, 7, 1, 9, 9];
 
-/// It, read.
+/// The attribute, read.
 fn read<A: FromBytes>(rt: &impl Abort, alloc: Global) -> A {
     A::from_bytes(alloc, &mut Cursor::new(&BYTES)).expect(rt, "an attribute")
 }
@@ -128,7 +128,7 @@ fn payloads_that_are_set(rt: HostRuntime) {
     assert_written(&rt, alloc, &attr, &[5, 0, 1, 0, 9, 0, 0, 0]);
 }
 
-/// Asserts the sizes and the payload of the attribute of [`BYTES`], and what the payload is read as.
+/// Asserts the sizes and the payload of the attribute of [`BYTES`], and the readings of the payload.
 fn assert_payload<T, A: Attribute<T> + Size>(rt: &impl Abort, alloc: Global, attr: &A) {
     assert_is(rt, (attr.unpadded_size(), attr.written_size()), (8, 8));
     assert_is(rt, attr.payload().as_ref(), [7u8, 1, 9, 9].as_slice());

@@ -1,4 +1,4 @@
-//! What builders answer where they make nothing.
+//! Refusals of builders.
 
 use super::support::{assert_is, assert_is_at, assert_prints, assert_refused};
 use neli::err::{BuildError, NoMemory, SerError, UninitializedFieldError, of};
@@ -45,7 +45,7 @@ fn errors_print_the_missing_field(rt: HostRuntime) {
     assert_prints(&rt, alloc, &NlattrBuilderError::Memory, "Out of memory");
 }
 
-/// What a build error says, and whether memory ran out.
+/// The text of a build error, and whether memory ran out.
 fn cause_of(error: NlattrBuilderError) -> (&'static str, bool) {
     match error {
         NlattrBuilderError::UninitializedField(_) => ("a field", false),
@@ -66,7 +66,7 @@ fn causes_of_build_errors(rt: HostRuntime) {
     assert_is(&rt, cause_of(failed.into()), ("", true));
 }
 
-/// The numbers that tell the errors of one builder from those of another.
+/// The numbers that distinguish the errors of one builder from those of another.
 const BUILDERS: [(&str, u8); 19] = [
     ("AttrType", of::ATTR_TYPE),
     ("Nlattr", of::NLATTR),

@@ -1,5 +1,5 @@
-//! Lists of attributes: their calls, and what they are written as and read from. What holds of generic ones and of
-//! routing ones stands in functions over both.
+//! Lists of attributes: their calls, their bytes and their readings. Functions over both kinds test the common facts of
+//! generic and routing ones.
 
 use super::support::{
     Handle, Refusal, assert_is, assert_is_at, assert_written, generic, read_list, refusal_of,

@@ -16,10 +16,10 @@ use std::process::Abort;
 /// An attribute of type 1 with the number 5, which is the `FamilyId` of a generic family.
 const FAMILY_ID: [u8; 8] = [8, 0, 1, 0, 5, 0, 0, 0];
 
-/// What a lookup prints that finds nothing.
+/// The printed refusal of a look-up that finds nothing.
 const NOT_FOUND: &str = "Failed to find specified attribute";
 
-/// Asserts what is answered where an attribute is missing, and where it is not.
+/// Asserts the result for a missing attribute, and for one in the list.
 fn check_missing(rt: &impl Abort, alloc: Global, handle: &Handle<'_, Nlattr<CtrlAttr, Buffer>>) {
     assert!(rt; handle.get_attribute(CtrlAttr::FamilyId).is_some());
     assert!(rt; handle.get_attribute(CtrlAttr::FamilyName).is_none());
@@ -107,7 +107,7 @@ fn byte_of<T>(found: Option<&Rtattr<T, Buffer>>) -> Option<u8> {
     found?.rta_payload().as_ref().first().copied()
 }
 
-/// What is found of a type in [`FLAGGED`], as it is and with the flags passed over.
+/// The result of looking a type up in [`FLAGGED`], as it is and ignoring the flags.
 fn found_of<T: RtaType>(rt: &impl Abort, alloc: Global, kind: T) -> (Option<u8>, Option<u8>) {
     let list: RtBuffer<T, Buffer> = read_list(rt, alloc, &FLAGGED);
     let handle = list.get_attr_handle();
@@ -153,7 +153,7 @@ fn flags_are_passed_over(rt: HostRuntime) {
     }
 }
 
-// A handle of a list lends it; one that is made of a list owns it.
+// A handle made from a borrowed list lends it; one made from an owned list owns it.
 #[test]
 fn handles_own_or_borrow(rt: HostRuntime) {
     let alloc = rt.alloc();

@@ -12,7 +12,7 @@ use neli::types::{Buffer, GenlBuffer, RtBuffer};
 use std::alloc::Global;
 use std::process::Abort;
 
-/// A generic attribute with another one nested in it, behind what it has.
+/// A generic attribute with another one nested in it, after its other contents.
 fn with_generic<T: NlAttrType, S: NlAttrType>(
     rt: &impl Abort,
     outer: Nlattr<T, Buffer>,

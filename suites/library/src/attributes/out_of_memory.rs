@@ -1,5 +1,5 @@
-//! Each allocation may be refused in these tests: then the answer is that memory ran out, and nothing has
-//! changed. They are run with each allocation refused in turn.
+//! Each allocation may be refused in these tests: then the call reports that memory ran out, and nothing has changed.
+//! They run with each allocation refused in turn.
 
 use super::support::assert_is;
 use neli::attr::Attribute;

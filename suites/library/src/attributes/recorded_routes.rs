@@ -1,5 +1,5 @@
-//! The attributes of datagrams that were recorded from Linux 6.18, against what libmnl and pyroute2 read
-//! there. Each row is the part of a message after the header of its body, named by the number of its datagram in
+//! The attributes of datagrams that were recorded from Linux 6.18, compared with the readings of libmnl and pyroute2.
+//! Each row is the part of a message after the header of its body, named by the number of its datagram in
 //! docs/RECORDINGS.md.
 
 use super::support::{
@@ -26,11 +26,11 @@ fn decoded(rt: &impl Abort, alloc: Global, lines: &[&str]) -> Vec<u8> {
     bytes
 }
 
-/// What libmnl reads of an attribute: the type without its two upper bits, the length of the payload, and
-/// whether it is marked as nested.
+/// An attribute as libmnl reads it: the type without its two upper bits, the length of the payload, and whether it is
+/// marked as nested.
 type Seen = (u16, usize, bool);
 
-/// Attributes as they were recorded, and what libmnl reads.
+/// Recorded attributes, and libmnl's reading.
 type Row = (&'static str, &'static [&'static str], &'static [Seen]);
 
 const R0004: Row = (

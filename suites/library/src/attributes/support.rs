@@ -1,4 +1,4 @@
-//! What the tests share: attributes that are built, lists that are read, and values that are written.
+//! Shared parts of the tests: built attributes, read lists, and written values.
 
 use neli::attr::{AttrHandle, TypedPayload};
 use neli::consts::genl::NlAttrType;
@@ -16,12 +16,12 @@ use std::process::Abort;
 /// A list of attributes in which they are looked up.
 pub type Handle<'a, I> = AttrHandle<'a, FrameList<I>, I>;
 
-/// Asserts that this is what is wanted.
+/// Asserts that this is the expected value.
 pub fn assert_is<T: Copy + PartialEq + Debug>(rt: &impl Abort, got: T, want: T) {
     assert_eq!(rt; got, want);
 }
 
-/// Asserts that this is what is wanted, in the row of a table that has this name or input.
+/// Asserts that this is the expected value, in the row of a table that has this name or input.
 pub fn assert_is_at<R: Copy + PartialEq + Debug, T: Copy + PartialEq + Debug>(
     rt: &impl Abort,
     row: R,
@@ -84,7 +84,7 @@ pub fn assert_refused<T: Drop, E: Display + Drop>(
     assert_prints(rt, alloc, &error, text);
 }
 
-/// The list of attributes that all of the bytes spell.
+/// The list of attributes in all of the bytes.
 pub fn read_list<I: FromBytes>(rt: &impl Abort, alloc: Global, bytes: &[u8]) -> FrameList<I> {
     FrameList::from_bytes_with_input(alloc, &mut Cursor::new(bytes), bytes.len()).expect(
         rt, "a list",
@@ -143,7 +143,7 @@ pub enum Refusal {
     Other,
 }
 
-/// The refusal of a read, or None where there is a value.
+/// The refusal of a read, or None if there is a value.
 pub fn refusal_of<T: Drop>(read: Result<T, DeError>) -> Option<Refusal> {
     match read {
         Ok(_) => None,

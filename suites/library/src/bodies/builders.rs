@@ -1,4 +1,4 @@
-//! Builders: what they make of their fields, and what is missing.
+//! Builders: their results, and missing fields.
 
 use super::support::{assert_is_at, made, read_whole, written};
 use neli::connector::{CnMsg, CnMsgBuilder, CnMsgBuilderError, ProcEvent, ProcEventHeader};
@@ -277,7 +277,7 @@ fn missing_fields_of_generic_messages_are_named(rt: HostRuntime) {
     }
 }
 
-/// Why a builder makes nothing of its fields, in words.
+/// Why a builder refuses its fields, in words.
 fn invalid_of<T: Drop, const OF: u8>(built: Result<T, BuildError<OF>>) -> &'static str {
     match built {
         Err(BuildError::ValidationError(text)) => text,

@@ -1,5 +1,4 @@
-//! Bodies that are cut, each at each length, and lengths of attributes that lie: the refusal, and the cursor where it
-//! was.
+//! Bodies that are cut, each at each length, and wrong lengths of attributes: the refusal, and the unchanged cursor.
 
 use super::support::{assert_is_at, bytes_of, count_of, read_whole, recorded};
 use neli::connector::{CnMsg, ProcEvent, ProcEventHeader};
@@ -14,7 +13,7 @@ use std::fmt::Display;
 use std::io::ErrorKind;
 use std::process::Abort;
 
-/// A process begins to run a program, as the connector tells it.
+/// A process runs a program, as the connector reports it.
 const EXEC: &str = "01000000010000008302000000000000280000000200000001000000b834541947020000\
     7f1600007f160000";
 
@@ -72,7 +71,7 @@ fn a_process_event(rt: HostRuntime) {
     assert!(rt; event.event != ProcEvent::Ack { err: 0 });
 }
 
-// What is read of a process event that is cut to `k` bytes.
+// The reading of a process event that is cut to `k` bytes.
 #[test]
 fn a_process_event_that_is_cut(rt: HostRuntime) {
     let bytes = bytes_of(&rt, rt.alloc(), "an event", EXEC);
@@ -113,8 +112,8 @@ fn assert_read<B: FromBytesWithInput>(
     assert_is_at(rt, (what, k), (is_read, cursor.position()), (true, k));
 }
 
-/// Lengths that the attribute states in place of 8, and what it is refused with: a length below that of its header, or
-/// how many bytes of payload are not all there. One that ends in its header leaves the payload as the next one, which
+/// Lengths that the attribute states in place of 8, and the refusal: a length below that of its header, or the number
+/// of payload bytes that are not all there. One that ends in its header leaves the payload as the next one, which
 /// states 513 bytes.
 const LENGTHS: [(u16, Option<usize>); 9] = [
     (0, Some(0)),

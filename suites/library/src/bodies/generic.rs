@@ -1,5 +1,5 @@
-//! Recorded messages of generic netlink's controller and of the connector: the fields that other readers
-//! find in each, and the same bytes when they are written again.
+//! Recorded messages of generic netlink's controller and of the connector: the fields that other readers find in each,
+//! and the same bytes when written again.
 
 use super::support::{Row, assert_is_at, assert_written, bytes_of, made, read_whole, recorded};
 use neli::Size;
@@ -51,7 +51,7 @@ fn controller(rt: HostRuntime) {
 /// processor and the time of its event.
 type Event = (&'static str, &'static str, u32, u32, u64);
 
-// Connector messages as they came after the message's header.
+// Connector messages as they arrived, after the message's header.
 const EVENTS: [Event; 7] = [
     (
         "1067, child that ends",
@@ -111,10 +111,10 @@ const EVENTS: [Event; 7] = [
     ),
 ];
 
-/// What an event holds: the type that it is written with, its fields, and how many bytes it takes.
+/// The contents of an event: the type that it is written with, its fields, and its size in bytes.
 type Held = (u32, &'static str, u8);
 
-// What the events hold, by the layout of the kernel's struct.
+// The contents of the events, by the layout of the kernel's struct.
 const HELD: [Held; 7] = [
     (
         0x1,
@@ -162,7 +162,7 @@ fn assert_fields(rt: &impl Abort, m: &CnMsg<ProcEventHeader>, row: Event) {
     assert_is_at(rt, label, (event.cpu, event.timestamp_ns), (cpu, time));
 }
 
-/// Asserts what the event holds.
+/// Asserts the contents of the event.
 fn assert_held(rt: &impl Abort, alloc: Global, label: &str, event: &ProcEventHeader, held: Held) {
     let (kind, fields, size) = held;
     let text = format!(in alloc; "{:?}", event.event).expect(rt, "memory");
@@ -186,7 +186,7 @@ fn bytes_again(rt: &impl Abort, alloc: Global, bytes: &[u8], held: Held) -> Vec<
     again
 }
 
-// What the kernel sends is 40 bytes long whatever the event: what follows the event is not kept.
+// The kernel sends 40 bytes for every event: the bytes after the event are not kept.
 #[test]
 fn events(rt: HostRuntime) {
     let alloc = rt.alloc();

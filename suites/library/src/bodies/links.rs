@@ -241,7 +241,7 @@ fn neighbours(rt: HostRuntime) {
     }
 }
 
-/// Neighbours, each with the times and the count that its `NDA_CACHEINFO` says.
+/// Neighbours, each with the times and the count of its `NDA_CACHEINFO`.
 const CACHE_ENTRIES: [(&str, &str, (u32, u32, u32, u32)); 3] = [
     (
         "0233",
@@ -273,7 +273,7 @@ fn cache_entry_of(rt: &impl Abort, alloc: Global, label: &str, digits: &str) -> 
         .expect(rt, label)
 }
 
-// What the neighbours' `NDA_CACHEINFO` say.
+// The fields of the neighbours' `NDA_CACHEINFO`.
 #[test]
 fn cache_entries(rt: HostRuntime) {
     for (label, digits, times) in CACHE_ENTRIES {

@@ -1,4 +1,4 @@
-//! What `Debug` prints of the bodies of routing and of their sets of flags.
+//! The `Debug` output of the bodies of routing and of their sets of flags.
 
 use super::support::{assert_is_at, read_whole};
 use neli::FromBytesWithInput;
@@ -13,7 +13,7 @@ use std::alloc::Global;
 use std::fmt::Debug;
 use std::process::Abort;
 
-/// Bytes that spell the fields of any of these bodies.
+/// Bytes for the fields of any of these bodies.
 const ZEROS: [u8; 20] = [0; 20];
 
 /// Asserts that this is printed of the body that as many zeros spell: its name, its fields, and no attribute.

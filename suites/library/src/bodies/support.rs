@@ -1,4 +1,4 @@
-//! What the tests share: what is wanted, bodies that were recorded, and bytes that values are written as.
+//! Shared parts of the tests: comparison, recorded bodies, and written bytes.
 
 use neli::err::DeError;
 use neli::{Cursor, FromBytesWithInput, ToBytes};
@@ -6,7 +6,7 @@ use std::alloc::Global;
 use std::fmt::Debug;
 use std::process::Abort;
 
-/// Asserts that this is what is wanted, in the row of a table that has this name or input.
+/// Asserts that this is the expected value, in the row of a table that has this name or input.
 pub fn assert_is_at<R: Copy + Debug, T: Copy + PartialEq + Debug>(
     rt: &impl Abort,
     row: R,
@@ -16,7 +16,7 @@ pub fn assert_is_at<R: Copy + Debug, T: Copy + PartialEq + Debug>(
     assert_eq!(rt; got, want, "at {row:?}");
 }
 
-/// The bytes that hexadecimal digits spell.
+/// The bytes in hexadecimal digits.
 pub fn bytes_of(rt: &impl Abort, alloc: Global, label: &str, digits: &str) -> Vec<u8> {
     hex::decode(alloc, digits).expect(rt, label)
 }
@@ -24,7 +24,7 @@ pub fn bytes_of(rt: &impl Abort, alloc: Global, label: &str, digits: &str) -> Ve
 /// A recorded body: where it stands, its bytes as hexadecimal digits, its fields, and how many attributes it has.
 pub type Row<F> = (&'static str, &'static str, F, usize);
 
-/// The body that all of the bytes spell.
+/// The body in all of the bytes.
 pub fn read_whole<B: FromBytesWithInput>(
     rt: &impl Abort,
     alloc: Global,
@@ -37,7 +37,7 @@ pub fn read_whole<B: FromBytesWithInput>(
     read.expect(rt, label)
 }
 
-/// The body that the digits spell. It is read to their end, and written again as it was.
+/// The body in the digits. It is read to their end, and written again unchanged.
 pub fn recorded<B: FromBytesWithInput + ToBytes>(
     rt: &impl Abort,
     alloc: Global,
@@ -83,7 +83,7 @@ pub fn assert_written<V: ToBytes>(
     assert_is_at(rt, label, bytes.as_slice(), want);
 }
 
-/// The count that a refusal of bytes names.
+/// The count in a refusal of bytes.
 pub fn count_of(error: DeError) -> Option<usize> {
     match error {
         DeError::InvalidInput(count) => Some(count),

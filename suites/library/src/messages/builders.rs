@@ -1,4 +1,4 @@
-//! What builders make, and what is written.
+//! Results of builders, and written bytes.
 
 use super::kinds::ERROR;
 use super::reading::ONE;
@@ -43,7 +43,7 @@ const ONE_WITH_ZEROS: [u8; 20] = [
     0x11, 0, 0, 0, 0, 4, 0, 0, 0, 0, 0, 0, 0, 0, 0, 0, 0x61, 0, 0, 0,
 ];
 
-/// Messages, and what each is written as after it is read: padding of any value is written as zeros.
+/// Messages, and the bytes written for each after reading: padding of any value is written as zeros.
 const WRITTEN: [(&[u8], &[u8]); 3] = [
     (&ERROR, &ERROR),
     (&NOISY, &ERROR),

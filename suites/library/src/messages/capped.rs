@@ -1,4 +1,4 @@
-//! Capped errors: taken out, retyped, copied, built and printed.
+//! Capped errors: removed from their message, retyped, copied, built and printed.
 
 use super::kinds::{CAPPED, ERROR};
 use super::support::{Raw, assert_is, assert_prints, assert_written, numbers_of, raw_message};
@@ -9,10 +9,10 @@ use neli::types::Buffer;
 use std::alloc::Global;
 use std::process::Abort;
 
-/// A capped error whose request's type is a number.
+/// A capped error with a number as the request's type.
 type Capped = Nlmsgerr<NlmsghdrAck<u16>>;
 
-/// The capped error of [`CAPPED`], taken out of its message.
+/// The capped error of [`CAPPED`], removed from its message.
 fn capped(rt: &impl Abort, alloc: Global) -> Capped {
     let mut message = raw_message(rt, alloc, &CAPPED);
     message.get_capped().expect(rt, "a capped error")

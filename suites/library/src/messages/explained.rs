@@ -1,4 +1,4 @@
-//! Answers as a person reads them. Names are those of errno.h, and meanings those of strerror(3).
+//! Answers as texts for people. Names are those of errno.h, and meanings those of strerror(3).
 
 use super::kinds::{CAPPED, ERROR};
 use super::support::{assert_prints, raw_message};
@@ -7,7 +7,7 @@ use neli::{Cursor, FromBytesWithInput};
 use std::alloc::Global;
 use std::process::Abort;
 
-/// A code and attributes, as the end of a dump has them, and what is printed of them.
+/// A code and attributes, as the end of a dump has them, and their printed text.
 const ANSWERS: [(&[u8], &str); 17] = [
     (&[0, 0, 0, 0], "0"),
     (

@@ -61,14 +61,14 @@ fn first_kind(rt: &impl Abort, alloc: Global, bytes: &[u8]) -> Result<Kind, Refu
     Ok(kind_of(first.nl_payload()))
 }
 
-/// An error of code -22 that echoes a message of 21 bytes and says `bad`.
+/// An error of code -22 that echoes a message of 21 bytes, with the text `bad`.
 pub const ERROR: [u8; 52] = [
     0x34, 0, 0, 0, 2, 0, 0, 2, 0, 0, 0, 0, 0, 0, 0, 0, 0xea, 0xff, 0xff, 0xff, 0x15, 0, 0, 0, 0, 4,
     5, 0, 0, 0, 0, 0, 0, 0, 0, 0, 0x61, 0x62, 0x63, 0x64, 0x65, 0, 0, 0, 8, 0, 1, 0, 0x62, 0x61,
     0x64, 0,
 ];
 
-/// A capped error of code -22, of a request of 32 bytes, that says `bad`; its flags are CAPPED and ACK_TLVS.
+/// A capped error of code -22, of a request of 32 bytes, with the text `bad`; its flags are CAPPED and ACK_TLVS.
 pub const CAPPED: [u8; 44] = [
     0x2c, 0, 0, 0, 2, 0, 0, 3, 0, 0, 0, 0, 0, 0, 0, 0, 0xea, 0xff, 0xff, 0xff, 0x20, 0, 0, 0, 0x10,
     0, 5, 0, 0, 0, 0, 0, 0, 0, 0, 0, 8, 0, 1, 0, 0x62, 0x61, 0x64, 0,

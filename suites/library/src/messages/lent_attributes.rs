@@ -57,12 +57,12 @@ fn next_type(rt: &impl Abort, attrs: &mut LentRtattrs<'_, Rta>) -> Option<Rta> {
     Some(*next.expect(rt, "an attribute").attr_type())
 }
 
-/// How many attributes are left of a walk.
+/// The number of attributes that remain in a walk.
 fn count(rt: &impl Abort, attrs: &LentRtattrs<'_, Rta>) -> usize {
     attrs.try_count().expect(rt, "attributes")
 }
 
-// Counting, and walking ahead, leave a walk where it is.
+// Counting, and walking ahead, leave a walk unchanged.
 #[test]
 fn a_walk_is_taken_step_by_step(rt: HostRuntime) {
     let mut attrs = LentRtattrs::<'_, Rta>::new(&BYTES);

@@ -95,7 +95,7 @@ fn owned(rt: &impl Abort, alloc: Global, bytes: &[u8]) -> (Vec<Raw>, Option<Refu
     }
 }
 
-/// Asserts that a walk of the bytes gives what is read from them as owned messages, then the fault once, and then
+/// Asserts that a walk of the bytes returns the same messages as reading owned ones, then the fault once, and then
 /// nothing.
 fn assert_all_same(
     rt: &impl Abort,

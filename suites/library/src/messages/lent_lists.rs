@@ -7,8 +7,8 @@ use neli::{Cursor, FromBytesWithInput};
 use std::alloc::Global;
 use std::process::Abort;
 
-/// Attributes in hexadecimal digits, how many there are, and the fault after them. Where bytes are missing at
-/// the end, the fault names the count of the whole list.
+/// Attributes in hexadecimal digits, their number, and the fault after them. If bytes are missing at the end, the fault
+/// names the count of the whole list.
 type Row = (&'static str, &'static str, usize, Option<Refusal>);
 
 const ROWS: [Row; 11] = [
@@ -64,7 +64,7 @@ fn lent_and_owned_attributes_are_the_same(rt: HostRuntime) {
     }
 }
 
-/// How many attributes a walk gives, and the fault after them.
+/// The number of attributes in a walk, and the fault after them.
 fn given(bytes: &[u8]) -> (usize, Option<Refusal>) {
     let mut count = 0usize;
     for item in LentAttrs::<'_, u16>::new(bytes) {
@@ -76,7 +76,7 @@ fn given(bytes: &[u8]) -> (usize, Option<Refusal>) {
     (count, None)
 }
 
-/// How many lent attributes the bytes are, or the fault.
+/// The number of lent attributes in the bytes, or the fault.
 fn lent_count(bytes: &[u8]) -> Result<usize, Refusal> {
     match LentAttrs::<'_, u16>::new(bytes).try_count() {
         Ok(count) => Ok(count),
@@ -84,7 +84,7 @@ fn lent_count(bytes: &[u8]) -> Result<usize, Refusal> {
     }
 }
 
-/// How many owned attributes the bytes are, or the fault. Asserts that lent ones say the same.
+/// The number of owned attributes in the bytes, or the fault. Asserts that lent ones have the same.
 fn owned_count(rt: &impl Abort, alloc: Global, row: &str, bytes: &[u8]) -> Result<usize, Refusal> {
     match Raw::from_bytes_with_input(alloc, &mut Cursor::new(bytes), bytes.len()) {
         Ok(list) => {
@@ -95,7 +95,7 @@ fn owned_count(rt: &impl Abort, alloc: Global, row: &str, bytes: &[u8]) -> Resul
     }
 }
 
-/// Asserts that a walk of the bytes gives what the list has, and nothing more.
+/// Asserts that a walk of the bytes returns the attributes of the list, and nothing more.
 fn assert_all_same(rt: &impl Abort, row: &str, bytes: &[u8], list: &Raw) {
     let mut attrs = LentAttrs::<'_, u16>::new(bytes);
     for owned in list.iter() {

@@ -1,4 +1,4 @@
-//! Looking up the attributes that are left of a walk.
+//! Looking up attributes in the rest of a walk.
 
 use super::support::{Refusal, assert_is_at, refusal_in, refusal_of};
 use neli::consts::genl::CtrlAttr;
@@ -12,7 +12,7 @@ const ROUTE: [u8; 28] = [
     8, 0, 5, 0, 192, 0, 2, 1, 8, 0, 1, 0, 10, 0, 0, 0, 8, 0, 5, 0, 192, 0, 2, 2, 3, 0, 4, 0,
 ];
 
-/// The payload of what is found, or the fault.
+/// The payload of the attribute found, or the fault.
 fn looked_up<'b>(attrs: &LentRtattrs<'b, Rta>, kind: Rta) -> Result<Option<&'b [u8]>, Refusal> {
     match attrs.get_attribute(kind) {
         Ok(None) => Ok(None),
@@ -56,7 +56,7 @@ fn the_first_of_its_type_is_found_or_the_fault_before_it(rt: HostRuntime) {
     }
 }
 
-/// The same where the flags are passed over.
+/// The same, ignoring the flags.
 fn looked_up_masked<'b>(
     attrs: &LentRtattrs<'b, Rta>,
     kind: Rta,

@@ -1,5 +1,6 @@
-//! A link and a route that were recorded from Linux 6.18, against what libmnl reads in their headers and pyroute2 in
-//! their attributes, and a request of iproute2 against its command line. Numbers are those of docs/RECORDINGS.md.
+//! A link and a route that were recorded from Linux 6.18, compared with libmnl's reading of their headers and
+//! pyroute2's of their attributes, and a request of iproute2 with its command line. Numbers are those of
+//! docs/RECORDINGS.md.
 
 use super::lent_messages::link_attrs;
 use super::support::{assert_is_at, lent_message, lent_numbers};
@@ -22,7 +23,7 @@ const LINK: &str = "\
     0000000005002b00000000000c00150000000000000000000c00160000000000000000000c0017000000000000000000\
     050019000100000008002500000200000800260000000000080029000500000008002a0000000000";
 
-/// What a lookup of 10.7.2.3 was answered with: datagram 0202.
+/// The answer to a look-up of 10.7.2.3: datagram 0202.
 const ROUTE: &str = "\
     700000001800000017040000fa0598c602200000fe0000010002000008000f00fe000000080001000a07020308000400\
     0300000008000700c000020108000500c0000209080019000000000024000c0002000000000000000000000000000000\
@@ -103,7 +104,7 @@ fn a_link_has_numbers(rt: HostRuntime) {
     }
 }
 
-/// Attributes of the route, with what pyroute2 reads there.
+/// Attributes of the route, with pyroute2's reading.
 const OF_THE_ROUTE: [(&str, Rta, &[u8]); 5] = [
     ("destination", Rta::Dst, &[10, 7, 2, 3]),
     ("source", Rta::Prefsrc, &[192, 0, 2, 1]),

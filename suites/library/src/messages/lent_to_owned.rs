@@ -1,5 +1,5 @@
-//! Lent values that become owned ones. Each allocation may be refused in these tests: then the answer is that
-//! memory ran out, and the lent value is still there.
+//! Lent values that become owned ones. Each allocation may be refused in these tests: then the call reports that memory
+//! ran out, and the lent value still exists.
 
 use super::support::{
     Raw, Refusal, assert_is_at, lent_attr, lent_message, numbers_of, refusal_in, refusal_of,

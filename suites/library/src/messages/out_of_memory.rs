@@ -1,5 +1,5 @@
-//! Each allocation may be refused in these tests: then the answer is that memory ran out, and nothing has
-//! changed. They are run with each allocation refused in turn.
+//! Each allocation may be refused in these tests: then the call reports that memory ran out, and nothing has changed.
+//! They run with each allocation refused in turn.
 
 use super::kinds::ERROR;
 use super::retyping::typed_message;
@@ -36,7 +36,7 @@ fn a_message_or_out_of_memory_and_then_the_message(rt: HostRuntime) {
     assert_is(&rt, next_code(&rt, rt.alloc(), &mut messages), None);
 }
 
-/// The message of [`ERROR`], or None where memory ran out.
+/// The message of [`ERROR`], or None if memory ran out.
 fn read_error(rt: &impl Abort, alloc: Global) -> Option<Raw> {
     let mut cursor = Cursor::new(&ERROR);
     match Raw::from_bytes(alloc, &mut cursor) {

@@ -1,4 +1,4 @@
-//! What errors print, and what they are made of.
+//! The text of errors, and their parts.
 
 use super::kinds::ERROR;
 use super::retyping::typed_error;
@@ -218,7 +218,7 @@ fn an_error_of_one_builder_becomes_words(rt: HostRuntime) {
     assert_is(&rt, router_refusal(&Error::from(error)), Refusal::Memory);
 }
 
-/// Whether the error says that memory ran out.
+/// Whether the error reports that memory ran out.
 fn is_memory(error: SocketError) -> bool {
     matches!(error, SocketError::Memory)
 }

@@ -110,7 +110,7 @@ const REQUEST: [u8; 32] = [
     0x74, 0x72, 0x6c, 0, 0,
 ];
 
-/// What the next item of a datagram is: the numbers in a message's header, or why there is no message.
+/// The next item of a datagram: the numbers in a message's header, or why there is no message.
 type Item = Option<Result<[u32; 4], Refusal>>;
 
 fn item_of<T: Drop, P: Drop>(item: Option<Result<Nlmsghdr<T, P>, SocketError>>) -> Item {
@@ -122,8 +122,7 @@ fn item_of<T: Drop, P: Drop>(item: Option<Result<Nlmsghdr<T, P>, SocketError>>) 
     }
 }
 
-/// Asserts that the message is refused so, and that the cursor stays; a datagram of these bytes has this fault
-/// and nothing else.
+/// Asserts that the message has this refusal, and that the cursor stays; a datagram of these bytes has only this fault.
 fn assert_refused(rt: &impl Abort, alloc: Global, bytes: &[u8], want: Refusal) {
     let mut cursor = Cursor::new(bytes);
     let refusal = refusal_in(Raw::from_bytes(alloc, &mut cursor));
@@ -135,7 +134,7 @@ fn assert_refused(rt: &impl Abort, alloc: Global, bytes: &[u8], want: Refusal) {
     assert_is_at(rt, bytes, [fault, rest], [Some(Err(want)), None]);
 }
 
-/// Messages, and the count of bytes in the payload: they are missed where the header is there.
+/// Messages, and the count of payload bytes that the refusal names if the header is complete.
 const CUT: [(&[u8], usize); 2] = [(&ERROR, 36), (&REQUEST, 16)];
 
 #[test]

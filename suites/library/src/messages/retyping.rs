@@ -1,5 +1,4 @@
-//! Untyped messages and a router's errors as ones of other types, and the calls that take a payload out or put one
-//! in.
+//! Untyped messages and a router's errors as ones of other types, and the calls that remove or replace a payload.
 
 use super::kinds::ERROR;
 use super::support::{Raw, RawError, Refusal, assert_is, error_in, raw_message, router_refusal};
@@ -31,7 +30,7 @@ fn or_refusal<V: Drop, T: Drop, P: Drop>(
     }
 }
 
-/// The echo that the answer holds, with other types.
+/// The echo in the answer, with other types.
 fn typed_echo<T: NlType + Drop, P: FromBytesWithInput + Size + Drop>(
     alloc: Global,
     answer: &RawError,
@@ -210,7 +209,7 @@ fn the_first_bytes_of_a_body_are_typed(rt: HostRuntime) {
     }
 }
 
-/// Asserts that the copy is equal to what it was made of.
+/// Asserts that the copy equals its original.
 pub fn assert_copy<V: PartialEq + Debug + Drop>(
     rt: &impl Abort,
     copy: Result<V, NoMemory>,

@@ -1,4 +1,4 @@
-//! What the tests share: refusals that can be compared, one comparison for all, and what is read from bytes.
+//! Shared parts of the tests: refusals that can be compared, one comparison for all, and values read from bytes.
 
 use neli::consts::Constant;
 use neli::consts::nl::NlType;
@@ -12,12 +12,12 @@ use std::fmt::{Debug, Display};
 use std::io::ErrorKind;
 use std::process::Abort;
 
-/// Asserts that this is what is wanted.
+/// Asserts that this is the expected value.
 pub fn assert_is<T: Copy + PartialEq + Debug>(rt: &impl Abort, got: T, want: T) {
     assert_eq!(rt; got, want);
 }
 
-/// Asserts that this is what is wanted, in the row of a table that has this name or input.
+/// Asserts that this is the expected value, in the row of a table that has this name or input.
 pub fn assert_is_at<R: Copy + Debug, T: Copy + PartialEq + Debug>(
     rt: &impl Abort,
     row: R,
@@ -27,7 +27,7 @@ pub fn assert_is_at<R: Copy + Debug, T: Copy + PartialEq + Debug>(
     assert_eq!(rt; got, want, "at {row:?}");
 }
 
-/// What a call is refused with.
+/// The refusal of a call.
 #[derive(Clone, Copy, Debug, PartialEq, Eq)]
 pub enum Refusal {
     /// The bytes end too early.
@@ -49,7 +49,7 @@ pub fn refusal_of(error: &DeError) -> Refusal {
     }
 }
 
-/// The refusal of a read, or None where there is a value.
+/// The refusal of a read, or None if there is a value.
 pub fn refusal_in<T: Drop>(read: Result<T, DeError>) -> Option<Refusal> {
     match read {
         Ok(_) => None,
@@ -57,7 +57,7 @@ pub fn refusal_in<T: Drop>(read: Result<T, DeError>) -> Option<Refusal> {
     }
 }
 
-/// The refusal that a router's error is.
+/// The refusal in a router's error.
 pub fn router_refusal<T, P>(error: &RouterError<T, P>) -> Refusal {
     match error {
         RouterError::Memory => Refusal::Memory,
@@ -79,7 +79,7 @@ pub fn lent_message<'b, T: NlType>(rt: &impl Abort, bytes: &'b [u8]) -> LentMess
     LentMessage::lend(&mut Cursor::new(bytes)).expect(rt, "a message")
 }
 
-/// A message that no type is given to.
+/// A message with untyped payload.
 pub type Raw = Nlmsghdr<u16, Buffer>;
 
 /// An error with the message that it echoes.
@@ -112,7 +112,7 @@ pub fn lent_numbers<T>(message: &LentMessage<'_, T>) -> [u32; 4] {
     ]
 }
 
-/// The error that the message carries.
+/// The error in the message.
 pub fn error_in<'a, T, P>(
     rt: &impl Abort,
     message: &'a Nlmsghdr<T, P>,

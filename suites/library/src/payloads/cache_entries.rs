@@ -1,4 +1,4 @@
-//! How long addresses last, and what is cached of routes.
+//! Lifetimes of addresses, and cache entries of routes.
 
 use super::support::{assert_is, assert_is_at, bytes_of, read_first, written};
 use neli_payloads::{IfaCacheinfo, RtaCacheinfo};

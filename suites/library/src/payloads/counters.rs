@@ -13,7 +13,7 @@ fn counted() -> [u8; 208] {
     bytes
 }
 
-/// Asserts what the first `count` bytes are read as: the first and the last field, and two between.
+/// Asserts the reading of the first `count` bytes: the first and the last field, and two between.
 fn assert_fields(rt: &impl Abort, count: usize, want: (u64, u64, u64, u64)) {
     let bytes = counted();
     let stats = LinkStats64::from_bytes(bytes.get(..count).expect(rt, "so many bytes"));

@@ -1,5 +1,5 @@
-//! What is set for the virtual functions of a link. No recording has one: the bytes were made by hand from the structs
-//! of linux/if_link.h.
+//! Settings of a link's virtual functions. No recording has one: the bytes were made by hand from the structs of
+//! linux/if_link.h.
 
 use super::support::{assert_is, assert_is_at, bytes_of, read_first, read_whole, written};
 use neli_payloads::{HardwareAddress, VfGuid, VfMac, VfRate, VfSetting, VfVlan, VfVlanInfo};
@@ -28,7 +28,7 @@ fn check<T: FromBytes + ToBytes + Copy + PartialEq + Debug>(
     }
 }
 
-// Function 1: 1000 Mbit/s, a checked sender, a link that is always down, and a setting that the driver does not tell.
+// Function 1: 1000 Mbit/s, a checked sender, a link that is always down, and a setting that the driver does not report.
 #[test]
 fn settings(rt: HostRuntime) {
     let rows = [

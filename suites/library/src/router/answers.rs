@@ -1,4 +1,4 @@
-//! Where the answers of a handle end, and what the last of them is.
+//! Where the answers of a handle end, and the last of them.
 
 use super::script::Script;
 use super::script::Step::{Come, Read, Send};
@@ -22,7 +22,7 @@ const ERROR: &str = "24000000020000000000000000000000eaffffff1000000010000500000
 /// The same capped, of a request of 32 bytes.
 const CAPPED: &str = "24000000020000010000000000000000eaffffff20000000100005000000000000000000";
 
-/// An acknowledgement of number 0 that says `bad`.
+/// An acknowledgement of number 0 with the text `bad`.
 const SAYS: &str = "2c0000000200000300000000000000000000000020000000100005000000000000000000\
     0800010062616400";
 

@@ -1,4 +1,4 @@
-//! What is looked up in messages of the controller of generic netlink.
+//! Look-ups in messages of the controller of generic netlink.
 
 use super::script::bytes_of;
 use neli::consts::genl::{CtrlAttr, CtrlCmd};
@@ -17,7 +17,7 @@ use std::fmt::Display;
 /// A message of the controller.
 type CtrlMessage = Nlmsghdr<GenlId, Genlmsghdr<CtrlCmd, CtrlAttr>>;
 
-/// What is looked up.
+/// The subject of a look-up.
 #[derive(Clone, Copy)]
 pub enum Lookup {
     /// The number of a family.
@@ -28,13 +28,13 @@ pub enum Lookup {
     Names(u32),
 }
 
-/// What comes of a lookup.
+/// The outcome of a look-up.
 #[derive(Clone, Copy, Debug, PartialEq, Eq)]
 pub enum Cause {
-    /// It is found.
+    /// Found.
     Found,
     Msg,
-    /// What is told cannot be read: the text that says why.
+    /// The attributes cannot be read: the text with the reason.
     DeMsg,
     /// It cannot be read: a count that does not fit.
     DeInput(usize),
@@ -80,9 +80,9 @@ fn names(alloc: Global, number: u32, list: Vec<CtrlItem>) -> Result<String, Ctrl
     Ok(format!(in alloc; "{family} {group}")?)
 }
 
-/// An outcome, and the text of what is found or of the error.
+/// An outcome, and the text of the result or of the error.
 ///
-/// Refused only where memory runs out.
+/// Refused only if memory runs out.
 fn said<T: Display + Drop>(
     alloc: Global,
     outcome: Result<T, CtrlError>,
@@ -94,9 +94,9 @@ fn said<T: Display + Drop>(
     }
 }
 
-/// What comes of a lookup in these items, and the text of what is found or of the error.
+/// The outcome of a look-up in these items, and the text of the result or of the error.
 ///
-/// Refused only where memory runs out.
+/// Refused only if memory runs out.
 pub fn answer(
     alloc: Global,
     lookup: Lookup,
@@ -111,9 +111,9 @@ pub fn answer(
     }
 }
 
-/// The same of items that are lent; of names nothing comes, since these take the items.
+/// The same for lent items; names have no such call, since it takes the items.
 ///
-/// Refused only where memory runs out.
+/// Refused only if memory runs out.
 pub fn lent_answer(
     alloc: Global,
     lookup: Lookup,

@@ -1,11 +1,10 @@
-//! Conversations with a kernel, as they were recorded from Linux 6.18 on x86-64. What each datagram holds
-//! was read by libmnl.
+//! Conversations with a kernel, as recorded from Linux 6.18 on x86-64. libmnl read the contents of each datagram.
 
 use super::script::Script;
 use super::script::Step::{Come, Next, Read, Send};
 use super::script::Told::{Ack, Done, DumpEnd, End, Message, Refused, Sent, Waits};
 
-/// What was asked, and the script with the port of the socket.
+/// The request, and the script with the port of the socket.
 pub const SCRIPTS: [Script; 4] = [
     (
         // Two datagrams of a strict dump; each message has the flag DUMP_FILTERED too.
@@ -74,7 +73,7 @@ pub const SCRIPTS: [Script; 4] = [
         ],
     ),
     (
-        // Group 5, that of IPv4 addresses. Nobody asked: the message has number 0 and port 0.
+        // Group 5, that of IPv4 addresses. No request caused it: the message has number 0 and port 0.
         "an address of the loopback, told to a group",
         12586,
         &[

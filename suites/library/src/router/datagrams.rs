@@ -15,7 +15,7 @@ const ZERO: &str = "10000000100000000000000000000000";
 
 const PORT_5: &str = "10000000100000000000000005000000";
 
-/// Datagrams, and what is read of multicast and of the handles of numbers 0 and 1.
+/// Datagrams, and the reads of multicast and of the handles of numbers 0 and 1.
 pub const SCRIPTS: [Script; 9] = [
     (
         "an empty datagram",

@@ -1,8 +1,8 @@
-//! What the shared store keeps after each step: entries, and bytes of datagrams. That both stores answer such steps
-//! alike is tested in [`super::datagrams`].
+//! The contents of the shared store after each step: entries, and bytes of datagrams. [`super::datagrams`] tests that
+//! both stores have the same outcomes for such steps.
 //!
-//! Any one allocation may be refused in this test (`rt try --test --fail-alloc N`). A call of the router that is
-//! refused changes nothing, and gives what it would have given when it is made again.
+//! Any one allocation may be refused in this test (`rt try --test --fail-alloc N`). A refused call of the router
+//! changes nothing, and when repeated has the outcome that it would have had.
 
 use super::script::Step::{Close, Come, Read, Send};
 use super::script::Told::{Done, Message, Refused, Sent, Stray};
@@ -28,10 +28,10 @@ pub const ECHO: &str = "1400000010000200000000000000000001020304\
     150000000004050001000000000000006162636465000000\
     0800010062616400";
 
-/// Scripts: steps, what each of them answers, and how many entries and bytes are kept then.
+/// Scripts: steps, the outcome of each, and the number of entries and bytes kept then.
 const SCRIPTS: [(&str, &[(Step, Told, [usize; 2])]); 3] = [
     (
-        // What comes to a group at the end is kept until multicast is closed, and not at all after that.
+        // Messages to a group at the end are kept until multicast is closed, and not at all after that.
         "an entry goes with the last handle that waits for it",
         &[
             (Send(16, 0, ""), Sent(0, 0), [0, 0]),
@@ -66,13 +66,13 @@ const SCRIPTS: [(&str, &[(Step, Told, [usize; 2])]); 3] = [
     ),
 ];
 
-/// How many entries a router keeps, and how many bytes of datagrams.
+/// The number of a router's kept entries, and of its kept bytes of datagrams.
 pub fn kept(asker: &Asker<Log>) -> [usize; 2] {
     let log = asker.router.deliveries();
     [log.kept(), log.kept_bytes()]
 }
 
-/// Does a step, again where memory ran out.
+/// Performs a step, again if memory ran out.
 fn step(rt: &impl Abort, alloc: Global, row: &str, asker: &mut Asker<Log>, step: Step) -> Came {
     let before = kept(asker);
     if let Ok(outcome) = asker.step(alloc, step) {
@@ -82,7 +82,7 @@ fn step(rt: &impl Abort, alloc: Global, row: &str, asker: &mut Asker<Log>, step:
     asker.step(alloc, step).expect(rt, "memory")
 }
 
-/// Plays a script, and asserts what each step answers and what is kept then.
+/// Plays a script, and asserts the outcome of each step and the kept entries and bytes.
 fn play(rt: &impl Abort, alloc: Global, row: &str, steps: &[(Step, Told, [usize; 2])]) {
     let mut asker = Asker::<Log>::new(rt, alloc, 0);
     for (doing, want, left) in steps {

@@ -1,4 +1,4 @@
-//! Handles that another router made, over both stores.
+//! Handles of another router, over both stores.
 
 use super::script::Step::{Close, Come, Read, Send};
 use super::script::Told::{Closed, Done, End, Message, Sent, Waits};
@@ -68,7 +68,7 @@ fn a_handle_belongs_to_its_router(rt: HostRuntime) {
     }
 }
 
-/// What is known of a handle, and what differs from it in one field each.
+/// The state of a handle, and others that differ from it in one field each.
 #[test]
 fn states_are_equal_field_by_field(rt: HostRuntime) {
     let state = HandleState {

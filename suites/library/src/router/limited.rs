@@ -1,4 +1,4 @@
-//! A store with a limit on the bytes that it keeps: what is above it is refused as if memory had run out.
+//! A store with a limit on the bytes that it keeps: a datagram above it is refused as out of memory.
 
 use super::entries::{ONE, THREE};
 use super::script::Step::{Close, Come, Read, Send};
@@ -8,8 +8,8 @@ use super::steps::Asker;
 use super::support::assert_is_at;
 use example_store::Limited;
 
-/// Steps over a store that keeps 64 bytes, what each of them answers (`None`: it is refused), and how many bytes are
-/// kept then. A datagram goes with the last of its messages that somebody waits for.
+/// Steps over a store that keeps 64 bytes, the outcome of each (`None`: it is refused), and the number of bytes kept
+/// then. A datagram is removed with the last of its messages for which a handle waits.
 const STEPS: [(Step, Option<Told>, usize); 14] = [
     (Send(16, 0, ""), Some(Sent(0, 0)), 0),
     (Send(16, 0, ""), Some(Sent(1, 0)), 0),

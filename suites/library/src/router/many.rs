@@ -60,8 +60,8 @@ fn thousands_of_requests_have_their_replies(rt: HostRuntime) {
     }
 }
 
-/// So many datagrams of so many messages, each with so many bytes in its body, that come to the groups of a mask; and
-/// the handle that gets them.
+/// So many datagrams of so many messages, each with so many bytes in its body, for the groups of a mask; and the handle
+/// that gets them.
 #[derive(Clone, Copy, Debug)]
 struct Load {
     datagrams: u16,
@@ -97,12 +97,12 @@ const LOADS: [Load; 3] = [
 ];
 
 impl Load {
-    /// How many messages come.
+    /// The number of messages.
     fn count(self) -> usize {
         (self.datagrams as usize).saturating_mul(self.messages as usize)
     }
 
-    /// How many bytes come.
+    /// The number of bytes.
     fn byte_count(self) -> usize {
         (self.body as usize)
             .saturating_add(16)

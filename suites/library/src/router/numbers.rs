@@ -1,4 +1,4 @@
-//! Requests as bytes, and which number each of them has.
+//! Requests as bytes, and their numbers.
 
 use super::script::Step::{Close, Come, Next, Read, Send};
 use super::script::Told::{Done, End, InUse, Message, NoHandle, Sent, Stray, Waits};
@@ -20,7 +20,7 @@ const REQUEST_AND_REPLY: [(Step, Told); 6] = [
     (Read(2), NoHandle),
 ];
 
-/// Numbers and handles: what is done, and the script with its port.
+/// Numbers and handles: the name, and the script with its port.
 pub const SCRIPTS: [Script; 3] = [
     ("a request and its reply", 0, &REQUEST_AND_REPLY),
     (

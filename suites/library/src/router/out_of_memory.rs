@@ -1,6 +1,6 @@
-//! Any one allocation may be refused in these tests: `suites/run` refuses each in turn. A call that was refused
-//! has changed nothing: made once more, it answers what it answers without a refusal, and so does each call after it.
-//! What the log keeps where a call is refused is told in [`super::entries`].
+//! Any one allocation may be refused in these tests: `suites/run` refuses each in turn. A refused call has changed
+//! nothing: when repeated, it returns what it returns without a refusal, and so does each call after it.
+//! [`super::entries`] tests what the log keeps when a call is refused.
 
 use super::script::{Script, assert_told, kind_once, outcomes};
 use super::steps::Asker;
@@ -10,7 +10,7 @@ use neli::router::synchronous::{Deliveries, Log, Queues};
 use std::alloc::Global;
 use std::process::Abort;
 
-/// Does the steps of a script by the router's calls over this store, each once more where memory ran out.
+/// Performs the steps of a script by the router's calls over this store, each once more if memory ran out.
 fn call<D: Deliveries>(rt: &impl Abort, alloc: Global, script: Script) {
     let (row, port, steps) = script;
     let mut asker = Asker::<D>::new(rt, alloc, port);
@@ -20,7 +20,7 @@ fn call<D: Deliveries>(rt: &impl Abort, alloc: Global, script: Script) {
     }
 }
 
-/// Does them by one run, once more where memory ran out.
+/// Performs them by one run, once more if memory ran out.
 fn run<D: Deliveries>(rt: &impl Abort, alloc: Global, script: Script) {
     let (row, port, steps) = script;
     let came = match outcomes::<D>(alloc, port, steps) {

@@ -1,4 +1,4 @@
-//! Random scripts: what a run answers does not depend on the store.
+//! Random scripts: the outcomes of a run do not depend on the store.
 
 ghost use Rattle.std.specs.Prelude.{◌<◌};
 
@@ -16,7 +16,7 @@ use std::process::Abort;
 /// The port of the routers.
 const PORT: u32 = 7;
 
-/// Numbers that the next request is to have.
+/// Numbers for the next request.
 const NEXT: [u32; 8] = [0, 0, 0, 1, 1, 2, 3, 4294967295];
 
 /// Numbers of messages: mostly those of the first requests.
@@ -240,7 +240,7 @@ fn compare(rt: &impl Abort, alloc: Global, seed: u32, counts: &mut [u32; 16]) {
     count(&shared, counts);
 }
 
-/// So many of each kind have to come.
+/// The required count of each kind.
 const ENOUGH: u32 = 500;
 
 #[test]

@@ -1,5 +1,5 @@
-//! A body that is refused as the caller's types is an item of its own, and is never told as want of memory: a caller who
-//! reads again after that would do so without end. Over both stores.
+//! A body that is refused as the caller's types is an item of its own, and is never reported as out of memory: a caller
+//! who repeats the read after that would do so without end. Over both stores.
 
 use super::script::{Step, bytes_of};
 use super::steps::Asker;
@@ -26,8 +26,8 @@ enum Came {
     Other,
 }
 
-/// A datagram of type 16 (`RTM_NEWLINK` of `linux/rtnetlink.h`) with a body, in hexadecimal, and what is read of it. A
-/// `struct ifinfomsg` has 16 bytes, and an attribute states its length in its first two.
+/// A datagram of type 16 (`RTM_NEWLINK` of `linux/rtnetlink.h`) with a body, in hexadecimal, and its reading. A `struct
+/// ifinfomsg` has 16 bytes, and an attribute states its length in its first two.
 const ROWS: [(&str, &str, Came); 5] = [
     (
         "a whole link",
@@ -62,7 +62,7 @@ const ROWS: [(&str, &str, Came); 5] = [
     ),
 ];
 
-/// What the next read of a handle gives as a link.
+/// The result of a handle's next read, as a link.
 fn read<D: Deliveries>(asker: &mut Asker<D>, alloc: Global, k: usize) -> Came {
     let Some(Some(handle)) = asker.handles.get_mut(k) else {
         return Came::Other;

@@ -1,4 +1,4 @@
-//! Requests to the controller of generic netlink, and what comes of its answers.
+//! Requests to the controller of generic netlink, and its answers.
 
 use super::script::{Step, Told, kind_once};
 use super::steps::Asker;
@@ -15,10 +15,10 @@ use neli::router::synchronous::{
 use std::alloc::Global;
 use std::process::Abort;
 
-/// What the controller is asked, and answers.
+/// A request to the controller, and its answer.
 type Ctrl = Genlmsghdr<CtrlCmd, CtrlAttr>;
 
-/// A handle for what the controller answers.
+/// A handle for the controller's answers.
 type Handle = NlRouterReceiverHandle<GenlId, Ctrl>;
 
 /// The first request of a router with port 0 for the family `nlctrl`.
@@ -60,7 +60,7 @@ const DUMP: &str = "1c000000100002000000000000000000010200000600010010000000\
     1c000000100002000000000000000000010200000600010011000000\
     1400000003000200000000000000000000000000";
 
-/// What the controller is asked for.
+/// The subject of a request to the controller.
 #[derive(Clone, Copy)]
 enum Asked<'a> {
     /// A family, by its name.
@@ -72,14 +72,14 @@ enum Asked<'a> {
 /// A request and its answers.
 struct Exchange {
     name: &'static str,
-    /// What the controller is asked for. None: answers that are meant to be bytes, and the handle is retyped.
+    /// The subject of the request. None: answers read as bytes, and the handle is retyped.
     asked: Option<Asked<'static>>,
-    /// The request, and whether an acknowledgement is asked for.
+    /// The request, and whether it requests an acknowledgement.
     bytes: &'static [u8],
     needs_ack: bool,
     datagrams: &'static [&'static str],
-    /// How many items the answers are, and whether the last has a body, and whether it is an acknowledgement. The
-    /// first has a body.
+    /// The number of items in the answers, whether the last has a body, and whether it is an acknowledgement. The first
+    /// has a body.
     count: usize,
     last: (bool, bool),
     /// A family, and the number that is found for it.
@@ -147,7 +147,7 @@ fn ask<D: Deliveries>(
     }
 }
 
-/// Sends a request, and gives its bytes and its handle.
+/// Sends a request, and returns its bytes and its handle.
 fn request<D: Deliveries>(
     rt: &impl Abort,
     alloc: Global,
@@ -157,7 +157,7 @@ fn request<D: Deliveries>(
     ask(alloc, asker, asked).expect(rt, "bytes to be sent")
 }
 
-/// Sends an empty request of type 16, and gives its bytes and its handle, which is retyped.
+/// Sends an empty request of type 16, and returns its bytes and its handle, which is retyped.
 fn request_bytes<D: Deliveries>(
     rt: &impl Abort,
     alloc: Global,
@@ -352,7 +352,7 @@ fn a_number_in_use_is_refused_before_a_name(rt: HostRuntime) {
     assert_is_at(&rt, "family", bytes.as_slice(), FAMILY.as_slice());
 }
 
-/// Asks, once more where memory ran out.
+/// Sends a request, once more if memory ran out.
 fn ask_again<D: Deliveries>(
     rt: &impl Abort,
     alloc: Global,
@@ -365,7 +365,7 @@ fn ask_again<D: Deliveries>(
     }
 }
 
-/// Asks a new router, and asserts that the request has the first number.
+/// Sends a new router's request, and asserts that it has the first number.
 fn request_again<D: Deliveries>(rt: &impl Abort, alloc: Global, asked: Asked<'_>, want: &[u8]) {
     let mut asker = Asker::<D>::new(rt, alloc, 0);
     let (bytes, handle) = ask_again(rt, alloc, &mut asker, asked);
@@ -388,7 +388,7 @@ fn all_families_are_asked_for_again_after_out_of_memory(rt: HostRuntime) {
     request_again::<Log>(&rt, rt.alloc(), Asked::Families, &FAMILIES);
 }
 
-/// Reads the next item of a handle, once more where memory ran out.
+/// Reads the next item of a handle, once more if memory ran out.
 fn next_again<D: Deliveries>(
     rt: &impl Abort,
     alloc: Global,
@@ -423,7 +423,7 @@ fn two_items_again<D: Deliveries>(
     list
 }
 
-/// The number of the family `nlctrl` in these items, looked up once more where memory ran out.
+/// The number of the family `nlctrl` in these items, looked up once more if memory ran out.
 fn number_again(rt: &impl Abort, alloc: Global, list: &[CtrlItem]) -> u16 {
     match find_genl_family(alloc, "nlctrl", list) {
         Err(RouterError::Memory) => { find_genl_family(alloc, "nlctrl", list).expect(rt, "memory") }
@@ -431,7 +431,7 @@ fn number_again(rt: &impl Abort, alloc: Global, list: &[CtrlItem]) -> u16 {
     }
 }
 
-/// Asks for the family `nlctrl`, hands in the reply and its acknowledgement, reads both, and looks the number up.
+/// Requests the family `nlctrl`, hands in the reply and its acknowledgement, reads both, and looks the number up.
 fn resolve_again<D: Deliveries>(rt: &impl Abort, alloc: Global) {
     let mut asker = Asker::<D>::new(rt, alloc, 0);
     let (bytes, mut handle) = ask_again(rt, alloc, &mut asker, Asked::Family("nlctrl"));
@@ -446,7 +446,7 @@ fn resolve_again<D: Deliveries>(rt: &impl Abort, alloc: Global) {
     assert_is_at(rt, "nlctrl", number_again(rt, alloc, &list), 16);
 }
 
-/// Any one allocation may be refused in this test: each call is then made once more, and answers as it would have.
+/// Any one allocation may be refused in this test: each call is then repeated, and returns what it would have.
 #[test]
 fn a_family_is_resolved_after_out_of_memory(rt: HostRuntime) {
     resolve_again::<Queues>(&rt, rt.alloc());

@@ -1,7 +1,7 @@
-//! Lists of answers of the controller, and what the resolvers find in them.
+//! Lists of answers of the controller, and the resolvers' results for them.
 //!
-//! The messages lie as `struct nlmsghdr` and `struct nlattr` of linux/netlink.h and
-//! `struct genlmsghdr` of linux/genetlink.h say. Expected values are worked out by hand from these.
+//! The messages are laid out as `struct nlmsghdr` and `struct nlattr` of linux/netlink.h and `struct genlmsghdr` of
+//! linux/genetlink.h. Expected values are worked out by hand from these.
 
 use super::controller::Cause::{DeInput, DeMsg, Found, Msg, NoAck};
 use super::controller::Lookup::{Family, Group, Names};
@@ -61,8 +61,8 @@ const NAMELESS: &str = "2c00000010000000000000000000000001020000\
     100007800c000180\
     0800020005000000";
 
-/// A lookup: in which answers and after them how many errors; what comes of it, and its text: a number, the names
-/// of a family and a group, or the error.
+/// A look-up: the answers and the number of errors after them; its outcome, and its text: a number, the names of a
+/// family and a group, or the error.
 type Row = (
     &'static str,
     Lookup,
@@ -308,7 +308,7 @@ fn both_numbers_of_one_reply(rt: HostRuntime) {
     }
 }
 
-/// What a lookup answers. Refused where memory runs out.
+/// The result of a look-up. Refused if memory runs out.
 fn answer_to(alloc: Global, row: &Row) -> Result<(Cause, String), NoMemory> {
     let (_, lookup, (frames, errors), _) = *row;
     match items(alloc, frames, errors) {
@@ -317,7 +317,7 @@ fn answer_to(alloc: Global, row: &Row) -> Result<(Cause, String), NoMemory> {
     }
 }
 
-/// Looks up, once more where memory ran out, and asserts the answer.
+/// Looks up, once more if memory ran out, and asserts the result.
 fn look_up_again(rt: &impl Abort, alloc: Global, row: &Row) {
     let (cause, text) = match answer_to(alloc, row) {
         Ok(found) => found,
@@ -326,8 +326,8 @@ fn look_up_again(rt: &impl Abort, alloc: Global, row: &Row) {
     assert_is_at(rt, row.0, (cause, text.as_str()), row.3);
 }
 
-// Any one allocation may be refused in the following tests: memory that runs out is never taken for an attribute that
-// is not there.
+// Any one allocation may be refused in the following tests: running out of memory is never taken for a missing
+// attribute.
 #[test]
 fn lookups_or_out_of_memory(rt: HostRuntime) {
     for row in &LOOKUPS {

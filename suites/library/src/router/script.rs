@@ -1,4 +1,4 @@
-//! Scripts: steps and what each of them answers, by a run and by calls.
+//! Scripts: steps and the outcome of each, by a run and by calls.
 
 use super::steps::called;
 use super::support::assert_is_at;
@@ -14,14 +14,14 @@ use std::alloc::Global;
 use std::io::ErrorKind;
 use std::process::Abort;
 
-/// What is done.
+/// A step.
 #[derive(Clone, Copy)]
 pub enum Step {
     /// The number of the next request is set.
     Next(u32),
     /// A request of this type, with these flags and this body in hexadecimal, is sent.
     Send(u16, u16, &'static str),
-    /// A datagram, in hexadecimal, comes to the groups of this mask.
+    /// A datagram, in hexadecimal, arrives for the groups of this mask.
     Come(&'static str, u32),
     /// The link fails.
     Fail(ErrorKind),
@@ -31,7 +31,7 @@ pub enum Step {
     Close(usize),
 }
 
-/// What a step answers, by what the tests compare of it.
+/// The outcome of a step, as far as the tests compare it.
 #[derive(Clone, Copy, Debug, PartialEq, Eq)]
 pub enum Told {
     Done,
@@ -43,7 +43,7 @@ pub enum Told {
     Message(u16, u32, usize),
     /// An acknowledgement of a request with this number.
     Ack(u32),
-    /// One that has so many attributes.
+    /// An acknowledgement with so many attributes.
     AckWith(u32, usize),
     /// The end of a dump, with this code.
     DumpEnd(i32),
@@ -69,10 +69,10 @@ pub enum Told {
     Other,
 }
 
-/// A script: its name, the port of the router, and steps with what each of them answers.
+/// A script: its name, the port of the router, and steps with the outcome of each.
 pub type Script = (&'static str, u32, &'static [(Step, Told)]);
 
-/// A message that no type is given to.
+/// A message with untyped payload.
 pub type Raw = Nlmsghdr<u16, Buffer>;
 
 /// Why a router refuses.
@@ -81,7 +81,7 @@ pub type Refusal = RouterError<u16, Buffer>;
 /// An outcome of these tests' runs.
 pub type Came = Outcome<u16, Buffer, u16, Buffer>;
 
-/// What an acknowledgement is, by the number that it echoes and the count of its attributes.
+/// The kind of an acknowledgement, by the number that it echoes and the count of its attributes.
 fn acknowledged(number: u32, count: usize) -> Told {
     if count == 0 {
         Told::Ack(number)
@@ -90,7 +90,7 @@ fn acknowledged(number: u32, count: usize) -> Told {
     }
 }
 
-/// What a message is.
+/// The kind of a message.
 pub fn message(message: &Raw) -> Told {
     match message.nl_payload() {
         NlPayload::Payload(body) => Told::Message(
@@ -121,7 +121,7 @@ fn refusal(error: &Refusal) -> Told {
     }
 }
 
-/// What an item is.
+/// The kind of an item.
 pub fn item(item: &Result<Raw, Refusal>) -> Told {
     match item {
         Ok(found) => message(found),
@@ -140,7 +140,7 @@ fn long(bytes: &[u8], at: usize) -> u32 {
     }
 }
 
-/// What an outcome is.
+/// The kind of an outcome.
 pub fn kind_of(outcome: &Came) -> Told {
     match outcome {
         Outcome::Done => Told::Done,
@@ -153,7 +153,7 @@ pub fn kind_of(outcome: &Came) -> Told {
     }
 }
 
-/// What an outcome is that is not used any more.
+/// The kind of an outcome that is not used any more.
 pub fn kind_once(outcome: Came) -> Told {
     kind_of(&outcome)
 }
@@ -234,8 +234,8 @@ fn command(alloc: Global, step: Step) -> Result<Command<u16, Buffer>, NoMemory> 
     })
 }
 
-/// Does these steps in their order by one run with a router of this port, over this store. Refused where memory
-/// runs out.
+/// Performs these steps in their order by one run with a router of this port, over this store. Refused if memory runs
+/// out.
 pub fn outcomes<D: Deliveries>(
     alloc: Global,
     port: u32,
@@ -248,7 +248,7 @@ pub fn outcomes<D: Deliveries>(
     run::<D, u16, Buffer, u16, Buffer>(alloc, port, commands)
 }
 
-/// What the outcome at a place is.
+/// The kind of the outcome at a place.
 fn told_at(came: &[Came], place: usize) -> Option<Told> {
     match came.get(place) {
         Some(outcome) => Some(kind_of(outcome)),
@@ -256,7 +256,7 @@ fn told_at(came: &[Came], place: usize) -> Option<Told> {
     }
 }
 
-/// Asserts that each of these outcomes is what stands beside its step.
+/// Asserts that each of these outcomes is the one beside its step.
 pub fn assert_told(rt: &impl Abort, row: &str, came: &[Came], steps: &[(Step, Told)]) {
     assert_is_at(rt, row, came.len(), steps.len());
     for (place, (_, want)) in steps.iter().enumerate() {
@@ -264,8 +264,8 @@ pub fn assert_told(rt: &impl Abort, row: &str, came: &[Came], steps: &[(Step, To
     }
 }
 
-/// Does steps over this store with a router of this port: by one run, and by the router's own calls. Asserts that each
-/// answers what stands beside it, and that both have equal outcomes, which it gives.
+/// Performs steps over this store with a router of this port: by one run, and by the router's own calls. Asserts that
+/// each has the outcome beside it, and that both have equal outcomes, which it returns.
 fn play_over<D: Deliveries>(
     rt: &impl Abort,
     alloc: Global,

@@ -13,15 +13,15 @@ use std::process::Abort;
 /// A handle of these tests.
 pub type Handle = NlRouterReceiverHandle<u16, Buffer>;
 
-/// A router and the handles that it gave: that for multicast, and one for each request that was sent. A handle that
-/// is closed has left its place empty.
+/// A router and its handles: that for multicast, and one for each request that was sent. The place of a closed handle
+/// is empty.
 #[derive(Drop)]
 pub struct Asker<D> {
     pub router: NlRouter<D>,
     pub handles: Vec<Option<Handle>>,
 }
 
-// A call that is refused, as it is where memory runs out, has done nothing that is seen when it is made again.
+// A refused call, as when memory runs out, has done nothing visible when it is repeated.
 impl<D: Deliveries> Asker<D> {
     /// A new router of this port and its handle for multicast. Any one allocation may be refused here.
     pub fn new(rt: &impl Abort, alloc: Global, port: u32) -> Asker<D> {
@@ -34,7 +34,7 @@ impl<D: Deliveries> Asker<D> {
         Asker { router, handles }
     }
 
-    /// Sends a request of this type, with these flags and this body in hexadecimal, and gives its bytes and its
+    /// Sends a request of this type, with these flags and this body in hexadecimal, and returns its bytes and its
     /// handle.
     pub fn request(
         &mut self,
@@ -66,13 +66,13 @@ impl<D: Deliveries> Asker<D> {
         }
     }
 
-    /// Hands in a datagram that came to the groups of a mask.
+    /// Hands in a datagram that arrived for the groups of a mask.
     pub fn hand_in(&mut self, alloc: Global, bytes: &[u8], mask: u32) -> Result<(), NoMemory> {
         let groups = Groups::new_bitmask(alloc, mask)?;
         self.router.processing_loop(bytes, &groups)
     }
 
-    /// Hands in a datagram, in hexadecimal, that came to the groups of a mask.
+    /// Hands in a datagram, in hexadecimal, that arrived for the groups of a mask.
     pub fn come(&mut self, alloc: Global, text: &str, mask: u32) -> Result<Came, NoMemory> {
         let bytes = bytes_of(alloc, text)?;
         self.hand_in(alloc, &bytes, mask)?;
@@ -113,7 +113,7 @@ impl<D: Deliveries> Asker<D> {
         }
     }
 
-    /// Does a step.
+    /// Performs a step.
     pub fn step(&mut self, alloc: Global, step: Step) -> Result<Came, NoMemory> {
         match step {
             Step::Next(number) => {
@@ -131,7 +131,7 @@ impl<D: Deliveries> Asker<D> {
         }
     }
 
-    /// Does a step, once more where memory ran out.
+    /// Performs a step, once more if memory ran out.
     pub fn step_again(&mut self, rt: &impl Abort, alloc: Global, step: Step) -> Came {
         match self.step(alloc, step) {
             Ok(outcome) => outcome,
@@ -139,7 +139,7 @@ impl<D: Deliveries> Asker<D> {
         }
     }
 
-    /// Does these steps in their order.
+    /// Performs these steps in their order.
     pub fn steps(&mut self, rt: &impl Abort, alloc: Global, steps: &[(Step, Told)]) -> Vec<Came> {
         let mut came = Vec::new(alloc);
         for (step, _) in steps {
@@ -150,7 +150,7 @@ impl<D: Deliveries> Asker<D> {
     }
 }
 
-/// Does these steps in their order with a new router of this port, over this store, a call each.
+/// Performs these steps in their order with a new router of this port, over this store, a call each.
 pub fn called<D: Deliveries>(
     rt: &impl Abort,
     alloc: Global,

@@ -1,6 +1,6 @@
-//! Strays, closes in mid-answer, and numbers that are used again: two requests, and in all combinations which handle is
-//! closed, what comes before and after that, whether handles are read in between, and which number the next request
-//! has. What each step answers follows from who has a message's number while it comes, and not from lists.
+//! Strays, closes in mid-answer, and numbers that are used again: two requests, and all combinations of the closed
+//! handle, the messages before and after that, reads in between, and the next request's number. The outcome of each
+//! step follows from the owner of a message's number on its arrival, and not from lists.
 
 use super::script::Step::{Close, Come, Next, Read, Send};
 use super::script::Told::{Done, End, InUse, Message, NoHandle, Sent, Stray, Waits};
@@ -12,11 +12,11 @@ use std::process::Abort;
 const PORT: u32 = 7;
 
 /// A message of type 16 with the flag MULTI, so that its handle waits for more: its bytes, its number and its port, and
-/// the mask of the groups that it comes to.
+/// the mask of its groups.
 type Coming = (&'static str, u32, u32, u32);
 
-/// The number of the first request, that of the second, and what may come: to the first request, to the second, with a
-/// number that nobody has, with another port, and to a group.
+/// The number of the first request, that of the second, and the messages that may arrive: for the first request, for
+/// the second, with a number that no request has, with another port, and for a group.
 const NUMBERS: [(u32, u32, [Coming; 5]); 3] = [
     (
         0,
@@ -53,8 +53,8 @@ const NUMBERS: [(u32, u32, [Coming; 5]); 3] = [
     ),
 ];
 
-/// A handle: the number of its request, or none where it is that of multicast; whether it is open; whether it has given
-/// its last item.
+/// A handle: the number of its request, or none for that of multicast; whether it is open; whether it has returned its
+/// last item.
 #[derive(Clone, Copy)]
 struct Asked {
     number: Option<u32>,
@@ -62,7 +62,7 @@ struct Asked {
     has_ended: bool,
 }
 
-/// The steps so far with what each answers, the handles, and what waits for which of them.
+/// The steps so far with the outcome of each, the handles, and what waits for each of them.
 #[derive(Drop)]
 struct Expected {
     steps: Vec<(Step, Told)>,
@@ -115,7 +115,7 @@ impl Expected {
         }
     }
 
-    /// What a handle is given of a message, if anything.
+    /// The item that a handle gets from a message, if any.
     fn share(&self, handle: Asked, message: Coming) -> Option<Told> {
         let (_, number, port, groups) = message;
         let is_whole = Message(16, number, 0);
@@ -128,7 +128,7 @@ impl Expected {
         }
     }
 
-    /// A message comes.
+    /// A message arrives.
     fn come(&mut self, rt: &impl Abort, message: Coming) {
         self.step(rt, Come(message.0, message.3), Done);
         for place in 0..self.handles.len() {
@@ -140,7 +140,7 @@ impl Expected {
         }
     }
 
-    /// What waits first for a handle. It is taken out.
+    /// The first delivery that waits for a handle. It is removed.
     fn first(&mut self, place: usize) -> Told {
         match self.waiting.iter().position(|it| it.0 == place) {
             Some(at) if at < self.waiting.len() => self.waiting.remove(at).1,
@@ -163,7 +163,7 @@ impl Expected {
         self.step(rt, Read(place), told);
     }
 
-    /// Each handle is read so many times, and one that is not there.
+    /// Each handle is read so many times, and one that does not exist.
     fn read_all(&mut self, rt: &impl Abort, times: usize) {
         for place in 0..=self.handles.len() {
             for _ in 0..times {
@@ -185,14 +185,14 @@ impl Expected {
     }
 }
 
-/// What is closed, by its handle; one that is not there in the last.
+/// The handle that is closed; one that does not exist in the last.
 const CLOSED: [usize; 4] = [0, 1, 2, 3];
 
 /// How often each handle is read before one is closed.
 const READS: [usize; 3] = [0, 1, 2];
 
 /// Plays two requests of these numbers: messages before and after the close, then a request for each of the numbers
-/// again, and what comes for these.
+/// again, and the messages for these.
 fn play_one(
     rt: &impl Abort,
     alloc: Global,

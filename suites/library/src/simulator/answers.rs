@@ -2,17 +2,17 @@
 
 use super::support::{Attrs, NOTHING, assert_bytes, decoded, ext_ack, request};
 
-/// What of the request is echoed.
+/// The echoed part of the request.
 #[derive(Clone, Copy, Debug)]
 enum Echo {
     /// All of it.
     Whole,
-    /// Its header, as `NETLINK_CAP_ACK` asks for.
+    /// Its header, as `NETLINK_CAP_ACK` requests.
     Header,
 }
 
-/// An acknowledgement or an error: the request, from which port, the code, what is echoed, the
-/// attributes, the answer.
+/// An acknowledgement or an error: the request, its port, the code, the echo, the attributes, the
+/// answer.
 #[derive(Clone, Copy)]
 struct Row {
     number: &'static str,
@@ -24,7 +24,7 @@ struct Row {
     answer: &'static str,
 }
 
-/// What was recorded.
+/// The recordings.
 const ROWS: [Row; 10] = [
     // Request flag missing.
     Row {
@@ -55,7 +55,7 @@ const ROWS: [Row; 10] = [
             207175616e74756d206f6620636c61737320313030303120697320736d616c6c2e20436f6e7369646572207232712063\
             68616e67652e0000",
     },
-    // Link removed that is not there.
+    // Removal of a missing link (ext, strict).
     Row {
         number: "0475",
         request: "2000000011000500f203000000000000000000009f8601000000000000000000",
@@ -81,7 +81,7 @@ const ROWS: [Row; 10] = [
             5000000002000000f40300002b310000efffffff3c00000010000506f403000000000000000000000000000000000000\
             000000000a000300766574683000000010001280090001007665746800000000",
     },
-    // Link removed that is not there (cap).
+    // Removal of a missing link (cap).
     Row {
         number: "0531",
         request: "20000000110005002b04000000000000000000009f8601000000000000000000",

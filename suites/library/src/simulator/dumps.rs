@@ -7,8 +7,8 @@ use neli::simulator::Dump;
 use std::alloc::Global;
 use std::process::Abort;
 
-/// A dump: the request, from which port; the type, the flags beside MULTI, and the bodies of the messages; whether the
-/// end has a datagram of its own, its code and its attributes; the datagrams.
+/// A dump: the request, its port; the type, the flags beside MULTI, and the bodies of the messages; whether the end has
+/// a datagram of its own, its code and its attributes; the datagrams.
 #[derive(Clone, Copy)]
 struct Row {
     number: &'static str,
@@ -29,7 +29,7 @@ const NO_FLAGS: u16 = 0;
 /// `NLM_F_DUMP_FILTERED`.
 const FILTERED: u16 = 0x20;
 
-/// What was recorded.
+/// The recordings.
 const ROWS: [Row; 5] = [
     // Namespace numbers.
     Row {

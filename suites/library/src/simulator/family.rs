@@ -20,13 +20,13 @@ const FAMILY: u16 = 27;
 /// The port of the client's socket.
 const PORT: u32 = 4711;
 
-/// What the simulator has counted.
+/// The simulator's counters.
 const COUNTERS: [u32; 3] = [5, 7, 11];
 
 /// A message of the family.
 type Counter = Genlmsghdr<u8, u16>;
 
-/// The command that gets counters, with this value where it is said.
+/// The command that gets counters, with this value if there is one.
 fn counter(rt: &impl Abort, alloc: Global, value: Option<u32>) -> Result<Counter, Fail> {
     let mut attrs = GenlBuffer::new(alloc);
     if let Some(value) = value {
@@ -36,7 +36,7 @@ fn counter(rt: &impl Abort, alloc: Global, value: Option<u32>) -> Result<Counter
     Ok(body.build(alloc)?)
 }
 
-/// What the simulator answers to a request for all counters.
+/// The simulator's answer to a request for all counters.
 fn dumped(rt: &impl Abort, alloc: Global, request: &Request<'_>) -> Result<Vec<Vec<u8>>, Fail> {
     // Two counters of 28 bytes each fit a datagram.
     let mut dump = request.dump(alloc, 64);
@@ -48,7 +48,7 @@ fn dumped(rt: &impl Abort, alloc: Global, request: &Request<'_>) -> Result<Vec<V
     Ok(dump.finish(alloc, NlmF::empty(), 0, end)?)
 }
 
-/// What it answers to one request: all counters, the first one, or that another family is not there.
+/// Its answer to one request: all counters, the first one, or that another family does not exist.
 fn served(rt: &impl Abort, alloc: Global, request: &Request<'_>) -> Result<Vec<Vec<u8>>, Fail> {
     let nothing = ext_ack(rt, alloc, NOTHING);
     let mut datagrams = Vec::new(alloc);
@@ -94,7 +94,7 @@ fn value_in(alloc: Global, body: &Counter) -> Option<u32> {
     attrs.get_attr_payload_as(alloc, 1u16).ok()
 }
 
-/// A request, and what comes back: counters, and with none the ends, acknowledgements and errors.
+/// A request, and its answer: counters, and with none the ends, acknowledgements and errors.
 const ROWS: [(&str, u16, NlmF, &[Option<u32>]); 4] = [
     (
         "all",

@@ -1,4 +1,4 @@
-//! That each law on notifications, marks, control messages and what comes after an answer can be called at real types.
+//! That each law on notifications, marks, control messages and messages after an answer can be called at real types.
 //! The calls do nothing when they run.
 
 use neli::router::synchronous::laws::notifications_leave_outcomes;

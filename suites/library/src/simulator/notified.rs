@@ -1,4 +1,4 @@
-//! Notifications: who caused one, and what a client gets that asks meanwhile.
+//! Notifications: their cause, and the items of a client with a request meanwhile.
 
 use super::support::{NOTHING, assert_bytes, decoded, ext_ack, request};
 use neli::consts::nl::NlmF;
@@ -37,7 +37,7 @@ fn a_recorded_notification_says_who_caused_it(rt: HostRuntime) {
     assert_bytes(&rt, "0094", bytes.as_slice(), want.as_slice());
 }
 
-/// Types, numbers and ports of what a handle is given, up to the end or a wait; nothing for an error.
+/// Types, numbers and ports of a handle's items, up to the end or a wait; nothing for an error.
 fn given(
     alloc: Global,
     router: &mut NlRouter,
@@ -59,7 +59,7 @@ fn given(
     Ok((items, false))
 }
 
-/// A notification of the client's own number and port comes between the messages of a dump.
+/// A notification of the client's own number and port arrives between the messages of a dump.
 #[test]
 fn notifications_come_while_one_asks(rt: HostRuntime) -> Result<(), Fail> {
     let alloc = rt.alloc();

@@ -1,5 +1,5 @@
-//! What a kernel says beside whole dumps: marks, messages without MULTI, ends with a code, control messages; and which
-//! requests ask for a dump.
+//! A kernel's messages beside whole dumps: marks, messages without MULTI, ends with a code, control messages; and which
+//! requests are for a dump.
 
 use super::support::{NOTHING, assert_bytes, decoded, ext_ack, request};
 use neli::consts::nl::NlmF;
@@ -22,7 +22,7 @@ const DEVICES: &str =
     0101000008000100030000000c00030023000000000000000c00050007000000000000000c0006000000000000000000\
     1400000003000200170400004943000000000000";
 
-/// The port of the socket that asked.
+/// The port of the requesting socket.
 const PORT: u32 = 17225;
 
 /// The datagram of these messages of 64 bytes, and of the end.
@@ -47,8 +47,7 @@ fn a_recorded_dump_without_multi_is_built_again(rt: HostRuntime) -> Result<(), F
     Ok(())
 }
 
-/// The types and flags of what a handle is given up to the end, and the code of the last one where it is the end of a
-/// dump.
+/// The types and flags of a handle's items up to the end, and the code of the last one if it is the end of a dump.
 fn given(
     alloc: Global,
     router: &mut NlRouter,
@@ -71,7 +70,7 @@ fn given(
     Ok((items, code))
 }
 
-/// A router of this port that has asked for a dump with this number, its handle, and the request's bytes.
+/// A router with this port that has sent a request for a dump with this number, its handle, and the request's bytes.
 fn asker(
     alloc: Global,
     number: u32,
@@ -97,8 +96,8 @@ fn a_dump_without_multi_is_its_first_message(rt: HostRuntime) -> Result<(), Fail
     Ok(())
 }
 
-/// A dump: the flags beside MULTI of its messages, and of its end with its code; and what comes of it. DUMP_INTR is
-/// 0x10, DUMP_FILTERED 0x20, MULTI 2.
+/// A dump: the flags beside MULTI of its messages, and of its end with its code; and the result. DUMP_INTR is 0x10,
+/// DUMP_FILTERED 0x20, MULTI 2.
 const DUMPS: [(&str, &[u16], u16, i32, &[[u16; 2]]); 4] = [
     (
         "interrupted before the second message",
@@ -158,8 +157,9 @@ fn control_messages_are_headers_alone(rt: HostRuntime) -> Result<(), Fail> {
     Ok(())
 }
 
-/// Types and flags of requests, and whether routing and generic netlink take each for a dump. RTM_NEWLINK is 16,
-/// RTM_GETLINK 18; ROOT is 0x100, MATCH 0x200, and of a request that makes something the same bits REPLACE and EXCL.
+/// Types and flags of requests, and whether routing and generic netlink read each as one for a dump. RTM_NEWLINK is 16,
+/// RTM_GETLINK 18; ROOT is 0x100, MATCH 0x200, and in a request that creates an object the same bits are REPLACE and
+/// EXCL.
 const REQUESTS: [(&str, u8, [u8; 2], [bool; 2]); 5] = [
     ("both bits", 18, [1, 3], [true, true]),
     ("ROOT", 18, [1, 1], [true, false]),

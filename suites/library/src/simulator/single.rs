@@ -1,4 +1,4 @@
-//! Single replies and notifications, and what requests ask for.
+//! Single replies and notifications, and the kinds of requests.
 
 use super::support::{assert_bytes, decoded, request};
 use neli::consts::nl::NlmF;
@@ -16,7 +16,7 @@ fn a_recorded_notification_is_built_again(rt: HostRuntime) {
     assert_bytes(&rt, "0001", bytes.as_slice(), want.as_slice());
 }
 
-/// What asks for the number of a namespace, and the reply: datagrams 0212 and 0213.
+/// The request for the number of a namespace, and the reply: datagrams 0212 and 0213.
 const ASKED: &str = "1c0000005a0001002304000000000000000000000800020032310000";
 
 const REPLY: &str = "1c0000005800000023040000e9729683000000000800010000000000";
@@ -32,8 +32,8 @@ fn a_recorded_reply_is_built_again(rt: HostRuntime) {
     assert_bytes(&rt, "0213", bytes.as_slice(), want.as_slice());
 }
 
-/// The first 16 bytes of recorded requests, and whether each is handled, and wants an acknowledgement, a dump, an echo:
-/// REQUEST is 1, ACK 4, ECHO 8, DUMP 0x300.
+/// The first 16 bytes of recorded requests, and whether each is handled, and requests an acknowledgement, a dump, an
+/// echo: REQUEST is 1, ACK 4, ECHO 8, DUMP 0x300.
 const HEADERS: [(&str, [u8; 16], [bool; 4]); 4] = [
     (
         "0184, a dump",
@@ -60,7 +60,7 @@ const HEADERS: [(&str, [u8; 16], [bool; 4]); 4] = [
 #[test]
 fn a_request_says_what_it_asks_for(rt: HostRuntime) {
     for (row, mut header, want) in HEADERS {
-        // Of each the header alone is here, so it states 16 bytes.
+        // Each has only its header here, so it states 16 bytes.
         header[0] = 16;
         let request = request(&rt, 7, &header);
         let got = [

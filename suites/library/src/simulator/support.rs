@@ -1,4 +1,4 @@
-//! What the tests share.
+//! Shared parts of the tests.
 
 use neli::consts::genl::NlAttrType;
 use neli::genl::{AttrType, NlattrBuilder};
@@ -14,7 +14,7 @@ pub fn decoded(rt: &impl Abort, alloc: Global, digits: &str) -> Vec<u8> {
     hex::decode(alloc, digits).expect(rt, "digits")
 }
 
-/// The request that these bytes begin with, from the socket of this port.
+/// The request at the front of these bytes, from the socket of this port.
 pub fn request<'b>(rt: &impl Abort, port: u32, bytes: &'b [u8]) -> Request<'b> {
     let message = LentMessage::lend(&mut Cursor::new(bytes)).expect(rt, "a message");
     Request::new(port, &message)
@@ -36,7 +36,7 @@ pub fn push<T: NlAttrType + Drop, P: ToBytes + Drop>(
         .expect(rt, "memory");
 }
 
-/// What the attributes of a row say.
+/// The values of a row's attributes.
 #[derive(Clone, Copy, Debug)]
 pub struct Attrs {
     pub text: Option<&'static str>,
@@ -51,7 +51,7 @@ pub const NOTHING: Attrs = Attrs {
     missing: None,
 };
 
-/// The attributes that say this, in the kernel's order: 1 is the text, 2 the offset, 5 the type that is missing.
+/// The attributes with these values, in the kernel's order: 1 is the text, 2 the offset, 5 the missing type.
 pub fn ext_ack(rt: &impl Abort, alloc: Global, attrs: Attrs) -> ExtAck {
     let mut list = GenlBuffer::new(alloc);
     if let Some(text) = attrs.text {

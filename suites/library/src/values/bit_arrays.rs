@@ -67,7 +67,7 @@ fn set_numbers(rt: HostRuntime) {
     }
 }
 
-/// A length that an array is given.
+/// The length for an array.
 #[derive(Clone, Copy)]
 enum Length {
     Bytes(usize),
@@ -81,7 +81,7 @@ fn resize(array: &mut NetlinkBitArray, length: Length) -> Result<(), SerError> {
     }
 }
 
-/// What an array is resized to, its lengths then, and the numbers that are still set.
+/// The new size of an array, its lengths then, and the numbers that are still set.
 type Step = (Length, (usize, usize), &'static [u32]);
 
 // A number stays where the new capacity has it, and what was cut off does not come back.

@@ -3,7 +3,7 @@
 use super::support::assert_is;
 use neli::err::Errno;
 
-/// Numbers, each with its name, what it means, and what is printed of it.
+/// Numbers, each with its name, its meaning, and its printed text.
 const NAMED: [(u32, &str, &str, &str); 8] = [
     (
         1,

@@ -1,4 +1,4 @@
-//! What refusals are made of.
+//! The parts of refusals.
 
 use super::support::{Refusal, assert_is, refusal_of, refusal_to_write};
 use neli::err::{DeError, MsgError, NoMemory, SerError, UninitializedFieldError};

@@ -1,4 +1,4 @@
-//! What follows a header that states the length of the whole: the payload and its padding.
+//! The bytes after a header that states the length of the whole: the payload and its padding.
 
 use super::support::{Refusal, SHORT, assert_is, assert_list, refusal_of};
 use neli::Cursor;

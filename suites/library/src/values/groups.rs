@@ -33,7 +33,7 @@ fn new_lists(rt: HostRuntime) {
     }
 }
 
-/// What is done to a list.
+/// An operation on a list.
 #[derive(Clone, Copy)]
 enum Change {
     Add(&'static [u32]),
@@ -51,7 +51,7 @@ fn make_change(rt: &impl Abort, groups: &mut Groups, change: Change) {
     }
 }
 
-/// Lists, what is done to each, and what it then holds.
+/// Lists, the operation on each, and the list after it.
 const CHANGES: [(&[u32], Change, &[u32]); 12] = [
     (&[], Change::Add(&[3, 1, 3, 0, 1]), &[3, 1]),
     (&[5, 5], Change::Add(&[5]), &[5, 5]),

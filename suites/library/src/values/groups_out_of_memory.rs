@@ -1,5 +1,5 @@
-//! What the calls answer where an allocation is refused. `rt try --test --fail-alloc N` refuses the Nth one
-//! of each test; the tests of this file pass with every N, and without.
+//! Results of the calls when an allocation is refused. `rt try --test --fail-alloc N` refuses the Nth one of each test;
+//! the tests of this file pass with every N, and without.
 
 use super::support::assert_is;
 use neli::err::SerError;

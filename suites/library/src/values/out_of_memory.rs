@@ -1,5 +1,5 @@
-//! What the calls answer where an allocation is refused. `rt try --test --fail-alloc N` refuses the Nth one
-//! of each test; the tests of this file pass with every N, and without.
+//! Results of the calls when an allocation is refused. `rt try --test --fail-alloc N` refuses the Nth one of each test;
+//! the tests of this file pass with every N, and without.
 
 use super::support::{Refusal, assert_is, assert_lent, assert_list, assert_read, assert_text};
 use neli::err::{DeError, MsgError, SerError, UninitializedFieldError};
@@ -40,8 +40,8 @@ fn reads_that_take_no_memory(rt: HostRuntime) {
     assert_read(&rt, rt.alloc(), b"ab", Ok(*b"ab"), 2);
 }
 
-// An empty list is read without memory. An input past the bytes, or of no byte where a text needs one, is refused
-// before memory is asked for.
+// An empty list is read without memory. An input past the bytes, or of no byte for a text that needs one, is refused
+// before memory is taken.
 #[test]
 fn inputs_that_take_no_memory(rt: HostRuntime) {
     let mut cursor = Cursor::new(b"ab");
@@ -132,7 +132,7 @@ fn values_written_or_out_of_memory(rt: HostRuntime) {
     }
 }
 
-// Nothing but out of memory stops a message and its copy from being made.
+// Only running out of memory stops a message and its copy from being made.
 #[test]
 fn words_or_out_of_memory(rt: HostRuntime) {
     let Ok(words) = MsgError::new(rt.alloc(), "too long") else {

@@ -63,7 +63,7 @@ fn a_probe_of_default_hops(rt: HostRuntime) {
     assert_written(&rt, rt.alloc(), &probe, &[64, 7, 0x39, 5]);
 }
 
-// The field that the error names.
+// The field in the error.
 fn missing_of(built: Result<Probe<u8>, ProbeBuilderError>) -> &'static str {
     match built {
         Err(BuildError::UninitializedField(name)) => name,

@@ -1,4 +1,4 @@
-//! Lengths rounded up to four, zeros that are written, and bytes that are passed over.
+//! Lengths rounded up to four, zeros that are written, and bytes that are skipped.
 
 use super::support::{SHORT, assert_is, assert_is_at, cursor_at, outcome_of};
 use neli::consts::alignto;
@@ -81,7 +81,7 @@ fn a_number_a_text_and_zeros(rt: HostRuntime) {
     assert_is(&rt, buffer.as_slice(), want.as_slice());
 }
 
-/// What bytes are passed over for.
+/// The type for which bytes are skipped.
 #[derive(Clone, Copy)]
 enum Kind {
     Any,

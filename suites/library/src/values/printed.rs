@@ -1,7 +1,7 @@
-//! What every error prints: a prefix of our own, and then what its cause prints.
+//! The text of every error: a prefix of our own, and then the text of its cause.
 //!
-//! No contract states what the standard library prints of an `ErrorKind` or of a `Utf8Error`, so here the
-//! cause itself is printed and compared with what stands after the prefix.
+//! No contract states the standard library's text for an `ErrorKind` or a `Utf8Error`, so the tests print the cause
+//! itself and compare it with the text after the prefix.
 
 use super::support::assert_is_at;
 use neli::err::{
@@ -13,7 +13,7 @@ use std::io::ErrorKind;
 use std::process::Abort;
 use std::str::Utf8Error;
 
-// Asserts that the value prints the prefix and then what its cause prints.
+// Asserts that the value prints the prefix and then the text of its cause.
 fn check<D: Display + Drop, C: Display>(
     rt: &impl Abort,
     alloc: Global,

@@ -1,4 +1,4 @@
-//! Exit codes, sets of flags and headers of messages as people read them.
+//! Exit codes, sets of flags and headers of messages as texts for people.
 //!
 //! Exit codes are those of wait(2): `W_EXITCODE` of glibc's bits/waitstatus.h puts a status in bits 8 to 15 and a
 //! signal in bits 0 to 6, and `WCOREFLAG` is bit 7. Flags are those of linux/if.h, linux/if_addr.h and
@@ -18,7 +18,7 @@ use std::alloc::Global;
 use std::fmt::Display;
 use std::process::Abort;
 
-/// Asserts what a value prints.
+/// Asserts the printed text of a value.
 pub fn assert_prints<D: Display>(rt: &impl Abort, alloc: Global, value: &D, want: &str) {
     let text = value.to_string(alloc).expect(rt, "memory");
     assert_is(rt, text.as_str(), want);
@@ -56,7 +56,7 @@ fn ends_of_processes(rt: HostRuntime) {
     }
 }
 
-/// Asserts what a set prints, and its number.
+/// Asserts the printed text of a set, and its number.
 fn check<F: NamedFlags>(rt: &impl Abort, alloc: Global, set: F, number: u32, text: &str) {
     assert_is(rt, set.number(), number);
     assert_prints(rt, alloc, &FlagNames(set), text);

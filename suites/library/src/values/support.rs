@@ -1,5 +1,5 @@
-//! What the tests share: refusals, by what the tables compare of them, the comparison itself, which stands in
-//! one place, and reads and writes that are compared.
+//! Shared parts of the tests: refusals, as far as the tables compare them, the one comparison, and reads and writes
+//! that are compared.
 
 use neli::err::{DeError, SerError, Utf8};
 use neli::{Cursor, FromBytes, FromBytesWithInputBorrowed, Size, ToBytes};
@@ -8,12 +8,12 @@ use std::fmt::Debug;
 use std::io::ErrorKind;
 use std::process::Abort;
 
-/// Asserts that this is what is wanted.
+/// Asserts that this is the expected value.
 pub fn assert_is<T: Copy + PartialEq + Debug>(rt: &impl Abort, got: T, want: T) {
     assert_eq!(rt; got, want);
 }
 
-/// Asserts that this is what is wanted, in the row of a table that has this name or input.
+/// Asserts that this is the expected value, in the row of a table that has this name or input.
 pub fn assert_is_at<R: Copy + PartialEq + Debug, T: Copy + PartialEq + Debug>(
     rt: &impl Abort,
     row: R,
@@ -26,7 +26,7 @@ pub fn assert_is_at<R: Copy + PartialEq + Debug, T: Copy + PartialEq + Debug>(
 /// A refusal to read or to write.
 #[derive(Clone, Copy, Debug, PartialEq, Eq)]
 pub enum Refusal {
-    /// Words that say why.
+    /// Words with the reason.
     Words,
     /// A failure of a reader or a writer.
     Io(ErrorKind),
@@ -50,7 +50,7 @@ fn refusal_of_text(text: &Utf8) -> Refusal {
     }
 }
 
-/// What the tables compare of a refusal to read.
+/// The compared part of a refusal to read.
 pub fn refusal_of(error: &DeError) -> Refusal {
     match error {
         DeError::Msg(_) => Refusal::Words,
@@ -61,7 +61,7 @@ pub fn refusal_of(error: &DeError) -> Refusal {
     }
 }
 
-/// What the tables compare of a refusal to write.
+/// The compared part of a refusal to write.
 pub fn refusal_to_write(error: &SerError) -> Refusal {
     match error {
         SerError::Msg(_) => Refusal::Words,
@@ -71,7 +71,7 @@ pub fn refusal_to_write(error: &SerError) -> Refusal {
     }
 }
 
-/// What was read, or what the tables compare of the refusal.
+/// The value read, or the compared part of the refusal.
 pub fn outcome_of<T: Copy>(read: Result<T, DeError>) -> Result<T, Refusal> {
     match read {
         Ok(value) => Ok(value),
@@ -79,7 +79,7 @@ pub fn outcome_of<T: Copy>(read: Result<T, DeError>) -> Result<T, Refusal> {
     }
 }
 
-/// Asserts that this list was read, or that this refusal came.
+/// Asserts that this list was read, or that this refusal was returned.
 pub fn assert_list<T: Copy + PartialEq + Debug>(
     rt: &impl Abort,
     read: &Result<Vec<T>, DeError>,
@@ -92,7 +92,7 @@ pub fn assert_list<T: Copy + PartialEq + Debug>(
     assert_is(rt, got, want);
 }
 
-/// Asserts that this text was read, or that this refusal came.
+/// Asserts that this text was read, or that this refusal was returned.
 pub fn assert_text(rt: &impl Abort, read: &Result<String, DeError>, want: Result<&str, Refusal>) {
     let got = match read {
         Ok(text) => Ok(text.as_str()),
@@ -101,7 +101,7 @@ pub fn assert_text(rt: &impl Abort, read: &Result<String, DeError>, want: Result
     assert_is(rt, got, want);
 }
 
-/// Asserts what is read at the front of the bytes, and where the cursor then is.
+/// Asserts the value at the front of the bytes, and the cursor's position then.
 pub fn assert_read<T: FromBytes + Copy + PartialEq>(
     rt: &impl Abort,
     alloc: Global,
@@ -114,7 +114,7 @@ pub fn assert_read<T: FromBytes + Copy + PartialEq>(
     assert_is_at(rt, bytes, (read, cursor.position()), (want, place));
 }
 
-/// Asserts what is lent of the bytes with this input. The cursor stays.
+/// Asserts the bytes lent with this input. The cursor stays.
 pub fn assert_lent<'a, T: FromBytesWithInputBorrowed<'a> + Copy + PartialEq>(
     rt: &impl Abort,
     bytes: &'a [u8],
@@ -139,13 +139,13 @@ pub fn dots(rt: &impl Abort, alloc: Global) -> Vec<u8> {
     Vec::from_slice(alloc, b"..").expect(rt, "memory")
 }
 
-/// Asserts that these bytes stand behind the dots.
+/// Asserts that these bytes stand after the dots.
 pub fn assert_behind_dots(rt: &impl Abort, buffer: &[u8], want: &[u8]) {
     let parts = (buffer.get(..2), buffer.get(2..));
     assert_is(rt, parts, (Some(b"..".as_slice()), Some(want)));
 }
 
-/// Asserts that the value is written as these bytes, behind those that stand there.
+/// Asserts that the value is written as these bytes, after those that stand there.
 pub fn assert_written<T: ToBytes>(rt: &impl Abort, alloc: Global, value: &T, want: &[u8]) {
     let mut buffer = dots(rt, alloc);
     value.to_bytes(&mut buffer).expect(rt, "memory");

@@ -1,4 +1,4 @@
-//! What a number may mean: the first table that has a name for it.
+//! The meanings of a number: the first table that has a name for it.
 
 use super::support::assert_is_at;
 use neli::consts::genl::{CtrlAttr, CtrlAttrMcastGrp, Index, NlAttrTypeWrapper};

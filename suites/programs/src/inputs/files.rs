@@ -5,7 +5,7 @@ use neli_inputs::pcap::{Order, order_of, read_pcap};
 use neli_inputs::{Input, read_input};
 use std::test::Fail;
 
-/// What a file is, its bytes in hexadecimal, and its items.
+/// The name of a file, its bytes in hexadecimal, and its items.
 const ROWS: [(&str, &str, &str); 10] = [
     (
         "microseconds, the low byte first",

@@ -28,7 +28,7 @@ pub fn listed(rt: &impl Abort, alloc: Global, input: &Input) -> String {
     text
 }
 
-/// Asserts that this is what is wanted, in the row of a table that has this name.
+/// Asserts that this is the expected value, in the row of a table that has this name.
 pub fn assert_is_at<T: Copy + PartialEq + Debug>(rt: &impl Abort, row: &str, got: T, want: T) {
     assert_eq!(rt; got, want, "at {row}");
 }

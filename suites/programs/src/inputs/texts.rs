@@ -1,11 +1,11 @@
-//! Texts that people paste.
+//! Pasted texts.
 
 use super::reading::{assert_is_at, listed};
 use neli_inputs::read_input;
 use neli_inputs::text::read_text;
 use std::test::Fail;
 
-/// What a text is, the text, and its items.
+/// The name of a text, the text, and its items.
 const ROWS: [(&str, &str, &str); 11] = [
     (
         "of plain digits",

@@ -1,10 +1,10 @@
-//! What a check refuses.
+//! Refusals of a check.
 
 use super::{own, support};
 use neli_schema::TableId;
 use neli_schema_walk::{Broken, Wrong, check};
 
-/// A name, a list of attributes, and where it is wrong, if it is: the path, and how the payload breaks its row or
+/// A name, a list of attributes, and its violation, if there is one: the path, and how the payload breaks its row or
 /// `None` for a fault.
 const CHECKED: [(&str, TableId, &[u8], Option<(&[u16], Option<Broken>)>); 6] = [
     ("nothing", own::ALL, b"", None),

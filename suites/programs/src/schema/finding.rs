@@ -13,7 +13,7 @@ const ROWS: [(TableId, u16, Option<(&str, usize, usize)>); 6] = [
     (own::NUMBERS, 99, Some(("index", 1, 1))),
 ];
 
-/// Each number, and how many bytes it takes.
+/// Each number, and its size in bytes.
 const SIZES: [(Number, usize); 11] = [
     (Number::U8, 1),
     (Number::U16, 2),

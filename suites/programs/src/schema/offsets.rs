@@ -1,4 +1,4 @@
-//! The attribute at an offset. What is wanted is counted by hand in the bytes.
+//! The attribute at an offset. Expected values are counted by hand in the bytes.
 
 use super::{own, support};
 use neli_schema_walk::find;

@@ -22,7 +22,7 @@ pub const LINK_INFO: TableId = TableId(2004);
 /// `IFLA_VLAN_*` of the same.
 pub const VLAN: TableId = TableId(2005);
 
-/// What `IFLA_INFO_DATA` has: by the text of `IFLA_INFO_KIND`.
+/// The table of `IFLA_INFO_DATA`: by the text of `IFLA_INFO_KIND`.
 const BY_KIND: Choice<'static> = Choice {
     by: By::Neighbour(1),
     cases: &[Case {
@@ -32,7 +32,7 @@ const BY_KIND: Choice<'static> = Choice {
     otherwise: None,
 };
 
-/// What the nest of number 20 has: by the text of number 19, and else numbers by index.
+/// The table of the nest with number 20: by the text of number 19, and else numbers by index.
 const PICKED: Choice<'static> = Choice {
     by: By::Neighbour(19),
     cases: &[

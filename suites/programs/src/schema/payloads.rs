@@ -1,4 +1,4 @@
-//! Each kind of payload, right and broken. What is wanted follows from the row in [`super::own`], and from
+//! Each kind of payload, right and broken. Expected values follow from the row in [`super::own`], and from
 //! `lib/nlattr.c` of Linux for texts, flags and numbers.
 
 use super::{own, support};
@@ -62,7 +62,7 @@ const PAYLOADS: [(u16, u8, &[u8], Result<&str, Broken>); 47] = [
     (99, 0, b"\x01\x02\x03\x04\x05", Ok("bytes")),
 ];
 
-/// What the only attribute of a list is.
+/// The meaning of the only attribute of a list.
 fn shape_word(
     rt: &impl Abort,
     alloc: Global,

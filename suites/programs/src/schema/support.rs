@@ -1,4 +1,4 @@
-//! What the tests share.
+//! Shared parts of the tests.
 
 use super::own;
 use neli_schema::{Schema, Table, TableId};
@@ -7,12 +7,12 @@ use std::alloc::Global;
 use std::fmt::Debug;
 use std::process::Abort;
 
-/// Asserts that this is what is wanted.
+/// Asserts that this is the expected value.
 pub fn assert_is<T: Copy + PartialEq + Debug>(rt: &impl Abort, got: T, want: T) {
     assert_eq!(rt; got, want);
 }
 
-/// Asserts that this is what is wanted, in the row of a table that has this name or input.
+/// Asserts that this is the expected value, in the row of a table that has this name or input.
 pub fn assert_is_at<R: Copy + PartialEq + Debug, T: Copy + PartialEq + Debug>(
     rt: &impl Abort,
     row: R,
@@ -59,7 +59,7 @@ pub fn attribute(rt: &impl Abort, alloc: Global, number: u16, payload: &[u8]) ->
     bytes
 }
 
-/// What a payload is, in a word.
+/// The meaning of a payload, in a word.
 pub fn word(shape: Result<Shape<'_>, Broken>) -> Result<&'static str, Broken> {
     Ok(match shape? {
         Shape::Flag => "flag",

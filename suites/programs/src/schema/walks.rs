@@ -1,4 +1,4 @@
-//! What a walk gives.
+//! The items of a walk.
 
 use super::{own, support};
 use neli_schema::TableId;
@@ -6,18 +6,18 @@ use neli_schema_walk::{Broken, Item, MAX_DEPTH, Walk};
 use std::alloc::Global;
 use std::process::Abort;
 
-/// What is said at a path.
+/// The item at a path.
 #[derive(Clone, Copy, Debug, PartialEq, Eq)]
 enum Said {
     /// An attribute is this.
     Is(&'static str),
     /// An attribute breaks its row.
     Breaks(Broken),
-    /// What follows the attributes of the nest is none.
+    /// The bytes after the attributes of the nest are not an attribute.
     Fault,
 }
 
-/// A name, the table, the bytes, and what is said at which path, and how many bytes the payload has.
+/// A name, the table, the bytes, and the item at each path, with the number of bytes of its payload.
 const WALKS: [(&str, TableId, &[u8], &[(&[u16], Said, usize)]); 8] = [
     ("nothing", own::ALL, b"", &[]),
     // linux/if_link.h: IFLA_INFO_KIND is 1, IFLA_INFO_DATA is 2, IFLA_VLAN_ID is 1, IFLA_VLAN_PROTOCOL is 5.
@@ -89,7 +89,7 @@ const WALKS: [(&str, TableId, &[u8], &[(&[u16], Said, usize)]); 8] = [
     ),
 ];
 
-/// What an item says, and the length of its payload.
+/// The content of an item, and the length of its payload.
 fn what_is_said(item: &Item<'_, '_>) -> (Said, usize) {
     let Ok(attribute) = &item.content else {
         return (Said::Fault, 0);

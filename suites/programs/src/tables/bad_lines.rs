@@ -223,7 +223,7 @@ fn bad_lines_are_refused_by_their_number(rt: HostRuntime) -> Result<(), Fail> {
     Ok(())
 }
 
-/// Sections, and rows that are none of theirs.
+/// Sections, and rows that do not belong to them.
 const ELSEWHERE: [(&str, &[&str]); 7] = [
     (
         "enum x",

@@ -1,11 +1,11 @@
-//! What a line says.
+//! The reading of a line.
 
 use neli_tables::{Line, Said, Value, read_table};
 use std::alloc::Global;
 use std::fmt::Write;
 use std::test::Fail;
 
-/// What a line says: its number in the text, its first word, its name, its numbers and its options.
+/// The reading of a line: its number in the text, its first word, its name, its numbers and its options.
 fn shown(alloc: Global, line: &Line<'_>) -> Result<String, Fail> {
     let mut text = String::new(alloc);
     let (number, word, name) = (line.number, line.word, str::from_utf8(line.name)?);
@@ -39,7 +39,7 @@ fn shown(alloc: Global, line: &Line<'_>) -> Result<String, Fail> {
 const ABOVE: &str =
     "# a family\n\nfamily f 0\nset s\nenum e\nstruct t 4\nchoice c\nflags b\nset other\n  attr KEY 1 u8\n";
 
-/// The line below those, the row below it, and what this row says.
+/// The line below those, the row below it, and the reading of this row.
 const ROWS: [(&str, &str, &str); 33] = [
     ("set x", "attr A 16", "12 Attr A 16..16"),
     ("set x", "attr A 0 u8", "12 Attr A 0..0 U8"),

@@ -5,7 +5,7 @@ use neli_tables::{ReadError, Why, read_table};
 use std::alloc::Global;
 use std::process::Abort;
 
-/// Texts, and how many lines they have, or why they are refused.
+/// Texts, and the number of their lines, or why they are refused.
 const TEXTS: [(&str, Result<usize, ReadError>); 3] = [
     ("", Ok(0)),
     (

@@ -1,4 +1,4 @@
-//! What the tests share: how a text is read, in words.
+//! Shared parts of the tests: the reading of a text, in words.
 
 use neli_tables::read_table;
 use std::alloc::Global;
@@ -6,7 +6,7 @@ use std::fmt::Write;
 use std::process::Abort;
 use std::test::Fail;
 
-/// What a text is read as: how many lines, or what is printed of the refusal.
+/// The reading of a text: the number of lines, or the printed text of the refusal.
 fn said(alloc: Global, text: &str) -> Result<String, Fail> {
     let mut said = String::new(alloc);
     match read_table(alloc, text.as_bytes()) {

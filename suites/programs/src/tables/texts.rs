@@ -36,7 +36,7 @@ const TEXTS: [(&str, &str); 20] = [
         "family f\nset a\n  attr B 1 nest=b\nset b\n  each A nest=a\n  attr B 2 nest=b\n",
         "6 lines",
     ),
-    // Of two lines with a name the first is meant, and both are read.
+    // Of two lines with a name, the name refers to the first, and both are read.
     (
         "family f\nset a\nset a\n  attr B 1 nest=a\n  attr B 1 u8\n",
         "5 lines",
@@ -73,7 +73,7 @@ fn whole_texts_are_read(rt: HostRuntime) -> Result<(), Fail> {
     Ok(())
 }
 
-/// So many rows, each of which nests the set that they stand in.
+/// So many rows, each of which nests its own set.
 #[test]
 fn many_rows_are_read(rt: HostRuntime) -> Result<(), Fail> {
     let alloc = rt.alloc();

@@ -1,4 +1,4 @@
-//! Scripts and what is answered.
+//! Scripts and their output.
 
 use super::scripts::{Row, answers};
 
@@ -15,7 +15,7 @@ pub const ACKNOWLEDGED: &str = "send 16 4 -\n\
     read 0\n\
     read 0";
 
-/// What is answered: an acknowledgement is missed, and a handle is closed.
+/// The output: an acknowledgement is missing, and a handle is closed.
 pub const ANSWERED: &str = "sent 1 10000000100005000000000000000000\n\
     waits\n\
     ok\n\
@@ -86,7 +86,7 @@ const WITHOUT_REQUEST: [Row; 14] = [
     ),
 ];
 
-/// A request without an acknowledgement, which is sent with number 0 and port 0, and what comes then.
+/// A request without an acknowledgement, which is sent with number 0 and port 0, and the messages after it.
 pub const ONE_REQUEST: [Row; 8] = [
     (
         "nothing for now",

@@ -1,4 +1,4 @@
-//! What the arguments ask for, and what is answered.
+//! The requests in the arguments, and their results.
 
 use super::readers::{Drip, Trickle};
 use super::support::{assert_is, assert_is_at};
@@ -26,7 +26,7 @@ fn words(rt: &impl Abort, alloc: Global, given: &[&str]) -> io::Result<Vec<Strin
     Ok(words)
 }
 
-/// What words ask for, how that ends, its exit status, what is printed, and what is complained of.
+/// Words, the end of the run, its exit status, its output, and its complaint.
 type Answer = (Request, Status, u8, &'static str, &'static str);
 
 const WRONG_USE: Answer = (Request::Usage, Status::Usage, 2, "", USAGE);
@@ -37,7 +37,7 @@ const PADDED: &[u8] = b"\x11\0\0\0\0\x04\0\0\0\0\0\0\0\0\0\0a\xff\xff\xff";
 /// That message, and a byte of a next one.
 const CUT: &[u8] = b"\x11\0\0\0\0\x04\0\0\0\0\0\0\0\0\0\0a\xff\xff\xff\0";
 
-/// Words, the input, and what comes of it.
+/// Words, the input, and the result.
 const RUNS: [(&[&str], &[u8], Answer); 20] = [
     (
         &["list"],
@@ -121,7 +121,7 @@ const RUNS: [(&[&str], &[u8], Answer); 20] = [
     (&["zero", "list"], &SHORT, WRONG_USE),
 ];
 
-/// Asserts what these words ask for, and what comes of it. What is printed has to be flushed at the end.
+/// Asserts the request in these words, and its result. The output must be flushed at the end.
 fn assert_answer<R: Read>(
     rt: &impl Abort,
     alloc: Global,
@@ -138,7 +138,7 @@ fn assert_answer<R: Read>(
     assert_is(rt, printed, (want.3.as_bytes(), want.4.as_bytes()));
 }
 
-// The input is given whole, and then a byte at each call.
+// The input is read whole, and then a byte at each call.
 #[test]
 fn words_ask_for_a_listing_or_a_script_or_are_wrong_use(rt: HostRuntime) {
     for (given, input, want) in RUNS {
@@ -195,7 +195,7 @@ fn words_that_are_not_read(rt: HostRuntime) {
     }
 }
 
-/// Asserts how wrong use ends where the complaint has so much room.
+/// Asserts how wrong use ends if the complaint has so much room.
 fn assert_complained(rt: &impl Abort, alloc: Global, room: usize, flushes: bool, want: Status) {
     let words = words(rt, alloc, &[]);
     let mut input = SHORT.as_slice();

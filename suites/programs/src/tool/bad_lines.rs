@@ -8,7 +8,7 @@ use neli_program::replay::replay;
 use std::alloc::Global;
 use std::process::Abort;
 
-/// Asserts that of this script this alone is written.
+/// Asserts that only this is written for this script.
 fn assert_named(rt: &impl Abort, alloc: Global, script: &[u8], want: &[u8]) {
     let mut input = script;
     let mut output = Vec::new(alloc);

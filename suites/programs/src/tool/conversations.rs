@@ -1,4 +1,4 @@
-//! Conversations: several requests, and what comes for each of them.
+//! Conversations: several requests, and the messages for each of them.
 
 use super::scripts::{Row, answers};
 
@@ -53,7 +53,7 @@ pub const ENDS: [Row; 5] = [
     ),
 ];
 
-/// Datagrams, and whom they come to.
+/// Datagrams, and their receivers.
 pub const RECEIVERS: [Row; 5] = [
     (
         "an empty datagram, and one of 15 bytes",

@@ -1,4 +1,4 @@
-//! A table of recorded datagrams and of what libmnl reads in each.
+//! A table of recorded datagrams and of libmnl's reading of each.
 
 use super::rules::Fault;
 use super::support::{assert_is_at, decoded};
@@ -11,20 +11,20 @@ use std::process::Abort;
 /// A message as libmnl reads it: type, flags, sequence number, port, and the payload's length.
 pub type Header = (u16, u16, u32, u32, usize);
 
-/// A datagram, what it holds, and what stands after that.
+/// A datagram, its messages, and the bytes after them.
 pub struct Row {
     /// A label: the number of the datagram, as docs/RECORDINGS.md has it.
     pub file: &'static str,
     pub hex: &'static str,
     pub messages: &'static [Header],
-    /// libmnl names no fault: which one it is follows from the first four bytes after its last message, by hand.
+    /// libmnl names no fault: it follows from the first four bytes after its last message, by hand.
     pub fault: Option<Fault>,
 }
 
-/// What the reader of a datagram gives.
+/// The result of the reader of a datagram.
 type Item = Option<Result<Nlmsghdr<u16, Vec<u8>>, SocketError>>;
 
-/// The fault that a reader of messages gives.
+/// The fault that a reader of messages returns.
 pub fn fault_of(error: &SocketError) -> Option<Fault> {
     match error {
         SocketError::De(DeError::Io(ErrorKind::UnexpectedEof)) => Some(Fault::Short),
@@ -76,14 +76,14 @@ fn recorded_datagrams_are_read_as_libmnl_reads_them(rt: HostRuntime) {
     }
 }
 
-/// The answer to a dump of no such table: recording 0372.
+/// The answer to a dump of a missing table: recording 0372.
 pub const NO_TABLE: &str =
     "3800000003002202a7040000ebd2b981feffffff23000100697076343a20464942207461626c6520\
     646f6573206e6f742065786973740000";
 
 pub const ROWS: [Row; 21] = [
     Row {
-        // route: IPv4 settings of a link, told to a group when loopback was set up
+        // route: IPv4 settings of a link, notified to a group when loopback was set up
         file: "0001",
         hex: "240000005000000000000000000000000200000008000100feffffff0800020001000000",
         messages: &[(80, 0x0000, 0, 0, 20)],
@@ -257,7 +257,7 @@ pub const ROWS: [Row; 21] = [
         fault: None,
     },
     Row {
-        // xfrm: all policies removed, told to a group
+        // xfrm: all policies removed, notified to a group
         file: "1065",
         hex: "1c0000001d000000af98026b000000000a0010000000000000000000",
         messages: &[(29, 0x0000, 1795332271, 0, 12)],

@@ -21,7 +21,7 @@ fn counting(rt: &impl Abort, alloc: Global, count: usize) -> Vec<u8> {
     bytes
 }
 
-/// Asserts that the reader gives these bytes, and then ends.
+/// Asserts that the reader returns these bytes, and then ends.
 fn assert_read<R: Read>(rt: &impl Abort, alloc: Global, how: &str, input: &mut R, want: &[u8]) {
     match &read_whole(alloc, input) {
         Ok(read) => assert_is_at(rt, (how, want.len()), read.as_slice(), want),
@@ -44,7 +44,8 @@ fn an_input_is_read_to_its_end(rt: HostRuntime) {
     }
 }
 
-// They come in some 270 calls, so what is endless is told by the calls and not by the bytes.
+// They are read in some 270 calls, so an endless input is recognized by the calls and not by the
+// bytes.
 #[test]
 fn more_than_a_million_bytes_are_read_to_their_end(rt: HostRuntime) {
     let alloc = rt.alloc();
@@ -72,7 +73,7 @@ fn a_read_that_fails_is_told(rt: HostRuntime) {
     );
 }
 
-/// Inputs, the call at which each ends or fails, and what comes of it after how many calls.
+/// Inputs, the call at which each ends or fails, and the result after how many calls.
 const TRICKLES: [(&str, u32, bool, Status, &str, u32); 4] = [
     ("fails in the middle", 3, true, Status::NoInput, "", 3),
     (

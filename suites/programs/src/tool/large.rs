@@ -10,10 +10,10 @@ use std::process::Abort;
 /// The header of a message of 70016 bytes: type 1024, number 0, port 0.
 const HEADER: [u8; 16] = [0x80, 0x11, 1, 0, 0, 4, 0, 0, 0, 0, 0, 0, 0, 0, 0, 0];
 
-/// How many bytes its body has.
+/// The number of bytes in its body.
 const BODY: usize = 70000;
 
-/// How many commands a script has.
+/// The number of a script's commands.
 const COMMANDS: usize = 1500;
 
 /// So many times these bytes.

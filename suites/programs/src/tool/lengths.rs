@@ -1,6 +1,6 @@
-//! Lengths that lie, and datagrams that are cut. Each datagram of these tests is cut at each place, and each length in
-//! it, of a message, an echo or an attribute, is set to each wrong number. What comes of it is what [`rules`] says:
-//! by `list`, which reads lent messages, by owned messages, by what these are written as, and by `list zero`.
+//! Wrong lengths, and datagrams that are cut. Each datagram of these tests is cut at each place, and each length in it,
+//! of a message, an echo or an attribute, is set to each wrong number. [`rules`] define the result: of `list`, which
+//! reads lent messages, of owned messages, of the bytes written for these, and of `list zero`.
 
 use super::datagrams::{ROWS, fault_of};
 use super::listing::{ANSWERS, DATAGRAMS};
@@ -43,7 +43,7 @@ fn assert_listed(rt: &impl Abort, alloc: Global, bytes: &[u8], said: &Said) {
     assert_is_at(rt, bytes, (output.as_slice(), status), want);
 }
 
-/// What `list zero` says where it does not write the bytes.
+/// The output of `list zero` if it does not write the bytes.
 fn complaint(rt: &impl Abort, alloc: Global, said: &Said) -> String {
     let mut text = String::new(alloc);
     if said.fault.is_none() {
@@ -81,8 +81,8 @@ fn owned(rt: &impl Abort, alloc: Global, bytes: &[u8]) -> (Vec<RawMessage>, Opti
     (found, None)
 }
 
-/// Asserts that the owned messages have these lines, that this fault comes after them, and that they are written as
-/// the zeroed bytes where they are all that there is.
+/// Asserts that the owned messages have these lines, that this fault follows them, and that they are written as the
+/// zeroed bytes if nothing else is in the datagram.
 fn assert_owned(rt: &impl Abort, alloc: Global, bytes: &[u8], said: &Said) {
     let (messages, fault) = owned(rt, alloc, bytes);
     let mut lines = String::new(alloc);
@@ -99,7 +99,7 @@ fn assert_owned(rt: &impl Abort, alloc: Global, bytes: &[u8], said: &Said) {
     }
 }
 
-/// Asserts that what comes of the bytes is what the rules say.
+/// Asserts that the results for the bytes are those of the rules.
 fn check(rt: &impl Abort, alloc: Global, bytes: &[u8]) {
     let said = said_of(rt, alloc, bytes);
     assert_listed(rt, alloc, bytes, &said);
@@ -124,7 +124,7 @@ fn changed(
     other
 }
 
-/// Lengths that are wrong somewhere: below the header of an attribute and of a message, or past what is there.
+/// Lengths that are wrong somewhere: below the header of an attribute and of a message, or past the bytes.
 const WRONG: [usize; 9] = [0, 1, 3, 4, 7, 9, 15, 16, 4294967295];
 
 /// Checks the bytes with each length in them set to each wrong one, and to one less and one more.

@@ -15,7 +15,7 @@ const ONE: &str = "1100000000040000000000000000000061ffffff";
 
 const ONE_LINE: &str = "type 1024 flags 0x0000 number 0 port 0 payload 1\n";
 
-/// A datagram with its name, what is printed of it, and how that ends.
+/// A datagram with its name, its printed lines, and its end.
 pub type Row = (&'static str, &'static str, &'static str, Status);
 
 /// Datagrams of messages.

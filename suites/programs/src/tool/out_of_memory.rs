@@ -1,6 +1,6 @@
-//! Any one allocation may be refused in these tests: `suites/run` refuses each in turn. What is printed of a
-//! datagram is then the whole text, or whole lines of it and the line for out of memory, and the status says which;
-//! listed once more, it is the whole text.
+//! Any one allocation may be refused in these tests: `suites/run` refuses each in turn. The output for a datagram is
+//! then the whole text, or whole lines of it and the line for out of memory, and the status tells which; when repeated,
+//! it is the whole text.
 
 use super::listing::{ANSWERS, DATAGRAMS, Row};
 use super::rewriting::PADDED;
@@ -21,7 +21,7 @@ fn words(alloc: Global, list: &[&str]) -> Option<Vec<String>> {
     Some(words)
 }
 
-/// Runs the program, and gives the status, what it printed, and whether it complained.
+/// Runs the program, and returns the status, its output, and whether it complained.
 fn ran(rt: &impl Abort, alloc: Global, list: &[&str], bytes: &[u8]) -> (Status, Kept, bool) {
     let words = match words(alloc, list) {
         Some(words) => words,
@@ -42,7 +42,8 @@ fn is_part(text: &[u8], whole: &[u8]) -> bool {
     }
 }
 
-/// Lists a datagram. Asserts that the whole text is printed, or a part of it and that memory ran out, and says which.
+/// Lists a datagram. Asserts that the whole text is printed, or a part of it and that memory ran out, and returns
+/// which.
 fn is_listed(rt: &impl Abort, alloc: Global, row: Row, bytes: &[u8]) -> bool {
     let (status, output, has_complained) = ran(rt, alloc, &["list"], bytes);
     let is_listed = status != Status::Memory;
@@ -55,7 +56,7 @@ fn is_listed(rt: &impl Abort, alloc: Global, row: Row, bytes: &[u8]) -> bool {
     is_listed
 }
 
-/// Lists a datagram, once more where memory ran out, and asserts that it is listed.
+/// Lists a datagram, once more if memory ran out, and asserts that it is listed.
 fn list_again(rt: &impl Abort, alloc: Global, row: Row) {
     let bytes = decoded(rt, alloc, row.1);
     let is_listed = is_listed(rt, alloc, row, &bytes) || is_listed(rt, alloc, row, &bytes);
@@ -72,7 +73,7 @@ fn datagrams_are_listed_again(rt: HostRuntime) {
     }
 }
 
-/// Writes a datagram again. Asserts that its bytes are written, or that memory ran out, and says which.
+/// Writes a datagram again. Asserts that its bytes are written, or that memory ran out, and returns which.
 fn is_rewritten(rt: &impl Abort, alloc: Global, row: &str, bytes: &[u8], want: &[u8]) -> bool {
     let (status, output, _) = ran(rt, alloc, &["list", "zero"], bytes);
     let is_rewritten = status != Status::Memory;

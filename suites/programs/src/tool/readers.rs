@@ -1,9 +1,9 @@
-//! Readers that give a byte at each call.
+//! Readers that return a byte at each call.
 
 use std::io;
 use std::io::{ErrorKind, Read};
 
-/// A reader that gives its bytes, and then ends or fails.
+/// A reader that returns its bytes, and then ends or fails.
 #[derive(Drop)]
 pub struct Drip<'b> {
     pub rest: &'b [u8],
@@ -25,7 +25,7 @@ impl Read for Drip<'_> {
     }
 }
 
-/// A reader that gives a zero byte at each call, until it ends or fails at a call.
+/// A reader that returns a zero byte at each call, until it ends or fails at a call.
 #[derive(Drop)]
 pub struct Trickle {
     pub calls: u32,

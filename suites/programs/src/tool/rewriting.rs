@@ -8,7 +8,7 @@ use neli_program::status::Status;
 use std::alloc::Global;
 use std::process::Abort;
 
-/// Datagrams with padding of any value: what each is, what is read, and what is written.
+/// Datagrams with padding of any value: the name of each, the bytes read, and the bytes written.
 pub const PADDED: [(&str, &str, &str); 5] = [
     (
         "padding after an attribute of a capped error",
@@ -43,7 +43,7 @@ pub const PADDED: [(&str, &str, &str); 5] = [
     ),
 ];
 
-/// Datagrams without padding: their lengths are multiples of four, and what a payload holds is its own.
+/// Datagrams without padding: their lengths are multiples of four, and a payload's bytes are its own.
 pub const UNPADDED: [(&str, &str); 12] = [
     (
         "an acknowledgement with an attribute",

@@ -1,5 +1,5 @@
-//! What docs/FRAMES.md says of any bytes, by places in the whole datagram, apart from the reader, which goes on by a
-//! cursor: the lines of its messages, its bytes with zeros for the padding, its fault, and where lengths stand.
+//! The rules of docs/FRAMES.md for any bytes, by places in the whole datagram, apart from the reader, which uses a
+//! cursor: the lines of its messages, its bytes with zeros for the padding, its fault, and the places of lengths.
 
 use std::alloc::Global;
 use std::fmt;
@@ -11,7 +11,7 @@ use std::process::Abort;
 pub enum Fault {
     /// They end in a header or in padding.
     Short,
-    /// A length, or how many bytes are not all there.
+    /// A length, or the number of bytes that are not all there.
     Input(usize),
 }
 
@@ -24,10 +24,10 @@ impl fmt::Display for Fault {
     }
 }
 
-/// A length: its place, and how many bytes it has.
+/// A length: its place, and its number of bytes.
 pub type Length = (usize, usize);
 
-/// What is said of a datagram.
+/// The facts about a datagram.
 #[derive(Drop)]
 pub struct Said {
     /// The lines of its messages, in their order.
@@ -38,7 +38,7 @@ pub struct Said {
     pub fault: Option<Fault>,
     /// Whether an answer has bytes that are not read.
     pub has_tail: bool,
-    /// Its lengths, wherever they were looked for.
+    /// Its lengths, wherever the rules read one.
     pub lengths: Vec<Length>,
 }
 
@@ -100,7 +100,7 @@ impl Said {
         }
     }
 
-    /// How many attributes there are from one place to another. A byte that is missing makes all of them wrong.
+    /// The number of attributes from one place to another. A missing byte makes all of them wrong.
     fn attributes(&mut self, rt: &impl Abort, from: usize, to: usize) -> Result<usize, Fault> {
         let all = Fault::Input(to.saturating_sub(from));
         let mut at = from;
@@ -124,7 +124,7 @@ impl Said {
         Ok(count)
     }
 
-    /// What is printed of an error or an acknowledgement in the message from one place to another.
+    /// The printed text of an error or an acknowledgement in the message from one place to another.
     fn answer(
         &mut self,
         rt: &impl Abort,
@@ -160,7 +160,7 @@ impl Said {
         Ok(answer_text(rt, alloc, code, is_echoed, count))
     }
 
-    /// What is printed of what the message from one place to another carries.
+    /// The printed text of the contents of the message from one place to another.
     fn kind(
         &mut self,
         rt: &impl Abort,
@@ -188,7 +188,7 @@ impl Said {
         Ok(text)
     }
 
-    /// Reads the message at a place, and gives the place after it.
+    /// Reads the message at a place, and returns the place after it.
     fn message(&mut self, rt: &impl Abort, alloc: Global, at: usize) -> Result<usize, Fault> {
         let all = self.zeroed.len();
         let length = self.length(rt, at, all, 16)?;
@@ -213,7 +213,7 @@ impl Said {
     }
 }
 
-/// What is printed of an answer with this code and so many attributes.
+/// The printed text of an answer with this code and so many attributes.
 fn answer_text(rt: &impl Abort, alloc: Global, code: i32, is_echoed: bool, count: usize) -> String {
     let mut text = String::new(alloc);
     let written = match (code, is_echoed, count) {
@@ -226,7 +226,7 @@ fn answer_text(rt: &impl Abort, alloc: Global, code: i32, is_echoed: bool, count
     text
 }
 
-/// What is said of these bytes.
+/// The facts about these bytes.
 pub fn said_of(rt: &impl Abort, alloc: Global, bytes: &[u8]) -> Said {
     let mut said = Said {
         lines: String::new(alloc),

@@ -1,4 +1,4 @@
-//! What the tests of scripts share: a script, answered over both stores of deliveries.
+//! Shared parts of the tests of scripts: plays a script over both stores of deliveries.
 
 use super::support::assert_is_at;
 use neli_program::status::Status;
@@ -9,10 +9,10 @@ use neli_runs::Deliveries;
 use std::alloc::Global;
 use std::process::Abort;
 
-/// A script with its name, and what is answered.
+/// A script with its name, and its output.
 pub type Row = (&'static str, &'static str, &'static str);
 
-/// Asserts that this script is answered by these lines, over deliveries that are kept in a `D`.
+/// Asserts that this script has these output lines, over deliveries in a `D`.
 fn answers_over<D: Deliveries, R: Abort>(rt: &R, alloc: Global, row: Row) {
     let mut output = Vec::new(alloc);
     let status = replay::<D, _, _>(alloc, &mut row.1.as_bytes(), &mut output);
@@ -20,7 +20,7 @@ fn answers_over<D: Deliveries, R: Abort>(rt: &R, alloc: Global, row: Row) {
     assert_is_at(rt, row.0, answered, (row.2.as_bytes(), Status::Whole));
 }
 
-/// Asserts that this script is answered by these lines, over each store.
+/// Asserts that this script has these output lines, over each store.
 pub fn answers<R: Abort>(rt: &R, alloc: Global, row: Row) {
     answers_over::<Log, R>(rt, alloc, row);
     answers_over::<Queues, R>(rt, alloc, row);

@@ -1,6 +1,5 @@
-//! Any one allocation may be refused in these tests: `suites/run` refuses each in turn. What is printed of a
-//! script is then the whole report, or that memory ran out, and the status says which; played once more, it is answered
-//! whole.
+//! Any one allocation may be refused in these tests: `suites/run` refuses each in turn. The output of a script is then
+//! the whole report, or that memory ran out, and the status tells which; when repeated, it is the whole report.
 
 use super::answers::{ONE_REQUEST, WORKED};
 use super::conversations::{ENDS, RECEIVERS};
@@ -15,8 +14,7 @@ use neli_runs::Deliveries;
 use std::alloc::Global;
 use std::process::Abort;
 
-/// Plays a script over deliveries that are kept in a `D`. Asserts that it is answered, or that memory ran out, and says
-/// which.
+/// Plays a script over deliveries in a `D`. Asserts that it has its output, or that memory ran out, and returns which.
 fn is_answered<D: Deliveries>(rt: &impl Abort, alloc: Global, row: Row) -> bool {
     let mut output = Kept::new();
     let status = replay::<D, _, _>(alloc, &mut row.1.as_bytes(), &mut output);
@@ -30,7 +28,7 @@ fn is_answered<D: Deliveries>(rt: &impl Abort, alloc: Global, row: Row) -> bool 
     is_answered
 }
 
-/// Plays a script, once more where memory ran out, and asserts that it is answered.
+/// Plays a script, once more if memory ran out, and asserts that it has its output.
 fn answers_again<D: Deliveries>(rt: &impl Abort, alloc: Global, row: Row) {
     let is_answered = is_answered::<D>(rt, alloc, row) || is_answered::<D>(rt, alloc, row);
     assert_is_at(rt, row.0, is_answered, true);

@@ -1,15 +1,15 @@
-//! What the tests share: the comparison, which stands in one place, digits that are read, and texts that are printed.
+//! Shared parts of the tests: the one comparison, read digits, and printed texts.
 
 use std::alloc::Global;
 use std::fmt::{Debug, Display};
 use std::process::Abort;
 
-/// Asserts that this is what is wanted.
+/// Asserts that this is the expected value.
 pub fn assert_is<T: Copy + PartialEq + Debug>(rt: &impl Abort, got: T, want: T) {
     assert_eq!(rt; got, want);
 }
 
-/// Asserts that this is what is wanted, in the row of a table that has this name or input.
+/// Asserts that this is the expected value, in the row of a table that has this name or input.
 pub fn assert_is_at<R: Copy + PartialEq + Debug, T: Copy + PartialEq + Debug>(
     rt: &impl Abort,
     row: R,

@@ -21,7 +21,7 @@ impl Kept {
         }
     }
 
-    /// What it had kept at the last flush.
+    /// The bytes kept at the last flush.
     pub fn text(&self) -> &[u8] {
         self.bytes.get(..self.flushed).unwrap_or(&[])
     }
@@ -43,7 +43,7 @@ impl Write for Kept {
     }
 }
 
-/// A writer that takes so many bytes and then fails, and of which a flush may fail.
+/// A writer that takes so many bytes and then fails, and whose flush may fail.
 #[derive(Drop)]
 pub struct Narrow {
     pub room: usize,

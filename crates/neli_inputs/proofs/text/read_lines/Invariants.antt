@@ -3,7 +3,7 @@ use Rattle.std.specs.List.{flat_map}
 use Rattle.neli_inputs.specs.Lines.{count_in, line_of}
 use Rattle.neli_inputs.proofs.text.read_lines.Given as goal
 
--- the lines passed are read
+-- the lines so far are read
 abbrev pub invariant-loop-text : goal.invariant-loop-text
 invariant-loop-text l = record {
   lines : l.lines.items ≡ map (λ t. (line_of t.now).0) (take l.text-index l.texts);

@@ -5,7 +5,7 @@ use Rattle.neli_places.specs.Routes.{items_for}
 use Rattle.neli_log.specs.Staged.{HaveReaders}
 use Rattle.neli_log.proofs.handing.push_all.Given as goal
 
--- there is room for the rest, and with it the lists are what they become
+-- there is room for the rest, and with it the lists reach their final state
 abbrev pub invariant-loop-entry : goal.invariant-loop-entry
 invariant-loop-entry l = record {
   can_next : (goal.iterator-loop-entry).can_next l.entry-iterator;

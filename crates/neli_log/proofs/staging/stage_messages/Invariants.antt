@@ -9,7 +9,7 @@ use Rattle.neli_log.proofs.staging.stage_messages.Given as goal
 abbrev pub decreases-loop-cursor : goal.decreases-loop-cursor
 decreases-loop-cursor l = length l.cursor.rest
 
--- what is before the cursor is staged
+-- all before the cursor is staged
 abbrev pub invariant-loop-cursor : goal.invariant-loop-cursor
 invariant-loop-cursor l = record {
   whole : whole l.cursor ≡ l.fn.bytes;

@@ -4,7 +4,7 @@ use Rattle.std.specs.Vec.Iter.{into_iter_items}
 use Rattle.neli_queues.specs.Pieces.{HaveRoom, deliveries_for}
 use Rattle.neli_queues.proofs.appending.append_all.Given as goal
 
--- there is room for the rest, and with it the lists are what they become
+-- there is room for the rest, and with it the lists reach their final state
 abbrev pub invariant-loop-piece : goal.invariant-loop-piece
 invariant-loop-piece l = record {
   can_next : (goal.iterator-loop-piece).can_next l.piece-iterator;

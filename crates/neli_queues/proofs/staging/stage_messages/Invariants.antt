@@ -5,7 +5,7 @@ use Rattle.neli_deliveries.specs.Deliveries.{messages_to}
 use Rattle.neli_queues.specs.Pieces.{deliveries_for, is_open}
 use Rattle.neli_queues.proofs.staging.stage_messages.Given as goal
 
--- with what the rest brings, each open number has gained what all messages bring
+-- with the share of the rest, each open number has gained its share of all messages
 abbrev pub invariant-loop-message : goal.invariant-loop-message
 invariant-loop-message l = (q : ℕ) → is_open l.numbers q ≡ true
     → deliveries_for q l.pieces.items ++ messages_to l.port (is_open l.numbers) q

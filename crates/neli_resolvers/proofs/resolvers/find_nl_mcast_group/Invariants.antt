@@ -4,8 +4,8 @@ use Rattle.neli_resolvers.specs.Resolvers.{match_in, match_takes_memory}
 use Rattle.neli_resolvers.proofs.Lists.{last_from}
 use Rattle.neli_resolvers.proofs.resolvers.find_nl_mcast_group.Given as goal
 
--- the last of all messages is the last of the items from here on, or else what is found so far; and where finding that
--- takes memory, finding the last of all does
+-- the last of all messages is the last of the items from here on, or else the result so far; and if finding that takes
+-- memory, finding the last of all does
 abbrev pub invariant-loop-item : goal.invariant-loop-item
 invariant-loop-item l = record {
   last : last_from (match_in l.group) l.found (messages (drop l.item-index l.items))

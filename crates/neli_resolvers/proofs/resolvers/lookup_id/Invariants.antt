@@ -5,7 +5,7 @@ use Rattle.neli_resolvers.specs.Resolvers.{names_take_memory, names_told}
 use Rattle.neli_resolvers.proofs.Lists.{last_from}
 use Rattle.neli_resolvers.proofs.resolvers.lookup_id.Given as goal
 
--- the last of all is the last of the rest, or else what is found so far
+-- the last of all is the last of the rest, or else the result so far
 abbrev pub invariant-loop-item : goal.invariant-loop-item
 invariant-loop-item l = record {
   can_next : (goal.iterator-loop-item).can_next l.item-iterator;

@@ -4,7 +4,7 @@ use Rattle.neli_router.specs.GivenUp.{Finishes}
 use Rattle.neli_router.proofs.Settling.{waiting_count}
 use Rattle.neli_router.proofs.given_up.finishes.Given as goal
 
--- what is left of the list, and what was read of it
+-- the rest of the list, and the messages read from it
 abbrev pub invariant-loop-item : goal.invariant-loop-item
 invariant-loop-item g l = record {
   port : g.D.Deliveries.port_of l.deliveries ≡ g.D.Deliveries.port_of l.initial.deliveries;

@@ -4,7 +4,7 @@ use Rattle.neli_runs.specs.laws.Kept.{Holds, StepIsRight}
 use Rattle.neli_runs.proofs.Runs.{past}
 use Rattle.neli_runs.proofs.whole_run.run.Given as goal
 
--- of each command so far an outcome was said, and the session keeps the history so far
+-- each command so far has its right outcome, and the session keeps the history so far
 abbrev pub invariant-loop-command : goal.invariant-loop-command
 invariant-loop-command g l = record {
   port : g.D.Deliveries.port_of l.session.router.deliveries ≡ l.fn.pid;

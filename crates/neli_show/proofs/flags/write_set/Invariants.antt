@@ -5,7 +5,7 @@ use Rattle.neli_show.specs.Written.{Extends, FirstElements}
 use Rattle.neli_show.specs.declared.flags.FlagForm.TheVariants as flag_form
 use Rattle.neli_show.proofs.flags.write_set.Given as goal
 
--- the flags passed are written, if their bits were left, and these are left no more
+-- the flags so far are written, if their bits remained, and these are removed
 abbrev pub invariant-loop-flag : goal.invariant-loop-flag
 invariant-loop-flag g l = record {
   written :

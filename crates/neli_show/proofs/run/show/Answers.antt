@@ -4,7 +4,7 @@ use Rattle.neli_show.specs.Runs.{EndsAfter}
 use Rattle.neli_show.specs.Lines.{WritesInput}
 use Rattle.neli_show.proofs.run.show.Goals as goal
 
--- what holds of the bytes that were read holds of those that there were to read
+-- a fact about the bytes that were read holds of those in the input
 of_the_input : (there : Option (List ℕ)) (start read : List ℕ) (P : List ℕ → Type 0) → start ≡ []
     → IfSome there (λ bytes. read ≡ start ++ bytes) → P read → IfSome there P
 of_the_input None start read P none all is = tt

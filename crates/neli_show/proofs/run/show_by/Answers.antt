@@ -4,7 +4,7 @@ use Rattle.neli_show.specs.Runs.{printed_status, shown_status}
 use Rattle.neli_show.specs.declared.run.Status.TheVariants as status
 use Rattle.neli_show.proofs.run.show_by.Goals as goal
 
--- where the output did not fail, a run ends as what it printed is
+-- if the output did not fail, a run ends according to its output
 printed : (shown : Result Bool Error) (is_whole : Bool) → IfOk shown (λ w. w ≡ is_whole)
     → shown_status shown ≢ status.NoOutput → shown_status shown ≡ printed_status is_whole
 printed (Ok w) is_whole is output = ap printed_status is

@@ -4,7 +4,7 @@ use Rattle.neli_show.specs.Lines.{input_lines, is_whole_input}
 use Rattle.neli_show.specs.Written.{Writes}
 use Rattle.neli_show.proofs.run.show_input.Given as goal
 
--- the lines of the parts passed are written, and it is known whether these parts are messages
+-- the lines of the parts so far are written, with whether these parts are messages
 abbrev pub invariant-loop-part : goal.invariant-loop-part
 invariant-loop-part g l =
     let passed = take l.part-index l.part-items in

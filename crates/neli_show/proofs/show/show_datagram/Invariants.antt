@@ -8,11 +8,11 @@ use Rattle.neli_show.specs.Lines.{datagram_lines}
 use Rattle.neli_show.specs.Written.{Writes}
 use Rattle.neli_show.proofs.show.show_datagram.Given as goal
 
--- no item that is left is a fault
+-- no remaining item is a fault
 abbrev pub are_messages : List ℕ → Bool
 are_messages bytes = list_all is_ok (items_of (messages_in (λ n. n) bytes))
 
--- each message passed is a line, and the others, and the fault, are still to come
+-- each message so far is a line, and the others, and the fault, are still to come
 abbrev pub invariant-loop-message : goal.invariant-loop-message
 invariant-loop-message g l =
     (n : ℕ) × (n + length (items_of (messages_in (λ n. n) l.message-iterator)) ≡ datagram_lines l.fn.bytes)

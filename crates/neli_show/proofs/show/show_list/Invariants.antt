@@ -3,7 +3,7 @@ use Rattle.neli_show.specs.Json.{AreMembers}
 use Rattle.neli_show.specs.Written.{Extends}
 use Rattle.neli_show.proofs.show.show_list.Given as goal
 
--- the items passed are written
+-- the items so far are written
 abbrev pub invariant-loop-item : goal.invariant-loop-item
 invariant-loop-item g l =
     g.F.Form.is_json ≡ true

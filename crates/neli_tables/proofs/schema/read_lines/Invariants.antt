@@ -5,7 +5,7 @@ use Rattle.neli_tables.specs.Schemas.{before, lines_from}
 use Rattle.neli_tables.specs.Text.{worded_seen}
 use Rattle.neli_tables.proofs.schema.read_lines.Given as goal
 
--- the lines passed stand before those to come
+-- the lines so far stand before those to come
 abbrev pub invariant-loop-line : goal.invariant-loop-line
 invariant-loop-line l =
     lines_from (finds l.names) None (map worded_seen l.worded)

@@ -3,7 +3,7 @@ use Rattle.neli_tables.specs.Names.{finds}
 use Rattle.neli_tables.specs.Settings.{settings_from, settings_in, settings_seen}
 use Rattle.neli_tables.proofs.setting.settings_of.Given as goal
 
--- the options passed stand before those to come
+-- the options so far stand before those to come
 abbrev pub invariant-loop-word : goal.invariant-loop-word
 invariant-loop-word l =
     let words = map (λ word. word.now) l.words in

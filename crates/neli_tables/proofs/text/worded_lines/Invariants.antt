@@ -2,7 +2,7 @@ use Rattle.std.proofs.Common.{◌≡◌, ◌+◌, ◌++◌, drop, map}
 use Rattle.neli_tables.specs.Text.{worded_from, worded_seen}
 use Rattle.neli_tables.proofs.text.worded_lines.Given as goal
 
--- the lines passed stand before those to come
+-- the lines so far stand before those to come
 abbrev pub invariant-loop-index : goal.invariant-loop-index
 invariant-loop-index l =
     let lines = map (λ line. line.now) l.line-items in

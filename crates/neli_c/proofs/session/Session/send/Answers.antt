@@ -44,7 +44,7 @@ pub returns-in-Err-clause-sent : goal.returns-in-Err-clause-sent
 returns-in-Err-clause-sent c = λ e. absurd (c.of_error.ensures.refused
     (sym (to_z-of_z w32 c.of_error.result (record { sfits = c.of_error.type_inv })) ∙ e))
 
--- the frame has the bytes for which there was found to be room
+-- the frame has the bytes for which the room was found
 pub returns-in-Ok-send-clause-refused : goal.returns-in-Ok-send-clause-refused
 returns-in-Ok-send-clause-refused c = λ ne.
     let code = to_z-of_z w32 c.copy.result (record { sfits = c.copy.type_inv }) in

@@ -3,7 +3,7 @@ use Rattle.neli_log.specs.Log.{IsTrimmedAndBacked, KeepsNoMore, pending_of}
 use Rattle.neli_log.proofs.Stores.{waiting_count}
 use Rattle.neli_log.proofs.store.Store.clear.Given as goal
 
--- a list is open still, and no other has changed
+-- a list is still open, and no other has changed
 abbrev pub invariant-loop-whose : goal.invariant-loop-whose
 invariant-loop-whose l = record {
   port : l.self.port ≡ l.initial.self.port;
@@ -13,6 +13,6 @@ invariant-loop-whose l = record {
   log : IsTrimmedAndBacked l.self;
 }
 
--- how many deliveries wait
+-- the number of deliveries that wait
 abbrev pub decreases-loop-whose : goal.decreases-loop-whose
 decreases-loop-whose l = waiting_count (pending_of l.self l.whose)

@@ -5,7 +5,7 @@ use Rattle.neli_schema_walk.proofs.levels.Levels.take_item.Given as goal
 abbrev pub decreases-loop-level : goal.decreases-loop-level
 decreases-loop-level l = length l.self.open.items
 
--- nothing was left of the lists that were taken out
+-- the lists that were removed were at their end
 abbrev pub invariant-loop-level : goal.invariant-loop-level
 invariant-loop-level l =
     (l.self.context ≡ l.fn.self.context)

@@ -5,7 +5,7 @@ use Rattle.std.specs.Str.Iter.{chars_rest}
 use Rattle.neli_show.specs.Quoted.{escaped}
 use Rattle.neli_show.proofs.quoted.EscapedDisplay.fmt.Given as goal
 
--- the rest is text, and what is written so far and what is written of the rest is what is written of all
+-- the rest is text, and the output so far with the output of the rest is that of all
 abbrev pub invariant-loop-c : goal.invariant-loop-c
 invariant-loop-c g l =
     IsUtf8 (chars_rest l.c-iterator) × (IsPlainFormatter l.initial.f

@@ -3,7 +3,7 @@ use Rattle.std.specs.Fmt.{HasWritten, IsPlainFormatter}
 use Rattle.neli_show.specs.Values.{later_hex_text}
 use Rattle.neli_show.proofs.value.LaterHexDisplay.fmt.Given as goal
 
--- the digits of the bytes passed are written
+-- the digits of the bytes so far are written
 abbrev pub invariant-loop-byte : goal.invariant-loop-byte
 invariant-loop-byte g l =
     IsPlainFormatter l.initial.f
