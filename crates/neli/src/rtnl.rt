@@ -19,9 +19,10 @@ pub use neli_rtnl::{
 pub mod laws {
     pub use neli_payloads::laws::{
         addresses_and_counters_are_their_bytes, cache_entries_are_their_fields,
-        equality as equality_of_payloads, hardware_text_is_read_back, ifa_cacheinfo_is_read_back,
-        rta_cacheinfo_is_read_back, virtual_functions_are_read_back,
-        virtual_functions_are_their_fields, walk_gives_what_is_left,
+        equality as equality_of_payloads, hardware_address_is_its_text, hardware_text_is_read_back,
+        headers_are_plain_by_their_fields, ifa_cacheinfo_is_read_back, rta_cacheinfo_is_read_back,
+        virtual_functions_are_read_back, virtual_functions_are_their_fields,
+        walk_gives_what_is_left,
     };
     pub use neli_rtnl::laws::{
         attributes_begin_after_the_fields, bodies_are_read, bodies_are_written, equality_of_links,

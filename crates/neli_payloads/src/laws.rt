@@ -2,10 +2,11 @@
 //! state about themselves. The functions do nothing: their contracts are the laws.
 
 ghost use Rattle.std.specs.Iterator.{YieldsFirstBy};
-ghost use Rattle.std.specs.Prelude.{◌≡◌, ◌+◌, ◌≤◌, List, Ok, ℕ, Some, length};
+ghost use Rattle.std.specs.Prelude.{◌≡◌, ◌+◌, ◌≤◌, List, Ok, ℕ, Some, codes, length};
+ghost use Rattle.std.specs.Result.{result_ok};
 ghost use Rattle.neli_wire.specs.Constants.{IsEquality};
 ghost use Rattle.neli_wire.specs.Numbers.{AreBytes};
-ghost use Rattle.neli_wire.specs.laws.Values.{AreReadAs, AreSame, AreWrittenAs, OnlyWhere};
+ghost use Rattle.neli_wire.specs.laws.Values.{AreReadAs, AreSame, AreWrittenAs, GivesOnly, OnlyWhere};
 ghost use Rattle.neli_lent.specs.Walks.{items_of, map_ok};
 ghost use Rattle.neli_lent.specs.laws.Walks.{StepsOnly};
 ghost use Rattle.neli_payloads.specs.declared.ifa_cacheinfo.IfaCacheinfo.{IfaCacheinfo};
@@ -29,7 +30,10 @@ ghost use Rattle.neli_payloads.specs.VfSetting.{IsPlainVfSetting, vf_setting_byt
 ghost use Rattle.neli_payloads.specs.VfVlan.{IsPlainVfVlan, vf_vlan_bytes, vf_vlan_header};
 ghost use Rattle.neli_payloads.specs.VfVlanInfo.{IsPlainVfVlanInfo, vf_vlan_info_bytes, vf_vlan_info_header};
 
+use neli_body::FixedHeader;
 use neli_wire::{FromBytes, FromBytesWithInput, Size, ToBytes};
+use std::fmt;
+use std::str::FromStr;
 
 /// The printed text of a hardware address is read as that address.
 pub fn hardware_text_is_read_back()
@@ -167,4 +171,28 @@ pub fn addresses_and_counters_are_their_bytes()
 pub fn walk_gives_what_is_left()
     ensures { StepsOnly ⟦<crate::NextHops<'static> as Iterator>⟧.next_gives
         (YieldsFirstBy (map_ok next_hop_view) (λ place. items_of (next_hops_at place))) }
+{}
+
+/// A header of fixed size is plain wherever each of its fields has a number of its size, so the laws on what is written
+/// and read back speak of all such headers.
+pub fn headers_are_plain_by_their_fields()
+    ensures ifa_cacheinfo { OnlyWhere IsPlainIfaCacheinfo ⟦<crate::IfaCacheinfo as FixedHeader>⟧.IsPlain }
+    ensures rta_cacheinfo { OnlyWhere IsPlainRtaCacheinfo ⟦<crate::RtaCacheinfo as FixedHeader>⟧.IsPlain }
+    ensures vf_setting { OnlyWhere IsPlainVfSetting ⟦<crate::VfSetting as FixedHeader>⟧.IsPlain }
+    ensures vf_rate { OnlyWhere IsPlainVfRate ⟦<crate::VfRate as FixedHeader>⟧.IsPlain }
+    ensures vf_vlan { OnlyWhere IsPlainVfVlan ⟦<crate::VfVlan as FixedHeader>⟧.IsPlain }
+    ensures vf_vlan_info { OnlyWhere IsPlainVfVlanInfo ⟦<crate::VfVlanInfo as FixedHeader>⟧.IsPlain }
+    ensures vf_guid { OnlyWhere IsPlainVfGuid ⟦<crate::VfGuid as FixedHeader>⟧.IsPlain }
+{}
+
+/// A hardware address prints as its text, by `Debug` too, and is parsed from the texts that spell one.
+pub fn hardware_address_is_its_text()
+    ensures printed { AreSame ⟦<crate::HardwareAddress as fmt::Display>⟧.output
+        (λ bytes. Some (hardware_text bytes)) }
+    ensures shown { AreSame ⟦<crate::HardwareAddress as fmt::Debug>⟧.debug_output
+        (λ bytes. Some (hardware_text bytes)) }
+    ensures parsed { GivesOnly ⟦<crate::HardwareAddress as FromStr>⟧.from_str_gives
+        (λ text r. result_ok r ≡ hardware_parsed text) }
+    ensures refused { AreSame ⟦<crate::HardwareAddressError as fmt::Display>⟧.output
+        (λ _. Some (codes "no hardware address")) }
 {}

@@ -2,7 +2,8 @@
 
 use neli::attr::laws::{
     built_generic_attribute_reads_back, built_routing_attribute_reads_back, equality,
-    list_is_its_frames, nested_attribute_comes_last,
+    errors_of_builders_say_why, errors_of_reading_say_why, errors_of_writing_say_why,
+    list_is_its_frames, messages_print_their_texts, nested_attribute_comes_last,
 };
 use neli::consts::genl::CtrlAttr;
 use neli::consts::rtnl::{Ifla, Rta};
@@ -17,4 +18,8 @@ fn laws_are_called() {
     built_routing_attribute_reads_back::<Rta, Buffer>();
     nested_attribute_comes_last::<Ifla, Ifla, Buffer>();
     equality::<CtrlAttr, Buffer>();
+    errors_of_builders_say_why::<0, Buffer>();
+    errors_of_writing_say_why::<Buffer>();
+    errors_of_reading_say_why::<Buffer>();
+    messages_print_their_texts();
 }

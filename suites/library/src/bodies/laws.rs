@@ -15,10 +15,11 @@ use neli::rtnl::NdaCacheinfo;
 use neli::rtnl::laws::{
     addresses_and_counters_are_their_bytes, attributes_begin_after_the_fields, bodies_are_read,
     bodies_are_written, cache_entries_are_their_fields, equality_of_links, equality_of_routes,
-    fibmsg_is_read_back, ifaddrmsg_is_read_back, ifinfomsg_is_read_back,
-    ifla_vlan_flags_is_read_back, ifla_vlan_qos_mapping_is_read_back, nda_cacheinfo_is_read_back,
-    ndmsg_is_read_back, payloads_are_their_fields, rtgenmsg_is_read_back, rtmsg_is_read_back,
-    tcmsg_is_read_back, virtual_functions_are_their_fields, walk_gives_what_is_left,
+    fibmsg_is_read_back, hardware_address_is_its_text, headers_are_plain_by_their_fields,
+    ifaddrmsg_is_read_back, ifinfomsg_is_read_back, ifla_vlan_flags_is_read_back,
+    ifla_vlan_qos_mapping_is_read_back, nda_cacheinfo_is_read_back, ndmsg_is_read_back,
+    payloads_are_their_fields, rtgenmsg_is_read_back, rtmsg_is_read_back, tcmsg_is_read_back,
+    virtual_functions_are_their_fields, walk_gives_what_is_left,
 };
 use neli::types::Buffer;
 
@@ -50,6 +51,8 @@ fn laws_are_called() {
     cache_entries_are_their_fields();
     virtual_functions_are_their_fields();
     addresses_and_counters_are_their_bytes();
+    hardware_address_is_its_text();
+    headers_are_plain_by_their_fields();
     walk_gives_what_is_left();
     genlmsghdr_is_its_fields::<CtrlCmd, CtrlAttr, NoUserHeader>();
     no_user_header_has_no_bytes();

@@ -12,8 +12,9 @@ use neli::nl::laws::{
     typed_reading_agrees,
 };
 use neli::nl::laws_of_messages::{
-    answer_is_its_parts, answers_are_read, copies_of_what_takes_none, header_is_its_bytes,
-    message_is_its_frame,
+    answer_is_its_parts, answers_are_read, answers_print_their_codes, builders_begin_with_no_field,
+    copies_of_what_takes_none, errors_of_links_say_why, errors_of_routers_say_why,
+    header_is_its_bytes, message_is_its_frame,
 };
 use neli::types::Buffer;
 
@@ -36,4 +37,8 @@ fn laws_are_called() {
     answer_is_its_parts::<()>();
     answers_are_read::<u16, Buffer>();
     copies_of_what_takes_none::<u16, Buffer>();
+    builders_begin_with_no_field::<u16, Buffer>();
+    answers_print_their_codes::<()>();
+    errors_of_links_say_why::<0, Buffer>();
+    errors_of_routers_say_why::<u16, Buffer, 0, Buffer>();
 }
