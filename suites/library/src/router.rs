@@ -11,7 +11,8 @@
 //! - [`strays`]: in all combinations what comes before and after a close, and numbers that are used again.
 //! - [`handles`]: handles that another router made. [`many`]: thousands of requests, and of deliveries to one handle.
 //! - [`requests`]: requests to the controller of generic netlink, and what comes of its answers.
-//! - [`refused_bodies`]: bodies that are refused as the types that a caller reads them as.
+//! - [`refused_bodies`]: bodies that are refused as the types that a caller reads them as. [`unwritten`]: bodies that
+//!   refuse to be written.
 //! - [`resolvers`]: what the resolvers find in lists of answers, as [`controller`] looks it up.
 //! - [`conversations`]: conversations with a kernel, as they were recorded.
 //! - [`random`]: scripts that a generator makes, over both stores. [`entries`]: what the log keeps.
@@ -39,4 +40,5 @@ mod script;
 mod steps;
 mod strays;
 mod support;
+mod unwritten;
 mod verdicts;
