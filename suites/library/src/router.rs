@@ -11,7 +11,8 @@
 //! - [`strays`]: all combinations of messages before and after a close, and numbers that are used again.
 //! - [`handles`]: handles of another router. [`many`]: thousands of requests, and of deliveries to one handle.
 //! - [`requests`]: requests to the controller of generic netlink, and its answers.
-//! - [`refused_bodies`]: bodies that are refused as the types that a caller reads them as.
+//! - [`refused_bodies`]: bodies that are refused as the types that a caller reads them as. [`unwritten`]: bodies that
+//!   refuse to be written.
 //! - [`resolvers`]: the resolvers' results for lists of answers, as [`controller`] looks them up.
 //! - [`conversations`]: conversations with a kernel, as they were recorded.
 //! - [`random`]: scripts that a generator makes, over both stores. [`entries`]: what the log keeps.
@@ -39,4 +40,5 @@ mod script;
 mod steps;
 mod strays;
 mod support;
+mod unwritten;
 mod verdicts;
