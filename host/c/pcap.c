@@ -7,6 +7,7 @@
 
 /* Times are in microseconds. The longest frame is what Wireshark reads, and the link type LINKTYPE_NETLINK. */
 #define MAGIC 0xa1b2c3d4u
+#define MAGIC_OF_NANOSECONDS 0xa1b23c4du
 #define LONGEST 262144u
 #define LINK_TYPE 253u
 
@@ -35,17 +36,62 @@ bool pcap_begin(FILE *file) {
 bool pcap_put(FILE *file, const struct pcap_frame *frame) {
     struct timespec now;
     clock_gettime(CLOCK_REALTIME, &now);
-    uint32_t length = (uint32_t)(sizeof(struct cooked_header) + frame->length), group = htonl(frame->group);
+    uint32_t length = (uint32_t)(sizeof(struct cooked_header) + frame->length);
+    uint32_t address = htonl(frame->way == PCAP_GROUP ? frame->group : frame->way == PCAP_SENT ? frame->port : 0);
     struct frame_header header = {(uint32_t)now.tv_sec, (uint32_t)(now.tv_nsec / 1000), length, length};
     struct cooked_header cooked = {
         .way = htons((uint16_t)frame->way),
         .hardware = htons(ARPHRD_NETLINK),
         .protocol = htons(frame->protocol),
     };
-    if (frame->way == PCAP_GROUP) {
-        cooked.address_length = htons(sizeof group);
-        memcpy(cooked.address, &group, sizeof group);
+    if (address != 0) {
+        cooked.address_length = htons(sizeof address);
+        memcpy(cooked.address, &address, sizeof address);
     }
     return fwrite(&header, sizeof header, 1, file) == 1 && fwrite(&cooked, sizeof cooked, 1, file) == 1 &&
            (frame->length == 0 || fwrite(frame->bytes, frame->length, 1, file) == 1) && fflush(file) == 0;
+}
+
+static uint32_t number(const struct pcap_file *file, uint32_t read) {
+    return file->is_turned ? __builtin_bswap32(read) : read;
+}
+
+const char *pcap_open(struct pcap_file *file) {
+    struct file_header header;
+    if (file->size < sizeof header) return "it is no pcap file";
+    memcpy(&header, file->bytes, sizeof header);
+    file->is_turned = header.magic == __builtin_bswap32(MAGIC) || header.magic == __builtin_bswap32(MAGIC_OF_NANOSECONDS);
+    uint32_t magic = number(file, header.magic);
+    if (magic != MAGIC && magic != MAGIC_OF_NANOSECONDS) return "it is no pcap file";
+    if (number(file, header.link_type) != LINK_TYPE) return "its link type is not netlink's";
+    file->place = sizeof header;
+    return NULL;
+}
+
+const char *pcap_next(struct pcap_file *file, struct pcap_frame *frame) {
+    struct frame_header header;
+    struct cooked_header cooked;
+    size_t left = file->size - file->place;
+    *frame = (struct pcap_frame){0};
+    if (left == 0) return NULL;
+    if (left < sizeof header) return "it ends inside a frame";
+    memcpy(&header, file->bytes + file->place, sizeof header);
+    size_t kept = number(file, header.kept);
+    if (left - sizeof header < kept) return "it ends inside a frame";
+    if (kept < number(file, header.length)) return "a frame was cut when it was recorded";
+    if (kept < sizeof cooked) return "a frame is not of netlink";
+    const uint8_t *at = file->bytes + file->place + sizeof header;
+    memcpy(&cooked, at, sizeof cooked);
+    if (ntohs(cooked.hardware) != ARPHRD_NETLINK) return "a frame is not of netlink";
+    uint16_t way = ntohs(cooked.way);
+    frame->way = way == PCAP_RECEIVED || way == PCAP_GROUP ? (enum pcap_way)way : PCAP_SENT;
+    uint32_t address = 0;
+    if (ntohs(cooked.address_length) == sizeof address) memcpy(&address, cooked.address, sizeof address);
+    if (frame->way == PCAP_GROUP) frame->group = ntohl(address);
+    if (frame->way == PCAP_SENT) frame->port = ntohl(address);
+    frame->protocol = ntohs(cooked.protocol);
+    frame->bytes = at + sizeof cooked;
+    frame->length = kept - sizeof cooked;
+    file->place += sizeof header + kept;
+    return NULL;
 }

@@ -17,7 +17,8 @@ enum pcap_way {
 /* A datagram that passed over a socket of this protocol, NETLINK_ROUTE or another. */
 struct pcap_frame {
     enum pcap_way way;
-    uint32_t group; /* of PCAP_GROUP: its number */
+    uint32_t group; /* of PCAP_GROUP: its number; 0 where the file does not state it */
+    uint32_t port;  /* of PCAP_SENT: that of the socket, or 0 likewise */
     uint16_t protocol;
     const uint8_t *bytes;
     size_t length;
@@ -26,7 +27,21 @@ struct pcap_frame {
 /* Writes the header of a file. */
 bool pcap_begin(FILE *file);
 
-/* Writes a frame that passed now, at once. A group's number stands in it as an address of four bytes. */
+/* Writes a frame that passed now, at once. The group or the port stands in it as an address of four bytes. */
 bool pcap_put(FILE *file, const struct pcap_frame *frame);
+
+/* A file that is in memory, and the place of its next frame. */
+struct pcap_file {
+    const uint8_t *bytes;
+    size_t size, place;
+    bool is_turned; /* whether its numbers are in the other byte order */
+};
+
+/* Reads the header of a file: why it is none of netlink's, or NULL. */
+const char *pcap_open(struct pcap_file *file);
+
+/* Reads the next frame: why it can't be read, or NULL. At the end its bytes are NULL. What `nlmon` recorded is
+ * PCAP_SENT, whichever way it went. */
+const char *pcap_next(struct pcap_file *file, struct pcap_frame *frame);
 
 #endif

@@ -1,8 +1,12 @@
 /* `record [-c COUNT] [-p PROTOCOL] [-m GROUP[,GROUP]..] FILE` writes what comes to these multicast groups into a pcap
  * file with netlink's link type, for `neli_show`, tshark and Wireshark: COUNT datagrams, or until SIGINT or SIGTERM.
  * The protocol is route, generic, or a number of linux/netlink.h; the groups of route are those of links, IPv4
- * addresses and IPv4 routes where none are named. Where some were lost it says so, goes on, and ends with status 4. */
+ * addresses and IPv4 routes where none are named. Where some were lost it says so, goes on, and ends with status 4.
+ *
+ * `record FILE COMMAND [WORD]..` runs a command and writes what passes over its netlink sockets, for `replay`. The
+ * status is that of the command. */
 #define _GNU_SOURCE
+#include "command.h"
 #include "groups.h"
 #include "pcap.h"
 #include "request.h"
@@ -13,7 +17,8 @@
 #include <string.h>
 #include <unistd.h>
 
-static const char usage[] = "usage: record [-c COUNT] [-p PROTOCOL] [-m GROUP[,GROUP]..] FILE\n";
+static const char usage[] = "usage: record [-c COUNT] [-p PROTOCOL] [-m GROUP[,GROUP]..] FILE\n"
+                            "       record FILE COMMAND [WORD]..\n";
 static struct neli_host *host;
 
 static void stop(int number) {
@@ -52,18 +57,24 @@ int main(int argc, char **argv) {
     struct groups groups = {.protocol = NETLINK_ROUTE};
     unsigned long count = -1ul;
     bool is_right = true;
-    for (int option; is_right && (option = getopt(argc, argv, "c:p:m:")) != -1;) {
+    for (int option; is_right && (option = getopt(argc, argv, "+c:p:m:")) != -1;) {
         if (option == 'c') is_right = is_number(optarg, &count);
         else if (option == 'p') is_right = is_protocol(optarg, &groups.protocol);
         else is_right = option == 'm' && are_groups(optarg, &groups);
     }
-    if (!is_right || optind + 1 != argc || !have_groups(&groups)) {
+    bool is_command = optind == 1 && argc > 2;
+    if (!is_right || (!is_command && optind + 1 != argc) || !have_groups(&groups)) {
         fputs(usage, stderr);
         return STATUS_NOT_BEGUN;
     }
     FILE *file = strcmp(argv[optind], "-") == 0 ? stdout : fopen(argv[optind], "wb");
     if (file == NULL || !pcap_begin(file)) {
         fprintf(stderr, "record: %s\n", strerror(errno));
+        return STATUS_NOT_BEGUN;
+    }
+    if (is_command) {
+        fclose(file);
+        run_preloaded("record", "NELI_RECORD", argv[1], argv + 2);
         return STATUS_NOT_BEGUN;
     }
     open_or_fail(&host, groups.protocol, groups.at, groups.count);

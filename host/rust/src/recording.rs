@@ -44,8 +44,8 @@ pub struct Frame {
 /// Where a datagram went.
 #[derive(Clone, Copy, Debug, PartialEq, Eq)]
 pub enum Way {
-    /// To the kernel.
-    Sent,
+    /// To the kernel, from this port; 0 where the file does not state it.
+    Sent(u32),
     /// From the kernel to the port.
     Received,
     /// From the kernel to a multicast group; 0 where the file does not state which.
@@ -81,7 +81,7 @@ impl Recording {
     /// With a request after what it has.
     #[must_use]
     pub fn sent(self, datagram: impl Into<Vec<u8>>) -> Self {
-        self.with(Way::Sent, datagram.into())
+        self.with(Way::Sent(0), datagram.into())
     }
 
     /// With an answer after what it has.

@@ -180,7 +180,7 @@ fn a_recorder_keeps_what_a_recording_plays() -> Outcome {
     assert_eq!(addresses(&router)?.0, listed());
     let recording = recorder.recording();
     let ways: Vec<Way> = recording.frames().iter().map(|it| it.way).collect();
-    assert_eq!(ways, [Way::Sent, Way::Received, Way::Received]);
+    assert_eq!(ways, [Way::Sent(router.pid()), Way::Received, Way::Received]);
     let mut file = Vec::new();
     recording.write_pcap(&mut file)?;
     let read = routing(&file)?;

@@ -8,7 +8,7 @@
 //! ```
 //!
 //! The cooked header has its high bytes first. What came to a multicast group has the type 2, and the group's number
-//! as an address of 4 bytes.
+//! as an address of 4 bytes; what was sent has its port so.
 
 use super::{Frame, Recording, Way};
 use crate::consts::nl::NlmF;
@@ -119,11 +119,12 @@ fn first_message(datagram: &[u8]) -> ffi::Message {
 /// answer where a request had its number.
 fn way_of(cooked: &[u8; COOKED], datagram: &[u8], asked: &HashSet<u32>) -> Way {
     let first = first_message(datagram);
-    match (cooked_number(cooked, 0), cooked_number(cooked, 4)) {
-        (TO_US, _) => Way::Received,
-        (MULTICAST, 4) => Way::Group(u32::from_be_bytes([cooked[6], cooked[7], cooked[8], cooked[9]])),
-        (MULTICAST, _) => Way::Group(0),
-        _ if first.flags & NlmF::REQUEST.bits() != 0 => Way::Sent,
+    let has_address = cooked_number(cooked, 4) == 4;
+    let address = if has_address { u32::from_be_bytes([cooked[6], cooked[7], cooked[8], cooked[9]]) } else { 0 };
+    match cooked_number(cooked, 0) {
+        TO_US => Way::Received,
+        MULTICAST => Way::Group(address),
+        _ if first.flags & NlmF::REQUEST.bits() != 0 => Way::Sent(address),
         _ if asked.contains(&first.number) => Way::Received,
         _ => Way::Group(0),
     }
@@ -157,7 +158,7 @@ impl Recording {
                 continue;
             }
             let way = way_of(cooked, datagram, &asked);
-            if way == Way::Sent {
+            if matches!(way, Way::Sent(_)) {
                 asked.insert(first_message(datagram).number);
             }
             recording.extend([Frame { time, way, bytes: datagram.to_vec() }]);
@@ -172,8 +173,8 @@ impl Recording {
         out.write_all(&LONGEST.to_le_bytes())?;
         out.write_all(&LINK_TYPE.to_le_bytes())?;
         for frame in self {
-            let (kind, group) = match frame.way {
-                Way::Sent => (BY_US, 0),
+            let (kind, address) = match frame.way {
+                Way::Sent(port) => (BY_US, port),
                 Way::Received => (TO_US, 0),
                 Way::Group(group) => (MULTICAST, group),
                 Way::Fault(_) => continue,
@@ -183,20 +184,20 @@ impl Recording {
             for number in [seconds, frame.time.subsec_micros(), length, length] {
                 out.write_all(&number.to_le_bytes())?;
             }
-            out.write_all(&cooked(kind, group, self.family))?;
+            out.write_all(&cooked(kind, address, self.family))?;
             out.write_all(&frame.bytes)?;
         }
         Ok(())
     }
 }
 
-fn cooked(kind: u16, group: u32, family: NlFamily) -> [u8; COOKED] {
+fn cooked(kind: u16, address: u32, family: NlFamily) -> [u8; COOKED] {
     let mut header = [0; COOKED];
     header[..2].copy_from_slice(&kind.to_be_bytes());
     header[2..4].copy_from_slice(&NETLINK.to_be_bytes());
-    if group != 0 {
+    if address != 0 {
         header[5] = 4;
-        header[6..10].copy_from_slice(&group.to_be_bytes());
+        header[6..10].copy_from_slice(&address.to_be_bytes());
     }
     header[14..].copy_from_slice(&(i32::from(family) as u16).to_be_bytes());
     header

@@ -50,6 +50,10 @@ fn messages(datagram: &[u8]) -> impl Iterator<Item = (usize, ffi::Message)> {
     })
 }
 
+fn is_request(frame: &Frame) -> bool {
+    matches!(frame.way, Way::Sent(_))
+}
+
 /// Where two requests differ but for their numbers and ports: the first such byte.
 fn difference(one: &[u8], other: &[u8]) -> Option<usize> {
     let mut is_free = vec![false; one.len()];
@@ -69,13 +73,13 @@ impl Play {
 
     /// The requests that were not sent, by their indices.
     fn unsent<'f>(&self, frames: &'f [Frame]) -> impl Iterator<Item = (usize, &'f Frame)> {
-        let is_left = |(at, it): &(usize, &Frame)| it.way == Way::Sent && !self.past.contains(at);
+        let is_left = |(at, it): &(usize, &Frame)| is_request(it) && !self.past.contains(at);
         frames.iter().enumerate().filter(is_left)
     }
 
     /// Takes a request.
     fn send(&mut self, frames: &[Frame], datagram: &[u8]) -> Result<(), Unrecorded> {
-        if frames.iter().all(|it| it.way != Way::Sent) {
+        if !frames.iter().any(is_request) {
             self.take_any(frames, datagram);
             return Ok(());
         }
@@ -113,17 +117,18 @@ impl Play {
         if matches!(frames[at].way, Way::Group(_)) && message.port == 0 {
             return None;
         }
-        if frames.iter().all(|it| it.way != Way::Sent) {
+        if !frames.iter().any(is_request) {
             return (frames[at].way == Way::Received).then_some((None, message.number));
         }
         let has_number = |it: &Frame| messages(&it.bytes).any(|(_, request)| request.number == message.number);
-        let before = frames[..at].iter().enumerate().rev().find(|(_, it)| it.way == Way::Sent && has_number(it))?;
+        let is_port = |it: &Frame| matches!(it.way, Way::Sent(port) if port == 0 || port == message.port);
+        let before = frames[..at].iter().enumerate().rev().find(|(_, it)| is_port(it) && has_number(it))?;
         Some((Some(before.0), message.number))
     }
 
     /// Whether what stands before a frame lets it come now.
     fn may_come(&self, frames: &[Frame], at: usize) -> bool {
-        let is_late = |(before, it): (usize, &Frame)| it.way == Way::Sent && !self.past.contains(&before);
+        let is_late = |(before, it): (usize, &Frame)| is_request(it) && !self.past.contains(&before);
         let is_early = || frames[..at].iter().enumerate().any(is_late);
         let mut asked = messages(&frames[at].bytes).filter_map(|(_, it)| Self::asked(frames, at, &it)).peekable();
         match asked.peek() {
@@ -134,7 +139,7 @@ impl Play {
 
     /// The frame that comes next, if one does.
     fn next(&self, frames: &[Frame]) -> Option<usize> {
-        let is_left = |at: &usize| frames[*at].way != Way::Sent && !self.past.contains(at);
+        let is_left = |at: &usize| !is_request(&frames[*at]) && !self.past.contains(at);
         (0..frames.len()).filter(is_left).find(|at| self.may_come(frames, *at))
     }
 
@@ -178,7 +183,7 @@ impl Link for Recording {
             Way::Fault(number) => return Err(io::Error::from_raw_os_error(number).into()),
             Way::Group(0) => SOME_GROUP,
             Way::Group(group) => group,
-            Way::Sent | Way::Received => 0,
+            Way::Sent(_) | Way::Received => 0,
         };
         Ok(Some(Arrived::into_room(room, &play.rewritten(&self.frames, at), group)))
     }

@@ -76,7 +76,7 @@ impl<L: Link> Link for Recorder<L> {
         let mut frames = self.frames();
         let time = now();
         self.link.send(datagram)?;
-        frames.push(Frame { time, way: Way::Sent, bytes: datagram.to_vec() });
+        frames.push(Frame { time, way: Way::Sent(self.port()), bytes: datagram.to_vec() });
         Ok(())
     }
 
