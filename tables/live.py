@@ -4,6 +4,7 @@ import shutil
 import socket
 import struct
 import subprocess
+import time
 
 import walk
 
@@ -11,7 +12,7 @@ NLM_F_REQUEST, NLM_F_ACK, NLM_F_DUMP = 1, 4, 0x300
 NLMSG_ERROR, NLMSG_DONE = 2, 3
 SOL_NETLINK, NETLINK_GET_STRICT_CHK = 270, 12
 CTRL_CMD_GETFAMILY, CTRL_ATTR_FAMILY_ID, CTRL_ATTR_FAMILY_NAME = 3, 1, 2
-SECONDS = 10
+SECONDS, SETTLE = 10, 4
 
 # What is set up: simple links, addresses, neighbours, routes, rules, next hops, queueing, and filters.
 COMMANDS = '''
@@ -76,35 +77,56 @@ nft add rule ip t c ip daddr @s masquerade
 nft add rule ip t c ct state established meta mark set 7 drop
 '''
 
-RTNETLINK, SOCK_DIAG, NETFILTER, GENERIC = 0, 4, 12, 16
-# Dumps: the protocol (or a family of generic netlink), the type or command, and the body of the request.
+GENERIC = 16
+AF_INET, AF_INET6, AF_BRIDGE, AF_UNIX, AF_NETLINK = 2, 10, 7, 1, 16
+IFLA_EXT_MASK, RTEXT_FILTER_VF, RTEXT_FILTER_BRVLAN, NTF_PROXY, IPPROTO_TCP = 29, 1, 2, 8, 6
+HEADER_NEST = 0x8001  # ETHTOOL_A_*_HEADER, nested
+
+
+def link_request(family, mask):
+    return struct.pack('=BBHiIIHHI', family, 0, 0, 0, 0, 0, 8, IFLA_EXT_MASK, mask)
+
+
+def neighbour_request(family, flags=0):
+    return struct.pack('=BBHiHBB', family, 0, 0, 0, 0, flags, 0)
+
+
+# Dumps: a table, the name of the request, and its body.
 DUMPS = [
-    (RTNETLINK, 18, struct.pack('=BBHiII', 0, 0, 0, 0, 0, 0) + struct.pack('=HHI', 8, 29, 1)),
-    (RTNETLINK, 18, struct.pack('=BBHiII', 7, 0, 0, 0, 0, 0) + struct.pack('=HHI', 8, 29, 2)),
-    (RTNETLINK, 22, struct.pack('=BBBBI', 0, 0, 0, 0, 0)),
-    (RTNETLINK, 26, bytes(12)),
-    (RTNETLINK, 30, bytes(12)),
-    (RTNETLINK, 30, struct.pack('=BBHiHBB', 0, 0, 0, 0, 0, 8, 0)),
-    (RTNETLINK, 30, struct.pack('=BBHiHBB', 7, 0, 0, 0, 0, 0, 0)),
-    (RTNETLINK, 34, bytes(12)),
-    (RTNETLINK, 38, bytes(20)),
-    (RTNETLINK, 66, bytes(4)),
-    (RTNETLINK, 74, bytes(12)),
-    (RTNETLINK, 82, struct.pack('=B3x', 2)),
-    (RTNETLINK, 82, struct.pack('=B3x', 10)),
-    (RTNETLINK, 86, struct.pack('=B3xI', 7, 0)),
-    (RTNETLINK, 94, struct.pack('=BBHII', 0, 0, 0, 0, 0x1f)),
-    (RTNETLINK, 106, bytes(8)),
-    (RTNETLINK, 114, struct.pack('=BBHI', 7, 0, 0, 0)),
-    (SOCK_DIAG, 20, struct.pack('=BBBBI', 2, 6, 0xff, 0, 0xffffffff) + bytes(48)),
-    (SOCK_DIAG, 20, struct.pack('=BBHIII8x', 1, 0, 0, 0xffffffff, 0, 0xff)),
-    (SOCK_DIAG, 20, struct.pack('=BBHIII8x', 16, 255, 0, 0, 0xff, 0)),
-    *((NETFILTER, 0xa00 + number, struct.pack('=BBH', 0, 0, 0)) for number in (1, 4, 7, 10, 19, 22)),
-    ('nlctrl', CTRL_CMD_GETFAMILY, b''),
-    ('netdev', 1, b''), ('netdev', 10, b''), ('netdev', 12, b''),
-    ('tcp_metrics', 1, b''), ('mptcp_pm', 3, b''), ('fou', 3, b''), ('l2tp', 8, b''), ('IPVS', 4, b''),
-    *(('ethtool', command, struct.pack('=HH', 4, 0x8001)) for command in (
-        1, 2, 4, 6, 7, 9, 11, 13, 15, 17, 19, 21, 23, 28, 29, 31, 32)),
+    ('rt_link', 'RTM_GETLINK', link_request(0, RTEXT_FILTER_VF)),
+    ('rt_link', 'RTM_GETLINK', link_request(AF_BRIDGE, RTEXT_FILTER_BRVLAN)),
+    ('rt_link', 'RTM_GETSTATS', struct.pack('=BBHII', 0, 0, 0, 0, 0x1f)),
+    ('rt_addr', 'RTM_GETADDR', bytes(8)),
+    ('rt_addr', 'RTM_GETMULTICAST', bytes(8)),
+    ('rt_addr', 'RTM_GETANYCAST', bytes(8)),
+    ('rt_route', 'RTM_GETROUTE', bytes(12)),
+    ('rt_route', 'RTM_GETNEXTHOP', bytes(8)),
+    ('rt_neigh', 'RTM_GETNEIGH', neighbour_request(0)),
+    ('rt_neigh', 'RTM_GETNEIGH', neighbour_request(0, NTF_PROXY)),
+    ('rt_neigh', 'RTM_GETNEIGH', neighbour_request(AF_BRIDGE)),
+    ('rt_neigh', 'RTM_GETNEIGHTBL', bytes(4)),
+    ('rt_rule', 'RTM_GETRULE', bytes(12)),
+    ('rt_addrlabel', 'RTM_GETADDRLABEL', bytes(12)),
+    ('rt_netconf', 'RTM_GETNETCONF', struct.pack('=B3x', AF_INET)),
+    ('rt_netconf', 'RTM_GETNETCONF', struct.pack('=B3x', AF_INET6)),
+    ('rt_bridge', 'RTM_GETMDB', struct.pack('=B3xI', AF_BRIDGE, 0)),
+    ('rt_bridge', 'RTM_GETVLAN', struct.pack('=B3xI', AF_BRIDGE, 0)),
+    ('rt_tunnel', 'RTM_GETTUNNEL', struct.pack('=B3xI', AF_BRIDGE, 0)),
+    ('tc', 'RTM_GETQDISC', bytes(20)),
+    ('sock_diag', 'SOCK_DIAG_BY_FAMILY', struct.pack('=BBBBI48x', AF_INET, IPPROTO_TCP, 0xff, 0, 0xffffffff)),
+    ('sock_diag', 'SOCK_DIAG_BY_FAMILY', struct.pack('=BBHIII8x', AF_UNIX, 0, 0, 0xffffffff, 0, 0xff)),
+    ('sock_diag', 'SOCK_DIAG_BY_FAMILY', struct.pack('=BBHIII8x', AF_NETLINK, 255, 0, 0, 0xff, 0)),
+    *(('nftables', f'NFT_MSG_GET{what}', bytes(4)) for what in ('TABLE', 'CHAIN', 'RULE', 'SET', 'OBJ', 'FLOWTABLE')),
+    ('nlctrl', 'CTRL_CMD_GETFAMILY', b''),
+    *(('netdev', f'NETDEV_CMD_{what}_GET', b'') for what in ('DEV', 'QUEUE', 'NAPI', 'QSTATS', 'PAGE_POOL')),
+    ('tcp_metrics', 'TCP_METRICS_CMD_GET', b''),
+    ('mptcp_pm', 'MPTCP_PM_CMD_GET_ADDR', b''),
+    ('fou', 'FOU_CMD_GET', b''),
+    ('l2tp', 'L2TP_CMD_SESSION_GET', b''),
+    ('ipvs', 'IPVS_CMD_GET_SERVICE', b''),
+    *(('ethtool', f'ETHTOOL_MSG_{what}_GET', struct.pack('=HH', 4, HEADER_NEST)) for what in (
+        'STRSET', 'LINKINFO', 'LINKMODES', 'LINKSTATE', 'DEBUG', 'WOL', 'FEATURES', 'PRIVFLAGS', 'RINGS', 'CHANNELS',
+        'COALESCE', 'PAUSE', 'EEE', 'TSINFO', 'TUNNEL_INFO', 'FEC', 'STATS', 'MODULE', 'RSS', 'MM')),
 ]
 
 Message = collections.namedtuple('Message', 'protocol family number body table line node')
@@ -123,6 +145,8 @@ def set_up():
         ran = subprocess.run(['timeout', str(SECONDS), *words], capture_output=True, text=True)
         if ran.returncode:
             failed.append(f'{command}: {(ran.stderr or ran.stdout).strip().splitlines()[:1]}')
+    # Until then addresses of IPv6 are tentative, and come and go.
+    time.sleep(SETTLE)
     return failed
 
 
@@ -155,32 +179,33 @@ def generic_families():
 
 def dumped(tables, refused):
     """Each message of the dumps, with what its table makes of it."""
-    numbers, messages = generic_families(), []
-    classes = [(RTNETLINK, 42, struct.pack('=B3xiIII', 0, index, 0, 0, 0)) for _, index in sorted(
-        (name, index) for index, name in socket.if_nameindex())]
-    for protocol, kind, body in DUMPS + classes:
-        family = protocol if isinstance(protocol, str) else ''
+    known, numbers, messages = {table.name: table for table in tables}, generic_families(), []
+    classes = [('tc', 'RTM_GETTCLASS', struct.pack('=B3xiIII', 0, index, 0, 0, 0))
+               for index, _ in socket.if_nameindex()]
+    for name, request, body in DUMPS + classes:
+        table = known[name]
+        family = table.family.name if table.protocol == GENERIC else ''
         if family and family not in numbers:
             refused.append(f'family {family}: this kernel has none')
             continue
-        payload = struct.pack('=BBH', kind, 1, 0) + body if family else body
+        number = table.section('message', request).span[0]
+        kind, payload = (numbers[family], struct.pack('=BBH', number, 1, 0) + body) if family else (number, body)
         try:
-            replies = ask(GENERIC if family else protocol, numbers[family] if family else kind, payload)
+            replies = ask(table.protocol, kind, payload)
         except OSError as error:
-            refused.append(f'{protocol} {kind}: {error}')
+            refused.append(f'{name} {request}: {error}')
             continue
-        for number, reply in replies:
-            number, reply = (reply[0], reply[4:]) if family else (number, reply)
-            table, line = line_of(tables, protocol, family, number, reply)
-            node = table and table.walk(line, reply)
-            messages.append(Message(GENERIC if family else protocol, family, number, reply, table, line, node))
+        for kind, reply in replies:
+            number, reply = (reply[0], reply[4:]) if family else (kind, reply)
+            messages.append(message_of(tables, table, family, number, reply))
     return messages
 
 
-def line_of(tables, protocol, family, number, body):
+def message_of(tables, asked, family, number, body):
+    """A reply, read by the table that has its message."""
     for table in tables:
-        is_its = table.family.name == family if family else table.protocol == protocol
+        is_its = table.family.name == family if family else table.protocol == asked.protocol
         line = table.message(number, body, True) if is_its else None
         if line:
-            return table, line
-    return None, None
+            return Message(asked.protocol, family, number, body, table, line, table.walk(line, body))
+    return Message(asked.protocol, family, number, body, None, None, None)

@@ -1,4 +1,4 @@
-"""What other readers make of the same messages, for compare: the kernel's own in Python, pyroute2, and programs' JSON."""
+"""What other readers make of the same messages: the kernel's own in Python, pyroute2, and programs' JSON."""
 import contextlib
 import io
 import json
@@ -120,7 +120,8 @@ class Ynl:
             if name not in space.attrs:
                 continue
             attribute = space.attrs[name]
-            found = [n for n in node.inner if n.line and n.line.word in ('attr', 'each') and n.number == attribute.value]
+            found = [n for n in node.inner
+                     if n.line and n.line.word in ('attr', 'each') and n.number == attribute.value]
             many = value if isinstance(value, list) and len(found) == len(value) and len(found) > 1 else None
             for one, said in zip(found, many) if many else [(found[-1] if found else None, value)]:
                 self.attribute(family, one, said, scopes, attribute, f'{where} {one.name if one else name}', counts)
@@ -242,9 +243,13 @@ class Pyroute2:
 class Program:
     """A program that prints what it read as JSON; a key is that of an attribute whose name ends so."""
 
+    # Keys that change from one moment to the next, or are a program's own word for several values.
+    LEFT_OUT = {'expires', 'refcnt', 'valid_life_time', 'preferred_life_time', 'group', 'state'}
+    # Words of programs for numbers that have no name in a table.
+    NUMBERS = {'inet': 2, 'ip': 2, 'inet6': 10, 'ip6': 10, 'off': 0, 'on': 1}
     # Keys that are called otherwise than the attribute, where a message has no other of this name.
-    OTHER = {'dev': ('oif', 'iif', 'ifindex'), 'metric': ('priority',), 'txqlen': ('txqlen',), 'local': ('local',),
-             'link_type': ('ifi_type',), 'min_mtu': ('min_mtu',), 'broadcast': ('broadcast',)}
+    OTHER = {'dev': ('oif', 'iif', 'ifindex'), 'metric': ('priority',), 'link_type': ('ifi_type',),
+             'mac': ('lladdr',), 'ifname': ('ndm_ifindex',)}
 
     def __init__(self, title, words, tables, names):
         if not shutil.which(words[0]):
@@ -283,10 +288,10 @@ class Program:
         """Each key that one attribute alone can stand for: whether the values are equal, and what they are."""
         found = []
         for key, value in item.items():
-            nodes = self.nodes(key, node)
+            nodes = [] if key in self.LEFT_OUT else self.nodes(key, node)
             if isinstance(value, dict):
-                inner = [n for n in nodes if n.inner] or [node]
-                found += self.pairs(value, inner[0])
+                inner = next((n for n in nodes if n.inner), None)
+                found += self.pairs(value, inner) if inner else []
             elif isinstance(value, (str, int, float)) and len(nodes) == 1 and nodes[0].value is not None:
                 same = self.is_same(nodes[0], value)
                 ours = (nodes[0].value, nodes[0].names)
@@ -308,6 +313,10 @@ class Program:
     def is_same(self, node, value):
         if is_value(node, value):
             return True
+        if isinstance(value, int) and node.value == 1000 * value:
+            return True  # milliseconds, of which seconds are printed
+        if value in self.NUMBERS and node.value == self.NUMBERS[value]:
+            return True
         if isinstance(value, str) and isinstance(node.value, int):
             handle = value.split(':')
             with contextlib.suppress(ValueError):
@@ -315,3 +324,30 @@ class Program:
                     return True
             return self.interfaces.get(value) == node.value
         return isinstance(value, str) and value.split('/')[0] == str(node.value)
+
+
+class Features(Program):
+    """ethtool's list of features: each name that the kernel has, and whether it is active."""
+
+    def compare(self, messages, counts):
+        ran = subprocess.run(['timeout', '10', *self.words], capture_output=True, text=True)
+        printed = json.loads(ran.stdout)[0]
+        for message in messages:
+            if not message.table or (message.table.name, message.number) not in self.tables:
+                continue
+            known = {way: self.named(message.node, way) for way in ('HW', 'ACTIVE', 'NOCHANGE')}
+            header = message.node.find('ETHTOOL_A_FEATURES_HEADER')
+            if not header or header.find('ETHTOOL_A_HEADER_DEV_NAME').value != printed['ifname']:
+                continue
+            for name, feature in printed.items():
+                if isinstance(feature, dict) and name in set().union(*known.values()):
+                    is_active = name in known['ACTIVE']
+                    what = f'ethtool {name}: active {is_active} here, {feature["active"]} there'
+                    counts.take(feature['active'] == is_active, what)
+
+    @staticmethod
+    def named(node, way):
+        """The names in a set of bits."""
+        bits = node.find(f'ETHTOOL_A_FEATURES_{way}')
+        bits = bits and bits.find('ETHTOOL_A_BITSET_BITS')
+        return {bit.find('ETHTOOL_A_BITSET_BIT_NAME').value for bit in bits.inner} if bits else set()

@@ -1,4 +1,4 @@
-"""What a message says by the tables (docs/TABLES.md), for the scripts beside it: its fields and attributes, with values."""
+"""What a message says by the tables (docs/TABLES.md), for compare: its fields and attributes, with values."""
 import ipaddress
 import os
 import struct
@@ -123,8 +123,6 @@ class Table:
             return text_in(raw, kind == 'ztext')
         if kind in ('ip', 'ipv4', 'ipv6', 'address'):
             wanted = {'ipv4': 4, 'ipv6': 16}.get(kind) or (kind == 'address' and {AF_INET: 4, AF_INET6: 16}.get(family))
-            if kind == 'address' and not wanted:
-                return raw
             return address_in(raw if not wanted or wanted == len(raw) else b'')
         if kind == 'hardware':
             return ':'.join(f'{byte:02x}' for byte in raw)

@@ -64,8 +64,8 @@ heading_of table.Ethtool =
     codes "# Written by from-specs from the specification ethtool.yaml of Linux 6.12 and "
     ++ codes "own/ethtool.table.\n\nfamily ethtool 16 version=1\n"
 heading_of table.Fou =
-    codes "# Written by from-specs from the specification fou.yaml of Linux 6.12.\n\n"
-    ++ codes "family fou 16 version=1\n"
+    codes "# Written by from-specs from the specification fou.yaml of Linux 6.12 and "
+    ++ codes "own/fou.table.\n\nfamily fou 16 version=1\n"
 heading_of table.Handshake =
     codes "# Written by from-specs from the specification handshake.yaml of Linux 6.12.\n\n"
     ++ codes "family handshake 16 version=1\n"
@@ -76,8 +76,8 @@ heading_of table.L2tp =
 heading_of table.Macsec =
     codes "# Written by hand from the headers.\n\nfamily macsec 16 version=1\n"
 heading_of table.MptcpPm =
-    codes "# Written by from-specs from the specification mptcp_pm.yaml of Linux 6.12.\n\n"
-    ++ codes "family mptcp_pm 16 version=1\n"
+    codes "# Written by from-specs from the specification mptcp_pm.yaml of Linux 6.12 and "
+    ++ codes "own/mptcp_pm.table.\n\nfamily mptcp_pm 16 version=1\n"
 heading_of table.Netdev =
     codes "# Written by from-specs from the specification netdev.yaml of Linux 6.12.\n\n"
     ++ codes "family netdev 16 version=1\n"
@@ -96,14 +96,14 @@ heading_of table.OvsFlow =
     codes "# Written by from-specs from the specification ovs_flow.yaml of Linux 6.12 and "
     ++ codes "own/ovs_flow.table.\n\nfamily ovs_flow 16 version=1\n"
 heading_of table.OvsVport =
-    codes "# Written by from-specs from the specification ovs_vport.yaml of Linux 6.12.\n\n"
-    ++ codes "family ovs_vport 16 version=2\n"
+    codes "# Written by from-specs from the specification ovs_vport.yaml of Linux 6.12 and "
+    ++ codes "own/ovs_vport.table.\n\nfamily ovs_vport 16 version=2\n"
 heading_of table.TcpMetrics =
     codes "# Written by from-specs from the specification tcp_metrics.yaml of Linux "
     ++ codes "6.12.\n\nfamily tcp_metrics 16 version=1\n"
 heading_of table.Team =
-    codes "# Written by from-specs from the specification team.yaml of Linux 6.12.\n\n"
-    ++ codes "family team 16 version=1\n"
+    codes "# Written by from-specs from the specification team.yaml of Linux 6.12 and "
+    ++ codes "own/team.table.\n\nfamily team 16 version=1\n"
 heading_of table.Wireguard =
     codes "# Written by hand from the headers.\n\nfamily wireguard 16 version=1\n"
 

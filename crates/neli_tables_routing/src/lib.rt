@@ -7,12 +7,16 @@
 mod rt_addr;
 mod rt_addrlabel;
 mod rt_bridge;
+mod rt_dcb;
 mod rt_link;
 mod rt_neigh;
 mod rt_netconf;
 mod rt_nsid;
+mod rt_prefix;
+mod rt_report;
 mod rt_route;
 mod rt_rule;
+mod rt_tunnel;
 mod table;
 mod tc;
 

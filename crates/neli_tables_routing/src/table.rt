@@ -6,7 +6,8 @@ ghost use Rattle.std.specs.Str.{bytes_eq};
 ghost use Rattle.neli_tables_routing.specs.Tables.{Begins, all, heading_of, name_of, table_named};
 
 use crate::{
-    rt_addr, rt_addrlabel, rt_bridge, rt_link, rt_neigh, rt_netconf, rt_nsid, rt_route, rt_rule, tc,
+    rt_addr, rt_addrlabel, rt_bridge, rt_dcb, rt_link, rt_neigh, rt_netconf, rt_nsid, rt_prefix,
+    rt_report, rt_route, rt_rule, rt_tunnel, tc,
 };
 
 /// A table of routing and traffic control, by the name of its file.
@@ -18,6 +19,8 @@ pub enum RoutingTable {
     RtAddrlabel,
     /// `rt_bridge`.
     RtBridge,
+    /// `rt_dcb`.
+    RtDcb,
     /// `rt_link`.
     RtLink,
     /// `rt_neigh`.
@@ -26,25 +29,35 @@ pub enum RoutingTable {
     RtNetconf,
     /// `rt_nsid`.
     RtNsid,
+    /// `rt_prefix`.
+    RtPrefix,
+    /// `rt_report`.
+    RtReport,
     /// `rt_route`.
     RtRoute,
     /// `rt_rule`.
     RtRule,
+    /// `rt_tunnel`.
+    RtTunnel,
     /// `tc`.
     Tc,
 }
 
 /// All, in the order of their names.
-static ALL: [RoutingTable; 10] = [
+static ALL: [RoutingTable; 14] = [
     RoutingTable::RtAddr,
     RoutingTable::RtAddrlabel,
     RoutingTable::RtBridge,
+    RoutingTable::RtDcb,
     RoutingTable::RtLink,
     RoutingTable::RtNeigh,
     RoutingTable::RtNetconf,
     RoutingTable::RtNsid,
+    RoutingTable::RtPrefix,
+    RoutingTable::RtReport,
     RoutingTable::RtRoute,
     RoutingTable::RtRule,
+    RoutingTable::RtTunnel,
     RoutingTable::Tc,
 ];
 
@@ -73,12 +86,16 @@ impl RoutingTable {
             RoutingTable::RtAddr => b"rt_addr",
             RoutingTable::RtAddrlabel => b"rt_addrlabel",
             RoutingTable::RtBridge => b"rt_bridge",
+            RoutingTable::RtDcb => b"rt_dcb",
             RoutingTable::RtLink => b"rt_link",
             RoutingTable::RtNeigh => b"rt_neigh",
             RoutingTable::RtNetconf => b"rt_netconf",
             RoutingTable::RtNsid => b"rt_nsid",
+            RoutingTable::RtPrefix => b"rt_prefix",
+            RoutingTable::RtReport => b"rt_report",
             RoutingTable::RtRoute => b"rt_route",
             RoutingTable::RtRule => b"rt_rule",
+            RoutingTable::RtTunnel => b"rt_tunnel",
             RoutingTable::Tc => b"tc",
         }
     }
@@ -99,12 +116,16 @@ impl RoutingTable {
             RoutingTable::RtAddr => rt_addr::text(),
             RoutingTable::RtAddrlabel => rt_addrlabel::text(),
             RoutingTable::RtBridge => rt_bridge::text(),
+            RoutingTable::RtDcb => rt_dcb::text(),
             RoutingTable::RtLink => rt_link::text(),
             RoutingTable::RtNeigh => rt_neigh::text(),
             RoutingTable::RtNetconf => rt_netconf::text(),
             RoutingTable::RtNsid => rt_nsid::text(),
+            RoutingTable::RtPrefix => rt_prefix::text(),
+            RoutingTable::RtReport => rt_report::text(),
             RoutingTable::RtRoute => rt_route::text(),
             RoutingTable::RtRule => rt_rule::text(),
+            RoutingTable::RtTunnel => rt_tunnel::text(),
             RoutingTable::Tc => tc::text(),
         }
     }
