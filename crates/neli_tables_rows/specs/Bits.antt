@@ -24,8 +24,11 @@ without bits mask = bit_xor bits (bit_and bits mask)
 abbrev pub is_set : ℕ → LineSeen → Bool
 is_set bits row = covers bits (mask_of row)
 
--- of these that are left of a value, the bits that no row names
+-- what is left of a value's bits without those that a row names
+abbrev pub left_by : ℕ → ℕ → LineSeen → ℕ
+left_by bits left row = if is_set bits row then without left (mask_of row) else left
+
+-- of a value's bits these are left; without those that rows name
 abbrev pub unnamed_bits : ℕ → ℕ → List LineSeen → ℕ
 unnamed_bits bits left [] = left
-unnamed_bits bits left (row ∷ rows) =
-    unnamed_bits bits (if is_set bits row then without left (mask_of row) else left) rows
+unnamed_bits bits left (row ∷ rows) = unnamed_bits bits (left_by bits left row) rows

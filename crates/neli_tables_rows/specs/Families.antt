@@ -2,7 +2,7 @@
 use Rattle.std.specs.Prelude.{ℕ, ◌+◌, Bool, true, false, ◌&&◌, ◌==◌, if◌then◌else◌, List, [], ◌∷◌, position, slice_get}
 use Rattle.std.specs.Prelude.{Option, Some, None}
 use Rattle.std.specs.BTreeMap.{get_by}
-use Rattle.std.specs.Option.{option_map, option_or}
+use Rattle.std.specs.Option.{option_or}
 use Rattle.std.specs.Ordering.{nat_cmp}
 use Rattle.std.specs.Str.{bytes_eq}
 use Rattle.neli_tables.specs.declared.number.Span.{Span}
@@ -87,11 +87,15 @@ abbrev pub message_at : ℕ → Option ℕ → Option MessagePlace → Option Me
 message_at table (Some line) later = Some (place_at table line)
 message_at table None later = later
 
+-- the message in a table, where that is of this protocol
+abbrev pub message_of : Option ℕ → ℕ → Option ℕ → ℕ → Lines → Option ℕ
+message_of protocol way first number table = if is_of protocol table then message_in table way first number else None
+
 -- the message in the first of these tables that is of this protocol and has one; the first table has this index
 abbrev pub message_from : Option ℕ → ℕ → Option ℕ → ℕ → ℕ → List Lines → Option MessagePlace
 message_from protocol way first number index [] = None
 message_from protocol way first number index (table ∷ tables) =
-    message_at index (if is_of protocol table then message_in table way first number else None)
+    message_at index (message_of protocol way first number table)
     (message_from protocol way first number (index + 1) tables)
 
 -- the message of a protocol; or else one of every protocol

@@ -79,7 +79,7 @@ section_after section place w = if is_row w then section else place
 -- ---- the first line with a key
 
 abbrev pub has_key : Key → Option Key → Bool
-has_key key (Some k) = key.0 == k.0 && (key.1 == k.1 && key.2 == k.2)
+has_key key (Some k) = k.0 == key.0 && k.1 == key.1 && k.2 == key.2
 has_key key None = false
 
 -- of these lines, the first of which stands at this place below this section, the place of the first with a key

@@ -1,5 +1,5 @@
 -- What is found among the lines of a table.
-use Rattle.std.specs.Prelude.{ℕ, ◌+◌, Bool, true, false, ◌&&◌, if◌then◌else◌, List, [], ◌∷◌, drop, position, take_while}
+use Rattle.std.specs.Prelude.{ℕ, ◌+◌, Bool, true, false, ◌&&◌, not, List, take, drop, position}
 use Rattle.std.specs.Prelude.{Option, Some, None, is_none}
 use Rattle.std.specs.Option.{option_map, option_or}
 use Rattle.std.specs.Str.{bytes_eq}
@@ -10,12 +10,22 @@ use Rattle.neli_tables_rows.specs.Keys.{group_key, is_row, message_key, place_of
 
 -- ---- the rows of a section
 
-abbrev pub is_row_line : LineSeen → Bool
-is_row_line line = is_row line.word
+-- a line begins a section
+abbrev pub begins_section : LineSeen → Bool
+begins_section line = not (is_row line.word)
+
+-- what stands before this index; all where there is none
+abbrev pub before : {A : Type 0} → Option ℕ → List A → List A
+before (Some index) xs = take index xs
+before None xs = xs
+
+-- these lines, up to the first that begins a section
+abbrev pub rows_among : List LineSeen → List LineSeen
+rows_among lines = before (position begins_section lines) lines
 
 -- the rows of the section at this place
 abbrev pub rows_of : ℕ → List LineSeen → List LineSeen
-rows_of section lines = take_while is_row_line (drop (section + 1) lines)
+rows_of section lines = rows_among (drop (section + 1) lines)
 
 -- the place of the first row that has this number in a section, or of that for all others
 abbrev pub row_in : List LineSeen → ℕ → ℕ → Option ℕ

@@ -2,7 +2,7 @@
 
 ghost use Rattle.std.specs.Prelude.{◌≡◌, map};
 ghost use Rattle.neli_tables.specs.Lines.{line_seen};
-ghost use Rattle.neli_tables_rows.specs.Bits.{covers, is_set, mask_of, unnamed_bits, without};
+ghost use Rattle.neli_tables_rows.specs.Bits.{covers, is_set, left_by, mask_of, unnamed_bits, without};
 
 use neli_tables::Line;
 
@@ -37,15 +37,24 @@ pub fn is_set(row: &Line<'_>, bits: u64) -> bool
     covers(bits, mask_of(row))
 }
 
+/// What is left of a value's bits without those that a row names.
+fn left_by(row: &Line<'_>, bits: u64, left: u64) -> u64
+    ensures { result ≡ left_by bits left (line_seen row.now) }
+{
+    if is_set(row, bits) {
+        without(left, mask_of(row))
+    } else {
+        left
+    }
+}
+
 /// The bits of a value that no row of a flag set names.
 pub fn unnamed_bits(rows: &[Line<'_>], bits: u64) -> u64
     ensures { result ≡ unnamed_bits bits bits (map line_seen rows.now) }
 {
     let mut left = bits;
     for row in rows {
-        if is_set(row, bits) {
-            left = without(left, mask_of(row));
-        }
+        left = left_by(row, bits, left);
     }
     left
 }

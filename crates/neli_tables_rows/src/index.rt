@@ -27,19 +27,28 @@ impl Index {
         let mut section = 0;
         for (place, line) in lines.iter().enumerate() {
             section = section_after(section, place, line.word);
-            if let Some(key) = key_of(section, line) {
-                index.note(key, place)?;
-            }
+            index.note(key_of(section, line), place)?;
         }
         Ok(index)
     }
 
-    /// Notes that a line with this key stands here, where none before has it.
-    fn note(&mut self, key: Key, place: usize) -> Result<(), AllocError>
+    /// Notes that a line with this key, if it has one, stands here.
+    fn note(&mut self, key: Option<Key>, place: usize) -> Result<(), AllocError>
         ensures { OnOk result ((k : Key) → finds self.new k
             ≡ first_found (finds self.old k) k key place) }
     {
-        if self.map.contains_key(&key) {
+        match key {
+            Some(key) => self.note_key(key, place),
+            None => Ok(()),
+        }
+    }
+
+    /// Notes that a line with this key stands here, where none before has it.
+    fn note_key(&mut self, key: Key, place: usize) -> Result<(), AllocError>
+        ensures { OnOk result ((k : Key) → finds self.new k
+            ≡ first_found (finds self.old k) k (Some key) place) }
+    {
+        if let Some(_first) = self.find(key) {
             return Ok(());
         }
         self.map.insert(key, place)?;

@@ -1,6 +1,6 @@
 //! What lines are found by.
 
-ghost use Rattle.std.specs.Prelude.{◌≡◌};
+ghost use Rattle.std.specs.Prelude.{◌≡◌, ◌<◌};
 ghost use Rattle.neli_tables.specs.Lines.{line_seen};
 ghost use Rattle.neli_tables_rows.specs.Keys.{goes, group_key, is_row, key_of, message_key, message_key_of, numbered};
 ghost use Rattle.neli_tables_rows.specs.Keys.{rest_key, row_key, section_after, way_number};

@@ -1,14 +1,13 @@
 //! A family's table.
 
-ghost use Rattle.std.specs.Prelude.{◌≡◌, ◌≤◌, List, Ok, IfErr, IfOk, length, map, position, slice_get};
-ghost use Rattle.std.specs.List.{prefix_len};
+ghost use Rattle.std.specs.Prelude.{◌≡◌, ◌+◌, ◌<◌, ◌≤◌, List, Ok, IfErr, IfOk, IfSome, length, map, position, slice_get};
 ghost use Rattle.std.specs.Option.{option_map};
 ghost use Rattle.neli_tables.specs.Lines.{LineSeen, line_seen};
 ghost use Rattle.neli_tables.specs.Schemas.{IsWhyNot, table_in};
 ghost use Rattle.neli_tables_rows.specs.Index.{Indexes};
-ghost use Rattle.neli_tables_rows.specs.Keys.{way_number};
-ghost use Rattle.neli_tables_rows.specs.Rows.{case_in, group_in, is_case, is_row_line, message_for, message_in};
-ghost use Rattle.neli_tables_rows.specs.Rows.{row_in, rows_of};
+ghost use Rattle.neli_tables_rows.specs.Keys.{place_of, rest_key, way_number};
+ghost use Rattle.neli_tables_rows.specs.Rows.{begins_section, case_in, group_in, is_case, message_for, message_in};
+ghost use Rattle.neli_tables_rows.specs.Rows.{row_in, rows_among, rows_of};
 
 use crate::index::Index;
 use crate::key::{Way, group_key, is_row, message_key, rest_key, row_key, way_number};
@@ -85,7 +84,7 @@ impl<'t> Table<'t> {
     {
         match self.index.find(row_key(section, number)) {
             Some(place) => Some(place),
-            None => self.index.find(rest_key(section)),
+            None => self.rest(section),
         }
     }
 
@@ -94,10 +93,17 @@ impl<'t> Table<'t> {
     pub fn case(&self, choice: usize, text: &[u8]) -> Option<usize>
         ensures { result ≡ case_in self.now choice text.now }
     {
-        match position_of_case(self.rows(choice), text) {
-            Some(index) => Some(choice + 1 + index),
-            None => self.index.find(rest_key(choice)),
+        match case_at(&self.lines, choice, text) {
+            Some(place) => Some(place),
+            None => self.rest(choice),
         }
+    }
+
+    /// The place of the row for all other numbers or texts of the section at this place: `each` or `else`.
+    pub fn rest(&self, section: usize) -> Option<usize>
+        ensures { result ≡ place_of (rest_key section) self.now }
+    {
+        self.index.find(rest_key(section))
     }
 
     /// The place of the message that has this number (of generic netlink its command), goes this way, and whose body
@@ -135,25 +141,39 @@ impl<'t> Table<'t> {
     }
 }
 
-/// How many of these lines are rows, before the next section.
-fn row_count(lines: &[Line<'_>]) -> usize
-    ensures within { result ≤ length lines.now }
-    ensures count { result ≡ prefix_len is_row_line (map line_seen lines.now) }
+/// Whether a line begins a section.
+fn begins_section(line: &Line<'_>) -> bool
+    ensures { result ≡ begins_section (line_seen line.now) }
 {
-    let mut count = 0;
-    while count < lines.len() && is_row(lines[count].word) {
-        count += 1;
+    !is_row(line.word)
+}
+
+/// The index of the first of these lines that begins a section.
+fn next_section(lines: &[Line<'_>]) -> Option<usize>
+    ensures value { result ≡ position (λ line. begins_section (line_seen line)) lines.now }
+    ensures within { IfSome result (λ index. index < length lines.now) }
+{
+    lines.iter().position(|line| begins_section(line))
+}
+
+/// These lines, up to the first that begins a section.
+fn rows_among<'s, 't>(lines: &'s [Line<'t>]) -> &'s [Line<'t>]
+    ensures rows { map line_seen result.now ≡ rows_among (map line_seen lines.now) }
+    ensures within { length result.now ≤ length lines.now }
+{
+    match next_section(lines) {
+        Some(index) => &lines[..index],
+        None => lines,
     }
-    count
 }
 
 /// The rows of the section at this place.
 fn rows_of<'s, 't>(lines: &'s [Line<'t>], section: usize) -> &'s [Line<'t>]
-    ensures { map line_seen result.now ≡ rows_of section (map line_seen lines.now) }
+    ensures rows { map line_seen result.now ≡ rows_of section (map line_seen lines.now) }
+    ensures within { 0 < length result.now → section + 1 + length result.now ≤ length lines.now }
 {
     if section < lines.len() {
-        let below = &lines[section + 1..];
-        &below[..row_count(below)]
+        rows_among(&lines[section + 1..])
     } else {
         &[]
     }
@@ -168,7 +188,20 @@ fn is_case(row: &Line<'_>, text: &[u8]) -> bool
 
 /// The index of the first of these that this text picks.
 fn position_of_case(rows: &[Line<'_>], text: &[u8]) -> Option<usize>
-    ensures { result ≡ position (is_case text.now) (map line_seen rows.now) }
+    ensures value { result ≡ position (λ row. is_case text.now (line_seen row)) rows.now }
+    ensures within { IfSome result (λ index. index < length rows.now) }
 {
     rows.iter().position(|row| is_case(row, text))
+}
+
+/// The place of the case that this text picks of the choice at this place.
+fn case_at(lines: &[Line<'_>], choice: usize, text: &[u8]) -> Option<usize>
+    ensures { result ≡ option_map (λ index. choice + 1 + index)
+        (position (is_case text.now) (rows_of choice (map line_seen lines.now))) }
+{
+    let rows = rows_of(lines, choice);
+    match position_of_case(rows, text) {
+        Some(index) => Some(choice + 1 + index),
+        None => None,
+    }
 }

@@ -4,7 +4,7 @@ ghost use Rattle.std.specs.Prelude.{◌≡◌, ℕ, [], ◌∷◌, ◌++◌, Ok,
 ghost use Rattle.std.specs.Option.{option_map};
 ghost use Rattle.std.specs.Prelude.{slice_get, position};
 ghost use Rattle.neli_tables_rows.specs.Families.{by_id, fixed_id, generic_in, has_id, is_family, is_of, learnt};
-ghost use Rattle.neli_tables_rows.specs.Families.{learnt_as, message_found, message_from, protocol_in, tables_in};
+ghost use Rattle.neli_tables_rows.specs.Families.{learnt_as, message_found, message_from, message_of, protocol_in, tables_in};
 ghost use Rattle.neli_tables_rows.specs.Keys.{way_number};
 
 use crate::key::Way;
@@ -90,10 +90,24 @@ impl<'t> Tables<'t> {
     pub fn generic_by_id(&self, id: u16) -> Option<usize>
         ensures { result ≡ by_id (learnt self.now id) id (tables_in self.now) }
     {
-        match self.learnt.get(&id) {
-            Some(index) => Some(*index),
-            None => self.tables.iter().position(|table| has_id(table, id)),
+        match self.learnt_for(id) {
+            Some(index) => Some(index),
+            None => self.fixed_for(id),
         }
+    }
+
+    /// The table that was learnt for this number.
+    fn learnt_for(&self, id: u16) -> Option<usize>
+        ensures { result ≡ learnt self.now id }
+    {
+        self.learnt.get(&id).copied()
+    }
+
+    /// The first table of generic netlink whose family has this number for good.
+    fn fixed_for(&self, id: u16) -> Option<usize>
+        ensures { result ≡ position (has_id id) (tables_in self.now) }
+    {
+        self.tables.iter().position(|table| has_id(table, id))
     }
 
     /// Learns that the family of generic netlink with this name has this number, in place of the one that had it.
@@ -126,29 +140,44 @@ impl<'t> Tables<'t> {
     ) -> Option<MessagePlace>
         ensures { result ≡ message_found protocol (way_number way) first number (tables_in self.now) }
     {
-        match self.message_of(Some(protocol), way, first, number) {
+        match message_from(&self.tables, Some(protocol), way, first, number) {
             Some(place) => Some(place),
-            None => self.message_of(None, way, first, number),
+            None => message_from(&self.tables, None, way, first, number),
         }
     }
+}
 
-    /// The message in the first table that has one, of those of this protocol, or of those without one.
-    fn message_of(
-        &self,
-        protocol: Option<u64>,
-        way: Way,
-        first: Option<u8>,
-        number: u64,
-    ) -> Option<MessagePlace>
-        ensures { result ≡ message_from protocol (way_number way) first number 0 (tables_in self.now) }
-    {
-        for (index, table) in self.tables.iter().enumerate() {
-            if is_of(table, protocol) {
-                if let Some(line) = table.message(way, first, number) {
-                    return Some(MessagePlace { table: index, line });
-                }
-            }
+/// The message in the first table that has one, of those of this protocol, or of those without one.
+fn message_from(
+    tables: &[Table<'_>],
+    protocol: Option<u64>,
+    way: Way,
+    first: Option<u8>,
+    number: u64,
+) -> Option<MessagePlace>
+    ensures { result ≡ message_from protocol (way_number way) first number 0 tables.now }
+{
+    for (index, table) in tables.iter().enumerate() {
+        if let Some(line) = message_in(table, protocol, way, first, number) {
+            return Some(MessagePlace { table: index, line });
         }
+    }
+    None
+}
+
+/// The place of a message in a table, where that is of this protocol.
+fn message_in(
+    table: &Table<'_>,
+    protocol: Option<u64>,
+    way: Way,
+    first: Option<u8>,
+    number: u64,
+) -> Option<usize>
+    ensures { result ≡ message_of protocol (way_number way) first number table.now }
+{
+    if is_of(table, protocol) {
+        table.message(way, first, number)
+    } else {
         None
     }
 }

@@ -37,7 +37,7 @@ choice linkinfo-data-msg
   case netkit nest=linkinfo-netkit-attrs
   case vlan u8
   else other bytes
-choice bare by-family
+choice bare
   case inet 2 ipv4
 set linkinfo-vlan-attrs
 set linkinfo-netkit-attrs
@@ -177,10 +177,8 @@ fn options_are_typed(rt: HostRuntime) -> Result<(), ReadError> {
     assert_eq!(rt; options_at(&table, b"IFLA_LINKINFO").multi, true);
     let address = options_at(&table, b"IFLA_ADDRESS");
     assert_eq!(rt; address.length, Some(Span { first: 0, last: 32 }));
-    assert_eq!(rt;
-        prefix_of(&table.lines()[place_of(&table, b"ifinfo-flags")]),
-        Some(b"IFF_")
-    );
+    let flags = &table.lines()[place_of(&table, b"ifinfo-flags")];
+    assert_eq!(rt; prefix_of(flags), Some(b"IFF_".as_slice()));
     assert_eq!(rt; prefix_of(&table.lines()[0]), None);
     Ok(())
 }
