@@ -1,15 +1,18 @@
-//! Tests of `neli_tables`: what a text says, and the line for which it is refused.
+//! Tests of `neli_tables` and `neli_tables_rows`: what a text says, the line for which it is refused, and what is found in it.
 //!
 //! What is expected was worked out by hand from docs/TABLES.md, and is what `tables/form.py` says of the same texts.
 //!
 //! - [`bad_lines`]: lines that are refused, and why. [`lines`]: what a line says. [`texts`]: whole texts, short and long.
+//! - [`rows`]: what is found in a table. [`families`]: what is found among several.
 //! - [`built_in`]: the texts that are built in, by [`digests`] of those in `tables/`.
 //! - [`out_of_memory`]: where an allocation is refused. [`support`]: what the tests share.
 
 mod bad_lines;
 mod built_in;
 mod digests;
+mod families;
 mod lines;
 mod out_of_memory;
+mod rows;
 mod support;
 mod texts;

@@ -1,7 +1,9 @@
 //! Any one allocation may be refused in these tests: `suites/run` refuses each in turn. A text is then read, or memory
 //! ran out; read once more, it is read.
 
+use super::families::{TEXTS as TEXTS_OF_FAMILIES, tables_of};
 use neli_tables::{ReadError, Why, read_table};
+use neli_tables_rows::{Table, Tables};
 use std::alloc::Global;
 use std::process::Abort;
 
@@ -35,4 +37,34 @@ fn texts_are_read_again(rt: HostRuntime) {
         let is_read = is_read(&rt, alloc, text, wanted) || is_read(&rt, alloc, text, wanted);
         assert_eq!(rt; is_read, true, "at {text}");
     }
+}
+
+/// A table is made of texts, or memory ran out and none is.
+#[test]
+fn tables_are_made_again(rt: HostRuntime) -> Result<(), ReadError> {
+    let tables = match tables_of(rt.alloc()) {
+        Ok(tables) => tables,
+        Err(_) => tables_of(rt.alloc())?,
+    };
+    assert_eq!(rt; tables.tables().len(), TEXTS_OF_FAMILIES.len());
+    Ok(())
+}
+
+/// A table is added, or memory ran out and the tables are as they were; and so for a number.
+#[test]
+fn tables_are_added_again(rt: HostRuntime) -> Result<(), ReadError> {
+    let alloc = rt.alloc();
+    let mut tables = Tables::new(alloc);
+    let text = b"family g 16\n";
+    let table = Table::read(alloc, text).or_else(|_| Table::read(alloc, text))?;
+    if tables.add(table).is_err() {
+        assert_eq!(rt; tables.tables().len(), 0);
+        tables.add(Table::read(alloc, text)?)?;
+    }
+    if tables.learn(28, b"g").is_err() {
+        assert_eq!(rt; tables.generic_by_id(28), None);
+        tables.learn(28, b"g")?;
+    }
+    assert_eq!(rt; tables.generic_by_id(28), Some(0));
+    Ok(())
 }
