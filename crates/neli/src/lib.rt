@@ -9,6 +9,7 @@
 //! | attributes: to look up, to nest | [`attr`], [`genl`], [`rtnl`], [`types`] |
 //! | each reply with the one who asked | [`router::synchronous`] |
 //! | numbers and flags of the kernel's headers | [`consts`] |
+//! | the calls that a program writes most, each in one line | [`short`] |
 //! | to look at a few fields of many messages, without a copy | [`lent`] |
 //! | types of your own that are written and read | the traits of this page, [`implementing`] |
 //! | what may be refused, and what a kernel answers | [`err`] |
@@ -152,6 +153,7 @@ pub mod types;
 pub mod utils;
 
 pub use neli_lent as lent;
+pub use neli_short as short;
 pub use neli_wire::{
     BeU16, BeU32, BeU64, Cursor, FromBytes, FromBytesWithInput, FromBytesWithInputBorrowed, Header,
     Size, ToBytes, TypeSize, laws,
