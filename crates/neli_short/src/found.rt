@@ -122,7 +122,7 @@ pub(crate) fn payload_in<'b, K: Copy>(
     match found {
         Ok(Some(attr)) => Ok(Some(attr.attr_payload())),
         Ok(None) => Ok(None),
-        Err(cause) => Err(AttrError::new(number, cause)),
+        Err(fault) => Err(AttrError::new(number, fault)),
     }
 }
 

@@ -5,6 +5,7 @@
 //!   owned attributes and of lent ones. [`AttrError`]: which attribute can't be read, and why.
 //! - [`ExtAck`], [`ExtAckBuilder`]: what an error says beside its code, by words.
 //! - [`ReadBody`]: a message's body as a type of the caller's.
+//! - [`laws`]: what these say of the types that they stand on.
 //!
 //! A call is named as the one that it stands for (`get_with_len` as `get_attr_payload_as_with_len`), and `specs/`
 //! states its result by the definitions of that one.
@@ -15,6 +16,7 @@ mod error;
 mod ext_ack;
 mod ext_ack_builder;
 mod found;
+pub mod laws;
 mod lent;
 mod look;
 mod make;

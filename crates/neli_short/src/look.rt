@@ -267,11 +267,8 @@ impl<'a, O: AttrSlice<I>, I: TypedPayload> Lookup<I> for AttrHandle<'a, O, I> {
     where
         I::Kind: Constant<Number = u16>,
     {
-        read_front(
-            alloc,
-            last_number(path),
-            payload_at(self.get_attrs(), path)?,
-        )
+        let found = payload_at(self.get_attrs(), path)?;
+        read_front(alloc, last_number(path), found)
     }
 
     fn get_path_with_len<R: FromBytesWithInput>(
@@ -282,10 +279,7 @@ impl<'a, O: AttrSlice<I>, I: TypedPayload> Lookup<I> for AttrHandle<'a, O, I> {
     where
         I::Kind: Constant<Number = u16>,
     {
-        read_all(
-            alloc,
-            last_number(path),
-            payload_at(self.get_attrs(), path)?,
-        )
+        let found = payload_at(self.get_attrs(), path)?;
+        read_all(alloc, last_number(path), found)
     }
 }

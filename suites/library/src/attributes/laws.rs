@@ -7,7 +7,12 @@ use neli::attr::laws::{
 use neli::consts::genl::CtrlAttr;
 use neli::consts::rtnl::{Ifla, Rta};
 use neli::genl::AttrType;
-use neli::types::Buffer;
+use neli::rtnl::Rtattr;
+use neli::short::laws::{
+    all_attributes_are_looked_up, answers_and_bodies_are_their_parts, made_attributes_are_their_parts,
+    refusals_are_their_parts,
+};
+use neli::types::{Buffer, FrameList};
 
 #[test]
 fn laws_are_called() {
@@ -17,4 +22,8 @@ fn laws_are_called() {
     built_routing_attribute_reads_back::<Rta, Buffer>();
     nested_attribute_comes_last::<Ifla, Ifla, Buffer>();
     equality::<CtrlAttr, Buffer>();
+    made_attributes_are_their_parts::<Ifla, CtrlAttr>();
+    all_attributes_are_looked_up::<FrameList<Rtattr<Rta, Buffer>>, Rtattr<Rta, Buffer>, Rta>();
+    answers_and_bodies_are_their_parts::<(), u16>();
+    refusals_are_their_parts();
 }
