@@ -1,5 +1,5 @@
 -- What an extended acknowledgement says beside its code (`NLMSGERR_ATTR_*` of `linux/netlink.h`).
-use Rattle.std.specs.Prelude.{ℕ, Bool, false, List, [], ◌∷◌, ◌++◌, Option, Some, None, find, nat_eq, Ok}
+use Rattle.std.specs.Prelude.{ℕ, false, List, [], ◌∷◌, ◌++◌, Option, Some, None, find, nat_eq, Ok}
 use Rattle.std.specs.Option.{option_map}
 use Rattle.byteorder.specs.Endian.{little_bytes}
 use Rattle.neli_wire.specs.Place.{Place}
