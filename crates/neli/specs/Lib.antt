@@ -15,6 +15,7 @@ pub use Rattle.neli_texts.specs as texts
 pub use Rattle.neli_genl.specs as genl
 pub use Rattle.neli_reader.specs as reader
 pub use Rattle.neli_lent.specs as lent
+pub use Rattle.neli_short.specs as short
 pub use Rattle.neli_kernel.specs as kernel
 pub use Rattle.neli_kernel_laws.specs as kernel_laws
 pub use Rattle.neli_util.specs as util

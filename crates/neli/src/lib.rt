@@ -9,6 +9,7 @@
 //! | to look up and nest attributes | [`attr`], [`genl`], [`rtnl`], [`types`] |
 //! | each reply at its request | [`router::synchronous`] |
 //! | numbers and flags of the kernel's headers | [`consts`] |
+//! | the calls that a program writes most, each in one line | [`short`] |
 //! | to look at a few fields of many messages, without a copy | [`lent`] |
 //! | to write and read types of your own | the traits of this page, [`implementing`] |
 //! | refusals, and a kernel's errors | [`err`] |
@@ -153,6 +154,7 @@ pub mod types;
 pub mod utils;
 
 pub use neli_lent as lent;
+pub use neli_short as short;
 pub use neli_wire::{
     BeU16, BeU32, BeU64, Cursor, FromBytes, FromBytesWithInput, FromBytesWithInputBorrowed, Header,
     Size, ToBytes, TypeSize, laws,

@@ -5,6 +5,7 @@
 //! - [`attributes`], [`type_fields`], [`buffers`]: what single values are written as, and what is read.
 //! - [`builders`]: what builders answer. [`lists`], [`lookup`], [`nesting`]: lists of attributes.
 //! - [`recorded_routes`]: attributes of datagrams that were recorded, against what other libraries read there.
+//! - [`short`]: attributes made, put, looked up and read in one call.
 //! - [`laws`]: the laws, called.
 //! - [`out_of_memory`]: each call where an allocation is refused.
 //! - [`support`]: what the tests share.
@@ -18,5 +19,6 @@ mod lookup;
 mod nesting;
 mod out_of_memory;
 mod recorded_routes;
+mod short;
 mod support;
 mod type_fields;

@@ -17,6 +17,7 @@
 //! - [`lent_datagrams`], [`lent_lists`]: the same bytes read lent and as owned values, with their faults.
 //!   [`lent_to_owned`]: what takes memory.
 //! - [`lent_recordings`]: messages that were recorded, against what other libraries read there.
+//! - [`short`]: what an error says by words, and a body that is read.
 //! - [`laws`]: the laws, called. [`support`]: what the tests share.
 
 mod builders;
@@ -37,4 +38,5 @@ mod parts;
 mod printed;
 mod reading;
 mod retyping;
+mod short;
 mod support;

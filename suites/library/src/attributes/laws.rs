@@ -8,7 +8,12 @@ use neli::attr::laws::{
 use neli::consts::genl::CtrlAttr;
 use neli::consts::rtnl::{Ifla, Rta};
 use neli::genl::AttrType;
-use neli::types::Buffer;
+use neli::rtnl::Rtattr;
+use neli::short::laws::{
+    all_attributes_are_looked_up, answers_and_bodies_are_their_parts, made_attributes_are_their_parts,
+    refusals_are_their_parts,
+};
+use neli::types::{Buffer, FrameList};
 
 #[test]
 fn laws_are_called() {
@@ -22,4 +27,8 @@ fn laws_are_called() {
     errors_of_writing_say_why::<Buffer>();
     errors_of_reading_say_why::<Buffer>();
     messages_print_their_texts();
+    made_attributes_are_their_parts::<Ifla, CtrlAttr>();
+    all_attributes_are_looked_up::<FrameList<Rtattr<Rta, Buffer>>, Rtattr<Rta, Buffer>, Rta>();
+    answers_and_bodies_are_their_parts::<(), u16>();
+    refusals_are_their_parts();
 }

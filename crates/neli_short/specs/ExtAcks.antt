@@ -1,0 +1,54 @@
+-- What an extended acknowledgement says beside its code (`NLMSGERR_ATTR_*` of `linux/netlink.h`).
+use Rattle.std.specs.Prelude.{ℕ, false, List, [], ◌∷◌, ◌++◌, Option, Some, None, find, nat_eq, Ok}
+use Rattle.std.specs.Option.{option_map}
+use Rattle.byteorder.specs.Endian.{little_bytes}
+use Rattle.neli_wire.specs.Place.{Place}
+use Rattle.neli_wire.specs.Writing.{Wire}
+use Rattle.neli_consts.specs.declared.nlmsg.NlmsgerrAttr.{NlmsgerrAttr as Kind}
+use Rattle.neli_consts.specs.NlmsgerrAttr.{nlmsgerr_attr_number, nlmsgerr_attr_of}
+use Rattle.neli_consts_linux.specs.declared.acknowledgements.NlmsgerrAttr.{NlmsgerrAttr}
+use Rattle.neli_consts_linux.specs.declared.acknowledgements.NlmsgerrAttr.TheVariants.{Msg, Offs, MissType, MissNest}
+use Rattle.neli_consts_linux.specs.NlmsgerrAttr.{nlmsgerr_attr_number as number_of}
+use Rattle.neli_attr.specs.Nlattr.{with_length}
+use Rattle.neli_reader.specs.Answers.{Attributes}
+use Rattle.neli_short.specs.Made.{field}
+use Rattle.neli_short.specs.declared.ext_ack_builder.ExtAckBuilder.{ExtAckBuilder}
+
+-- the payload of the first attribute of a kind
+abbrev pub payload_in : NlmsgerrAttr → Attributes → Option (List ℕ)
+payload_in kind attrs = option_map (λ a. a.nla_payload)
+    (find (λ a. nat_eq (nlmsgerr_attr_number a.nla_type.nla_type) (number_of kind)) attrs)
+
+-- a walk from the first of these bytes on
+abbrev pub from_start : List ℕ → Place
+from_start bytes = record { before = []; rest = bytes }
+
+-- ---- what a builder makes
+
+-- the kind with this number, as the attributes of an answer have it
+abbrev pub kind_of : NlmsgerrAttr → Kind
+kind_of kind = nlmsgerr_attr_of (number_of kind)
+
+-- the attribute of bytes that were given, if any were
+abbrev pub given : NlmsgerrAttr → Option (List ℕ) → Attributes
+given kind None = []
+given kind (Some bytes) = with_length (field false (kind_of kind)) bytes ∷ []
+
+-- a text with its zero; none where it was not given
+abbrev pub text_bytes : Option (List ℕ) → Option (List ℕ)
+text_bytes = option_map (λ text. text ++ 0 ∷ [])
+
+-- a number of four bytes
+abbrev pub number_bytes : Option ℕ → Option (List ℕ)
+number_bytes = option_map (little_bytes 4)
+
+-- the attributes of what was given, in the order of their numbers
+abbrev pub built_ext_ack : ExtAckBuilder → Attributes
+built_ext_ack b =
+    ((given Msg (text_bytes (option_map (λ t. t.now) b.text)) ++ given Offs (number_bytes b.offset))
+    ++ given MissType (number_bytes b.missing_type)) ++ given MissNest (number_bytes b.missing_nest)
+
+-- the wire bytes of what was given, of which none is refused where there are none
+abbrev pub given_wire : Option (List ℕ) → Wire
+given_wire None = Ok []
+given_wire (Some bytes) = Ok bytes

@@ -1,0 +1,131 @@
+//! The attributes of an extended acknowledgement, made by the words by which they are read.
+
+ghost use Rattle.std.specs.Prelude.{◌≡◌, ◌++◌, Some, None, OnOk, IfErr, IfOk};
+ghost use Rattle.std.specs.Option.{option_map};
+ghost use Rattle.neli_consts_linux.specs.declared.acknowledgements.NlmsgerrAttr.TheVariants as kind;
+ghost use Rattle.neli_short.specs.ExtAcks.{built_ext_ack, given, given_wire, kind_of, number_bytes, text_bytes};
+ghost use Rattle.neli_short.specs.Made.{RefusesMade};
+
+use crate::Put;
+use neli_attr::{Buffer, GenlBuffer};
+use neli_consts::NlmsgerrAttr;
+use neli_consts_linux::NlmsgerrAttr as Said;
+use neli_wire::SerError;
+use std::alloc::Global;
+
+/// A builder of the attributes of an extended acknowledgement.
+#[derive(Debug, Drop)]
+pub struct ExtAckBuilder<'a> {
+    text: Option<&'a str>,
+    offset: Option<u32>,
+    missing_type: Option<u32>,
+    missing_nest: Option<u32>,
+}
+
+impl<'a> Default for ExtAckBuilder<'a> {
+    ghost is_default = { λ b. b ≡ record {
+      text = None;
+      offset = None;
+      missing_type = None;
+      missing_nest = None;
+    } };
+
+    fn default() -> Self {
+        ExtAckBuilder {
+            text: None,
+            offset: None,
+            missing_type: None,
+            missing_nest: None,
+        }
+    }
+}
+
+impl<'a> ExtAckBuilder<'a> {
+    /// What was wrong, in words.
+    pub fn text(mut self, value: &'a str) -> Self
+        ensures { result ≡ record self.entry { text = Some value.entry } }
+    {
+        self.text = Some(value);
+        self
+    }
+
+    /// Where in the request it was, in bytes from the request's header.
+    pub fn offset(mut self, value: u32) -> Self
+        ensures { result ≡ record self.entry { offset = Some value } }
+    {
+        self.offset = Some(value);
+        self
+    }
+
+    /// The number of an attribute that is missing.
+    pub fn missing_type(mut self, value: u32) -> Self
+        ensures { result ≡ record self.entry { missing_type = Some value } }
+    {
+        self.missing_type = Some(value);
+        self
+    }
+
+    /// Where in the request the nest stands in which that attribute is missing, in bytes from the request's header.
+    pub fn missing_nest(mut self, value: u32) -> Self
+        ensures { result ≡ record self.entry { missing_nest = Some value } }
+    {
+        self.missing_nest = Some(value);
+        self
+    }
+
+    /// The attributes of what was given, in the order of their numbers.
+    ///
+    /// Refused with a `SerError::Msg` where a text with its zero is longer than 65531 bytes, or where memory runs out.
+    pub fn build(self, alloc: Global) -> Result<GenlBuffer<NlmsgerrAttr, Buffer>, SerError>
+        ensures built { IfOk result (λ attrs. attrs ≡ built_ext_ack self.entry) }
+        ensures refused { IfErr result
+            (RefusesMade (given_wire (text_bytes (option_map (λ t. t.now) self.entry.text)))) }
+    {
+        let mut attrs = GenlBuffer::new(alloc);
+        put_text(alloc, &mut attrs, self.text)?;
+        put_number(alloc, &mut attrs, Said::Offs, self.offset)?;
+        put_number(alloc, &mut attrs, Said::MissType, self.missing_type)?;
+        put_number(alloc, &mut attrs, Said::MissNest, self.missing_nest)?;
+        Ok(attrs)
+    }
+}
+
+/// The kind with this number, as the attributes of an answer have it.
+fn kind_of(kind: Said) -> NlmsgerrAttr
+    ensures { result ≡ kind_of kind }
+{
+    NlmsgerrAttr::from(u16::from(kind))
+}
+
+/// Appends the text, where one was given.
+fn put_text(
+    alloc: Global,
+    attrs: &mut GenlBuffer<NlmsgerrAttr, Buffer>,
+    text: Option<&str>,
+) -> Result<(), SerError>
+    ensures put { OnOk result (attrs.new ≡ attrs.old
+        ++ given kind.Msg (text_bytes (option_map (λ t. t.now) text.entry))) }
+    ensures refused { IfErr result
+        (RefusesMade (given_wire (text_bytes (option_map (λ t. t.now) text.entry)))) }
+{
+    match text {
+        Some(text) => attrs.put(alloc, kind_of(Said::Msg), text),
+        None => Ok(()),
+    }
+}
+
+/// Appends the number of this kind, where one was given.
+fn put_number(
+    alloc: Global,
+    attrs: &mut GenlBuffer<NlmsgerrAttr, Buffer>,
+    kind: Said,
+    number: Option<u32>,
+) -> Result<(), SerError>
+    ensures put { OnOk result (attrs.new ≡ attrs.old ++ given kind (number_bytes number)) }
+    ensures refused { IfErr result (λ e. e ≡ SerError.Memory) }
+{
+    match number {
+        Some(number) => attrs.put(alloc, kind_of(kind), number),
+        None => Ok(()),
+    }
+}
