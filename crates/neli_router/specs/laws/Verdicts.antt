@@ -1,6 +1,6 @@
 -- How an answer stands, one delivery more at a time.
 use Rattle.std.proofs.Common.{ℕ, zero, suc, ◌≡◌, ◌≢◌, ◌≤◌, ◌<◌, ◌+◌, ◌-◌, Bool, true, false, not, ◌||◌, ◌&&◌, min, List, []}
-use Rattle.std.proofs.Common.{◌∷◌, ◌++◌, length, take, drop, Option, Some, None, Ok, Err, refl, sym, ap, ◌∙◌, inl, inr, ◌⊎◌}
+use Rattle.std.proofs.Common.{◌∷◌, ◌++◌, length, take, drop, Option, Some, None, Ok, Err, refl, sym, ap, ap₂, ◌∙◌, inl, inr, ◌⊎◌}
 use Rattle.std.proofs.Common.{arith, length-append, pos, ℤ, subst}
 use Rattle.std.specs.Prelude.{nat_lt, if◌then◌else◌}
 use Rattle.std.specs.List.{list_any, slice_get}
@@ -307,23 +307,23 @@ module _ {K P : Type 0} where
     payload_ends : (needs gave : Bool) (m : Nlmsghdr K P) (p : NlPayload K P) → m.payload ≡ p
         → ends_at number_of needs numbered gave (Ok m) ≡ true
         → ends_at number_of needs numbered gave (last_item_of_payload needs gave m p) ≡ true
-    payload_ends true gave m (payload.Ack e) is ends = ends
-    payload_ends false gave m (payload.Ack e) is ends = refl
-    payload_ends needs true m (payload.Err e) is ends = refl
-    payload_ends needs false m (payload.Err e) is ends = refl
-    payload_ends needs true m (payload.Capped e) is ends = refl
-    payload_ends needs false m (payload.Capped e) is ends = refl
-    payload_ends needs true m (payload.Payload e) is ends = refl
-    payload_ends needs false m (payload.Payload e) is ends = ends
-    payload_ends needs true m (payload.DumpExtAck e) is ends = refl
-    payload_ends needs false m (payload.DumpExtAck e) is ends = ends
-    payload_ends needs true m payload.Empty is ends = refl
-    payload_ends needs false m payload.Empty is ends = ends
+    payload_ends true gave m (payload.Ack e) is over = over
+    payload_ends false gave m (payload.Ack e) is over = refl
+    payload_ends needs true m (payload.Err e) is over = refl
+    payload_ends needs false m (payload.Err e) is over = refl
+    payload_ends needs true m (payload.Capped e) is over = refl
+    payload_ends needs false m (payload.Capped e) is over = refl
+    payload_ends needs true m (payload.Payload e) is over = refl
+    payload_ends needs false m (payload.Payload e) is over = over
+    payload_ends needs true m (payload.DumpExtAck e) is over = refl
+    payload_ends needs false m (payload.DumpExtAck e) is over = over
+    payload_ends needs true m payload.Empty is over = refl
+    payload_ends needs false m payload.Empty is over = over
 
     item_ends : (needs gave : Bool) (x : Item K P) → ends_at number_of needs numbered gave x ≡ true
         → ends_at number_of needs numbered gave (last_item needs gave x) ≡ true
-    item_ends needs gave (Err e) ends = refl
-    item_ends needs gave (Ok m) ends = payload_ends needs gave m m.payload refl ends
+    item_ends needs gave (Err e) over = refl
+    item_ends needs gave (Ok m) over = payload_ends needs gave m m.payload refl over
 
 -- ---- one more, whether the answer has ended or not
 
@@ -349,13 +349,13 @@ module _ {K P : Type 0} (number_of : K → ℕ) (needs numbered : Bool) where
   abbrev pub gave : List (Item K P) → Bool
   gave items = nat_lt (single_place number_of numbered items) (length items)
 
+  stood : (marked : Bool) (x : Item K P) → (if marked then stands.Interrupted else last_verdict x) ≢ stands.Pending
+  stood true x h = cc
+  stood false x h = last_ends x h
+
   over_at : (items : List (Item K P)) (x : Item K P) → slice_get items (last_place number_of needs numbered items) ≡ Some x
       → verdict number_of needs numbered items ≢ stands.Pending
-  over_at items x at = rw at (elim (list_any (is_flagged 16) (given_of number_of needs numbered items)) as
-      (λ b. (if b then stands.Interrupted
-      else last_verdict (last_item needs (nat_lt (single_place number_of numbered items)
-      (last_place number_of needs numbered items)) x)) ≢ stands.Pending)
-      [ true ↦ (λ h. cc) | false ↦ last_ends _ ])
+  over_at items x at = rw at (stood (list_any (is_flagged 16) (given_of number_of needs numbered items)) _)
 
   -- an answer that has ended is not pending
   over_stands : (items : List (Item K P)) → stops items ≡ true → verdict number_of needs numbered items ≢ stands.Pending
@@ -425,9 +425,13 @@ module _ {K P : Type 0} (number_of : K → ℕ) (needs numbered : Bool) where
         ∙ rw (given_open number_of needs numbered front goes, same_end_item) refl
 
     alike_verdict : verdict number_of needs numbered those ≡ verdict number_of needs numbered (front ++ x ∷ [])
-    alike_verdict = verdict_more number_of needs numbered front given goes
-        ∙ (rw (item_ends number_of numbered needs (gave front) x e, same_end_item, verdict_more number_of needs numbered front x goes, e)
-        refl)
+    alike_verdict =
+        let v = verdict number_of needs numbered front in
+        let first_item : item_of number_of needs numbered (gave front) x ≡ given = rw e refl in
+        verdict_more number_of needs numbered front given goes
+        ∙ (ap₂ (λ (b : Bool) (y : Item K P). verdict_with v b y)
+        (item_ends number_of numbered needs (gave front) x e ∙ sym e) (same_end_item ∙ sym first_item)
+        ∙ sym (verdict_more number_of needs numbered front x goes))
 
   module _ (front : List (Item K P)) (x : Item K P) (rest : List (Item K P))
       (end : last_place number_of needs numbered ((front ++ x ∷ []) ++ rest) ≡ length front) where
@@ -462,7 +466,8 @@ module _ {K P : Type 0} (number_of : K → ℕ) (needs numbered : Bool) where
 
     cut_verdict : verdict number_of needs numbered (given_of number_of needs numbered those_read)
         ≡ verdict number_of needs numbered those_read
-    cut_verdict = rw given_first (alike_verdict front x front_goes ends_there
+    cut_verdict = ap (λ (ys : List (Item K P)). verdict number_of needs numbered ys) given_first
+        ∙ (alike_verdict front x front_goes ends_there
         ∙ sym (verdict_over number_of needs numbered (front ++ x ∷ []) rest over_there))
 
   abbrev AreAlike : List (Item K P) → Type 0
