@@ -78,12 +78,7 @@ impl Progress {
             ≡ (self.ended || ends_at T.wire_number needs_ack true self.single_given item.now) }
     {
         let single = is_single(true, item);
-        let ends = ends_alone(item)
-            || if needs_ack {
-                self.single_given
-            } else {
-                single
-            };
+        let ends = ends_alone(item) || if needs_ack { self.single_given } else { single };
         let (verdict, filtered) = if ends {
             (
                 last_verdict(needs_ack, self.single_given, item),

@@ -84,10 +84,7 @@ pub(crate) fn is_last<T: NlType, P>(
 }
 
 /// Whether an item is a message with this flag.
-pub(crate) fn has_flag<T, P>(
-    flag: NlmF,
-    item: &Result<Nlmsghdr<T, P>, RouterError<T, P>>,
-) -> bool
+pub(crate) fn has_flag<T, P>(flag: NlmF, item: &Result<Nlmsghdr<T, P>, RouterError<T, P>>) -> bool
     ensures { result ≡ is_flagged flag.0 item.now }
 {
     match item {

@@ -349,20 +349,20 @@ module _ {K P : Type 0} (number_of : K → ℕ) (needs numbered : Bool) where
   abbrev pub gave : List (Item K P) → Bool
   gave items = nat_lt (single_place number_of numbered items) (length items)
 
-  stood : (marked : Bool) (x : Item K P) → (if marked then stands.Interrupted else last_verdict x) ≢ stands.Pending
-  stood true x h = cc
-  stood false x h = last_ends x h
-
-  over_at : (items : List (Item K P)) (x : Item K P) → slice_get items (last_place number_of needs numbered items) ≡ Some x
-      → verdict number_of needs numbered items ≢ stands.Pending
-  over_at items x at = rw at (stood (list_any (is_flagged 16) (given_of number_of needs numbered items)) _)
+  over_by : (items : List (Item K P)) (marked : Bool) (last : Option (Item K P)) (x : Item K P) → last ≡ Some x
+      → (if marked then stands.Interrupted
+      else verdict_at_end number_of needs numbered (last_given number_of needs numbered items last)) ≢ stands.Pending
+  over_by items true last x is h = cc
+  over_by items false None x is h = cc
+  over_by items false (Some y) x is h = last_ends _ h
 
   -- an answer that has ended is not pending
   over_stands : (items : List (Item K P)) → stops items ≡ true → verdict number_of needs numbered items ≢ stands.Pending
   over_stands items over =
       let there = item_there items (last_place number_of needs numbered items)
       (within (length items) (last_place number_of needs numbered items) over) in
-      over_at items there.0 there.1
+      over_by items (list_any (is_flagged 16) (given_of number_of needs numbered items))
+      (slice_get items (last_place number_of needs numbered items)) there.0 there.1
 
   pub verdict_next : (items : List (Item K P)) (x : Item K P) → verdict number_of needs numbered (items ++ x ∷ [])
       ≡ verdict_with (verdict number_of needs numbered items) (ends_at number_of needs numbered (gave items) x)
@@ -470,12 +470,12 @@ module _ {K P : Type 0} (number_of : K → ℕ) (needs numbered : Bool) where
         ∙ (alike_verdict front x front_goes ends_there
         ∙ sym (verdict_over number_of needs numbered (front ++ x ∷ []) rest over_there))
 
-  abbrev AreAlike : List (Item K P) → Type 0
+  -- what was given is given again, and stands as what was delivered
+  abbrev pub AreAlike : List (Item K P) → Type 0
   AreAlike items =
       (given_of number_of needs numbered (given_of number_of needs numbered items) ≡ given_of number_of needs numbered items)
       × (verdict number_of needs numbered (given_of number_of needs numbered items) ≡ verdict number_of needs numbered items)
 
-  -- what was given is given again, and stands as what was delivered
   pub given_alike : (items : List (Item K P)) → AreAlike items
   given_alike items = elim (true_or_false (stops items)) [
     | inl over ↦ (let c = cut_at items (last_place number_of needs numbered items)
@@ -485,7 +485,7 @@ module _ {K P : Type 0} (number_of : K → ℕ) (needs numbered : Bool) where
         subst (λ (ys : List (Item K P)). AreAlike ys) (sym c.3)
         (cut_given c.0 c.1 c.2 end, cut_verdict c.0 c.1 c.2 end))
     | inr goes ↦ (
-        ap (λ (ys : List (Item K P)). given_of number_of needs numbered ys) (given_open number_of needs numbered items goes),
-        ap (λ (ys : List (Item K P)). verdict number_of needs numbered ys) (given_open number_of needs numbered items goes),
-      )
+      ap (λ (ys : List (Item K P)). given_of number_of needs numbered ys) (given_open number_of needs numbered items goes),
+      ap (λ (ys : List (Item K P)). verdict number_of needs numbered ys) (given_open number_of needs numbered items goes),
+    )
   ]

@@ -13,8 +13,8 @@ use neli::router::synchronous::laws::{
     complete_answers_are_whole, given_items_stand_alike, verdicts_follow_reads, verdicts_stay,
 };
 use neli::router::synchronous::{
-    Deliveries, Log, Loss, Missed, NlRouter, NlRouterReceiverHandle, Notice, Queues, Reply, Verdict,
-    filtered_of, verdict_of,
+    Deliveries, Log, Loss, Missed, NlRouter, NlRouterReceiverHandle, Notice, Queues, Reply,
+    Verdict, filtered_of, verdict_of,
 };
 use neli::types::Buffer;
 use neli::utils::Groups;
