@@ -354,7 +354,9 @@ module _ {K P : Type 0} (number_of : K → ℕ) (needs numbered : Bool) where
       else verdict_at_end number_of needs numbered (last_given number_of needs numbered items last)) ≢ stands.Pending
   over_by items true last x is h = cc
   over_by items false None x is h = cc
-  over_by items false (Some y) x is h = last_ends _ h
+  over_by items false (Some y) x is h =
+      last_ends (last_item needs (nat_lt (single_place number_of numbered items)
+      (last_place number_of needs numbered items)) y) h
 
   -- an answer that has ended is not pending
   over_stands : (items : List (Item K P)) → stops items ≡ true → verdict number_of needs numbered items ≢ stands.Pending
@@ -369,7 +371,8 @@ module _ {K P : Type 0} (number_of : K → ℕ) (needs numbered : Bool) where
       (item_of number_of needs numbered (gave items) x)
   verdict_next items x = elim (true_or_false (stops items)) [
     | inl over ↦ verdict_over number_of needs numbered items (x ∷ []) over
-        ∙ stays _ _ _ (over_stands items over)
+        ∙ stays (verdict number_of needs numbered items) (ends_at number_of needs numbered (gave items) x)
+        (item_of number_of needs numbered (gave items) x) (over_stands items over)
     | inr goes ↦ verdict_more number_of needs numbered items x goes
   ]
 
