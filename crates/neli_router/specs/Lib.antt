@@ -4,3 +4,4 @@ pub mod Requests
 pub mod Rule
 pub mod Sends
 pub mod Verdicts
+pub mod laws

@@ -4,7 +4,7 @@
 //! - [`NlRouter`]: sends, takes in datagrams and faults of the link, returns a handle's next item.
 //! - [`NlRouterReceiverHandle`]: the handle of a request, by its sequence number, or that of multicast, without one.
 //! - [`Reply`]: what a read answers: an item, the end, or a wait.
-//! - [`Verdict`]: how an answer stands: whether what was given is all of it.
+//! - [`Verdict`]: how an answer stands: whether what was given is all of it; [`verdict_of`] returns it of items in a list.
 //! - [`laws`]: `==` of what is known of handles is equality.
 //!
 //! `specs/Rule.antt` defines where a handle's answers end and what each read returns; `specs/Sends.antt` the bytes of a
@@ -15,6 +15,7 @@
 
 mod given_up;
 mod handle;
+mod items;
 pub mod laws;
 mod listening;
 mod reply;
@@ -25,6 +26,7 @@ mod verdict;
 
 pub use given_up::GivenUp;
 pub use handle::{HandleState, NlRouterReceiverHandle};
+pub use items::{filtered_of, verdict_of};
 pub use listening::{Missed, Notice};
 pub use neli_deliveries::{Deliveries, Delivery};
 pub use reply::Reply;

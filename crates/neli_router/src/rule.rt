@@ -16,7 +16,7 @@ pub(crate) fn needs_acknowledgement(flags: NlmF) -> bool
 }
 
 /// Whether nothing follows an item, whatever was asked for.
-fn ends_alone<T, P>(item: &Result<Nlmsghdr<T, P>, RouterError<T, P>>) -> bool
+pub(crate) fn ends_alone<T, P>(item: &Result<Nlmsghdr<T, P>, RouterError<T, P>>) -> bool
     ensures { result ≡ ends_alone item.now }
 {
     match item {
@@ -29,7 +29,10 @@ fn ends_alone<T, P>(item: &Result<Nlmsghdr<T, P>, RouterError<T, P>>) -> bool
 }
 
 /// Whether an item is a whole reply to a request, or the last message of one.
-fn is_single<T: NlType, P>(numbered: bool, item: &Result<Nlmsghdr<T, P>, RouterError<T, P>>) -> bool
+pub(crate) fn is_single<T: NlType, P>(
+    numbered: bool,
+    item: &Result<Nlmsghdr<T, P>, RouterError<T, P>>,
+) -> bool
     ensures { result ≡ is_single T.wire_number numbered item.now }
 {
     match item {

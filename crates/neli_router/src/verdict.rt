@@ -84,7 +84,7 @@ pub(crate) fn is_last<T: NlType, P>(
 }
 
 /// Whether an item is a message with this flag.
-fn has_flag<T, P>(flag: NlmF, item: &Result<Nlmsghdr<T, P>, RouterError<T, P>>) -> bool
+pub(crate) fn has_flag<T, P>(flag: NlmF, item: &Result<Nlmsghdr<T, P>, RouterError<T, P>>) -> bool
     ensures { result ≡ is_flagged flag.0 item.now }
 {
     match item {
@@ -147,7 +147,10 @@ fn last_verdict<T, P>(item: &Result<Nlmsghdr<T, P>, RouterError<T, P>>) -> Verdi
 }
 
 /// By an item that is given, at which the answer ends or not.
-fn item_verdict<T, P>(ended: bool, item: &Result<Nlmsghdr<T, P>, RouterError<T, P>>) -> Verdict
+pub(crate) fn item_verdict<T, P>(
+    ended: bool,
+    item: &Result<Nlmsghdr<T, P>, RouterError<T, P>>,
+) -> Verdict
     ensures { result ≡ item_verdict ended item.now }
 {
     if has_flag(NlmF::DUMP_INTR, item) {

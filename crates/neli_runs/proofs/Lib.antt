@@ -1,6 +1,5 @@
 mod Alike
 mod Lists
-mod Places
 mod Readings
 mod Later
 mod OtherReads

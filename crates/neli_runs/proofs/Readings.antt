@@ -11,7 +11,7 @@ use Rattle.neli_deliveries.specs.Readings.{IsReading, Item}
 use Rattle.neli_router.specs.declared.reply.Reply.TheVariants as reply
 use Rattle.neli_router.specs.Rule.{answer, ends_at, is_single, item_of, last_place, single_place}
 use Rattle.neli_runs.specs.Outcomes.{AreReadings, IsNextAnswer, WereAnswers}
-use Rattle.neli_runs.proofs.Places.{answer_gives, answer_grows, last_append, last_step, single_append, single_step}
+use Rattle.neli_router.specs.laws.Places.{answer_gives, answer_grows, last_append, last_step, single_append, single_step}
 
 -- ---- lists
 

@@ -29,7 +29,7 @@ use Rattle.neli_runs.specs.Outcomes.{is_numbered}
 use Rattle.neli_runs.specs.laws.Deliveries.{delivered}
 use Rattle.neli_runs.specs.laws.Kept.{Agrees, IsFresh, IsKept, IsOwned, IsSlot, Pending, multicast}
 use Rattle.neli_runs.proofs.Alike.{received_same}
-use Rattle.neli_runs.proofs.Places.{lt_zero}
+use Rattle.neli_router.specs.laws.Places.{lt_zero}
 use Rattle.neli_runs.proofs.Readings.{answer_push, drop_append, drop_rest, drop_within, last_push, length_push}
 use Rattle.neli_runs.proofs.Readings.{readings_append, readings_push, single_push, were_grow, were_push}
 

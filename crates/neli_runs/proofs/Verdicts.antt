@@ -1,14 +1,9 @@
--- How an answer stands, one delivery more at a time.
-use Rattle.std.proofs.Common.{ℕ, zero, suc, ◌≡◌, ◌≢◌, ◌≤◌, ◌<◌, ◌+◌, ◌-◌, Bool, true, false, ◌||◌, min, List, [], ◌∷◌, ◌++◌}
-use Rattle.std.proofs.Common.{length, take, drop, Option, Some, None, Ok, Err, refl, sym, ap, ◌∙◌, inl, inr, ◌⊎◌, arith}
-use Rattle.std.proofs.Common.{length-append, pos, ℤ, subst, Result}
+-- What an answer is that is complete.
+use Rattle.std.proofs.Common.{ℕ, zero, suc, ◌≡◌, ◌≤◌, Bool, true, false, min, List, [], ◌∷◌, ◌++◌, length, take}
+use Rattle.std.proofs.Common.{Option, Some, None, Ok, Err, refl, sym, ap, ◌∙◌, inl, inr, arith, pos, ℤ, subst, Result}
 use Rattle.std.specs.Prelude.{nat_lt, if◌then◌else◌}
 use Rattle.std.specs.List.{list_any, slice_get}
-use Rattle.std.proofs.Math.Seq.{take-append-add, take-append_seam, take-length}
 use Rattle.std.proofs.lemmas.Bool.Decides.{Decides-int_eq, nat_tests}
-use Rattle.std.proofs.lemmas.List.{take-append-le, take_all}
-use Rattle.std.proofs.lemmas.List.Folds.{list_any-append}
-use Rattle.std.proofs.lemmas.Option.{slice_get_past}
 use Rattle.std.specs.Ordering.{int_eq}
 use Rattle.neli_wire.specs.DeError.{DeError}
 use Rattle.neli_reader.specs.Framed.{Nlmsghdr}
@@ -22,220 +17,14 @@ use Rattle.neli_reader.specs.Retyping.{IsTyped}
 use Rattle.neli_deliveries.specs.declared.delivery.Delivery.{Delivery}
 use Rattle.neli_deliveries.specs.declared.delivery.Delivery.TheVariants as delivery
 use Rattle.neli_deliveries.specs.Readings.{IsReading, Item}
-use Rattle.neli_router.specs.Rule.{ends_alone, ends_at, first_place, item_of, last_item, last_item_of_payload}
-use Rattle.neli_router.specs.Rule.{last_place, single_place}
+use Rattle.neli_router.specs.Rule.{ends_alone, first_place, last_item, last_item_of_payload, last_place, single_place}
 use Rattle.neli_router.specs.Verdicts.{code_verdict, end_code, error_verdict, fault_verdict, given_of, is_flagged}
-use Rattle.neli_router.specs.Verdicts.{last_given, last_verdict, verdict, verdict_at_end, verdict_with}
+use Rattle.neli_router.specs.Verdicts.{last_given, last_verdict, verdict, verdict_at_end}
 use Rattle.neli_router.specs.declared.verdict.Verdict.TheVariants as stands
+use Rattle.neli_router.specs.laws.Places.{true_or_false, within_front}
+use Rattle.neli_router.specs.laws.Verdicts.{item_there, take_next}
 use Rattle.neli_runs.specs.Outcomes.{AreReadings}
 use Rattle.neli_runs.specs.Whole.{IsWholeAnswer}
-use Rattle.neli_runs.proofs.Places.{last_append, last_step, lt_suc, single_append, slice_front, true_or_false}
-use Rattle.neli_runs.proofs.Places.{within_front}
-
-least : (n e : ℕ) → nat_lt e n ≡ false → n ≤ e
-least n e h = grind (arith, nat_tests)
-
-at_most : (n e : ℕ) → nat_lt e (suc n) ≡ true → e ≤ n
-at_most n e h = grind (arith, nat_tests)
-
-within : (n e : ℕ) → nat_lt e n ≡ true → suc e ≤ n
-within n e h = grind (arith, nat_tests)
-
-self_lt : (n : ℕ) → nat_lt n n ≡ false
-self_lt n = grind (arith, nat_tests)
-
-lt_next : (n : ℕ) → nat_lt n (suc n) ≡ true
-lt_next n = grind (arith, nat_tests)
-
-sum_back : (n e : ℕ) → n ≤ e → e ≡ n + (e - n)
-sum_back n e h = omega (arith, h)
-
-last_at : {A : Type 0} (xs : List A) (x : A) → slice_get (xs ++ x ∷ []) (length xs) ≡ Some x
-last_at [] x = refl
-last_at (y ∷ xs) x = last_at xs x
-
-longer : {A : Type 0} (xs : List A) (x : A) → length (xs ++ x ∷ []) ≡ suc (length xs)
-longer xs x = omega (arith, length-append xs (x ∷ []))
-
-append_none : {A : Type 0} (xs : List A) → xs ++ [] ≡ xs
-append_none {A = A} [] = refl
-append_none {A = A} (x ∷ xs) = ap (λ (ys : List A). x ∷ ys) (append_none xs)
-
-front_same : {A : Type 0} (xs more : List A) (i : ℕ) → suc i ≤ length xs → slice_get (xs ++ more) i ≡ slice_get xs i
-front_same [] more i h = absurd (omega (arith, h))
-front_same (x ∷ xs) more zero h = refl
-front_same (x ∷ xs) more (suc i) h = front_same xs more i (omega (arith, h))
-
-module _ {K P : Type 0} (number_of : K → ℕ) (needs numbered : Bool) where
-  abbrev end_of : List (Item K P) → ℕ
-  end_of items = last_place number_of needs numbered items
-
-  -- where the answers have not ended, nothing is given at the last place yet
-  none_last : (items : List (Item K P)) → nat_lt (end_of items) (length items) ≡ false
-      → slice_get items (end_of items) ≡ None
-  none_last items goes = slice_get_past items (end_of items) (least (length items) (end_of items) goes)
-
-  -- and all items are given as they are
-  given_open : (items : List (Item K P)) → nat_lt (end_of items) (length items) ≡ false
-      → given_of number_of needs numbered items ≡ items
-  given_open items goes = rw (none_last items goes) (rw
-      (take_all (end_of items) items (least (length items) (end_of items) goes)) (append_none items))
-
-  verdict_open : (items : List (Item K P)) → nat_lt (end_of items) (length items) ≡ false
-      → verdict number_of needs numbered items
-      ≡ (if list_any (is_flagged 16) items then stands.Interrupted else stands.Pending)
-  verdict_open items goes = rw (given_open items goes, none_last items goes) refl
-
-  -- ---- one more
-
-  combine : (a ended : Bool) (g : Item K P)
-      → (if a || (is_flagged 16 g || false) then stands.Interrupted else (if ended then last_verdict g else stands.Pending))
-      ≡ verdict_with (if a then stands.Interrupted else stands.Pending) ended g
-  combine true ended g = refl
-  combine false ended g = elim (is_flagged 16 g) as (λ b. (if b || false then stands.Interrupted
-      else (if ended then last_verdict g else stands.Pending))
-      ≡ (if b then stands.Interrupted else (if ended then last_verdict g else stands.Pending)))
-      [ true ↦ refl | false ↦ refl ]
-
-  module _ (items : List (Item K P)) (x : Item K P) (goes : nat_lt (end_of items) (length items) ≡ false) where
-    abbrev after : Bool
-    after = nat_lt (single_place number_of numbered items) (length items)
-
-    abbrev all : List (Item K P)
-    all = items ++ x ∷ []
-
-    still : nat_lt (end_of all) (length items) ≡ false
-    still = last_append number_of numbered needs items (x ∷ []) (length items) (omega arith) ∙ goes
-
-    after_same : nat_lt (single_place number_of numbered all) (length items) ≡ after
-    after_same = single_append number_of numbered items (x ∷ []) (length items) (omega arith)
-
-    ends : nat_lt (end_of all) (suc (length items)) ≡ ends_at number_of needs numbered after x
-    ends = last_step number_of numbered needs all (length items) x (last_at items x) still
-        ∙ ap (λ (b : Bool). ends_at number_of needs numbered b x) after_same
-
-    end_here : ends_at number_of needs numbered after x ≡ true → end_of all ≡ length items
-    end_here e =
-        let low : length items ≤ end_of all = least (length items) (end_of all) still in
-        let high : end_of all ≤ length items = at_most (length items) (end_of all) (ends ∙ e) in
-        omega (arith, low, high)
-
-    goes_on : ends_at number_of needs numbered after x ≡ false → nat_lt (end_of all) (length all) ≡ false
-    goes_on e = rw (longer items x) (ends ∙ e)
-
-    last_here : ends_at number_of needs numbered after x ≡ true
-        → last_given number_of needs numbered all (slice_get all (end_of all)) ≡ last_item needs after x ∷ []
-    last_here e = rw (end_here e) (rw (last_at items x) (ap (λ (b : Bool). last_item needs b x ∷ [])
-        (ap (λ (n : ℕ). nat_lt (single_place number_of numbered all) n) (end_here e) ∙ after_same)))
-
-    given_here : ends_at number_of needs numbered after x ≡ true
-        → given_of number_of needs numbered all ≡ items ++ last_item needs after x ∷ []
-    given_here e =
-        let front : take (end_of all) all ≡ items = ap (λ (n : ℕ). take n all) (end_here e)
-        ∙ take-append_seam items (x ∷ []) in
-        rw (last_here e) (ap (λ (ys : List (Item K P)). ys ++ last_item needs after x ∷ []) front)
-
-    verdict_ended : ends_at number_of needs numbered after x ≡ true → verdict number_of needs numbered all
-        ≡ verdict_with (if list_any (is_flagged 16) items then stands.Interrupted else stands.Pending) true
-        (last_item needs after x)
-    verdict_ended e = rw (given_here e, last_here e)
-        (rw (list_any-append (is_flagged 16) items (last_item needs after x ∷ []))
-        (combine (list_any (is_flagged 16) items) true (last_item needs after x)))
-
-    verdict_goes_on : ends_at number_of needs numbered after x ≡ false → verdict number_of needs numbered all
-        ≡ verdict_with (if list_any (is_flagged 16) items then stands.Interrupted else stands.Pending) false x
-    verdict_goes_on e = verdict_open all (goes_on e)
-        ∙ rw (list_any-append (is_flagged 16) items (x ∷ [])) (combine (list_any (is_flagged 16) items) false x)
-
-    pub verdict_more : verdict number_of needs numbered all
-        ≡ verdict_with (verdict number_of needs numbered items) (ends_at number_of needs numbered after x)
-        (item_of number_of needs numbered after x)
-    verdict_more = elim (true_or_false (ends_at number_of needs numbered after x)) [
-      | inl e ↦ rw (e, verdict_open items goes) (verdict_ended e)
-      | inr e ↦ rw (e, verdict_open items goes) (verdict_goes_on e)
-    ]
-
-    pub given_more : given_of number_of needs numbered all
-        ≡ given_of number_of needs numbered items ++ item_of number_of needs numbered after x ∷ []
-    given_more = elim (true_or_false (ends_at number_of needs numbered after x)) [
-      | inl e ↦ rw (e, given_open items goes) (given_here e)
-      | inr e ↦ rw (e, given_open items goes) (given_open all (goes_on e))
-    ]
-
-  -- ---- what comes later
-
-  module _ (items more : List (Item K P)) (over : nat_lt (end_of items) (length items) ≡ true) where
-    inside : suc (end_of items) ≤ length items
-    inside = within (length items) (end_of items) over
-
-    same_end : end_of (items ++ more) ≡ end_of items
-    same_end =
-        let low : end_of items ≤ end_of (items ++ more) = least (end_of items) (end_of (items ++ more))
-        (last_append number_of numbered needs items more (end_of items) (omega (arith, inside))
-        ∙ self_lt (end_of items)) in
-        let high : end_of (items ++ more) ≤ end_of items = at_most (end_of items) (end_of (items ++ more))
-        (last_append number_of numbered needs items more (suc (end_of items)) inside ∙ lt_next (end_of items)) in
-        omega (arith, low, high)
-
-    same_single : nat_lt (single_place number_of numbered (items ++ more)) (end_of items)
-        ≡ nat_lt (single_place number_of numbered items) (end_of items)
-    same_single = single_append number_of numbered items more (end_of items) (omega (arith, inside))
-
-    same_item : slice_get (items ++ more) (end_of items) ≡ slice_get items (end_of items)
-    same_item = front_same items more (end_of items) inside
-
-    same_last : (o : Option (Item K P)) → nat_lt (single_place number_of numbered (items ++ more)) (end_of (items ++ more))
-        ≡ nat_lt (single_place number_of numbered items) (end_of items)
-        → last_given number_of needs numbered (items ++ more) o ≡ last_given number_of needs numbered items o
-    same_last None e = refl
-    same_last (Some x) e = ap (λ (b : Bool). last_item needs b x ∷ []) e
-
-    last_stays : last_given number_of needs numbered (items ++ more) (slice_get (items ++ more) (end_of (items ++ more)))
-        ≡ last_given number_of needs numbered items (slice_get items (end_of items))
-    last_stays = rw (← same_item) (rw (← same_end)
-        (same_last (slice_get (items ++ more) (end_of (items ++ more)))
-        (ap (λ (n : ℕ). nat_lt (single_place number_of numbered (items ++ more)) n) same_end ∙ same_single)))
-
-    given_stays : given_of number_of needs numbered (items ++ more) ≡ given_of number_of needs numbered items
-    given_stays =
-        let front : take (end_of (items ++ more)) (items ++ more) ≡ take (end_of items) items =
-        ap (λ (n : ℕ). take n (items ++ more)) same_end
-        ∙ take-append-le (end_of items) items more (omega (arith, inside)) in
-        rw (last_stays, front) refl
-
-    pub verdict_over : verdict number_of needs numbered (items ++ more) ≡ verdict number_of needs numbered items
-    verdict_over = rw (given_stays, last_stays) refl
-
-  -- a mark that was given stays
-  marked_stays : (items more : List (Item K P)) → nat_lt (end_of items) (length items) ≡ false
-      → list_any (is_flagged 16) items ≡ true
-      → verdict number_of needs numbered (items ++ more) ≡ stands.Interrupted
-  marked_stays items more goes marked =
-      let n : length items ≤ end_of (items ++ more) = least (length items) (end_of (items ++ more))
-      (last_append number_of numbered needs items more (length items) (omega arith) ∙ goes) in
-      let cut : take (end_of (items ++ more)) (items ++ more)
-      ≡ items ++ take (end_of (items ++ more) - length items) more =
-      ap (λ (k : ℕ). take k (items ++ more)) (sum_back (length items) (end_of (items ++ more)) n)
-      ∙ take-append-add items more (end_of (items ++ more) - length items) in
-      let any : list_any (is_flagged 16) (given_of number_of needs numbered (items ++ more)) ≡ true =
-      list_any-append (is_flagged 16) (take (end_of (items ++ more)) (items ++ more)) _
-      ∙ rw (cut, list_any-append (is_flagged 16) items (take (end_of (items ++ more) - length items) more), marked) refl in
-      rw any refl
-
-  marked_kept : (items more : List (Item K P)) (marked : Bool) → nat_lt (end_of items) (length items) ≡ false
-      → list_any (is_flagged 16) items ≡ marked → verdict number_of needs numbered items ≢ stands.Pending
-      → verdict number_of needs numbered (items ++ more) ≡ verdict number_of needs numbered items
-  marked_kept items more true goes is not =
-      marked_stays items more goes is ∙ sym (verdict_open items goes ∙ rw is refl)
-  marked_kept items more false goes is not = absurd (not (verdict_open items goes ∙ rw is refl))
-
-  -- so a verdict but pending stays
-  pub verdict_stays : (items more : List (Item K P)) → verdict number_of needs numbered items ≢ stands.Pending
-      → verdict number_of needs numbered (items ++ more) ≡ verdict number_of needs numbered items
-  verdict_stays items more not = elim (true_or_false (nat_lt (end_of items) (length items))) [
-    | inl over ↦ verdict_over items more over
-    | inr goes ↦ marked_kept items more (list_any (is_flagged 16) items) goes refl not
-  ]
 
 -- ---- what is complete
 
@@ -330,16 +119,6 @@ end_same i l h k = grind (arith, nat_tests)
 last_least : (needs : Bool) (f s : ℕ) → min f (if needs then suc s else s) ≤ f
 last_least true f s = omega arith
 last_least false f s = omega arith
-
-item_there : {A : Type 0} (xs : List A) (i : ℕ) → suc i ≤ length xs → (x : A) × (slice_get xs i ≡ Some x)
-item_there [] i h = absurd (omega (arith, h))
-item_there (x ∷ xs) zero h = (x, refl)
-item_there (x ∷ xs) (suc i) h = item_there xs i (omega (arith, h))
-
-take_next : {A : Type 0} (xs : List A) (i : ℕ) (x : A) → slice_get xs i ≡ Some x → take (suc i) xs ≡ take i xs ++ x ∷ []
-take_next [] i x at = cc
-take_next (y ∷ xs) zero x at = (let same : y ≡ x = cc in rw same refl)
-take_next (y ∷ xs) (suc i) x at = ap (λ (zs : List _). y ∷ zs) (take_next xs i x at)
 
 module _ {K P V : Type 0} (type_of : ℕ → K) (number_of : K → ℕ) (view : P → V) (size : P → ℕ) (read : List ℕ
     → Result V DeError) (needs numbered : Bool) where

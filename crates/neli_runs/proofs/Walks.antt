@@ -34,7 +34,7 @@ use Rattle.neli_runs.proofs.Readings.{drop_none, length_push, next_end, next_ite
 use Rattle.neli_runs.proofs.Steps.{agrees_close, agrees_close_none, agrees_handed, agrees_pending, agrees_read}
 use Rattle.neli_runs.proofs.Steps.{agrees_read_end, agrees_read_none, agrees_read_waits, agrees_sent, agrees_unsent}
 use Rattle.neli_runs.proofs.Steps.{handed_by, hands_over, open_test}
-use Rattle.neli_runs.proofs.Places.{true_or_false}
+use Rattle.neli_router.specs.laws.Places.{true_or_false}
 
 -- a refusal of a request that is not for memory is its outcome
 refused-is : {T P : Type 0} (result : Result (List ℕ) (RouterError T P)) (takes : Type 0) (e : RouterError T P)

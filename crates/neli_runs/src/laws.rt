@@ -12,7 +12,7 @@ ghost use Rattle.neli_deliveries.specs.Readings.{Item};
 ghost use Rattle.neli_router.specs.declared.reply.Reply.{Reply as Answer};
 ghost use Rattle.neli_router.specs.declared.reply.Reply.TheVariants as reply;
 ghost use Rattle.neli_router.specs.Rule.{answer, ends_at, item_of, last_place, single_place};
-ghost use Rattle.neli_router.specs.Verdicts.{given_of, verdict, verdict_with};
+ghost use Rattle.neli_router.specs.Verdicts.{given_of, is_filtered, verdict, verdict_with};
 ghost use Rattle.neli_router.specs.declared.verdict.Verdict.TheVariants as stands;
 ghost use Rattle.neli_router.specs.Sends.{frame_or_refusal, request};
 ghost use Rattle.neli_runs.specs.Deliveries.{deliveries};
@@ -224,6 +224,17 @@ pub fn verdicts_stay<RT: NlType, RP>()
         → verdict RT.wire_number needs numbered items ≢ stands.Pending
         → verdict RT.wire_number needs numbered (items ++ more)
         ≡ verdict RT.wire_number needs numbered items }
+{}
+
+/// What a handle was given stands as what was delivered to it: the items that reads returned have the verdict of the
+/// answer, and say of filtering what the answer says. So `neli_router::verdict_of`, by a list of them, is the answer's.
+pub fn given_items_stand_alike<RT: NlType, RP>()
+    ensures verdict { (needs numbered : Bool) (items : List (Item RT RP))
+        → verdict RT.wire_number needs numbered (given_of RT.wire_number needs numbered items)
+        ≡ verdict RT.wire_number needs numbered items }
+    ensures filtered { (needs numbered : Bool) (items : List (Item RT RP))
+        → is_filtered RT.wire_number needs numbered (given_of RT.wire_number needs numbered items)
+        ≡ is_filtered RT.wire_number needs numbered items }
 {}
 
 /// Where the verdict is `Complete`, the items given are all messages of the answer, each once, in order and as it was

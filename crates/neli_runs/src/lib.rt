@@ -16,6 +16,6 @@ mod whole_run;
 pub use command::{Command, Outcome};
 pub use neli_router::{
     Deliveries, Delivery, GivenUp, HandleState, Heard, Loss, Missed, NlRouter,
-    NlRouterReceiverHandle, Notice, Reply, Verdict,
+    NlRouterReceiverHandle, Notice, Reply, Verdict, filtered_of, verdict_of,
 };
 pub use whole_run::run;

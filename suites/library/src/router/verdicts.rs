@@ -1,4 +1,4 @@
-//! How answers stand, and requests that are given up, over both stores.
+//! How answers stand, by their handles and by lists of their items, and requests that are given up, over both stores.
 //!
 //! The marks of a dump are those of `linux/netlink.h`: 0x10 is `NLM_F_DUMP_INTR`, 0x20 is `NLM_F_DUMP_FILTERED`.
 
@@ -8,12 +8,13 @@ use super::support::assert_is_at;
 use neli::consts::nl::NlmF;
 use neli::err::{RouterError, SocketError};
 use neli::genl::Genlmsghdr;
-use neli::nl::NlPayload;
+use neli::nl::{NlPayload, Nlmsghdr};
 use neli::router::synchronous::laws::{
-    complete_answers_are_whole, verdicts_follow_reads, verdicts_stay,
+    complete_answers_are_whole, given_items_stand_alike, verdicts_follow_reads, verdicts_stay,
 };
 use neli::router::synchronous::{
-    Deliveries, Log, Loss, Missed, NlRouter, NlRouterReceiverHandle, Notice, Queues, Reply, Verdict,
+    Deliveries, Log, Loss, Missed, NlRouter, NlRouterReceiverHandle, Notice, Queues, Reply,
+    Verdict, filtered_of, verdict_of,
 };
 use neli::types::Buffer;
 use neli::utils::Groups;
@@ -22,6 +23,8 @@ use std::io::ErrorKind;
 use std::process::Abort;
 
 type Handle = NlRouterReceiverHandle<u16, Buffer>;
+
+type Item = Result<Nlmsghdr<u16, Buffer>, RouterError<u16, Buffer>>;
 
 /// A part of a dump with number 0 and port 7, and the same with the marks.
 const PART: &str = "10000000100002000000000007000000";
@@ -149,19 +152,19 @@ fn come<D: Deliveries>(rt: &impl Abort, alloc: Global, router: &mut NlRouter<D>,
         .expect(rt, "memory");
 }
 
-/// Reads a handle until it waits or ends, and counts what it is given.
+/// Reads a handle until it waits or ends, and keeps what it is given.
 fn read<D: Deliveries>(
     rt: &impl Abort,
     alloc: Global,
     router: &mut NlRouter<D>,
     handle: &mut Handle,
-) -> usize {
-    let mut count: usize = 0;
+) -> Vec<Item> {
+    let mut items = Vec::new(alloc);
     loop {
         let reply = router.next_typed::<u16, Buffer, _, _>(alloc, handle);
         match reply.expect(rt, "memory") {
-            Reply::Item(_) => count = count.saturating_add(1),
-            _ => return count,
+            Reply::Item(item) => items.push(item).expect(rt, "memory"),
+            _ => return items,
         }
     }
 }
@@ -174,10 +177,12 @@ fn stands<D: Deliveries>(rt: &impl Abort, alloc: Global) {
             come(rt, alloc, &mut router, text);
         }
         assert_is_at(rt, *row, router.verdict(&handle), Verdict::Pending);
-        read(rt, alloc, &mut router, &mut handle);
+        let items = read(rt, alloc, &mut router, &mut handle);
         assert_is_at(rt, *row, router.verdict(&handle), *verdict);
+        assert_is_at(rt, *row, verdict_of(NlmF::from(*flags), &items), *verdict);
         let heard = router.heard(&handle).expect(rt, "an open handle");
         assert_is_at(rt, *row, heard.filtered, *filtered);
+        assert_is_at(rt, *row, filtered_of(NlmF::from(*flags), &items), *filtered);
         assert_is_at(rt, *row, router.verdict(&multicast), Verdict::Pending);
     }
 }
@@ -211,7 +216,7 @@ fn gives_up<D: Deliveries>(rt: &impl Abort, alloc: Global, row: &str) {
     come(rt, alloc, &mut router, END);
     assert_is_at(rt, row, is_in_use(alloc, &mut router, 0), false);
     come(rt, alloc, &mut router, ACK_OF_1);
-    assert_is_at(rt, row, read(rt, alloc, &mut router, &mut other), 1);
+    assert_is_at(rt, row, read(rt, alloc, &mut router, &mut other).len(), 1);
     assert_is_at(rt, row, router.verdict(&other), Verdict::Complete);
 }
 
@@ -280,7 +285,7 @@ fn a_recorded_dump_of_no_such_table_has_failed(rt: HostRuntime) {
     assert_is_at(
         &rt,
         "one item",
-        read(&rt, alloc, &mut router, &mut handle),
+        read(&rt, alloc, &mut router, &mut handle).len(),
         1,
     );
     assert_is_at(&rt, "its end", router.verdict(&handle), Verdict::Failed(-2));
@@ -346,5 +351,6 @@ fn who_listens_goes_on(rt: HostRuntime) {
 fn laws_of_verdicts_are_called() {
     verdicts_follow_reads::<u16, Buffer>();
     verdicts_stay::<u16, Buffer>();
+    given_items_stand_alike::<u16, Buffer>();
     complete_answers_are_whole::<u16, Buffer>();
 }

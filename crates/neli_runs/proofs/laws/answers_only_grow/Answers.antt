@@ -1,4 +1,4 @@
-use Rattle.neli_runs.proofs.Places.{answer_grows, end_stays}
+use Rattle.neli_router.specs.laws.Places.{answer_grows, end_stays}
 use Rattle.neli_runs.proofs.laws.answers_only_grow.Goals as goal
 
 pub returns-clause-item : goal.returns-clause-item

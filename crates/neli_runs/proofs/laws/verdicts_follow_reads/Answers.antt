@@ -1,4 +1,4 @@
-use Rattle.neli_runs.proofs.Verdicts.{given_more, verdict_more}
+use Rattle.neli_router.specs.laws.Verdicts.{given_more, verdict_more}
 use Rattle.neli_runs.proofs.laws.verdicts_follow_reads.Goals as goal
 
 pub returns-clause-verdict : goal.returns-clause-verdict

@@ -1,4 +1,4 @@
-use Rattle.neli_runs.proofs.Verdicts.{verdict_stays}
+use Rattle.neli_router.specs.laws.Verdicts.{verdict_stays}
 use Rattle.neli_runs.proofs.laws.verdicts_stay.Goals as goal
 
 pub returns : goal.returns

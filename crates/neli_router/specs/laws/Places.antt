@@ -36,7 +36,7 @@ eq_from_suc e i h = grind (arith, nat_tests)
 over_place : (i e : ℕ) → nat_lt e i ≡ true → (nat_lt i e ≡ false) × ((i == e) ≡ false)
 over_place i e p = (grind (arith, nat_tests), grind (arith, nat_tests))
 
-lt_longer : (e i n : ℕ) → i ≤ n → nat_lt e i ≡ true → nat_lt e n ≡ true
+pub lt_longer : (e i n : ℕ) → i ≤ n → nat_lt e i ≡ true → nat_lt e n ≡ true
 lt_longer e i n h p = grind (arith, nat_tests)
 
 pub true_or_false : (b : Bool) → (b ≡ true) ⊎ (b ≡ false)
