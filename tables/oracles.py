@@ -102,13 +102,16 @@ class Ynl:
 
     def fields(self, node, values, where, counts):
         """The values of a structure, by the names of its fields."""
-        if (where.split(' ')[0], node.line.option('struct', node.line.option('after'))) in self.own:
-            return
+        is_own = (where.split(' ')[0], node.line.option('struct', node.line.option('after'))) in self.own
         for name, value in values.items():
             inner = value.items() if isinstance(value, dict) else ((None, value),)
             for deeper, said in inner:
                 full = plain_name(f'{name}.{deeper}' if deeper else name)
-                self.leaf(field_of(node, full), said, f'{where}.{full}', counts)
+                field = field_of(node, full)
+                if is_own and (field is None or not is_value(field, said)):
+                    self.unread.add(f'{where}.{full}: own/ says otherwise')
+                else:
+                    self.leaf(field, said, f'{where}.{full}', counts)
 
     def leaf(self, node, value, where, counts):
         ours = node and (node.value, node.names)
