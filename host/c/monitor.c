@@ -1,8 +1,10 @@
-/* `monitor [-c COUNT] [-b BYTES] FAMILY..` prints what comes to all multicast groups of these families, a line each, as
- * `2026-11-28T00:41:05.123456Z RTM_NEWADDR family 2 length 76 flags 0x0 number 0 port 0`: of routing with the family of
- * addresses, of generic netlink with the command. A family is `route`, or one of generic netlink by its name. Where some were lost it says so, as `lost some: No buffer space available`, and goes on. It ends
- * after COUNT messages, or by SIGINT or SIGTERM: with status 0 where all are there, and 4 where not. -b sets the size of
- * the socket's buffer, which is 4 MiB where the system lets it. */
+/* `monitor [-c COUNT] [-b BYTES] FAMILY..` prints what comes to all multicast groups of these families, a line each,
+ * as `2026-11-28T00:41:05.123456Z RTM_NEWADDR family 2 length 76 flags 0x0 number 0 port 0`: of routing with the family
+ * of addresses, of generic netlink with the command. A family is `route`, or one of generic netlink by its name.
+ *
+ * Where some were lost it says so, as `lost some: No buffer space available`, and goes on. It ends after COUNT lines, or
+ * by SIGINT or SIGTERM: with status 0 where all are there, and 4 where not. -b sets the size of the socket's buffer,
+ * which is 4 MiB where the system lets it. */
 #define _GNU_SOURCE
 #include "groups.h"
 #include "request.h"
@@ -136,7 +138,8 @@ static void print_type(const struct neli_host *host, const struct neli_message *
 static void print_message(const struct neli_host *host, const struct neli_message *message) {
     print_time();
     print_type(host, message);
-    printf(" length %u flags 0x%x number %u port %u\n", message->length, message->flags, message->number, message->port);
+    printf(" length %u flags 0x%x number %u port %u\n", message->length, message->flags, message->number,
+           message->port);
 }
 
 /* Prints what is there. */

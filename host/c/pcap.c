@@ -60,7 +60,8 @@ const char *pcap_open(struct pcap_file *file) {
     struct file_header header;
     if (file->size < sizeof header) return "it is no pcap file";
     memcpy(&header, file->bytes, sizeof header);
-    file->is_turned = header.magic == __builtin_bswap32(MAGIC) || header.magic == __builtin_bswap32(MAGIC_OF_NANOSECONDS);
+    uint32_t turned = __builtin_bswap32(header.magic);
+    file->is_turned = turned == MAGIC || turned == MAGIC_OF_NANOSECONDS;
     uint32_t magic = number(file, header.magic);
     if (magic != MAGIC && magic != MAGIC_OF_NANOSECONDS) return "it is no pcap file";
     if (number(file, header.link_type) != LINK_TYPE) return "its link type is not netlink's";

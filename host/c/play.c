@@ -8,7 +8,8 @@
 #define ECHO (sizeof(struct nlmsghdr) + sizeof(int32_t))
 
 /* The next message of a datagram; its place in `at`. */
-static bool next_message(const struct pcap_frame *frame, struct neli_walk *walk, struct neli_message *message, size_t *at) {
+static bool next_message(const struct pcap_frame *frame, struct neli_walk *walk, struct neli_message *message,
+                         size_t *at) {
     *at = walk->place;
     return neli_next_message(frame->bytes, frame->length, walk, message) == NELI_ITEM;
 }
@@ -152,7 +153,8 @@ long play_send(struct play *play, int socket, uint16_t protocol, const uint8_t *
 /* ---- Answers and notifications ---- */
 
 /* Whether a message of a frame answers a request of the recording; `asked` is that request, where it was sent. */
-static bool is_answer(const struct play *play, size_t at, const struct neli_message *message, const struct asked **asked) {
+static bool is_answer(const struct play *play, size_t at, const struct neli_message *message,
+                      const struct asked **asked) {
     const struct pcap_frame *frame = &play->frames[at].frame;
     *asked = NULL;
     if (frame->way == PCAP_GROUP && message->port == 0) return false;

@@ -389,7 +389,8 @@ ssize_t recvfrom(int fd, void *bytes, size_t length, int flags, struct sockaddr 
 }
 
 ssize_t recv(int fd, void *bytes, size_t length, int flags) {
-    return socket_of(fd) != NULL ? recvfrom(fd, bytes, length, flags, NULL, NULL) : REAL(recv)(fd, bytes, length, flags);
+    if (socket_of(fd) == NULL) return REAL(recv)(fd, bytes, length, flags);
+    return recvfrom(fd, bytes, length, flags, NULL, NULL);
 }
 
 ssize_t read(int fd, void *bytes, size_t length) {

@@ -58,8 +58,8 @@ pub enum Way {
 /// What passed over a link, in its order; as a [`Link`](crate::link::Link) it plays that.
 ///
 /// - **A request** has to be one of the recording, byte for byte but for sequence numbers and ports; the first such
-///   that was not sent yet. Another is refused as [`Unrecorded`](crate::err::Unrecorded). A recording without any request
-///   takes every request, and its answers are given in their order, by their sequence numbers.
+///   that was not sent yet. Another is refused as [`Unrecorded`](crate::err::Unrecorded). A recording without any
+///   request takes every request, and its answers are given in their order, by their sequence numbers.
 /// - **An answer** comes once its request was sent, with the sequence number and the port of that. All else comes once
 ///   all requests that stand before it were sent.
 /// - **A wait** for more than what is there ends at once, as [`Ended`](crate::err::SocketError::Ended): what is left is

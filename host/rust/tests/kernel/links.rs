@@ -5,6 +5,7 @@ use neli::consts::nl::NlmF;
 use neli::consts::rtnl::{Ifla, IflaInfo, RtAddrFamily, Rtm};
 use neli::consts::socket::NlFamily;
 use neli::err::RouterError;
+use neli::link::Link;
 use neli::nl::NlPayload;
 use neli::router::synchronous::{NlRouter, NlRouterReceiverHandle};
 use neli::rtnl::{Ifinfomsg, IfinfomsgBuilder, RtattrBuilder};
@@ -38,7 +39,12 @@ pub fn named(kind: &str, name: &str) -> Ifinfomsg {
 }
 
 /// Sends a change, and waits for the acknowledgement.
-pub fn ask(router: &NlRouter, kind: Rtm, flags: NlmF, body: impl ToBytes) -> Result<(), RouterError> {
+pub fn ask(
+    router: &NlRouter<impl Link + 'static>,
+    kind: Rtm,
+    flags: NlmF,
+    body: impl ToBytes,
+) -> Result<(), RouterError> {
     let replies: NlRouterReceiverHandle<Rtm, Buffer> =
         router.send(kind, flags | NlmF::ACK, NlPayload::Payload(body))?;
     for reply in replies {
@@ -58,7 +64,7 @@ pub fn make_pairs(count: usize) -> usize {
 }
 
 /// Requests all links.
-pub fn dump(router: &NlRouter) -> Links {
+pub fn dump(router: &NlRouter<impl Link + 'static>) -> Links {
     let all = link(0).build().expect("a link");
     router.send(Rtm::Getlink, NlmF::DUMP, NlPayload::Payload(all)).expect("a dump is asked for")
 }
@@ -80,7 +86,7 @@ pub fn name(link: &Ifinfomsg) -> String {
 }
 
 /// Sets the loopback link up or down.
-pub fn set_loopback(router: &NlRouter, is_up: bool) {
+pub fn set_loopback(router: &NlRouter<impl Link + 'static>, is_up: bool) {
     let change = if is_up { link(1).up() } else { link(1).down() };
     ask(router, Rtm::Setlink, NlmF::empty(), change.build().expect("a link")).expect("the loopback link is changed");
 }

@@ -15,7 +15,8 @@ use neli::consts::rtnl::{Ifla, Rtm};
 use neli::consts::socket::NlFamily;
 use neli::err::{RouterError, SocketError};
 use neli::nl::{NlPayload, NlmsghdrBuilder};
-use neli::router::synchronous::{NlRouter, NlRouterReceiverHandle};
+use neli::recording::{Recorder, Recording};
+use neli::router::synchronous::{NlRouter, NlRouterReceiverHandle, Notice};
 use neli::rtnl::{Ifinfomsg, RtattrBuilder};
 use neli::socket::synchronous::NlSocketHandle;
 use neli::types::Buffer;
@@ -81,6 +82,31 @@ fn a_dump_of_many_datagrams_is_read_to_its_end() {
         }
         assert!(datagrams > 2, "{datagrams} datagrams");
         assert_eq!(found, 2 * MANY + 1);
+    });
+}
+
+#[test]
+fn what_a_recorder_keeps_is_played_without_the_kernel() {
+    alone(|| {
+        assert_eq!(make_pairs(MANY), 2 * MANY + 1);
+        let socket = NlSocketHandle::connect(NlFamily::Route, None, Groups::new_groups(&[LINK_GROUP]));
+        let (router, mut multicast) =
+            NlRouter::over(Recorder::new(socket.expect("a socket connects"))).expect("a router");
+        set_loopback(&router, true);
+        let found = names(dump(&router));
+        let notified = multicast.listen::<Rtm, Ifinfomsg>().expect("a notification comes");
+        assert!(matches!(notified, Notice::Message(it) if *it.nl_type() == Rtm::Newlink));
+        let mut file = Vec::new();
+        router.link().recording().write_pcap(&mut file).expect("a file is written");
+
+        let recording = Recording::from_pcap(&file, NlFamily::Route).expect("it is read");
+        let (router, mut multicast) = NlRouter::over(recording).expect("a router");
+        router.set_next_seq(4711);
+        set_loopback(&router, true);
+        assert_eq!(names(dump(&router)), found);
+        let played = multicast.listen::<Rtm, Ifinfomsg>().expect("it is played");
+        assert!(matches!(played, Notice::Message(it) if *it.nl_type() == Rtm::Newlink));
+        assert!(router.link().is_over());
     });
 }
 
