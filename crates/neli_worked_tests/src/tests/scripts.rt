@@ -2,8 +2,8 @@
 
 use super::support::assert_is_at;
 use neli::router::synchronous::{Deliveries, Log, Queues};
-use neli_program::status::Status;
 use neli_program::replay::replay;
+use neli_program::status::Status;
 use std::alloc::Global;
 use std::process::Abort;
 

@@ -3,9 +3,9 @@
 use super::readers::{Drip, Trickle};
 use super::support::{assert_is, assert_is_at};
 use super::writers::{Kept, Narrow};
+use neli_program::run::{Request, requested, run};
 use neli_program::status::Status;
 use neli_queues::Queues;
-use neli_program::run::{Request, requested, run};
 use std::alloc::Global;
 use std::io;
 use std::io::{ErrorKind, Read};

@@ -2,9 +2,9 @@
 
 use super::answers::ACKNOWLEDGED;
 use super::support::assert_is_at;
+use neli_program::replay::replay;
 use neli_program::status::Status;
 use neli_queues::Queues;
-use neli_program::replay::replay;
 use std::alloc::Global;
 use std::process::Abort;
 

@@ -1,9 +1,9 @@
 //! A datagram above 64 KB, and a script of more than a thousand commands.
 
 use super::support::assert_is_at;
-use neli_program::status::Status;
 use neli_log::Log;
 use neli_program::run::run;
+use neli_program::status::Status;
 use std::alloc::Global;
 use std::process::Abort;
 

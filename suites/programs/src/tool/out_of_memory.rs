@@ -6,9 +6,9 @@ use super::listing::{ANSWERS, DATAGRAMS, Row};
 use super::rewriting::PADDED;
 use super::support::{assert_is_at, decoded};
 use super::writers::Kept;
+use neli_program::run::run;
 use neli_program::status::Status;
 use neli_queues::Queues;
-use neli_program::run::run;
 use std::alloc::Global;
 use std::process::Abort;
 

@@ -1,10 +1,10 @@
 //! Shared parts of the tests of scripts: plays a script over both stores of deliveries.
 
 use super::support::assert_is_at;
-use neli_program::status::Status;
 use neli_log::Log;
-use neli_queues::Queues;
 use neli_program::replay::replay;
+use neli_program::status::Status;
+use neli_queues::Queues;
 use neli_runs::Deliveries;
 use std::alloc::Global;
 use std::process::Abort;

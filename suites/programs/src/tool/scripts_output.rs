@@ -3,9 +3,9 @@
 use super::readers::Drip;
 use super::support::assert_is_at;
 use super::writers::Narrow;
+use neli_program::replay::replay;
 use neli_program::status::Status;
 use neli_queues::Queues;
-use neli_program::replay::replay;
 
 const REPORT: usize = "ok\nwaits\n".len();
 
