@@ -12,6 +12,7 @@ import shutil
 import signal
 import struct
 import subprocess
+import sys
 import tempfile
 import time
 
@@ -332,6 +333,10 @@ def try_replay(at):
         not_run("replay, read by tshark", "it is not there")
     other = run(f"{at}/replay", path, "ip", "route", **how)
     assert "replay: the request differs at byte 0 from the one that the recording has next" in other.stdout, other
+    # 64 sockets, and EMFILE.
+    many = "import socket\nfor it in range(65): print(it, socket.socket(16, 3, 0).detach(), flush=True)"
+    opened = run(f"{at}/replay", path, sys.executable, "-c", many, **how).stdout
+    assert "\n63 " in opened and "\n64 " not in opened and "[Errno 24]" in opened, opened
     try_replayed_notifications(at, path, how)
     with open(path, "r+b") as it:
         it.truncate(os.path.getsize(path) - 1)

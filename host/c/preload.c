@@ -271,7 +271,11 @@ int socket(int domain, int type, int protocol) {
         if (it == sockets + socket_count) socket_count++;
     }
     pthread_mutex_unlock(&lock);
-    return both[0];
+    if (it != NULL) return both[0];
+    REAL(close)(both[0]);
+    if (is_playing) REAL(close)(both[1]);
+    errno = EMFILE;
+    return -1;
 }
 
 int close(int fd) {

@@ -40,6 +40,7 @@ pub struct Recorder<L> {
 
 impl<L: Link> Recorder<L> {
     /// One that has kept nothing yet.
+    #[must_use]
     pub fn new(link: L) -> Self {
         Recorder { link, frames: Mutex::default() }
     }
