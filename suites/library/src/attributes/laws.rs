@@ -9,8 +9,8 @@ use neli::consts::rtnl::{Ifla, Rta};
 use neli::genl::AttrType;
 use neli::rtnl::Rtattr;
 use neli::short::laws::{
-    all_attributes_are_looked_up, answers_and_bodies_are_their_parts, made_attributes_are_their_parts,
-    refusals_are_their_parts,
+    all_attributes_are_looked_up, answers_and_bodies_are_their_parts,
+    made_attributes_are_their_parts, refusals_are_their_parts,
 };
 use neli::types::{Buffer, FrameList};
 

@@ -36,10 +36,18 @@ pub fn put_settings(
 pub fn bridge(alloc: Global) -> Result<RtBuffer<Ifla, Buffer>, SerError> {
     let mut attrs: RtBuffer<Ifla, Buffer> = RtBuffer::new(alloc);
     attrs.put(alloc, Ifla::Ifname, "br0")?;
-    attrs.put_nest(alloc, Ifla::Linkinfo, |info: &mut RtBuffer<IflaInfo, Buffer>| {
-        info.put(alloc, IflaInfo::Kind, *b"bridge")?;
-        info.put_nest(alloc, IflaInfo::Data, |settings| put_settings(alloc, settings))
-    })?;
+    attrs.put_nest(
+        alloc,
+        Ifla::Linkinfo,
+        |info: &mut RtBuffer<IflaInfo, Buffer>| {
+            info.put(alloc, IflaInfo::Kind, *b"bridge")?;
+            info.put_nest(
+                alloc,
+                IflaInfo::Data,
+                |settings| put_settings(alloc, settings),
+            )
+        },
+    )?;
     Ok(attrs)
 }
 
@@ -73,8 +81,8 @@ fn groups(alloc: Global) -> Result<GenlBuffer<CtrlAttr, Buffer>, SerError> {
 fn generic_nests_are_marked(rt: HostRuntime) {
     let attrs = groups(rt.alloc()).expect(&rt, "groups");
     let want = [
-        28, 0, 7, 0x80, 24, 0, 1, 0x80, 11, 0, 1, 0, b'n', b'o', b't', b'i', b'f', b'y', 0, 0, 8, 0,
-        2, 0, 5, 0, 0, 0,
+        28, 0, 7, 0x80, 24, 0, 1, 0x80, 11, 0, 1, 0, b'n', b'o', b't', b'i', b'f', b'y', 0, 0, 8,
+        0, 2, 0, 5, 0, 0, 0,
     ];
     assert_written(&rt, rt.alloc(), &attrs, &want);
 }
@@ -92,7 +100,11 @@ fn one_attribute(rt: HostRuntime) {
     assert_is(&rt, *nest.rta_len(), 56);
     let list = groups(alloc).expect(&rt, "groups");
     let nest = Nlattr::nest_of(alloc, CtrlAttr::Ops, list).expect(&rt, "a nest");
-    assert_is(&rt, (*nest.nla_len(), *nest.nla_type().nla_nested()), (32, true));
+    assert_is(
+        &rt,
+        (*nest.nla_len(), *nest.nla_type().nla_nested()),
+        (32, true),
+    );
 }
 
 /// What a refusal prints whose length does not fit.
@@ -106,14 +118,20 @@ fn what_is_not_put_leaves_the_list(rt: HostRuntime) {
     let put = attrs.put(alloc, Ifla::Ifalias, zeros(&rt, alloc, 65532));
     assert_refused(&rt, alloc, put, TOO_LONG);
     let long = zeros(&rt, alloc, 65531);
-    let put = attrs.put_nest(alloc, Ifla::Linkinfo, |info: &mut RtBuffer<IflaInfo, Buffer>| {
-        info.put(alloc, IflaInfo::Data, long)
-    });
+    let put = attrs.put_nest(
+        alloc,
+        Ifla::Linkinfo,
+        |info: &mut RtBuffer<IflaInfo, Buffer>| { info.put(alloc, IflaInfo::Data, long) },
+    );
     assert_refused(&rt, alloc, put, TOO_LONG);
-    let put = attrs.put_nest(alloc, Ifla::Linkinfo, |info: &mut RtBuffer<IflaInfo, Buffer>| {
-        info.put(alloc, IflaInfo::Kind, *b"vlan")?;
-        Err(SerError::Io(ErrorKind::Other))
-    });
+    let put = attrs.put_nest(
+        alloc,
+        Ifla::Linkinfo,
+        |info: &mut RtBuffer<IflaInfo, Buffer>| {
+            info.put(alloc, IflaInfo::Kind, *b"vlan")?;
+            Err(SerError::Io(ErrorKind::Other))
+        },
+    );
     assert!(rt; matches!(put, Err(SerError::Io(ErrorKind::Other))));
     assert_written(&rt, alloc, &attrs, &BRIDGE);
 }
@@ -137,15 +155,31 @@ fn missing_is_not_unreadable(rt: HostRuntime) {
     assert_short(&rt, list.get::<u64>(alloc, Ifla::Ifname), 3);
     let name: Option<String> = list.get_with_len(alloc, Ifla::Ifname).expect(&rt, "a name");
     assert_is(&rt, name.expect(&rt, "a name").as_str(), "br0");
-    let alias: Option<String> = list.get_with_len(alloc, Ifla::Ifalias).expect(&rt, "nothing");
+    let alias: Option<String> = list
+        .get_with_len(alloc, Ifla::Ifalias)
+        .expect(&rt, "nothing");
     assert!(rt; alias.is_none());
     let handle = list.get_attr_handle();
     let name: Option<u32> = handle.get(alloc, Ifla::Ifname).expect(&rt, "a number");
     assert_is(&rt, name, Some(0x00307262));
-    assert_is(&rt, handle.get_str(Ifla::Ifname).expect(&rt, "a name"), Some("br0"));
-    assert_is(&rt, handle.get_str(Ifla::Qdisc).expect(&rt, "nothing"), None);
-    assert_is(&rt, handle.payload_of(Ifla::Ifname), Some(b"br0\0".as_slice()));
-    let alias: Option<String> = handle.get_with_len(alloc, Ifla::Ifalias).expect(&rt, "nothing");
+    assert_is(
+        &rt,
+        handle.get_str(Ifla::Ifname).expect(&rt, "a name"),
+        Some("br0"),
+    );
+    assert_is(
+        &rt,
+        handle.get_str(Ifla::Qdisc).expect(&rt, "nothing"),
+        None,
+    );
+    assert_is(
+        &rt,
+        handle.payload_of(Ifla::Ifname),
+        Some(b"br0\0".as_slice()),
+    );
+    let alias: Option<String> = handle
+        .get_with_len(alloc, Ifla::Ifalias)
+        .expect(&rt, "nothing");
     assert!(rt; alias.is_none());
 }
 
@@ -155,9 +189,19 @@ fn what_is_refused_is_named(rt: HostRuntime) {
     // A text without its zero, as attribute 3.
     let list: RtBuffer<Ifla, Buffer> = read_list(&rt, alloc, &[4, 0, 3, 0]);
     let name = list.get_with_len::<String>(alloc, Ifla::Ifname);
-    assert_refused(&rt, alloc, name, "attribute 3: Invalid input was provided: 0");
+    assert_refused(
+        &rt,
+        alloc,
+        name,
+        "attribute 3: Invalid input was provided: 0",
+    );
     let name = list.get_str(Ifla::Ifname);
-    assert_refused(&rt, alloc, name, "attribute 3: Invalid input was provided: 0");
+    assert_refused(
+        &rt,
+        alloc,
+        name,
+        "attribute 3: Invalid input was provided: 0",
+    );
 }
 
 /// The front of what a link of family 7 has as `IFLA_PROTINFO`, which is marked as nested: its state, 3, and its
@@ -188,17 +232,25 @@ fn paths_through_nests(rt: HostRuntime) {
         let handle = list.get_attr_handle();
         let number: Option<u16> = handle.get_path(alloc, path).expect(&rt, "no refusal");
         assert_is(&rt, number, *want);
-        let bytes: Option<Buffer> = handle.get_path_with_len(alloc, path).expect(&rt, "no refusal");
+        let bytes: Option<Buffer> = handle
+            .get_path_with_len(alloc, path)
+            .expect(&rt, "no refusal");
         assert_is(&rt, bytes.is_some(), want.is_some());
         let payload = handle.payload_at(path).expect(&rt, "no refusal");
         assert_is(&rt, payload.is_some(), want.is_some());
     }
     let state = list.payload_at(&[12, 1]).expect(&rt, "no refusal");
     assert_is(&rt, state, Some([3u8].as_slice()));
-    assert_is(&rt, lent.payload_at(&[12, 1]).expect(&rt, "no refusal"), state);
+    assert_is(
+        &rt,
+        lent.payload_at(&[12, 1]).expect(&rt, "no refusal"),
+        state,
+    );
     assert_short(&rt, list.get_path::<u32>(alloc, &[12, 1]), 1);
     assert_short(&rt, lent.get_path::<u32>(&[12, 1]), 1);
-    let state: Option<Buffer> = list.get_path_with_len(alloc, &[12, 1]).expect(&rt, "a state");
+    let state: Option<Buffer> = list
+        .get_path_with_len(alloc, &[12, 1])
+        .expect(&rt, "a state");
     assert_is(&rt, state.expect(&rt, "a state").as_ref(), [3u8].as_slice());
     // The list that is none names what was looked up in it.
     let broken = "attribute 5: Invalid input was provided: 3";
@@ -215,18 +267,31 @@ fn lent_attributes_are_read(rt: HostRuntime) {
     let name: Option<u32> = lent.get(Ifla::Ifname).expect(&rt, "a number");
     assert_is(&rt, name, Some(0x00307262));
     assert_short(&rt, lent.get::<u64, _>(Ifla::Ifname), 3);
-    assert_is(&rt, lent.get_str(Ifla::Ifname).expect(&rt, "a name"), Some("br0"));
+    assert_is(
+        &rt,
+        lent.get_str(Ifla::Ifname).expect(&rt, "a name"),
+        Some("br0"),
+    );
     assert_is(&rt, lent.get_str(Ifla::Qdisc).expect(&rt, "nothing"), None);
     assert_is(&rt, lent.payload_of(Ifla::Mtu).expect(&rt, "nothing"), None);
     // The flags of a generic type are passed over.
     let generic: LentNlattrs<'_, CtrlAttr> = LentNlattrs::new(&[6, 0, 1, 0x80, 16, 0, 0, 0]);
     let family: Option<u16> = generic.get(CtrlAttr::FamilyId).expect(&rt, "a number");
     assert_is(&rt, family, Some(16));
-    assert_is(&rt, generic.get_path(&[1]).expect(&rt, "a number"), Some(16u16));
+    assert_is(
+        &rt,
+        generic.get_path(&[1]).expect(&rt, "a number"),
+        Some(16u16),
+    );
     // A fault before the attribute names what was looked up.
     let cut: LentRtattrs<'_, Ifla> = LentRtattrs::new(&BRIDGE[..10]);
     let mtu = cut.get::<u32, _>(Ifla::Mtu);
-    assert_refused(&rt, alloc, mtu, "attribute 4: Invalid input was provided: 10");
+    assert_refused(
+        &rt,
+        alloc,
+        mtu,
+        "attribute 4: Invalid input was provided: 10",
+    );
 }
 
 #[test]
@@ -257,9 +322,11 @@ fn put_or_out_of_memory(rt: HostRuntime) {
         assert_is(&rt, attrs.len(), 0);
     }
     let count = attrs.len();
-    let put = attrs.put_nest(alloc, Ifla::Linkinfo, |info: &mut RtBuffer<IflaInfo, Buffer>| {
-        info.put(alloc, IflaInfo::Kind, *b"bridge")
-    });
+    let put = attrs.put_nest(
+        alloc,
+        Ifla::Linkinfo,
+        |info: &mut RtBuffer<IflaInfo, Buffer>| { info.put(alloc, IflaInfo::Kind, *b"bridge") },
+    );
     match put {
         Ok(()) => assert_is(&rt, attrs.len(), count + 1),
         Err(error) => {
@@ -273,7 +340,8 @@ fn put_or_out_of_memory(rt: HostRuntime) {
 fn looked_up_or_out_of_memory(rt: HostRuntime) {
     let alloc = rt.alloc();
     let mut cursor = Cursor::new(&PORT);
-    let Ok(list) = RtBuffer::<Ifla, Buffer>::from_bytes_with_input(alloc, &mut cursor, PORT.len()) else {
+    let Ok(list) = RtBuffer::<Ifla, Buffer>::from_bytes_with_input(alloc, &mut cursor, PORT.len())
+    else {
         return;
     };
     match list.get_with_len::<Buffer>(alloc, Ifla::PropList) {
