@@ -147,6 +147,26 @@ struct neli_verdict {
     uint8_t filtered; /* 1 if the kernel filtered the list (NLM_F_DUMP_FILTERED), else 0 */
 };
 
+/* A request as a kernel takes it: the message, the port of the socket that sent it, and what its header asks for, each
+ * 1 or 0. Answers go to that port; that in the header may differ, as many clients leave it 0. */
+struct neli_request {
+    struct neli_message message;
+    uint32_t port;
+    uint8_t is_handled;            /* the kernel acts on it: NLM_F_REQUEST is set, and the type is 16 or more */
+    uint8_t wants_acknowledgement; /* NLM_F_ACK is set */
+    uint8_t wants_dump;            /* both bits of NLM_F_DUMP are set, as generic netlink reads them */
+    uint8_t wants_routing_dump;    /* as routing netlink reads them: the type is 2 modulo 4, and a bit of them is set */
+    uint8_t wants_echo;            /* NLM_F_ECHO is set */
+};
+
+/* An answer in several messages, which only the library looks into. It begins as NELI_KERNEL_DUMP_CLOSED, is not copied
+ * while it is open, is used by one thread at a time, and is freed by its last owner. */
+struct neli_kernel_dump {
+    bool is_open;
+    void *state;
+};
+#define NELI_KERNEL_DUMP_CLOSED {false, NULL}
+
 /* ---- The exports ---- */
 
 int32_t neli_c_error_text(int32_t code, uint8_t *out, size_t room, size_t *length);
@@ -193,6 +213,28 @@ int32_t neli_c_router_item(struct neli_router *router, uint8_t *out, size_t room
 int32_t neli_c_router_verdict(struct neli_router *router, size_t handle, struct neli_verdict *verdict);
 int32_t neli_c_router_give_up(struct neli_router *router, size_t handle);
 int32_t neli_c_router_close(struct neli_router *router, size_t handle);
+int32_t neli_c_next_request(const uint8_t *bytes, size_t length, struct neli_walk *walk, uint32_t port,
+                            struct neli_request *request);
+int32_t neli_c_kernel_ack(const struct neli_request *request, const uint8_t *ext_ack, size_t ext_ack_length,
+                          uint8_t *out, size_t room, size_t *length);
+int32_t neli_c_kernel_capped_error(const struct neli_request *request, int32_t code, const uint8_t *ext_ack,
+                                   size_t ext_ack_length, uint8_t *out, size_t room, size_t *length);
+int32_t neli_c_kernel_error(const uint8_t *sent, size_t sent_length, const struct neli_request *request, int32_t code,
+                            const uint8_t *ext_ack, size_t ext_ack_length, uint8_t *out, size_t room, size_t *length);
+int32_t neli_c_kernel_reply(const struct neli_request *request, uint16_t type, uint16_t flags, const uint8_t *body,
+                            size_t body_length, uint8_t *out, size_t room, size_t *length);
+int32_t neli_c_kernel_notification(uint16_t type, uint16_t flags, uint32_t number, uint32_t port, const uint8_t *body,
+                                   size_t body_length, uint8_t *out, size_t room, size_t *length);
+int32_t neli_c_kernel_dump_new(struct neli_kernel_dump *dump, const struct neli_request *request, size_t limit);
+int32_t neli_c_kernel_dump_free(struct neli_kernel_dump *dump);
+int32_t neli_c_kernel_dump_push(struct neli_kernel_dump *dump, uint16_t type, uint16_t flags, const uint8_t *body,
+                                size_t body_length);
+int32_t neli_c_kernel_dump_push_reply(struct neli_kernel_dump *dump, uint16_t type, uint16_t flags,
+                                      const uint8_t *body, size_t body_length);
+int32_t neli_c_kernel_dump_begin_datagram(struct neli_kernel_dump *dump);
+int32_t neli_c_kernel_dump_finish(struct neli_kernel_dump *dump, uint16_t flags, int32_t code, const uint8_t *ext_ack,
+                                  size_t ext_ack_length);
+int32_t neli_c_kernel_dump_next(struct neli_kernel_dump *dump, uint8_t *out, size_t room, size_t *length);
 
 /* ---- Pointers and lengths ---- */
 
@@ -502,6 +544,125 @@ static inline int32_t neli_router_give_up(struct neli_router *router, size_t han
 static inline int32_t neli_router_close(struct neli_router *router, size_t handle) {
     if (router == NULL) return NELI_NULL;
     return neli_c_router_close(router, handle);
+}
+
+/* ---- A kernel to test against ---- */
+
+/* A program's request is read, and each answer of a kernel is made as bytes, which neli_router_datagram takes in as
+ * those of a socket: docs/SIMULATOR.md. Codes of errors are 0 or below, as -22 for EINVAL. `ext_ack` lists the
+ * attributes of the extended acknowledgement, as neli_put_attribute writes them (NELI_ANSWER_TEXT); null and 0 is none.
+ *
+ * An answer is written into `out`, and `length` is how many bytes it has, also at NELI_ROOM. Without NELI_OK nothing is
+ * written. NELI_LENGTH where the answer's length passes 32 bits; NELI_SHORT, NELI_LENGTH or NELI_BYTES where `ext_ack`
+ * is no list of attributes; NELI_MEMORY. */
+
+/* The next message of a walk as a request from the socket of this port; as neli_next_message. It takes no memory. */
+static inline int32_t neli_next_request(const uint8_t *bytes, size_t length, struct neli_walk *walk, uint32_t port,
+                                        struct neli_request *request) {
+    if (!neli_is_slice(bytes, length) || walk == NULL || request == NULL) return NELI_NULL;
+    return neli_c_next_request(neli_read_at(bytes), length, walk, port, request);
+}
+
+/* The acknowledgement of a request: type 2, CAPPED, the code 0, and the request's header. */
+static inline int32_t neli_kernel_ack(const struct neli_request *request, const void *ext_ack, size_t ext_ack_length,
+                                      uint8_t *out, size_t room, size_t *length) {
+    if (request == NULL || !neli_is_slice(ext_ack, ext_ack_length)) return NELI_NULL;
+    if (!neli_is_slice(out, room) || length == NULL) return NELI_NULL;
+    return neli_c_kernel_ack(request, neli_read_at((const uint8_t *)ext_ack), ext_ack_length, neli_write_at(out), room,
+                             length);
+}
+
+/* The error with this code, and the request's header alone: for a socket with NETLINK_CAP_ACK. */
+static inline int32_t neli_kernel_capped_error(const struct neli_request *request, int32_t code, const void *ext_ack,
+                                               size_t ext_ack_length, uint8_t *out, size_t room, size_t *length) {
+    if (request == NULL || !neli_is_slice(ext_ack, ext_ack_length)) return NELI_NULL;
+    if (!neli_is_slice(out, room) || length == NULL) return NELI_NULL;
+    return neli_c_kernel_capped_error(request, code, neli_read_at((const uint8_t *)ext_ack), ext_ack_length,
+                                      neli_write_at(out), room, length);
+}
+
+/* The error with this code, and the request whole: `sent` are the bytes that it was read from. NELI_PLACE where its
+ * payload is past them. */
+static inline int32_t neli_kernel_error(const uint8_t *sent, size_t sent_length, const struct neli_request *request,
+                                        int32_t code, const void *ext_ack, size_t ext_ack_length, uint8_t *out,
+                                        size_t room, size_t *length) {
+    if (!neli_is_slice(sent, sent_length) || request == NULL) return NELI_NULL;
+    if (!neli_is_slice(ext_ack, ext_ack_length) || !neli_is_slice(out, room) || length == NULL) return NELI_NULL;
+    return neli_c_kernel_error(neli_read_at(sent), sent_length, request, code, neli_read_at((const uint8_t *)ext_ack),
+                               ext_ack_length, neli_write_at(out), room, length);
+}
+
+/* One reply of this type, with these flags and this body. */
+static inline int32_t neli_kernel_reply(const struct neli_request *request, uint16_t type, uint16_t flags,
+                                        const void *body, size_t body_length, uint8_t *out, size_t room,
+                                        size_t *length) {
+    if (request == NULL || !neli_is_slice(body, body_length)) return NELI_NULL;
+    if (!neli_is_slice(out, room) || length == NULL) return NELI_NULL;
+    return neli_c_kernel_reply(request, type, flags, neli_read_at((const uint8_t *)body), body_length,
+                               neli_write_at(out), room, length);
+}
+
+/* A message to groups of this type, with these flags and this body. Number and port are those of the request that
+ * caused it, or 0. */
+static inline int32_t neli_kernel_notification(uint16_t type, uint16_t flags, uint32_t number, uint32_t port,
+                                               const void *body, size_t body_length, uint8_t *out, size_t room,
+                                               size_t *length) {
+    if (!neli_is_slice(body, body_length) || !neli_is_slice(out, room) || length == NULL) return NELI_NULL;
+    return neli_c_kernel_notification(type, flags, number, port, neli_read_at((const uint8_t *)body), body_length,
+                                      neli_write_at(out), room, length);
+}
+
+/* Opens a dump, the answer to a request for a whole table, in datagrams of at most `limit` bytes. It keeps nothing of
+ * the request's bytes. NELI_STATE where it is open; NELI_MEMORY. Free it by neli_kernel_dump_free. */
+static inline int32_t neli_kernel_dump_new(struct neli_kernel_dump *dump, const struct neli_request *request,
+                                           size_t limit) {
+    if (dump == NULL || request == NULL) return NELI_NULL;
+    return neli_c_kernel_dump_new(dump, request, limit);
+}
+
+/* Frees a dump, and closes it; a closed one may be freed again. */
+static inline int32_t neli_kernel_dump_free(struct neli_kernel_dump *dump) {
+    if (dump == NULL) return NELI_NULL;
+    return neli_c_kernel_dump_free(dump);
+}
+
+/* One message more of a dump, with these flags, as NLM_F_DUMP_INTR, and MULTI. It goes behind the last one where the
+ * limit allows, and else begins the next datagram. NELI_STATE where the dump is closed or finished; NELI_LENGTH where
+ * the message alone is longer than the limit, or than 32 bits; NELI_MEMORY: then the dump is as it was. */
+static inline int32_t neli_kernel_dump_push(struct neli_kernel_dump *dump, uint16_t type, uint16_t flags,
+                                            const void *body, size_t body_length) {
+    if (dump == NULL || !neli_is_slice(body, body_length)) return NELI_NULL;
+    return neli_c_kernel_dump_push(dump, type, flags, neli_read_at((const uint8_t *)body), body_length);
+}
+
+/* The same with these flags alone: some families, as netdev, leave MULTI out. */
+static inline int32_t neli_kernel_dump_push_reply(struct neli_kernel_dump *dump, uint16_t type, uint16_t flags,
+                                                  const void *body, size_t body_length) {
+    if (dump == NULL || !neli_is_slice(body, body_length)) return NELI_NULL;
+    return neli_c_kernel_dump_push_reply(dump, type, flags, neli_read_at((const uint8_t *)body), body_length);
+}
+
+/* Has the next message begin a datagram. NELI_STATE where the dump is closed or finished; NELI_MEMORY: then the dump is
+ * as it was. */
+static inline int32_t neli_kernel_dump_begin_datagram(struct neli_kernel_dump *dump) {
+    if (dump == NULL) return NELI_NULL;
+    return neli_c_kernel_dump_begin_datagram(dump);
+}
+
+/* Puts the end in, with these flags and MULTI: the code is 0 where all went well, else below, as -19 for ENODEV. It
+ * returns what neli_kernel_dump_push does, and what is said of `ext_ack` above. */
+static inline int32_t neli_kernel_dump_finish(struct neli_kernel_dump *dump, uint16_t flags, int32_t code,
+                                              const void *ext_ack, size_t ext_ack_length) {
+    if (dump == NULL || !neli_is_slice(ext_ack, ext_ack_length)) return NELI_NULL;
+    return neli_c_kernel_dump_finish(dump, flags, code, neli_read_at((const uint8_t *)ext_ack), ext_ack_length);
+}
+
+/* The next datagram of a dump that is finished: NELI_ITEM, or NELI_END where all were handed out. NELI_WAITS where the
+ * dump is not finished; NELI_ROOM where `out` is too small: `length` is then what is needed, and the next call gives
+ * the same one; NELI_STATE where the dump is closed. It takes no memory. */
+static inline int32_t neli_kernel_dump_next(struct neli_kernel_dump *dump, uint8_t *out, size_t room, size_t *length) {
+    if (dump == NULL || !neli_is_slice(out, room) || length == NULL) return NELI_NULL;
+    return neli_c_kernel_dump_next(dump, neli_write_at(out), room, length);
 }
 
 #ifdef __cplusplus

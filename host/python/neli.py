@@ -329,15 +329,14 @@ class Reply:
         """Whether the answer is complete; for a closed one the last known verdict."""
         if self._handle is not None:
             said = _Verdict()
-            code = _lib.neli_host_verdict(self._sock._at, self._handle, ctypes.byref(said))
-            self._last = Verdict(code, said)
+            self._last = Verdict(self._sock._verdict(self._handle, ctypes.byref(said)), said)
         return self._last
 
     def close(self):
         """Gives it up: messages that still arrive for it are dropped."""
         if self._handle is not None and self._sock._at:
             self.verdict()
-            _lib.neli_host_close_request(self._sock._at, self._handle)
+            self._sock._close_request(self._handle)
         self._handle = None
 
 
@@ -420,6 +419,12 @@ class NetlinkSocket:
     def _well(self, code):
         if code != OK:
             raise self._error(code)
+
+    def _verdict(self, handle, said):
+        return _lib.neli_host_verdict(self._at, handle, said)
+
+    def _close_request(self, handle):
+        _lib.neli_host_close_request(self._at, handle)
 
     def _next(self, handle):
         """The next item of a handle. A signal's handler runs, and the wait continues if it raises nothing."""

@@ -1,4 +1,6 @@
 pub mod AsBox
+pub mod DumpBox
+pub mod DumpMoves
 pub mod Frames
 pub mod Hears
 pub mod FreePlaces

@@ -1,5 +1,8 @@
 pub mod AnswersShown
+pub mod Asked
 pub mod Codes
+pub mod DumpHeld
+pub mod DumpsHeld
 pub mod Held
 pub mod Listens
 pub mod Lists

@@ -39,7 +39,7 @@ use Rattle.neli_c.specs.declared.session.Slot.TheVariants as slot
 use Rattle.neli_c.specs.Slots.{AreFree, handle_at, later_places, next_place, put_at}
 use Rattle.neli_c.specs.Codes.{bad_bytes, bad_length, in_use, item, kernel_error, link, memory, no_ack, no_handle, ok}
 use Rattle.neli_c.specs.Codes.{room, stray, unexpected_ack, waits}
-use Rattle.neli_c.specs.Writes.{put_first}
+use Rattle.neli_c.specs.Writes.{WritesMessage, put_first}
 
 -- the deliveries that wait for a handle with this number, or for multicast; none if that is not open
 abbrev pub pending : Session → Option ℕ → Option (List Delivery)
@@ -122,14 +122,7 @@ TakesKind code k s t =
 abbrev pub TakesFault : ℤ → ℤ → Session → Session → Type 0
 TakesFault code errno s t = TakesKind code (fault_kind errno) s t
 
--- the bytes of the held message are written where there is room, and `length` is how many there are
-abbrev pub WritesMessage : ℤ → Wire → List ℕ → List ℕ → ℕ → Type 0
-WritesMessage code (Ok bytes) old new size =
-    (size ≡ length bytes) × (code ≡ (if nat_le (length bytes) (length old) then ok else room))
-    × (code ≡ ok → new ≡ put_first bytes old)
-WritesMessage code e old new size = ⊥
-
--- the same of the message that is held; none is, or memory ran out
+-- the bytes of the message that is held are written; none is, or memory ran out
 abbrev pub WritesItem : ℤ → Session → List ℕ → List ℕ → ℕ → ℕ → Type 0
 WritesItem code s old new size size' =
     (s.held ≡ None → (code ≡ no_handle) × (size' ≡ size))

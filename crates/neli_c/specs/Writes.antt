@@ -1,7 +1,8 @@
 -- What is written into a caller's bytes.
-use Rattle.std.specs.Prelude.{ℕ, ◌+◌, ◌-◌, ℤ, ◌&&◌, nat_le, nat_lt, if◌then◌else◌, List, ◌++◌, length, take, drop}
+use Rattle.std.specs.Prelude.{◌≡◌, ℕ, ◌+◌, ◌-◌, ℤ, ◌&&◌, nat_le, nat_lt, if◌then◌else◌, List, ◌++◌, length, take, drop, Ok}
 use Rattle.byteorder.specs.Endian.{little_bytes}
 use Rattle.neli_wire.specs.Sizes.{align}
+use Rattle.neli_wire.specs.Writing.{Wire}
 use Rattle.neli_c.specs.Codes.{ok, room, bad_length, place}
 
 -- the bytes with these in place of as many at their front
@@ -19,6 +20,13 @@ header_bytes len message_type flags number port =
     ++ little_bytes 4 port
 
 -- ---- what calls answer
+
+-- the bytes of a message are written where there is room, and `length` is how many there are
+abbrev pub WritesMessage : ℤ → Wire → List ℕ → List ℕ → ℕ → Type 0
+WritesMessage code (Ok bytes) old new size =
+    (size ≡ length bytes) × (code ≡ (if nat_le (length bytes) (length old) then ok else room))
+    × (code ≡ ok → new ≡ put_first bytes old)
+WritesMessage code e old new size = ⊥
 
 -- of an attribute with so many bytes of payload, at a place in so many bytes
 abbrev pub attribute_code : ℕ → ℕ → ℕ → ℤ

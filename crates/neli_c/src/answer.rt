@@ -39,7 +39,7 @@ pub struct NeliAnswer {
 }
 
 /// The payload of a message, where it lies within the bytes.
-fn payload_of<'b>(bytes: &'b [u8], message: &NeliMessage) -> Option<&'b [u8]>
+pub(crate) fn payload_of<'b>(bytes: &'b [u8], message: &NeliMessage) -> Option<&'b [u8]>
     ensures some { IfSome result (λ s. payload_shown bytes.now message.now ≡ Some s.now) }
     ensures none { IsNone result → payload_shown bytes.now message.now ≡ None }
 {

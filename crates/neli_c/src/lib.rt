@@ -6,6 +6,8 @@
 //! - [`write`] writes messages, attributes and nests into the caller's bytes.
 //! - [`router`] has a router behind a struct that the library alone looks into: [`session`] is what it holds, [`place`]
 //!   and [`opaque`] are how C holds that.
+//! - [`kernel`] makes a kernel's answers to a request, and [`dump`] those in several messages: [`dumping`] is what a
+//!   dump holds, [`dump_place`] and [`dump_opaque`] are how C holds that.
 //! - [`text`] says what codes are called.
 //!
 //! Each call returns a code: from 0 on a result, below 0 a refusal. A refusal leaves its arguments unchanged, unless
@@ -14,6 +16,11 @@
 
 pub mod answer;
 pub mod code;
+pub mod dump;
+pub mod dump_opaque;
+pub mod dump_place;
+pub mod dumping;
+pub mod kernel;
 pub mod lent;
 pub mod lists;
 pub mod number;

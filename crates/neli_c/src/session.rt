@@ -1,10 +1,10 @@
 //! A router with its handles, and the item that was read last.
 
 ghost use Rattle.std.specs.Prelude.{◌≡◌, ◌≢◌, ◌<◌, ℕ, IfOk, IfSome, IsNone, IsSome, List, ◌∷◌, Some, None, length};
-ghost use Rattle.std.specs.Prelude.{nat_eq, nat_le, option_map, slice_get, slice_set, unsigned_abs};
-ghost use Rattle.std.specs.Prelude.{vec_capacity, vec_len, if◌then◌else◌};
+ghost use Rattle.std.specs.Prelude.{nat_eq, option_map, slice_get, slice_set, unsigned_abs};
+ghost use Rattle.std.specs.Prelude.{vec_capacity, vec_len};
 ghost use Rattle.neli_router.specs.declared.handle.HandleState.{HandleState};
-ghost use Rattle.neli_c.specs.Codes.{no_handle, ok, room};
+ghost use Rattle.neli_c.specs.Codes.{no_handle, ok};
 ghost use Rattle.neli_c.specs.Sessions.{ClosesHandle, HasFree, Holds, IsNew, ReadsHandle, RefusesRequest, SaysNeeded};
 ghost use Rattle.neli_c.specs.Sessions.{SendsNothing, SendsRequest, SetsNumber, TakesDatagram, TakesFault, TakesKind, WritesItem};
 ghost use Rattle.neli_c.specs.Sessions.{error_code, error_flags, error_message, fault_kind, item_code, item_message};
@@ -17,13 +17,13 @@ ghost use Rattle.std.specs.declared.io.ErrorKind.TheVariants as kind;
 ghost use Rattle.neli_c.specs.Listens.{HoldsNotice, Listens, Misses, MissesSame, MissesThen, notice_code};
 ghost use Rattle.neli_c.specs.Slots.{AreFree, handle_at, later_places, next_place, put_at};
 ghost use Rattle.neli_c.specs.declared.session.Slot.TheVariants as slot;
-ghost use Rattle.neli_c.specs.Writes.{put_first};
 
 use crate::code::{
     BYTES, HANDLE, IN_USE, INTERRUPTED, ITEM, KERNEL_ERROR, LENGTH, LINK, MEMORY, NO_ACK, OK,
     OVERRUN, ROOM, STRAY, UNEXPECTED_ACK, WAITS,
 };
 use crate::lent::code_of;
+use crate::write::copy;
 use neli_attr::Buffer;
 use neli_consts::NlmF;
 use neli_log::Log;
@@ -405,21 +405,6 @@ fn hold(
         Ok(Reply::Waits) => WAITS,
         Err(_) => MEMORY,
     }
-}
-
-/// Copies bytes where there is room for all; `size` is how many there are.
-fn copy(bytes: &[u8], out: &mut [u8], size: &mut usize) -> i32
-    ensures code { result ≡ (if nat_le (length bytes.now) (length out.old) then ok else room) }
-    ensures size { size.new ≡ length bytes.now }
-    ensures copied { result ≡ ok → out.new ≡ put_first bytes.now out.old }
-    ensures unchanged { result ≢ ok → out.new ≡ out.old }
-{
-    *size = bytes.len();
-    if out.len() < bytes.len() {
-        return ROOM;
-    }
-    out[..bytes.len()].copy_from_slice(bytes);
-    OK
 }
 
 impl Session {

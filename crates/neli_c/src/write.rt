@@ -42,6 +42,21 @@ fn write_header(out: &mut [u8], nl_type: u16, flags: u16, number: u32, port: u32
     LittleEndian::write_u32(&mut out[12..], port);
 }
 
+/// Copies bytes where there is room for all; `size` is how many there are.
+pub(crate) fn copy(bytes: &[u8], out: &mut [u8], size: &mut usize) -> i32
+    ensures code { result ≡ (if nat_le (length bytes.now) (length out.old) then ok else room) }
+    ensures size { size.new ≡ length bytes.now }
+    ensures copied { result ≡ ok → out.new ≡ put_first bytes.now out.old }
+    ensures unchanged { result ≢ ok → out.new ≡ out.old }
+{
+    *size = bytes.len();
+    if out.len() < bytes.len() {
+        return ROOM;
+    }
+    out[..bytes.len()].copy_from_slice(bytes);
+    OK
+}
+
 /// Begins a message at the writer's end, which goes past the header. Its length is 16 until `neli_c_end_message`.
 ///
 /// Returns `OK`, or `ROOM` if 16 bytes do not fit; then nothing is written.

@@ -1,6 +1,6 @@
 //! A dump: an answer in several messages, cut into datagrams.
 
-ghost use Rattle.std.specs.Prelude.{⊤, ◌≡◌, ◌≢◌, [], Ok, IfOk, IfErr, OnOk, OnErr, map};
+ghost use Rattle.std.specs.Prelude.{⊤, ◌≡◌, ◌≢◌, [], Ok, IfOk, IfErr, OnOk, OnErr, map, option_map, slice_get};
 ghost use Rattle.neli_wire.specs.Refusals.{IsRefusal, ser_ran_out};
 ghost use Rattle.neli_kernel.specs.Answers.{message_or_refusal, reply};
 ghost use Rattle.neli_kernel.specs.Dumps.{RefusesPut, begun, datagrams_of, dump_end};
@@ -135,23 +135,28 @@ impl<'b> Dump<'b> {
         ensures refused { IfErr result (RefusesPut self.entry.limit (λ n. n) (λ b. Ok b)
             (dump_end self.entry.request nl_flags code ext_ack) (packed_in self.entry)) }
     {
-        self.put_end(alloc, nl_flags, code, ext_ack)?;
+        self.push_end(alloc, nl_flags, code, ext_ack)?;
         Ok(self.datagrams()?)
     }
 
-    /// Puts the end behind the last message, or into a datagram of its own.
-    fn put_end(
+    /// Puts the end of [`Dump::finish`] behind the last message, or into a datagram of its own.
+    ///
+    /// Refused as [`Dump::push`] is.
+    pub fn push_end(
         &mut self,
         alloc: Global,
         nl_flags: NlmF,
         code: i32,
         ext_ack: ExtAck,
     ) -> Result<(), SerError>
+        ensures request { self.new.request ≡ self.old.request }
+        ensures limit { self.new.limit ≡ self.old.limit }
         ensures put { OnOk result (put_wire self.old.limit (message_or_refusal (λ n. n) (λ b. Ok b)
             (dump_end self.old.request nl_flags code ext_ack)) (packed_in self.old)
             ≡ Ok (packed_in self.new)) }
         ensures refused { IfErr result (RefusesPut self.old.limit (λ n. n) (λ b. Ok b)
             (dump_end self.old.request nl_flags code ext_ack) (packed_in self.old)) }
+        ensures unchanged { OnErr result (packed_in self.new ≡ packed_in self.old) }
     {
         let frame = self.request.dump_end(alloc, nl_flags, code, ext_ack)?;
         self.put(alloc, frame)
@@ -178,6 +183,17 @@ impl<'b> Dump<'b> {
             self.last.extend_from_slice(frame.as_slice())?;
         }
         Ok(())
+    }
+
+    /// The datagram at a place, from 0 on; none past the last one, which may be empty before the end is put in.
+    pub fn datagram(&self, k: usize) -> Option<&[u8]>
+        ensures { option_map (λ d. d.now) result ≡ slice_get (datagrams_of (packed_in self.now)) k }
+    {
+        match self.full.get(k) {
+            Some(datagram) => Some(datagram.as_slice()),
+            None if k == self.full.len() => Some(self.last.as_slice()),
+            None => None,
+        }
     }
 
     /// All the datagrams.

@@ -28,5 +28,5 @@ mod request;
 mod unasked;
 
 pub use dump::Dump;
-pub use request::{ExtAck, Request};
+pub use request::{ExtAck, Request, read_ext_ack};
 pub use unasked::notification;

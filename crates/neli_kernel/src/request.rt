@@ -1,6 +1,8 @@
 //! A request, and the kernel's answers to it.
 
-ghost use Rattle.std.specs.Prelude.{◌≡◌, [], Ok, IfOk, IfErr};
+ghost use Rattle.std.specs.Prelude.{◌≡◌, ◌<◌, [], Ok, IfOk, IfErr, length};
+ghost use Rattle.neli_wire.specs.Refusals.{Refuses};
+ghost use Rattle.neli_reader.specs.Answers.{ext_ack_in};
 ghost use Rattle.neli_reader.specs.NlPayload.TheVariants as payload;
 ghost use Rattle.neli_kernel.specs.Answers.{RefusesMessage, acknowledgement, answer_flags, capped_error};
 ghost use Rattle.neli_kernel.specs.Answers.{control, error, message_or_refusal, reply};
@@ -13,10 +15,11 @@ use bitflags::Flags;
 use neli_attr::{Buffer, GenlBuffer};
 use neli_consts::{NlType, NlmF, NlmsgerrAttr};
 use neli_lent::LentMessage;
+use neli_list::read_whole;
 use neli_reader::{
     NlPayload, Nlmsgerr, NlmsgerrBuilder, Nlmsghdr, NlmsghdrAck, NlmsghdrAckBuilder,
 };
-use neli_wire::{SerError, ToBytes};
+use neli_wire::{DeError, SerError, ToBytes};
 use std::alloc::Global;
 
 /// The attributes of an extended acknowledgement, for a socket that requested them (`NETLINK_EXT_ACK`).
@@ -31,6 +34,16 @@ pub struct Request<'b> {
     port: u32,
     header: NlmsghdrAck<u16>,
     payload: &'b [u8],
+}
+
+/// The attributes of an extended acknowledgement that all of these bytes list.
+///
+/// Refused as the first attribute that cannot be read is, or as `Memory`.
+pub fn read_ext_ack(alloc: Global, bytes: &[u8]) -> Result<ExtAck, DeError>
+    ensures value { IfOk result (λ attrs. ext_ack_in bytes.now ≡ Ok attrs) }
+    ensures refused { IfErr result (Refuses (ext_ack_in bytes.now) (0 < length bytes.now)) }
+{
+    read_whole(alloc, bytes)
 }
 
 /// The header of a message that is lent.
@@ -87,6 +100,19 @@ impl<'b> Request<'b> {
             port,
             header: header_of(message),
             payload: message.nl_payload(),
+        }
+    }
+
+    /// The request of these parts: the port of the socket that sent it, its header, and its payload's bytes.
+    pub fn from_parts(port: u32, header: NlmsghdrAck<u16>, payload: &'b [u8]) -> Self
+        ensures port { result.port ≡ port }
+        ensures header { result.header ≡ header }
+        ensures payload { result.payload.now ≡ payload.now }
+    {
+        Request {
+            port,
+            header,
+            payload,
         }
     }
 

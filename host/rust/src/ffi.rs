@@ -2,6 +2,8 @@
 //! library that std links and does not offer. What it hands out is safe.
 #![allow(unsafe_code)]
 
+pub mod kernel;
+
 use std::ffi::{c_int, c_uint, c_ulong, c_void};
 use std::io;
 use std::os::fd::{AsRawFd, FromRawFd, OwnedFd, RawFd};

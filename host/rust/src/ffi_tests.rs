@@ -1,10 +1,11 @@
 //! What `ffi.rs` declares is what `include/neli.h` declares.
 
+use super::kernel::{RawDump, Request};
 use super::{Answer, Attribute, Item, Message, RawRouter, Sent, Verdict, Walk, Writer};
 use std::mem::offset_of;
 
 const HEADER: &str = include_str!(env!("NELI_FILE_NELI_H"));
-const DECLARED: &str = include_str!("ffi.rs");
+const DECLARED: &str = concat!(include_str!("ffi.rs"), include_str!("ffi/kernel.rs"));
 
 /// The codes that this crate names.
 const CODES: [(&str, i32); 17] = [
@@ -46,6 +47,8 @@ fn rust_type(c: &str) -> String {
         "struct neli_item" => "Item",
         "struct neli_verdict" => "Verdict",
         "struct neli_router" => "RawRouter",
+        "struct neli_request" => "Request",
+        "struct neli_kernel_dump" => "RawDump",
         other => panic!("{other}"),
     };
     let pointer = if is_const { "*const " } else { "*mut " };
@@ -102,6 +105,8 @@ fn structs_are_laid_out_as_in_c() {
         (size_of::<Item>(), 16),
         (size_of::<Verdict>(), 8),
         (size_of::<RawRouter>(), 16),
+        (size_of::<Request>(), 48),
+        (size_of::<RawDump>(), 16),
     ];
     for (found, wanted) in sizes {
         assert_eq!(found, wanted);
@@ -112,4 +117,6 @@ fn structs_are_laid_out_as_in_c() {
     assert_eq!((offset_of!(Item, number), offset_of!(Item, error)), (4, 12));
     assert_eq!(offset_of!(Verdict, filtered), 4);
     assert_eq!(offset_of!(RawRouter, state), 8);
+    assert_eq!((offset_of!(Request, port), offset_of!(Request, wants_echo)), (32, 40));
+    assert_eq!(offset_of!(RawDump, state), 8);
 }

@@ -1,6 +1,7 @@
 //! Acknowledgements and errors.
 
 use super::support::{Attrs, NOTHING, assert_bytes, decoded, ext_ack, request};
+use neli::simulator::{Request, read_ext_ack};
 
 /// The echoed part of the request.
 #[derive(Clone, Copy, Debug)]
@@ -172,6 +173,33 @@ fn recorded_answers_are_built_again(rt: HostRuntime) {
             (0, _) => request.acknowledgement(rt.alloc(), attrs),
             (code, Echo::Header) => request.capped_error(rt.alloc(), code, attrs),
             (code, Echo::Whole) => request.error(rt.alloc(), code, attrs),
+        };
+        let answer = answer.expect(&rt, row.number);
+        assert_bytes(&rt, row.number, answer.as_slice(), want.as_slice());
+    }
+}
+
+/// The attributes of an answer that echoes the header alone begin at byte 36.
+#[test]
+fn recorded_answers_are_built_again_from_their_parts(rt: HostRuntime) {
+    for row in ROWS {
+        let asked = decoded(&rt, rt.alloc(), row.request);
+        let want = decoded(&rt, rt.alloc(), row.answer);
+        let asked = request(&rt, row.port, asked.as_slice());
+        let request = Request::from_parts(row.port, *asked.header(), asked.payload());
+        let answer = match row.echo {
+            Echo::Header => {
+                let attrs = read_ext_ack(rt.alloc(), &want[36..]).expect(&rt, row.number);
+                if row.code == 0 {
+                    request.acknowledgement(rt.alloc(), attrs)
+                } else {
+                    request.capped_error(rt.alloc(), row.code, attrs)
+                }
+            }
+            Echo::Whole => {
+                let attrs = ext_ack(&rt, rt.alloc(), row.attrs);
+                request.error(rt.alloc(), row.code, attrs)
+            }
         };
         let answer = answer.expect(&rt, row.number);
         assert_bytes(&rt, row.number, answer.as_slice(), want.as_slice());

@@ -171,6 +171,28 @@ fn recorded_dumps_are_built_again(rt: HostRuntime) {
     }
 }
 
+#[test]
+fn recorded_dumps_are_handed_out_datagram_by_datagram(rt: HostRuntime) {
+    for row in ROWS {
+        let asked = decoded(&rt, rt.alloc(), row.request);
+        let request = request(&rt, row.port, asked.as_slice());
+        let mut dump = request.dump(rt.alloc(), 3776);
+        push_all(&rt, rt.alloc(), &mut dump, &row);
+        if row.is_end_alone {
+            dump.begin_datagram(rt.alloc()).expect(&rt, row.number);
+        }
+        let attrs = ext_ack(&rt, rt.alloc(), row.attrs);
+        dump.push_end(rt.alloc(), NlmF::from(row.flags), row.code, attrs)
+            .expect(&rt, row.number);
+        for (k, digits) in row.datagrams.iter().enumerate() {
+            let want = decoded(&rt, rt.alloc(), digits);
+            let datagram = dump.datagram(k).expect(&rt, row.number);
+            assert_bytes(&rt, row.number, datagram, want.as_slice());
+        }
+        assert!(rt; dump.datagram(row.datagrams.len()).is_none(), "at {}", row.number);
+    }
+}
+
 /// Four bytes of a body make a message of 20; the end has 20 too.
 #[test]
 fn a_message_longer_than_a_datagram_is_refused(rt: HostRuntime) {

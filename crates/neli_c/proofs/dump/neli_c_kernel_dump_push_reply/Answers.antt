@@ -1,0 +1,10 @@
+use Rattle.neli_c.specs.Asked.{reply_wire}
+use Rattle.neli_c.specs.DumpsHeld.{PutsMessage}
+use Rattle.neli_c.proofs.Opened.{carried}
+use Rattle.neli_c.proofs.dump.neli_c_kernel_dump_push_reply.Goals as goal
+
+pub returns-clause-open : goal.returns-clause-open
+returns-clause-open c =
+    carried (λ z. PutsMessage z (reply_wire c.args.nl_type c.args.flags c.args.body.now)) c.push_reply-code.result _ _ _
+    c.deref_mut.result.now _ (record { sfits = c.push_reply-code.type_inv }) c.in-Some.ensures.taken
+    c.deref_mut.ensures.value c.put.ensures c.push_reply-code.ensures

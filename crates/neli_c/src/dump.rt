@@ -1,0 +1,174 @@
+//! A dump for C: an answer in several messages, as it grows and as its datagrams are handed out. What C holds is a
+//! `struct neli_kernel_dump`, which is closed where all its bytes are 0.
+//!
+//! Each call but the first answers `STATE` where the dump is closed, and changes nothing then.
+
+ghost use Rattle.std.specs.Prelude.{◌≡◌, ◌≢◌, ◌⊎◌, IfSome, IsSome, None};
+ghost use Rattle.neli_c.specs.Asked.{reply_wire};
+ghost use Rattle.neli_c.specs.Codes.{memory, ok, state};
+ghost use Rattle.neli_c.specs.DumpsHeld.{BeginsDatagram, Finishes, HandsOut, IsNewDump, PutsMessage, dump_wire, end_wire};
+
+use crate::code::{MEMORY, OK, STATE};
+use crate::dump_opaque::NeliKernelDump;
+use crate::dumping::Dumping;
+use crate::kernel::{NeliRequest, asked_by};
+use std::alloc::Global;
+
+/// Opens a dump that answers a request, whose datagrams have at most `limit` bytes.
+///
+/// Answers `OK`; `STATE` where it is open, or `MEMORY`, and then it is as it was.
+#[unsafe(no_mangle)]
+pub extern "C" fn neli_c_kernel_dump_new(
+    alloc: Global,
+    dump: &mut NeliKernelDump,
+    request: &NeliRequest,
+    limit: usize,
+) -> i32
+    ensures new { result ≡ ok → IsSome dump.new.place.value
+        × IfSome dump.new.place.value (IsNewDump request.now limit) }
+    ensures open { IsSome dump.old.place.value → result ≡ state }
+    ensures closed { dump.old.place.value ≡ None → (result ≡ ok) ⊎ (result ≡ memory) }
+    ensures unchanged { result ≢ ok → dump.new.place.value ≡ dump.old.place.value }
+{
+    if let Some(dumping) = dump.take(alloc) {
+        dump.put(dumping);
+        return STATE;
+    }
+    match Box::new(alloc, Dumping::new(alloc, asked_by(request, &[]), limit)) {
+        Ok(dumping) => {
+            dump.put(dumping);
+            OK
+        }
+        Err(_) => MEMORY,
+    }
+}
+
+/// Frees what a dump has, and closes it; of a closed one, nothing. Answers `OK`.
+#[unsafe(no_mangle)]
+pub extern "C" fn neli_c_kernel_dump_free(alloc: Global, dump: &mut NeliKernelDump) -> i32
+    ensures code { result ≡ ok }
+    ensures closed { dump.new.place.value ≡ None }
+{
+    drop(dump.take(alloc));
+    OK
+}
+
+/// One message more, of this type, with this body, and with these flags and MULTI.
+///
+/// Answers `OK`; `STATE` where the end was put in; `LENGTH` where the message's length passes 32 bits, or it alone is
+/// longer than a datagram may be; or `MEMORY`. Without `OK` the dump is as it was.
+#[unsafe(no_mangle)]
+pub extern "C" fn neli_c_kernel_dump_push(
+    alloc: Global,
+    dump: &mut NeliKernelDump,
+    nl_type: u16,
+    flags: u16,
+    body: &[u8],
+) -> i32
+    ensures closed { dump.old.place.value ≡ None
+        → (result ≡ state) × (dump.new.place.value ≡ None) }
+    ensures open { IfSome dump.old.place.value (λ s. IsSome dump.new.place.value
+        × IfSome dump.new.place.value
+        (PutsMessage result (dump_wire nl_type flags body.now) s)) }
+{
+    let Some(mut dumping) = dump.take(alloc) else {
+        return STATE;
+    };
+    let code = dumping.push(alloc, nl_type, flags, body);
+    dump.put(dumping);
+    code
+}
+
+/// One message more, of this type, with this body, and with these flags alone: some families leave MULTI out.
+///
+/// Answers what `neli_c_kernel_dump_push` answers.
+#[unsafe(no_mangle)]
+pub extern "C" fn neli_c_kernel_dump_push_reply(
+    alloc: Global,
+    dump: &mut NeliKernelDump,
+    nl_type: u16,
+    flags: u16,
+    body: &[u8],
+) -> i32
+    ensures closed { dump.old.place.value ≡ None
+        → (result ≡ state) × (dump.new.place.value ≡ None) }
+    ensures open { IfSome dump.old.place.value (λ s. IsSome dump.new.place.value
+        × IfSome dump.new.place.value
+        (PutsMessage result (reply_wire nl_type flags body.now) s)) }
+{
+    let Some(mut dumping) = dump.take(alloc) else {
+        return STATE;
+    };
+    let code = dumping.push_reply(alloc, nl_type, flags, body);
+    dump.put(dumping);
+    code
+}
+
+/// Begins a datagram, unless the last one is empty.
+///
+/// Answers `OK`; `STATE` where the end was put in; or `MEMORY`. Without `OK` the dump is as it was.
+#[unsafe(no_mangle)]
+pub extern "C" fn neli_c_kernel_dump_begin_datagram(alloc: Global, dump: &mut NeliKernelDump) -> i32
+    ensures closed { dump.old.place.value ≡ None
+        → (result ≡ state) × (dump.new.place.value ≡ None) }
+    ensures open { IfSome dump.old.place.value (λ s. IsSome dump.new.place.value
+        × IfSome dump.new.place.value (BeginsDatagram result s)) }
+{
+    let Some(mut dumping) = dump.take(alloc) else {
+        return STATE;
+    };
+    let code = dumping.begin_datagram(alloc);
+    dump.put(dumping);
+    code
+}
+
+/// Puts the end in: of type 3 (`NLMSG_DONE`), with these flags and MULTI, this code, which is 0 where all went well, and
+/// the attributes that `ext_ack` lists. From then on the datagrams are handed out.
+///
+/// Answers what `neli_c_kernel_dump_push` answers; `SHORT`, `LENGTH` or `BYTES` where the attributes cannot be read.
+#[unsafe(no_mangle)]
+pub extern "C" fn neli_c_kernel_dump_finish(
+    alloc: Global,
+    dump: &mut NeliKernelDump,
+    flags: u16,
+    error: i32,
+    ext_ack: &[u8],
+) -> i32
+    ensures closed { dump.old.place.value ≡ None
+        → (result ≡ state) × (dump.new.place.value ≡ None) }
+    ensures open { IfSome dump.old.place.value (λ s. IsSome dump.new.place.value
+        × IfSome dump.new.place.value
+        (Finishes result (end_wire flags error) ext_ack.now s)) }
+{
+    let Some(mut dumping) = dump.take(alloc) else {
+        return STATE;
+    };
+    let code = dumping.finish(alloc, flags, error, ext_ack);
+    dump.put(dumping);
+    code
+}
+
+/// Hands out the next datagram: copies it, and `size` is how many bytes it has.
+///
+/// Answers `ITEM`; `OK` where all were handed out; `WAITS` where the end is not put in; `ROOM` where the datagram has more
+/// bytes than `out`, and then `size` is how many, and the next call gives the same one.
+#[unsafe(no_mangle)]
+pub extern "C" fn neli_c_kernel_dump_next(
+    alloc: Global,
+    dump: &mut NeliKernelDump,
+    out: &mut [u8],
+    size: &mut usize,
+) -> i32
+    ensures closed { dump.old.place.value ≡ None → (result ≡ state)
+        × (dump.new.place.value ≡ None) × (out.new ≡ out.old) × (size.new ≡ size.old) }
+    ensures open { IfSome dump.old.place.value (λ s. IsSome dump.new.place.value
+        × IfSome dump.new.place.value
+        (λ t. HandsOut result s t out.old out.new size.old size.new)) }
+{
+    let Some(mut dumping) = dump.take(alloc) else {
+        return STATE;
+    };
+    let code = dumping.next(out, size);
+    dump.put(dumping);
+    code
+}

@@ -1,0 +1,256 @@
+//! A kernel to test against: requests as it takes them, and its answers as bytes, by neli_kernel.
+//!
+//! What is made here takes memory, and leaves none behind.
+
+ghost use Rattle.std.specs.Prelude.{◌≡◌, ◌≢◌, [], IfErr, IfOk, Ok};
+ghost use Rattle.neli_c.specs.AnswersShown.{payload_shown};
+ghost use Rattle.neli_c.specs.Asked.{Answers, AnswersWhole, IsAsked, SaysWants, WritesAnswer, acknowledgement_wire};
+ghost use Rattle.neli_c.specs.Asked.{byte_of, capped_wire, error_wire, notification_wire, reply_wire, ser_code};
+ghost use Rattle.neli_c.specs.Codes.{item, ok};
+ghost use Rattle.neli_c.specs.Writes.{WritesMessage};
+ghost use Rattle.neli_c.specs.Walks.{GivesMessage, bytes_left, header_shown, message_layout, walk_code};
+ghost use Rattle.neli_kernel.specs.declared.request.Request.{Request as Asked};
+
+use crate::answer::payload_of;
+use crate::code::{ITEM, LENGTH, MEMORY, PLACE};
+use crate::lent::{NeliMessage, NeliWalk, code_of, neli_c_next_message};
+use crate::write::copy;
+use neli_attr::Buffer;
+use neli_consts::NlmF;
+use neli_kernel::{Request, notification, read_ext_ack};
+use neli_reader::{NlmsghdrAck, NlmsghdrAckBuilder};
+use neli_wire::{Constant, SerError};
+use std::alloc::Global;
+
+/// A request: the message, the port of the socket that sent it, and what its header asks for, each 1 or 0.
+#[repr(C)]
+#[derive(Clone, Copy)]
+pub struct NeliRequest {
+    pub message: NeliMessage,
+    pub port: u32,
+    pub is_handled: u8,
+    pub wants_acknowledgement: u8,
+    pub wants_dump: u8,
+    pub wants_routing_dump: u8,
+    pub wants_echo: u8,
+}
+
+/// The header that a message shows.
+fn header_of(message: &NeliMessage) -> NlmsghdrAck<u16>
+    ensures { result ≡ header_shown message.now }
+{
+    let built = NlmsghdrAckBuilder::default()
+        .nl_len(message.length)
+        .nl_type(message.message_type)
+        .nl_flags(NlmF::from_wire(message.flags))
+        .nl_seq(message.number)
+        .nl_pid(message.port)
+        .build();
+    match built {
+        Ok(header) => header,
+        Err(_) => unreachable!(),
+    }
+}
+
+/// The request of this header and this payload.
+pub(crate) fn asked_by<'b>(request: &NeliRequest, payload: &'b [u8]) -> Request<'b>
+    ensures { IsAsked request.now payload.now result }
+{
+    Request::from_parts(request.port, header_of(&request.message), payload)
+}
+
+/// 1 where it holds, else 0.
+fn byte_of(holds: bool) -> u8
+    ensures { result ≡ byte_of holds }
+{
+    if holds { 1 } else { 0 }
+}
+
+/// What a message asks for that came from the socket of this port.
+fn request_of(message: NeliMessage, port: u32) -> NeliRequest
+    ensures message { result.message ≡ message }
+    ensures port { result.port ≡ port }
+    ensures wants { SaysWants result }
+{
+    let asked = Request::from_parts(port, header_of(&message), &[]);
+    NeliRequest {
+        message,
+        port,
+        is_handled: byte_of(asked.is_handled()),
+        wants_acknowledgement: byte_of(asked.wants_acknowledgement()),
+        wants_dump: byte_of(asked.wants_dump()),
+        wants_routing_dump: byte_of(asked.wants_routing_dump()),
+        wants_echo: byte_of(asked.wants_echo()),
+    }
+}
+
+/// The code of why a message has no bytes.
+pub(crate) fn of_ser(error: &SerError) -> i32
+    ensures code { result ≡ ser_code error.now }
+    ensures refused { result ≢ ok }
+{
+    match error {
+        SerError::Memory => MEMORY,
+        _ => LENGTH,
+    }
+}
+
+/// Copies the bytes of a message where there is room for all; or the code of why it has none.
+fn give(made: Result<Vec<u8>, SerError>, out: &mut [u8], size: &mut usize) -> i32
+    ensures bytes { IfOk made
+        (λ bytes. WritesMessage result (Ok bytes.items) out.old out.new size.new) }
+    ensures refused { IfErr made (λ e. (result ≡ ser_code e) × (size.new ≡ size.old)) }
+    ensures unwritten { result ≢ ok → out.new ≡ out.old }
+{
+    match made {
+        Ok(bytes) => copy(&bytes, out, size),
+        Err(error) => of_ser(&error),
+    }
+}
+
+/// The next message of a walk as a request from the socket of this port; the walk goes past it and its padding.
+///
+/// Answers what `neli_c_next_message` answers. Without a message the walk and `request` stay.
+#[unsafe(no_mangle)]
+pub extern "C" fn neli_c_next_request(
+    bytes: &[u8],
+    walk: &mut NeliWalk,
+    port: u32,
+    request: &mut NeliRequest,
+) -> i32
+    ensures code { result ≡ walk_code message_layout (bytes_left bytes.now walk.old) }
+    ensures message { result ≡ item
+        → GivesMessage bytes.now walk.old walk.new request.new.message }
+    ensures port { result ≡ item → request.new.port ≡ port }
+    ensures wants { result ≡ item → SaysWants request.new }
+    ensures unchanged { result ≢ item → (walk.new ≡ walk.old) × (request.new ≡ request.old) }
+{
+    let mut message = request.message;
+    let code = neli_c_next_message(bytes, walk, &mut message);
+    if code == ITEM {
+        *request = request_of(message, port);
+    }
+    code
+}
+
+/// The acknowledgement of a request: code 0, and its header. `ext_ack` lists the attributes of the extended
+/// acknowledgement, as a message has them; `size` is how many bytes it has, also where there is no room for them.
+///
+/// Answers `OK`; `ROOM`; `LENGTH` where its length passes 32 bits; `SHORT`, `LENGTH` or `BYTES` where the attributes cannot
+/// be read; or `MEMORY`. Without `OK` nothing is written.
+#[unsafe(no_mangle)]
+pub extern "C" fn neli_c_kernel_ack(
+    alloc: Global,
+    request: &NeliRequest,
+    ext_ack: &[u8],
+    out: &mut [u8],
+    size: &mut usize,
+) -> i32
+    ensures { Answers result request.now [] acknowledgement_wire ext_ack.now out.old out.new
+        size.old size.new }
+{
+    let asked = asked_by(request, &[]);
+    match read_ext_ack(alloc, ext_ack) {
+        Ok(attrs) => give(asked.acknowledgement(alloc, attrs), out, size),
+        Err(error) => code_of(&error),
+    }
+}
+
+/// The error with this code, as -22 for `EINVAL`, to a socket that wants errors capped: the header of the request
+/// alone.
+///
+/// Answers what `neli_c_kernel_ack` answers.
+#[unsafe(no_mangle)]
+pub extern "C" fn neli_c_kernel_capped_error(
+    alloc: Global,
+    request: &NeliRequest,
+    code: i32,
+    ext_ack: &[u8],
+    out: &mut [u8],
+    size: &mut usize,
+) -> i32
+    ensures { Answers result request.now [] (capped_wire code) ext_ack.now out.old out.new
+        size.old size.new }
+{
+    let asked = asked_by(request, &[]);
+    match read_ext_ack(alloc, ext_ack) {
+        Ok(attrs) => give(asked.capped_error(alloc, code, attrs), out, size),
+        Err(error) => code_of(&error),
+    }
+}
+
+/// The error with this code, as -22 for `EINVAL`: the request whole, as it lies in `sent`.
+///
+/// Answers what `neli_c_kernel_ack` answers; `PLACE` where the payload lies past the bytes.
+#[unsafe(no_mangle)]
+pub extern "C" fn neli_c_kernel_error(
+    alloc: Global,
+    sent: &[u8],
+    request: &NeliRequest,
+    code: i32,
+    ext_ack: &[u8],
+    out: &mut [u8],
+    size: &mut usize,
+) -> i32
+    ensures { AnswersWhole result request.now (payload_shown sent.now request.now.message)
+        (error_wire code) ext_ack.now out.old out.new size.old size.new }
+{
+    let Some(payload) = payload_of(sent, &request.message) else {
+        return PLACE;
+    };
+    let asked = asked_by(request, payload);
+    match read_ext_ack(alloc, ext_ack) {
+        Ok(attrs) => give(asked.error(alloc, code, attrs), out, size),
+        Err(error) => code_of(&error),
+    }
+}
+
+/// One reply: of this type, with these flags and this body, with the request's number, to the port of its socket.
+///
+/// Answers `OK`; `ROOM`; `LENGTH` where its length passes 32 bits; or `MEMORY`. Without `OK` nothing is written.
+#[unsafe(no_mangle)]
+pub extern "C" fn neli_c_kernel_reply(
+    alloc: Global,
+    request: &NeliRequest,
+    nl_type: u16,
+    flags: u16,
+    body: &[u8],
+    out: &mut [u8],
+    size: &mut usize,
+) -> i32
+    ensures { (asked : Asked) × IsAsked request.now [] asked
+        × WritesAnswer result (reply_wire nl_type flags body.now asked) out.old out.new
+        size.old size.new }
+{
+    let asked = asked_by(request, &[]);
+    let Ok(body) = Buffer::from_slice(alloc, body) else {
+        return MEMORY;
+    };
+    let made = asked.reply(alloc, nl_type, NlmF::from_wire(flags), body);
+    give(made, out, size)
+}
+
+/// What groups get: a message of this type, with these flags, this number, this port and this body. Number and port are
+/// those of the request that caused it, or 0.
+///
+/// Answers `OK`; `ROOM`; `LENGTH` where its length passes 32 bits; or `MEMORY`. Without `OK` nothing is written.
+#[unsafe(no_mangle)]
+pub extern "C" fn neli_c_kernel_notification(
+    alloc: Global,
+    nl_type: u16,
+    flags: u16,
+    number: u32,
+    port: u32,
+    body: &[u8],
+    out: &mut [u8],
+    size: &mut usize,
+) -> i32
+    ensures { WritesAnswer result (notification_wire nl_type flags number port body.now) out.old
+        out.new size.old size.new }
+{
+    let Ok(body) = Buffer::from_slice(alloc, body) else {
+        return MEMORY;
+    };
+    let made = notification(alloc, nl_type, NlmF::from_wire(flags), number, port, body);
+    give(made, out, size)
+}

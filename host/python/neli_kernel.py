@@ -1,0 +1,209 @@
+"""A kernel to test against, for Python over libneli.so: a client runs in a test with no kernel and no namespace.
+
+A SimulatedSocket is a NetlinkSocket whose requests a function of yours serves. The answers are made by the proved
+library, as bytes, and each is given to its request by its router.
+
+    import neli
+    from neli_kernel import SimulatedSocket
+    def serve(request):
+        if not request.wants_routing_dump:
+            return [request.error(-95, {1: "Unknown device type"})]
+        return request.dump([{"type": neli.RTM_NEWLINK, "body": bytes(16) + neli.nla(neli.IFLA_IFNAME, "lo")}])
+    with SimulatedSocket(serve) as sock:
+        assert [it.get_attr(neli.IFLA_IFNAME).text() for it in sock.dump(neli.RTM_GETLINK, bytes(16))] == ["lo"]
+"""
+
+import ctypes
+import os
+import struct
+
+import neli
+from neli import END, ITEM, KERNEL_ERROR, MULTICAST, NLM_F_ACK, OK, ROOM
+
+__all__ = ["SimulatedSocket", "Request", "requests", "notification"]
+
+
+class _Request(ctypes.Structure):
+    _fields_ = [("message", neli._Message), ("port", ctypes.c_uint32), ("is_handled", ctypes.c_uint8),
+                ("wants_acknowledgement", ctypes.c_uint8), ("wants_dump", ctypes.c_uint8),
+                ("wants_routing_dump", ctypes.c_uint8), ("wants_echo", ctypes.c_uint8)]
+
+
+class _Opaque(ctypes.Structure):
+    """A router or a dump, closed as it is made."""
+
+    _fields_ = [("is_open", ctypes.c_bool), ("state", ctypes.c_void_p)]
+
+
+class _Sent(ctypes.Structure):
+    _fields_ = [("length", ctypes.c_size_t), ("handle", ctypes.c_size_t)]
+
+
+class _Item(ctypes.Structure):
+    _fields_ = [("type", ctypes.c_uint16), ("flags", ctypes.c_uint16), ("number", ctypes.c_uint32),
+                ("port", ctypes.c_uint32), ("error", ctypes.c_int32)]
+
+
+def _library():
+    """The library of neli, with what each call of this file takes."""
+    pointer, size, u16, u32 = ctypes.c_void_p, ctypes.c_size_t, ctypes.c_uint16, ctypes.c_uint32
+    i32, slice_of, room = ctypes.c_int32, [ctypes.c_char_p, size], [pointer, size, pointer]
+    calls = {
+        "neli_c_router_new": [pointer, u32],
+        "neli_c_router_free": [pointer],
+        "neli_c_router_send": [pointer, u16, u16, *slice_of, *room],
+        "neli_c_router_datagram": [pointer, *slice_of, pointer, size],
+        "neli_c_router_read": [pointer, size, pointer],
+        "neli_c_router_listen": [pointer, pointer],
+        "neli_c_router_item": [pointer, *room],
+        "neli_c_router_verdict": [pointer, size, pointer],
+        "neli_c_router_give_up": [pointer, size],
+        "neli_c_next_request": [*slice_of, pointer, u32, pointer],
+        "neli_c_kernel_ack": [pointer, *slice_of, *room],
+        "neli_c_kernel_capped_error": [pointer, i32, *slice_of, *room],
+        "neli_c_kernel_error": [*slice_of, pointer, i32, *slice_of, *room],
+        "neli_c_kernel_reply": [pointer, u16, u16, *slice_of, *room],
+        "neli_c_kernel_notification": [u16, u16, u32, u32, *slice_of, *room],
+        "neli_c_kernel_dump_new": [pointer, pointer, size],
+        "neli_c_kernel_dump_free": [pointer],
+        "neli_c_kernel_dump_push": [pointer, u16, u16, *slice_of],
+        "neli_c_kernel_dump_finish": [pointer, u16, i32, *slice_of],
+        "neli_c_kernel_dump_next": [pointer, *room],
+    }
+    for name, parameters in calls.items():
+        call = getattr(neli._lib, name)
+        call.restype, call.argtypes = i32, parameters
+    return neli._lib
+
+
+_lib = _library()
+
+
+def _made(call, *words):
+    """The bytes that a call writes."""
+    out, length = ctypes.create_string_buffer(1024), ctypes.c_size_t()
+    while True:
+        code = call(*words, out, len(out), ctypes.byref(length))
+        if code in (OK, ITEM):
+            return out.raw[: length.value]
+        if code != ROOM:
+            raise ValueError(neli._text_of(code))
+        out = ctypes.create_string_buffer(length.value)
+
+
+def _listed(ext_ack):
+    """The attributes of an extended acknowledgement: by number, as {1: "No such device", 2: 32}, or as bytes."""
+    if not isinstance(ext_ack, dict):
+        return bytes(ext_ack)
+    return b"".join(neli.nla(number, struct.pack("<I", it) if isinstance(it, int) else it) for number, it in ext_ack.items())
+
+
+class Request(neli.Message):
+    """A request as a kernel takes it, from the socket of `port`; `error`, below 0, is as -22 for EINVAL."""
+
+    def __init__(self, data, read):
+        super().__init__(data, read.message)
+        self.port, self._asked = read.port, read
+        for name in ("is_handled", "wants_acknowledgement", "wants_dump", "wants_routing_dump", "wants_echo"):
+            setattr(self, name, bool(getattr(read, name)))
+
+    def ack(self, ext_ack=b""):
+        """The acknowledgement."""
+        text = _listed(ext_ack)
+        return _made(_lib.neli_c_kernel_ack, ctypes.byref(self._asked), text, len(text))
+
+    def error(self, error, ext_ack=b"", is_capped=True):
+        """The error with the request's header alone, or with the whole request."""
+        text, asked = _listed(ext_ack), ctypes.byref(self._asked)
+        if is_capped:
+            return _made(_lib.neli_c_kernel_capped_error, asked, error, text, len(text))
+        return _made(_lib.neli_c_kernel_error, self._data, len(self._data), asked, error, text, len(text))
+
+    def reply(self, msg_type, body=b"", msg_flags=0):
+        """One reply."""
+        return _made(_lib.neli_c_kernel_reply, ctypes.byref(self._asked), msg_type, msg_flags, body, len(body))
+
+    def dump(self, listed, msg_flags=0, error=0, ext_ack=b"", limit=8192):
+        """The datagrams of a dump: its messages are {"type": .., "body": .., "flags": ..}, and the end has the rest."""
+        dump, text = _Opaque(), _listed(ext_ack)
+        at = ctypes.byref(dump)
+        try:
+            codes = [_lib.neli_c_kernel_dump_new(at, ctypes.byref(self._asked), limit)]
+            for it in listed:
+                body = it.get("body", b"")
+                codes.append(_lib.neli_c_kernel_dump_push(at, it["type"], it.get("flags", 0), body, len(body)))
+            codes.append(_lib.neli_c_kernel_dump_finish(at, msg_flags, error, text, len(text)))
+            if any(codes):
+                raise ValueError(neli._text_of(next(it for it in codes if it)))
+            return list(iter(lambda: _made(_lib.neli_c_kernel_dump_next, at), b""))
+        finally:
+            _lib.neli_c_kernel_dump_free(at)
+
+
+def requests(data, port):
+    """The requests of a datagram that the socket of a port sent; ValueError where it cannot be read to its end."""
+    data, walk, found = bytes(data), neli._Walk(0, len(data)), []
+    while True:
+        read = _Request()
+        code = _lib.neli_c_next_request(data, len(data), ctypes.byref(walk), port, ctypes.byref(read))
+        if code == END:
+            return found
+        if code != ITEM:
+            raise ValueError(neli._text_of(code))
+        found.append(Request(data, read))
+
+
+def notification(msg_type, body=b"", msg_flags=0, number=0, port=0):
+    """What groups get; number and port are those of the request that caused it, or 0."""
+    return _made(_lib.neli_c_kernel_notification, msg_type, msg_flags, number, port, body, len(body))
+
+
+class SimulatedSocket(neli.NetlinkSocket):
+    """A socket with a kernel of your own: `serve` gives the datagrams of the answer to a Request. It never waits."""
+
+    def __init__(self, serve, family=neli.NETLINK_ROUTE, port=4711):
+        self.family, self._said, self._serve, self._port, self._router = family, None, serve, port, _Opaque()
+        self._at = ctypes.byref(self._router)
+        self._well(_lib.neli_c_router_new(self._at, port))
+
+    port = property(lambda self: self._port)
+
+    def close(self):
+        _lib.neli_c_router_free(ctypes.byref(self._router))
+        self._at = None
+
+    def request(self, msg_type, msg_flags=NLM_F_ACK, body=b""):
+        body, sent, out = bytes(body), _Sent(), ctypes.create_string_buffer(len(body) + 32)
+        self._well(_lib.neli_c_router_send(self._opened(), msg_type, msg_flags, body, len(body), out, len(out),
+                                           ctypes.byref(sent)))
+        for request in requests(out.raw[: sent.length], self._port):
+            for datagram in self._serve(request):
+                self.deliver(datagram)
+        return neli.Reply(self, sent.handle)
+
+    def deliver(self, datagram, group=0):
+        """Has a datagram come to a group, as `notification` makes one; or to the port, where it is 0."""
+        groups = ctypes.c_uint32(group)
+        self._well(_lib.neli_c_router_datagram(self._opened(), datagram, len(datagram), ctypes.byref(groups), 1))
+
+    def _verdict(self, handle, said):
+        return _lib.neli_c_router_verdict(self._at, handle, said)
+
+    def _close_request(self, handle):
+        _lib.neli_c_router_give_up(self._at, handle)
+
+    def _next(self, handle):
+        item, read, self._said = _Item(), neli._Message(), None
+        words = [ctypes.byref(item)] if handle == MULTICAST else [handle, ctypes.byref(item)]
+        read_one = _lib.neli_c_router_listen if handle == MULTICAST else _lib.neli_c_router_read
+        code = read_one(self._opened(), *words)
+        if code in (ITEM, KERNEL_ERROR):
+            data = _made(_lib.neli_c_router_item, self._at)
+            _lib.neli_c_next_message(data, len(data), ctypes.byref(neli._Walk(0, len(data))), ctypes.byref(read))
+            self._said = neli.Message(data, read, self.family)
+        return code, self._said
+
+    def _error(self, code, number=0):
+        if code == KERNEL_ERROR and self._said:
+            number = -struct.unpack_from("<i", self._said.payload)[0]
+        return neli.NetlinkError(number, os.strerror(number) if number else neli._text_of(code), code)

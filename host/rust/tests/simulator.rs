@@ -1,0 +1,100 @@
+//! The kernel to test against. Bytes are by linux/netlink.h, or as a comment says recordings of Linux 6.18.
+
+use neli::consts::nl::{NlmF, Nlmsg, NlmsgerrAttr};
+use neli::consts::rtnl::Rtm;
+use neli::err::{DeError, Refusal, SerError, SocketError};
+use neli::genl::{AttrTypeBuilder, NlattrBuilder};
+use neli::simulator::{Datagram, Kernel, Request, notification, requests};
+use neli::types::{Buffer, GenlBuffer};
+
+/// RTM_GETLINK (18) with REQUEST, ACK and DUMP, the number 7, and four bytes.
+const DUMP: [u8; 20] = [20, 0, 0, 0, 18, 0, 5, 3, 7, 0, 0, 0, 0, 0, 0, 0, 1, 2, 3, 4];
+
+fn request(sent: &[u8]) -> Request<'_> {
+    let mut found: Vec<_> = requests(sent, 12587).collect();
+    assert_eq!(found.len(), 1);
+    found.remove(0).expect("a request")
+}
+
+fn text(text: &str) -> GenlBuffer<NlmsgerrAttr, Buffer> {
+    let kind = AttrTypeBuilder::default().nla_type(NlmsgerrAttr::Msg).build().expect("a type");
+    let attr = NlattrBuilder::default().nla_type(kind).nla_payload(text).build().expect("an attribute");
+    [attr].into_iter().collect()
+}
+
+fn message(kind: u16, flags: u16, body: &[&[u8]]) -> Vec<u8> {
+    let body = body.concat();
+    let length = 16 + body.len() as u32;
+    let head = [u32::from(kind) | u32::from(flags) << 16, 7, 12587];
+    [length.to_ne_bytes().to_vec(), head.map(u32::to_ne_bytes).concat(), body].concat()
+}
+
+#[test]
+fn a_request_says_what_it_asks_for() {
+    let asked = request(&DUMP);
+    assert_eq!((asked.nl_type::<Rtm>(), asked.nl_seq(), asked.port()), (Rtm::Getlink, 7, 12587));
+    assert_eq!(asked.nl_flags(), NlmF::REQUEST | NlmF::ACK | NlmF::DUMP);
+    assert!(asked.is_handled() && asked.wants_acknowledgement() && asked.wants_dump() && asked.wants_routing_dump());
+    assert!(!asked.wants_echo());
+    assert_eq!((asked.payload(), asked.body::<u32>()), (&[1, 2, 3, 4][..], Ok(0x0403_0201)));
+    let cut: Vec<_> = requests(&DUMP[..19], 7).collect();
+    assert!(matches!(cut[..], [Err(DeError::Refused(Refusal::LENGTH))]), "{cut:?}");
+}
+
+#[test]
+fn answers_are_those_of_a_kernel() {
+    let (asked, zero, code) = (request(&DUMP), [0; 4], (-19i32).to_ne_bytes());
+    assert_eq!(asked.acknowledgement(&()), Ok(message(2, 0x100, &[&zero, &DUMP[..16]])));
+    assert_eq!(asked.capped_error(-19, &()), Ok(message(2, 0x100, &[&code, &DUMP[..16]])));
+    assert_eq!(asked.error(-19, &()), Ok(message(2, 0, &[&code, &DUMP])));
+    assert_eq!(asked.reply(Rtm::Newlink, NlmF::DUMP_FILTERED, &5u32), Ok(message(16, 0x20, &[&[5, 0, 0, 0]])));
+    let told = notification(Rtm::Dellink, NlmF::empty(), 7, 12587, &6u32);
+    assert_eq!(told, Ok(message(17, 0, &[&[6, 0, 0, 0]])));
+    assert_eq!(asked.acknowledgement(&[1u8, 2, 3]), Err(SerError::Refused(Refusal::LENGTH)));
+}
+
+/// A queue's class whose rate is too small: kept, with a warning.
+#[test]
+fn a_recorded_acknowledgement_is_made_again() {
+    let digits = "60000000280005043605000000000000000000000300000001000100000001000000000008000100687462003400028030000100\
+                  00010000ffff00000100000000010000ffff000001000000e8030000e8030000000000000000000000000000";
+    let answer = "6800000002000003360500002b3100000000000060000000280005043605000000000000430001007363685f6874623a20717561\
+                  6e74756d206f6620636c61737320313030303120697320736d616c6c2e20436f6e736964657220723271206368616e67652e0000";
+    let bytes = |it: &str| -> Vec<u8> {
+        (0..it.len()).step_by(2).map(|at| u8::from_str_radix(&it[at..at + 2], 16).expect("digits")).collect()
+    };
+    let sent = bytes(digits);
+    let warning = text("sch_htb: quantum of class 10001 is small. Consider r2q change.");
+    assert_eq!(request(&sent).acknowledgement(&warning), Ok(bytes(answer)));
+}
+
+#[test]
+fn a_dump_is_cut_into_datagrams() {
+    let asked = request(&DUMP);
+    let mut dump = asked.dump(40).expect("memory");
+    dump.push(Rtm::Newlink, NlmF::empty(), &1u32).expect("room");
+    assert_eq!(dump.push(Rtm::Newlink, NlmF::empty(), &[0u8; 25]), Err(SerError::Refused(Refusal::LENGTH)));
+    dump.begin_datagram().expect("memory");
+    dump.push_reply(Rtm::Newlink, NlmF::DUMP_INTR, &2u32).expect("room");
+    let datagrams = dump.finish(NlmF::DUMP_FILTERED, -19, &()).expect("room");
+    let (one, two) = (message(16, 2, &[&1u32.to_ne_bytes()]), message(16, 0x10, &[&2u32.to_ne_bytes()]));
+    assert_eq!(datagrams, [one, [two, message(3, 0x22, &[&(-19i32).to_ne_bytes()])].concat()]);
+}
+
+#[test]
+fn a_kernel_serves_each_request_of_a_datagram() {
+    let kernel = Kernel::new(12587, |request: &Request<'_>| match request.nl_type::<u16>() {
+        18 => request.dump(8192)?.finish(NlmF::empty(), 0, &()),
+        _ => Ok(vec![request.acknowledgement(&())?]),
+    });
+    assert_eq!((kernel.port(), kernel.receive()), (12587, None));
+    let mut set = DUMP;
+    set[4] = 19;
+    kernel.send(&[DUMP, set].concat()).expect("two requests");
+    kernel.notify(1, vec![1, 2]);
+    let end = message(u16::from(Nlmsg::Done), 2, &[&[0; 4]]);
+    assert_eq!(kernel.receive(), Some(Datagram { group: 0, bytes: end }));
+    assert_eq!(kernel.receive().map(|it| it.bytes.len()), Some(36));
+    assert_eq!(kernel.receive(), Some(Datagram { group: 1, bytes: vec![1, 2] }));
+    assert!(matches!(kernel.send(&DUMP[..15]), Err(SocketError::De(DeError::Refused(Refusal::SHORT)))));
+}
