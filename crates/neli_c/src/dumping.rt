@@ -74,7 +74,10 @@ impl Dumping {
         let Ok(body) = Buffer::from_slice(alloc, body) else {
             return MEMORY;
         };
-        of_put(self.dump.push_reply(alloc, nl_type, NlmF::from_wire(flags), body))
+        of_put(
+            self.dump
+                .push_reply(alloc, nl_type, NlmF::from_wire(flags), body),
+        )
     }
 
     /// Begins a datagram, unless the last one is empty.
@@ -96,7 +99,10 @@ impl Dumping {
             self.old self.new }
         ensures finished { self.new.is_finished ≡ self.old.is_finished }
     {
-        of_put(self.dump.push_end(alloc, NlmF::from_wire(flags), error, ext_ack))
+        of_put(
+            self.dump
+                .push_end(alloc, NlmF::from_wire(flags), error, ext_ack),
+        )
     }
 
     /// Puts the end in, with the attributes that these bytes list. From then on the datagrams are handed out.

@@ -189,7 +189,11 @@ fn recorded_dumps_are_handed_out_datagram_by_datagram(rt: HostRuntime) {
             let datagram = dump.datagram(k).expect(&rt, row.number);
             assert_bytes(&rt, row.number, datagram, want.as_slice());
         }
-        assert!(rt; dump.datagram(row.datagrams.len()).is_none(), "at {}", row.number);
+        assert!(rt;
+            dump.datagram(row.datagrams.len()).is_none(),
+            "at {}",
+            row.number
+        );
     }
 }
 
