@@ -1,5 +1,5 @@
-/* Netlink for C: calls that read and write messages and attributes in your bytes, and a router that delivers each reply
- * to its request.
+/* Netlink for C: calls that read and write messages and attributes in your bytes, a router that delivers each reply to
+ * its request, and a kernel to test against.
  *
  * This header has no sockets: requests are returned as bytes, and you pass in the datagrams that arrive. Numbers are
  * those of a little-endian machine.
@@ -548,12 +548,12 @@ static inline int32_t neli_router_close(struct neli_router *router, size_t handl
 
 /* ---- A kernel to test against ---- */
 
-/* A program's request is read, and each answer of a kernel is made as bytes, which neli_router_datagram takes in as
+/* A program's request is read, and each answer of a kernel is made as bytes, which neli_router_datagram takes as
  * those of a socket: docs/SIMULATOR.md. Codes of errors are 0 or below, as -22 for EINVAL. `ext_ack` lists the
  * attributes of the extended acknowledgement, as neli_put_attribute writes them (NELI_ANSWER_TEXT); null and 0 is none.
  *
  * An answer is written into `out`, and `length` is how many bytes it has, also at NELI_ROOM. Without NELI_OK nothing is
- * written. NELI_LENGTH where the answer's length passes 32 bits; NELI_SHORT, NELI_LENGTH or NELI_BYTES where `ext_ack`
+ * written. NELI_LENGTH if the answer's length passes 32 bits; NELI_SHORT, NELI_LENGTH or NELI_BYTES if `ext_ack`
  * is no list of attributes; NELI_MEMORY. */
 
 /* The next message of a walk as a request from the socket of this port; as neli_next_message. It takes no memory. */
@@ -581,7 +581,7 @@ static inline int32_t neli_kernel_capped_error(const struct neli_request *reques
                                       neli_write_at(out), room, length);
 }
 
-/* The error with this code, and the request whole: `sent` are the bytes that it was read from. NELI_PLACE where its
+/* The error with this code, and the request whole: `sent` are the bytes that it was read from. NELI_PLACE if its
  * payload is past them. */
 static inline int32_t neli_kernel_error(const uint8_t *sent, size_t sent_length, const struct neli_request *request,
                                         int32_t code, const void *ext_ack, size_t ext_ack_length, uint8_t *out,
@@ -613,7 +613,7 @@ static inline int32_t neli_kernel_notification(uint16_t type, uint16_t flags, ui
 }
 
 /* Opens a dump, the answer to a request for a whole table, in datagrams of at most `limit` bytes. It keeps nothing of
- * the request's bytes. NELI_STATE where it is open; NELI_MEMORY. Free it by neli_kernel_dump_free. */
+ * the request's bytes. NELI_STATE if it is open; NELI_MEMORY. Free it by neli_kernel_dump_free. */
 static inline int32_t neli_kernel_dump_new(struct neli_kernel_dump *dump, const struct neli_request *request,
                                            size_t limit) {
     if (dump == NULL || request == NULL) return NELI_NULL;
@@ -626,8 +626,8 @@ static inline int32_t neli_kernel_dump_free(struct neli_kernel_dump *dump) {
     return neli_c_kernel_dump_free(dump);
 }
 
-/* One message more of a dump, with these flags, as NLM_F_DUMP_INTR, and MULTI. It goes behind the last one where the
- * limit allows, and else begins the next datagram. NELI_STATE where the dump is closed or finished; NELI_LENGTH where
+/* One message more of a dump, with these flags, as NLM_F_DUMP_INTR, and MULTI. It goes behind the last one if the
+ * limit allows, and else begins the next datagram. NELI_STATE if the dump is closed or finished; NELI_LENGTH if
  * the message alone is longer than the limit, or than 32 bits; NELI_MEMORY: then the dump is as it was. */
 static inline int32_t neli_kernel_dump_push(struct neli_kernel_dump *dump, uint16_t type, uint16_t flags,
                                             const void *body, size_t body_length) {
@@ -642,14 +642,14 @@ static inline int32_t neli_kernel_dump_push_reply(struct neli_kernel_dump *dump,
     return neli_c_kernel_dump_push_reply(dump, type, flags, neli_read_at((const uint8_t *)body), body_length);
 }
 
-/* Has the next message begin a datagram. NELI_STATE where the dump is closed or finished; NELI_MEMORY: then the dump is
+/* Has the next message begin a datagram. NELI_STATE if the dump is closed or finished; NELI_MEMORY: then the dump is
  * as it was. */
 static inline int32_t neli_kernel_dump_begin_datagram(struct neli_kernel_dump *dump) {
     if (dump == NULL) return NELI_NULL;
     return neli_c_kernel_dump_begin_datagram(dump);
 }
 
-/* Puts the end in, with these flags and MULTI: the code is 0 where all went well, else below, as -19 for ENODEV. It
+/* Puts the end in, with these flags and MULTI: the code is 0 if all went well, else below, as -19 for ENODEV. It
  * returns what neli_kernel_dump_push does, and what is said of `ext_ack` above. */
 static inline int32_t neli_kernel_dump_finish(struct neli_kernel_dump *dump, uint16_t flags, int32_t code,
                                               const void *ext_ack, size_t ext_ack_length) {
@@ -657,9 +657,9 @@ static inline int32_t neli_kernel_dump_finish(struct neli_kernel_dump *dump, uin
     return neli_c_kernel_dump_finish(dump, flags, code, neli_read_at((const uint8_t *)ext_ack), ext_ack_length);
 }
 
-/* The next datagram of a dump that is finished: NELI_ITEM, or NELI_END where all were handed out. NELI_WAITS where the
- * dump is not finished; NELI_ROOM where `out` is too small: `length` is then what is needed, and the next call gives
- * the same one; NELI_STATE where the dump is closed. It takes no memory. */
+/* The next datagram of a dump that is finished: NELI_ITEM, or NELI_END if all were handed out. NELI_WAITS if the
+ * dump is not finished; NELI_ROOM if `out` is too small: `length` is then what is needed, and the next call gives
+ * the same one; NELI_STATE if the dump is closed. It takes no memory. */
 static inline int32_t neli_kernel_dump_next(struct neli_kernel_dump *dump, uint8_t *out, size_t room, size_t *length) {
     if (dump == NULL || !neli_is_slice(out, room) || length == NULL) return NELI_NULL;
     return neli_c_kernel_dump_next(dump, neli_write_at(out), room, length);

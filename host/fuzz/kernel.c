@@ -39,7 +39,7 @@ void *__wrap_realloc(void *at, size_t size) {
 /* ---- The model ---- */
 
 static uint8_t *in, *extra, *out, wanted[ROOM];
-static struct neli_request request;
+static struct neli_request request, asked; /* what was read last, and what the dump answers */
 static struct neli_kernel_dump dump = NELI_KERNEL_DUMP_CLOSED;
 
 /* The datagrams of the dump, where each ends, and how many were handed out. */
@@ -52,7 +52,8 @@ static void put_u32(uint8_t *at, uint32_t number) {
 }
 
 /* A message as `wanted`, with zeros up to a multiple of four: its length. */
-static size_t message(uint16_t type, uint32_t flags, uint32_t number, uint32_t port, const uint8_t *body, size_t length) {
+static size_t message(uint16_t type, uint32_t flags, uint32_t number, uint32_t port, const uint8_t *body,
+                      size_t length) {
     size_t size = padded(16 + length);
     memset(wanted, 0, size);
     put_u32(wanted, (uint32_t)size);
@@ -201,7 +202,7 @@ static void try_open(struct script *script) {
     CALLED(code, neli_kernel_dump_new(&dump, &request, most));
     WANT(code == (is_open ? NELI_STATE : NELI_OK));
     if (is_open) return;
-    is_open = true, is_finished = false, limit = most, datagrams = given = 0, ends[0] = 0;
+    asked = request, is_open = true, is_finished = false, limit = most, datagrams = given = 0, ends[0] = 0;
 }
 
 static void try_push(struct script *script) {
@@ -218,7 +219,7 @@ static void try_push(struct script *script) {
         WANT(code == NELI_STATE);
         return;
     }
-    size_t size = message(type, flags | multi, request.message.number, request.port, body, length);
+    size_t size = message(type, flags | multi, asked.message.number, asked.port, body, length);
     WANT(code == (put(size) ? NELI_OK : NELI_LENGTH));
 }
 
@@ -250,7 +251,7 @@ static void try_finish(struct script *script) {
     put_u32(payload, (uint32_t)error);
     attributes(payload + 4, list, length);
     uint32_t all = flags | 2u | (length > 0 ? 0x200u : 0);
-    is_finished = put(message(3, all, request.message.number, request.port, payload, 4 + length));
+    is_finished = put(message(3, all, asked.message.number, asked.port, payload, 4 + length));
     WANT(code == (is_finished ? NELI_OK : NELI_LENGTH));
 }
 

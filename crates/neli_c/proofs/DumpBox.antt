@@ -1,4 +1,4 @@
--- A loose box, and a place with a session, own what a box at the same types owns.
+-- A loose box, and a place with a dump, own what a box at the same types owns.
 use mir.Syntax.{impl, tnil, dnil}
 use mathlib.Core.List.{[]}
 use denote.Signature.{Slot, plain}

@@ -1,4 +1,4 @@
--- What a place owns: the box at its pointer where it has a session, and nothing where it has none.
+-- What a place owns: the box at its pointer where it has a dump, and nothing where it has none.
 use Rattle.std.specs.Prelude.{Option, Some, None}
 use base.Fml.{Fml, ftrue}
 use base.Stored.{Coded}

@@ -6,7 +6,7 @@ use Rattle.neli_wire.specs.SerError.{SerError}
 use Rattle.neli_wire.specs.Writing.{Wire}
 use Rattle.neli_reader.specs.Answers.{Attributes, ext_ack_in}
 use Rattle.neli_reader.specs.Headers.{flags_of}
-use Rattle.neli_kernel.specs.Answers.{message_or_refusal, reply}
+use Rattle.neli_kernel.specs.Answers.{message_or_refusal}
 use Rattle.neli_kernel.specs.Dumps.{Packed, begun, datagrams_of, dump_end, dump_message, packed_in, put_wire}
 use Rattle.neli_kernel.specs.declared.request.Request.{Request}
 use Rattle.neli_c.specs.declared.dumping.Dumping.{Dumping}

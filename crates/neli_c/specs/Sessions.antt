@@ -1,11 +1,10 @@
 -- What the calls of a router do to it, for every handle: as neli_router says it of its own calls.
 use Rattle.std.specs.Prelude.{◌≡◌, ◌≢◌, ◌⊎◌, ◌||◌, not, ℕ, ◌+◌, ℤ, pos, Bool, List, [], ◌∷◌, ◌++◌, Option, Some, None}
-use Rattle.std.specs.Prelude.{IfSome, is_some, option_map, nat_eq, nat_le, nat_lt, unsigned_abs, if◌then◌else◌, length}
+use Rattle.std.specs.Prelude.{IfSome, is_some, option_map, nat_eq, nat_lt, unsigned_abs, if◌then◌else◌, length}
 use Rattle.std.specs.Prelude.{slice_set, Result, Ok, Err, true, false}
 use Rattle.std.specs.declared.io.ErrorKind.{ErrorKind}
 use Rattle.std.specs.declared.io.ErrorKind.TheVariants as kind
 use Rattle.neli_wire.specs.Sizes.{align}
-use Rattle.neli_wire.specs.Writing.{Wire}
 use Rattle.neli_consts.specs.declared.nlm_f.NlmF.{NlmF}
 use Rattle.neli_reader.specs.Agreement.{untyped_layout}
 use Rattle.neli_reader.specs.Cuts.{cut_of}

@@ -1,7 +1,7 @@
-//! A dump for C: an answer in several messages, as it grows and as its datagrams are handed out. What C holds is a
-//! `struct neli_kernel_dump`, which is closed where all its bytes are 0.
+//! A dump for C: an answer in several messages, as it grows and as its datagrams are handed out. C holds a
+//! `struct neli_kernel_dump`, which is closed if all its bytes are 0.
 //!
-//! Each call but the first answers `STATE` where the dump is closed, and changes nothing then.
+//! Each call but the first returns `STATE` if the dump is closed, and changes nothing then.
 
 ghost use Rattle.std.specs.Prelude.{◌≡◌, ◌≢◌, ◌⊎◌, IfSome, IsSome, None};
 ghost use Rattle.neli_c.specs.Asked.{reply_wire};
@@ -16,7 +16,7 @@ use std::alloc::Global;
 
 /// Opens a dump that answers a request, whose datagrams have at most `limit` bytes.
 ///
-/// Answers `OK`; `STATE` where it is open, or `MEMORY`, and then it is as it was.
+/// Returns `OK`; `STATE` if it is open, or `MEMORY`, and then it is as it was.
 #[unsafe(no_mangle)]
 pub extern "C" fn neli_c_kernel_dump_new(
     alloc: Global,
@@ -43,7 +43,7 @@ pub extern "C" fn neli_c_kernel_dump_new(
     }
 }
 
-/// Frees what a dump has, and closes it; of a closed one, nothing. Answers `OK`.
+/// Frees what a dump has, and closes it; of a closed one, nothing. Returns `OK`.
 #[unsafe(no_mangle)]
 pub extern "C" fn neli_c_kernel_dump_free(alloc: Global, dump: &mut NeliKernelDump) -> i32
     ensures code { result ≡ ok }
@@ -55,7 +55,7 @@ pub extern "C" fn neli_c_kernel_dump_free(alloc: Global, dump: &mut NeliKernelDu
 
 /// One message more, of this type, with this body, and with these flags and MULTI.
 ///
-/// Answers `OK`; `STATE` where the end was put in; `LENGTH` where the message's length passes 32 bits, or it alone is
+/// Returns `OK`; `STATE` if the end was put in; `LENGTH` if the message's length passes 32 bits, or it alone is
 /// longer than a datagram may be; or `MEMORY`. Without `OK` the dump is as it was.
 #[unsafe(no_mangle)]
 pub extern "C" fn neli_c_kernel_dump_push(
@@ -81,7 +81,7 @@ pub extern "C" fn neli_c_kernel_dump_push(
 
 /// One message more, of this type, with this body, and with these flags alone: some families leave MULTI out.
 ///
-/// Answers what `neli_c_kernel_dump_push` answers.
+/// Returns what `neli_c_kernel_dump_push` returns.
 #[unsafe(no_mangle)]
 pub extern "C" fn neli_c_kernel_dump_push_reply(
     alloc: Global,
@@ -106,7 +106,7 @@ pub extern "C" fn neli_c_kernel_dump_push_reply(
 
 /// Begins a datagram, unless the last one is empty.
 ///
-/// Answers `OK`; `STATE` where the end was put in; or `MEMORY`. Without `OK` the dump is as it was.
+/// Returns `OK`; `STATE` if the end was put in; or `MEMORY`. Without `OK` the dump is as it was.
 #[unsafe(no_mangle)]
 pub extern "C" fn neli_c_kernel_dump_begin_datagram(alloc: Global, dump: &mut NeliKernelDump) -> i32
     ensures closed { dump.old.place.value ≡ None
@@ -122,10 +122,10 @@ pub extern "C" fn neli_c_kernel_dump_begin_datagram(alloc: Global, dump: &mut Ne
     code
 }
 
-/// Puts the end in: of type 3 (`NLMSG_DONE`), with these flags and MULTI, this code, which is 0 where all went well, and
+/// Puts the end in: of type 3 (`NLMSG_DONE`), with these flags and MULTI, this code, which is 0 if all went well, and
 /// the attributes that `ext_ack` lists. From then on the datagrams are handed out.
 ///
-/// Answers what `neli_c_kernel_dump_push` answers; `SHORT`, `LENGTH` or `BYTES` where the attributes cannot be read.
+/// Returns what `neli_c_kernel_dump_push` returns; `SHORT`, `LENGTH` or `BYTES` if the attributes cannot be read.
 #[unsafe(no_mangle)]
 pub extern "C" fn neli_c_kernel_dump_finish(
     alloc: Global,
@@ -150,7 +150,7 @@ pub extern "C" fn neli_c_kernel_dump_finish(
 
 /// Hands out the next datagram: copies it, and `size` is how many bytes it has.
 ///
-/// Answers `ITEM`; `OK` where all were handed out; `WAITS` where the end is not put in; `ROOM` where the datagram has more
+/// Returns `ITEM`; `OK` if all were handed out; `WAITS` if the end is not put in; `ROOM` if the datagram has more
 /// bytes than `out`, and then `size` is how many, and the next call gives the same one.
 #[unsafe(no_mangle)]
 pub extern "C" fn neli_c_kernel_dump_next(

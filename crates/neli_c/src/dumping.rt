@@ -131,7 +131,7 @@ impl Dumping {
         }
     }
 
-    /// Copies the next datagram where there is room for all of it.
+    /// Copies the next datagram if there is room for all of it.
     pub fn next(&mut self, out: &mut [u8], size: &mut usize) -> i32
         ensures { HandsOut result self.old self.new out.old out.new size.old size.new }
     {

@@ -59,7 +59,7 @@ pub(crate) fn asked_by<'b>(request: &NeliRequest, payload: &'b [u8]) -> Request<
     Request::from_parts(request.port, header_of(&request.message), payload)
 }
 
-/// 1 where it holds, else 0.
+/// 1 if it holds, else 0.
 fn byte_of(holds: bool) -> u8
     ensures { result ≡ byte_of holds }
 {
@@ -95,7 +95,7 @@ pub(crate) fn of_ser(error: &SerError) -> i32
     }
 }
 
-/// Copies the bytes of a message where there is room for all; or the code of why it has none.
+/// Copies the bytes of a message if there is room for all; or the code of why it has none.
 fn give(made: Result<Vec<u8>, SerError>, out: &mut [u8], size: &mut usize) -> i32
     ensures bytes { IfOk made
         (λ bytes. WritesMessage result (Ok bytes.items) out.old out.new size.new) }
@@ -110,7 +110,7 @@ fn give(made: Result<Vec<u8>, SerError>, out: &mut [u8], size: &mut usize) -> i3
 
 /// The next message of a walk as a request from the socket of this port; the walk goes past it and its padding.
 ///
-/// Answers what `neli_c_next_message` answers. Without a message the walk and `request` stay.
+/// Returns what `neli_c_next_message` returns. Without a message the walk and `request` stay.
 #[unsafe(no_mangle)]
 pub extern "C" fn neli_c_next_request(
     bytes: &[u8],
@@ -134,9 +134,9 @@ pub extern "C" fn neli_c_next_request(
 }
 
 /// The acknowledgement of a request: code 0, and its header. `ext_ack` lists the attributes of the extended
-/// acknowledgement, as a message has them; `size` is how many bytes it has, also where there is no room for them.
+/// acknowledgement, as a message has them; `size` is how many bytes it has, also if there is no room for them.
 ///
-/// Answers `OK`; `ROOM`; `LENGTH` where its length passes 32 bits; `SHORT`, `LENGTH` or `BYTES` where the attributes cannot
+/// Returns `OK`; `ROOM`; `LENGTH` if its length passes 32 bits; `SHORT`, `LENGTH` or `BYTES` if the attributes cannot
 /// be read; or `MEMORY`. Without `OK` nothing is written.
 #[unsafe(no_mangle)]
 pub extern "C" fn neli_c_kernel_ack(
@@ -159,7 +159,7 @@ pub extern "C" fn neli_c_kernel_ack(
 /// The error with this code, as -22 for `EINVAL`, to a socket that wants errors capped: the header of the request
 /// alone.
 ///
-/// Answers what `neli_c_kernel_ack` answers.
+/// Returns what `neli_c_kernel_ack` returns.
 #[unsafe(no_mangle)]
 pub extern "C" fn neli_c_kernel_capped_error(
     alloc: Global,
@@ -181,7 +181,7 @@ pub extern "C" fn neli_c_kernel_capped_error(
 
 /// The error with this code, as -22 for `EINVAL`: the request whole, as it lies in `sent`.
 ///
-/// Answers what `neli_c_kernel_ack` answers; `PLACE` where the payload lies past the bytes.
+/// Returns what `neli_c_kernel_ack` returns; `PLACE` if the payload lies past the bytes.
 #[unsafe(no_mangle)]
 pub extern "C" fn neli_c_kernel_error(
     alloc: Global,
@@ -207,7 +207,7 @@ pub extern "C" fn neli_c_kernel_error(
 
 /// One reply: of this type, with these flags and this body, with the request's number, to the port of its socket.
 ///
-/// Answers `OK`; `ROOM`; `LENGTH` where its length passes 32 bits; or `MEMORY`. Without `OK` nothing is written.
+/// Returns `OK`; `ROOM`; `LENGTH` if its length passes 32 bits; or `MEMORY`. Without `OK` nothing is written.
 #[unsafe(no_mangle)]
 pub extern "C" fn neli_c_kernel_reply(
     alloc: Global,
@@ -233,7 +233,7 @@ pub extern "C" fn neli_c_kernel_reply(
 /// What groups get: a message of this type, with these flags, this number, this port and this body. Number and port are
 /// those of the request that caused it, or 0.
 ///
-/// Answers `OK`; `ROOM`; `LENGTH` where its length passes 32 bits; or `MEMORY`. Without `OK` nothing is written.
+/// Returns `OK`; `ROOM`; `LENGTH` if its length passes 32 bits; or `MEMORY`. Without `OK` nothing is written.
 #[unsafe(no_mangle)]
 pub extern "C" fn neli_c_kernel_notification(
     alloc: Global,

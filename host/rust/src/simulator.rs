@@ -6,12 +6,15 @@
 //!
 //! ```
 //! use neli::consts::nl::NlmF;
-//! use neli::consts::rtnl::Rtm;
+//! use neli::consts::rtnl::{RtAddrFamily, Rtm};
+//! use neli::nl::NlPayload;
+//! use neli::router::synchronous::{NlRouter, Verdict};
+//! use neli::rtnl::{Ifinfomsg, IfinfomsgBuilder};
 //! use neli::simulator::{Kernel, Request};
 //!
 //! # fn main() -> Result<(), Box<dyn std::error::Error>> {
 //! // Two links, of which the table changed while the second was listed; all else is refused, by EOPNOTSUPP.
-//! let kernel = Kernel::new(4711, |request: &Request<'_>| {
+//! let kernel = Kernel::new(7, |request: &Request<'_>| {
 //!     if !request.wants_routing_dump() {
 //!         return Ok(vec![request.capped_error(-95, &())?]);
 //!     }
@@ -21,11 +24,15 @@
 //!     dump.finish(NlmF::empty(), 0, &())
 //! });
 //!
-//! // What a client sends: type 18 (RTM_GETLINK), with the flags REQUEST and DUMP, and the number 7.
-//! kernel.send(&[16, 0, 0, 0, 18, 0, 1, 3, 7, 0, 0, 0, 0, 0, 0, 0])?;
-//! let datagram = kernel.receive().ok_or("an answer")?;
-//! assert_eq!(datagram.bytes.len(), 32 + 32 + 20);
-//! assert_eq!(kernel.receive(), None);
+//! let (router, _multicast) = NlRouter::over(kernel)?;
+//! let all = IfinfomsgBuilder::default().ifi_family(RtAddrFamily::Unspecified).build()?;
+//! let mut links = router.send::<_, _, Rtm, Ifinfomsg>(Rtm::Getlink, NlmF::DUMP, NlPayload::Payload(all))?;
+//! let mut count = 0;
+//! for link in links.by_ref() {
+//!     count += usize::from(link?.get_payload().is_some());
+//! }
+//! assert_eq!(count, 2);
+//! assert_eq!(links.verdict(), Verdict::Interrupted); // the client would ask again
 //! # Ok(())
 //! # }
 //! ```
@@ -33,6 +40,7 @@
 use crate::consts::nl::NlmF;
 use crate::err::{DeError, SerError, SocketError, done, refused};
 use crate::ffi::{self, kernel};
+use crate::link::{Arrived, Link};
 use crate::nl::NlType;
 use crate::{FromBytes, ToBytes};
 use std::collections::VecDeque;
@@ -308,5 +316,20 @@ impl<F: FnMut(&Request<'_>) -> Result<Vec<Vec<u8>>, SerError>> Kernel<F> {
             inner.waiting.extend(answers.into_iter().map(|bytes| Datagram { group: 0, bytes }));
         }
         Ok(())
+    }
+}
+
+/// A router over it is a client's, in a test: [`NlRouter::over`](crate::router::synchronous::NlRouter::over).
+impl<F: FnMut(&Request<'_>) -> Result<Vec<Vec<u8>>, SerError> + Send> Link for Kernel<F> {
+    fn port(&self) -> u32 {
+        self.port
+    }
+
+    fn send(&self, datagram: &[u8]) -> Result<(), SocketError> {
+        Kernel::send(self, datagram)
+    }
+
+    fn receive(&self, room: &mut Vec<u8>) -> Result<Option<Arrived>, SocketError> {
+        Ok(Kernel::receive(self).map(|it| Arrived::into_room(room, &it.bytes, it.group)))
     }
 }
