@@ -1,0 +1,4 @@
+mod Around
+mod Lists
+mod Neighbours
+mod Walks

@@ -1,0 +1,155 @@
+-- Walks: the elements of a list, each with its path, and after a nest those in it.
+use Rattle.std.specs.Prelude.{ℕ, zero, suc, ◌-◌, true, false, if◌then◌else◌, List, [], ◌∷◌, ◌++◌}
+use Rattle.std.specs.Prelude.{length, drop}
+use Rattle.std.specs.Prelude.{Option, Some, None, Result, Ok, Err}
+use Rattle.std.specs.List.{flat_map}
+use Rattle.neli_attr.specs.AttrType.{AttrType}
+use Rattle.neli_wire.specs.DeError.{DeError}
+use Rattle.neli_wire.specs.Sizes.{align}
+use Rattle.neli_tables_rows.specs.Rows.{row_in}
+use Rattle.neli_tables_walk.specs.declared.context.Context.{Context}
+use Rattle.neli_tables_walk.specs.declared.item.Found.{Found}
+use Rattle.neli_tables_walk.specs.declared.item.Item.{Item}
+use Rattle.neli_tables_walk.specs.declared.item.Rest.{Rest}
+use Rattle.neli_tables_walk.specs.declared.item.Step.{Step}
+use Rattle.neli_tables_walk.specs.declared.level.Level.{Level}
+use Rattle.neli_tables_walk.specs.declared.level.Sort.{Sort}
+use Rattle.neli_tables_walk.specs.declared.shape.Nest.{Nest as NestOf}
+use Rattle.neli_tables_walk.specs.declared.shape.Shape.{Shape}
+use Rattle.neli_tables_walk.specs.declared.shape.Shape.TheVariants.{Nest, Hops, Deep}
+use Rattle.neli_tables_walk.specs.Elements.{Elem, Elements, Left, elements_of}
+use Rattle.neli_tables_walk.specs.Shapes.{Lines, ListSeen, listed_seen, row_shape}
+
+-- what is said of an element: its type field, its payload's bytes, and what these are
+abbrev pub Said : Type 0
+Said = Option (AttrType ℕ) × List ℕ × Shape
+
+-- an item: where it stands, and an element or what is left behind those of a list
+abbrev pub Seen : Type 0
+Seen = List Step × Result Said (List ℕ × DeError)
+
+abbrev pub content_seen : Result Found Rest → Result Said (List ℕ × DeError)
+content_seen (Ok f) = Ok (f.kind, f.payload.now, f.shape)
+content_seen (Err r) = Err (r.bytes.now, r.error)
+
+-- what an item says
+abbrev pub item_seen : Item → Seen
+item_seen item = (item.path.steps.items, content_seen item.content)
+
+-- ---- one element of a list
+
+abbrev pub step_with : Lines → Sort → Option (AttrType ℕ) → Step
+step_with table sort None = record { number = None; row = None }
+step_with table sort (Some kind) =
+    record { number = Some kind.nla_type; row = row_in table sort.nest.set kind.nla_type }
+
+-- a part of a path: a number, and the place of its row; neither of a hop
+abbrev pub step_of : Context → Sort → Elem → Step
+step_of context sort element = step_with context.table.now sort element.0
+
+-- what an element of a list is, which stands in these: a hop is its structure and its attributes
+abbrev pub shape_in : Context → ListSeen → List ListSeen → Elem → Shape
+shape_in context list around element =
+    if list.0.is_hops then Nest list.0.nest
+    else row_shape context (list ∷ around) (step_of context list.0 element).row element.1
+
+-- a nest that is not entered
+abbrev pub closed : Shape → Shape
+closed (Nest nest) = Deep nest
+closed (Hops nest) = Deep nest
+closed s = s
+
+-- an element at a path
+abbrev pub element_seen_at : List Step → Option (AttrType ℕ) → List ℕ → Shape → Seen
+element_seen_at path kind payload s = (path, Ok (kind, payload, s))
+
+-- the item of an element
+abbrev pub element_item : Context → List Step → Sort → Elem → Shape → Seen
+element_item context path sort element s =
+    element_seen_at (path ++ step_of context sort element ∷ []) element.0 element.1 s
+
+-- what is left, at a path
+abbrev pub left_seen : List Step → List ℕ → DeError → Seen
+left_seen path bytes e = (path, Err (bytes, e))
+
+-- the item of what is left, if something is
+abbrev pub left_items : List Step → Left → List Seen
+left_items path None = []
+left_items path (Some left) = left_seen path left.0 left.1 ∷ []
+
+-- the attributes of a nest: they begin after its structure, which is padded to four bytes
+abbrev pub nested_bytes : NestOf → List ℕ → List ℕ
+nested_bytes nest payload = drop (align nest.header) payload
+
+abbrev pub attributes_sort : NestOf → Sort
+attributes_sort nest = record { nest = nest; is_hops = false }
+
+abbrev pub hops_sort : NestOf → Sort
+hops_sort nest = record { nest = nest; is_hops = true }
+
+-- what the list has that a payload is, if it is one
+abbrev pub sort_in : Shape → Option Sort
+sort_in (Nest nest) = Some (attributes_sort nest)
+sort_in (Hops nest) = Some (hops_sort nest)
+sort_in s = None
+
+-- its bytes: attributes begin after the structure
+abbrev pub listed_bytes : Sort → List ℕ → List ℕ
+listed_bytes sort payload = if sort.is_hops then payload else nested_bytes sort.nest payload
+
+abbrev pub list_with : Option Sort → List ℕ → Option ListSeen
+list_with None payload = None
+list_with (Some sort) payload = Some (sort, listed_bytes sort payload)
+
+-- the list that a payload is, if it is one
+abbrev pub list_of : Shape → List ℕ → Option ListSeen
+list_of s payload = list_with (sort_in s) payload
+
+-- the items of a list that is in an element, by the walk over it
+abbrev pub inner_items : (ListSeen → Elements → List Seen) → Option ListSeen → List Seen
+inner_items inner None = []
+inner_items inner (Some list) = inner list (elements_of list.0 list.1)
+
+-- ---- nests in nests
+
+-- the items of elements of a list that stands in others, with those of nests that are at most
+-- `depth` deep
+unfoldable pub walked : Context → ℕ → List Step → List ListSeen → ListSeen → Elements → List Seen
+walked context zero path around list elements =
+    flat_map (λ (e : Elem). element_item context path list.0 e
+    (closed (shape_in context list around e)) ∷ []) elements.0
+    ++ left_items path elements.1
+walked context (suc depth) path around list elements =
+    flat_map (λ (e : Elem). element_item context path list.0 e (shape_in context list around e)
+    ∷ inner_items (walked context depth (path ++ step_of context list.0 e ∷ []) (list ∷ around))
+    (list_of (shape_in context list around e) e.1)) elements.0
+    ++ left_items path elements.1
+
+-- the items of a list: ten are open at most
+abbrev pub list_items : Context → ListSeen → List Seen
+list_items context list = walked context 9 [] [] list (elements_of list.0 list.1)
+
+-- the items of a body: a structure, and after it attributes
+abbrev pub walk_items : Context → NestOf → List ℕ → List Seen
+walk_items context nest body = list_items context (attributes_sort nest, nested_bytes nest body)
+
+-- ---- what is left of a walk
+
+-- the items that are left of a list, at this path and in these lists
+abbrev pub level_items : Context → List Step → List ListSeen → Level → List Seen
+level_items context path around level =
+    walked context (9 - length path) path around (listed_seen level.list)
+    (elements_of level.list.sort level.rest.now)
+
+-- the items that are left of lists of which each is in an element of the one before, the innermost
+-- first
+abbrev pub open_items : Context → List Step → List ListSeen → List Level → List Seen
+open_items context path around [] = []
+open_items context path around (level ∷ deeper) =
+    open_items context (path ++ level.inside ∷ []) (listed_seen level.list ∷ around) deeper
+    ++ level_items context path around level
+
+-- what was left before an item, where `later` is left after it: nothing where there is none
+abbrev pub next_item : Option Item → List Seen → List Seen
+next_item None later = []
+next_item (Some item) later = item_seen item ∷ later

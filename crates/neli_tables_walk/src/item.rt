@@ -1,0 +1,64 @@
+//! What a walk gives.
+
+ghost use Rattle.std.specs.Prelude.{◌≡◌};
+
+use crate::Shape;
+use crate::level::MAX_DEPTH;
+use arrayvec::ArrayVec;
+use neli_attr::AttrType;
+use neli_wire::DeError;
+
+/// A part of a path: an attribute by its number and by the place of its row, or a hop.
+#[derive(Clone, Copy, Debug, Default, PartialEq, Eq)]
+pub struct Step {
+    /// The number of the attribute; `None` of a hop.
+    pub number: Option<u16>,
+    /// The place of its row, if it has one.
+    pub row: Option<usize>,
+}
+
+/// Where an attribute stands: the nests and hops that it is in from the outside in, and itself.
+#[derive(Debug, Drop)]
+pub struct Path {
+    pub(crate) steps: ArrayVec<Step, MAX_DEPTH>,
+}
+
+impl Path {
+    /// The attributes and hops from the outside in.
+    pub fn steps(&self) -> &[Step]
+        ensures { result.now ≡ self.now.steps.items }
+    {
+        self.steps.as_slice()
+    }
+}
+
+/// An attribute or a hop, and what its payload is.
+#[derive(Clone, Copy, Debug)]
+pub struct Found<'b> {
+    /// The type field of an attribute, with its two flags; `None` of a hop.
+    pub kind: Option<AttrType<u16>>,
+    /// Its payload: of a hop the whole, its structure too. It lives as long as the bytes that are
+    /// walked.
+    pub payload: &'b [u8],
+    /// What the payload is.
+    pub shape: Shape,
+}
+
+/// What is left of a list behind its attributes.
+#[derive(Debug, Drop)]
+pub struct Rest<'b> {
+    /// The bytes.
+    pub bytes: &'b [u8],
+    /// Why they begin with no attribute.
+    pub error: DeError,
+}
+
+/// An attribute or a hop and where it stands; or what is left behind those of a list, and the nest
+/// that this list is in.
+#[derive(Debug, Drop)]
+pub struct Item<'b> {
+    /// Where it stands.
+    pub path: Path,
+    /// What stands there.
+    pub content: Result<Found<'b>, Rest<'b>>,
+}
