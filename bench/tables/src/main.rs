@@ -1,5 +1,5 @@
-//! Times how long texts of tables take to be read: `table_times ROUNDS FILE..`. Of each text it takes the shortest of the
-//! rounds, so that a pause of the machine counts for nothing.
+//! Times how long texts of tables take to be read: `table_times ROUNDS FILE..`. Of each text it takes the shortest of
+//! the rounds, so that a pause of the machine counts for nothing.
 #![tactic(auto)]
 
 use neli_tables_rows::Table;

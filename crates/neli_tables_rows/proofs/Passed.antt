@@ -1,5 +1,6 @@
 -- Elements that were passed, and those to come.
-use Rattle.std.proofs.Common.{get_or, ◌<◌, ◌≡◌, ◌∙◌, ℕ, ◌+◌, Bool, not, List, [], ◌∷◌, length, drop, take, map, Option, Some, None}
+use Rattle.std.proofs.Common.{get_or, ◌<◌, ◌≡◌, ◌∙◌, ℕ, ◌+◌, Bool, not, List, [], ◌∷◌, length, drop, take, map, Option}
+use Rattle.std.proofs.Common.{Some, None}
 use Rattle.std.proofs.Common.{cond, nat_lt, refl, sym, ap, arith, length-drop, ◌-◌}
 use Rattle.std.specs.List.{position, prefix_len}
 use Rattle.std.proofs.lemmas.List.{drop_more, drop-map, get_or-map, length-map, take_all, take-map}
@@ -42,8 +43,8 @@ pub position-map : {A B : Type 0} (view : A → B) (p : B → Bool) (xs : List A
     → position p (map view xs) ≡ position (λ x. p (view x)) xs
 position-map view p xs =
     ap (λ n. cond (nat_lt n (length (map view xs))) (Some n) None) (prefix_len-map view (λ y. not (p y)) xs)
-    ∙ ap (λ n. cond (nat_lt (prefix_len (λ x. not (p (view x))) xs) n) (Some (prefix_len (λ x. not (p (view x))) xs)) None)
-    (length-map xs view)
+    ∙ ap (λ n. cond (nat_lt (prefix_len (λ x. not (p (view x))) xs) n)
+    (Some (prefix_len (λ x. not (p (view x))) xs)) None) (length-map xs view)
 
 -- what stands before an index, seen
 pub before-map : {A B : Type 0} (view : A → B) (index : Option ℕ) (xs : List A)
@@ -84,7 +85,8 @@ rows_below lines section =
 -- the case that a text picks
 pub case_found : (rows : List Line) (lines : List LineSeen) (choice : ℕ) (text : List ℕ) (index : Option ℕ)
     → index ≡ position (λ (row : Line). is_case text (line_seen row)) rows → map line_seen rows ≡ rows_of choice lines
-    → option_map (λ n. choice + 1 + n) index ≡ option_map (λ n. choice + 1 + n) (position (is_case text) (rows_of choice lines))
+    → option_map (λ n. choice + 1 + n) index
+    ≡ option_map (λ n. choice + 1 + n) (position (is_case text) (rows_of choice lines))
 case_found rows lines choice text index is rows_are =
     ap (option_map (λ n. choice + 1 + n))
     (is ∙ sym (position-map line_seen (is_case text) rows) ∙ ap (position (is_case text)) rows_are)

@@ -40,7 +40,8 @@ goes false true = 2
 goes request reply = 0
 
 abbrev pub message_key_of : LineSeen → ℕ → Key
-message_key_of line number = message_key (goes (options_of line).request (options_of line).reply) (options_of line).family number
+message_key_of line number =
+    message_key (goes (options_of line).request (options_of line).reply) (options_of line).family number
 
 abbrev pub numbered : (ℕ → Key) → Option Span → Option Key
 numbered key (Some span) = Some (key span.first)

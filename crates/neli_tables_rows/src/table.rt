@@ -1,6 +1,7 @@
 //! A family's table.
 
-ghost use Rattle.std.specs.Prelude.{◌≡◌, ◌+◌, ◌<◌, ◌≤◌, List, Ok, IfErr, IfOk, IfSome, length, map, position, slice_get};
+ghost use Rattle.std.specs.Prelude.{◌≡◌, ◌+◌, ◌<◌, ◌≤◌, List, Ok, IfErr, IfOk, IfSome, length, map, position};
+ghost use Rattle.std.specs.Prelude.{slice_get};
 ghost use Rattle.std.specs.Option.{option_map};
 ghost use Rattle.neli_tables.specs.Lines.{LineSeen, line_seen};
 ghost use Rattle.neli_tables.specs.Schemas.{IsWhyNot, table_in};

@@ -1,10 +1,10 @@
 //! The tables of several families.
 
-ghost use Rattle.std.specs.Prelude.{◌≡◌, ℕ, [], ◌∷◌, ◌++◌, Ok, Some, OnErr, OnOk, map};
+ghost use Rattle.std.specs.Prelude.{◌≡◌, ℕ, [], ◌∷◌, ◌++◌, Ok, Some, OnErr, OnOk, map, slice_get, position};
 ghost use Rattle.std.specs.Option.{option_map};
-ghost use Rattle.std.specs.Prelude.{slice_get, position};
 ghost use Rattle.neli_tables_rows.specs.Families.{by_id, fixed_id, generic_in, has_id, is_family, is_of, learnt};
-ghost use Rattle.neli_tables_rows.specs.Families.{learnt_as, message_found, message_from, message_of, protocol_in, tables_in};
+ghost use Rattle.neli_tables_rows.specs.Families.{learnt_as, message_found, message_from, message_of, protocol_in};
+ghost use Rattle.neli_tables_rows.specs.Families.{tables_in};
 ghost use Rattle.neli_tables_rows.specs.Keys.{way_number};
 
 use crate::key::Way;
