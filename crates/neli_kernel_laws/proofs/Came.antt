@@ -213,10 +213,10 @@ module _ {ST SP RT RP : Type 0} (port : ℕ) where
     since later closed a = all-came (requests_sent before) (next_number before)
         (needs_ack flags) start later start-keeps closed a
 
-    pub came-delivered : (later : History ST SP RT RP) → is_closed (handle_after before) (later ++ start) ≡ false
+    pub came_delivered : (later : History ST SP RT RP) → is_closed (handle_after before) (later ++ start) ≡ false
         → AllAnswer port later start → deliveries port (handle_after before) (later ++ start)
         ≡ map message (came (next_number before) later)
-    came-delivered later closed a =
+    came_delivered later closed a =
         (since later closed a).delivered ∙ ap (λ (ds : List Delivery). ds ++ map message
         (came (next_number before) later)) start-nothing
 
@@ -253,7 +253,7 @@ module _ {ST SP K P V : Type 0} (type_of : ℕ → K) (number_in : K → ℕ) (v
       (deliveries port (handle_after before) all) given answered.0)
       (came-needs port t flags p sent before later closed a) answered.1 in
       let next = subst (λ (ds : List Delivery). IsNextAnswer type_of number_in view size read
-      (needs_ack flags) true ds given answered.0) (came-delivered port t flags p sent before later closed
+      (needs_ack flags) true ds given answered.0) (came_delivered port t flags p sent before later closed
       a ∙ ap (map message) comes) needed in (
         answered.0,
         given-before type_of number_in view size read back

@@ -21,18 +21,18 @@ use Rattle.neli_kernel_laws.specs.Served.{numbered}
 
 -- ---- whole answers
 
-pub acknowledgement-complete : (asked : Request) (attrs : Attributes)
+pub acknowledgement_complete : (asked : Request) (attrs : Attributes)
     → IsComplete true (answer_kept (acknowledgement asked attrs) ∷ [])
-acknowledgement-complete asked attrs = ([], answer_kept (acknowledgement asked attrs) ∷ [], All-nil IsPart, refl, refl)
+acknowledgement_complete asked attrs = ([], answer_kept (acknowledgement asked attrs) ∷ [], All-nil IsPart, refl, refl)
 
 capped-ends : (needs : Bool) (asked : Request) (code : ℤ) (attrs : Attributes)
     → IsEnding needs (answer_kept (capped_error asked code attrs) ∷ [])
 capped-ends true asked code attrs = refl
 capped-ends false asked code attrs = inl (refl, refl)
 
-pub capped-complete : (needs : Bool) (asked : Request) (code : ℤ) (attrs : Attributes)
+pub capped_complete : (needs : Bool) (asked : Request) (code : ℤ) (attrs : Attributes)
     → IsComplete needs (answer_kept (capped_error asked code attrs) ∷ [])
-capped-complete needs asked code attrs = (
+capped_complete needs asked code attrs = (
   [],
   answer_kept (capped_error asked code attrs) ∷ [],
   All-nil IsPart,
@@ -45,9 +45,9 @@ error-ends : (needs : Bool) (asked : Request) (code : ℤ) (attrs : Attributes)
 error-ends true asked code attrs = refl
 error-ends false asked code attrs = inl (refl, refl)
 
-pub error-complete : (needs : Bool) (asked : Request) (code : ℤ) (attrs : Attributes)
+pub error_complete : (needs : Bool) (asked : Request) (code : ℤ) (attrs : Attributes)
     → IsComplete needs (answer_kept (error asked code attrs) ∷ [])
-error-complete needs asked code attrs = (
+error_complete needs asked code attrs = (
   [],
   answer_kept (error asked code attrs) ∷ [],
   All-nil IsPart,
@@ -63,9 +63,9 @@ reply-whole message_type number port flags text fits single = record {
   type_fits = fits;
 }
 
-pub reply-complete : (message_type number port : ℕ) (flags : NlmF) (text : List ℕ) → message_type < 65536
+pub reply_complete : (message_type number port : ℕ) (flags : NlmF) (text : List ℕ) → message_type < 65536
     → is_multi flags ≡ false → IsComplete false (reply_kept message_type flags number port text ∷ [])
-reply-complete message_type number port flags text fits single = (
+reply_complete message_type number port flags text fits single = (
   [],
   reply_kept message_type flags number port text ∷ [],
   All-nil IsPart,
@@ -73,10 +73,10 @@ reply-complete message_type number port flags text fits single = (
   refl,
 )
 
-pub acknowledged-complete : (message_type number port : ℕ) (flags : NlmF) (text : List ℕ) (asked : Request)
+pub acknowledged_complete : (message_type number port : ℕ) (flags : NlmF) (text : List ℕ) (asked : Request)
     (attrs : Attributes) → message_type < 65536 → is_multi flags ≡ false
     → IsComplete true (reply_kept message_type flags number port text ∷ answer_kept (acknowledgement asked attrs) ∷ [])
-acknowledged-complete message_type number port flags text asked attrs fits single = (
+acknowledged_complete message_type number port flags text asked attrs fits single = (
   [],
   reply_kept message_type flags number port text ∷ answer_kept (acknowledgement asked attrs) ∷ [],
   All-nil IsPart,
@@ -88,9 +88,9 @@ or_true : (b : Bool) → (b || true) ≡ true
 or_true true = refl
 or_true false = refl
 
-pub dump-complete : (parts : List Untyped) (h : Header ℕ) (code : ℤ) (attrs : Attributes) → All IsPart parts
+pub dump_complete : (parts : List Untyped) (h : Header ℕ) (code : ℤ) (attrs : Attributes) → All IsPart parts
     → h.message_type ≡ 3 → IsComplete false (parts ++ (h, payload.DumpExtAck (answer code tt attrs)) ∷ [])
-dump-complete parts h code attrs all three =
+dump_complete parts h code attrs all three =
     let last : Untyped = (h, payload.DumpExtAck (answer code tt attrs)) in
     let whole : IsWhole last = record {
       no_answer = refl;
@@ -98,6 +98,16 @@ dump-complete parts h code attrs all three =
       type_fits = omega (arith, three);
     } in
     (parts, last ∷ [], all, inr whole, refl)
+
+-- the answers that are whole
+pub ruleset whole_answers = (
+  acknowledgement_complete,
+  capped_complete,
+  error_complete,
+  reply_complete,
+  acknowledged_complete,
+  dump_complete,
+)
 
 -- ---- the messages of a number
 
@@ -116,15 +126,15 @@ filter-none number port other (u ∷ us) differs all =
     let own : nat_eq u.0.sequence_number other ≡ false = ne_eqb _ _ (λ e. differs (sym e ∙ first.0)) in
     rw own (filter-none number port other us differs (All-tail (IsFor number port) u us all))
 
-pub own-numbered : (number port : ℕ) (datagram : List ℕ) (us : List Untyped)
+pub own_numbered : (number port : ℕ) (datagram : List ℕ) (us : List Untyped)
     → cut_of untyped_layout datagram ≡ (us, None) → All (IsFor number port) us → numbered number datagram ≡ us
-own-numbered number port datagram us cut all =
+own_numbered number port datagram us cut all =
     ap (λ (c : Cut Untyped). filter (λ u. u.0.sequence_number == number) c.0) cut ∙ filter-all number port us all
 
-pub others-numbered : (number port : ℕ) (datagram : List ℕ) (us : List Untyped)
+pub others_numbered : (number port : ℕ) (datagram : List ℕ) (us : List Untyped)
     → cut_of untyped_layout datagram ≡ (us, None) → All (IsFor number port) us → (other : ℕ) → other ≢ number
     → numbered other datagram ≡ []
-others-numbered number port datagram us cut all other differs =
+others_numbered number port datagram us cut all other differs =
     ap (λ (c : Cut Untyped). filter (λ u. u.0.sequence_number == other) c.0) cut
     ∙ filter-none number port other us differs all
 
@@ -156,9 +166,9 @@ module _ (number port : ℕ) where
         All-cons AreFor d ds first rest.1,
       )
 
-  pub several-numbered : (ds : List (List ℕ)) (us : List Untyped) → flat_map messages_cut ds ≡ us
+  pub several_numbered : (ds : List (List ℕ)) (us : List Untyped) → flat_map messages_cut ds ≡ us
       → All (IsFor number port) us → (flat_map (numbered number) ds ≡ us) × All AreFor ds
-  several-numbered ds us cut all =
+  several_numbered ds us cut all =
       let each = each-numbered ds (subst (All (IsFor number port)) (sym cut) all) in
       (each.0 ∙ cut, each.1)
 
@@ -178,6 +188,6 @@ module _ (number port : ℕ) (is_open : ℕ → Bool) (opened : is_open number �
       All-cons Answered u us (one-answered u (All-head (IsFor number port) u us all))
       (all-answered us (All-tail (IsFor number port) u us all))
 
-  pub cut-answered : (datagram : List ℕ) (us : List Untyped) → cut_of untyped_layout datagram ≡ (us, None)
+  pub cut_answered : (datagram : List ℕ) (us : List Untyped) → cut_of untyped_layout datagram ≡ (us, None)
       → All (IsFor number port) us → All (λ u. is_reply port is_open u ≡ true) (cut_of untyped_layout datagram).0
-  cut-answered datagram us cut all = subst (λ (c : Cut Untyped). All Answered c.0) (sym cut) (all-answered us all)
+  cut_answered datagram us cut all = subst (λ (c : Cut Untyped). All Answered c.0) (sym cut) (all-answered us all)

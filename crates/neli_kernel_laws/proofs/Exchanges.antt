@@ -22,7 +22,7 @@ use Rattle.neli_kernel_laws.specs.Exchanges.{AllOthersAnswer, Exchange, IsServed
 use Rattle.neli_kernel_laws.specs.Exchanges.{datagram_with, datagrams_with, history_with, own_number, taken_with}
 use Rattle.neli_kernel_laws.specs.Served.{AllAnswer, Answers, brought, came, numbered}
 use Rattle.neli_kernel_laws.proofs.Came.{Keeps, is-given, keeps-more, open-by, or-later, read-before, start-keeps}
-use Rattle.neli_kernel_laws.proofs.Complete.{All-first, All-later, all-answered, messages_cut, several-numbered}
+use Rattle.neli_kernel_laws.proofs.Complete.{All-first, All-later, all-answered, messages_cut, several_numbered}
 
 -- ---- an open number
 
@@ -157,7 +157,7 @@ module _ {ST SP K P V : Type 0} (type_of : ℕ → K) (number_in : K → ℕ) (v
       let port : ℕ = asked.port in
       let mine : All (IsFor number port) (us ++ more) =
       subst (λ (n : ℕ). All (IsFor n port) (us ++ more)) served.number_is all in
-      let each = several-numbered number port datagrams (us ++ more) cut mine in
+      let each = several_numbered number port datagrams (us ++ more) cut mine in
       let own : All (Own port number) (datagrams_with number x.later) =
       subst (All (Own port number)) (sym served.own) (own-each port number datagrams none each.1) in
       let start-known = start-keeps port x.message_type x.flags x.payload x.sent x.before in

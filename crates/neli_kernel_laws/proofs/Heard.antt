@@ -70,16 +70,16 @@ module _ {ST SP RT RP : Type 0} (port : ℕ) where
       kept-by (is_sent e.1) (0 == suc (requests_sent h)) (asks_ack e.0) (needs_of 0 h) (zero-suc (requests_sent h))
       ∙ groups-need h
 
-  pub groups-delivered : (h : History ST SP RT RP) → is_closed 0 h ≡ false
+  pub groups_delivered : (h : History ST SP RT RP) → is_closed 0 h ≡ false
       → deliveries port 0 h ≡ map message (messages_cut_of (group_datagrams h))
-  groups-delivered [] closed = refl
-  groups-delivered (e ∷ h) closed =
+  groups_delivered [] closed = refl
+  groups_delivered (e ∷ h) closed =
       let still : is_closed 0 h ≡ false = or-later _ (is_closed 0 h) closed in
       let before : List Untyped = messages_cut_of (group_datagrams h) in
       deliveries-more port 0 e h
       ∙ ap (λ (b : Bool). deliveries port 0 h ++ (if b then handed_over port 0 e.0 h else [])) (groups-open h still)
       ∙ ap (λ (ds : List Delivery). deliveries port 0 h ++ ds) (handed-groups e.0 h)
-      ∙ ap (λ (ds : List Delivery). ds ++ map message (heard_by e.0)) (groups-delivered h still)
+      ∙ ap (λ (ds : List Delivery). ds ++ map message (heard_by e.0)) (groups_delivered h still)
       ∙ sym (map-append message before (heard_by e.0))
       ∙ ap (map message) (sym (flat_map-append (λ (d : List ℕ). (cut_of untyped_layout d).0) (group_datagrams h)
       (taken_for_groups e.0)))
@@ -220,7 +220,7 @@ module _ {ST SP K P V : Type 0} (type_of : ℕ → K) (number_of : K → ℕ) (v
       let needed = subst (λ (b : Bool). IsNextAnswer type_of number_of view size read b false
       (deliveries port 0 h) given answered.0) (groups-need port h) answered.1 in
       let next = subst (λ (ds : List Delivery). IsNextAnswer type_of number_of view size read false false ds
-      given answered.0) (groups-delivered port h closed ∙ ap (map message) are) needed in (
+      given answered.0) (groups_delivered port h closed ∙ ap (map message) are) needed in (
         answered.0,
         heard-turn number_of (IsReadAs type_of view size read) us given answered.0 (
           next.0,

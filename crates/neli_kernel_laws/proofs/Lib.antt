@@ -1,9 +1,9 @@
 mod Turns
-mod Complete
+pub mod Complete
 mod Typed
 mod Given
-mod Came
+pub mod Came
 mod Exchanges
-mod Heard
+pub mod Heard
 mod Marked
 mod Unacknowledged

@@ -68,6 +68,7 @@ where
 
 /// The simulator's answers are whole: an acknowledgement, if one was requested; an error; a reply without MULTI,
 /// followed by the acknowledgement if one was requested; the messages of a dump and its end.
+#[tactic(auto, using(crate::proofs::Complete::whole_answers))]
 pub fn answers_are_complete()
     ensures acknowledgement { (asked : Asked) (attrs : Attributes)
         → IsComplete true (answer_kept (acknowledgement asked attrs) ∷ []) }
@@ -90,6 +91,7 @@ pub fn answers_are_complete()
 
 /// A datagram whose messages have one number and the router's port delivers them to the handle of that number, and
 /// nothing to another one; so do several datagrams, as those of a dump. It answers a request if the number is open.
+#[tactic(auto, using(crate::proofs::Complete::cut_answered))]
 pub fn datagrams_bring_their_own()
     ensures own { (number port : ℕ) (datagram : List ℕ) (us : List Untyped)
         → cut_of untyped_layout datagram ≡ (us, None) → All (IsFor number port) us
@@ -112,6 +114,7 @@ pub fn datagrams_bring_their_own()
 /// a fault, those for no group answer requests, and those of their messages that have its number are a whole answer,
 /// then each read of its handle returns these, in turn, and then the end. A datagram for groups changes nothing of it,
 /// whatever numbers and ports its messages have.
+#[tactic(auto, using(crate::proofs::Came::came_delivered))]
 pub fn requests_are_answered_in_turn<ST, SP, RT, RP>()
 where
     RT: NlType,
@@ -197,6 +200,7 @@ where
 /// as the caller's types, and past the last of them a wait; an acknowledgement, an error and a message that cannot be
 /// read are returned as errors, and after one of these the end. If all these datagrams are notifications of the
 /// simulator, of whatever numbers and ports, these are their messages.
+#[tactic(auto, using(crate::proofs::Heard::groups_delivered))]
 pub fn notifications_are_heard<ST, SP, RT, RP, T, P>()
 where
     RT: NlType,

@@ -2,7 +2,7 @@ mod Alike
 mod Lists
 mod Readings
 mod Later
-mod OtherReads
+pub mod OtherReads
 mod Notifications
 mod Regrouping
 mod Requests

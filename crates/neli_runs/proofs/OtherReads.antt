@@ -12,9 +12,20 @@ use Rattle.neli_runs.specs.declared.command.Outcome.{Outcome}
 use Rattle.neli_runs.specs.declared.command.Outcome.TheVariants as outcome
 use Rattle.neli_runs.specs.Deliveries.{deliveries}
 use Rattle.neli_runs.specs.History.{History, is_handle_open, is_sent, items_of, reads, with_item}
-use Rattle.neli_runs.specs.Outcomes.{EachAfter}
+use Rattle.neli_router.specs.declared.reply.Reply.{Reply}
+use Rattle.neli_router.specs.declared.reply.Reply.TheVariants as reply
+use Rattle.neli_runs.specs.Outcomes.{EachAfter, items_in, outcome_of}
 use Rattle.neli_runs.specs.laws.Deliveries.{deliveries-more}
 use Rattle.neli_runs.proofs.Alike.{IsAlike, IsSameFor, ReadsOnly, each-after}
+
+-- a read gives its item to its own handle
+pub read_items : (ST SP : Type 0) {RT RP : Type 0} (r : Reply RT RP) (theirs : Bool) (items : List (Item RT RP))
+    → with_item (outcome_of {ST = ST} {SP = SP} r) theirs items ≡ (if theirs then items ++ items_in r else items)
+read_items ST SP (reply.Item item) theirs items = refl
+read_items ST SP reply.End true items = sym (append-nil items)
+read_items ST SP reply.End false items = refl
+read_items ST SP reply.Waits true items = sym (append-nil items)
+read_items ST SP reply.Waits false items = refl
 
 another : (j k : ℕ) → k ≢ j → (j == k) ≡ false
 another j k other = grind (arith, nat_tests)

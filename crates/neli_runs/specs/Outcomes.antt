@@ -70,6 +70,12 @@ outcome_of (reply.Item item) = outcome.Item item
 outcome_of reply.End = outcome.End
 outcome_of reply.Waits = outcome.Waits
 
+-- the item that it returns, or none
+abbrev pub items_in : {RT RP : Type 0} → Reply RT RP → List (Item RT RP)
+items_in (reply.Item item) = item ∷ []
+items_in reply.End = []
+items_in reply.Waits = []
+
 -- done if the handle is open
 abbrev pub closed_or_not : {ST SP RT RP : Type 0} → Bool → Outcome ST SP RT RP
 closed_or_not true = outcome.Done

@@ -1,6 +1,7 @@
 //! Laws of runs, over the definitions only. The calls do nothing: their contracts are the laws.
 
-ghost use Rattle.std.specs.Prelude.{◌≡◌, ◌≢◌, ◌<◌, ◌↔◌, ◌++◌, ◌∷◌, ℕ, suc, Bool, false, [], List, Ok, length, nat_lt};
+ghost use Rattle.std.specs.Prelude.{◌≡◌, ◌≢◌, ◌<◌, ◌↔◌, ◌++◌, ◌∷◌, ◌==◌, if◌then◌else◌, ℕ, suc, Bool, false, [], List, Ok};
+ghost use Rattle.std.specs.Prelude.{length, nat_lt};
 ghost use Rattle.neli_consts.specs.declared.nlm_f.NlmF.{NlmF as Flags};
 ghost use Rattle.neli_reader.specs.Agreement.{untyped_layout};
 ghost use Rattle.neli_reader.specs.Cuts.{cut_of, messages_before};
@@ -19,7 +20,8 @@ ghost use Rattle.neli_runs.specs.Deliveries.{deliveries};
 ghost use Rattle.neli_runs.specs.History.{History, is_handle_open, is_open, is_sent, items_of, needs_of};
 ghost use Rattle.neli_runs.specs.History.{list_of_handle};
 ghost use Rattle.neli_runs.specs.OtherReads.{NoneReads};
-ghost use Rattle.neli_runs.specs.Outcomes.{AreReadings, EachAfter, IsAnswered, IsNextAnswer, IsSent, outcome_of};
+ghost use Rattle.neli_runs.specs.Outcomes.{AreReadings, EachAfter, IsAnswered, IsNextAnswer, IsSent, items_in};
+ghost use Rattle.neli_runs.specs.Outcomes.{outcome_of};
 ghost use Rattle.neli_runs.specs.Regrouping.{Bytes, IsRegrouped, IsWhole, history_with};
 ghost use Rattle.neli_runs.specs.Whole.{IsWholeAnswer};
 
@@ -73,12 +75,15 @@ where
         (deliveries port k (later ++ before)) given r }
 {}
 
-/// A read of one handle changes nothing of another: neither its deliveries nor the items that its reads returned.
+/// A read of one handle changes nothing of another: neither its deliveries nor the items that its reads returned. The
+/// handle itself gains the item that its read returned.
+#[tactic(auto, using(crate::proofs::OtherReads::read_items))]
 pub fn reads_of_others_change_nothing<ST, SP, RT, RP>()
     ensures deliveries { (port j k : ℕ) (r : Answer RT RP) (h : History ST SP RT RP)
         → deliveries port k ((Command.Read j, outcome_of r) ∷ h) ≡ deliveries port k h }
-    ensures items { (j k : ℕ) (r : Answer RT RP) (h : History ST SP RT RP) → k ≢ j
-        → items_of k ((Command.Read j, outcome_of r) ∷ h) ≡ items_of k h }
+    ensures items { (j k : ℕ) (r : Answer RT RP) (h : History ST SP RT RP)
+        → items_of k ((Command.Read j, outcome_of r) ∷ h)
+        ≡ (if j == k then items_of k h ++ items_in r else items_of k h) }
     ensures needs { (j k : ℕ) (r : Answer RT RP) (h : History ST SP RT RP)
         → needs_of k ((Command.Read j, outcome_of r) ∷ h) ≡ needs_of k h }
     ensures whose { (j k : ℕ) (r : Answer RT RP) (h : History ST SP RT RP)

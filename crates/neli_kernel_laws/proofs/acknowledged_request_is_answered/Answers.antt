@@ -1,7 +1,7 @@
 use Rattle.std.proofs.Common.{true, refl}
 use Rattle.neli_kernel.specs.Answers.{acknowledgement}
 use Rattle.neli_kernel.specs.Delivered.{answer_kept}
-use Rattle.neli_kernel_laws.proofs.Complete.{acknowledgement-complete}
+use Rattle.neli_kernel_laws.proofs.Complete.{acknowledgement_complete}
 use Rattle.neli_kernel_laws.proofs.Exchanges.{datagram-in-turn, one-for}
 use Rattle.neli_kernel_laws.proofs.acknowledged_request_is_answered.Goals as goal
 
@@ -11,4 +11,4 @@ returns g c = λ x asked attrs text bytes needs back is.
     g.RP.Size.wire_length g.RP.FromBytesWithInput.read g.met.RT.Constant.back_to_number
     x asked bytes _ true needs (c.acknowledgement_is_delivered.ensures.one_message asked attrs text bytes back is)
     (one-for asked.header.sequence_number asked.port (answer_kept (acknowledgement asked attrs)) (refl, refl))
-    (acknowledgement-complete asked attrs)
+    (acknowledgement_complete asked attrs)

@@ -3,7 +3,7 @@ use Rattle.std.proofs.lemmas.List.Elements.{All-push}
 use Rattle.neli_kernel.specs.Delivered.{IsFor, answer_kept, end_said}
 use Rattle.neli_kernel.specs.Dumps.{dump_end}
 use Rattle.neli_kernel_laws.specs.Complete.{IsComplete}
-use Rattle.neli_kernel_laws.proofs.Complete.{dump-complete}
+use Rattle.neli_kernel_laws.proofs.Complete.{dump_complete}
 use Rattle.neli_kernel_laws.proofs.Exchanges.{served-in-turn}
 use Rattle.neli_kernel_laws.proofs.dump_request_is_answered.Goals as goal
 
@@ -20,4 +20,4 @@ returns g c = λ x limit asked flags code attrs text p said ms datagrams needs f
     x asked datagrams (ms ++ own ∷ []) cut.0 cut.1 (All-push (IsFor asked.header.sequence_number asked.port) ms own all
     (refl, refl))
     (subst (λ b. IsComplete b (ms ++ own ∷ [])) (sym needs)
-    (dump-complete ms (dump_end asked flags code attrs).header code attrs parts refl))
+    (dump_complete ms (dump_end asked flags code attrs).header code attrs parts refl))

@@ -1,10 +1,7 @@
 use Rattle.std.proofs.Common.{refl}
 use Rattle.neli_kernel_laws.specs.Notified.{group_datagrams, messages_cut_of}
-use Rattle.neli_kernel_laws.proofs.Heard.{groups-delivered, groups-heard, notifications-cut}
+use Rattle.neli_kernel_laws.proofs.Heard.{groups-heard, notifications-cut}
 use Rattle.neli_kernel_laws.proofs.notifications_are_heard.Goals as goal
-
-pub returns-clause-deliveries : goal.returns-clause-deliveries
-returns-clause-deliveries g c = groups-delivered
 
 pub returns-clause-read : goal.returns-clause-read
 returns-clause-read g c = λ port h o closed is. groups-heard g.RT.Constant.wire_value g.RT.Constant.wire_number

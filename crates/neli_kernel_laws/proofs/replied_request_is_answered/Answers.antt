@@ -2,7 +2,7 @@ use Rattle.std.proofs.Common.{◌∷◌, [], true, false, refl}
 use Rattle.std.proofs.lemmas.List.Elements.{All-cons}
 use Rattle.neli_kernel.specs.Answers.{acknowledgement}
 use Rattle.neli_kernel.specs.Delivered.{IsFor, answer_kept, reply_kept}
-use Rattle.neli_kernel_laws.proofs.Complete.{acknowledged-complete, reply-complete}
+use Rattle.neli_kernel_laws.proofs.Complete.{acknowledged_complete, reply_complete}
 use Rattle.neli_kernel_laws.proofs.Exchanges.{datagram-in-turn, datagrams-in-turn, one-for}
 use Rattle.neli_kernel_laws.proofs.replied_request_is_answered.Goals as goal
 
@@ -14,7 +14,7 @@ returns-clause-alone g c = λ x asked t flags body text bytes needs single is.
     asked.port body text bytes is)
     (one-for asked.header.sequence_number asked.port (reply_kept
     (g.T.Constant.wire_number t) flags asked.header.sequence_number asked.port text) (refl, refl))
-    (reply-complete (g.T.Constant.wire_number t) asked.header.sequence_number asked.port flags text is.type_fits single)
+    (reply_complete (g.T.Constant.wire_number t) asked.header.sequence_number asked.port flags text is.type_fits single)
 
 pub returns-clause-acknowledged : goal.returns-clause-acknowledged
 returns-clause-acknowledged g c =
@@ -28,4 +28,4 @@ returns-clause-acknowledged g c =
     (c.reply_is_delivered.ensures.one_message t flags number asked.port body text bytes is)
     (c.acknowledgement_is_delivered.ensures.one_message asked attrs attrs_text ack_bytes back answers)
     (All-cons (IsFor number asked.port) own (last ∷ []) (refl, refl) (one-for number asked.port last (refl, refl)))
-    (acknowledged-complete (g.T.Constant.wire_number t) number asked.port flags text asked attrs is.type_fits single)
+    (acknowledged_complete (g.T.Constant.wire_number t) number asked.port flags text asked attrs is.type_fits single)

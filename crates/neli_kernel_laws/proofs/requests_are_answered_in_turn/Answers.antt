@@ -1,9 +1,5 @@
-use Rattle.neli_kernel_laws.proofs.Came.{came-delivered, read-in-turn}
+use Rattle.neli_kernel_laws.proofs.Came.{read-in-turn}
 use Rattle.neli_kernel_laws.proofs.requests_are_answered_in_turn.Goals as goal
-
-pub returns-clause-deliveries : goal.returns-clause-deliveries
-returns-clause-deliveries g c = λ port t flags payload sent before later closed answers.
-    came-delivered port t flags payload sent before later closed answers
 
 pub returns-clause-read : goal.returns-clause-read
 returns-clause-read g c = read-in-turn g.RT.Constant.wire_value g.RT.Constant.wire_number g.RP.FromBytesWithInput.view
