@@ -16,6 +16,7 @@
 //! - `bonds`: bonds and the links in them
 //! - `bridges`: bridges and their ports
 //! - `controller`: the controller of generic netlink
+//! - `families`: address families
 //! - `groups`: multicast groups of routing
 //! - `macvlans`: `macvlan` and `macvtap`
 //! - `metrics`: metrics of routes
@@ -29,6 +30,7 @@ mod acknowledgements;
 mod bonds;
 mod bridges;
 mod controller;
+mod families;
 mod groups;
 pub mod laws;
 mod macvlans;
@@ -42,6 +44,7 @@ pub use acknowledgements::NlmsgerrAttr;
 pub use bonds::{IflaBond, IflaBondAdInfo, IflaBondSlave};
 pub use bridges::{IflaBr, IflaBrport};
 pub use controller::{CtrlAttr, CtrlAttrOp, CtrlAttrPolicy, CtrlCmd};
+pub use families::{AF_BRIDGE, AF_MPLS};
 pub use groups::Rtnlgrp;
 pub use macvlans::IflaMacvlan;
 pub use metrics::Rtax;
