@@ -2,7 +2,6 @@ pub mod BodyLine
 pub mod ExitStatus
 pub mod FlagNames
 pub mod GenlFields
-pub mod MessageFlags
 pub mod MessageLine
 pub mod MessageTypes
 pub mod NumberNames

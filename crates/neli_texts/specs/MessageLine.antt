@@ -4,7 +4,7 @@ use Rattle.std.specs.Fmt.{decimal}
 use Rattle.neli_consts_system.specs.declared.socket.NlFamily.{NlFamily}
 use Rattle.neli_consts_system.specs.declared.socket.NlFamily.TheVariants.{Route}
 use Rattle.neli_texts.specs.FlagNames.{names_text}
-use Rattle.neli_texts.specs.MessageFlags.{flag_rows}
+use Rattle.neli_message_flags.specs.MessageFlags.{flag_rows}
 use Rattle.neli_texts.specs.MessageTypes.{type_named}
 use Rattle.neli_texts.specs.declared.message_line.MessageLine.{MessageLine}
 

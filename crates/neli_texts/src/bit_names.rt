@@ -4,7 +4,7 @@ ghost use Rattle.std.specs.Prelude.{◌≡◌, IsOk, map};
 ghost use Rattle.std.specs.Fmt.{HasWritten, IsPlainFormatter};
 ghost use Rattle.bitflags.specs.Sets.{Row, is_next};
 ghost use Rattle.neli_texts.specs.FlagNames.{mark, names_text};
-ghost use Rattle.neli_texts.specs.MessageFlags.{flag_seen};
+ghost use Rattle.neli_message_flags.specs.MessageFlags.{flag_seen};
 
 use std::fmt;
 

@@ -12,7 +12,6 @@ mod exit_status;
 mod flag_names;
 mod genl_fields;
 pub mod laws;
-mod message_flags;
 mod message_line;
 mod message_types;
 mod number_names;

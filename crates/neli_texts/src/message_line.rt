@@ -4,11 +4,11 @@ ghost use Rattle.std.specs.Prelude.{◌≡◌, Some};
 ghost use Rattle.neli_texts.specs.MessageLine.{flags_text, is_route, line_text, type_text};
 
 use crate::bit_names::write_names;
-use crate::message_flags::flag_rows;
 use crate::message_types::route_type;
 use neli_consts::{NLMSG_DONE, NLMSG_ERROR, NLMSG_NOOP, NLMSG_OVERRUN, NlType, NlmF};
 use neli_consts_system::NlFamily;
 use neli_lent::LentMessage;
+use neli_message_flags::flag_rows;
 use neli_reader::Nlmsghdr;
 use std::fmt;
 

@@ -29,11 +29,16 @@ asking = common ++ (codes "DUMP", 0x300) ∷ (codes "ROOT", 0x100) ∷ (codes "M
 abbrev pub answering : List Row
 answering = common ++ (codes "CAPPED", 0x100) ∷ (codes "ACK_TLVS", 0x200) ∷ []
 
+-- of another protocol: a request for a dump has both bits
+abbrev pub other : List Row
+other = common ++ (codes "DUMP", 0x300) ∷ []
+
 -- the flags of a type: 2 and 3 answer, and types of routing come in fours, new, delete, get and set
 abbrev pub flag_rows : Bool → ℕ → List Row
 flag_rows is_route number =
     if number == 2 || number == 3 then answering
-    else if not is_route || nat_lt number 16 then common
+    else if nat_lt number 16 then common
+    else if not is_route then other
     else if number % 4 == 0 then making
     else if number % 4 == 1 then deleting
     else if number % 4 == 2 then asking

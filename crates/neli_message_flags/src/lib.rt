@@ -1,12 +1,12 @@
-//! The flags of a message by name: the meaning of a bit depends on the type of the message.
+//! The flags of a message by name (`NLM_F_*` of `linux/netlink.h`): the meaning of the bits from 0x100 on depends on
+//! the type of the message.
+#![tactic(auto)]
 
 ghost use Rattle.std.specs.Prelude.{◌≡◌, map};
-ghost use Rattle.neli_texts.specs.MessageFlags.{flag_rows, flag_seen};
+ghost use Rattle.neli_message_flags.specs.MessageFlags.{flag_rows, flag_seen};
 
-use neli_consts::{NLMSG_DONE, NLMSG_ERROR};
-
-/// A flag: its bits, and its name.
-pub(crate) type Row = (u32, &'static str);
+/// A flag: its bits, and its name without `NLM_F_`.
+pub type Row = (u32, &'static str);
 
 /// The flags that every message may have (`NLM_F_*` of `linux/netlink.h`).
 static COMMON: [Row; 6] = [
@@ -58,6 +58,17 @@ static ASKING: [Row; 10] = [
     (0x400, "ATOMIC"),
 ];
 
+/// The flags of a message of another protocol.
+static OTHER: [Row; 7] = [
+    (1, "REQUEST"),
+    (2, "MULTI"),
+    (4, "ACK"),
+    (8, "ECHO"),
+    (0x10, "DUMP_INTR"),
+    (0x20, "DUMP_FILTERED"),
+    (0x300, "DUMP"),
+];
+
 /// The flags of an error, an acknowledgement or the end of a dump.
 static ANSWERING: [Row; 8] = [
     (1, "REQUEST"),
@@ -70,15 +81,20 @@ static ANSWERING: [Row; 8] = [
     (0x200, "ACK_TLVS"),
 ];
 
-/// The flags that a message of this type may have. Types of routing come in fours: new, delete, get and set.
-pub(crate) fn flag_rows(is_route: bool, number: u16) -> &'static [Row]
+/// The flags that a message of this type may have, in `NETLINK_ROUTE` or in another protocol. Types of routing come in
+/// fours: new, delete, get and set. In other protocols a request for a dump has the flag DUMP.
+pub fn flag_rows(is_route: bool, number: u16) -> &'static [Row]
     ensures { map flag_seen result.now ≡ flag_rows is_route number }
 {
-    if number == NLMSG_ERROR || number == NLMSG_DONE {
+    // NLMSG_ERROR and NLMSG_DONE.
+    if number == 2 || number == 3 {
         return &ANSWERING;
     }
-    if !is_route || number < 16 {
+    if number < 16 {
         return &COMMON;
+    }
+    if !is_route {
+        return &OTHER;
     }
     match number % 4 {
         0 => &MAKING,
