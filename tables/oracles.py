@@ -1,11 +1,14 @@
 """What other readers make of the same messages: the kernel's own in Python, pyroute2, and programs' JSON."""
+import collections
 import contextlib
 import io
+import ipaddress
 import json
 import os
-import shutil
-import subprocess
+import re
 import sys
+
+import form
 
 
 class Counts:
@@ -25,29 +28,71 @@ class Counts:
 
 
 def plain_name(name):
-    return str(name).lower().replace('-', '_')
+    return str(name).lower().replace('-', '_').replace('.', '_')
+
+
+def packed(node):
+    """The bytes that a value stands for, or None where that is not plain to say."""
+    ours, kind = node.value, node.line.kind
+    if isinstance(ours, bytes):
+        return ours
+    if isinstance(ours, str) and kind == 'hardware':
+        return bytes.fromhex(ours.replace(':', ''))
+    if isinstance(ours, str) and kind in ('ip', 'ipv4', 'ipv6', 'address'):
+        return ipaddress.ip_address(ours).packed
+    if isinstance(ours, int) and (kind in form.NUMBERS or kind == 'uint'):
+        width = form.NUMBERS.get(kind, 4 if ours < 1 << 32 else 8)
+        return (ours % (1 << 8 * width)).to_bytes(width, 'big' if 'be' in kind else 'little')
+    return ours.encode() if isinstance(ours, str) and kind in ('text', 'ztext') else None
+
+
+def is_number(node, theirs):
+    """Whether a number is ours; some readers know neither its sign nor its byte order."""
+    ours, kind = node.value, node.line.kind
+    if not isinstance(ours, int) or not isinstance(theirs, int):
+        return theirs == ours
+    width = form.NUMBERS.get(kind, 8)
+    swapped = int.from_bytes((ours % (1 << 8 * width)).to_bytes(width, 'big'), 'little') if 'be' in kind else ours
+    return any((theirs - number) % (1 << 8 * width) == 0 for number in (ours, swapped))
+
+
+def address_digits(text):
+    """The bytes of an IP address in hexadecimal, or None."""
+    try:
+        return ipaddress.ip_address(text).packed.hex()
+    except ValueError:
+        return None
 
 
 def is_value(node, theirs):
     """Whether a value of another reader is ours: the number, its name, or the text that stands for it."""
     ours = node.value
     if isinstance(theirs, (bytes, bytearray)):
-        return bytes(theirs) == node.raw
+        return packed(node) in (None, bytes(theirs), bytes(theirs).rstrip(b'\0'))
     if isinstance(theirs, bool):
         return theirs == bool(ours)
     if isinstance(theirs, (set, list)) and isinstance(node.names, list):
         return {plain_name(n) for n in theirs} == {plain_name(n) for n in node.names}
+    if isinstance(theirs, list) and theirs and isinstance(theirs[0], dict) and 'label' in theirs[0]:
+        return theirs == [{'label': n >> 12, 'tc': n >> 9 & 7, 'bos': n >> 8 & 1, 'ttl': n & 255} for n in ours]
     if isinstance(theirs, list):
         return theirs == ours
     if isinstance(theirs, (int, float)):
-        # Some readers take a number with a sign for one without.
-        return theirs == ours or len(node.raw) <= 8 and theirs == int.from_bytes(node.raw, sys.byteorder)
-    if isinstance(theirs, str) and isinstance(ours, (bytes, str)):
+        # Of an address one of them knows the number alone.
+        return is_number(node, theirs) or isinstance(ours, (str, bytes)) and packed(node) in (
+            theirs.to_bytes(4, order) for order in ('little', 'big') if isinstance(theirs, int) and 0 <= theirs < 1 << 32)
+    if isinstance(theirs, str) and isinstance(ours, (bytes, str)) and node.names is None:
         other = ours if isinstance(ours, str) else ours.rstrip(b'\0').decode(errors='replace')
-        return theirs == other or theirs.replace(':', '').replace(' ', '').lower() == node.raw.hex()
+        digits = (packed(node) or b'').hex()
+        return theirs == other or bool(digits) and (
+            theirs.replace(':', '').replace(' ', '').lower() == digits or address_digits(theirs) == digits)
+    if isinstance(theirs, str) and isinstance(node.names, list):
+        return theirs.lower() == ('|'.join(node.names) or 'none')
     if isinstance(theirs, str) and isinstance(ours, int):
-        return plain_name(theirs) in (plain_name(node.names), str(ours), f'{ours:#x}', f'{ours:x}')
-    return theirs == ours or theirs is None and not node.raw
+        digits = (packed(node) or b'').hex()
+        return plain_name(theirs) in (plain_name(node.names), str(ours), f'{ours:#x}', f'{ours:x}') or bool(digits) and (
+            digits in (theirs.replace(':', ''), address_digits(theirs)))
+    return theirs == ours or theirs is None and ours in (None, True, b'', '')
 
 
 def field_of(node, name):
@@ -67,9 +112,11 @@ class Ynl:
     title = "the kernel's reader"
 
     def __init__(self, folder, own):
-        """`own` are the structures of each table that own/ says otherwise than the specification."""
+        """`own` is what own/ says otherwise than the specification: of each table the structures, and rows by their names."""
         sys.path.insert(0, os.path.join(folder, 'tools/net/ynl'))
         from lib import ynl
+        # It asks this kernel for the numbers of families, which may be others'.
+        ynl.genl_family_name_to_id = collections.defaultdict(lambda: {'id': 0, 'mcast': {}})
         self.ynl, self.folder, self.families = ynl, os.path.join(folder, 'Documentation/netlink/specs'), {}
         self.unread, self.own = set(), own
 
@@ -84,19 +131,22 @@ class Ynl:
     def compare(self, messages, counts):
         for message in messages:
             family = message.table and self.family(message.table.name)
-            operation = family and family.rsp_by_value.get(message.number)
-            if not operation:
+            known = family and (family.rsp_by_value if message.datagram.is_reply else family.req_by_value)
+            operation = known and known.get(message.number)
+            if not operation or not operation.attr_set:
                 continue
             where = f'{message.table.name} {message.line.name}'
             size = family._struct_size(operation.fixed_header)
             try:
                 with contextlib.redirect_stdout(io.StringIO()):
                     values = family._decode(self.ynl.NlAttrs(message.body, size), operation.attr_set.name)
+                fields = {}
+                if operation.fixed_header:
+                    fields = family._decode_struct(message.body, operation.fixed_header)
             except Exception as error:
                 self.unread.add(f'{where}: it stops at {error!r}')
                 continue
-            if operation.fixed_header:
-                fields = family._decode_struct(message.body, operation.fixed_header)
+            if fields:
                 self.fields(message.node, fields, where, counts)
             self.attributes(family, message.node, [values], operation.attr_set, where, counts)
 
@@ -115,6 +165,8 @@ class Ynl:
 
     def leaf(self, node, value, where, counts):
         ours = node and (node.value, node.names)
+        if node and isinstance(value, str) and isinstance(node.value, str) and node.value[:-1] == value:
+            return  # It takes the last byte of a text for a zero, which requests may leave out.
         counts.take(node is not None and is_value(node, value), f'{where}: {ours} here, {value!r} there')
 
     def attributes(self, family, node, scopes, space, where, counts):
@@ -125,14 +177,17 @@ class Ynl:
             attribute = space.attrs[name]
             found = [n for n in node.inner
                      if n.line and n.line.word in ('attr', 'each') and n.number == attribute.value]
-            many = value if isinstance(value, list) and len(found) == len(value) and len(found) > 1 else None
+            is_many = isinstance(value, list) and len(found) == len(value) and (len(found) > 1 or attribute.is_multi)
+            many = value if is_many else None
             for one, said in zip(found, many) if many else [(found[-1] if found else None, value)]:
                 self.attribute(family, one, said, scopes, attribute, f'{where} {one.name if one else name}', counts)
 
     def attribute(self, family, node, value, scopes, attribute, where, counts):
-        kind = attribute.type
+        kind, table = attribute.type, where.split(' ')[0]
         if node is None:
             counts.take(False, f'{where}: not here')
+        elif (table, node.name) in self.own and isinstance(value, (int, str)) and not is_value(node, value):
+            self.unread.add(f'{where}: own/ says otherwise')
         elif kind == 'nest':
             value = value[-1] if isinstance(value, list) else value
             inner = family.attr_sets[attribute['nested-attributes']]
@@ -140,7 +195,9 @@ class Ynl:
         elif kind == 'sub-message' and isinstance(value, dict):
             picks = next((scope[attribute.selector] for scope in scopes if attribute.selector in scope), None)
             case = family.sub_msgs[attribute.sub_message].formats.get(picks)
-            if case:
+            if (where.split(' ')[0], picks) in self.own:
+                self.unread.add(f'{where} {picks}: own/ says otherwise')
+            elif case:
                 self.case(family, node, value, scopes, case, where, counts)
         elif kind in ('indexed-array', 'nest-type-value'):
             self.listed(family, node, value, scopes, attribute, where, counts)
@@ -194,6 +251,9 @@ class Pyroute2:
     """pyroute2's reader of routing messages, by the kernel's names."""
 
     title = 'pyroute2'
+    # What it reads otherwise than the kernel's headers and source: with other numbers, or another byte order.
+    WRONG = {'TCA_CAKE_STATS_MIN_ADJLEN', 'TCA_CAKE_STATS_MAX_NETLEN', 'TCA_CAKE_STATS_MIN_NETLEN',
+             'TCA_CAKE_STATS_MAX_ADJLEN', 'TCA_MATCHALL_FLAGS'}
 
     def __init__(self):
         from pyroute2.netlink.rtnl.marshal import MarshalRtnl
@@ -210,64 +270,78 @@ class Pyroute2:
             except Exception as error:
                 self.unread.add(f'{where}: it stops at {error!r}')
                 continue
-            self.message(message.node, theirs, where, counts)
+            self.read(message.node, theirs, where, counts)
 
-    def message(self, node, theirs, where, counts):
+    @classmethod
+    def read(cls, node, theirs, where, counts):
+        """The fields and attributes of a message."""
         for name, value in dict(theirs).items():
             if name in ('attrs', 'header', 'value', 'event', 'type', 'state'):
                 continue
             field = field_of(node, plain_name(name))
             if field is not None and not isinstance(value, (dict, list)):
                 counts.take(is_value(field, value), f'{where}.{name}: {field.value} here, {value!r} there')
-        self.attributes(node, theirs, where, counts)
+        cls.attributes(node, theirs, where, counts)
 
-    def attributes(self, node, theirs, where, counts):
+    @classmethod
+    def attributes(cls, node, theirs, where, counts):
         for pair in theirs.get('attrs', ()) if hasattr(theirs, 'get') else ():
             name, value = pair[0], pair[1]
             found = [n for n in node.inner if n.name == name]
             if len(found) != 1:
                 continue
             if hasattr(value, 'get') and 'attrs' in value:
-                self.attributes(found[0], value, f'{where} {name}', counts)
+                cls.attributes(found[0], value, f'{where} {name}', counts)
             elif hasattr(value, 'get'):
-                self.structure(found[0], value, f'{where} {name}', counts)
+                cls.structure(found[0], value, f'{where} {name}', counts)
+            elif name in cls.WRONG or found[0].line.kind == 'hardware' and len(packed(found[0])) != 6:
+                continue  # It reads six bytes of each address.
             elif None not in (found[0].value, value) and not isinstance(found[0].value, (bytes, tuple)):
                 counts.take(is_value(found[0], value), f'{where} {name}: {found[0].value!r} here, {value!r} there')
 
-    def structure(self, node, theirs, where, counts):
+    @classmethod
+    def structure(cls, node, theirs, where, counts):
         for name, value in theirs.items():
             field = field_of(node, plain_name(name))
-            if field is not None and isinstance(value, (int, str)):
+            if field is not None and not any(n.name.endswith(f'.{name}') for n in node.inner) and isinstance(
+                    value, (int, str)):
                 counts.take(is_value(field, value), f'{where}.{name}: {field.value!r} here, {value!r} there')
 
 
 # What programs print
 
+LABELS = re.compile(r'[0-9]+(/[0-9]+)+')
+
+
 class Program:
     """A program that prints what it read as JSON; a key is that of an attribute whose name ends so."""
 
     # Keys that change from one moment to the next, or are a program's own word for several values.
-    LEFT_OUT = {'expires', 'refcnt', 'valid_life_time', 'preferred_life_time', 'group', 'state'}
+    LEFT_OUT = {'expires', 'refcnt', 'valid_life_time', 'preferred_life_time', 'group', 'state', 'flags', 'proto',
+                'gc_timer', 'hello_timer', 'tcn_timer', 'topology_change_timer', 'handle'}
+    # Keys that end as an attribute's name, and are something else.
+    APART = {('type', 'NFTA_OBJ_TYPE'), ('type', 'NFTA_SET_KEY_TYPE'), ('type', 'NFTA_SET_DATA_TYPE'), ('type', 'NFTA_SET_TYPE'),
+             ('link_type', 'ifi_type')}
     # Words of programs for numbers that have no name in a table.
-    NUMBERS = {'inet': 2, 'ip': 2, 'inet6': 10, 'ip6': 10, 'off': 0, 'on': 1}
+    NUMBERS = {'inet': 2, 'ip': 2, 'inet6': 10, 'ip6': 10, 'bridge': 7, 'netdev': 5, 'off': 0, 'on': 1, 'resilient': 1,
+               '802.1Q': 0x8100, '802.1ad': 0x88a8, 'active-backup': 1, '802.3ad': 4, 'balance-rr': 0, 'UP': 0, 'any': 0, 'all': 1, 'always': 0,
+               'slow': 0, 'fast': 1, 'stable': 0}
     # Keys that are called otherwise than the attribute, where a message has no other of this name.
     OTHER = {'dev': ('oif', 'iif', 'ifindex'), 'metric': ('priority',), 'link_type': ('ifi_type',),
              'mac': ('lladdr',), 'ifname': ('ndm_ifindex',)}
 
-    def __init__(self, title, words, tables, names):
-        if not shutil.which(words[0]):
-            raise FileNotFoundError(f'there is no {words[0]}')
-        self.title, self.words, self.tables, self.interfaces, self.unread = title, words, tables, names, set()
+    def __init__(self, title, tables, output, interfaces):
+        self.title, self.tables, self.output, self.unread = title, tables, output, set()
+        self.interfaces = interfaces
 
     def compare(self, messages, counts):
-        ran = subprocess.run(['timeout', '10', *self.words], capture_output=True, text=True)
         try:
-            printed = json.loads(ran.stdout)
+            printed = json.loads(self.output)
         except ValueError:
-            self.unread.add(f'it prints no JSON: {ran.stderr.strip()[:80]}')
+            self.unread.add('it prints no JSON')
             return
         printed = printed.get('nftables', [printed]) if isinstance(printed, dict) else printed
-        candidates = [m for m in messages if m.table and (m.table.name, m.number) in self.tables]
+        candidates = [m for m in messages if m.node and m.is_dumped and (m.table.name, m.number) in self.tables]
         for item in self.items(printed):
             rows = [(self.pairs(item, m.node), m) for m in candidates]
             rows = [(sum(same for same, _ in pairs), pairs, m) for pairs, m in rows]
@@ -291,10 +365,12 @@ class Program:
         """Each key that one attribute alone can stand for: whether the values are equal, and what they are."""
         found = []
         for key, value in item.items():
-            nodes = [] if key in self.LEFT_OUT else self.nodes(key, node)
+            nodes = [] if key in self.LEFT_OUT else [n for n in self.nodes(key, node) if (key, n.name) not in self.APART]
             if isinstance(value, dict):
                 inner = next((n for n in nodes if n.inner), None)
                 found += self.pairs(value, inner) if inner else []
+            elif isinstance(value, str) and LABELS.fullmatch(value) and nodes and isinstance(nodes[0].value, str):
+                continue  # Of two keys with one name, a route's and its labels', the last counts.
             elif isinstance(value, (str, int, float)) and len(nodes) == 1 and nodes[0].value is not None:
                 same = self.is_same(nodes[0], value)
                 ours = (nodes[0].value, nodes[0].names)
@@ -314,11 +390,13 @@ class Program:
         return []
 
     def is_same(self, node, value):
-        if is_value(node, value):
+        if is_value(node, value) or value == 'any' and node.value in ('0.0.0.0', '::'):
             return True
+        if isinstance(node.value, list) and isinstance(value, str):
+            return value == '/'.join(str(label >> 12) for label in node.value)
         if isinstance(value, int) and node.value == 1000 * value:
             return True  # milliseconds, of which seconds are printed
-        if value in self.NUMBERS and node.value == self.NUMBERS[value]:
+        if value in self.NUMBERS and node.value == self.NUMBERS[value] or value == 'inet' and node.value == 1:
             return True
         if isinstance(value, str) and isinstance(node.value, int):
             handle = value.split(':')
@@ -333,10 +411,13 @@ class Features(Program):
     """ethtool's list of features: each name that the kernel has, and whether it is active."""
 
     def compare(self, messages, counts):
-        ran = subprocess.run(['timeout', '10', *self.words], capture_output=True, text=True)
-        printed = json.loads(ran.stdout)[0]
+        try:
+            printed = json.loads(self.output)[0]
+        except (ValueError, IndexError):
+            self.unread.add('it prints no JSON')
+            return
         for message in messages:
-            if not message.table or (message.table.name, message.number) not in self.tables:
+            if not message.node or not message.is_dumped or (message.table.name, message.number) not in self.tables:
                 continue
             known = {way: self.named(message.node, way) for way in ('HW', 'ACTIVE', 'NOCHANGE')}
             header = message.node.find('ETHTOOL_A_FEATURES_HEADER')
