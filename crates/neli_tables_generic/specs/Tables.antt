@@ -14,6 +14,7 @@ all =
     table.Ethtool ∷
     table.Fou ∷
     table.Handshake ∷
+    table.Ioam6 ∷
     table.Ipvs ∷
     table.L2tp ∷
     table.Macsec ∷
@@ -25,6 +26,7 @@ all =
     table.OvsDatapath ∷
     table.OvsFlow ∷
     table.OvsVport ∷
+    table.Seg6 ∷
     table.TcpMetrics ∷
     table.Team ∷
     table.Wireguard ∷
@@ -37,6 +39,7 @@ name_of table.Dpll = codes "dpll"
 name_of table.Ethtool = codes "ethtool"
 name_of table.Fou = codes "fou"
 name_of table.Handshake = codes "handshake"
+name_of table.Ioam6 = codes "ioam6"
 name_of table.Ipvs = codes "ipvs"
 name_of table.L2tp = codes "l2tp"
 name_of table.Macsec = codes "macsec"
@@ -48,6 +51,7 @@ name_of table.Nlctrl = codes "nlctrl"
 name_of table.OvsDatapath = codes "ovs_datapath"
 name_of table.OvsFlow = codes "ovs_flow"
 name_of table.OvsVport = codes "ovs_vport"
+name_of table.Seg6 = codes "seg6"
 name_of table.TcpMetrics = codes "tcp_metrics"
 name_of table.Team = codes "team"
 name_of table.Wireguard = codes "wireguard"
@@ -55,8 +59,8 @@ name_of table.Wireguard = codes "wireguard"
 -- the first lines of a table's text, up to that of its family
 abbrev pub heading_of : GenericTable → List ℕ
 heading_of table.Devlink =
-    codes "# Written by from-specs from the specification devlink.yaml of Linux 6.12.\n\n"
-    ++ codes "family devlink 16 version=1\n"
+    codes "# Written by from-specs from the specification devlink.yaml of Linux 6.12 and "
+    ++ codes "own/devlink.table.\n\nfamily devlink 16 version=1\n"
 heading_of table.Dpll =
     codes "# Written by from-specs from the specification dpll.yaml of Linux 6.12.\n\n"
     ++ codes "family dpll 16 version=1\n"
@@ -69,6 +73,9 @@ heading_of table.Fou =
 heading_of table.Handshake =
     codes "# Written by from-specs from the specification handshake.yaml of Linux 6.12.\n\n"
     ++ codes "family handshake 16 version=1\n"
+heading_of table.Ioam6 =
+    codes "# Operations, administration and maintenance in IPv6 (linux/ioam6_genl.h). "
+    ++ codes "Written by hand from the headers.\n\nfamily IOAM6 16 version=1\n"
 heading_of table.Ipvs =
     codes "# Written by hand from the headers.\n\nfamily IPVS 16 version=1\n"
 heading_of table.L2tp =
@@ -98,6 +105,9 @@ heading_of table.OvsFlow =
 heading_of table.OvsVport =
     codes "# Written by from-specs from the specification ovs_vport.yaml of Linux 6.12 and "
     ++ codes "own/ovs_vport.table.\n\nfamily ovs_vport 16 version=2\n"
+heading_of table.Seg6 =
+    codes "# Segments of IPv6 routing (linux/seg6_genl.h). Written by hand from the "
+    ++ codes "headers.\n\nfamily SEG6 16 version=1\n"
 heading_of table.TcpMetrics =
     codes "# Written by from-specs from the specification tcp_metrics.yaml of Linux "
     ++ codes "6.12.\n\nfamily tcp_metrics 16 version=1\n"

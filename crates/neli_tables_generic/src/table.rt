@@ -6,8 +6,8 @@ ghost use Rattle.std.specs.Str.{bytes_eq};
 ghost use Rattle.neli_tables_generic.specs.Tables.{Begins, all, heading_of, name_of, table_named};
 
 use crate::{
-    devlink, dpll, ethtool, fou, handshake, ipvs, l2tp, macsec, mptcp_pm, netdev, nfsd, nl80211,
-    nlctrl, ovs_datapath, ovs_flow, ovs_vport, tcp_metrics, team, wireguard,
+    devlink, dpll, ethtool, fou, handshake, ioam6, ipvs, l2tp, macsec, mptcp_pm, netdev, nfsd,
+    nl80211, nlctrl, ovs_datapath, ovs_flow, ovs_vport, seg6, tcp_metrics, team, wireguard,
 };
 
 /// A table of families of generic netlink, by the name of its file.
@@ -23,6 +23,8 @@ pub enum GenericTable {
     Fou,
     /// `handshake`.
     Handshake,
+    /// `ioam6`.
+    Ioam6,
     /// `ipvs`.
     Ipvs,
     /// `l2tp`.
@@ -45,6 +47,8 @@ pub enum GenericTable {
     OvsFlow,
     /// `ovs_vport`.
     OvsVport,
+    /// `seg6`.
+    Seg6,
     /// `tcp_metrics`.
     TcpMetrics,
     /// `team`.
@@ -54,12 +58,13 @@ pub enum GenericTable {
 }
 
 /// All, in the order of their names.
-static ALL: [GenericTable; 19] = [
+static ALL: [GenericTable; 21] = [
     GenericTable::Devlink,
     GenericTable::Dpll,
     GenericTable::Ethtool,
     GenericTable::Fou,
     GenericTable::Handshake,
+    GenericTable::Ioam6,
     GenericTable::Ipvs,
     GenericTable::L2tp,
     GenericTable::Macsec,
@@ -71,6 +76,7 @@ static ALL: [GenericTable; 19] = [
     GenericTable::OvsDatapath,
     GenericTable::OvsFlow,
     GenericTable::OvsVport,
+    GenericTable::Seg6,
     GenericTable::TcpMetrics,
     GenericTable::Team,
     GenericTable::Wireguard,
@@ -103,6 +109,7 @@ impl GenericTable {
             GenericTable::Ethtool => b"ethtool",
             GenericTable::Fou => b"fou",
             GenericTable::Handshake => b"handshake",
+            GenericTable::Ioam6 => b"ioam6",
             GenericTable::Ipvs => b"ipvs",
             GenericTable::L2tp => b"l2tp",
             GenericTable::Macsec => b"macsec",
@@ -114,6 +121,7 @@ impl GenericTable {
             GenericTable::OvsDatapath => b"ovs_datapath",
             GenericTable::OvsFlow => b"ovs_flow",
             GenericTable::OvsVport => b"ovs_vport",
+            GenericTable::Seg6 => b"seg6",
             GenericTable::TcpMetrics => b"tcp_metrics",
             GenericTable::Team => b"team",
             GenericTable::Wireguard => b"wireguard",
@@ -138,6 +146,7 @@ impl GenericTable {
             GenericTable::Ethtool => ethtool::text(),
             GenericTable::Fou => fou::text(),
             GenericTable::Handshake => handshake::text(),
+            GenericTable::Ioam6 => ioam6::text(),
             GenericTable::Ipvs => ipvs::text(),
             GenericTable::L2tp => l2tp::text(),
             GenericTable::Macsec => macsec::text(),
@@ -149,6 +158,7 @@ impl GenericTable {
             GenericTable::OvsDatapath => ovs_datapath::text(),
             GenericTable::OvsFlow => ovs_flow::text(),
             GenericTable::OvsVport => ovs_vport::text(),
+            GenericTable::Seg6 => seg6::text(),
             GenericTable::TcpMetrics => tcp_metrics::text(),
             GenericTable::Team => team::text(),
             GenericTable::Wireguard => wireguard::text(),

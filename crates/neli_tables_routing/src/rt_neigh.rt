@@ -44,15 +44,15 @@ static TEXT: &[u8] = b"\
     s\n\nset forwarding\n  attr NFEA_ACTIVITY_NOTIFY 1 u8\n  attr NFEA_DONT_REFRESH 2 flag\n\nset \
     cache\n  attr NDTA_NAME 1 text\n  attr NDTA_THRESH1 2 u32\n  attr NDTA_THRESH2 3 u32\n  attr N\
     DTA_THRESH3 4 u32\n  attr NDTA_CONFIG 5 struct=ndt_config\n  attr NDTA_PARMS 6 nest=cache-sett\
-    ings\n  attr NDTA_STATS 7 struct=ndt_stats\n  attr NDTA_GC_INTERVAL 8 u64\n  attr NDTA_PAD 9 b\
-    ytes\n\nset cache-settings\n  attr NDTPA_IFINDEX 1 u32\n  attr NDTPA_REFCNT 2 u32\n  attr NDTP\
-    A_REACHABLE_TIME 3 u64\n  attr NDTPA_BASE_REACHABLE_TIME 4 u64\n  attr NDTPA_RETRANS_TIME 5 u6\
+    ings\n  attr NDTA_STATS 7 struct=ndt_stats\n  attr NDTA_GC_INTERVAL 8 u64\n  attr NDTA_PAD 9 p\
+    ad\n\nset cache-settings\n  attr NDTPA_IFINDEX 1 u32\n  attr NDTPA_REFCNT 2 u32\n  attr NDTPA_\
+    REACHABLE_TIME 3 u64\n  attr NDTPA_BASE_REACHABLE_TIME 4 u64\n  attr NDTPA_RETRANS_TIME 5 u6\
     4\n  attr NDTPA_GC_STALETIME 6 u64\n  attr NDTPA_DELAY_PROBE_TIME 7 u64\n  attr NDTPA_QUEUE_LE\
     N 8 u32\n  attr NDTPA_APP_PROBES 9 u32\n  attr NDTPA_UCAST_PROBES 10 u32\n  attr NDTPA_MCAST_P\
     ROBES 11 u32\n  attr NDTPA_ANYCAST_DELAY 12 u64\n  attr NDTPA_PROXY_DELAY 13 u64\n  attr NDTPA\
     _PROXY_QLEN 14 u32\n  attr NDTPA_LOCKTIME 15 u64\n  attr NDTPA_QUEUE_LENBYTES 16 u32\n  attr N\
-    DTPA_MCAST_REPROBES 17 u32\n  attr NDTPA_PAD 18 bytes\n  attr NDTPA_INTERVAL_PROBE_TIME_MS 19 \
-    u64\n";
+    DTPA_MCAST_REPROBES 17 u32\n  attr NDTPA_PAD 18 pad\n  attr NDTPA_INTERVAL_PROBE_TIME_MS 19 u6\
+    4\n";
 
 /// The text of `tables/rt_neigh.table`.
 pub(crate) fn text() -> &'static [u8]

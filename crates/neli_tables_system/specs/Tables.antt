@@ -10,6 +10,7 @@ use Rattle.neli_tables_system.specs.declared.table.SystemTable.TheVariants as ta
 unfoldable pub all : List SystemTable
 all =
     table.Conntrack ∷
+    table.Ipset ∷
     table.Nflog ∷
     table.Nfqueue ∷
     table.Nftables ∷
@@ -22,6 +23,7 @@ all =
 -- the name of a table
 abbrev pub name_of : SystemTable → List ℕ
 name_of table.Conntrack = codes "conntrack"
+name_of table.Ipset = codes "ipset"
 name_of table.Nflog = codes "nflog"
 name_of table.Nfqueue = codes "nfqueue"
 name_of table.Nftables = codes "nftables"
@@ -34,6 +36,9 @@ name_of table.Xfrm = codes "xfrm"
 abbrev pub heading_of : SystemTable → List ℕ
 heading_of table.Conntrack =
     codes "# Written by hand from the headers.\n\nfamily conntrack 12\n"
+heading_of table.Ipset =
+    codes "# Sets of addresses (linux/netfilter/ipset/ip_set.h). Written by hand from the "
+    ++ codes "headers.\n\nfamily ipset 12\n"
 heading_of table.Nflog =
     codes "# Written by hand from the headers.\n\nfamily nflog 12\n"
 heading_of table.Nfqueue =
@@ -44,7 +49,7 @@ heading_of table.Nftables =
 heading_of table.Nlmsg =
     codes "# Written by hand from the headers.\n\nfamily nlmsg\n"
 heading_of table.ProcEvent =
-    codes "# Written by hand from the headers.\n\nfamily proc-event 11 at=20..24\n"
+    codes "# Written by hand from the headers.\n\nfamily proc-event 11 id=1 at=20..24\n"
 heading_of table.SockDiag =
     codes "# Written by hand from the headers.\n\nfamily sock-diag 4\n"
 heading_of table.Xfrm =

@@ -5,6 +5,7 @@
 #![tactic(auto)]
 
 mod conntrack;
+mod ipset;
 mod nflog;
 mod nfqueue;
 mod nftables;

@@ -12,10 +12,10 @@ static TEXT: &[u8] = b"\
     q-global 0x2\n  value conntrack 0x4\n\nstruct nfgenmsg 4\n  field nfgen_family 0..1 u8\n  fiel\
     d version 1..2 u8\n  field res_id 2..4 be16\n\nstruct nfulnl_msg_packet_hdr 4\n  field hw_prot\
     ocol 0..2 be16\n  field hook 2..3 u8\n\nstruct nfulnl_msg_packet_hw 12\n  field hw_addrlen 0..\
-    2 be16\n  field hw_addr 4..12 bytes\n\nstruct nfulnl_msg_packet_timestamp 16\n  field sec 0..\
-    8 be64\n  field usec 8..16 be64\n\nstruct nfulnl_msg_config_mode 6\n  field copy_range 0..4 be\
-    32\n  field copy_mode 4..5 u8\n\nset packet\n  attr NFULA_PACKET_HDR 1 struct=nfulnl_msg_packe\
-    t_hdr\n  attr NFULA_MARK 2 be32\n  attr NFULA_TIMESTAMP 3 struct=nfulnl_msg_packet_timestam\
+    2 be16\n  field hw_addr 4..12 hardware\n\nstruct nfulnl_msg_packet_timestamp 16\n  field sec 0\
+    ..8 be64\n  field usec 8..16 be64\n\nstruct nfulnl_msg_config_mode 6\n  field copy_range 0..4 \
+    be32\n  field copy_mode 4..5 u8\n\nset packet\n  attr NFULA_PACKET_HDR 1 struct=nfulnl_msg_pac\
+    ket_hdr\n  attr NFULA_MARK 2 be32\n  attr NFULA_TIMESTAMP 3 struct=nfulnl_msg_packet_timestam\
     p\n  attr NFULA_IFINDEX_INDEV 4 be32\n  attr NFULA_IFINDEX_OUTDEV 5 be32\n  attr NFULA_IFINDEX\
     _PHYSINDEV 6 be32\n  attr NFULA_IFINDEX_PHYSOUTDEV 7 be32\n  attr NFULA_HWADDR 8 struct=nfulnl\
     _msg_packet_hw\n  attr NFULA_PAYLOAD 9 bytes\n  attr NFULA_PREFIX 10 text\n  attr NFULA_UID 1\

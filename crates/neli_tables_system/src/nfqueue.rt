@@ -12,12 +12,12 @@ static TEXT: &[u8] = b"\
     k 0x2\n  value gso 0x4\n  value uid-gid 0x8\n  value secctx 0x10\n\nstruct nfgenmsg 4\n  fiel\
     d nfgen_family 0..1 u8\n  field version 1..2 u8\n  field res_id 2..4 be16\n\nstruct nfqnl_msg_\
     packet_hdr 7\n  field packet_id 0..4 be32\n  field hw_protocol 4..6 be16\n  field hook 6..7 u\
-    8\n\nstruct nfqnl_msg_packet_hw 12\n  field hw_addrlen 0..2 be16\n  field hw_addr 4..12 byte\
-    s\n\nstruct nfqnl_msg_packet_timestamp 16\n  field sec 0..8 be64\n  field usec 8..16 be64\n\ns\
-    truct nfqnl_msg_verdict_hdr 8\n  field verdict 0..4 be32\n  field id 4..8 be32\n\nstruct nfqnl\
-    _msg_config_cmd 4\n  field command 0..1 u8\n  field pf 2..4 be16\n\nstruct nfqnl_msg_config_pa\
-    rams 5\n  field copy_range 0..4 be32\n  field copy_mode 4..5 u8\n\nset packet\n  attr NFQA_PAC\
-    KET_HDR 1 struct=nfqnl_msg_packet_hdr\n  attr NFQA_VERDICT_HDR 2 struct=nfqnl_msg_verdict_hd\
+    8\n\nstruct nfqnl_msg_packet_hw 12\n  field hw_addrlen 0..2 be16\n  field hw_addr 4..12 hardwa\
+    re\n\nstruct nfqnl_msg_packet_timestamp 16\n  field sec 0..8 be64\n  field usec 8..16 be64\n\n\
+    struct nfqnl_msg_verdict_hdr 8\n  field verdict 0..4 be32\n  field id 4..8 be32\n\nstruct nfqn\
+    l_msg_config_cmd 4\n  field command 0..1 u8\n  field pf 2..4 be16\n\nstruct nfqnl_msg_config_p\
+    arams 5\n  field copy_range 0..4 be32\n  field copy_mode 4..5 u8\n\nset packet\n  attr NFQA_PA\
+    CKET_HDR 1 struct=nfqnl_msg_packet_hdr\n  attr NFQA_VERDICT_HDR 2 struct=nfqnl_msg_verdict_hd\
     r\n  attr NFQA_MARK 3 be32\n  attr NFQA_TIMESTAMP 4 struct=nfqnl_msg_packet_timestamp\n  attr \
     NFQA_IFINDEX_INDEV 5 be32\n  attr NFQA_IFINDEX_OUTDEV 6 be32\n  attr NFQA_IFINDEX_PHYSINDEV 7 \
     be32\n  attr NFQA_IFINDEX_PHYSOUTDEV 8 be32\n  attr NFQA_HWADDR 9 struct=nfqnl_msg_packet_h\

@@ -5,13 +5,15 @@ ghost use Rattle.std.specs.Option.{option_copied};
 ghost use Rattle.std.specs.Str.{bytes_eq};
 ghost use Rattle.neli_tables_system.specs.Tables.{Begins, all, heading_of, name_of, table_named};
 
-use crate::{conntrack, nflog, nfqueue, nftables, nlmsg, proc_event, sock_diag, xfrm};
+use crate::{conntrack, ipset, nflog, nfqueue, nftables, nlmsg, proc_event, sock_diag, xfrm};
 
 /// A table of filters, sockets, IPsec, processes and every protocol, by the name of its file.
 #[derive(Clone, Copy, Debug, PartialEq, Eq)]
 pub enum SystemTable {
     /// `conntrack`.
     Conntrack,
+    /// `ipset`.
+    Ipset,
     /// `nflog`.
     Nflog,
     /// `nfqueue`.
@@ -29,8 +31,9 @@ pub enum SystemTable {
 }
 
 /// All, in the order of their names.
-static ALL: [SystemTable; 8] = [
+static ALL: [SystemTable; 9] = [
     SystemTable::Conntrack,
+    SystemTable::Ipset,
     SystemTable::Nflog,
     SystemTable::Nfqueue,
     SystemTable::Nftables,
@@ -63,6 +66,7 @@ impl SystemTable {
     {
         match self {
             SystemTable::Conntrack => b"conntrack",
+            SystemTable::Ipset => b"ipset",
             SystemTable::Nflog => b"nflog",
             SystemTable::Nfqueue => b"nfqueue",
             SystemTable::Nftables => b"nftables",
@@ -87,6 +91,7 @@ impl SystemTable {
     {
         match self {
             SystemTable::Conntrack => conntrack::text(),
+            SystemTable::Ipset => ipset::text(),
             SystemTable::Nflog => nflog::text(),
             SystemTable::Nfqueue => nfqueue::text(),
             SystemTable::Nftables => nftables::text(),

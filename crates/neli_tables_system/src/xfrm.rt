@@ -47,31 +47,31 @@ static TEXT: &[u8] = b"\
     d sel.dport 72..74 be16\n  field sel.dport_mask 74..76 be16\n  field sel.sport 76..78 be16\n  \
     field sel.sport_mask 78..80 be16\n  field sel.family 80..82 u16\n  field sel.prefixlen_d 82..8\
     3 u8\n  field sel.prefixlen_s 83..84 u8\n  field sel.proto 84..85 u8\n  field sel.ifindex 88..\
-    92 s32\n  field sel.user 92..96 bytes\n  field policy.sel.daddr 96..112 bytes\n  field policy.\
-    sel.saddr 112..128 bytes\n  field policy.sel.dport 128..130 be16\n  field policy.sel.dport_mas\
-    k 130..132 be16\n  field policy.sel.sport 132..134 be16\n  field policy.sel.sport_mask 134..13\
-    6 be16\n  field policy.sel.family 136..138 u16\n  field policy.sel.prefixlen_d 138..139 u8\n  \
-    field policy.sel.prefixlen_s 139..140 u8\n  field policy.sel.proto 140..141 u8\n  field policy\
-    .sel.ifindex 144..148 s32\n  field policy.sel.user 148..152 bytes\n  field policy.lft.soft_byt\
-    e_limit 152..160 u64\n  field policy.lft.hard_byte_limit 160..168 u64\n  field policy.lft.soft\
-    _packet_limit 168..176 u64\n  field policy.lft.hard_packet_limit 176..184 u64\n  field policy.\
-    lft.soft_add_expires_seconds 184..192 u64\n  field policy.lft.hard_add_expires_seconds 192..20\
-    0 u64\n  field policy.lft.soft_use_expires_seconds 200..208 u64\n  field policy.lft.hard_use_e\
-    xpires_seconds 208..216 u64\n  field policy.curlft.bytes 216..224 u64\n  field policy.curlft.p\
-    ackets 224..232 u64\n  field policy.curlft.add_time 232..240 u64\n  field policy.curlft.use_ti\
-    me 240..248 u64\n  field policy.priority 248..252 u32\n  field policy.index 252..256 u32\n  fi\
-    eld policy.dir 256..257 u8\n  field policy.action 257..258 u8\n  field policy.flags 258..259 u\
+    92 s32\n  field sel.user 92..96 u32\n  field policy.sel.daddr 96..112 bytes\n  field policy.se\
+    l.saddr 112..128 bytes\n  field policy.sel.dport 128..130 be16\n  field policy.sel.dport_mask \
+    130..132 be16\n  field policy.sel.sport 132..134 be16\n  field policy.sel.sport_mask 134..136 \
+    be16\n  field policy.sel.family 136..138 u16\n  field policy.sel.prefixlen_d 138..139 u8\n  fi\
+    eld policy.sel.prefixlen_s 139..140 u8\n  field policy.sel.proto 140..141 u8\n  field policy.s\
+    el.ifindex 144..148 s32\n  field policy.sel.user 148..152 u32\n  field policy.lft.soft_byte_li\
+    mit 152..160 u64\n  field policy.lft.hard_byte_limit 160..168 u64\n  field policy.lft.soft_pac\
+    ket_limit 168..176 u64\n  field policy.lft.hard_packet_limit 176..184 u64\n  field policy.lft.\
+    soft_add_expires_seconds 184..192 u64\n  field policy.lft.hard_add_expires_seconds 192..200 u6\
+    4\n  field policy.lft.soft_use_expires_seconds 200..208 u64\n  field policy.lft.hard_use_expir\
+    es_seconds 208..216 u64\n  field policy.curlft.bytes 216..224 u64\n  field policy.curlft.packe\
+    ts 224..232 u64\n  field policy.curlft.add_time 232..240 u64\n  field policy.curlft.use_time 2\
+    40..248 u64\n  field policy.priority 248..252 u32\n  field policy.index 252..256 u32\n  field \
+    policy.dir 256..257 u8\n  field policy.action 257..258 u8\n  field policy.flags 258..259 u\
     8\n  field policy.share 259..260 u8\n  field aalgos 264..268 u32\n  field ealgos 268..272 u3\
     2\n  field calgos 272..276 u32\n  field seq 276..280 u32\n\nstruct xfrm_user_expire 232\n  fie\
     ld state.sel.daddr 0..16 bytes\n  field state.sel.saddr 16..32 bytes\n  field state.sel.dport \
     32..34 be16\n  field state.sel.dport_mask 34..36 be16\n  field state.sel.sport 36..38 be16\n  \
     field state.sel.sport_mask 38..40 be16\n  field state.sel.family 40..42 u16\n  field state.sel\
     .prefixlen_d 42..43 u8\n  field state.sel.prefixlen_s 43..44 u8\n  field state.sel.proto 44..4\
-    5 u8\n  field state.sel.ifindex 48..52 s32\n  field state.sel.user 52..56 bytes\n  field state\
-    .id.daddr 56..72 bytes\n  field state.id.spi 72..76 be32\n  field state.id.proto 76..77 u8\n  \
-    field state.saddr 80..96 bytes\n  field state.lft.soft_byte_limit 96..104 u64\n  field state.l\
-    ft.hard_byte_limit 104..112 u64\n  field state.lft.soft_packet_limit 112..120 u64\n  field sta\
-    te.lft.hard_packet_limit 120..128 u64\n  field state.lft.soft_add_expires_seconds 128..136 u6\
+    5 u8\n  field state.sel.ifindex 48..52 s32\n  field state.sel.user 52..56 u32\n  field state.i\
+    d.daddr 56..72 bytes\n  field state.id.spi 72..76 be32\n  field state.id.proto 76..77 u8\n  fi\
+    eld state.saddr 80..96 bytes\n  field state.lft.soft_byte_limit 96..104 u64\n  field state.lft\
+    .hard_byte_limit 104..112 u64\n  field state.lft.soft_packet_limit 112..120 u64\n  field state\
+    .lft.hard_packet_limit 120..128 u64\n  field state.lft.soft_add_expires_seconds 128..136 u6\
     4\n  field state.lft.hard_add_expires_seconds 136..144 u64\n  field state.lft.soft_use_expires\
     _seconds 144..152 u64\n  field state.lft.hard_use_expires_seconds 152..160 u64\n  field state.\
     curlft.bytes 160..168 u64\n  field state.curlft.packets 168..176 u64\n  field state.curlft.add\
@@ -93,38 +93,38 @@ static TEXT: &[u8] = b"\
     6\n  field pol.sel.sport 36..38 be16\n  field pol.sel.sport_mask 38..40 be16\n  field pol.sel.\
     family 40..42 u16\n  field pol.sel.prefixlen_d 42..43 u8\n  field pol.sel.prefixlen_s 43..44 u\
     8\n  field pol.sel.proto 44..45 u8\n  field pol.sel.ifindex 48..52 s32\n  field pol.sel.user 5\
-    2..56 bytes\n  field pol.lft.soft_byte_limit 56..64 u64\n  field pol.lft.hard_byte_limit 64..7\
-    2 u64\n  field pol.lft.soft_packet_limit 72..80 u64\n  field pol.lft.hard_packet_limit 80..88 \
-    u64\n  field pol.lft.soft_add_expires_seconds 88..96 u64\n  field pol.lft.hard_add_expires_sec\
-    onds 96..104 u64\n  field pol.lft.soft_use_expires_seconds 104..112 u64\n  field pol.lft.hard_\
-    use_expires_seconds 112..120 u64\n  field pol.curlft.bytes 120..128 u64\n  field pol.curlft.pa\
-    ckets 128..136 u64\n  field pol.curlft.add_time 136..144 u64\n  field pol.curlft.use_time 144.\
-    .152 u64\n  field pol.priority 152..156 u32\n  field pol.index 156..160 u32\n  field pol.dir 1\
-    60..161 u8\n  field pol.action 161..162 u8\n  field pol.flags 162..163 u8\n  field pol.share 1\
-    63..164 u8\n  field hard 168..169 u8\n\nstruct xfrm_user_report 60\n  field proto 0..1 u8\n  f\
-    ield sel.daddr 4..20 bytes\n  field sel.saddr 20..36 bytes\n  field sel.dport 36..38 be16\n  f\
-    ield sel.dport_mask 38..40 be16\n  field sel.sport 40..42 be16\n  field sel.sport_mask 42..44 \
-    be16\n  field sel.family 44..46 u16\n  field sel.prefixlen_d 46..47 u8\n  field sel.prefixlen_\
-    s 47..48 u8\n  field sel.proto 48..49 u8\n  field sel.ifindex 52..56 s32\n  field sel.user 56.\
-    .60 bytes\n\nstruct xfrm_user_sec_ctx 8\n  field len 0..2 u16\n  field exttype 2..4 u16\n  fie\
-    ld ctx_alg 4..5 u8\n  field ctx_doi 5..6 u8\n  field ctx_len 6..8 u16\n\nstruct xfrm_user_tmp\
-    l 64\n  field id.daddr 0..16 bytes\n  field id.spi 16..20 be32\n  field id.proto 20..21 u8\n  \
-    field family 24..26 u16\n  field saddr 28..44 bytes\n  field reqid 44..48 u32\n  field mode 48\
-    ..49 u8 enum=mode\n  field share 49..50 u8\n  field optional 50..51 u8\n  field aalgos 52..56 \
-    u32\n  field ealgos 56..60 u32\n  field calgos 60..64 u32\n\nstruct xfrm_userpolicy_default \
+    2..56 u32\n  field pol.lft.soft_byte_limit 56..64 u64\n  field pol.lft.hard_byte_limit 64..72 \
+    u64\n  field pol.lft.soft_packet_limit 72..80 u64\n  field pol.lft.hard_packet_limit 80..88 u6\
+    4\n  field pol.lft.soft_add_expires_seconds 88..96 u64\n  field pol.lft.hard_add_expires_secon\
+    ds 96..104 u64\n  field pol.lft.soft_use_expires_seconds 104..112 u64\n  field pol.lft.hard_us\
+    e_expires_seconds 112..120 u64\n  field pol.curlft.bytes 120..128 u64\n  field pol.curlft.pack\
+    ets 128..136 u64\n  field pol.curlft.add_time 136..144 u64\n  field pol.curlft.use_time 144..1\
+    52 u64\n  field pol.priority 152..156 u32\n  field pol.index 156..160 u32\n  field pol.dir 160\
+    ..161 u8\n  field pol.action 161..162 u8\n  field pol.flags 162..163 u8\n  field pol.share 163\
+    ..164 u8\n  field hard 168..169 u8\n\nstruct xfrm_user_report 60\n  field proto 0..1 u8\n  fie\
+    ld sel.daddr 4..20 bytes\n  field sel.saddr 20..36 bytes\n  field sel.dport 36..38 be16\n  fie\
+    ld sel.dport_mask 38..40 be16\n  field sel.sport 40..42 be16\n  field sel.sport_mask 42..44 be\
+    16\n  field sel.family 44..46 u16\n  field sel.prefixlen_d 46..47 u8\n  field sel.prefixlen_s \
+    47..48 u8\n  field sel.proto 48..49 u8\n  field sel.ifindex 52..56 s32\n  field sel.user 56..6\
+    0 u32\n\nstruct xfrm_user_sec_ctx 8\n  field len 0..2 u16\n  field exttype 2..4 u16\n  field c\
+    tx_alg 4..5 u8\n  field ctx_doi 5..6 u8\n  field ctx_len 6..8 u16\n\nstruct xfrm_user_tmpl 6\
+    4\n  field id.daddr 0..16 bytes\n  field id.spi 16..20 be32\n  field id.proto 20..21 u8\n  fie\
+    ld family 24..26 u16\n  field saddr 28..44 bytes\n  field reqid 44..48 u32\n  field mode 48..4\
+    9 u8 enum=mode\n  field share 49..50 u8\n  field optional 50..51 u8\n  field aalgos 52..56 u3\
+    2\n  field ealgos 56..60 u32\n  field calgos 60..64 u32\n\nstruct xfrm_userpolicy_default \
     3\n  field in 0..1 u8\n  field fwd 1..2 u8\n  field out 2..3 u8\n\nstruct xfrm_userpolicy_id 6\
     4\n  field sel.daddr 0..16 bytes\n  field sel.saddr 16..32 bytes\n  field sel.dport 32..34 be1\
     6\n  field sel.dport_mask 34..36 be16\n  field sel.sport 36..38 be16\n  field sel.sport_mask 3\
     8..40 be16\n  field sel.family 40..42 u16\n  field sel.prefixlen_d 42..43 u8\n  field sel.pref\
     ixlen_s 43..44 u8\n  field sel.proto 44..45 u8\n  field sel.ifindex 48..52 s32\n  field sel.us\
-    er 52..56 bytes\n  field index 56..60 u32\n  field dir 60..61 u8\n\nstruct xfrm_userpolicy_inf\
-    o 168\n  field sel.daddr 0..16 bytes\n  field sel.saddr 16..32 bytes\n  field sel.dport 32..3\
-    4 be16\n  field sel.dport_mask 34..36 be16\n  field sel.sport 36..38 be16\n  field sel.sport_m\
-    ask 38..40 be16\n  field sel.family 40..42 u16\n  field sel.prefixlen_d 42..43 u8\n  field sel\
-    .prefixlen_s 43..44 u8\n  field sel.proto 44..45 u8\n  field sel.ifindex 48..52 s32\n  field s\
-    el.user 52..56 bytes\n  field lft.soft_byte_limit 56..64 u64\n  field lft.hard_byte_limit 64..\
-    72 u64\n  field lft.soft_packet_limit 72..80 u64\n  field lft.hard_packet_limit 80..88 u64\n  \
-    field lft.soft_add_expires_seconds 88..96 u64\n  field lft.hard_add_expires_seconds 96..104 u6\
+    er 52..56 u32\n  field index 56..60 u32\n  field dir 60..61 u8\n\nstruct xfrm_userpolicy_info \
+    168\n  field sel.daddr 0..16 bytes\n  field sel.saddr 16..32 bytes\n  field sel.dport 32..34 b\
+    e16\n  field sel.dport_mask 34..36 be16\n  field sel.sport 36..38 be16\n  field sel.sport_mas\
+    k 38..40 be16\n  field sel.family 40..42 u16\n  field sel.prefixlen_d 42..43 u8\n  field sel.p\
+    refixlen_s 43..44 u8\n  field sel.proto 44..45 u8\n  field sel.ifindex 48..52 s32\n  field sel\
+    .user 52..56 u32\n  field lft.soft_byte_limit 56..64 u64\n  field lft.hard_byte_limit 64..72 u\
+    64\n  field lft.soft_packet_limit 72..80 u64\n  field lft.hard_packet_limit 80..88 u64\n  fiel\
+    d lft.soft_add_expires_seconds 88..96 u64\n  field lft.hard_add_expires_seconds 96..104 u6\
     4\n  field lft.soft_use_expires_seconds 104..112 u64\n  field lft.hard_use_expires_seconds 112\
     ..120 u64\n  field curlft.bytes 120..128 u64\n  field curlft.packets 128..136 u64\n  field cur\
     lft.add_time 136..144 u64\n  field curlft.use_time 144..152 u64\n  field priority 152..156 u3\
@@ -137,7 +137,7 @@ static TEXT: &[u8] = b"\
     ld sel.dport_mask 34..36 be16\n  field sel.sport 36..38 be16\n  field sel.sport_mask 38..40 be\
     16\n  field sel.family 40..42 u16\n  field sel.prefixlen_d 42..43 u8\n  field sel.prefixlen_s \
     43..44 u8\n  field sel.proto 44..45 u8\n  field sel.ifindex 48..52 s32\n  field sel.user 52..5\
-    6 bytes\n  field id.daddr 56..72 bytes\n  field id.spi 72..76 be32\n  field id.proto 76..77 u\
+    6 u32\n  field id.daddr 56..72 bytes\n  field id.spi 72..76 be32\n  field id.proto 76..77 u\
     8\n  field saddr 80..96 bytes\n  field lft.soft_byte_limit 96..104 u64\n  field lft.hard_byte_\
     limit 104..112 u64\n  field lft.soft_packet_limit 112..120 u64\n  field lft.hard_packet_limit \
     120..128 u64\n  field lft.soft_add_expires_seconds 128..136 u64\n  field lft.hard_add_expires_\
@@ -152,16 +152,16 @@ static TEXT: &[u8] = b"\
     e16\n  field info.sel.sport 36..38 be16\n  field info.sel.sport_mask 38..40 be16\n  field info\
     .sel.family 40..42 u16\n  field info.sel.prefixlen_d 42..43 u8\n  field info.sel.prefixlen_s 4\
     3..44 u8\n  field info.sel.proto 44..45 u8\n  field info.sel.ifindex 48..52 s32\n  field info.\
-    sel.user 52..56 bytes\n  field info.id.daddr 56..72 bytes\n  field info.id.spi 72..76 be32\n  \
-    field info.id.proto 76..77 u8\n  field info.saddr 80..96 bytes\n  field info.lft.soft_byte_lim\
-    it 96..104 u64\n  field info.lft.hard_byte_limit 104..112 u64\n  field info.lft.soft_packet_li\
-    mit 112..120 u64\n  field info.lft.hard_packet_limit 120..128 u64\n  field info.lft.soft_add_e\
-    xpires_seconds 128..136 u64\n  field info.lft.hard_add_expires_seconds 136..144 u64\n  field i\
-    nfo.lft.soft_use_expires_seconds 144..152 u64\n  field info.lft.hard_use_expires_seconds 152..\
-    160 u64\n  field info.curlft.bytes 160..168 u64\n  field info.curlft.packets 168..176 u64\n  f\
-    ield info.curlft.add_time 176..184 u64\n  field info.curlft.use_time 184..192 u64\n  field inf\
-    o.stats.replay_window 192..196 u32\n  field info.stats.replay 196..200 u32\n  field info.stats\
-    .integrity_failed 200..204 u32\n  field info.seq 204..208 u32\n  field info.reqid 208..212 u3\
+    sel.user 52..56 u32\n  field info.id.daddr 56..72 bytes\n  field info.id.spi 72..76 be32\n  fi\
+    eld info.id.proto 76..77 u8\n  field info.saddr 80..96 bytes\n  field info.lft.soft_byte_limi\
+    t 96..104 u64\n  field info.lft.hard_byte_limit 104..112 u64\n  field info.lft.soft_packet_lim\
+    it 112..120 u64\n  field info.lft.hard_packet_limit 120..128 u64\n  field info.lft.soft_add_ex\
+    pires_seconds 128..136 u64\n  field info.lft.hard_add_expires_seconds 136..144 u64\n  field in\
+    fo.lft.soft_use_expires_seconds 144..152 u64\n  field info.lft.hard_use_expires_seconds 152..1\
+    60 u64\n  field info.curlft.bytes 160..168 u64\n  field info.curlft.packets 168..176 u64\n  fi\
+    eld info.curlft.add_time 176..184 u64\n  field info.curlft.use_time 184..192 u64\n  field info\
+    .stats.replay_window 192..196 u32\n  field info.stats.replay 196..200 u32\n  field info.stats.\
+    integrity_failed 200..204 u32\n  field info.seq 204..208 u32\n  field info.reqid 208..212 u3\
     2\n  field info.family 212..214 u16\n  field info.mode 214..215 u8\n  field info.replay_windo\
     w 215..216 u8\n  field info.flags 216..217 u8\n  field min 224..228 u32\n  field max 228..232 \
     u32\n\nstruct xfrmu_sadhinfo 8\n  field sadhcnt 0..4 u32\n  field sadhmcnt 4..8 u32\n\nstruct \
