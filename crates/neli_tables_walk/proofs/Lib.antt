@@ -1,4 +1,5 @@
 mod Around
 mod Lists
 mod Neighbours
+pub mod Offsets
 mod Walks

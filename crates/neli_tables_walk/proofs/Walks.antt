@@ -9,7 +9,6 @@ use Rattle.std.proofs.lemmas.List.{append-nil, map-append, length-map}
 use Rattle.std.proofs.lemmas.Bool.{ltb-true, ltb-false}
 use Rattle.std.specs.Borrow.{Bor}
 use Rattle.neli_wire.specs.DeError.{DeError}
-use Rattle.neli_tables_walk.specs.declared.context.Context.{Context}
 use Rattle.neli_tables_walk.specs.declared.item.Step.{Step}
 use Rattle.neli_tables_walk.specs.declared.level.Level.{Level}
 use Rattle.neli_tables_walk.specs.declared.level.Sort.{Sort}
@@ -18,7 +17,7 @@ use Rattle.neli_tables_walk.specs.declared.shape.Shape.TheVariants.{Row, Nest, H
 use Rattle.neli_tables_walk.specs.declared.shape.Shape.TheVariants.{Deep}
 use Rattle.neli_tables_walk.specs.Elements.{Elem, Elements, Left, element_at, element_before}
 use Rattle.neli_tables_walk.specs.Elements.{elements_of}
-use Rattle.neli_tables_walk.specs.Shapes.{ListSeen, listed_seen, onto}
+use Rattle.neli_tables_walk.specs.Shapes.{ContextSeen, ListSeen, listed_seen, onto}
 use Rattle.neli_tables_walk.specs.Walks.{Seen, closed, element_item, element_seen_at, inner_items}
 use Rattle.neli_tables_walk.specs.Walks.{left_items, left_seen}
 use Rattle.neli_tables_walk.specs.Walks.{attributes_sort, hops_sort, level_items, list_of}
@@ -27,7 +26,7 @@ use Rattle.neli_tables_walk.proofs.Lists.{elements-end, elements-fault, elements
 
 -- ---- the items of a list
 
-module _ (c : Context) (path : List Step) (around : List ListSeen) (list : ListSeen) where
+module _ (c : ContextSeen) (path : List Step) (around : List ListSeen) (list : ListSeen) where
   pub walked-none : (d : ℕ) (left : Left)
       → walked c d path around list ([], left) ≡ left_items path left
   unfolding walked
@@ -84,7 +83,7 @@ pub lists-last : (levels : List Level) (last : Level)
     → lists (levels ++ last ∷ []) ≡ listed_seen last.list ∷ lists levels
 lists-last levels last = onto-last levels last []
 
-open-last-in : (c : Context) (path : List Step) (around : List ListSeen) (levels : List Level)
+open-last-in : (c : ContextSeen) (path : List Step) (around : List ListSeen) (levels : List Level)
     (last : Level)
     → open_items c path around (levels ++ last ∷ [])
     ≡ level_items c (path ++ insides levels) (onto levels around) last
@@ -104,22 +103,22 @@ open-last-in c path around (level ∷ levels) last =
     (append_assoc path (level.inside ∷ []) (insides levels))
 
 -- the items that are left of levels
-abbrev pub items : Context → List Level → List Seen
+abbrev pub items : ContextSeen → List Level → List Seen
 items c levels = open_items c [] [] levels
 
-pub open-last : (c : Context) (levels : List Level) (last : Level)
+pub open-last : (c : ContextSeen) (levels : List Level) (last : Level)
     → items c (levels ++ last ∷ [])
     ≡ level_items c (insides levels) (lists levels) last ++ items c levels
 open-last c levels last = open-last-in c [] [] levels last
 
 -- the items of what is left of the innermost list
-abbrev at_last : Context → List Level → Level → Elements → List Seen
+abbrev at_last : ContextSeen → List Level → Level → Elements → List Seen
 at_last c levels last elements =
     walked c (9 - length (insides levels)) (insides levels) (lists levels) (listed_seen last.list)
     elements
 
 -- nothing is left of it
-pub open-end : (c : Context) (levels : List Level) (last : Level) → last.rest.now ≡ []
+pub open-end : (c : ContextSeen) (levels : List Level) (last : Level) → last.rest.now ≡ []
     → items c (levels ++ last ∷ []) ≡ items c levels
 open-end c levels last none =
     open-last c levels last
@@ -129,12 +128,12 @@ open-end c levels last none =
     (listed_seen last.list) (9 - length (insides levels)) None)
 
 -- a list of which nothing is left may be taken out
-pub open-out : (c : Context) (levels old : List Level) (last : Level)
+pub open-out : (c : ContextSeen) (levels old : List Level) (last : Level)
     → old ≡ levels ++ last ∷ [] → last.rest.now ≡ [] → items c old ≡ items c levels
 open-out c levels old last old_is none = ap (items c) old_is ∙ open-end c levels last none
 
 -- what a nest has comes before what else is left
-pub open-nest : (c : Context) (levels new : List Level) (nest : Level) (list : ListSeen)
+pub open-nest : (c : ContextSeen) (levels new : List Level) (nest : Level) (list : ListSeen)
     → new ≡ levels ++ nest ∷ [] → listed_seen nest.list ≡ list → nest.rest.now ≡ list.1
     → items c new
     ≡ inner_items (walked c (9 - length levels) (insides levels) (lists levels)) (Some list)
@@ -151,7 +150,7 @@ open-nest c levels new nest list new_is list_is rest_is =
     (elements_of l.0 list.1) ++ items c levels) list_is
 
 -- a fault is left of it
-pub open-fault : (c : Context) (levels : List Level) (last : Level) (e : DeError)
+pub open-fault : (c : ContextSeen) (levels : List Level) (last : Level) (e : DeError)
     → last.rest.now ≢ [] → element_at last.list.sort last.rest.now ≡ Err e
     → items c (levels ++ last ∷ []) ≡ left_seen (insides levels) last.rest.now e ∷ items c levels
 open-fault c levels last e any is =
@@ -167,7 +166,7 @@ open-fault c levels last e any is =
 abbrev pub later_level : Level → Bor (List ℕ) → Step → Level
 later_level level rest step = record level { rest = rest; inside = step }
 
-module _ (c : Context) (levels : List Level) (last : Level) (rest : Bor (List ℕ)) (e : Elem)
+module _ (c : ContextSeen) (levels : List Level) (last : Level) (rest : Bor (List ℕ)) (e : Elem)
     (is : element_at last.list.sort last.rest.now ≡ Ok (e, rest.now)) where
   abbrev depth : ℕ
   depth = 9 - length (insides levels)
@@ -255,7 +254,7 @@ module _ (c : Context) (levels : List Level) (last : Level) (rest : Bor (List �
 -- ---- what a step says
 
 -- what is left, after which nothing is left of the innermost list
-pub given-fault : (c : Context) (levels new : List Level) (last ended : Level) (e : DeError)
+pub given-fault : (c : ContextSeen) (levels new : List Level) (last ended : Level) (e : DeError)
     (path : List Step) → path ≡ insides levels → new ≡ levels ++ ended ∷ []
     → ended.rest.now ≡ [] → last.rest.now ≢ []
     → element_at last.list.sort last.rest.now ≡ Err e
@@ -275,7 +274,7 @@ nine-or-fewer n room = by (ltb n 9) refl
     by false e = inl (omega (arith, ltb-false n 9 e, room))
 
 -- an element, after which the rest of its list is left, and before that what it has if it is a nest
-module _ (c : Context) (levels : List Level) (last : Level) (rest : Bor (List ℕ)) (e : Elem)
+module _ (c : ContextSeen) (levels : List Level) (last : Level) (rest : Bor (List ℕ)) (e : Elem)
     (is : element_at last.list.sort last.rest.now ≡ Ok (e, rest.now)) where
   abbrev later : Step → List Level
   later step = levels ++ later_level last rest step ∷ []

@@ -1,3 +1,4 @@
 pub mod Elements
+pub mod Found
 pub mod Shapes
 pub mod Walks

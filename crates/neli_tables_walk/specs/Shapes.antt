@@ -26,6 +26,13 @@ use Rattle.neli_tables_walk.specs.Elements.{Lent, attribute_layout}
 abbrev pub Lines : Type 0
 Lines = List LineSeen
 
+-- what payloads are read by: a table, and the address family of the message
+abbrev pub ContextSeen : Type 0
+ContextSeen = Lines × ℕ
+
+abbrev pub context_seen : Context → ContextSeen
+context_seen context = (context.table.now, context.family)
+
 -- a list: what it has, and its bytes
 abbrev pub ListSeen : Type 0
 ListSeen = Sort × List ℕ
@@ -146,14 +153,14 @@ abbrev pub picked_by : Lines → List ListSeen → ℕ → Option ℕ → Option
 picked_by table lists choice None = None
 picked_by table lists choice (Some by) = picked table choice by (picker table lists by)
 
-abbrev pub chosen_of : Context → List ListSeen → Options → Option ℕ → Option ℕ
+abbrev pub chosen_of : ContextSeen → List ListSeen → Options → Option ℕ → Option ℕ
 chosen_of context lists o None = None
 chosen_of context lists o (Some choice) =
-    if o.by_family then row_in context.table.now choice context.family
-    else picked_by context.table.now lists choice o.by
+    if o.by_family then row_in context.0 choice context.1
+    else picked_by context.0 lists choice o.by
 
 -- the place of the case that a choice picks, in a list and those around it
-abbrev pub chosen : Context → List ListSeen → Options → Option ℕ
+abbrev pub chosen : ContextSeen → List ListSeen → Options → Option ℕ
 chosen context lists o = chosen_of context lists o o.of
 
 -- ---- payloads
@@ -186,20 +193,20 @@ abbrev pub case_shape : Lines → Option ℕ → List ℕ → Shape
 case_shape table None payload = shape.Bytes
 case_shape table (Some place) payload = shape_with table place (line_options table place) payload
 
-abbrev pub kind_or_case : Context → List ListSeen → ℕ → Options → Option Kind → List ℕ → Shape
+abbrev pub kind_or_case : ContextSeen → List ListSeen → ℕ → Options → Option Kind → List ℕ → Shape
 kind_or_case context lists place o (Some kind.Choice) payload =
-    case_shape context.table.now (chosen context lists o) payload
-kind_or_case context lists place o k payload = options_shape context.table.now place o payload
+    case_shape context.0 (chosen context lists o) payload
+kind_or_case context lists place o k payload = options_shape context.0 place o payload
 
-abbrev pub shape_by : Context → List ListSeen → ℕ → Option Options → List ℕ → Shape
+abbrev pub shape_by : ContextSeen → List ListSeen → ℕ → Option Options → List ℕ → Shape
 shape_by context lists place None payload = shape.Bytes
 shape_by context lists place (Some o) payload = kind_or_case context lists place o o.kind payload
 
 -- what a payload is by its row, in a list and those around it
-abbrev pub row_shape : Context → List ListSeen → Option ℕ → List ℕ → Shape
+abbrev pub row_shape : ContextSeen → List ListSeen → Option ℕ → List ℕ → Shape
 row_shape context lists None payload = shape.Bytes
 row_shape context lists (Some place) payload =
-    shape_by context lists place (line_options context.table.now place) payload
+    shape_by context lists place (line_options context.0 place) payload
 
 -- the lists that these levels are, from the innermost out, before others
 abbrev pub onto : List Level → List ListSeen → List ListSeen

@@ -7,7 +7,6 @@ use Rattle.neli_attr.specs.AttrType.{AttrType}
 use Rattle.neli_wire.specs.DeError.{DeError}
 use Rattle.neli_wire.specs.Sizes.{align}
 use Rattle.neli_tables_rows.specs.Rows.{row_in}
-use Rattle.neli_tables_walk.specs.declared.context.Context.{Context}
 use Rattle.neli_tables_walk.specs.declared.item.Found.{Found}
 use Rattle.neli_tables_walk.specs.declared.item.Item.{Item}
 use Rattle.neli_tables_walk.specs.declared.item.Rest.{Rest}
@@ -18,7 +17,7 @@ use Rattle.neli_tables_walk.specs.declared.shape.Nest.{Nest as NestOf}
 use Rattle.neli_tables_walk.specs.declared.shape.Shape.{Shape}
 use Rattle.neli_tables_walk.specs.declared.shape.Shape.TheVariants.{Nest, Hops, Deep}
 use Rattle.neli_tables_walk.specs.Elements.{Elem, Elements, Left, elements_of}
-use Rattle.neli_tables_walk.specs.Shapes.{Lines, ListSeen, listed_seen, row_shape}
+use Rattle.neli_tables_walk.specs.Shapes.{ContextSeen, Lines, ListSeen, listed_seen, row_shape}
 
 -- what is said of an element: its type field, its payload's bytes, and what these are
 abbrev pub Said : Type 0
@@ -44,11 +43,11 @@ step_with table sort (Some kind) =
     record { number = Some kind.nla_type; row = row_in table sort.nest.set kind.nla_type }
 
 -- a part of a path: a number, and the place of its row; neither of a hop
-abbrev pub step_of : Context → Sort → Elem → Step
-step_of context sort element = step_with context.table.now sort element.0
+abbrev pub step_of : ContextSeen → Sort → Elem → Step
+step_of context sort element = step_with context.0 sort element.0
 
 -- what an element of a list is, which stands in these: a hop is its structure and its attributes
-abbrev pub shape_in : Context → ListSeen → List ListSeen → Elem → Shape
+abbrev pub shape_in : ContextSeen → ListSeen → List ListSeen → Elem → Shape
 shape_in context list around element =
     if list.0.is_hops then Nest list.0.nest
     else row_shape context (list ∷ around) (step_of context list.0 element).row element.1
@@ -64,7 +63,7 @@ abbrev pub element_seen_at : List Step → Option (AttrType ℕ) → List ℕ �
 element_seen_at path kind payload s = (path, Ok (kind, payload, s))
 
 -- the item of an element
-abbrev pub element_item : Context → List Step → Sort → Elem → Shape → Seen
+abbrev pub element_item : ContextSeen → List Step → Sort → Elem → Shape → Seen
 element_item context path sort element s =
     element_seen_at (path ++ step_of context sort element ∷ []) element.0 element.1 s
 
@@ -114,7 +113,8 @@ inner_items inner (Some list) = inner list (elements_of list.0 list.1)
 
 -- the items of elements of a list that stands in others, with those of nests that are at most
 -- `depth` deep
-unfoldable pub walked : Context → ℕ → List Step → List ListSeen → ListSeen → Elements → List Seen
+unfoldable pub walked : ContextSeen → ℕ → List Step → List ListSeen → ListSeen → Elements
+    → List Seen
 walked context zero path around list elements =
     flat_map (λ (e : Elem). element_item context path list.0 e
     (closed (shape_in context list around e)) ∷ []) elements.0
@@ -126,24 +126,24 @@ walked context (suc depth) path around list elements =
     ++ left_items path elements.1
 
 -- the items of a list: ten are open at most
-abbrev pub list_items : Context → ListSeen → List Seen
+abbrev pub list_items : ContextSeen → ListSeen → List Seen
 list_items context list = walked context 9 [] [] list (elements_of list.0 list.1)
 
 -- the items of a body: a structure, and after it attributes
-abbrev pub walk_items : Context → NestOf → List ℕ → List Seen
+abbrev pub walk_items : ContextSeen → NestOf → List ℕ → List Seen
 walk_items context nest body = list_items context (attributes_sort nest, nested_bytes nest body)
 
 -- ---- what is left of a walk
 
 -- the items that are left of a list, at this path and in these lists
-abbrev pub level_items : Context → List Step → List ListSeen → Level → List Seen
+abbrev pub level_items : ContextSeen → List Step → List ListSeen → Level → List Seen
 level_items context path around level =
     walked context (9 - length path) path around (listed_seen level.list)
     (elements_of level.list.sort level.rest.now)
 
 -- the items that are left of lists of which each is in an element of the one before, the innermost
 -- first
-abbrev pub open_items : Context → List Step → List ListSeen → List Level → List Seen
+abbrev pub open_items : ContextSeen → List Step → List ListSeen → List Level → List Seen
 open_items context path around [] = []
 open_items context path around (level ∷ deeper) =
     open_items context (path ++ level.inside ∷ []) (listed_seen level.list ∷ around) deeper

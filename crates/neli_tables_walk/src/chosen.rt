@@ -3,8 +3,9 @@
 ghost use Rattle.std.specs.Prelude.{◌≡◌, ◌<◌, ◌∷◌, [], IfSome, None, Some, find, if◌then◌else◌};
 ghost use Rattle.std.specs.Prelude.{slice_get};
 ghost use Rattle.std.specs.Option.{option_map};
-ghost use Rattle.neli_tables_walk.specs.Shapes.{beside, chosen, ends_in_zero, has_row, kind_at};
-ghost use Rattle.neli_tables_walk.specs.Shapes.{listed_seen, number_by};
+ghost use Rattle.neli_tables_walk.specs.Shapes.{beside, chosen, context_seen, ends_in_zero};
+ghost use Rattle.neli_tables_walk.specs.Shapes.{has_row};
+ghost use Rattle.neli_tables_walk.specs.Shapes.{kind_at, listed_seen, number_by};
 ghost use Rattle.neli_tables_walk.specs.Shapes.{number_in, numbered, onto, picked_as, picker};
 ghost use Rattle.neli_tables_walk.specs.Shapes.{without_zero};
 ghost use Rattle.byteorder.specs.Endian.{big_number, little_number};
@@ -28,7 +29,8 @@ impl<'w, 't> Context<'w, 't> {
         around: &[Level<'_>],
         options: &Options,
     ) -> Option<usize>
-        ensures { result ≡ chosen self.now (listed_seen list.now ∷ onto around.now []) options.now }
+        ensures { result ≡ chosen (context_seen self.now)
+            (listed_seen list.now ∷ onto around.now []) options.now }
     {
         let choice = options.of?;
         if options.by_family {
@@ -183,8 +185,8 @@ fn ends_in_zero(bytes: &[u8]) -> bool
     0 < size && bytes[size - 1] == 0
 }
 
-/// The bytes before a zero at the end.
-fn without_zero(bytes: &[u8]) -> &[u8]
+/// The bytes of a text before a zero at its end.
+pub fn without_zero(bytes: &[u8]) -> &[u8]
     ensures { result.now ≡ without_zero bytes.now }
 {
     if ends_in_zero(bytes) {

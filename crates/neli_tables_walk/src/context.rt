@@ -1,7 +1,8 @@
 //! What payloads are read by.
 
 ghost use Rattle.std.specs.Prelude.{◌≡◌, ◌∷◌, [], Some};
-ghost use Rattle.neli_tables_walk.specs.Shapes.{case_shape, hops_shape, line_options, listed_seen};
+ghost use Rattle.neli_tables_walk.specs.Shapes.{case_shape, context_seen, hops_shape, line_options};
+ghost use Rattle.neli_tables_walk.specs.Shapes.{listed_seen};
 ghost use Rattle.neli_tables_walk.specs.Shapes.{nest_of, nest_shape};
 ghost use Rattle.neli_tables_walk.specs.Shapes.{onto, options_shape, row_shape, size_of};
 
@@ -96,7 +97,8 @@ impl<'w, 't> Context<'w, 't> {
         payload: &[u8],
     ) -> Shape
         ensures { result
-            ≡ row_shape self.now (listed_seen list.now ∷ onto around.now []) row payload.now }
+            ≡ row_shape (context_seen self.now)
+            (listed_seen list.now ∷ onto around.now []) row payload.now }
     {
         let Some(place) = row else {
             return Shape::Bytes;

@@ -1,6 +1,6 @@
 //! What a walk gives.
 
-ghost use Rattle.std.specs.Prelude.{◌≡◌};
+ghost use Rattle.std.specs.Prelude.{◌≡◌, []};
 
 use crate::Shape;
 use crate::level::MAX_DEPTH;
@@ -29,6 +29,17 @@ impl Path {
         ensures { result.now ≡ self.now.steps.items }
     {
         self.steps.as_slice()
+    }
+}
+
+impl Default for Path {
+    ghost is_default = { λ path. path.steps.items ≡ [] };
+
+    /// The path to the body itself.
+    fn default() -> Path {
+        Path {
+            steps: ArrayVec::new(),
+        }
     }
 }
 

@@ -5,7 +5,7 @@ ghost use Rattle.std.specs.Prelude.{IsNone, length, map};
 ghost use Rattle.std.specs.Option.{option_map};
 ghost use Rattle.arrayvec.specs.ArrayVec.{array_vec_len};
 ghost use Rattle.neli_tables_walk.specs.Elements.{element_at, element_seen};
-ghost use Rattle.neli_tables_walk.specs.Shapes.{listed_seen, onto};
+ghost use Rattle.neli_tables_walk.specs.Shapes.{context_seen, listed_seen, onto};
 ghost use Rattle.neli_tables_walk.specs.Walks.{closed, inner_items, item_seen, list_of};
 ghost use Rattle.neli_tables_walk.specs.Walks.{listed_bytes, nested_bytes};
 ghost use Rattle.neli_tables_walk.specs.Walks.{next_item, open_items, shape_in, sort_in, step_of};
@@ -28,9 +28,11 @@ impl<'b, 'w, 't> Levels<'b, 'w, 't> {
     /// The next item: of the innermost list that has something left.
     pub fn take_item(&mut self) -> Option<Item<'b>>
         ensures context { self.new.context ≡ self.old.context }
-        ensures items { open_items self.old.context [] [] self.old.open.items
-            ≡ next_item result (open_items self.old.context [] [] self.new.open.items) }
-        ensures end { IsNone result → open_items self.new.context [] [] self.new.open.items ≡ [] }
+        ensures items { open_items (context_seen self.old.context) [] [] self.old.open.items
+            ≡ next_item result
+            (open_items (context_seen self.old.context) [] [] self.new.open.items) }
+        ensures end { IsNone result
+            → open_items (context_seen self.new.context) [] [] self.new.open.items ≡ [] }
     {
         let depth = self.open.len();
         prove!(depth <= MAX_DEPTH);
@@ -47,8 +49,10 @@ impl<'b, 'w, 't> Levels<'b, 'w, 't> {
         requires room { array_vec_len self.old.open < MAX_DEPTH }
         requires some { level.rest.now ≢ [] }
         ensures context { self.new.context ≡ self.old.context }
-        ensures items { item_seen result ∷ open_items self.old.context [] [] self.new.open.items
-            ≡ open_items self.old.context [] [] (self.old.open.items ++ level.entry ∷ []) }
+        ensures items { item_seen result
+            ∷ open_items (context_seen self.old.context) [] [] self.new.open.items
+            ≡ open_items (context_seen self.old.context) [] []
+            (self.old.open.items ++ level.entry ∷ []) }
     {
         match take_element(&level.list.sort, level.rest) {
             Ok((element, rest)) => self.give_element(level, element, rest),
@@ -62,8 +66,10 @@ impl<'b, 'w, 't> Levels<'b, 'w, 't> {
         requires some { level.rest.now ≢ [] }
         requires fault { element_at level.list.sort level.rest.now ≡ Err error }
         ensures context { self.new.context ≡ self.old.context }
-        ensures items { item_seen result ∷ open_items self.old.context [] [] self.new.open.items
-            ≡ open_items self.old.context [] [] (self.old.open.items ++ level.entry ∷ []) }
+        ensures items { item_seen result
+            ∷ open_items (context_seen self.old.context) [] [] self.new.open.items
+            ≡ open_items (context_seen self.old.context) [] []
+            (self.old.open.items ++ level.entry ∷ []) }
     {
         let path = path_to(self.open.as_slice());
         self.open.push(Level { rest: &[], ..level });
@@ -80,8 +86,10 @@ impl<'b, 'w, 't> Levels<'b, 'w, 't> {
         requires found { element_at level.list.sort level.rest.now
             ≡ Ok (element_seen element, rest.now) }
         ensures context { self.new.context ≡ self.old.context }
-        ensures items { item_seen result ∷ open_items self.old.context [] [] self.new.open.items
-            ≡ open_items self.old.context [] [] (self.old.open.items ++ level.entry ∷ []) }
+        ensures items { item_seen result
+            ∷ open_items (context_seen self.old.context) [] [] self.new.open.items
+            ≡ open_items (context_seen self.old.context) [] []
+            (self.old.open.items ++ level.entry ∷ []) }
     {
         let payload = element.payload;
         let step = self.step_of(&level.list, &element);
@@ -103,8 +111,9 @@ impl<'b, 'w, 't> Levels<'b, 'w, 't> {
     }
 
     /// The part of a path that an element of this list is.
-    fn step_of(&self, list: &Listed<'b>, element: &Element<'b>) -> Step
-        ensures { result ≡ step_of self.now.context list.now.sort (element_seen element.now) }
+    pub fn step_of(&self, list: &Listed<'b>, element: &Element<'b>) -> Step
+        ensures { result
+            ≡ step_of (context_seen self.now.context) list.now.sort (element_seen element.now) }
     {
         match &element.kind {
             Some(kind) => {
@@ -122,9 +131,10 @@ impl<'b, 'w, 't> Levels<'b, 'w, 't> {
     }
 
     /// What an element of this list is: a hop is its structure and its attributes.
-    fn shape_of(&self, list: &Listed<'b>, step: &Step, element: &Element<'b>) -> Shape
-        requires { step.now ≡ step_of self.now.context list.now.sort (element_seen element.now) }
-        ensures { result ≡ shape_in self.now.context (listed_seen list.now)
+    pub fn shape_of(&self, list: &Listed<'b>, step: &Step, element: &Element<'b>) -> Shape
+        requires { step.now
+            ≡ step_of (context_seen self.now.context) list.now.sort (element_seen element.now) }
+        ensures { result ≡ shape_in (context_seen self.now.context) (listed_seen list.now)
             (onto self.now.open.items []) (element_seen element.now) }
     {
         if list.sort.is_hops {
@@ -141,16 +151,16 @@ impl<'b, 'w, 't> Levels<'b, 'w, 't> {
         ensures context { self.new.context ≡ self.old.context }
         ensures full { array_vec_len self.old.open ≡ MAX_DEPTH
             → (result ≡ closed shape)
-            × (open_items self.old.context [] [] self.new.open.items
-            ≡ open_items self.old.context [] [] self.old.open.items) }
+            × (open_items (context_seen self.old.context) [] [] self.new.open.items
+            ≡ open_items (context_seen self.old.context) [] [] self.old.open.items) }
         ensures entered { array_vec_len self.old.open < MAX_DEPTH
             → (result ≡ shape)
-            × (open_items self.old.context [] [] self.new.open.items
+            × (open_items (context_seen self.old.context) [] [] self.new.open.items
             ≡ inner_items
-            (walked self.old.context (9 - length self.old.open.items)
+            (walked (context_seen self.old.context) (9 - length self.old.open.items)
             (map (λ l. l.inside) self.old.open.items) (onto self.old.open.items []))
             (list_of shape payload.now)
-            ++ open_items self.old.context [] [] self.old.open.items) }
+            ++ open_items (context_seen self.old.context) [] [] self.old.open.items) }
     {
         let Some(sort) = sort_of(&shape) else {
             return shape;
@@ -197,7 +207,7 @@ pub fn level_of(sort: Sort, bytes: &[u8]) -> Level<'_>
 }
 
 /// The bytes of the list that a payload is: attributes begin after the structure.
-fn listed_bytes<'b>(sort: &Sort, payload: &'b [u8]) -> &'b [u8]
+pub fn listed_bytes<'b>(sort: &Sort, payload: &'b [u8]) -> &'b [u8]
     ensures { result.now ≡ listed_bytes sort.now payload.now }
 {
     if sort.is_hops {

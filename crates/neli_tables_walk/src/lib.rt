@@ -5,6 +5,7 @@
 //!   the attributes of a list.
 //! - [`Item`]: the path of an attribute or a hop, its type field, its payload, and what this is
 //!   ([`Shape`]).
+//! - [`find`]: the path to the attribute at an offset.
 //! - [`Context`]: what payloads are read by, a table and the address family of the message; what a
 //!   message's body is by the message's line.
 //!
@@ -18,11 +19,14 @@ mod element;
 mod item;
 mod level;
 mod levels;
+mod offset;
 mod shape;
 mod walk;
 
+pub use chosen::without_zero;
 pub use context::Context;
 pub use item::{Found, Item, Path, Rest, Step};
 pub use level::MAX_DEPTH;
+pub use offset::find;
 pub use shape::{Nest, Shape};
 pub use walk::Walk;

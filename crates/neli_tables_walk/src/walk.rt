@@ -2,6 +2,7 @@
 
 ghost use Rattle.std.specs.Prelude.{◌≡◌, [], List, IsNone};
 ghost use Rattle.std.specs.Iterator.{YieldsFirstBy, item_count};
+ghost use Rattle.neli_tables_walk.specs.Shapes.{context_seen};
 ghost use Rattle.neli_tables_walk.specs.Walks.{Seen, item_seen, next_item, open_items, walk_items};
 
 use crate::level::Sort;
@@ -23,13 +24,13 @@ pub struct Walk<'b, 'w, 't> {
 impl<'b, 'w, 't> Model for Walk<'b, 'w, 't> {
     ghost Value = { List Seen };
 
-    ghost view = { λ w. open_items w.levels.context [] [] w.levels.open.items };
+    ghost view = { λ w. open_items (context_seen w.levels.context) [] [] w.levels.open.items };
 }
 
 impl<'b, 'w, 't> Walk<'b, 'w, 't> {
     /// What a body has: a structure, and after it the attributes of a set.
     pub fn new(context: Context<'w, 't>, nest: Nest, body: &'b [u8]) -> Self
-        ensures { result ≡ walk_items context.entry nest body.now }
+        ensures { result ≡ walk_items (context_seen context.entry) nest body.now }
     {
         let sort = Sort {
             nest,

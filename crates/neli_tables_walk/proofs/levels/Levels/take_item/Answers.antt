@@ -1,5 +1,6 @@
 use Rattle.std.proofs.Common.{◌≡◌, ◌+◌, ◌<◌, ◌≤◌, length, true, sym, ◌∙◌, arith, rules}
 use Rattle.std.proofs.lemmas.Bool.{eqb-true}
+use Rattle.neli_tables_walk.specs.Shapes.{context_seen}
 use Rattle.neli_reader.specs.laws.Cuts.{empty_is}
 use Rattle.neli_tables_walk.proofs.Walks.{open-out}
 use Rattle.neli_tables_walk.proofs.levels.Levels.take_item.Goals as goal
@@ -21,7 +22,8 @@ loop-level-preserved c =
     let none : length c.in-Some.level.rest.now ≡ 0 =
     eqb-true _ _ (sym c.is_empty.ensures ∙ yes) in (
       c.loop-level.invariant.0,
-      c.loop-level.invariant.1 ∙ open-out c.args.self.now.context c.pop.new.self.items
+      c.loop-level.invariant.1
+          ∙ open-out (context_seen c.args.self.now.context) c.pop.new.self.items
           c.loop-level.self.open.items c.in-Some.level c.in-Some.ensures.items (empty_is _ none),
       omega (arith, taken, few),
     )

@@ -1,5 +1,6 @@
 use Rattle.std.proofs.Common.{◌≡◌, ◌≤◌, [], length}
 use Rattle.neli_tables_walk.specs.Walks.{open_items}
+use Rattle.neli_tables_walk.specs.Shapes.{context_seen}
 use Rattle.neli_tables_walk.proofs.levels.Levels.take_item.Given as goal
 
 abbrev pub decreases-loop-level : goal.decreases-loop-level
@@ -9,6 +10,6 @@ decreases-loop-level l = length l.self.open.items
 abbrev pub invariant-loop-level : goal.invariant-loop-level
 invariant-loop-level l =
     (l.self.context ≡ l.fn.self.context)
-    × (open_items l.fn.self.context [] [] l.fn.self.open.items
-    ≡ open_items l.fn.self.context [] [] l.self.open.items)
+    × (open_items (context_seen l.fn.self.context) [] [] l.fn.self.open.items
+    ≡ open_items (context_seen l.fn.self.context) [] [] l.self.open.items)
     × (length l.self.open.items ≤ 10)
