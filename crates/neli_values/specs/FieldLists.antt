@@ -1,0 +1,51 @@
+-- The fields of a structure, by what prints the value of one.
+use Rattle.std.specs.Prelude.{ℕ, List, [], ◌∷◌, ◌++◌, codes, Option, Some, None}
+use Rattle.std.specs.List.{flat_map}
+use Rattle.neli_tables.specs.Lines.{LineSeen}
+use Rattle.neli_tables_rows.specs.declared.options.Options.{Options}
+use Rattle.neli_tables_rows.specs.Families.{Lines}
+use Rattle.neli_tables_rows.specs.Options.{options_of}
+use Rattle.neli_tables_rows.specs.Rows.{rows_of}
+use Rattle.neli_values.specs.FieldBytes.{field_bytes}
+use Rattle.neli_values.specs.Lists.{joined}
+use Rattle.neli_values.specs.Names.{name_json, name_text}
+
+-- what is printed of bytes by the options of their line
+abbrev pub Printed : Type 0
+Printed = Lines → Options → List ℕ → List ℕ
+
+-- a field's name and its value, if it is there
+abbrev pub text_if : Printed → Lines → LineSeen → Option (List ℕ) → List ℕ
+text_if value table row None = []
+text_if value table row (Some part) =
+    codes " " ++ (name_text row.name ++ value table (options_of row) part)
+
+abbrev pub field_text_by : Printed → Lines → List ℕ → LineSeen → List ℕ
+field_text_by value table bytes row = text_if value table row (field_bytes row bytes)
+
+-- all fields that bytes have by the structure at a place
+abbrev pub fields_text_by : Printed → Lines → ℕ → List ℕ → List ℕ
+fields_text_by value table place bytes =
+    flat_map (field_text_by value table bytes) (rows_of place table)
+
+-- ---- in JSON
+
+-- a member of an object: a field that is these bytes
+abbrev pub member_json_by : Printed → Lines → LineSeen → List ℕ → List ℕ
+member_json_by value table row part =
+    name_json row.name ++ (codes ":" ++ value table (options_of row) part)
+
+abbrev pub member_if : Printed → Lines → LineSeen → Option (List ℕ) → List (List ℕ)
+member_if value table row None = []
+member_if value table row (Some part) = member_json_by value table row part ∷ []
+
+-- the member of a field, if it is there
+abbrev pub member_by : Printed → Lines → List ℕ → LineSeen → List (List ℕ)
+member_by value table bytes row = member_if value table row (field_bytes row bytes)
+
+abbrev pub members_by : Printed → Lines → ℕ → List ℕ → List (List ℕ)
+members_by value table place bytes = flat_map (member_by value table bytes) (rows_of place table)
+
+abbrev pub fields_json_by : Printed → Lines → ℕ → List ℕ → List ℕ
+fields_json_by value table place bytes =
+    codes "{" ++ (joined (codes ",") (members_by value table place bytes) ++ codes "}")

@@ -1,0 +1,4 @@
+pub mod Addresses
+pub mod Parts
+pub mod Strings
+pub mod Values
