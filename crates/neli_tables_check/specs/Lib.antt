@@ -1,0 +1,4 @@
+pub mod Offsets
+pub mod Paths
+pub mod Refusals
+pub mod Violations

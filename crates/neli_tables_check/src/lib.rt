@@ -1,0 +1,24 @@
+//! A message's attributes against its family's table, and the attribute at an offset.
+//!
+//! - [`check`]: the first attribute of a body that its row does not allow, as before a request is
+//!   sent.
+//! - [`find`]: the path to the attribute at an offset of a message, as an extended acknowledgement
+//!   states it.
+//! - [`Place`], [`PathText`]: a path that is printed by the names of the table, as
+//!   `IFLA_LINKINFO.IFLA_INFO_DATA.IFLA_VLAN_ID`.
+//! - [`Refusal`]: an error of the kernel in one line: its name, the kernel's text, and the
+//!   attribute of the request that it is about.
+#![tactic(auto)]
+
+mod offset;
+mod place;
+mod refusal;
+mod values;
+mod violation;
+mod wrong;
+
+pub use offset::find;
+pub use place::{PathText, Place};
+pub use refusal::Refusal;
+pub use violation::{Violation, check};
+pub use wrong::Wrong;
