@@ -1,0 +1,15 @@
+pub mod Answers
+pub mod Bodies
+pub mod Faults
+pub mod Flags
+pub mod Heads
+pub mod Items
+pub mod ItemsJson
+pub mod ItemsText
+pub mod laws
+pub mod Lists
+pub mod Messages
+pub mod Names
+pub mod Pieces
+pub mod Replies
+pub mod Rests

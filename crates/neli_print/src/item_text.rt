@@ -1,0 +1,253 @@
+//! An item of a walk as a line of text.
+
+ghost use Rattle.std.specs.Prelude.{◌≡◌, Some, take};
+ghost use Rattle.std.specs.Option.{option_copied, option_map};
+ghost use Rattle.neli_tables_walk.specs.Walks.{item_seen};
+ghost use Rattle.neli_print.specs.ItemsText.{breach_words, content_text, element_text, item_text, label_text};
+ghost use Rattle.neli_print.specs.ItemsText.{left_text, row_words};
+
+use crate::fault::Fault;
+use crate::item::{front_of, last_step, lists_around};
+use crate::names::{Structure, StructureText, row_name};
+use crate::pieces::{Colour, When, escape, indent};
+use crate::rests::{RestWords, rest_of};
+use neli_attr::AttrType;
+use neli_tables_rows::Table;
+use neli_tables_walk::{Found, Item, Nest, Rest, Shape, Step};
+use neli_values::{Breach, Bytes, Name, Payload, PayloadText, breach_of};
+use std::fmt;
+
+/// An attribute by its name, or by its number if it has no row.
+#[derive(Clone, Copy)]
+struct RowName<'t> {
+    is_coloured: bool,
+    name: Option<&'t [u8]>,
+    number: u16,
+}
+
+impl fmt::Display for RowName<'_> {
+    ghost output = { λ r. Some (row_words r.is_coloured (option_map (λ name. name.now) r.name)
+        r.number) };
+
+    #[tactic(auto, unfolding(crate::specs::ItemsText::row_words))]
+    fn fmt<W: fmt::Write>(&self, f: &mut fmt::Formatter<W>) -> fmt::Result {
+        let start = escape(self.is_coloured, Colour::Attribute);
+        let end = escape(self.is_coloured, Colour::End);
+        match self.name {
+            Some(name) => {
+                let name = Name(name);
+                write!(f, "{start}{name}{end}")
+            }
+            None => {
+                let number = self.number;
+                write!(f, "{start}{number}{end}")
+            }
+        }
+    }
+}
+
+/// An attribute: its name or its number, and the flags of its type.
+#[derive(Clone, Copy)]
+struct Label<'i, 'w, 't> {
+    is_coloured: bool,
+    table: &'w Table<'t>,
+    step: Option<&'i Step>,
+    kind: AttrType<u16>,
+}
+
+impl fmt::Display for Label<'_, '_, '_> {
+    ghost output = { λ l. Some (label_text l.is_coloured l.table.now (option_copied l.step) l.kind) };
+
+    fn fmt<W: fmt::Write>(&self, f: &mut fmt::Formatter<W>) -> fmt::Result {
+        let name = RowName {
+            is_coloured: self.is_coloured,
+            name: row_name(self.table, self.step),
+            number: *self.kind.nla_type(),
+        };
+        let nested = When {
+            holds: *self.kind.nla_nested(),
+            text: " nested",
+        };
+        let order = When {
+            holds: *self.kind.nla_network_order(),
+            text: " net_byteorder",
+        };
+        write!(f, "{name}{nested}{order}")
+    }
+}
+
+/// How a payload breaches its kind; nothing where it does not.
+#[derive(Clone, Copy)]
+struct BreachWords(Option<Breach>);
+
+impl fmt::Display for BreachWords {
+    ghost output = { λ b. Some (breach_words b.0) };
+
+    fn fmt<W: fmt::Write>(&self, f: &mut fmt::Formatter<W>) -> fmt::Result {
+        match self.0 {
+            Some(breach) => write!(f, " broken: {breach}:"),
+            None => Ok(()),
+        }
+    }
+}
+
+/// What stands behind an attribute's name.
+#[derive(Clone, Copy)]
+struct Content<'b, 'w, 't> {
+    is_coloured: bool,
+    table: &'w Table<'t>,
+    shape: Shape,
+    payload: &'b [u8],
+}
+
+impl<'b, 'w, 't> Content<'b, 'w, 't> {
+    /// The structure at the front of a nest.
+    fn structure(&self, nest: &Nest) -> Structure<'b, 'w, 't>
+        ensures table { result.table.now ≡ self.now.table.now }
+        ensures place { result.place ≡ nest.now.after }
+        ensures bytes { result.bytes.now ≡ take nest.now.header self.now.payload.now }
+    {
+        Structure {
+            table: self.table,
+            place: nest.after,
+            bytes: front_of(self.payload, nest.header),
+        }
+    }
+}
+
+impl fmt::Display for Content<'_, '_, '_> {
+    ghost output = { λ c. Some (content_text c.is_coloured c.table.now c.shape c.payload.now) };
+
+    fn fmt<W: fmt::Write>(&self, f: &mut fmt::Formatter<W>) -> fmt::Result {
+        let bytes = Bytes(self.payload);
+        match &self.shape {
+            Shape::Row(place) => {
+                let payload = Payload {
+                    table: self.table,
+                    place: *place,
+                    bytes: self.payload,
+                };
+                let broken = BreachWords(breach_of(&payload));
+                let value = PayloadText(payload);
+                let rest = RestWords(rest_of(self.table, *place, self.payload));
+                write!(f, "{broken}{value}{rest}")
+            }
+            Shape::Nest(nest) => {
+                let blank = When {
+                    holds: nest.after.is_some(),
+                    text: " ",
+                };
+                let structure = StructureText {
+                    is_coloured: self.is_coloured,
+                    structure: self.structure(nest),
+                };
+                write!(f, "{blank}{structure}")
+            }
+            Shape::Hops(_) => Ok(()),
+            Shape::Bytes => write!(f, " {bytes}"),
+            Shape::Short(nest) => {
+                let broken = BreachWords(Some(Breach::Shorter(nest.header)));
+                write!(f, "{broken} {bytes}")
+            }
+            Shape::Deep(_) => write!(f, " broken: nested too deep: {bytes}"),
+        }
+    }
+}
+
+/// An attribute or a hop.
+#[derive(Clone, Copy)]
+struct Element<'i, 'b, 'w, 't> {
+    is_coloured: bool,
+    table: &'w Table<'t>,
+    step: Option<&'i Step>,
+    found: &'i Found<'b>,
+}
+
+impl fmt::Display for Element<'_, '_, '_, '_> {
+    ghost output = { λ e. Some (element_text e.is_coloured e.table.now (option_copied e.step)
+        (e.found.now.kind, e.found.now.payload.now, e.found.now.shape)) };
+
+    fn fmt<W: fmt::Write>(&self, f: &mut fmt::Formatter<W>) -> fmt::Result {
+        let content = Content {
+            is_coloured: self.is_coloured,
+            table: self.table,
+            shape: self.found.shape,
+            payload: self.found.payload,
+        };
+        match self.found.kind {
+            Some(kind) => {
+                let label = Label {
+                    is_coloured: self.is_coloured,
+                    table: self.table,
+                    step: self.step,
+                    kind,
+                };
+                write!(f, "{label}{content}")
+            }
+            None => {
+                let start = escape(self.is_coloured, Colour::Attribute);
+                let end = escape(self.is_coloured, Colour::End);
+                write!(f, "{start}hop{end}{content}")
+            }
+        }
+    }
+}
+
+/// What is left of a list.
+#[derive(Clone, Copy)]
+struct Left<'i, 'b> {
+    is_coloured: bool,
+    rest: &'i Rest<'b>,
+}
+
+impl fmt::Display for Left<'_, '_> {
+    ghost output = { λ l. Some (left_text l.is_coloured l.rest.now.bytes.now l.rest.now.error) };
+
+    fn fmt<W: fmt::Write>(&self, f: &mut fmt::Formatter<W>) -> fmt::Result {
+        let start = escape(self.is_coloured, Colour::Error);
+        let end = escape(self.is_coloured, Colour::End);
+        let fault = Fault(&self.rest.error);
+        let bytes = Bytes(self.rest.bytes);
+        write!(f, "{start}fault{end}: {fault}: {bytes}")
+    }
+}
+
+/// An item of a walk as a line of text.
+#[derive(Clone, Copy)]
+pub struct ItemText<'i, 'b, 'w, 't> {
+    /// Whether names are in colours.
+    pub is_coloured: bool,
+    /// The table that the walk reads by.
+    pub table: &'w Table<'t>,
+    /// How deep the list of the body stands: two blanks a level.
+    pub level: usize,
+    /// The item.
+    pub item: &'i Item<'b>,
+}
+
+impl fmt::Display for ItemText<'_, '_, '_, '_> {
+    ghost output = { λ i. Some (item_text i.is_coloured i.table.now i.level (item_seen i.item.now)) };
+
+    fn fmt<W: fmt::Write>(&self, f: &mut fmt::Formatter<W>) -> fmt::Result {
+        let around = indent(self.level);
+        let inside = indent(lists_around(self.item).saturating_sub(1));
+        match &self.item.content {
+            Ok(found) => {
+                let element = Element {
+                    is_coloured: self.is_coloured,
+                    table: self.table,
+                    step: last_step(self.item),
+                    found,
+                };
+                write!(f, "{around}{inside}{element}\n")
+            }
+            Err(rest) => {
+                let left = Left {
+                    is_coloured: self.is_coloured,
+                    rest,
+                };
+                write!(f, "{around}{inside}{left}\n")
+            }
+        }
+    }
+}

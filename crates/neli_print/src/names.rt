@@ -1,0 +1,112 @@
+//! Names of lines, as parts of a printed line.
+
+ghost use Rattle.std.specs.Prelude.{◌≡◌, Some};
+ghost use Rattle.std.specs.Option.{option_copied, option_map};
+ghost use Rattle.neli_print.specs.Names.{line_name, name_member, row_name, structure_members, structure_text};
+
+use crate::pieces::{Colour, escape};
+use neli_tables_rows::Table;
+use neli_tables_walk::Step;
+use neli_values::{Fields, FieldsJson, FieldsText, Name, NameJson};
+use std::fmt;
+
+/// The name of the line at this place; empty where there is none.
+pub(crate) fn line_name<'w, 't>(table: &'w Table<'t>, place: usize) -> &'t [u8]
+    ensures { result.now ≡ line_name table.now place }
+{
+    match table.line(place) {
+        Some(line) => line.name,
+        None => &[],
+    }
+}
+
+/// The name of an attribute, if it has a row.
+pub(crate) fn row_name<'w, 't>(table: &'w Table<'t>, step: Option<&Step>) -> Option<&'t [u8]>
+    ensures { option_map (λ name. name.now) result ≡ row_name table.now (option_copied step.entry) }
+{
+    Some(line_name(table, step?.row?))
+}
+
+/// The member of a name, after others; nothing without a name.
+#[derive(Clone, Copy)]
+pub(crate) struct NameMember<'t>(pub Option<&'t [u8]>);
+
+impl fmt::Display for NameMember<'_> {
+    ghost output = { λ n. Some (name_member (option_map (λ name. name.now) n.0)) };
+
+    fn fmt<W: fmt::Write>(&self, f: &mut fmt::Formatter<W>) -> fmt::Result {
+        match self.0 {
+            Some(name) => {
+                let name = NameJson(name);
+                write!(f, ",\"name\":{name}")
+            }
+            None => Ok(()),
+        }
+    }
+}
+
+/// The structure at the front of some bytes, by the place of its line.
+#[derive(Clone, Copy)]
+pub(crate) struct Structure<'b, 'w, 't> {
+    pub table: &'w Table<'t>,
+    pub place: Option<usize>,
+    pub bytes: &'b [u8],
+}
+
+/// The members of a structure, after others: its name, and its fields; none without a structure.
+#[derive(Clone, Copy)]
+pub(crate) struct StructureMembers<'b, 'w, 't>(pub Structure<'b, 'w, 't>);
+
+impl fmt::Display for StructureMembers<'_, '_, '_> {
+    ghost output = { λ s. Some (structure_members s.0.table.now s.0.place s.0.bytes.now) };
+
+    fn fmt<W: fmt::Write>(&self, f: &mut fmt::Formatter<W>) -> fmt::Result {
+        let Structure {
+            table,
+            place,
+            bytes,
+        } = self.0;
+        let Some(place) = place else {
+            return Ok(());
+        };
+        let name = NameJson(line_name(table, place));
+        let fields = FieldsJson(Fields {
+            table,
+            place,
+            bytes,
+        });
+        write!(f, ",\"structure\":{name},\"fields\":{fields}")
+    }
+}
+
+/// A structure on a line: its name, and its fields, each after a blank; nothing without a structure.
+#[derive(Clone, Copy)]
+pub(crate) struct StructureText<'b, 'w, 't> {
+    pub is_coloured: bool,
+    pub structure: Structure<'b, 'w, 't>,
+}
+
+impl fmt::Display for StructureText<'_, '_, '_> {
+    ghost output = { λ s. Some (structure_text s.is_coloured s.structure.table.now
+        s.structure.place s.structure.bytes.now) };
+
+    fn fmt<W: fmt::Write>(&self, f: &mut fmt::Formatter<W>) -> fmt::Result {
+        let Structure {
+            table,
+            place,
+            bytes,
+        } = self.structure;
+        let Some(place) = place else {
+            return Ok(());
+        };
+        let start = escape(self.is_coloured, Colour::Structure);
+        let name = Name(line_name(table, place));
+        let end = escape(self.is_coloured, Colour::End);
+        let fields = FieldsText(Fields {
+            table,
+            place,
+            bytes,
+        });
+        write!(f, "{start}{name}{end}{fields}")
+    }
+}
