@@ -1,7 +1,4 @@
-mod Addresses
+mod Lines
+mod Messages
 mod Numerals
-mod Parts
-mod Pieces
-mod Strings
-mod Texts
-mod Written
+mod Shown

@@ -7,7 +7,7 @@ use Rattle.std.specs.Str.{all_ascii_digits}
 use Rattle.std.specs.Str.Parse.{ParsesUnsigned, digits_value, without_leading_plus}
 use Rattle.std.proofs.lemmas.Bool.{and_from, and_parts, cond_both, lt-ltb, ltb-true}
 use Rattle.std.proofs.lemmas.Str.Parse.{IsNumeralModel, numerals_by_value, tells_all_ascii_digits}
-use Rattle.neli_show.specs.Requests.{is_numeral, named_protocol, number_in, protocol_in}
+use Rattle.neli_show.specs.Numbers.{is_numeral, number_in}
 
 numerals : IsNumeralModel (λ ds. all_ascii_digits ds ≡ true) (digits_value 10)
 numerals = numerals_by_value _ tells_all_ascii_digits
@@ -31,7 +31,3 @@ number_is word (Err error) read =
     let digits = and_parts (nat_lt 0 (length ds)) _ parts.0 in
     absurd (read ((ltb-true 0 (length ds) digits.0, numerals.to ds digits.1), ltb-true _ 65536 parts.1)))
     (λ e. refl)
-
-pub protocol_is : {E : Type 0} (word : List ℕ) (r : Result ℕ E) → ParsesUnsigned 16 10 word r
-    → named_protocol word ≡ None → result_ok r ≡ protocol_in word
-protocol_is word r read unnamed = rw unnamed (number_is word r read)

@@ -1,11 +1,7 @@
-pub mod Faults
-pub mod Flags
-pub mod Heads
-pub mod Json
+pub mod Families
+pub mod Learnt
 pub mod Lines
-pub mod Places
-pub mod Quoted
+pub mod Numbers
+pub mod Parts
 pub mod Requests
 pub mod Runs
-pub mod Values
-pub mod Written

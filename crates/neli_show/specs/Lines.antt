@@ -1,25 +1,24 @@
 -- The number of lines of JSON printed for an input, and whether the input is only messages.
-use Rattle.std.specs.Prelude.{ℕ, Bool, false, ◌&&◌, if◌then◌else◌, nat_le, List, [], length, slice_range}
+use Rattle.std.specs.Prelude.{ℕ, ◌+◌, Bool, false, List, [], ◌∷◌, length}
 use Rattle.std.specs.Prelude.{Option, is_none, Result, Ok, Err}
-use Rattle.std.specs.List.{list_all, sum_by}
+use Rattle.std.specs.Io.KnownBytes.{Appends}
+use Rattle.std.specs.List.{list_all}
 use Rattle.neli_inputs.specs.Inputs.{IsInput}
 use Rattle.neli_inputs.specs.declared.item.Item.{Item}
 use Rattle.neli_inputs.specs.declared.item.Packet.{Packet}
 use Rattle.neli_inputs.specs.declared.item.Refusal.{Refusal}
 use Rattle.neli_lent.specs.Messages.{messages_in}
 use Rattle.neli_lent.specs.Walks.{items_of}
-use Rattle.neli_show.specs.Json.{AreSoManyLines}
-use Rattle.neli_show.specs.Written.{Writes}
+use Rattle.neli_values.specs.Json.{AreSoManyLines}
+use Rattle.neli_show.specs.Parts.{packet_bytes}
+
+-- a text with P is written
+abbrev pub Writes : Option (List ℕ) → Option (List ℕ) → (List ℕ → Type 0) → Type 0
+Writes old new P = (text : List ℕ) × Appends old new text × P text
 
 -- of a datagram: one for each message, and one if a fault follows them
 abbrev pub datagram_lines : List ℕ → ℕ
 datagram_lines bytes = length (items_of (messages_in (λ n. n) bytes))
-
--- the bytes of a datagram of an input; none if its bounds are not within the input
-abbrev pub packet_bytes : List ℕ → Packet → List ℕ
-packet_bytes bytes packet =
-    if nat_le packet.start packet.«end» && nat_le packet.«end» (length bytes)
-    then slice_range bytes packet.start packet.«end» else []
 
 -- of a part of an input: those of its datagram, or one for its refusal
 abbrev pub packet_lines : List ℕ → Result Packet Refusal → ℕ
@@ -28,7 +27,8 @@ packet_lines bytes (Err refusal) = 1
 
 -- of an input: those of its parts
 abbrev pub input_lines : List ℕ → List Item → ℕ
-input_lines bytes items = sum_by (λ item. packet_lines bytes item.packet) items
+input_lines bytes [] = 0
+input_lines bytes (item ∷ items) = packet_lines bytes item.packet + input_lines bytes items
 
 -- the lines of this input are written, all of them
 abbrev pub WritesInput : List ℕ → Option (List ℕ) → Option (List ℕ) → Type 0

@@ -1,9 +1,9 @@
 -- The command line's words, and their meaning.
-use Rattle.std.specs.Prelude.{ℕ, Bool, List, [], ◌∷◌, codes, bytes_eq, length, nat_lt, ◌&&◌, if◌then◌else◌}
+use Rattle.std.specs.Prelude.{ℕ, List, [], ◌∷◌, codes, bytes_eq, if◌then◌else◌}
 use Rattle.std.specs.Prelude.{Option, Some, None}
 use Rattle.std.specs.Option.{option_or}
-use Rattle.std.specs.Str.{all_ascii_digits}
-use Rattle.std.specs.Str.Parse.{digits_value, without_leading_plus}
+use Rattle.neli_show.specs.Families.{family_in}
+use Rattle.neli_show.specs.Numbers.{number_in}
 use Rattle.neli_show.specs.declared.request.Output.{Output}
 use Rattle.neli_show.specs.declared.request.Output.TheVariants as output
 use Rattle.neli_show.specs.declared.request.Request.{Request}
@@ -21,19 +21,15 @@ named_protocol word =
     else (if bytes_eq word (codes "connector") then Some 11
     else (if bytes_eq word (codes "generic") then Some 16 else None))
 
--- one decimal digit or more, and nothing else
-abbrev pub is_numeral : List ℕ → Bool
-is_numeral digits = nat_lt 0 (length digits) && all_ascii_digits digits
+-- a family of generic netlink is of its protocol
+abbrev pub family_protocol : Option (List ℕ × ℕ) → Option ℕ
+family_protocol (Some family) = Some 16
+family_protocol None = None
 
--- the number in a word, after an optional plus, if it has at most 16 bits
-abbrev pub number_in : List ℕ → Option ℕ
-number_in word =
-    let digits = without_leading_plus word in
-    if is_numeral digits && nat_lt (digits_value 10 digits) 65536 then Some (digits_value 10 digits) else None
-
--- a protocol, by its name or else by its number
+-- a protocol, by its name, by a family of its own, or else by its number
 abbrev pub protocol_in : List ℕ → Option ℕ
-protocol_in word = option_or (named_protocol word) (number_in word)
+protocol_in word =
+    option_or (named_protocol word) (option_or (family_protocol (family_in word)) (number_in word))
 
 -- this output for this protocol, if both exist
 abbrev pub both_asked : Option Output → Option ℕ → Option Request

@@ -1,6 +1,8 @@
 -- How a run ends.
-use Rattle.std.specs.Prelude.{◌≡◌, ℕ, Bool, true, false, List, map, codes, string_bytes, Option, Some, None}
+use Rattle.std.specs.Prelude.{◌≡◌, ℕ, ◌-◌, Bool, true, false, List, length, map, codes, slice_get, string_bytes}
+use Rattle.std.specs.Prelude.{Option, Some, None}
 use Rattle.std.specs.Prelude.{Result, Ok, Err}
+use Rattle.std.specs.Io.KnownBytes.{Appends}
 use Rattle.std.specs.IoError.{error_kind}
 use Rattle.std.specs.Option.{ok_or}
 use Rattle.std.specs.declared.alloc.Global.{Global}
@@ -11,10 +13,13 @@ use Rattle.std.specs.declared.string.String.{String}
 use Rattle.std.specs.declared.vec.Vec.{Vec}
 use Rattle.neli_inputs.specs.Inputs.{IsInput}
 use Rattle.neli_inputs.specs.declared.item.Item.{Item}
+use Rattle.neli_tables_rows.specs.declared.tables.Tables.{Tables}
 use Rattle.neli_show.specs.declared.request.Request.{Request}
 use Rattle.neli_show.specs.declared.run.Status.{Status}
 use Rattle.neli_show.specs.declared.run.Status.TheVariants as status
+use Rattle.neli_show.specs.Learnt.{AreTables}
 use Rattle.neli_show.specs.Lines.{is_whole_input}
+use Rattle.neli_show.specs.Parts.{input_by}
 use Rattle.neli_show.specs.Requests.{request_in}
 
 -- the exit status
@@ -33,7 +38,7 @@ complaint_text status.Fault = None
 complaint_text status.NoInput = Some (codes "neli_show: the input cannot be read")
 complaint_text status.NoOutput = Some (codes "neli_show: the output cannot be written")
 complaint_text status.Usage =
-    Some (codes "usage: neli_show [json | color] [route | connector | generic | NUMBER] < FILE")
+    Some (codes "usage: neli_show [json | color] [route | connector | generic[:FAMILY=ID] | NUMBER] < FILE")
 complaint_text status.Memory = Some (codes "neli_show: out of memory")
 
 -- the status if the words were not read: memory ran out, or they are not accepted
@@ -46,18 +51,24 @@ abbrev pub asked_in : Result (Vec (String Global) Global) Error → Result Reque
 asked_in (Ok words) = ok_or (request_in (map string_bytes words.items)) status.Usage
 asked_in (Err error) = Err (unread_status (error_kind error))
 
+-- the last word
+abbrev pub last_of : List (List ℕ) → Option (List ℕ)
+last_of words = slice_get words (length words - 1)
+
+abbrev pub last_word : Result (Vec (String Global) Global) Error → Option (List ℕ)
+last_word (Ok words) = last_of (map string_bytes words.items)
+last_word (Err error) = None
+
 -- the status of a run that printed its input: it is only messages, or not
 abbrev pub printed_status : Bool → Status
 printed_status true = status.Whole
 printed_status false = status.Fault
 
--- the same, or the output failed
-abbrev pub shown_status : Result Bool Error → Status
-shown_status (Ok is_whole) = printed_status is_whole
-shown_status (Err error) = status.NoOutput
-
--- a run that printed this input ends with this status
-abbrev pub EndsAfter : List ℕ → Status → Type 0
-EndsAfter input end =
-    (bytes : List ℕ) × (items : List Item) × IsInput input bytes items
+-- what a run with this request writes of an input, and how it ends: the input's datagrams and what is none, as text or
+-- JSON by the tables that are built in and the numbers of families that the input has
+abbrev pub IsShown : Request → Option (List ℕ) → List ℕ → Option (List ℕ) → Option (List ℕ) → Status → Type 0
+IsShown request word input old new end =
+    (bytes : List ℕ) × (items : List Item) × (tables : Tables) × IsInput input bytes items
+    × AreTables word request.protocol bytes items tables
+    × Appends old new (input_by request.output tables request.protocol bytes items)
     × (end ≡ printed_status (is_whole_input bytes items))

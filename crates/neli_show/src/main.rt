@@ -1,27 +1,20 @@
-//! `neli_show` prints netlink messages for people: types, flags and attributes by name, and typed values. `neli_show
-//! json` prints an object for each message, `neli_show color` names in colours.
+//! `neli_show` prints netlink messages for people: types, flags, attributes and values by name. `neli_show json` prints
+//! an object for each message, `neli_show color` names in colours.
 //!
 //! Standard input is raw bytes, hexadecimal text or a pcap file of `nlmon`; the format is detected. docs/SHOW.md shows
 //! the output.
 //!
 //! - [`run`]: the request, the input, and the status of a run. [`request`]: the words of the command line.
-//! - [`show`]: a message, part by part. [`head`]: its header, and its table. [`flags`]: flags by name.
-//! - [`form`]: what a form of the output writes for each part; [`text`] and [`json`] are the two.
-//! - [`content`]: the content of an attribute. [`value`]: numbers, texts, addresses, bytes. [`quoted`]: texts in
-//!   quotes.
+//! - [`learn`]: the numbers of generic netlink's families, from a word ([`family`]) and from the controller's messages.
+//! - [`part`]: a part of the input, as it is printed. [`whole`]: whether all of it is messages.
 #![tactic(auto)]
 
-mod content;
-mod flags;
-mod form;
-mod head;
-mod json;
-mod quoted;
+mod family;
+mod learn;
+mod part;
 mod request;
 mod run;
-mod show;
-mod text;
-mod value;
+mod whole;
 
 use crate::run::run;
 use std::env::Env;

@@ -3,7 +3,16 @@
 ghost use Rattle.std.specs.Prelude.{◌≡◌, ◌<◌, None, IfSome, [], Some, codes, length, map, string_bytes};
 ghost use Rattle.neli_show.specs.Requests.{named_output, named_protocol, protocol_in, request_in};
 
-use crate::head::{CONNECTOR, GENERIC, ROUTE};
+use crate::family::{family_of, number_of};
+
+/// `NETLINK_ROUTE` of `linux/netlink.h`.
+const ROUTE: u16 = 0;
+
+/// `NETLINK_CONNECTOR`.
+const CONNECTOR: u16 = 11;
+
+/// `NETLINK_GENERIC`.
+const GENERIC: u16 = 16;
 
 /// The form of printed messages.
 #[derive(Clone, Copy, Debug, PartialEq, Eq)]
@@ -36,7 +45,7 @@ fn output_of(word: &str) -> Option<Output>
     }
 }
 
-/// The protocol that a word names, by its name or by its number.
+/// The protocol that a word names: by its name, by a family of generic netlink, or by its number.
 fn protocol_of(word: &str) -> Option<u16>
     ensures named { IfSome (named_protocol word.now) (λ protocol. result ≡ Some protocol) }
     ensures any { result ≡ protocol_in word.now }
@@ -45,7 +54,8 @@ fn protocol_of(word: &str) -> Option<u16>
         "route" => Some(ROUTE),
         "connector" => Some(CONNECTOR),
         "generic" => Some(GENERIC),
-        _ => word.parse::<u16>().ok(),
+        _ if family_of(word).is_some() => Some(GENERIC),
+        _ => number_of(word),
     }
 }
 

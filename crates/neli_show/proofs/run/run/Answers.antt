@@ -1,6 +1,32 @@
-use Rattle.std.proofs.Common.{◌≡◌, ◌∙◌, ap}
+use Rattle.std.proofs.Common.{◌≡◌, ℕ, List, Option, IfSome, ap, subst, ◌∙◌}
+use Rattle.neli_show.specs.declared.request.Request.{Request}
+use Rattle.std.specs.Option.{option_map}
+use Rattle.neli_show.specs.Lines.{WritesInput}
+use Rattle.neli_show.specs.Runs.{IsShown, last_word}
+use Rattle.neli_show.proofs.Shown.{on_some, shown-lines}
 use Rattle.neli_show.proofs.run.run.Goals.{in-Ok, in-Err}
 use Rattle.neli_show.proofs.run.run.Goals as goal
+
+pub returns-in_default-clause-shown : goal.returns-in_default-clause-shown
+returns-in_default-clause-shown g c = λ request asked output input memory.
+    let any = c.asked.ensures.any in
+    elim c.match-asked.branch [
+      | in-Ok w ↦
+          let is = w.in-Ok.is in
+          let same : w.in-Ok.request ≡ request = cc in
+          let old = g.W.Write.contents c.args.out.now in
+          let new = g.W.Write.contents w.show-status.new.out in
+          let there = g.R.Read.remaining c.args.input.now in
+          let shown = w.show-status.ensures.shown (λ e. output (w.status-is ∙ e)) (λ e. input (w.status-is ∙ e))
+          (λ e. memory (w.status-is ∙ e)) in
+          rw (w.out-is, w.status-is)
+          (subst (λ (r : Request). IfSome there
+          (λ (bytes : List ℕ). IsShown r (last_word c.args.words.now) bytes old new w.show-status.result)) same
+          (subst (λ (word : Option (List ℕ)). IfSome there
+          (λ (bytes : List ℕ). IsShown w.in-Ok.request word bytes old new w.show-status.result)) w.last_word.ensures
+          shown))
+      | in-Err w ↦ let is = w.in-Err.is in absurd cc
+    ]
 
 pub returns-in_default-clause-lines : goal.returns-in_default-clause-lines
 returns-in_default-clause-lines g c = λ request asked json output input memory.
@@ -9,19 +35,15 @@ returns-in_default-clause-lines g c = λ request asked json output input memory.
       | in-Ok w ↦
           let is = w.in-Ok.is in
           let same : w.in-Ok.request ≡ request = cc in
-          rw w.out-is (w.show-status.ensures.lines (ap (λ r. r.output) same ∙ json) (λ e. output (w.status-is ∙ e))
-          (λ e. input (w.status-is ∙ e)) (λ e. memory (w.status-is ∙ e)))
-      | in-Err w ↦ let is = w.in-Err.is in absurd cc
-    ]
-
-pub returns-in_default-clause-ends : goal.returns-in_default-clause-ends
-returns-in_default-clause-ends g c = λ request asked output input memory.
-    let any = c.asked.ensures.any in
-    elim c.match-asked.branch [
-      | in-Ok w ↦
-          let is = w.in-Ok.is in
-          let same = w.status-is in
-          rw same (w.show-status.ensures.ends (λ e. output (same ∙ e)) (λ e. input (same ∙ e))
-          (λ e. memory (same ∙ e)))
+          let old = g.W.Write.contents c.args.out.now in
+          let new = g.W.Write.contents w.show-status.new.out in
+          let word = option_map (λ w. w.now) w.last_word.result in
+          let shown = w.show-status.ensures.shown (λ e. output (w.status-is ∙ e)) (λ e. input (w.status-is ∙ e))
+          (λ e. memory (w.status-is ∙ e)) in
+          rw w.out-is
+          (on_some (λ (bytes : List ℕ). IsShown w.in-Ok.request word bytes old new w.show-status.result)
+          (λ (bytes : List ℕ). WritesInput bytes old new) (g.R.Read.remaining c.args.input.now)
+          (λ bytes s. shown-lines w.in-Ok.request word bytes old new w.show-status.result
+          (ap (λ (r : Request). r.output) same ∙ json) s) shown)
       | in-Err w ↦ let is = w.in-Err.is in absurd cc
     ]
