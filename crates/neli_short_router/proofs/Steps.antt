@@ -1,0 +1,286 @@
+-- One read, from what the router's call says of it.
+use Rattle.std.proofs.Common.{◌≡◌, ◌≢◌, ℕ, Bool, true, false, ◌||◌, List, [], ◌∷◌, Option, Some, None, Result, Ok, Err}
+use Rattle.std.proofs.Common.{refl, sym, ap, ap₂, ◌∙◌, inl, inr, ◌⊎◌, subst}
+use Rattle.std.specs.Prelude.{if◌then◌else◌}
+use Rattle.std.specs.Option.{option_map}
+use Rattle.neli_wire.specs.DeError.{DeError}
+use Rattle.neli_reader.specs.Framed.{Nlmsghdr}
+use Rattle.neli_reader.specs.NlPayload.{NlPayload}
+use Rattle.neli_reader.specs.NlPayload.TheVariants as payload
+use Rattle.neli_reader.specs.RouterError.TheVariants as router
+use Rattle.neli_deliveries.specs.declared.delivery.Delivery.{Delivery}
+use Rattle.neli_deliveries.specs.declared.delivery.Delivery.TheVariants as delivery
+use Rattle.neli_deliveries.specs.Readings.{IsReading, Item}
+use Rattle.neli_router.specs.declared.handle.HandleState.{HandleState}
+use Rattle.neli_router.specs.declared.reply.Reply.{Reply}
+use Rattle.neli_router.specs.declared.reply.Reply.TheVariants as reply
+use Rattle.neli_router.specs.declared.verdict.Heard.{Heard}
+use Rattle.neli_router.specs.Rule.{ends_alone, ends_at, has_number, is_single, item_of, last_item, last_item_of_payload}
+use Rattle.neli_router.specs.Verdicts.{heard_after, heard_with, is_last}
+use Rattle.neli_router.specs.laws.Places.{true_or_false}
+use Rattle.neli_short_router.specs.Reads.{Gives, IsRead, Stand, stand_after, standing}
+
+-- ---- items
+
+left_false : (a b : Bool) → (a || b) ≡ false → a ≡ false
+left_false true b e = cc
+left_false false b e = refl
+
+module _ {K P : Type 0} (needs after : Bool) where
+  -- what is given at the end, if it does not end alone, is the message
+  same_payload : (m : Nlmsghdr K P) (p : NlPayload K P)
+      → ends_alone (last_item_of_payload needs after m p) ≡ false → last_item_of_payload needs after m p ≡ Ok m
+  same_payload m (payload.Ack e) = elim needs as (λ b. ends_alone (last_item_of_payload b after m (payload.Ack e)) ≡ false
+      → last_item_of_payload b after m (payload.Ack e) ≡ Ok m) [ true ↦ (λ h. refl) | false ↦ (λ h. cc) ]
+  same_payload m (payload.Err e) = elim after as (λ b. ends_alone (last_item_of_payload needs b m (payload.Err e)) ≡ false
+      → last_item_of_payload needs b m (payload.Err e) ≡ Ok m) [ true ↦ (λ h. cc) | false ↦ (λ h. cc) ]
+  same_payload m (payload.Capped e) = elim after as (λ b. ends_alone (last_item_of_payload needs b m (payload.Capped e)) ≡ false
+      → last_item_of_payload needs b m (payload.Capped e) ≡ Ok m) [ true ↦ (λ h. cc) | false ↦ (λ h. cc) ]
+  same_payload m (payload.Payload e) = elim after as (λ b. ends_alone (last_item_of_payload needs b m (payload.Payload e)) ≡ false
+      → last_item_of_payload needs b m (payload.Payload e) ≡ Ok m) [ true ↦ (λ h. cc) | false ↦ (λ h. refl) ]
+  same_payload m (payload.DumpExtAck e) = elim after as (λ b. ends_alone (last_item_of_payload needs b m (payload.DumpExtAck e)) ≡ false
+      → last_item_of_payload needs b m (payload.DumpExtAck e) ≡ Ok m) [ true ↦ (λ h. cc) | false ↦ (λ h. refl) ]
+  same_payload m payload.Empty = elim after as (λ b. ends_alone (last_item_of_payload needs b m payload.Empty) ≡ false
+      → last_item_of_payload needs b m payload.Empty ≡ Ok m) [ true ↦ (λ h. cc) | false ↦ (λ h. refl) ]
+
+  same_item : (x : Item K P) → ends_alone (last_item needs after x) ≡ false → last_item needs after x ≡ x
+  same_item (Ok m) h = same_payload m m.payload h
+  same_item (Err e) h = cc
+
+  module _ (number_of : K → ℕ) (numbered : Bool) where
+    -- two items of which one is given at the end and the other before it are the same
+    one_ends : (a b : Item K P) → ends_at number_of needs numbered after a ≡ true
+        → ends_at number_of needs numbered after b ≡ false
+        → item_of number_of needs numbered after a ≡ item_of number_of needs numbered after b → a ≡ b
+    one_ends a b ea eb same =
+        let given : last_item needs after a ≡ b = rw (ea, eb) at same in
+        let alone : ends_alone b ≡ false = left_false (ends_alone b) _ eb in
+        sym (same_item a (ap (λ (x : Item K P). ends_alone x) given ∙ alone)) ∙ given
+
+    -- so what is given says whether the answers end there
+    pub same_ends : (a b : Item K P)
+        → item_of number_of needs numbered after a ≡ item_of number_of needs numbered after b
+        → ends_at number_of needs numbered after a ≡ ends_at number_of needs numbered after b
+    same_ends a b same = elim (true_or_false (ends_at number_of needs numbered after a)) [
+      | inl ea ↦ (elim (true_or_false (ends_at number_of needs numbered after b)) [
+        | inl eb ↦ ea ∙ sym eb
+        | inr eb ↦ ap (λ (x : Item K P). ends_at number_of needs numbered after x) (one_ends a b ea eb same)
+      ])
+      | inr ea ↦ (elim (true_or_false (ends_at number_of needs numbered after b)) [
+        | inl eb ↦ ap (λ (x : Item K P). ends_at number_of needs numbered after x) (sym (one_ends b a eb ea (sym same)))
+        | inr eb ↦ ea ∙ sym eb
+      ])
+    ]
+
+  -- no item says that memory ran out, unless its delivery was read so
+  payload_has_memory : (m : Nlmsghdr K P) (p : NlPayload K P)
+      → last_item_of_payload needs after m p ≢ Err router.Memory
+  payload_has_memory m (payload.Ack e) = elim needs as (λ b. last_item_of_payload b after m (payload.Ack e) ≢ Err router.Memory)
+      [ true ↦ (λ h. cc) | false ↦ (λ h. cc) ]
+  payload_has_memory m (payload.Err e) = elim after as (λ b. last_item_of_payload needs b m (payload.Err e) ≢ Err router.Memory)
+      [ true ↦ (λ h. cc) | false ↦ (λ h. cc) ]
+  payload_has_memory m (payload.Capped e) = elim after as (λ b. last_item_of_payload needs b m (payload.Capped e) ≢ Err router.Memory)
+      [ true ↦ (λ h. cc) | false ↦ (λ h. cc) ]
+  payload_has_memory m (payload.Payload e) = elim after as (λ b. last_item_of_payload needs b m (payload.Payload e) ≢ Err router.Memory)
+      [ true ↦ (λ h. cc) | false ↦ (λ h. cc) ]
+  payload_has_memory m (payload.DumpExtAck e) = elim after as (λ b. last_item_of_payload needs b m (payload.DumpExtAck e) ≢ Err router.Memory)
+      [ true ↦ (λ h. cc) | false ↦ (λ h. cc) ]
+  payload_has_memory m payload.Empty = elim after as (λ b. last_item_of_payload needs b m payload.Empty ≢ Err router.Memory)
+      [ true ↦ (λ h. cc) | false ↦ (λ h. cc) ]
+
+  last_has_memory : (x : Item K P) → x ≢ Err router.Memory → last_item needs after x ≢ Err router.Memory
+  last_has_memory (Ok m) not = payload_has_memory m m.payload
+  last_has_memory (Err e) not = not
+
+  pub item_has_memory : (number_of : K → ℕ) (numbered : Bool) (x : Item K P) → x ≢ Err router.Memory
+      → item_of number_of needs numbered after x ≢ Err router.Memory
+  item_has_memory number_of numbered x not = elim (ends_at number_of needs numbered after x) as
+      (λ b. (if b then last_item needs after x else x) ≢ Err router.Memory)
+      [ true ↦ last_has_memory x not | false ↦ not ]
+
+module _ {K P V : Type 0} (type_of : ℕ → K) (view : P → V) (size : P → ℕ) (read : List ℕ → Result V DeError) where
+  -- nor was any
+  pub reading_has_memory : (d : Delivery) (x : Item K P) → IsReading type_of view size read d x → x ≢ Err router.Memory
+  reading_has_memory (delivery.Message u) (Ok m) is h = cc
+  reading_has_memory (delivery.Message u) (Err e) is h = is.1 (let same : e ≡ router.Memory = cc in same)
+  reading_has_memory (delivery.Stray u) (Ok m) is h = absurd is
+  reading_has_memory (delivery.Stray u) (Err (router.BadSeqOrPid m)) is h = cc
+  reading_has_memory (delivery.Stray u) (Err (router.Msg m)) is h = cc
+  reading_has_memory (delivery.Stray u) (Err (router.Io m)) is h = cc
+  reading_has_memory (delivery.Stray u) (Err (router.De m)) is h = cc
+  reading_has_memory (delivery.Stray u) (Err (router.Socket m)) is h = cc
+  reading_has_memory (delivery.Stray u) (Err (router.Nlmsgerr m)) is h = cc
+  reading_has_memory (delivery.Stray u) (Err (router.Capped m)) is h = cc
+  reading_has_memory (delivery.Stray u) (Err router.NoAck) is h = cc
+  reading_has_memory (delivery.Stray u) (Err router.UnexpectedAck) is h = cc
+  reading_has_memory (delivery.Stray u) (Err router.ClosedChannel) is h = cc
+  reading_has_memory (delivery.Stray u) (Err (router.SeqInUse m)) is h = cc
+  reading_has_memory (delivery.Stray u) (Err router.Memory) is h = is.1 refl
+  reading_has_memory (delivery.Fault e) x is h = (let same : Err (router.Socket e) ≡ Err router.Memory = sym is ∙ h in cc)
+
+-- ---- reads
+
+-- where the same stands in each field, reading stands so
+same_stand : (t u : Stand) → t.handle ≡ u.handle → t.waits ≡ u.waits → t.heard ≡ u.heard → t ≡ u
+same_stand t u a b c =
+    ap (λ (h : HandleState). record { handle = h; waits = t.waits; heard = t.heard }) a
+    ∙ (ap (λ (w : Option (List Delivery)). record { handle = u.handle; waits = w; heard = t.heard }) b
+    ∙ ap (λ (k : Option Heard). record { handle = u.handle; waits = u.waits; heard = k }) c)
+
+inner : {K P : Type 0} {x y : Item K P} → reply.Item x ≡ reply.Item y → x ≡ y
+inner e = cc
+
+module _ {K P V : Type 0} (type_of : ℕ → K) (number_of : K → ℕ) (view : P → V) (size : P → ℕ) (read : List ℕ
+    → Result V DeError) (s t : Stand) (x : Item K P) where
+  abbrev number : Bool
+  number = has_number s.handle.number
+
+  -- the item by the first delivery, and reading then
+  abbrev pub Given : Delivery → List Delivery → Type 0
+  Given d ds =
+      (item : Item K P) × IsReading type_of view size read d item
+      × (reply.Item x ≡ reply.Item (item_of number_of s.handle.needs_ack number s.handle.single_given item))
+      × (t.waits ≡ Some ds)
+      × (t.handle ≡ record s.handle {
+        single_given = s.handle.single_given || is_single number_of number item;
+        ended = ends_at number_of s.handle.needs_ack number s.handle.single_given item;
+      })
+
+  -- and what is known of the answer then
+  abbrev pub Known : Delivery → Type 0
+  Known d =
+      (item : Item K P) × IsReading type_of view size read d item
+      × (reply.Item x ≡ reply.Item (item_of number_of s.handle.needs_ack number s.handle.single_given item))
+      × (t.heard ≡ option_map (heard_with number_of s.handle.needs_ack number s.handle.single_given item) s.heard)
+
+  by_first : (d : Delivery) (ds : List Delivery) → Given d ds → Known d
+      → Gives type_of number_of view size read s.handle (Some (d ∷ ds)) s.heard x t
+  by_first d ds given known =
+      let item = given.0 in
+      let also = known.0 in
+      let needs = s.handle.needs_ack in
+      let after = s.handle.single_given in
+      let is : x ≡ item_of number_of needs number after item = inner given.2 in
+      let too : x ≡ item_of number_of needs number after also = inner known.2 in
+      let ends : ends_at number_of needs number after also ≡ ends_at number_of needs number after item =
+      same_ends needs after number_of number also item (sym too ∙ is) in
+      let last = is_last number_of needs also in
+      let given_same : item_of number_of needs number after also ≡ item_of number_of needs number after item =
+      sym too ∙ is in
+      let heard : t.heard ≡ option_map (heard_after (ends_at number_of needs number after item) last
+      (item_of number_of needs number after item)) s.heard =
+      known.3 ∙ ap₂ (λ (b : Bool) (y : Item K P). option_map (heard_after b last y) s.heard) ends given_same in
+      (item, given.1, is, (last, same_stand t (stand_after number_of s.handle ds s.heard item last) given.4 given.3 heard))
+
+  by_waits : (waits : Option (List Delivery)) → s.waits ≡ waits
+      → (s.waits ≡ None → (reply.Item x ≡ reply.Item (Err router.ClosedChannel))
+      × (t.handle ≡ record s.handle { ended = true }) × (t.waits ≡ None) × (t.heard ≡ s.heard))
+      → (s.waits ≡ Some [] → reply.Item x ≡ reply.Waits)
+      → ((d : Delivery) (ds : List Delivery) → s.waits ≡ Some (d ∷ ds) → Given d ds × Known d)
+      → Gives type_of number_of view size read s.handle waits s.heard x t
+  by_waits None same closed none gives =
+      let c = closed same in (
+        inner c.0,
+        same_stand t (record { handle = record s.handle { ended = true }; waits = None; heard = s.heard })
+            c.1 c.2 c.3,
+      )
+  by_waits (Some []) same closed none gives = absurd (let bad = none same in cc)
+  by_waits (Some (d ∷ ds)) same closed none gives = by_first d ds (gives d ds same).0 (gives d ds same).1
+
+  number_by : (waits : Option (List Delivery)) → s.waits ≡ waits
+      → (s.waits ≡ None → (reply.Item x ≡ reply.Item (Err router.ClosedChannel))
+      × (t.handle ≡ record s.handle { ended = true }) × (t.waits ≡ None) × (t.heard ≡ s.heard))
+      → (s.waits ≡ Some [] → reply.Item x ≡ reply.Waits)
+      → ((d : Delivery) (ds : List Delivery) → s.waits ≡ Some (d ∷ ds) → Given d ds × Known d)
+      → t.handle.number ≡ s.handle.number
+  number_by None same closed none gives = ap (λ (h : HandleState). h.number) (closed same).1
+  number_by (Some []) same closed none gives = absurd (let bad = none same in cc)
+  number_by (Some (d ∷ ds)) same closed none gives = ap (λ (h : HandleState). h.number) (gives d ds same).0.4
+
+module _ {K P V : Type 0} (type_of : ℕ → K) (number_of : K → ℕ) (view : P → V) (size : P → ℕ) (read : List ℕ
+    → Result V DeError) where
+  -- a read by what the call says of it: the item, and that the number stays
+  pub read_is : (h h' : HandleState) (pending pending' : Option ℕ → Option (List Delivery))
+      (heard heard' : Option ℕ → Option Heard) (x : Item K P) → (h.ended ≡ true → reply.Item x ≡ reply.End)
+      → (h.ended ≡ false → pending h.number ≡ None → (reply.Item x ≡ reply.Item (Err router.ClosedChannel))
+      × (h' ≡ record h { ended = true }) × (pending' h.number ≡ None) × (heard' h.number ≡ heard h.number))
+      → (h.ended ≡ false → pending h.number ≡ Some [] → reply.Item x ≡ reply.Waits)
+      → (h.ended ≡ false → (d : Delivery) (ds : List Delivery) → pending h.number ≡ Some (d ∷ ds)
+      → Given type_of number_of view size read (standing h pending heard)
+      (record { handle = h'; waits = pending' h.number; heard = heard' h.number }) x d ds
+      × Known type_of number_of view size read (standing h pending heard)
+      (record { handle = h'; waits = pending' h.number; heard = heard' h.number }) x d)
+      → IsRead type_of number_of view size read (standing h pending heard) x (standing h' pending' heard')
+      × (h'.number ≡ h.number)
+  read_is h h' pending pending' heard heard' x ended closed none gives = elim (true_or_false h.ended) [
+    | inl e ↦ absurd (let bad = ended e in cc)
+    | inr e ↦
+        (let s = standing h pending heard in
+        let t : Stand = record { handle = h'; waits = pending' h.number; heard = heard' h.number } in
+        let number : h'.number ≡ h.number =
+        number_by type_of number_of view size read s t x (pending h.number) refl (closed e) (none e) (gives e) in (
+          (
+            e,
+            subst (λ (n : Option ℕ). Gives type_of number_of view size read h (pending h.number) (heard h.number) x
+                (record { handle = h'; waits = pending' n; heard = heard' n })) (sym number)
+                (by_waits type_of number_of view size read s t x (pending h.number) refl (closed e) (none e) (gives e)),
+          ),
+          number,
+        ))
+  ]
+
+  memory_by : (h : HandleState) (waits there : Option (List Delivery)) (x : Item K P) → waits ≡ there
+      → (waits ≡ None → reply.Item x ≡ reply.Item (Err router.ClosedChannel))
+      → (waits ≡ Some [] → reply.Item x ≡ reply.Waits)
+      → ((d : Delivery) (ds : List Delivery) → waits ≡ Some (d ∷ ds) → (item : Item K P)
+      × IsReading type_of view size read d item
+      × (reply.Item x ≡ reply.Item (item_of number_of h.needs_ack (has_number h.number) h.single_given item)))
+      → x ≢ Err router.Memory
+  memory_by h waits None x same closed none gives = λ bad. (let c = closed same in cc)
+  memory_by h waits (Some []) x same closed none gives = λ bad. (let c = none same in cc)
+  memory_by h waits (Some (d ∷ ds)) x same closed none gives =
+      let k = gives d ds same in
+      λ bad. item_has_memory h.needs_ack h.single_given number_of (has_number h.number) k.0
+      (reading_has_memory type_of view size read d k.0 k.1) (sym (inner k.2) ∙ bad)
+
+  -- no item says that memory ran out
+  pub no_memory_item : (h : HandleState) (waits : Option (List Delivery)) (x : Item K P)
+      → (h.ended ≡ true → reply.Item x ≡ reply.End)
+      → (h.ended ≡ false → waits ≡ None → reply.Item x ≡ reply.Item (Err router.ClosedChannel))
+      → (h.ended ≡ false → waits ≡ Some [] → reply.Item x ≡ reply.Waits)
+      → (h.ended ≡ false → (d : Delivery) (ds : List Delivery) → waits ≡ Some (d ∷ ds) → (item : Item K P)
+      × IsReading type_of view size read d item
+      × (reply.Item x ≡ reply.Item (item_of number_of h.needs_ack (has_number h.number) h.single_given item)))
+      → x ≢ Err router.Memory
+  no_memory_item h waits x ended closed none gives = elim (true_or_false h.ended) [
+    | inl e ↦ (λ bad. (let k = ended e in cc))
+    | inr e ↦ memory_by h waits waits x refl (closed e) (none e) (gives e)
+  ]
+
+-- ---- where there is no item
+
+module _ {K P : Type 0} (r : Reply K P) (Same : Type 0) (not : (x : Item K P) → r ≡ reply.Item x → ⊥) where
+  none_by : (waits there : Option (List Delivery)) → waits ≡ there
+      → (waits ≡ None → (x : Item K P) × (r ≡ reply.Item x)) → (waits ≡ Some [] → Same)
+      → ((d : Delivery) (ds : List Delivery) → waits ≡ Some (d ∷ ds) → (x : Item K P) × (r ≡ reply.Item x))
+      → Same × (waits ≡ Some [])
+  none_by waits None same closed none gives = absurd (not (closed same).0 (closed same).1)
+  none_by waits (Some []) same closed none gives = (none same, same)
+  none_by waits (Some (d ∷ ds)) same closed none gives = absurd (not (gives d ds same).0 (gives d ds same).1)
+
+  pub none_is : (h : HandleState) (waits : Option (List Delivery)) → (h.ended ≡ true → Same)
+      → (h.ended ≡ false → waits ≡ None → (x : Item K P) × (r ≡ reply.Item x))
+      → (h.ended ≡ false → waits ≡ Some [] → Same)
+      → (h.ended ≡ false → (d : Delivery) (ds : List Delivery) → waits ≡ Some (d ∷ ds)
+      → (x : Item K P) × (r ≡ reply.Item x))
+      → Same × ((h.ended ≡ true) ⊎ (waits ≡ Some []))
+  none_is h waits ended closed none gives = elim (true_or_false h.ended) [
+    | inl e ↦ (ended e, inl e)
+    | inr e ↦ (let k = none_by waits waits refl (closed e) (none e) (gives e) in (k.0, inr k.1))
+  ]
+
+pub ok_same : {A E : Type 0} {x y : A} → ◌≡◌ {A = Result A E} (Ok x) (Ok y) → x ≡ y
+ok_same e = cc
+
+pub err_same : {A E : Type 0} {x y : E} → ◌≡◌ {A = Result A E} (Err x) (Err y) → x ≡ y
+err_same e = cc
