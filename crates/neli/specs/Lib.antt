@@ -16,6 +16,7 @@ pub use Rattle.neli_genl.specs as genl
 pub use Rattle.neli_reader.specs as reader
 pub use Rattle.neli_lent.specs as lent
 pub use Rattle.neli_short.specs as short
+pub use Rattle.neli_short_router.specs as short_router
 pub use Rattle.neli_kernel.specs as kernel
 pub use Rattle.neli_kernel_laws.specs as kernel_laws
 pub use Rattle.neli_util.specs as util
@@ -26,4 +27,11 @@ pub use Rattle.neli_spans.specs as spans
 pub use Rattle.neli_log.specs as log
 pub use Rattle.neli_runs.specs as runs
 pub use Rattle.neli_resolvers.specs as resolvers
+pub use Rattle.neli_tables.specs as tables
+pub use Rattle.neli_tables_rows.specs as tables_rows
+pub use Rattle.neli_tables_walk.specs as tables_walk
+pub use Rattle.neli_tables_bodies.specs as tables_bodies
+pub use Rattle.neli_tables_check.specs as tables_check
+pub use Rattle.neli_values.specs as values
+pub use Rattle.neli_print.specs as print
 pub mod laws

@@ -11,6 +11,8 @@
 //! | numbers and flags of the kernel's headers | [`consts`] |
 //! | the calls that a program writes most, each in one line | [`short`] |
 //! | to look at a few fields of many messages, without a copy | [`lent`] |
+//! | attributes by name, a request checked, a refusal explained | [`schema`] |
+//! | a message as text or as JSON | [`show`] |
 //! | to write and read types of your own | the traits of this page, [`implementing`] |
 //! | refusals, and a kernel's errors | [`err`] |
 //! | multicast groups | [`utils`] |
@@ -149,12 +151,14 @@ pub mod iter;
 pub mod nl;
 pub mod router;
 pub mod rtnl;
+pub mod schema;
+pub mod short;
+pub mod show;
 pub mod simulator;
 pub mod types;
 pub mod utils;
 
 pub use neli_lent as lent;
-pub use neli_short as short;
 pub use neli_wire::{
     BeU16, BeU32, BeU64, Cursor, FromBytes, FromBytesWithInput, FromBytesWithInputBorrowed, Header,
     Size, ToBytes, TypeSize, laws,

@@ -3,8 +3,8 @@
 //! of [`super::genl`] and [`super::nl`] with the names that came later.
 
 pub use neli_consts_linux::{
-    CtrlAttr, CtrlAttrOp, CtrlAttrPolicy, CtrlCmd, IflaBond, IflaBondAdInfo, IflaBondSlave, IflaBr,
-    IflaBrport, IflaMacvlan, IflaVf, IflaVxlan, NetlinkAttributeType, NexthopGrpType, Nha,
-    NhaGroupStats, NhaGroupStatsEntry, NhaResBucket, NhaResGroup, NlPolicyTypeAttr, NlmsgerrAttr,
-    Rtax, Rtnlgrp,
+    AF_BRIDGE, AF_MPLS, CtrlAttr, CtrlAttrOp, CtrlAttrPolicy, CtrlCmd, IflaBond, IflaBondAdInfo,
+    IflaBondSlave, IflaBr, IflaBrport, IflaMacvlan, IflaVf, IflaVxlan, NetlinkAttributeType,
+    NexthopGrpType, Nha, NhaGroupStats, NhaGroupStatsEntry, NhaResBucket, NhaResGroup,
+    NlPolicyTypeAttr, NlmsgerrAttr, Rtax, Rtnlgrp,
 };

@@ -1,0 +1,26 @@
+//! Messages by the tables of their families: what attributes are called, and what their payloads are.
+//!
+//! - [`built_in`]: the tables of all families; [`Table::read`] reads one of your own.
+//! - [`body_of`]: which line of which table a message has. [`Body::walk`] gives its attributes, each
+//!   with its path and what its payload is.
+//! - [`PayloadText`], [`PayloadJson`]: a payload, printed. [`PathText`]: a path by the names on it.
+//! - [`check`]: the first attribute of a request that its row does not allow. [`find`]: the attribute
+//!   at the offset that an extended acknowledgement states. [`Refusal`]: an error in one line.
+
+pub use neli_tables::{Kind, Line, ReadError, Span, Why, Word};
+pub use neli_tables_bodies::{
+    Body, GENERIC_HEADER_SIZE, GenericHeader, Head, answer_of, body_of, built_in, first_payload,
+    is_answer, learn_from,
+};
+pub use neli_tables_check::{PathText, Place, Refusal, Violation, Wrong, check, find};
+pub use neli_tables_generic::GenericTable;
+pub use neli_tables_routing::RoutingTable;
+pub use neli_tables_rows::{
+    MessagePlace, Options, Table, Tables, Way, is_set, options_of, prefix_of, unnamed_bits,
+};
+pub use neli_tables_system::SystemTable;
+pub use neli_tables_walk::{Context, Found, Item, MAX_DEPTH, Nest, Path, Rest, Shape, Step, Walk};
+pub use neli_values::{
+    Breach, Fields, FieldsJson, FieldsText, Name, NameJson, Payload, PayloadJson, PayloadText,
+    breach_of,
+};

@@ -1,3 +1,0 @@
-pub mod Neighbours
-pub mod Steps
-pub mod Walks

@@ -1,4 +1,0 @@
-pub mod Shapes
-pub mod Walks
-pub mod Breaches
-pub mod Found
