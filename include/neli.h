@@ -50,6 +50,7 @@ enum neli_code {
     NELI_KERNEL_ERROR = 3,    /* the kernel answered with an error: its code is in the item */
     NELI_INTERRUPTED = 4,     /* of a verdict: the listed objects changed meanwhile; request them again */
     NELI_OVERRUN = 5,         /* of listening: the socket's buffer ran over (ENOBUFS), so messages may be lost */
+    NELI_VIOLATION = 6,       /* of a check: an attribute is not as its row says */
     NELI_SHORT = -1,          /* the bytes end before the header, the padding or the number does */
     NELI_LENGTH = -2,         /* a length does not fit: below its header, past the bytes, or past its field */
     NELI_MEMORY = -3,         /* memory ran out; everything is unchanged */
@@ -65,7 +66,8 @@ enum neli_code {
     NELI_NULL = -13,          /* a pointer is null, or a length is past PTRDIFF_MAX */
     NELI_PLACE = -14,         /* a place is past the bytes, or past the end of its walk */
     NELI_KIND = -15,          /* the message is of another type */
-    NELI_TEXT = -16           /* no zero byte ends the text */
+    NELI_TEXT = -16,          /* no zero byte ends the text */
+    NELI_TABLE = -17          /* a line of a table is bad */
 };
 
 /* The maximum size of a code's text in bytes, including its zero byte. */
@@ -167,6 +169,62 @@ struct neli_kernel_dump {
 };
 #define NELI_KERNEL_DUMP_CLOSED {false, NULL}
 
+/* Tables of families, which only the library looks into. They begin as NELI_TABLES_CLOSED, are not copied while they
+ * are open, are used by one thread at a time, and are freed by their last owner. */
+struct neli_tables {
+    bool is_open;
+    void *state;
+};
+#define NELI_TABLES_CLOSED {false, NULL}
+
+/* What an item of a walk by name is: a payload of a kind of docs/TABLES.md, in the order of that page, or else. */
+enum neli_kind {
+    NELI_KIND_NONE = 0, /* bytes: no row says what they are */
+    NELI_KIND_FLAG = 1,
+    NELI_KIND_U8 = 2,
+    NELI_KIND_U16 = 3,
+    NELI_KIND_U32 = 4,
+    NELI_KIND_U64 = 5,
+    NELI_KIND_S8 = 6,
+    NELI_KIND_S16 = 7,
+    NELI_KIND_S32 = 8,
+    NELI_KIND_S64 = 9,
+    NELI_KIND_BE16 = 10,
+    NELI_KIND_BE32 = 11,
+    NELI_KIND_BE64 = 12,
+    NELI_KIND_SBE32 = 13,
+    NELI_KIND_UINT = 14,
+    NELI_KIND_SINT = 15,
+    NELI_KIND_TEXT = 16,
+    NELI_KIND_ZTEXT = 17,
+    NELI_KIND_HARDWARE = 18,
+    NELI_KIND_IPV4 = 19,
+    NELI_KIND_IPV6 = 20,
+    NELI_KIND_IP = 21,
+    NELI_KIND_ADDRESS = 22,
+    NELI_KIND_SOCKADDR = 23,
+    NELI_KIND_UUID = 24,
+    NELI_KIND_BITS = 25,
+    NELI_KIND_STRUCT = 26,
+    NELI_KIND_NEST = 27, /* attributes, which come next, one deeper */
+    NELI_KIND_HOPS = 28, /* structures with attributes, each an item, which come next */
+    NELI_KIND_CHOICE = 29,
+    NELI_KIND_BYTES = 30,
+    NELI_KIND_PAD = 31,
+    NELI_KIND_HOP = 32,   /* a structure with attributes, which come next */
+    NELI_KIND_SHORT = 33, /* bytes: less than the structure that a nest begins with */
+    NELI_KIND_DEEP = 34,  /* bytes: a nest in ten others */
+    NELI_KIND_REST = 35   /* bytes behind the attributes of a list, which are none */
+};
+
+/* An item of a walk by name. */
+struct neli_named {
+    uint16_t number; /* of an attribute; 0 of a hop and of a rest */
+    uint8_t kind;    /* of enum neli_kind */
+    uint8_t depth;   /* 1 in the message's own list, and one more in each nest */
+    size_t payload, payload_length; /* its place in the bytes that the message was read from */
+};
+
 /* ---- The exports ---- */
 
 int32_t neli_c_error_text(int32_t code, uint8_t *out, size_t room, size_t *length);
@@ -235,6 +293,34 @@ int32_t neli_c_kernel_dump_begin_datagram(struct neli_kernel_dump *dump);
 int32_t neli_c_kernel_dump_finish(struct neli_kernel_dump *dump, uint16_t flags, int32_t code, const uint8_t *ext_ack,
                                   size_t ext_ack_length);
 int32_t neli_c_kernel_dump_next(struct neli_kernel_dump *dump, uint8_t *out, size_t room, size_t *length);
+int32_t neli_c_tables_new(struct neli_tables *tables);
+int32_t neli_c_tables_built_in(struct neli_tables *tables);
+int32_t neli_c_tables_free(struct neli_tables *tables);
+int32_t neli_c_tables_add(struct neli_tables *tables, const uint8_t *text, size_t text_length, size_t *line,
+                          uint8_t *out, size_t room, size_t *length);
+int32_t neli_c_tables_learn(struct neli_tables *tables, uint16_t id, const uint8_t *name, size_t name_length);
+int32_t neli_c_tables_learn_from(struct neli_tables *tables, uint16_t protocol, const uint8_t *bytes, size_t length,
+                                 const struct neli_message *message);
+int32_t neli_c_message_text(struct neli_tables *tables, uint16_t protocol, const uint8_t *bytes, size_t length,
+                            const struct neli_message *message, uint8_t *out, size_t room, size_t *size);
+int32_t neli_c_message_json(struct neli_tables *tables, uint16_t protocol, const uint8_t *bytes, size_t length,
+                            const struct neli_message *message, uint8_t *out, size_t room, size_t *size);
+int32_t neli_c_datagram_text(struct neli_tables *tables, uint16_t protocol, const uint8_t *bytes, size_t length,
+                             uint8_t *out, size_t room, size_t *size);
+int32_t neli_c_datagram_json(struct neli_tables *tables, uint16_t protocol, const uint8_t *bytes, size_t length,
+                             uint8_t *out, size_t room, size_t *size);
+int32_t neli_c_named_item(struct neli_tables *tables, uint16_t protocol, const uint8_t *bytes, size_t length,
+                          const struct neli_message *message, size_t index, struct neli_named *named, uint8_t *out,
+                          size_t room, size_t *size);
+int32_t neli_c_value_json(struct neli_tables *tables, uint16_t protocol, const uint8_t *bytes, size_t length,
+                          const struct neli_message *message, size_t index, uint8_t *out, size_t room, size_t *size);
+int32_t neli_c_check(struct neli_tables *tables, uint16_t protocol, const uint8_t *bytes, size_t length,
+                     const struct neli_message *message, uint8_t *out, size_t room, size_t *size);
+int32_t neli_c_path_at(struct neli_tables *tables, uint16_t protocol, const uint8_t *bytes, size_t length,
+                       const struct neli_message *message, size_t offset, uint8_t *out, size_t room, size_t *size);
+int32_t neli_c_refusal_text(struct neli_tables *tables, uint16_t protocol, const uint8_t *bytes, size_t length,
+                            const struct neli_message *message, int32_t code, const uint8_t *text, size_t text_length,
+                            size_t offset, uint8_t *out, size_t room, size_t *size);
 
 /* ---- Pointers and lengths ---- */
 
@@ -663,6 +749,153 @@ static inline int32_t neli_kernel_dump_finish(struct neli_kernel_dump *dump, uin
 static inline int32_t neli_kernel_dump_next(struct neli_kernel_dump *dump, uint8_t *out, size_t room, size_t *length) {
     if (dump == NULL || !neli_is_slice(out, room) || length == NULL) return NELI_NULL;
     return neli_c_kernel_dump_next(dump, neli_write_at(out), room, length);
+}
+
+/* ---- Messages by name ---- */
+
+/* What attributes are called and what their payloads are stands in tables of families: docs/TABLES.md. All but the
+ * first two calls return NELI_STATE if the tables are closed. NELI_MEMORY leaves them unchanged; printing takes no
+ * memory. */
+
+/* Opens tables without any family; NELI_STATE if they are open, and they stay so. */
+static inline int32_t neli_tables_new(struct neli_tables *tables) {
+    if (tables == NULL) return NELI_NULL;
+    return neli_c_tables_new(tables);
+}
+
+/* Opens the tables of all families that the library has; NELI_STATE if they are open. */
+static inline int32_t neli_tables_built_in(struct neli_tables *tables) {
+    if (tables == NULL) return NELI_NULL;
+    return neli_c_tables_built_in(tables);
+}
+
+/* Frees what tables have, and closes them; closed ones may be freed again. */
+static inline int32_t neli_tables_free(struct neli_tables *tables) {
+    if (tables == NULL) return NELI_NULL;
+    return neli_c_tables_free(tables);
+}
+
+/* Adds the table of a family behind the others, from its text (docs/TABLES.md). The text is read in place: it stays as
+ * it is until the tables are freed. NELI_TABLE if a line is bad, and nothing is added: `line` is the number of the
+ * first, counted from 1, `reason` has why, as much of it as there is room for, and `length` is how long that is. */
+static inline int32_t neli_tables_add(struct neli_tables *tables, const void *text, size_t text_length, size_t *line,
+                                      char *reason, size_t room, size_t *length) {
+    if (tables == NULL || !neli_is_slice(text, text_length) || line == NULL) return NELI_NULL;
+    if (!neli_is_slice(reason, room) || length == NULL) return NELI_NULL;
+    return neli_c_tables_add(tables, neli_read_at((const uint8_t *)text), text_length, line,
+                             neli_write_at((uint8_t *)reason), room, length);
+}
+
+/* Learns that the family of generic netlink with this name has this number, as the kernel gives it. */
+static inline int32_t neli_tables_learn(struct neli_tables *tables, uint16_t id, const void *name,
+                                        size_t name_length) {
+    if (tables == NULL || !neli_is_slice(name, name_length)) return NELI_NULL;
+    return neli_c_tables_learn(tables, id, neli_read_at((const uint8_t *)name), name_length);
+}
+
+/* Learns the same from a message of the controller that names a family (CTRL_CMD_NEWFAMILY); of any other message
+ * nothing. NELI_PLACE if its payload is past the bytes. */
+static inline int32_t neli_tables_learn_from(struct neli_tables *tables, uint16_t protocol, const uint8_t *bytes,
+                                             size_t length, const struct neli_message *message) {
+    if (tables == NULL || !neli_is_slice(bytes, length) || message == NULL) return NELI_NULL;
+    return neli_c_tables_learn_from(tables, protocol, neli_read_at(bytes), length, message);
+}
+
+/* Prints a message of a protocol (NETLINK_ROUTE is 0) as lines of text, or as one object of JSON without a line feed,
+ * as docs/SHOW.md says: its beginning that there is room for. `size` is how long the whole is, also at NELI_ROOM, which
+ * says that it does not fit. No zero byte is put behind it. NELI_PLACE if the payload is past the bytes. */
+static inline int32_t neli_message_text(struct neli_tables *tables, uint16_t protocol, const uint8_t *bytes,
+                                        size_t length, const struct neli_message *message, char *out, size_t room,
+                                        size_t *size) {
+    if (tables == NULL || !neli_is_slice(bytes, length) || message == NULL) return NELI_NULL;
+    if (!neli_is_slice(out, room) || size == NULL) return NELI_NULL;
+    return neli_c_message_text(tables, protocol, neli_read_at(bytes), length, message, neli_write_at((uint8_t *)out),
+                               room, size);
+}
+
+static inline int32_t neli_message_json(struct neli_tables *tables, uint16_t protocol, const uint8_t *bytes,
+                                        size_t length, const struct neli_message *message, char *out, size_t room,
+                                        size_t *size) {
+    if (tables == NULL || !neli_is_slice(bytes, length) || message == NULL) return NELI_NULL;
+    if (!neli_is_slice(out, room) || size == NULL) return NELI_NULL;
+    return neli_c_message_json(tables, protocol, neli_read_at(bytes), length, message, neli_write_at((uint8_t *)out),
+                               room, size);
+}
+
+/* The same of all messages of a datagram, and of the fault behind them, if there is one: in JSON each on a line. */
+static inline int32_t neli_datagram_text(struct neli_tables *tables, uint16_t protocol, const uint8_t *bytes,
+                                         size_t length, char *out, size_t room, size_t *size) {
+    if (tables == NULL || !neli_is_slice(bytes, length)) return NELI_NULL;
+    if (!neli_is_slice(out, room) || size == NULL) return NELI_NULL;
+    return neli_c_datagram_text(tables, protocol, neli_read_at(bytes), length, neli_write_at((uint8_t *)out), room,
+                                size);
+}
+
+static inline int32_t neli_datagram_json(struct neli_tables *tables, uint16_t protocol, const uint8_t *bytes,
+                                         size_t length, char *out, size_t room, size_t *size) {
+    if (tables == NULL || !neli_is_slice(bytes, length)) return NELI_NULL;
+    if (!neli_is_slice(out, room) || size == NULL) return NELI_NULL;
+    return neli_c_datagram_json(tables, protocol, neli_read_at(bytes), length, neli_write_at((uint8_t *)out), room,
+                                size);
+}
+
+/* Shows the item of this index among a message's attributes, those in a nest behind the nest, and prints its path: the
+ * names from the outside in, with dots between them, as IFLA_LINKINFO.IFLA_INFO_KIND; a number where there is no row.
+ * NELI_ITEM; NELI_END past the last; NELI_KIND where the tables know no attributes of such a message. A walk:
+ * `for (i = 0; neli_named_item(.., i, &named, ..) == NELI_ITEM; i++)`. */
+static inline int32_t neli_named_item(struct neli_tables *tables, uint16_t protocol, const uint8_t *bytes,
+                                      size_t length, const struct neli_message *message, size_t index,
+                                      struct neli_named *named, char *path, size_t room, size_t *size) {
+    if (tables == NULL || !neli_is_slice(bytes, length) || message == NULL || named == NULL) return NELI_NULL;
+    if (!neli_is_slice(path, room) || size == NULL) return NELI_NULL;
+    return neli_c_named_item(tables, protocol, neli_read_at(bytes), length, message, index, named,
+                             neli_write_at((uint8_t *)path), room, size);
+}
+
+/* Prints the value of that item in JSON, by what its row says that it is, or else its bytes; as neli_named_item. */
+static inline int32_t neli_value_json(struct neli_tables *tables, uint16_t protocol, const uint8_t *bytes,
+                                      size_t length, const struct neli_message *message, size_t index, char *out,
+                                      size_t room, size_t *size) {
+    if (tables == NULL || !neli_is_slice(bytes, length) || message == NULL) return NELI_NULL;
+    if (!neli_is_slice(out, room) || size == NULL) return NELI_NULL;
+    return neli_c_value_json(tables, protocol, neli_read_at(bytes), length, message, index,
+                             neli_write_at((uint8_t *)out), room, size);
+}
+
+/* Checks that a message's attributes are as their rows say, as those of a request before it is sent: NELI_OK, or
+ * NELI_VIOLATION, and then `out` has the path of the first that is not, and what is wrong with it. What has no row
+ * passes. */
+static inline int32_t neli_check(struct neli_tables *tables, uint16_t protocol, const uint8_t *bytes, size_t length,
+                                 const struct neli_message *message, char *out, size_t room, size_t *size) {
+    if (tables == NULL || !neli_is_slice(bytes, length) || message == NULL) return NELI_NULL;
+    if (!neli_is_slice(out, room) || size == NULL) return NELI_NULL;
+    return neli_c_check(tables, protocol, neli_read_at(bytes), length, message, neli_write_at((uint8_t *)out), room,
+                        size);
+}
+
+/* Prints the path to the attribute that contains an offset, counted from the message's first byte, as that of an
+ * extended acknowledgement (NELI_ANSWER_OFFSET): NELI_ITEM, or NELI_END where the tables know no attribute there. */
+static inline int32_t neli_path_at(struct neli_tables *tables, uint16_t protocol, const uint8_t *bytes, size_t length,
+                                   const struct neli_message *message, size_t offset, char *path, size_t room,
+                                   size_t *size) {
+    if (tables == NULL || !neli_is_slice(bytes, length) || message == NULL) return NELI_NULL;
+    if (!neli_is_slice(path, room) || size == NULL) return NELI_NULL;
+    return neli_c_path_at(tables, protocol, neli_read_at(bytes), length, message, offset,
+                          neli_write_at((uint8_t *)path), room, size);
+}
+
+/* Prints a refusal of the kernel in a line: the meaning of its code, as -22 for EINVAL; its text, if it sent one
+ * (NELI_ANSWER_TEXT); and the attribute at its offset (NELI_ANSWER_OFFSET) in the request, which is this message, as
+ * `Invalid argument: Unknown device type, at IFLA_LINKINFO.IFLA_INFO_KIND`. An offset of 0 is none. */
+static inline int32_t neli_refusal_text(struct neli_tables *tables, uint16_t protocol, const uint8_t *bytes,
+                                        size_t length, const struct neli_message *message, int32_t code,
+                                        const void *text, size_t text_length, size_t offset, char *out, size_t room,
+                                        size_t *size) {
+    if (tables == NULL || !neli_is_slice(bytes, length) || message == NULL) return NELI_NULL;
+    if (!neli_is_slice(text, text_length) || !neli_is_slice(out, room) || size == NULL) return NELI_NULL;
+    return neli_c_refusal_text(tables, protocol, neli_read_at(bytes), length, message, code,
+                               neli_read_at((const uint8_t *)text), text_length, offset,
+                               neli_write_at((uint8_t *)out), room, size);
 }
 
 #ifdef __cplusplus

@@ -1,11 +1,10 @@
 pub mod AsBox
 pub mod DumpBox
-pub mod DumpMoves
+pub mod Explained
 pub mod Frames
 pub mod Hears
 pub mod FreePlaces
 pub mod Listens
-pub mod Moves
 pub mod Opened
 pub mod OutOfPlace
 pub mod Replies

@@ -23,6 +23,10 @@ interrupted = pos 4
 abbrev pub overrun : ℤ
 overrun = pos 5
 
+-- an attribute is not as its row says
+abbrev pub violation : ℤ
+violation = pos 6
+
 -- the bytes end too early; a length does not fit; memory ran out; the room is too small
 abbrev pub short : ℤ
 short = negsuc 0
@@ -62,7 +66,7 @@ link = negsuc 10
 abbrev pub bad_bytes : ℤ
 bad_bytes = negsuc 11
 
--- a place is past the bytes; the message is of another kind; no zero byte ends the text
+-- a place is past the bytes; the message is of another kind; no zero byte ends the text; a table's line is bad
 abbrev pub place : ℤ
 place = negsuc 13
 
@@ -71,3 +75,6 @@ kind = negsuc 14
 
 abbrev pub text : ℤ
 text = negsuc 15
+
+abbrev pub bad_table : ℤ
+bad_table = negsuc 16

@@ -6,10 +6,13 @@ pub mod DumpsHeld
 pub mod Held
 pub mod Listens
 pub mod Lists
+pub mod Named
+pub mod Printed
 pub mod Reads
 pub mod Sessions
 pub mod Several
 pub mod Slots
+pub mod Tables
 pub mod Texts
 pub mod Verdicts
 pub mod Walks

@@ -10,6 +10,7 @@ IsTextOf code t =
     × (code ≡ pos 3 → t ≡ codes "the kernel answered with an error")
     × (code ≡ pos 4 → t ≡ codes "what was listed changed meanwhile")
     × (code ≡ pos 5 → t ≡ codes "the socket's buffer ran over")
+    × (code ≡ pos 6 → t ≡ codes "an attribute is not as its row says")
     × (code ≡ negsuc 0 → t ≡ codes "the bytes end too early")
     × (code ≡ negsuc 1 → t ≡ codes "a length does not fit")
     × (code ≡ negsuc 2 → t ≡ codes "memory ran out")
@@ -26,6 +27,7 @@ IsTextOf code t =
     × (code ≡ negsuc 13 → t ≡ codes "a place is past the bytes")
     × (code ≡ negsuc 14 → t ≡ codes "the message is of another kind")
     × (code ≡ negsuc 15 → t ≡ codes "no zero byte ends the text")
+    × (code ≡ negsuc 16 → t ≡ codes "a line of a table is bad")
     -- a number that is no code
-    × ((n : ℕ) → code ≡ pos (6 + n) → t ≡ codes "not a code of this library")
-    × ((n : ℕ) → code ≡ negsuc (16 + n) → t ≡ codes "not a code of this library")
+    × ((n : ℕ) → code ≡ pos (7 + n) → t ≡ codes "not a code of this library")
+    × ((n : ℕ) → code ≡ negsuc (17 + n) → t ≡ codes "not a code of this library")

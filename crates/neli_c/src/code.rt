@@ -12,6 +12,8 @@ pub const KERNEL_ERROR: i32 = 3;
 pub const INTERRUPTED: i32 = 4;
 /// The socket's buffer ran over.
 pub const OVERRUN: i32 = 5;
+/// An attribute is not as its row says.
+pub const VIOLATION: i32 = 6;
 
 /// The bytes end too early.
 pub const SHORT: i32 = -1;
@@ -45,3 +47,5 @@ pub const PLACE: i32 = -14;
 pub const KIND: i32 = -15;
 /// No zero byte ends the text.
 pub const TEXT: i32 = -16;
+/// A line of a table is bad.
+pub const TABLE: i32 = -17;

@@ -4,10 +4,12 @@
 //!   and [`number`] reads numbers and texts of a payload.
 //! - [`lists`] finds lists of attributes and looks attributes up, and [`answer`] reads errors and acknowledgements.
 //! - [`write`] writes messages, attributes and nests into the caller's bytes.
-//! - [`router`] has a router behind a struct that the library alone looks into: [`session`] is what it holds, [`place`]
-//!   and [`opaque`] are how C holds that.
+//! - [`router`] has a router behind a struct that the library alone looks into: [`session`] is what it holds,
+//!   [`outcome`] the codes of what it returns, [`place`] and [`opaque`] are how C holds that.
 //! - [`kernel`] makes a kernel's answers to a request, and [`dump`] those in several messages: [`dumping`] is what a
 //!   dump holds, [`dump_place`] and [`dump_opaque`] are how C holds that.
+//! - [`tables`] has families' tables, [`printed`] messages by them as text and as JSON, and [`named`] their attributes
+//!   one by one, and what is wrong with them: [`tabling`], [`printing`] and [`naming`] are what these calls do.
 //! - [`text`] says what codes are called.
 //!
 //! Each call returns a code: from 0 on a result, below 0 a refusal. A refusal leaves its arguments unchanged, unless
@@ -23,11 +25,18 @@ pub mod dumping;
 pub mod kernel;
 pub mod lent;
 pub mod lists;
+pub mod named;
+pub mod naming;
 pub mod number;
 pub mod opaque;
+pub mod outcome;
 pub mod place;
+pub mod printed;
+pub mod printing;
 pub mod router;
 pub mod session;
 pub mod several;
+pub mod tables;
+pub mod tabling;
 pub mod text;
 pub mod write;

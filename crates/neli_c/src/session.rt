@@ -1,15 +1,15 @@
 //! A router with its handles, and the item that was read last.
 
 ghost use Rattle.std.specs.Prelude.{◌≡◌, ◌≢◌, ◌<◌, ℕ, IfOk, IfSome, IsNone, IsSome, List, ◌∷◌, Some, None, length};
-ghost use Rattle.std.specs.Prelude.{nat_eq, option_map, slice_get, slice_set, unsigned_abs};
+ghost use Rattle.std.specs.Prelude.{option_map, slice_get, slice_set};
 ghost use Rattle.std.specs.Prelude.{vec_capacity, vec_len};
 ghost use Rattle.neli_router.specs.declared.handle.HandleState.{HandleState};
 ghost use Rattle.neli_c.specs.Codes.{no_handle, ok};
 ghost use Rattle.neli_c.specs.Sessions.{ClosesHandle, HasFree, Holds, IsNew, ReadsHandle, RefusesRequest, SaysNeeded};
 ghost use Rattle.neli_c.specs.Sessions.{SendsNothing, SendsRequest, SetsNumber, TakesDatagram, TakesFault, TakesKind, WritesItem};
-ghost use Rattle.neli_c.specs.Sessions.{error_code, error_flags, error_message, fault_kind, item_code, item_message};
-ghost use Rattle.neli_c.specs.Sessions.{item_shown, reply_code, shown_of, socket_code};
-ghost use Rattle.neli_c.specs.Verdicts.{GivesUpHandle, HearsHandle, TellsVerdict, filtered_byte, verdict_code, verdict_error};
+ghost use Rattle.neli_c.specs.Sessions.{error_flags, error_message, item_code, item_message};
+ghost use Rattle.neli_c.specs.Sessions.{item_shown, reply_code, shown_of};
+ghost use Rattle.neli_c.specs.Verdicts.{GivesUpHandle, HearsHandle, TellsVerdict};
 ghost use Rattle.neli_router.specs.Listening.{missed_with};
 ghost use Rattle.neli_router.specs.declared.listening.Missed.TheVariants as missed;
 ghost use Rattle.neli_reader.specs.SocketError.TheVariants as socket;
@@ -18,17 +18,14 @@ ghost use Rattle.neli_c.specs.Listens.{HoldsNotice, Listens, Misses, MissesSame,
 ghost use Rattle.neli_c.specs.Slots.{AreFree, handle_at, later_places, next_place, put_at};
 ghost use Rattle.neli_c.specs.declared.session.Slot.TheVariants as slot;
 
-use crate::code::{
-    BYTES, HANDLE, IN_USE, INTERRUPTED, ITEM, KERNEL_ERROR, LENGTH, LINK, MEMORY, NO_ACK, OK,
-    OVERRUN, ROOM, STRAY, UNEXPECTED_ACK, WAITS,
-};
-use crate::lent::code_of;
+use crate::code::{HANDLE, ITEM, KERNEL_ERROR, LENGTH, LINK, MEMORY, OK, OVERRUN, ROOM, WAITS};
+use crate::outcome::{filtered_byte, is_overrun, kind_of, of_error, of_verdict, verdict_error};
 use crate::write::copy;
 use neli_attr::Buffer;
 use neli_consts::NlmF;
 use neli_log::Log;
 use neli_reader::{NlPayload, Nlmsghdr, NlmsghdrBuilder, RouterError, SocketError};
-use neli_router::{Heard, Loss, Missed, NlRouter, NlRouterReceiverHandle, Notice, Reply, Verdict};
+use neli_router::{Missed, NlRouter, NlRouterReceiverHandle, Notice, Reply};
 use neli_util::Groups;
 use neli_wire::{Constant, NoMemory, ToBytes};
 use std::alloc::Global;
@@ -176,97 +173,6 @@ fn put(handles: &mut Vec<Slot>, freed: &mut usize, handle: Handle) -> usize
                 Err(_) => k,
             }
         }
-    }
-}
-
-/// The link's fault for a number of `errno.h`, negated or not: `EAGAIN`, `ECONNRESET`, or another one.
-fn kind_of(errno: i32) -> ErrorKind
-    ensures { result ≡ fault_kind errno }
-{
-    match errno.unsigned_abs() {
-        11 => ErrorKind::WouldBlock,
-        104 => ErrorKind::ConnectionReset,
-        _ => ErrorKind::Other,
-    }
-}
-
-/// Whether a number of `errno.h`, negated or not, means that the socket's buffer ran over: `ENOBUFS`.
-fn is_overrun(errno: i32) -> bool
-    ensures { result ≡ nat_eq (unsigned_abs errno) 105 }
-{
-    errno.unsigned_abs() == 105
-}
-
-/// The code of a link's or a datagram's fault.
-fn of_socket(error: &SocketError) -> i32
-    ensures code { result ≡ socket_code error.now }
-    ensures refused { result ≢ ok }
-{
-    match error {
-        SocketError::De(error) => code_of(error),
-        SocketError::Io(_) => LINK,
-        SocketError::Memory => MEMORY,
-        _ => BYTES,
-    }
-}
-
-/// The code of the error in place of a message, or of why nothing is sent.
-fn of_error<T, P>(error: &RouterError<T, P>) -> i32
-    ensures code { result ≡ error_code error.now }
-    ensures refused { result ≢ ok }
-{
-    match error {
-        RouterError::De(error) => code_of(error),
-        RouterError::Socket(error) => of_socket(error),
-        RouterError::Nlmsgerr(_) => KERNEL_ERROR,
-        RouterError::Capped(_) => KERNEL_ERROR,
-        RouterError::BadSeqOrPid(_) => STRAY,
-        RouterError::NoAck => NO_ACK,
-        RouterError::UnexpectedAck => UNEXPECTED_ACK,
-        RouterError::ClosedChannel => HANDLE,
-        RouterError::SeqInUse(_) => IN_USE,
-        RouterError::Memory => MEMORY,
-        RouterError::Io(_) => LINK,
-        RouterError::Msg(_) => LENGTH,
-    }
-}
-
-/// The code of a verdict.
-fn of_verdict(verdict: Verdict) -> i32
-    ensures { result ≡ verdict_code verdict }
-{
-    match verdict {
-        Verdict::Pending => WAITS,
-        Verdict::Complete => OK,
-        Verdict::Interrupted => INTERRUPTED,
-        Verdict::Failed(_) => KERNEL_ERROR,
-        Verdict::Lost(Loss::Link) => LINK,
-        Verdict::Lost(Loss::Datagram) => BYTES,
-        Verdict::Lost(Loss::Stray) => STRAY,
-        Verdict::Lost(Loss::Unreadable) => BYTES,
-        Verdict::Lost(Loss::NoAck) => NO_ACK,
-        Verdict::Lost(Loss::UnexpectedAck) => UNEXPECTED_ACK,
-        Verdict::Lost(Loss::Closed) => HANDLE,
-    }
-}
-
-/// The kernel's code if it failed; 0 elsewhere.
-fn verdict_error(verdict: Verdict) -> i32
-    ensures { result ≡ verdict_error verdict }
-{
-    match verdict {
-        Verdict::Failed(code) => code,
-        _ => 0,
-    }
-}
-
-/// 1 if the kernel filtered the answer, else 0.
-fn filtered_byte(heard: Option<Heard>) -> u8
-    ensures { result ≡ filtered_byte heard }
-{
-    match heard {
-        None => 0,
-        Some(heard) => { if heard.filtered { 1 } else { 0 } }
     }
 }
 

@@ -17,6 +17,7 @@ fn text_of(code: i32) -> &'static str
         3 => "the kernel answered with an error",
         4 => "what was listed changed meanwhile",
         5 => "the socket's buffer ran over",
+        6 => "an attribute is not as its row says",
         -1 => "the bytes end too early",
         -2 => "a length does not fit",
         -3 => "memory ran out",
@@ -33,6 +34,7 @@ fn text_of(code: i32) -> &'static str
         -14 => "a place is past the bytes",
         -15 => "the message is of another kind",
         -16 => "no zero byte ends the text",
+        -17 => "a line of a table is bad",
         _ => "not a code of this library",
     }
 }

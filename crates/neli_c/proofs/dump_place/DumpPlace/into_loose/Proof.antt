@@ -12,8 +12,8 @@ use denote.Triple.Walked.{says, Stays, stay_dropped, walk_of, ends_at, Goes-drop
 use Rattle.std.specs.Prelude.{Option, IsSome}
 use Rattle.std.proofs.raw_atomic.Walks.{proved_at}
 use Rattle.std_alloc.proofs.BoxSteps.Form.{D, B}
-use Rattle.neli_c.proofs.DumpBox.{E, some_of, FromDumpPlace as From}
-use Rattle.neli_c.proofs.DumpMoves.{moved}
+use Rattle.neli_loose.proofs.Boxed.{moved, some_of}
+use Rattle.neli_c.proofs.DumpBox.{E, FromPlace as From}
 use Rattle.neli_c.specs.contracts.dump_place.DumpPlace.{the_row as DumpPlace}
 use Rattle.neli_c.specs.contracts.dump_place.DumpPlace.into_loose as F
 use Rattle.neli_c.specs.contracts.dump_place.DumpPlace.into_loose.Key.{name as #self}
@@ -37,7 +37,7 @@ into_loose_spec 𝓤 𝓛 𝓜 𝓡 wired =
     let made : To.Denot = record { at = v.ptr; alloc = v.alloc; value = v.value } in
     rewrite ! 0 (λ (o : Option (E.row).Denot). ‵ (DumpPlace.own_val (record d { value = o }) z.0.4.0)) has refl $ use1 𝓛
     (‵ ((B E).own_val v z.0.4.0)) (id⊢ 𝓤 _) $ move ! (1 ∷ []) $ drop ! $
-    by ! (moved 𝓛 _ _ _ _ v z.0.4.0 ((walk_of 𝓛 F.ended stayed c).post z)
+    by ! (moved E 𝓛 _ _ _ _ v z.0.4.0 ((walk_of 𝓛 F.ended stayed c).post z)
     (λ w. qed 𝓛 (‵ (To.own_val made (w ∷ [])) ∷ []) ∵
     suffices ! _ (ends_at 𝓛 F.ended stayed c z w made (tt, tt) (tt, tt)) $ says ! has $
     nothing ! $ nothing ! $ fjoin ! $ join ! $ nothing ! $ join ! $ done !))))

@@ -12,8 +12,8 @@ use Rattle.std.specs.Prelude.{Some}
 use Rattle.std.proofs.raw_atomic.Walks.{proved_at}
 use Rattle.core.proofs.alloc.Calls.{Goes-blank}
 use Rattle.std_alloc.proofs.BoxSteps.Form.{D, B}
+use Rattle.neli_loose.proofs.Boxed.{moved}
 use Rattle.neli_c.proofs.DumpBox.{E, FromLoose as From}
-use Rattle.neli_c.proofs.DumpMoves.{moved}
 use Rattle.neli_c.specs.contracts.dump_place.DumpPlace.of as F
 use Rattle.neli_c.specs.contracts.dump_place.DumpPlace.of.Key.{name as #self}
 use Rattle.neli_c.proofs.dump_place.DumpPlace.of.Statement as stated
@@ -32,7 +32,7 @@ of_spec 𝓤 𝓛 𝓜 𝓡 wired =
     let made : To.Denot = record { at = v.ptr; alloc = v.alloc; value = Some v.value } in
     qed 𝓛 ((‵ ftrue ⊛ ‵ (fsep ((B E).own_val v z.0.4.0) ftrue)) ∷ raw (emp 𝓤) ∷ []) ∵ split ! $ drop ! $ fsplit ! $
     move ! (1 ∷ 2 ∷ []) $ drop ! $ drop ! $
-    by ! (moved 𝓛 _ _ _ _ v z.0.4.0 ((walk_of 𝓛 F.ended stayed c).post z)
+    by ! (moved E 𝓛 _ _ _ _ v z.0.4.0 ((walk_of 𝓛 F.ended stayed c).post z)
     (λ w. qed 𝓛 (‵ (To.own_val made (w ∷ [])) ∷ []) ∵
     suffices ! _ (ends_at 𝓛 F.ended stayed c z w made (tt, tt) (tt, tt)) $ says ! refl $
     nothing ! $ nothing ! $ fjoin ! $ join ! $ nothing ! $ join ! $ done !)))

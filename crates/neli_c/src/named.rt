@@ -1,0 +1,167 @@
+//! What is in a message by name: its attributes one by one, their values, and what is wrong with them. They take no
+//! memory.
+//!
+//! Each call returns `STATE` if the tables are closed; `PLACE` if the message's payload is past the bytes. Texts are
+//! written as much as there is room for, and `size` is how long the whole is. The tables are unchanged.
+
+ghost use Rattle.std.specs.Prelude.{◌≡◌, IfSome, None};
+ghost use Rattle.neli_c.specs.AnswersShown.{payload_shown};
+ghost use Rattle.neli_c.specs.Codes.{state};
+ghost use Rattle.neli_c.specs.Named.{Checks, Explains, FindsPath, GivesNamed, GivesValue};
+
+use crate::code::STATE;
+use crate::lent::NeliMessage;
+use crate::naming::{check_message, named_item, path_at, refusal_text, value_json};
+use neli_c_tables::named::NeliNamed;
+use neli_c_tables::opaque::NeliTables;
+use std::alloc::Global;
+
+/// Shows the item of this index among a message's attributes, those in nests behind their nest, and prints its path: the
+/// names with dots between them.
+///
+/// Returns `ITEM`; `OK` if there is none; `KIND` if the tables know no attributes of such a message. Without `ITEM`
+/// nothing is shown.
+#[unsafe(no_mangle)]
+pub extern "C" fn neli_c_named_item(
+    alloc: Global,
+    tables: &mut NeliTables,
+    protocol: u16,
+    bytes: &[u8],
+    message: &NeliMessage,
+    index: usize,
+    named: &mut NeliNamed,
+    out: &mut [u8],
+    size: &mut usize,
+) -> i32
+    ensures closed { tables.old.place.value ≡ None
+        → (result ≡ state) × (out.new ≡ out.old) × (named.new ≡ named.old) }
+    ensures open { IfSome tables.old.place.value (λ s. GivesNamed result protocol message.now
+        (payload_shown bytes.now message.now) index s named.old named.new out.old out.new size.new) }
+    ensures same { tables.new.place.value ≡ tables.old.place.value }
+{
+    let Some(families) = tables.take(alloc) else {
+        return STATE;
+    };
+    let code = named_item(&families, protocol, bytes, message, index, named, out, size);
+    tables.put(families);
+    code
+}
+
+/// Prints the value of the item of this index in JSON: by what its row says that it is, or else its bytes.
+///
+/// Returns `ITEM`; `OK` if there is none; `KIND` if the tables know no attributes of such a message.
+#[unsafe(no_mangle)]
+pub extern "C" fn neli_c_value_json(
+    alloc: Global,
+    tables: &mut NeliTables,
+    protocol: u16,
+    bytes: &[u8],
+    message: &NeliMessage,
+    index: usize,
+    out: &mut [u8],
+    size: &mut usize,
+) -> i32
+    ensures closed { tables.old.place.value ≡ None
+        → (result ≡ state) × (out.new ≡ out.old) }
+    ensures open { IfSome tables.old.place.value (λ s. GivesValue result protocol message.now
+        (payload_shown bytes.now message.now) index s out.old out.new size.new) }
+    ensures same { tables.new.place.value ≡ tables.old.place.value }
+{
+    let Some(families) = tables.take(alloc) else {
+        return STATE;
+    };
+    let code = value_json(&families, protocol, bytes, message, index, out, size);
+    tables.put(families);
+    code
+}
+
+/// Checks that a message's attributes are as their rows say, as those of a request before it is sent, and prints the first
+/// that is not.
+///
+/// Returns `OK` if all are; `VIOLATION` if one is not. What has no row passes.
+#[unsafe(no_mangle)]
+pub extern "C" fn neli_c_check(
+    alloc: Global,
+    tables: &mut NeliTables,
+    protocol: u16,
+    bytes: &[u8],
+    message: &NeliMessage,
+    out: &mut [u8],
+    size: &mut usize,
+) -> i32
+    ensures closed { tables.old.place.value ≡ None
+        → (result ≡ state) × (out.new ≡ out.old) }
+    ensures open { IfSome tables.old.place.value (λ s. Checks result protocol message.now
+        (payload_shown bytes.now message.now) s out.old out.new size.new) }
+    ensures same { tables.new.place.value ≡ tables.old.place.value }
+{
+    let Some(families) = tables.take(alloc) else {
+        return STATE;
+    };
+    let code = check_message(&families, protocol, bytes, message, out, size);
+    tables.put(families);
+    code
+}
+
+/// Prints the path to the attribute that contains an offset, counted from the message's first byte, as that of an
+/// extended acknowledgement (`NLMSGERR_ATTR_OFFS`).
+///
+/// Returns `ITEM`; `OK` if no attribute that the tables know is there.
+#[unsafe(no_mangle)]
+pub extern "C" fn neli_c_path_at(
+    alloc: Global,
+    tables: &mut NeliTables,
+    protocol: u16,
+    bytes: &[u8],
+    message: &NeliMessage,
+    offset: usize,
+    out: &mut [u8],
+    size: &mut usize,
+) -> i32
+    ensures closed { tables.old.place.value ≡ None
+        → (result ≡ state) × (out.new ≡ out.old) }
+    ensures open { IfSome tables.old.place.value (λ s. FindsPath result protocol message.now
+        (payload_shown bytes.now message.now) offset s out.old out.new size.new) }
+    ensures same { tables.new.place.value ≡ tables.old.place.value }
+{
+    let Some(families) = tables.take(alloc) else {
+        return STATE;
+    };
+    let code = path_at(&families, protocol, bytes, message, offset, out, size);
+    tables.put(families);
+    code
+}
+
+/// Prints a refusal of the kernel in a line: the meaning of its number, its text, if it sent one, and the attribute at its
+/// offset in the request, which is this message. An offset of 0 is none.
+///
+/// Returns `OK`; `ROOM` if the line is longer than `out`, which then has its beginning.
+#[unsafe(no_mangle)]
+pub extern "C" fn neli_c_refusal_text(
+    alloc: Global,
+    tables: &mut NeliTables,
+    protocol: u16,
+    bytes: &[u8],
+    message: &NeliMessage,
+    error: i32,
+    text: &[u8],
+    offset: usize,
+    out: &mut [u8],
+    size: &mut usize,
+) -> i32
+    ensures closed { tables.old.place.value ≡ None
+        → (result ≡ state) × (out.new ≡ out.old) }
+    ensures open { IfSome tables.old.place.value (λ s. Explains result protocol message.now
+        (payload_shown bytes.now message.now) error text.now offset s out.old out.new size.old
+        size.new) }
+    ensures same { tables.new.place.value ≡ tables.old.place.value }
+{
+    let Some(families) = tables.take(alloc) else {
+        return STATE;
+    };
+    let code = refusal_text(
+        &families, protocol, bytes, message, error, text, offset, out, size,
+    );
+    tables.put(families);
+    code
+}

@@ -1,0 +1,230 @@
+//! What the calls find in a message by name, with their codes.
+
+ghost use Rattle.std.specs.Prelude.{◌≡◌};
+ghost use Rattle.std.specs.Option.{option_map};
+ghost use Rattle.neli_tables_bodies.specs.Bodies.{body_in, body_seen};
+ghost use Rattle.neli_tables_walk.specs.Shapes.{context_seen};
+ghost use Rattle.neli_c.specs.AnswersShown.{payload_shown};
+ghost use Rattle.neli_c_tables.specs.Refusals.{place_seen};
+ghost use Rattle.neli_c.specs.Named.{Checks, Explains, FindsPath, GivesNamed, GivesValue, at_in, body_place, list_in};
+ghost use Rattle.neli_c.specs.Tables.{head_of};
+
+use crate::answer::payload_of;
+use crate::code::{ITEM, KIND, LENGTH, OK, PLACE, VIOLATION};
+use crate::lent::NeliMessage;
+use crate::printing::print;
+use crate::tabling::head_of;
+use neli_c_tables::families::Families;
+use neli_c_tables::named::{ItemValue, NeliNamed, named_in};
+use neli_c_tables::refusal::Refusal;
+use neli_tables_bodies::{Body, GENERIC_HEADER_SIZE, body_of};
+use neli_tables_check::{PathText, Place, Violation, check, find};
+use neli_tables_walk::{Context, Nest, Shape};
+
+/// The body of a message, where its payload lies within the bytes.
+fn body_in<'b, 'w>(
+    families: &'w Families,
+    protocol: u16,
+    bytes: &'b [u8],
+    message: &NeliMessage,
+) -> Option<Body<'b, 'w, 'static>>
+    ensures { option_map body_seen result
+        ≡ option_map (body_in families.now.tables (head_of protocol message.now))
+        (payload_shown bytes.now message.now) }
+{
+    match payload_of(bytes, message) {
+        Some(payload) => Some(body_of(&families.tables, head_of(protocol, message), payload)),
+        None => None,
+    }
+}
+
+/// What the attributes of a body are read by, and the list that they are, if the tables have one.
+fn list_in<'w>(body: &Body<'_, 'w, 'static>) -> Option<(Context<'w, 'static>, Nest)>
+    ensures { option_map (λ list. (context_seen list.0, list.1)) result ≡ list_in (body_seen body.now) }
+{
+    match (body.context(), body.shape()) {
+        (Some(context), Shape::Nest(nest)) => Some((context, nest)),
+        _ => None,
+    }
+}
+
+/// The place of a body in the bytes that its message was read from; the largest where that passes 64 bits.
+fn body_place(body: &Body<'_, '_, 'static>, message: &NeliMessage) -> usize
+    ensures { result ≡ body_place (body_seen body.now) message.now }
+{
+    match body.generic {
+        Some(_) => message.payload.saturating_add(GENERIC_HEADER_SIZE),
+        None => message.payload,
+    }
+}
+
+/// Shows the item of this index of a message's attributes, and prints its path.
+pub(crate) fn named_item(
+    families: &Families,
+    protocol: u16,
+    bytes: &[u8],
+    message: &NeliMessage,
+    index: usize,
+    named: &mut NeliNamed,
+    out: &mut [u8],
+    size: &mut usize,
+) -> i32
+    ensures { GivesNamed result protocol message.now (payload_shown bytes.now message.now) index
+        families.now named.old named.new out.old out.new size.new }
+{
+    let Some(body) = body_in(families, protocol, bytes, message) else {
+        return PLACE;
+    };
+    let Some((context, nest)) = list_in(&body) else {
+        return KIND;
+    };
+    let place = body_place(&body, message);
+    match named_in(context, nest, body.bytes, place, index) {
+        Ok(Some((shown, item))) => {
+            let path = PathText {
+                table: context.table,
+                steps: item.path.steps(),
+            };
+            if print(path, out, size) == LENGTH {
+                return LENGTH;
+            }
+            *named = shown;
+            ITEM
+        }
+        Ok(None) => OK,
+        Err(_) => LENGTH,
+    }
+}
+
+/// Prints the value of the item of this index of a message's attributes in JSON.
+pub(crate) fn value_json(
+    families: &Families,
+    protocol: u16,
+    bytes: &[u8],
+    message: &NeliMessage,
+    index: usize,
+    out: &mut [u8],
+    size: &mut usize,
+) -> i32
+    ensures { GivesValue result protocol message.now (payload_shown bytes.now message.now) index
+        families.now out.old out.new size.new }
+{
+    let Some(body) = body_in(families, protocol, bytes, message) else {
+        return PLACE;
+    };
+    let Some((context, nest)) = list_in(&body) else {
+        return KIND;
+    };
+    let place = body_place(&body, message);
+    match named_in(context, nest, body.bytes, place, index) {
+        Ok(Some((_shown, item))) => {
+            let value = ItemValue {
+                table: context.table,
+                item: &item,
+            };
+            if print(value, out, size) == LENGTH {
+                LENGTH
+            } else {
+                ITEM
+            }
+        }
+        Ok(None) => OK,
+        Err(_) => LENGTH,
+    }
+}
+
+/// Checks a message's attributes by their rows, and prints the first violation.
+pub(crate) fn check_message(
+    families: &Families,
+    protocol: u16,
+    bytes: &[u8],
+    message: &NeliMessage,
+    out: &mut [u8],
+    size: &mut usize,
+) -> i32
+    ensures { Checks result protocol message.now (payload_shown bytes.now message.now) families.now
+        out.old out.new size.new }
+{
+    let Some(body) = body_in(families, protocol, bytes, message) else {
+        return PLACE;
+    };
+    let Some(table) = body.table else {
+        return OK;
+    };
+    match check(&body) {
+        Ok(()) => OK,
+        Err(Violation { place, wrong }) => {
+            let place = Place {
+                table,
+                path: place.path,
+            };
+            let code = print(Violation { place, wrong }, out, size);
+            if code == LENGTH { LENGTH } else { VIOLATION }
+        }
+    }
+}
+
+/// The attribute at an offset of a body's message, by the body's table.
+fn place_in<'w>(body: &Body<'_, 'w, 'static>, offset: usize) -> Option<Place<'w, 'static>>
+    ensures { place_seen result ≡ at_in (body_seen body.now) offset }
+{
+    match (body.table, find(body, offset)) {
+        (Some(table), Some(place)) => Some(Place {
+            table,
+            path: place.path,
+        }),
+        _ => None,
+    }
+}
+
+/// Prints the path to the attribute at an offset of a message.
+pub(crate) fn path_at(
+    families: &Families,
+    protocol: u16,
+    bytes: &[u8],
+    message: &NeliMessage,
+    offset: usize,
+    out: &mut [u8],
+    size: &mut usize,
+) -> i32
+    ensures { FindsPath result protocol message.now (payload_shown bytes.now message.now) offset
+        families.now out.old out.new size.new }
+{
+    let Some(body) = body_in(families, protocol, bytes, message) else {
+        return PLACE;
+    };
+    match place_in(&body, offset) {
+        Some(place) => {
+            let code = print(place, out, size);
+            if code == LENGTH { LENGTH } else { ITEM }
+        }
+        None => OK,
+    }
+}
+
+/// Prints a refusal of the kernel: the meaning of its number, its text, and the attribute at an offset of the request.
+pub(crate) fn refusal_text(
+    families: &Families,
+    protocol: u16,
+    bytes: &[u8],
+    message: &NeliMessage,
+    error: i32,
+    text: &[u8],
+    offset: usize,
+    out: &mut [u8],
+    size: &mut usize,
+) -> i32
+    ensures { Explains result protocol message.now (payload_shown bytes.now message.now) error
+        text.now offset families.now out.old out.new size.old size.new }
+{
+    let Some(body) = body_in(families, protocol, bytes, message) else {
+        return PLACE;
+    };
+    let refusal = Refusal {
+        number: error.unsigned_abs(),
+        text,
+        place: place_in(&body, offset),
+        offset,
+    };
+    print(refusal, out, size)
+}

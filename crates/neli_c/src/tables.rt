@@ -1,0 +1,157 @@
+//! Tables of families for C. C holds a `struct neli_tables`, which is closed if all its bytes are 0.
+//!
+//! Each call but the first two returns `STATE` if the tables are closed, and changes nothing then.
+
+ghost use Rattle.std.specs.Prelude.{◌≡◌, ◌≢◌, ◌⊎◌, IfSome, IsSome, None};
+ghost use Rattle.neli_c.specs.AnswersShown.{payload_shown};
+ghost use Rattle.neli_c.specs.Codes.{bad_table, memory, ok, state};
+ghost use Rattle.neli_c.specs.Tables.{AddsTable, IsBuiltIn, IsEmpty, Learns, LearnsFrom, head_of};
+
+use crate::code::{MEMORY, OK, STATE, TABLE};
+use crate::lent::NeliMessage;
+use crate::tabling::{add, learn, learn_from};
+use neli_c_tables::families::Families;
+use neli_c_tables::opaque::NeliTables;
+use neli_tables::ReadError;
+use std::alloc::Global;
+
+/// Opens tables without any family.
+///
+/// Returns `OK`; `STATE` if they are open, or `MEMORY`; then they are unchanged.
+#[unsafe(no_mangle)]
+pub extern "C" fn neli_c_tables_new(alloc: Global, tables: &mut NeliTables) -> i32
+    ensures new { result ≡ ok
+        → IsSome tables.new.place.value × IfSome tables.new.place.value IsEmpty }
+    ensures open { IsSome tables.old.place.value → result ≡ state }
+    ensures closed { tables.old.place.value ≡ None → (result ≡ ok) ⊎ (result ≡ memory) }
+    ensures unchanged { result ≢ ok → tables.new.place.value ≡ tables.old.place.value }
+{
+    if let Some(families) = tables.take(alloc) {
+        tables.put(families);
+        return STATE;
+    }
+    match Box::new(alloc, Families::new(alloc)) {
+        Ok(families) => {
+            tables.put(families);
+            OK
+        }
+        Err(_) => MEMORY,
+    }
+}
+
+/// Opens the tables of all families that are built in.
+///
+/// Returns `OK`; `STATE` if they are open, `MEMORY`, or `TABLE` if a text that is built in cannot be read; then they
+/// are unchanged.
+#[unsafe(no_mangle)]
+pub extern "C" fn neli_c_tables_built_in(alloc: Global, tables: &mut NeliTables) -> i32
+    ensures new { result ≡ ok
+        → IsSome tables.new.place.value × IfSome tables.new.place.value IsBuiltIn }
+    ensures open { IsSome tables.old.place.value → result ≡ state }
+    ensures closed { tables.old.place.value ≡ None
+        → (result ≡ ok) ⊎ (result ≡ memory) ⊎ (result ≡ bad_table) }
+    ensures unchanged { result ≢ ok → tables.new.place.value ≡ tables.old.place.value }
+{
+    if let Some(families) = tables.take(alloc) {
+        tables.put(families);
+        return STATE;
+    }
+    let families = match Families::built_in(alloc) {
+        Ok(families) => families,
+        Err(ReadError::Memory) => return MEMORY,
+        Err(ReadError::Line(_, _)) => return TABLE,
+    };
+    match Box::new(alloc, families) {
+        Ok(families) => {
+            tables.put(families);
+            OK
+        }
+        Err(_) => MEMORY,
+    }
+}
+
+/// Frees what tables have, and closes them; of closed ones, nothing. Returns `OK`.
+#[unsafe(no_mangle)]
+pub extern "C" fn neli_c_tables_free(alloc: Global, tables: &mut NeliTables) -> i32
+    ensures code { result ≡ ok }
+    ensures closed { tables.new.place.value ≡ None }
+{
+    drop(tables.take(alloc));
+    OK
+}
+
+/// Adds the table that a text is behind the others. The text stays as it is until the tables are freed.
+///
+/// Returns `OK`; `TABLE` if a line of it is bad, and then `line` is the number of the first, counted from 1, `out` has
+/// why, as much as there is room for, and `size` is how long that is; or `MEMORY`. Without `OK` nothing is added.
+#[unsafe(no_mangle)]
+pub extern "C" fn neli_c_tables_add(
+    alloc: Global,
+    tables: &mut NeliTables,
+    text: &'static [u8],
+    line: &mut usize,
+    out: &mut [u8],
+    size: &mut usize,
+) -> i32
+    ensures closed { tables.old.place.value ≡ None
+        → (result ≡ state) × (tables.new.place.value ≡ None) × (out.new ≡ out.old) }
+    ensures open { IfSome tables.old.place.value (λ s. IsSome tables.new.place.value
+        × IfSome tables.new.place.value
+        (λ t. AddsTable result text.now s t line.new out.old out.new size.new)) }
+{
+    let Some(mut families) = tables.take(alloc) else {
+        return STATE;
+    };
+    let code = add(alloc, &mut families, text, line, out, size);
+    tables.put(families);
+    code
+}
+
+/// Learns that the family of generic netlink with this name has this number, as the kernel gives it.
+///
+/// Returns `OK`, or `MEMORY`; then nothing is learnt.
+#[unsafe(no_mangle)]
+pub extern "C" fn neli_c_tables_learn(
+    alloc: Global,
+    tables: &mut NeliTables,
+    id: u16,
+    name: &[u8],
+) -> i32
+    ensures closed { tables.old.place.value ≡ None
+        → (result ≡ state) × (tables.new.place.value ≡ None) }
+    ensures open { IfSome tables.old.place.value (λ s. IsSome tables.new.place.value
+        × IfSome tables.new.place.value (Learns result id name.now s)) }
+{
+    let Some(mut families) = tables.take(alloc) else {
+        return STATE;
+    };
+    let code = learn(&mut families, id, name);
+    tables.put(families);
+    code
+}
+
+/// Learns the number of a family of generic netlink from a message of the controller that names it
+/// (`CTRL_CMD_NEWFAMILY`). Of any other message nothing is learnt.
+///
+/// Returns `OK`; `PLACE` if its payload is past the bytes, or `MEMORY`; then nothing is learnt.
+#[unsafe(no_mangle)]
+pub extern "C" fn neli_c_tables_learn_from(
+    alloc: Global,
+    tables: &mut NeliTables,
+    protocol: u16,
+    bytes: &[u8],
+    message: &NeliMessage,
+) -> i32
+    ensures closed { tables.old.place.value ≡ None
+        → (result ≡ state) × (tables.new.place.value ≡ None) }
+    ensures open { IfSome tables.old.place.value (λ s. IsSome tables.new.place.value
+        × IfSome tables.new.place.value (LearnsFrom result (head_of protocol message.now)
+        (payload_shown bytes.now message.now) s)) }
+{
+    let Some(mut families) = tables.take(alloc) else {
+        return STATE;
+    };
+    let code = learn_from(&mut families, protocol, bytes, message);
+    tables.put(families);
+    code
+}

@@ -1,0 +1,3 @@
+mod FamiliesBox
+mod Items
+mod Parts

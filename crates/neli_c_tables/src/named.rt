@@ -1,0 +1,350 @@
+//! The items of a walk by name, as C has them.
+
+ghost use Rattle.std.specs.Prelude.{◌≡◌, ◌+◌, ◌<◌, [], ◌∷◌, ◌++◌, IfOk, OnOk, Some, length};
+ghost use Rattle.std.specs.Option.{option_map};
+ghost use Rattle.neli_wire.specs.Sizes.{align};
+ghost use Rattle.neli_tables_walk.specs.Found.{front_of};
+ghost use Rattle.neli_tables_walk.specs.Shapes.{context_seen, kind_at};
+ghost use Rattle.neli_tables_walk.specs.Walks.{item_seen, sort_in};
+ghost use Rattle.neli_c_tables.specs.Named.{begin_at, begins_after, begins_behind, element_number, element_shown};
+ghost use Rattle.neli_c_tables.specs.Named.{found_seen, inner_begin, item_from, item_shown, kind_number, kind_or_none};
+ghost use Rattle.neli_c_tables.specs.Named.{listed, named_in, named_seen, number_of, shape_number, value_json};
+
+use crate::room::TooLong;
+use arrayvec::ArrayVec;
+use neli_attr::AttrType;
+use neli_consts::ATTRIBUTE_HEADER_SIZE;
+use neli_tables::Kind;
+use neli_tables_rows::{Table, options_of};
+use neli_tables_walk::{Context, Found, Item, MAX_DEPTH, Nest, Path, Shape, Walk};
+use neli_values::{BytesJson, Payload, PayloadJson};
+use neli_wire::alignto;
+use std::fmt;
+
+/// No row says what the bytes are.
+pub const NONE: u8 = 0;
+/// A structure with attributes.
+pub const HOP: u8 = 32;
+/// Less than the structure that a nest begins with.
+pub const SHORT: u8 = 33;
+/// A nest in as many lists as a walk enters.
+pub const DEEP: u8 = 34;
+/// What is left of a list behind its attributes.
+pub const REST: u8 = 35;
+
+/// An attribute, a hop, or what is left of a list behind its attributes.
+#[repr(C)]
+#[derive(Clone, Copy)]
+pub struct NeliNamed {
+    /// The number of an attribute; 0 of a hop and of what is left.
+    pub number: u16,
+    /// What it is, by `enum neli_kind` of `include/neli.h`.
+    pub kind: u8,
+    /// In how many lists it is: 1 in the body's own.
+    pub depth: u8,
+    /// The place of its payload.
+    pub payload: usize,
+    /// How many bytes that has.
+    pub payload_length: usize,
+}
+
+/// The number of a kind.
+fn kind_number(kind: Kind) -> u8
+    ensures { result ≡ kind_number kind }
+{
+    match kind {
+        Kind::Flag => 1,
+        Kind::U8 => 2,
+        Kind::U16 => 3,
+        Kind::U32 => 4,
+        Kind::U64 => 5,
+        Kind::S8 => 6,
+        Kind::S16 => 7,
+        Kind::S32 => 8,
+        Kind::S64 => 9,
+        Kind::Be16 => 10,
+        Kind::Be32 => 11,
+        Kind::Be64 => 12,
+        Kind::Sbe32 => 13,
+        Kind::Uint => 14,
+        Kind::Sint => 15,
+        Kind::Text => 16,
+        Kind::Ztext => 17,
+        Kind::Hardware => 18,
+        Kind::Ipv4 => 19,
+        Kind::Ipv6 => 20,
+        Kind::Ip => 21,
+        Kind::Address => 22,
+        Kind::Sockaddr => 23,
+        Kind::Uuid => 24,
+        Kind::Bits => 25,
+        Kind::Struct => 26,
+        Kind::Nest => 27,
+        Kind::Hops => 28,
+        Kind::Choice => 29,
+        Kind::Bytes => 30,
+        Kind::Pad => 31,
+    }
+}
+
+/// The number of the kind that the line at this place says; 0 where it says none.
+fn kind_at(table: &Table<'_>, place: usize) -> u8
+    ensures { result ≡ kind_or_none (kind_at table.now place) }
+{
+    let Some(line) = table.line(place) else {
+        return NONE;
+    };
+    match options_of(line).kind {
+        Some(kind) => kind_number(kind),
+        None => NONE,
+    }
+}
+
+/// The number of what a payload is.
+fn shape_number(table: &Table<'_>, shape: &Shape) -> u8
+    ensures { result ≡ shape_number table.now shape.now }
+{
+    match shape {
+        Shape::Row(place) => kind_at(table, *place),
+        Shape::Nest(_) => kind_number(Kind::Nest),
+        Shape::Hops(_) => kind_number(Kind::Hops),
+        Shape::Bytes => NONE,
+        Shape::Short(_) => SHORT,
+        Shape::Deep(_) => DEEP,
+    }
+}
+
+/// Where the next elements begin of the lists that are open, the outermost first.
+type Begins = ArrayVec<usize, MAX_DEPTH>;
+
+/// Where the next element of the list in so many others begins.
+fn begin_at(begins: &Begins, depth: usize) -> usize
+    ensures { result ≡ begin_at begins.now.items depth }
+{
+    begins.as_slice().get(depth).copied().unwrap_or(0)
+}
+
+/// The bytes before an element's payload: the header of an attribute, none of a hop.
+fn front_of(kind: &Option<AttrType<u16>>) -> usize
+    ensures { result ≡ front_of kind.now }
+{
+    match kind {
+        Some(_) => ATTRIBUTE_HEADER_SIZE,
+        None => 0,
+    }
+}
+
+/// A size rounded up to four.
+fn aligned(size: usize) -> Result<usize, TooLong>
+    ensures { IfOk result (λ n. n ≡ align size) }
+{
+    if usize::MAX - 3 < size {
+        return Err(TooLong);
+    }
+    Ok(alignto(size))
+}
+
+/// A place so many bytes further on.
+fn further(place: usize, size: usize) -> Result<usize, TooLong>
+    ensures { IfOk result (λ n. n ≡ place + size) }
+{
+    place.checked_add(size).ok_or(TooLong)
+}
+
+/// Where the elements of the list begin that a payload at this place is, if it is one.
+fn inner_begin(shape: &Shape, place: usize) -> Result<Option<usize>, TooLong>
+    ensures { IfOk result (λ begin. inner_begin (sort_in shape.now) place ≡ listed begin) }
+{
+    match shape {
+        Shape::Nest(nest) => Ok(Some(further(place, aligned(nest.header)?)?)),
+        Shape::Hops(_) => Ok(Some(place)),
+        _ => Ok(None),
+    }
+}
+
+/// Puts a place behind the others, if there is room.
+fn push(begins: &mut Begins, place: usize) -> Result<(), TooLong>
+    ensures { OnOk result (begins.new.items ≡ begins.old.items ++ place ∷ []) }
+{
+    match begins.try_push(place) {
+        Ok(()) => Ok(()),
+        Err(_) => Err(TooLong),
+    }
+}
+
+/// Goes past an element of the list in so many others, and into the list that it is.
+fn go_behind(begins: &mut Begins, depth: usize, found: &Found<'_>) -> Result<(), TooLong>
+    ensures { OnOk result (begins.new.items
+        ≡ begins_behind begins.old.items depth (found_seen found.now)) }
+{
+    let begin = begin_at(begins, depth);
+    let front = front_of(&found.kind);
+    let size = aligned(further(front, found.payload.len())?)?;
+    let inner = inner_begin(&found.shape, further(begin, front)?)?;
+    begins.truncate(depth);
+    push(begins, further(begin, size)?)?;
+    match inner {
+        Some(place) => push(begins, place),
+        None => Ok(()),
+    }
+}
+
+/// Goes past an item.
+fn go_past(begins: &mut Begins, item: &Item<'_>) -> Result<(), TooLong>
+    ensures { OnOk result (begins.new.items ≡ begins_after begins.old.items (item_seen item.now)) }
+{
+    match &item.content {
+        Ok(found) => go_behind(begins, item.path.steps().len().saturating_sub(1), found),
+        Err(_) => Ok(()),
+    }
+}
+
+/// The item of this index, and where elements begin then. The first element begins at this place.
+fn item_from<'b>(
+    walk: Walk<'b, '_, '_>,
+    start: usize,
+    index: usize,
+) -> Result<Option<(Begins, Item<'b>)>, TooLong>
+    ensures { IfOk result (λ found. option_map (λ f. (f.0.items, item_seen f.1)) found
+        ≡ item_from (start ∷ []) index walk.entry) }
+{
+    let mut walk = walk;
+    let mut begins = ArrayVec::new();
+    begins.push(start);
+    let mut left = index;
+    while let Some(item) = walk.next() {
+        if left == 0 {
+            return Ok(Some((begins, item)));
+        }
+        go_past(&mut begins, &item)?;
+        left -= 1;
+    }
+    Ok(None)
+}
+
+/// The number of an attribute; 0 of a hop.
+fn number_of(kind: &Option<AttrType<u16>>) -> u16
+    ensures { result ≡ number_of kind.now }
+{
+    match kind {
+        Some(kind) => *kind.nla_type(),
+        None => 0,
+    }
+}
+
+/// The number of what an element is.
+fn element_number(table: &Table<'_>, found: &Found<'_>) -> u8
+    ensures { result ≡ element_number table.now found.now.kind found.now.shape }
+{
+    match found.kind {
+        Some(_) => shape_number(table, &found.shape),
+        None => HOP,
+    }
+}
+
+/// An attribute or a hop in so many lists.
+fn element_shown(
+    table: &Table<'_>,
+    begins: &Begins,
+    depth: u8,
+    found: &Found<'_>,
+) -> Result<NeliNamed, TooLong>
+    ensures { IfOk result (λ named. named
+        ≡ element_shown table.now begins.now.items depth (found_seen found.now)) }
+{
+    let begin = begin_at(begins, depth.saturating_sub(1) as usize);
+    Ok(NeliNamed {
+        number: number_of(&found.kind),
+        kind: element_number(table, found),
+        depth,
+        payload: further(begin, front_of(&found.kind))?,
+        payload_length: found.payload.len(),
+    })
+}
+
+/// How many steps a path has.
+fn depth_of(path: &Path) -> Result<u8, TooLong>
+    ensures { IfOk result (λ depth. (depth ≡ length path.now.steps.items) × (depth < 255)) }
+{
+    let depth = path.steps().len();
+    if depth < 255 {
+        Ok(depth as u8)
+    } else {
+        Err(TooLong)
+    }
+}
+
+/// An item, as C has it.
+fn item_shown(table: &Table<'_>, begins: &Begins, item: &Item<'_>) -> Result<NeliNamed, TooLong>
+    ensures { IfOk result
+        (λ named. named ≡ item_shown table.now begins.now.items (item_seen item.now)) }
+{
+    let depth = depth_of(&item.path)?;
+    match &item.content {
+        Ok(found) => element_shown(table, begins, depth, found),
+        Err(rest) => Ok(NeliNamed {
+            number: 0,
+            kind: REST,
+            depth: depth + 1,
+            payload: begin_at(begins, depth as usize),
+            payload_length: rest.bytes.len(),
+        }),
+    }
+}
+
+/// The item of this index of a walk over a body at this place, and what C has of it.
+pub fn named_in<'b>(
+    context: Context<'_, '_>,
+    nest: Nest,
+    bytes: &'b [u8],
+    place: usize,
+    index: usize,
+) -> Result<Option<(NeliNamed, Item<'b>)>, TooLong>
+    ensures { IfOk result (λ named. option_map named_seen named
+        ≡ named_in (context_seen context.entry) nest bytes.now place index) }
+{
+    let start = further(place, aligned(nest.header)?)?;
+    match item_from(Walk::new(context, nest, bytes), start, index)? {
+        Some((begins, item)) => {
+            let named = item_shown(context.table, &begins, &item)?;
+            Ok(Some((named, item)))
+        }
+        None => Ok(None),
+    }
+}
+
+/// The value of an item in JSON: by the line that says what it is, or else its bytes.
+#[derive(Clone, Copy)]
+pub struct ItemValue<'i, 'b, 'w, 't> {
+    /// The table of the walk.
+    pub table: &'w Table<'t>,
+    /// The item.
+    pub item: &'i Item<'b>,
+}
+
+impl fmt::Display for ItemValue<'_, '_, '_, '_> {
+    ghost output = { λ v. Some (value_json v.table.now (item_seen v.item.now)) };
+
+    fn fmt<W: fmt::Write>(&self, f: &mut fmt::Formatter<W>) -> fmt::Result {
+        match &self.item.content {
+            Ok(found) => match found.shape {
+                Shape::Row(place) => {
+                    let value = PayloadJson(Payload {
+                        table: self.table,
+                        place,
+                        bytes: found.payload,
+                    });
+                    write!(f, "{value}")
+                }
+                _ => {
+                    let value = BytesJson(found.payload);
+                    write!(f, "{value}")
+                }
+            },
+            Err(rest) => {
+                let value = BytesJson(rest.bytes);
+                write!(f, "{value}")
+            }
+        }
+    }
+}

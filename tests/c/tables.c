@@ -1,0 +1,282 @@
+/* Checks messages by name of include/neli.h: each call once, and then what each refuses. The message is one of
+ * RTM_NEWLINK as linux/rtnetlink.h and linux/if_link.h have it; names and numbers are theirs. Compile it with all
+ * warnings, and with the address sanitizer. */
+#include "neli.h"
+
+#include <stdio.h>
+#include <stdlib.h>
+#include <string.h>
+
+static int failures;
+
+#define CHECK(condition)                                                \
+    do {                                                                \
+        if (!(condition)) {                                             \
+            fprintf(stderr, "tables.c:%d: %s\n", __LINE__, #condition); \
+            failures++;                                                 \
+        }                                                               \
+    } while (0)
+
+enum { NEWLINK = 16, IFNAME = 3, MTU = 4, LINKINFO = 18, INFO_KIND = 1, UNKNOWN = 4000, CREATE = 0x405 };
+
+/* A link that is to be made: its name, its MTU, a kind in a nest, and an attribute that no table has. */
+static size_t write_link(uint8_t *out, size_t room, const void *mtu, size_t mtu_length) {
+    const uint8_t body[16] = {0, 0, 0, 0, 7};
+    struct neli_writer writer = {0, 0};
+    size_t nest = 0;
+    CHECK(neli_begin_message(out, room, &writer, NEWLINK, CREATE, 9, 0) == NELI_OK);
+    CHECK(neli_put_bytes(out, room, &writer, body, sizeof body) == NELI_OK);
+    CHECK(neli_put_attribute(out, room, &writer, IFNAME, "one", 4) == NELI_OK);
+    CHECK(neli_put_attribute(out, room, &writer, MTU, mtu, mtu_length) == NELI_OK);
+    CHECK(neli_begin_nest(out, room, &writer, LINKINFO, &nest) == NELI_OK);
+    CHECK(neli_put_attribute(out, room, &writer, INFO_KIND, "veth", 5) == NELI_OK);
+    CHECK(neli_end_nest(out, room, &writer, nest) == NELI_OK);
+    CHECK(neli_put_attribute(out, room, &writer, UNKNOWN, "ab", 2) == NELI_OK);
+    CHECK(neli_end_message(out, room, &writer) == NELI_OK);
+    return writer.end;
+}
+
+static const uint8_t mtu[4] = {0xdc, 5};
+static uint8_t bytes[256];
+static size_t length;
+static struct neli_message message;
+static struct neli_tables tables = NELI_TABLES_CLOSED;
+
+static void read_first(void) {
+    struct neli_walk walk = {0, length};
+    CHECK(neli_next_message(bytes, length, &walk, &message) == NELI_ITEM);
+}
+
+static bool is_text(const char *wanted, const char *found, size_t size) {
+    return size == strlen(wanted) && memcmp(found, wanted, size) == 0;
+}
+
+/* Each attribute with its path, its kind and its place, and its value in JSON. */
+static void check_walk(void) {
+    static const struct {
+        const char *path, *value;
+        uint16_t number;
+        uint8_t kind, depth;
+        const char *payload;
+        size_t payload_length;
+    } rows[] = {
+        {"IFLA_IFNAME", "\"one\"", IFNAME, NELI_KIND_ZTEXT, 1, "one", 4},
+        {"IFLA_MTU", "1500", MTU, NELI_KIND_U32, 1, "\xdc\5\0", 4},
+        {"IFLA_LINKINFO", NULL, LINKINFO, NELI_KIND_NEST, 1, NULL, 12},
+        {"IFLA_LINKINFO.IFLA_INFO_KIND", "\"veth\"", INFO_KIND, NELI_KIND_ZTEXT, 2, "veth", 5},
+        {"4000", "{\"bytes\":\"6162\"}", UNKNOWN, NELI_KIND_NONE, 1, "ab", 2},
+    };
+    char path[64], value[64];
+    size_t size = 0, count = sizeof rows / sizeof *rows;
+    struct neli_named named;
+    for (size_t i = 0; i < count; i++) {
+        CHECK(neli_named_item(&tables, 0, bytes, length, &message, i, &named, path, sizeof path, &size) == NELI_ITEM);
+        CHECK(is_text(rows[i].path, path, size));
+        CHECK(named.number == rows[i].number && named.depth == rows[i].depth);
+        CHECK(named.kind == rows[i].kind || (rows[i].kind == NELI_KIND_ZTEXT && named.kind == NELI_KIND_TEXT));
+        CHECK(named.payload_length == rows[i].payload_length && named.payload + named.payload_length <= length);
+        CHECK(rows[i].payload == NULL || memcmp(bytes + named.payload, rows[i].payload, named.payload_length) == 0);
+        CHECK(neli_value_json(&tables, 0, bytes, length, &message, i, value, sizeof value, &size) == NELI_ITEM);
+        CHECK(rows[i].value == NULL || is_text(rows[i].value, value, size));
+    }
+    CHECK(neli_named_item(&tables, 0, bytes, length, &message, count, &named, path, sizeof path, &size) == NELI_END);
+    CHECK(neli_value_json(&tables, 0, bytes, length, &message, count, value, sizeof value, &size) == NELI_END);
+    CHECK(neli_value_json(&tables, 0, bytes, length, &message, SIZE_MAX, value, 0, &size) == NELI_END);
+    /* A path that has no room is cut, and its length is the whole one's. */
+    memset(path, '?', sizeof path);
+    CHECK(neli_named_item(&tables, 0, bytes, length, &message, 3, &named, path, 4, &size) == NELI_ITEM && size == 28);
+    CHECK(memcmp(path, "IFLA????", 8) == 0);
+    /* What no table has has no attributes. */
+    message.type = 4711;
+    CHECK(neli_named_item(&tables, 0, bytes, length, &message, 0, &named, path, sizeof path, &size) == NELI_KIND);
+    CHECK(neli_value_json(&tables, 0, bytes, length, &message, 0, value, sizeof value, &size) == NELI_KIND);
+    read_first();
+}
+
+/* A text in a room of each length: its beginning, and its length. */
+static void want_cut(int32_t (*print)(char *out, size_t room, size_t *size)) {
+    char whole[2048], cut[2048];
+    size_t size = 0, again = 0;
+    CHECK(print(whole, sizeof whole, &size) == NELI_OK && size < sizeof whole);
+    for (size_t room = 0; room <= size; room++) {
+        memset(cut, '?', sizeof cut);
+        CHECK(print(cut, room, &again) == (room < size ? NELI_ROOM : NELI_OK) && again == size);
+        CHECK(memcmp(cut, whole, room) == 0 && cut[room] == '?');
+    }
+}
+
+static int32_t message_text(char *out, size_t room, size_t *size) {
+    return neli_message_text(&tables, 0, bytes, length, &message, out, room, size);
+}
+
+static int32_t message_json(char *out, size_t room, size_t *size) {
+    return neli_message_json(&tables, 0, bytes, length, &message, out, room, size);
+}
+
+static int32_t datagram_text(char *out, size_t room, size_t *size) {
+    return neli_datagram_text(&tables, 0, bytes, length, out, room, size);
+}
+
+static int32_t datagram_json(char *out, size_t room, size_t *size) {
+    return neli_datagram_json(&tables, 0, bytes, length, out, room, size);
+}
+
+static int32_t refusal_text(char *out, size_t room, size_t *size) {
+    return neli_refusal_text(&tables, 0, bytes, length, &message, -22, "no such device type", 19, 52, out, room, size);
+}
+
+/* A datagram is its messages, each on lines of its own. */
+static void check_texts(void) {
+    char one[2048], all[2048];
+    size_t size = 0, whole = 0;
+    want_cut(message_text);
+    want_cut(message_json);
+    want_cut(datagram_text);
+    want_cut(datagram_json);
+    want_cut(refusal_text);
+    CHECK(message_json(one, sizeof one, &size) == NELI_OK && datagram_json(all, sizeof all, &whole) == NELI_OK);
+    CHECK(whole == size + 1 && memcmp(one, all, size) == 0 && all[size] == '\n');
+    CHECK(message_text(one, sizeof one, &size) == NELI_OK && datagram_text(all, sizeof all, &whole) == NELI_OK);
+    CHECK(whole == size && memcmp(one, all, size) == 0);
+    one[size] = 0;
+    CHECK(strstr(one, "RTM_NEWLINK") && strstr(one, "IFLA_MTU 1500") && strstr(one, "IFLA_INFO_KIND \"veth\""));
+}
+
+/* The attribute at each offset, and a refusal about it: the message's header has 16 bytes, and the body's 16. */
+static void check_offsets(void) {
+    static const struct {
+        size_t offset;
+        const char *path;
+    } rows[] = {{0, NULL}, {31, NULL}, {32, "IFLA_IFNAME"}, {39, "IFLA_IFNAME"}, {40, "IFLA_MTU"},
+                {48, "IFLA_LINKINFO"}, {52, "IFLA_LINKINFO.IFLA_INFO_KIND"}, {64, "4000"}, {72, NULL}};
+    char path[64], line[128];
+    size_t size = 0;
+    for (size_t i = 0; i < sizeof rows / sizeof *rows; i++) {
+        int32_t code = neli_path_at(&tables, 0, bytes, length, &message, rows[i].offset, path, sizeof path, &size);
+        CHECK(code == (rows[i].path != NULL ? NELI_ITEM : NELI_END));
+        CHECK(rows[i].path == NULL || is_text(rows[i].path, path, size));
+    }
+    CHECK(refusal_text(line, sizeof line, &size) == NELI_OK);
+    CHECK(is_text("Invalid argument: no such device type, at IFLA_LINKINFO.IFLA_INFO_KIND", line, size));
+    CHECK(neli_refusal_text(&tables, 0, bytes, length, &message, -95, NULL, 0, 0, line, sizeof line, &size) == NELI_OK);
+    CHECK(is_text("Operation not supported", line, size));
+    CHECK(neli_refusal_text(&tables, 0, bytes, length, &message, -4711, NULL, 0, 4, line, sizeof line, &size) == NELI_OK);
+    CHECK(is_text("error 4711, at byte 4 of the request", line, size));
+}
+
+static void check_violations(void) {
+    char text[128];
+    size_t size = 0;
+    CHECK(neli_check(&tables, 0, bytes, length, &message, text, sizeof text, &size) == NELI_OK);
+    length = write_link(bytes, sizeof bytes, mtu, 3);
+    read_first();
+    CHECK(neli_check(&tables, 0, bytes, length, &message, text, sizeof text, &size) == NELI_VIOLATION);
+    CHECK(size > 10 && memcmp(text, "IFLA_MTU: ", 10) == 0);
+    length = write_link(bytes, sizeof bytes, mtu, sizeof mtu);
+    read_first();
+}
+
+/* Tables of texts: a family of the program's own, and the first bad line of one that is none. */
+static void check_tables(void) {
+    static const char text[] = "family example 31\nmessage EXAMPLE_CMD_NEW 16 nest=example\n"
+                               "set example\nattr EXAMPLE_A_NUMBER 1 u16\n";
+    static const char bad[] = "family example 31\nset example\nattr EXAMPLE_A_NUMBER\n";
+    struct neli_tables own = NELI_TABLES_CLOSED;
+    uint8_t sent[64];
+    struct neli_writer writer = {0, 0};
+    struct neli_walk walk = {0, 0};
+    struct neli_message one;
+    struct neli_named named;
+    char path[64];
+    size_t line = 0, size = 0;
+    CHECK(neli_begin_message(sent, sizeof sent, &writer, 16, 0, 0, 0) == NELI_OK);
+    CHECK(neli_put_attribute(sent, sizeof sent, &writer, 1, "\7", 2) == NELI_OK);
+    CHECK(neli_end_message(sent, sizeof sent, &writer) == NELI_OK);
+    walk.end = writer.end;
+    CHECK(neli_next_message(sent, writer.end, &walk, &one) == NELI_ITEM);
+    CHECK(neli_tables_new(&own) == NELI_OK && neli_tables_new(&own) == NELI_STATE);
+    CHECK(neli_named_item(&own, 31, sent, writer.end, &one, 0, &named, path, sizeof path, &size) == NELI_KIND);
+    CHECK(neli_tables_add(&own, bad, strlen(bad), &line, path, sizeof path, &size) == NELI_TABLE && line == 3);
+    CHECK(is_text("a number is missing", path, size));
+    CHECK(neli_tables_add(&own, bad, strlen(bad), &line, path, 8, &size) == NELI_TABLE && size == 19);
+    CHECK(neli_tables_add(&own, text, strlen(text), &line, path, sizeof path, &size) == NELI_OK);
+    CHECK(neli_named_item(&own, 31, sent, writer.end, &one, 0, &named, path, sizeof path, &size) == NELI_ITEM);
+    CHECK(is_text("EXAMPLE_A_NUMBER", path, size) && named.kind == NELI_KIND_U16 && named.payload == 20);
+    CHECK(neli_tables_free(&own) == NELI_OK && neli_tables_free(&own) == NELI_OK);
+    CHECK(neli_tables_add(&own, text, strlen(text), &line, path, sizeof path, &size) == NELI_STATE);
+}
+
+/* The number of a family of generic netlink: from the program, and from a message of the controller (number 16). */
+static void check_learning(void) {
+    static const uint8_t id[2] = {0x21};
+    uint8_t said[128];
+    struct neli_writer writer = {0, 0};
+    struct neli_walk walk = {0, 0};
+    struct neli_message one;
+    struct neli_named named;
+    char path[64];
+    size_t size = 0;
+    CHECK(neli_begin_message(said, sizeof said, &writer, 16, 0, 0, 0) == NELI_OK);
+    CHECK(neli_put_bytes(said, sizeof said, &writer, "\1\2\0", 4) == NELI_OK);
+    CHECK(neli_put_attribute(said, sizeof said, &writer, 2, "ethtool", 8) == NELI_OK);
+    CHECK(neli_put_attribute(said, sizeof said, &writer, 1, id, sizeof id) == NELI_OK);
+    CHECK(neli_end_message(said, sizeof said, &writer) == NELI_OK);
+    walk.end = writer.end;
+    CHECK(neli_next_message(said, writer.end, &walk, &one) == NELI_ITEM);
+    CHECK(neli_named_item(&tables, 16, said, writer.end, &one, 0, &named, path, sizeof path, &size) == NELI_ITEM);
+    CHECK(is_text("CTRL_ATTR_FAMILY_NAME", path, size) && named.payload == 24);
+    CHECK(neli_tables_learn_from(&tables, 16, said, writer.end, &one) == NELI_OK);
+    one.type = 0x21; /* as ETHTOOL_MSG_STRSET_GET, a request: 1 */
+    one.flags = 1;
+    CHECK(neli_named_item(&tables, 16, said, writer.end, &one, 0, &named, path, sizeof path, &size) == NELI_ITEM);
+    CHECK(size > 8 && memcmp(path, "ETHTOOL_", 8) == 0);
+    one.type = 0x22;
+    CHECK(neli_named_item(&tables, 16, said, writer.end, &one, 0, &named, path, sizeof path, &size) == NELI_KIND);
+    CHECK(neli_tables_learn(&tables, 0x22, "ethtool", 7) == NELI_OK);
+    CHECK(neli_named_item(&tables, 16, said, writer.end, &one, 0, &named, path, sizeof path, &size) == NELI_ITEM);
+    one.payload_length = sizeof said;
+    CHECK(neli_tables_learn_from(&tables, 16, said, writer.end, &one) == NELI_PLACE);
+}
+
+/* What is refused, and then writes nothing. */
+static void check_refusals(void) {
+    struct neli_tables closed = NELI_TABLES_CLOSED;
+    struct neli_message past = message;
+    struct neli_named named;
+    char out[8] = "????????";
+    size_t size = 5;
+    past.payload_length = length;
+    CHECK(neli_message_json(&closed, 0, bytes, length, &message, out, 8, &size) == NELI_STATE);
+    CHECK(neli_datagram_json(&closed, 0, bytes, length, out, 8, &size) == NELI_STATE);
+    CHECK(neli_named_item(&closed, 0, bytes, length, &message, 0, &named, out, 8, &size) == NELI_STATE);
+    CHECK(neli_check(&closed, 0, bytes, length, &message, out, 8, &size) == NELI_STATE);
+    CHECK(neli_message_json(&tables, 0, bytes, length, &past, out, 8, &size) == NELI_PLACE);
+    CHECK(neli_message_text(&tables, 0, bytes, length, &past, out, 8, &size) == NELI_PLACE);
+    CHECK(neli_named_item(&tables, 0, bytes, length, &past, 0, &named, out, 8, &size) == NELI_PLACE);
+    CHECK(neli_value_json(&tables, 0, bytes, length, &past, 0, out, 8, &size) == NELI_PLACE);
+    CHECK(neli_check(&tables, 0, bytes, length, &past, out, 8, &size) == NELI_PLACE);
+    CHECK(neli_path_at(&tables, 0, bytes, length, &past, 32, out, 8, &size) == NELI_PLACE);
+    CHECK(neli_refusal_text(&tables, 0, bytes, length, &past, -22, NULL, 0, 0, out, 8, &size) == NELI_PLACE);
+    CHECK(memcmp(out, "????????", 8) == 0 && size == 5);
+    CHECK(neli_message_json(NULL, 0, bytes, length, &message, out, 8, &size) == NELI_NULL);
+    CHECK(neli_message_json(&tables, 0, NULL, length, &message, out, 8, &size) == NELI_NULL);
+    CHECK(neli_message_json(&tables, 0, bytes, length, &message, NULL, 8, &size) == NELI_NULL);
+    CHECK(neli_named_item(&tables, 0, bytes, length, &message, 0, NULL, out, 8, &size) == NELI_NULL);
+    CHECK(neli_tables_built_in(&tables) == NELI_STATE && neli_tables_built_in(NULL) == NELI_NULL);
+}
+
+int main(void) {
+    CHECK(neli_tables_built_in(&tables) == NELI_OK);
+    length = write_link(bytes, sizeof bytes, mtu, sizeof mtu);
+    read_first();
+    check_walk();
+    check_texts();
+    check_offsets();
+    check_violations();
+    check_tables();
+    check_learning();
+    check_refusals();
+    CHECK(neli_tables_free(&tables) == NELI_OK);
+    printf("%d failures\n", failures);
+    return failures != 0;
+}
