@@ -126,7 +126,7 @@ def try_resolve(at):
 def started(*words):
     """A program that has said that it listens. It ends by itself, where the test has given it up."""
     child = subprocess.Popen(("timeout", "60", *words), stdout=subprocess.PIPE, text=True)
-    assert child.stdout.readline() in ("watching\n", "recording\n")
+    assert child.stdout.readline() in ("watching\n", "recording\n", "monitoring\n")
     return child
 
 
@@ -251,10 +251,15 @@ def two_hundred_changes():
         yield f"rule add pref {it + 100} table 9"
 
 
-def kinds(lines):
+def monitored(path):
+    """What `monitor -j` printed: a message, a loss, or that it begins."""
+    return [json.loads(it) for it in lines_in(path) if it.endswith("}")]
+
+
+def kinds(found):
     """How many of each kind `monitor` printed. Those of links in AF_INET6, 10, are in a group that `ip` is not in."""
-    found = (re.match(r"\S+Z RTM_(NEW|DEL)(\w+) family (\d+) ", it) for it in lines)
-    return collections.Counter((it[2], it[1] == "DEL") for it in found if it and (it[2], it[3]) != ("LINK", "10"))
+    named = [(it["name"][4:7], it["name"][7:], next(iter(it["fields"].values()))) for it in found if "fields" in it]
+    return collections.Counter((of, way == "DEL") for way, of, family in named if (of, family) != ("LINK", 10))
 
 
 def kinds_by_ip(lines):
@@ -268,42 +273,54 @@ def try_monitor(at):
     ip("link", "set", "one", "up")
     ip("link", "set", "other", "up")
     paths = f"{OUT}/monitored", f"{OUT}/monitored_by_ip"
-    words = [f"{at}/monitor", "route", "nlctrl"], ["ip", "-o", "monitor", "label"]
+    words = [f"{at}/monitor", "-j", "route", "nlctrl"], ["ip", "-o", "monitor", "label"]
     with open(paths[0], "w") as own, open(paths[1], "w") as other:
         children = [subprocess.Popen(it, stdout=to) for it, to in zip(words, (own, other))]
     try:
-        wait_for("monitor begins", lambda: lines_in(paths[0])[:1] == ["monitoring"])
+        wait_for("monitor begins", lambda: monitored(paths[0])[:1] == [{"monitoring": True}])
         wait_for("ip monitor begins", lambda: has_joined(children[1].pid))
         changes = run("ip", "-b", "-", input="\n".join(two_hundred_changes()))
         assert changes.returncode == 0, changes.stdout
         ip("link", "del", "one")
-        wait_for("the last change", lambda: kinds(lines_in(paths[0]))["LINK", True] == 2)
+        wait_for("the last change", lambda: kinds(monitored(paths[0]))["LINK", True] == 2)
         wait_for("the last change, by ip", lambda: kinds_by_ip(lines_in(paths[1]))["LINK", True] == 2)
     finally:
         for it in children:
             it.terminate()
     assert children[0].wait(timeout=10) == 0 and children[1].wait(timeout=10) is not None
-    own, other = kinds(lines_in(paths[0])), kinds_by_ip(lines_in(paths[1]))
+    own, other = kinds(monitored(paths[0])), kinds_by_ip(lines_in(paths[1]))
     assert own == other, f"{own}\n{other}"
     for kind in ("LINK", "ADDR", "ROUTE", "NEIGH", "RULE"):
         assert own[kind, False] >= 40, own
+    assert all(re.fullmatch(r"[-0-9]+T[:0-9]+\.[0-9]{6}Z", it["time"]) for it in monitored(paths[0])[1:])
     try_monitor_losses(at)
+    try_monitored_text(at)
     refused("nope: No such file or directory", f"{at}/monitor", "nope")
+
+
+def try_monitored_text(at):
+    """A message as text: the time and its type, and then its attributes by name."""
+    child = started(f"{at}/monitor", "-c", "1", "route")
+    ip("link", "set", "lo", "mtu", "1400")
+    said, _ = child.communicate(timeout=20)
+    lines = said.splitlines()
+    assert re.match(r"\S+Z RTM_NEWLINK length \d+ flags 0 seq 0 port 0$", lines[0]), lines[0]
+    assert '  IFLA_IFNAME "lo"' in lines and "  IFLA_MTU 1400" in lines, said
 
 
 def try_monitor_losses(at):
     """One that was stopped while its buffer ran over says so, goes on, and ends with the status for that."""
     path = f"{OUT}/monitored"
     with open(path, "w") as to:
-        child = subprocess.Popen([f"{at}/monitor", "-b", "1", "route"], stdout=to, stderr=subprocess.DEVNULL)
-    wait_for("monitor begins", lambda: lines_in(path)[:1] == ["monitoring"])
+        child = subprocess.Popen([f"{at}/monitor", "-j", "-b", "1", "route"], stdout=to, stderr=subprocess.DEVNULL)
+    wait_for("monitor begins", lambda: len(monitored(path)) == 1)
     child.send_signal(signal.SIGSTOP)
     for it in range(20):
         ip("link", "set", "lo", "mtu", str(1400 + it))
     child.send_signal(signal.SIGCONT)
-    wait_for("a loss", lambda: any("Z lost some: No buffer space available" in it for it in lines_in(path)))
+    wait_for("a loss", lambda: any(it.get("lost") == "No buffer space available" for it in monitored(path)))
     ip("rule", "add", "pref", "7", "table", "9")
-    wait_for("what came after it", lambda: kinds(lines_in(path))["RULE", False] == 1)
+    wait_for("what came after it", lambda: kinds(monitored(path))["RULE", False] == 1)
     child.terminate()
     assert child.wait(timeout=10) == 4
 
@@ -351,8 +368,9 @@ def try_replayed_notifications(at, path, how):
         ip("link", "add", "name", f"a{it}", "type", "veth", "peer", "name", f"b{it}")
     assert child.wait(timeout=20) == 0
     child.stdout.close()
-    played = run("unshare", "-n", f"{at}/replay", path, f"{at}/monitor", "-c", "4", "route", **how)
-    assert played.returncode == 0 and kinds(played.stdout.splitlines()) == {("LINK", False): 4}, played
+    played = run("unshare", "-n", f"{at}/replay", path, f"{at}/monitor", "-j", "-c", "4", "route", **how)
+    found = [json.loads(it) for it in played.stdout.splitlines()]
+    assert played.returncode == 0 and kinds(found) == {("LINK", False): 4}, played
 
 
 def storm_by(seed, at):

@@ -1,14 +1,14 @@
-/* `monitor [-c COUNT] [-b BYTES] FAMILY..` prints what comes to all multicast groups of these families, a line each,
- * as `2026-11-28T00:41:05.123456Z RTM_NEWADDR family 2 length 76 flags 0x0 number 0 port 0`: of routing with the family
- * of addresses, of generic netlink with the command. A family is `route`, or one of generic netlink by its name.
+/* `monitor [-j] [-c COUNT] [-b BYTES] FAMILY..` prints what comes to all multicast groups of these families by name, each
+ * message with the time: as lines of text, the first of which is
+ * `2026-11-28T00:41:05.123456Z RTM_NEWADDR length 76 flags 0 seq 0 port 0`; with -j as a line of JSON, whose first member
+ * is `"time"`. A family is `route`, or one of generic netlink by its name.
  *
- * Where some were lost it says so, as `lost some: No buffer space available`, and goes on. It ends after COUNT lines, or
- * by SIGINT or SIGTERM: with status 0 where all are there, and 4 where not. -b sets the size of the socket's buffer,
- * which is 4 MiB where the system lets it. */
+ * Where some were lost it says so, as `lost some: No buffer space available`, with -j as a member `"lost"`, and goes on.
+ * It ends after COUNT messages, or by SIGINT or SIGTERM: with status 0 where all are there, and 4 where not. -b sets the
+ * size of the socket's buffer, which is 4 MiB where the system lets it. */
 #define _GNU_SOURCE
 #include "groups.h"
 #include "request.h"
-#include "types.h"
 #include <errno.h>
 #include <linux/genetlink.h>
 #include <linux/netlink.h>
@@ -22,16 +22,10 @@
 #include <time.h>
 #include <unistd.h>
 
-#define FAMILIES 32
-
-/* A family of generic netlink that is listened to. */
-struct family {
-    const char *name;
-    uint16_t number;
-};
-
-static struct family families[FAMILIES];
-static size_t family_count;
+static struct neli_tables tables = NELI_TABLES_CLOSED;
+static bool is_json;
+static char *text; /* what a message is printed into */
+static size_t room;
 static struct neli_host *hosts[2]; /* of routing, and of generic netlink, where they are asked for */
 static unsigned long left = -1ul;
 static enum status status = STATUS_COMPLETE;
@@ -85,14 +79,12 @@ static void join_groups(const struct neli_host *host, const struct neli_attribut
 
 /* Takes what the controller says of a family. */
 static void take_family(const struct neli_host *host, const struct neli_message *message, const char *name) {
+    const uint8_t *bytes = neli_host_item(host);
     struct neli_walk walk;
     struct neli_attribute found;
-    struct family *family = &families[family_count];
     if (neli_attributes_of(message, sizeof(struct genlmsghdr), &walk) != NELI_OK) return;
-    if (!neli_host_find(host, &walk, CTRL_ATTR_FAMILY_ID, &found)) return;
-    if (neli_get_u16(neli_host_item(host) + found.payload, found.payload_length, 0, &family->number) != NELI_OK) return;
-    family->name = name;
-    family_count++;
+    if (neli_tables_learn_from(&tables, NETLINK_GENERIC, bytes, neli_host_item_length(host), message) != NELI_OK)
+        not_begun(name, "no memory");
     if (!neli_host_find(host, &walk, CTRL_ATTR_MCAST_GROUPS, &found)) not_begun(name, "it has no groups");
     join_groups(host, &found, name);
 }
@@ -104,7 +96,7 @@ static void join_generic(const char *name, int size) {
     struct body body = {0};
     struct neli_message message;
     size_t handle;
-    if (family_count == FAMILIES || strlen(name) >= GENL_NAMSIZ) not_begun(name, "no such family");
+    if (strlen(name) >= GENL_NAMSIZ) not_begun(name, "no such family");
     put(&body, &ask, sizeof ask);
     put_text(&body, CTRL_ATTR_FAMILY_NAME, name);
     int32_t code = neli_host_send(host, GENL_ID_CTRL, NLM_F_ACK, body.bytes, body.writer.end, &handle);
@@ -118,28 +110,34 @@ static void join_generic(const char *name, int size) {
 static void print_time(void) {
     struct timespec now;
     struct tm parts;
-    char text[32];
+    char date[32];
     clock_gettime(CLOCK_REALTIME, &now);
-    strftime(text, sizeof text, "%Y-%m-%dT%H:%M:%S", gmtime_r(&now.tv_sec, &parts));
-    printf("%s.%06ldZ ", text, now.tv_nsec / 1000);
+    strftime(date, sizeof date, "%Y-%m-%dT%H:%M:%S", gmtime_r(&now.tv_sec, &parts));
+    printf(is_json ? "{\"time\":\"%s.%06ldZ\"," : "%s.%06ldZ ", date, now.tv_nsec / 1000);
 }
 
-/* What a message is, and the byte that its body begins with. */
-static void print_type(const struct neli_host *host, const struct neli_message *message) {
-    const char *name = host == hosts[0] ? route_type_name(message->type) : NULL;
-    for (size_t i = 0; i < family_count && host == hosts[1]; i++)
-        if (families[i].number == message->type) name = families[i].name;
-    if (name != NULL) printf("%s", name);
-    else printf("type %u", message->type);
-    if (message->payload_length > 0)
-        printf(" %s %u", host == hosts[0] ? "family" : "command", neli_host_item(host)[message->payload]);
+/* A message as text or as JSON, for which the room grows. */
+static size_t written(const struct neli_host *host, const struct neli_message *message) {
+    uint16_t protocol = host == hosts[0] ? NETLINK_ROUTE : NETLINK_GENERIC;
+    const uint8_t *bytes = neli_host_item(host);
+    size_t length = neli_host_item_length(host), size = 0;
+    for (;;) {
+        int32_t code = is_json ? neli_message_json(&tables, protocol, bytes, length, message, text, room, &size)
+                               : neli_message_text(&tables, protocol, bytes, length, message, text, room, &size);
+        if (code == NELI_OK) return size;
+        char *grown = code == NELI_ROOM ? realloc(text, size) : NULL;
+        if (grown == NULL) not_begun("a message", "no memory");
+        text = grown;
+        room = size;
+    }
 }
 
+/* JSON is one object: the time is its first member. Text ends with its last line. */
 static void print_message(const struct neli_host *host, const struct neli_message *message) {
+    size_t size = written(host, message), begin = is_json ? 1 : 0;
     print_time();
-    print_type(host, message);
-    printf(" length %u flags 0x%x number %u port %u\n", message->length, message->flags, message->number,
-           message->port);
+    fwrite(text + begin, 1, size - begin, stdout);
+    if (is_json) putchar('\n');
 }
 
 /* Prints what is there. */
@@ -156,7 +154,7 @@ static void print_all(struct neli_host *host) {
         char why[128];
         neli_host_explain(host, code, NULL, why, sizeof why);
         print_time();
-        printf("lost some: %s\n", why);
+        printf(is_json ? "\"lost\":\"%s\"}\n" : "lost some: %s\n", why);
         status = STATUS_LOST;
     }
 }
@@ -186,20 +184,25 @@ static void watch(void) {
 int main(int argc, char **argv) {
     unsigned long size = 4ul << 20;
     bool is_right = true;
-    for (int option; is_right && (option = getopt(argc, argv, "c:b:")) != -1;)
-        is_right = (option == 'c' && is_number(optarg, &left)) || (option == 'b' && is_number(optarg, &size));
+    for (int option; is_right && (option = getopt(argc, argv, "jc:b:")) != -1;) {
+        if (option == 'j') is_json = true;
+        else is_right = (option == 'c' && is_number(optarg, &left)) || (option == 'b' && is_number(optarg, &size));
+    }
     if (!is_right || optind == argc || size > INT32_MAX) {
-        fputs("usage: monitor [-c COUNT] [-b BYTES] FAMILY..\n", stderr);
+        fputs("usage: monitor [-j] [-c COUNT] [-b BYTES] FAMILY..\n", stderr);
         return STATUS_NOT_BEGUN;
     }
+    if (neli_tables_built_in(&tables) != NELI_OK) not_begun("the tables", "no memory");
     for (int i = optind; i < argc; i++) {
         if (strcmp(argv[i], "route") == 0) join_route((int)size);
         else join_generic(argv[i], (int)size);
     }
     setvbuf(stdout, NULL, _IOLBF, 0);
-    puts("monitoring");
+    puts(is_json ? "{\"monitoring\":true}" : "monitoring");
     watch();
     for (int i = 0; i < 2; i++) neli_host_close(hosts[i]);
+    neli_tables_free(&tables);
+    free(text);
     if (status != STATUS_COMPLETE) fputs("monitor: some were lost\n", stderr);
     return (int)status;
 }

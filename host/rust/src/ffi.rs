@@ -3,6 +3,7 @@
 #![allow(unsafe_code)]
 
 pub mod kernel;
+pub mod tables;
 
 use std::ffi::{c_int, c_uint, c_ulong, c_void};
 use std::io;
@@ -16,6 +17,7 @@ pub const WAITS: i32 = 2;
 pub const KERNEL_ERROR: i32 = 3;
 pub const INTERRUPTED: i32 = 4;
 pub const OVERRUN: i32 = 5;
+pub const VIOLATION: i32 = 6;
 pub const SHORT: i32 = -1;
 pub const LENGTH: i32 = -2;
 pub const MEMORY: i32 = -3;
@@ -27,6 +29,8 @@ pub const NO_ACK: i32 = -9;
 pub const UNEXPECTED_ACK: i32 = -10;
 pub const LINK: i32 = -11;
 pub const BYTES: i32 = -12;
+pub const KIND: i32 = -15;
+pub const TABLE: i32 = -17;
 
 /// `struct neli_walk`: bytes `place` to `end`.
 #[repr(C)]

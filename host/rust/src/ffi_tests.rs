@@ -1,20 +1,22 @@
 //! What `ffi.rs` declares is what `include/neli.h` declares.
 
 use super::kernel::{RawDump, Request};
+use super::tables::{Named, RawTables};
 use super::{Answer, Attribute, Item, Message, RawRouter, Sent, Verdict, Walk, Writer};
 use std::mem::offset_of;
 
 const HEADER: &str = include_str!(env!("NELI_FILE_NELI_H"));
-const DECLARED: &str = concat!(include_str!("ffi.rs"), include_str!("ffi/kernel.rs"));
+const DECLARED: &str = concat!(include_str!("ffi.rs"), include_str!("ffi/kernel.rs"), include_str!("ffi/tables.rs"));
 
 /// The codes that this crate names.
-const CODES: [(&str, i32); 17] = [
+const CODES: [(&str, i32); 20] = [
     ("NELI_ITEM", super::ITEM),
     ("NELI_END", super::END),
     ("NELI_WAITS", super::WAITS),
     ("NELI_KERNEL_ERROR", super::KERNEL_ERROR),
     ("NELI_INTERRUPTED", super::INTERRUPTED),
     ("NELI_OVERRUN", super::OVERRUN),
+    ("NELI_VIOLATION", super::VIOLATION),
     ("NELI_SHORT", super::SHORT),
     ("NELI_LENGTH", super::LENGTH),
     ("NELI_MEMORY", super::MEMORY),
@@ -26,6 +28,8 @@ const CODES: [(&str, i32); 17] = [
     ("NELI_UNEXPECTED_ACK", super::UNEXPECTED_ACK),
     ("NELI_LINK", super::LINK),
     ("NELI_BYTES", super::BYTES),
+    ("NELI_KIND", super::KIND),
+    ("NELI_TABLE", super::TABLE),
 ];
 
 /// A type of the header, as this crate writes it.
@@ -49,6 +53,8 @@ fn rust_type(c: &str) -> String {
         "struct neli_router" => "RawRouter",
         "struct neli_request" => "Request",
         "struct neli_kernel_dump" => "RawDump",
+        "struct neli_tables" => "RawTables",
+        "struct neli_named" => "Named",
         other => panic!("{other}"),
     };
     let pointer = if is_const { "*const " } else { "*mut " };
@@ -88,7 +94,8 @@ fn calls_are_declared_as_in_the_header() {
 #[test]
 fn codes_are_those_of_the_header() {
     for (name, code) in CODES {
-        assert!(HEADER.contains(&format!("    {name} = {code},")), "{name}");
+        let line = format!("    {name} = {code}");
+        assert!(HEADER.contains(&format!("{line},")) || HEADER.contains(&format!("{line} ")), "{name}");
     }
 }
 
@@ -107,6 +114,8 @@ fn structs_are_laid_out_as_in_c() {
         (size_of::<RawRouter>(), 16),
         (size_of::<Request>(), 48),
         (size_of::<RawDump>(), 16),
+        (size_of::<RawTables>(), 16),
+        (size_of::<Named>(), 24),
     ];
     for (found, wanted) in sizes {
         assert_eq!(found, wanted);
@@ -119,4 +128,6 @@ fn structs_are_laid_out_as_in_c() {
     assert_eq!(offset_of!(RawRouter, state), 8);
     assert_eq!((offset_of!(Request, port), offset_of!(Request, wants_echo)), (32, 40));
     assert_eq!(offset_of!(RawDump, state), 8);
+    assert_eq!(offset_of!(RawTables, state), 8);
+    assert_eq!((offset_of!(Named, depth), offset_of!(Named, payload)), (3, 8));
 }

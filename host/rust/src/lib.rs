@@ -41,6 +41,7 @@ pub mod nl;
 pub mod recording;
 pub mod router;
 pub mod rtnl;
+pub mod schema;
 pub mod simulator;
 pub mod socket;
 pub mod types;

@@ -1,0 +1,213 @@
+"""Messages by name, for Python over libneli.so: as dictionaries and as text, and what is wrong with them.
+
+A Schema has the tables of families that the library has, and texts of yours (docs/TABLES.md). What it prints is proved
+with the library; a dictionary is `json.loads` of that (docs/SHOW.md).
+
+    import neli
+    from neli_schema import Schema
+    with Schema() as schema, neli.NetlinkSocket(neli.NETLINK_ROUTE) as sock:
+        for link in sock.dump(neli.RTM_GETLINK, bytes(16)):
+            print(schema.values(link)["IFLA_IFNAME"], schema.to_dict(link)["attributes"])
+"""
+
+import ctypes
+import json
+import os
+
+import neli
+from neli import END, ITEM, KIND, OK
+
+__all__ = ["Schema", "TableError"]
+
+# neli.h
+VIOLATION, TABLE = 6, -17
+KIND_NEST, KIND_HOPS, KIND_HOP, KIND_REST = 27, 28, 32, 35
+
+
+class _Tables(ctypes.Structure):
+    """Tables, closed as they are made."""
+
+    _fields_ = [("is_open", ctypes.c_bool), ("state", ctypes.c_void_p)]
+
+
+class _Named(ctypes.Structure):
+    _fields_ = [("number", ctypes.c_uint16), ("kind", ctypes.c_uint8), ("depth", ctypes.c_uint8),
+                ("payload", ctypes.c_size_t), ("payload_length", ctypes.c_size_t)]
+
+
+def _library():
+    """The library of neli, with what each call of this file takes."""
+    pointer, size, u16 = ctypes.c_void_p, ctypes.c_size_t, ctypes.c_uint16
+    slice_of, room = [ctypes.c_char_p, size], [pointer, size, pointer]
+    message = [pointer, u16, *slice_of, pointer]
+    calls = {
+        "neli_c_tables_new": [pointer],
+        "neli_c_tables_built_in": [pointer],
+        "neli_c_tables_free": [pointer],
+        "neli_c_tables_add": [pointer, *slice_of, pointer, *room],
+        "neli_c_tables_learn": [pointer, u16, *slice_of],
+        "neli_c_tables_learn_from": message,
+        "neli_c_message_text": [*message, *room],
+        "neli_c_message_json": [*message, *room],
+        "neli_c_datagram_text": [pointer, u16, *slice_of, *room],
+        "neli_c_datagram_json": [pointer, u16, *slice_of, *room],
+        "neli_c_named_item": [*message, size, pointer, *room],
+        "neli_c_value_json": [*message, size, *room],
+        "neli_c_check": [*message, *room],
+        "neli_c_path_at": [*message, size, *room],
+        "neli_c_refusal_text": [*message, ctypes.c_int32, *slice_of, size, *room],
+    }
+    for name, parameters in calls.items():
+        call = getattr(neli._lib, name)
+        call.restype, call.argtypes = ctypes.c_int32, parameters
+    return neli._lib
+
+
+_lib = _library()
+
+
+class TableError(ValueError):
+    """A text is no table: `line` is the number of the first line that is bad, and `reason` says why."""
+
+    def __init__(self, line, reason):
+        super().__init__(f"line {line}: {reason}")
+        self.line, self.reason = line, reason
+
+
+def _written(call, *words):
+    """The code of a call that writes a text, and the text; the call is made again where it had no room."""
+    out, size = ctypes.create_string_buffer(2048), ctypes.c_size_t()
+    code = call(*words, out, len(out), ctypes.byref(size))
+    if size.value > len(out):
+        out = ctypes.create_string_buffer(size.value)
+        code = call(*words, out, len(out), ctypes.byref(size))
+    return code, out.raw[: size.value].decode("utf-8", "surrogateescape")
+
+
+def _done(code):
+    if code != OK:
+        raise neli.NetlinkError(0, neli._text_of(code), code)
+
+
+class Schema:
+    """Tables of families: those that the library has, unless `built_in` is false, and those of these texts.
+
+    It is used by one thread at a time, and is freed by `close`, or at the end of a `with`.
+    """
+
+    def __init__(self, *texts, built_in=True):
+        self._tables, self._texts = _Tables(), []
+        opened = _lib.neli_c_tables_built_in if built_in else _lib.neli_c_tables_new
+        _done(opened(ctypes.byref(self._tables)))
+        for text in texts:
+            self.add(text)
+
+    def close(self):
+        _lib.neli_c_tables_free(ctypes.byref(self._tables))
+
+    def __enter__(self):
+        return self
+
+    def __exit__(self, *_):
+        self.close()
+
+    def __del__(self):
+        if hasattr(self, "_tables"):
+            self.close()
+
+    def add(self, text):
+        """Adds the table of a family behind the others; a TableError if it is none."""
+        text = os.fsencode(text) if isinstance(text, str) else bytes(text)
+        self._texts.append(text)  # the library reads it in place
+        line = ctypes.c_size_t()
+        tables = ctypes.byref(self._tables)
+        code, reason = _written(_lib.neli_c_tables_add, tables, text, len(text), ctypes.byref(line))
+        if code == TABLE:
+            raise TableError(line.value, reason)
+        _done(code)
+
+    def learn(self, number, name):
+        """Learns that the family of generic netlink with this name has this number."""
+        name = os.fsencode(name)
+        _done(_lib.neli_c_tables_learn(ctypes.byref(self._tables), number, name, len(name)))
+
+    def _words(self, message):
+        """What the calls on a message begin with."""
+        data, protocol = message._data, message.family or 0
+        return ctypes.byref(self._tables), protocol, data, len(data), ctypes.byref(message._read)
+
+    def learn_from(self, message):
+        """Learns the number of the family that a message of the controller names; of any other nothing."""
+        _done(_lib.neli_c_tables_learn_from(*self._words(message)))
+
+    def to_json(self, message):
+        """A message as one object of JSON, as `neli_show json` prints it."""
+        code, text = _written(_lib.neli_c_message_json, *self._words(message))
+        _done(code)
+        return text
+
+    def to_dict(self, message):
+        """A message as a dictionary."""
+        return json.loads(self.to_json(message))
+
+    def to_text(self, message):
+        """A message as lines of text."""
+        code, text = _written(_lib.neli_c_message_text, *self._words(message))
+        _done(code)
+        return text
+
+    def datagram_json(self, data, family=neli.NETLINK_ROUTE):
+        """The messages of a datagram as lines of JSON, and one more for the fault behind them, if there is one."""
+        words = ctypes.byref(self._tables), family, bytes(data), len(data)
+        code, text = _written(_lib.neli_c_datagram_json, *words)
+        _done(code)
+        return text
+
+    def dicts(self, data, family=neli.NETLINK_ROUTE):
+        """The same as dictionaries."""
+        return [json.loads(it) for it in self.datagram_json(data, family).splitlines()]
+
+    def items(self, message):
+        """The attributes of a message by name, those in nests behind the nest: `(path, kind, payload, value)` of each.
+
+        A path has dots between the names, and `value` is what JSON has of the attribute. Without a table for the
+        message there are none.
+        """
+        words, named, index = self._words(message), _Named(), 0
+        while True:
+            code, path = _written(_lib.neli_c_named_item, *words, index, ctypes.byref(named))
+            if code in (END, KIND):
+                return
+            if code != ITEM:
+                _done(code)
+            payload = message._data[named.payload : named.payload + named.payload_length]
+            _, value = _written(_lib.neli_c_value_json, *words, index)
+            yield path, named.kind, payload, json.loads(value)
+            index += 1
+
+    def values(self, message):
+        """The values of a message's attributes by their paths, nests left out; the first of several with one path."""
+        found = {}
+        for path, kind, _, value in self.items(message):
+            if kind not in (KIND_NEST, KIND_HOPS, KIND_HOP, KIND_REST):
+                found.setdefault(path, value)
+        return found
+
+    def check(self, message):
+        """What is wrong with the first attribute that is not as its row says, in words; None if all are."""
+        code, text = _written(_lib.neli_c_check, *self._words(message))
+        if code not in (OK, VIOLATION):
+            _done(code)
+        return text if code == VIOLATION else None
+
+    def path_at(self, message, offset):
+        """The path to the attribute at an offset of a message, or None."""
+        code, path = _written(_lib.neli_c_path_at, *self._words(message), offset)
+        return path if code == ITEM else None
+
+    def refusal(self, message, code, text="", offset=0):
+        """The kernel's refusal of a request in a line, which names the attribute; `code` is below 0."""
+        text = os.fsencode(text)
+        code, line = _written(_lib.neli_c_refusal_text, *self._words(message), code, text, len(text), offset)
+        _done(code)
+        return line

@@ -1,0 +1,419 @@
+//! Messages by name: as JSON and as text, their attributes one by one, and what is wrong with them.
+//!
+//! A [`Schema`] has the tables of families (`docs/TABLES.md`): those that the library has, and texts of yours. It reads
+//! a [`Message`] by them. What is printed is what `neli_show` prints (`docs/SHOW.md`), and proved with the library.
+//!
+//! ```
+//! use neli::consts::socket::NlFamily;
+//! use neli::schema::Schema;
+//!
+//! # fn main() -> Result<(), Box<dyn std::error::Error>> {
+//! # let datagram = [
+//! #     0x28, 0, 0, 0, 16, 0, 0, 0, 1, 0, 0, 0, 0, 0, 0, 0, 0, 0, 4, 3, 1, 0, 0, 0, 0x49, 0, 1, 0, 0, 0, 0, 0,
+//! #     8, 0, 4, 0, 0xdc, 5, 0, 0u8,
+//! # ];
+//! let schema = Schema::built_in()?;
+//! for message in schema.messages(NlFamily::Route, &datagram) {
+//!     let message = message?;
+//!     message.check()?;
+//!     println!("{}", message.to_json()?);
+//!     for attribute in message.attributes() {
+//!         let attribute = attribute?;
+//!         assert_eq!((attribute.path(), attribute.value()?.as_str()), ("IFLA_MTU", "1500"));
+//!     }
+//! }
+//! # Ok(())
+//! # }
+//! ```
+
+use crate::consts::socket::NlFamily;
+use crate::err::{DeError, Refusal, done, refused};
+use crate::ffi;
+use crate::ffi::tables::{Named, Sought, Tables};
+use crate::nl::Nlmsgerr;
+use std::error::Error;
+use std::fmt;
+use std::sync::{Mutex, MutexGuard, PoisonError};
+
+/// Why a table is not added.
+#[derive(Clone, Debug, PartialEq, Eq)]
+pub enum SchemaError {
+    /// The first line that is bad.
+    Line {
+        /// Its number, counted from 1.
+        number: usize,
+        /// Why, in words.
+        reason: String,
+    },
+    /// The library refuses: memory ran out.
+    Refused(Refusal),
+}
+
+impl fmt::Display for SchemaError {
+    fn fmt(&self, f: &mut fmt::Formatter<'_>) -> fmt::Result {
+        match self {
+            SchemaError::Line { number, reason } => write!(f, "line {number}: {reason}"),
+            SchemaError::Refused(refusal) => write!(f, "{refusal}"),
+        }
+    }
+}
+
+impl Error for SchemaError {}
+
+impl From<Refusal> for SchemaError {
+    fn from(refusal: Refusal) -> Self {
+        SchemaError::Refused(refusal)
+    }
+}
+
+/// The first attribute of a message that is not as its row says, and what is wrong with it.
+#[derive(Clone, Debug, PartialEq, Eq)]
+pub struct Violation(String);
+
+impl fmt::Display for Violation {
+    fn fmt(&self, f: &mut fmt::Formatter<'_>) -> fmt::Result {
+        f.write_str(&self.0)
+    }
+}
+
+impl Error for Violation {}
+
+/// The kernel's refusal of a request: the meaning of its number, its text, and the attribute that it is about.
+#[derive(Clone, Debug, PartialEq, Eq)]
+pub struct KernelRefusal {
+    errno: i32,
+    attribute: Option<String>,
+    line: String,
+}
+
+impl KernelRefusal {
+    /// The number of the error, as 22 for `EINVAL`.
+    pub fn errno(&self) -> i32 {
+        self.errno
+    }
+
+    /// The path of the attribute that the kernel refuses, where it says which and the tables know it.
+    pub fn attribute(&self) -> Option<&str> {
+        self.attribute.as_deref()
+    }
+}
+
+/// `Invalid argument: Unknown device type, at IFLA_LINKINFO.IFLA_INFO_KIND`.
+impl fmt::Display for KernelRefusal {
+    fn fmt(&self, f: &mut fmt::Formatter<'_>) -> fmt::Result {
+        f.write_str(&self.line)
+    }
+}
+
+impl Error for KernelRefusal {}
+
+/// Tables of families, by which messages are read. Threads may share it; one call at a time goes to the library.
+#[derive(Debug)]
+pub struct Schema(Mutex<Tables>);
+
+/// The text that a call writes, which is made again where it had no room; and the code of the call.
+fn written(mut call: impl FnMut(&mut [u8], &mut usize) -> i32) -> (i32, String) {
+    let (mut out, mut size) = (vec![0; 1024], 0);
+    let mut code = call(&mut out, &mut size);
+    if out.len() < size {
+        out.resize(size, 0);
+        code = call(&mut out, &mut size);
+    }
+    out.truncate(size);
+    (code, String::from_utf8(out).unwrap_or_else(|text| String::from_utf8_lossy(text.as_bytes()).into_owned()))
+}
+
+impl Schema {
+    /// The tables of all families that the library has.
+    pub fn built_in() -> Result<Schema, SchemaError> {
+        Ok(Schema(Mutex::new(Tables::built_in().map_err(refused)?)))
+    }
+
+    /// No tables.
+    pub fn empty() -> Result<Schema, SchemaError> {
+        Ok(Schema(Mutex::new(Tables::new().map_err(refused)?)))
+    }
+
+    fn tables(&self) -> MutexGuard<'_, Tables> {
+        self.0.lock().unwrap_or_else(PoisonError::into_inner)
+    }
+
+    /// Adds the table of a family behind the others, from its text (`docs/TABLES.md`).
+    ///
+    /// ```
+    /// use neli::schema::{Schema, SchemaError};
+    ///
+    /// let schema = Schema::empty()?;
+    /// schema.add("family example 16\nmessage EXAMPLE_CMD_GET 1\n")?;
+    /// let bad = schema.add("family example 16\nmessage EXAMPLE_CMD_GET\n");
+    /// assert_eq!(bad.map_err(|it| it.to_string()), Err("line 2: a number is missing".to_owned()));
+    /// # Ok::<(), SchemaError>(())
+    /// ```
+    pub fn add(&self, text: impl Into<Vec<u8>>) -> Result<(), SchemaError> {
+        let (mut number, mut length, mut out) = (0, 0, [0; 256]);
+        match self.tables().add(text.into().into_boxed_slice(), &mut number, &mut out, &mut length) {
+            ffi::TABLE => {
+                let reason = out.get(..length).unwrap_or(&out);
+                Err(SchemaError::Line { number, reason: String::from_utf8_lossy(reason).into_owned() })
+            }
+            code => Ok(done(code)?),
+        }
+    }
+
+    /// Learns that the family of generic netlink with this name has this number, as
+    /// [`resolve_genl_family`](crate::router::synchronous::NlRouter::resolve_genl_family) returns it.
+    pub fn learn(&self, id: u16, name: &str) -> Result<(), SchemaError> {
+        Ok(done(self.tables().learn(id, name.as_bytes()))?)
+    }
+
+    /// The messages of a datagram. Bytes that are no message end them, with why.
+    pub fn messages<'s>(&'s self, family: NlFamily, datagram: &'s [u8]) -> Messages<'s> {
+        let walk = ffi::Walk { place: 0, end: datagram.len() };
+        Messages { schema: self, protocol: protocol_of(family), datagram, walk }
+    }
+
+    /// The first message of these bytes, as those of an [`Nlmsghdr`](crate::nl::Nlmsghdr) are one.
+    pub fn message<'s>(&'s self, family: NlFamily, bytes: &'s [u8]) -> Result<Message<'s>, DeError> {
+        self.messages(family, bytes).next().unwrap_or(Err(Refusal::SHORT.into()))
+    }
+
+    /// The messages of a datagram as lines of JSON, and one more for the fault behind them, if there is one.
+    pub fn datagram_json(&self, family: NlFamily, datagram: &[u8]) -> Result<String, Refusal> {
+        let mut tables = self.tables();
+        whole(written(|out, size| tables.datagram_json(protocol_of(family), datagram, out, size)))
+    }
+
+    /// The same as lines of text.
+    pub fn datagram_text(&self, family: NlFamily, datagram: &[u8]) -> Result<String, Refusal> {
+        let mut tables = self.tables();
+        whole(written(|out, size| tables.datagram_text(protocol_of(family), datagram, out, size)))
+    }
+}
+
+fn protocol_of(family: NlFamily) -> u16 {
+    i32::from(family) as u16
+}
+
+/// The text of a call that prints and finds nothing.
+fn whole((code, text): (i32, String)) -> Result<String, Refusal> {
+    done(code)?;
+    Ok(text)
+}
+
+/// The messages of a datagram, in order.
+#[derive(Clone, Debug)]
+#[must_use = "messages are read one by one"]
+pub struct Messages<'s> {
+    schema: &'s Schema,
+    protocol: u16,
+    datagram: &'s [u8],
+    walk: ffi::Walk,
+}
+
+impl<'s> Iterator for Messages<'s> {
+    type Item = Result<Message<'s>, DeError>;
+
+    fn next(&mut self) -> Option<Self::Item> {
+        let mut message = ffi::Message::default();
+        match ffi::next_message(self.datagram, &mut self.walk, &mut message) {
+            ffi::ITEM => {
+                let sought = Sought { protocol: self.protocol, bytes: self.datagram, message };
+                Some(Ok(Message { schema: self.schema, sought }))
+            }
+            ffi::END => None,
+            code => {
+                self.walk.place = self.walk.end;
+                Some(Err(refused(code).into()))
+            }
+        }
+    }
+}
+
+/// A message, by the tables of a [`Schema`].
+#[derive(Clone, Copy, Debug)]
+pub struct Message<'s> {
+    schema: &'s Schema,
+    sought: Sought<'s>,
+}
+
+impl<'s> Message<'s> {
+    /// Its type.
+    pub fn nl_type(&self) -> u16 {
+        self.sought.message.kind
+    }
+
+    /// As one object of JSON.
+    pub fn to_json(&self) -> Result<String, Refusal> {
+        let mut tables = self.schema.tables();
+        whole(written(|out, size| tables.message_json(&self.sought, out, size)))
+    }
+
+    /// As lines of text.
+    pub fn to_text(&self) -> Result<String, Refusal> {
+        let mut tables = self.schema.tables();
+        whole(written(|out, size| tables.message_text(&self.sought, out, size)))
+    }
+
+    /// Checks that its attributes are as their rows say, as those of a request before it is sent. What has no row
+    /// passes.
+    pub fn check(&self) -> Result<(), Violation> {
+        let mut tables = self.schema.tables();
+        match written(|out, size| tables.check(&self.sought, out, size)) {
+            (ffi::VIOLATION, text) => Err(Violation(text)),
+            _ => Ok(()),
+        }
+    }
+
+    /// The path to the attribute that contains an offset, counted from the message's first byte, as
+    /// `IFLA_LINKINFO.IFLA_INFO_KIND`; `None` where the tables know no attribute there.
+    #[must_use]
+    pub fn path_at(&self, offset: usize) -> Option<String> {
+        let mut tables = self.schema.tables();
+        match written(|out, size| tables.path_at(&self.sought, offset, out, size)) {
+            (ffi::ITEM, path) => Some(path),
+            _ => None,
+        }
+    }
+
+    /// The kernel's refusal of this request, as an error that names the attribute.
+    ///
+    /// ```
+    /// use neli::consts::socket::NlFamily;
+    /// use neli::err::RouterError;
+    /// use neli::schema::Schema;
+    ///
+    /// fn explained(schema: &Schema, sent: &[u8], error: RouterError) -> Box<dyn std::error::Error> {
+    ///     match (schema.message(NlFamily::Route, sent), error) {
+    ///         (Ok(request), RouterError::Nlmsgerr(answer)) => request.refusal(&answer).into(),
+    ///         (_, error) => error.into(),
+    ///     }
+    /// }
+    /// ```
+    #[must_use]
+    pub fn refusal<T>(&self, answer: &Nlmsgerr<T>) -> KernelRefusal {
+        let offset = answer.offset().unwrap_or(0) as usize;
+        let said = answer.text().unwrap_or_default();
+        let attribute = self.path_at(offset);
+        let mut tables = self.schema.tables();
+        let about = (answer.error(), said.as_bytes(), offset);
+        let (_, line) = written(|out, size| tables.refusal_text(&self.sought, about, out, size));
+        KernelRefusal { errno: answer.error().wrapping_neg(), attribute, line }
+    }
+
+    /// Its attributes by name, those in a nest behind the nest. There are none where no table knows the message.
+    pub fn attributes(&self) -> Attributes<'s> {
+        Attributes { message: *self, index: 0 }
+    }
+
+    /// Learns the number of the family of generic netlink that this message of the controller names; of any other
+    /// nothing.
+    pub fn learn(&self) -> Result<(), Refusal> {
+        done(self.schema.tables().learn_from(&self.sought))
+    }
+}
+
+/// As lines of text.
+impl fmt::Display for Message<'_> {
+    fn fmt(&self, f: &mut fmt::Formatter<'_>) -> fmt::Result {
+        f.write_str(&self.to_text().map_err(|_| fmt::Error)?)
+    }
+}
+
+/// The attributes of a message by name.
+#[derive(Clone, Debug)]
+#[must_use = "attributes are read one by one"]
+pub struct Attributes<'s> {
+    message: Message<'s>,
+    index: usize,
+}
+
+impl<'s> Iterator for Attributes<'s> {
+    type Item = Result<Attribute<'s>, Refusal>;
+
+    fn next(&mut self) -> Option<Self::Item> {
+        let (message, index) = (self.message, self.index);
+        let mut named = Named::default();
+        let mut tables = message.schema.tables();
+        match written(|out, size| tables.named_item(&message.sought, index, &mut named, out, size)) {
+            (ffi::ITEM, path) => {
+                self.index += 1;
+                Some(Ok(Attribute { message, index, named, path }))
+            }
+            (ffi::END | ffi::KIND, _) => None,
+            (code, _) => Some(Err(refused(code))),
+        }
+    }
+}
+
+/// What an item of a walk by name is, by the numbers of `enum neli_kind` of `neli.h`.
+#[derive(Clone, Copy, Debug, PartialEq, Eq)]
+pub struct Kind(u8);
+
+impl Kind {
+    /// Bytes: no row says what they are.
+    pub const NONE: Kind = Kind(0);
+    /// Attributes, which come next, one deeper.
+    pub const NEST: Kind = Kind(27);
+    /// Structures with attributes, each an item, which come next.
+    pub const HOPS: Kind = Kind(28);
+    /// A structure with attributes, which come next.
+    pub const HOP: Kind = Kind(32);
+    /// Bytes behind the attributes of a list, which are none.
+    pub const REST: Kind = Kind(35);
+
+    /// The number.
+    pub fn number(self) -> u8 {
+        self.0
+    }
+}
+
+/// An attribute of a message by name; or a hop, or what is left behind the attributes of a list.
+#[derive(Clone, Debug)]
+pub struct Attribute<'s> {
+    message: Message<'s>,
+    index: usize,
+    named: Named,
+    path: String,
+}
+
+impl<'s> Attribute<'s> {
+    /// The names from the outside in, with dots between them: a number where there is no row.
+    pub fn path(&self) -> &str {
+        &self.path
+    }
+
+    /// Its own name, or its number.
+    pub fn name(&self) -> &str {
+        self.path.rsplit('.').next().unwrap_or_default()
+    }
+
+    /// Its number; 0 of a hop and of a rest.
+    pub fn number(&self) -> u16 {
+        self.named.number
+    }
+
+    /// What it is.
+    pub fn kind(&self) -> Kind {
+        Kind(self.named.kind)
+    }
+
+    /// 1 in the message's own list, and one more in each nest.
+    pub fn depth(&self) -> u8 {
+        self.named.depth
+    }
+
+    /// Its payload.
+    pub fn payload(&self) -> &'s [u8] {
+        let (start, length) = (self.named.payload, self.named.payload_length);
+        self.message.sought.bytes.get(start..).and_then(|it| it.get(..length)).unwrap_or_default()
+    }
+
+    /// Its value in JSON: by what its row says that it is, or else its bytes.
+    pub fn value(&self) -> Result<String, Refusal> {
+        let mut tables = self.message.schema.tables();
+        match written(|out, size| tables.value_json(&self.message.sought, self.index, out, size)) {
+            (ffi::ITEM, value) => Ok(value),
+            (code, _) => Err(refused(code)),
+        }
+    }
+}

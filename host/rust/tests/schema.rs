@@ -1,0 +1,147 @@
+//! Messages by name: what a schema says of a link that is to be made. Names and numbers are those of
+//! `linux/rtnetlink.h` and `linux/if_link.h`.
+
+use neli::ToBytes;
+use neli::consts::nl::NlmF;
+use neli::consts::rtnl::{Ifla, IflaInfo, RtAddrFamily, Rtm};
+use neli::consts::socket::NlFamily;
+use neli::err::RouterError;
+use neli::nl::{NlPayload, NlmsghdrBuilder};
+use neli::router::synchronous::NlRouter;
+use neli::rtnl::{Ifinfomsg, IfinfomsgBuilder};
+use neli::schema::{Kind, Schema, SchemaError};
+use neli::simulator::{Kernel, Request};
+use neli::types::Buffer;
+use std::error::Error;
+
+/// An attribute with its padding.
+fn attribute(number: u16, payload: &[u8]) -> Vec<u8> {
+    let mut bytes = ((payload.len() + 4) as u16).to_ne_bytes().to_vec();
+    bytes.extend(number.to_ne_bytes());
+    bytes.extend(payload);
+    bytes.resize(bytes.len().next_multiple_of(4), 0);
+    bytes
+}
+
+/// The body of a link that is to be made, with an MTU of these bytes.
+fn link(mtu: &[u8]) -> Vec<u8> {
+    let mut body = vec![0; 16];
+    body.extend(attribute(u16::from(Ifla::Ifname), b"one\0"));
+    body.extend(attribute(u16::from(Ifla::Mtu), mtu));
+    let kind = attribute(u16::from(IflaInfo::Kind), b"veth\0");
+    body.extend(attribute(u16::from(Ifla::Linkinfo) | 0x8000, &kind));
+    body
+}
+
+/// The request to make it.
+fn request(mtu: &[u8]) -> Result<Vec<u8>, Box<dyn Error>> {
+    let payload = NlPayload::Payload(Buffer::from(link(mtu)));
+    let flags = NlmF::REQUEST | NlmF::ACK | NlmF::CREATE;
+    let message = NlmsghdrBuilder::default().nl_type(Rtm::Newlink).nl_flags(flags).nl_payload(payload).build()?;
+    let mut bytes = Vec::new();
+    message.to_bytes(&mut bytes)?;
+    Ok(bytes)
+}
+
+#[test]
+fn each_attribute_has_its_path_its_place_and_its_value() -> Result<(), Box<dyn Error>> {
+    let schema = Schema::built_in()?;
+    let bytes = request(&1500u32.to_ne_bytes())?;
+    let message = schema.message(NlFamily::Route, &bytes)?;
+    let attributes = message.attributes().collect::<Result<Vec<_>, _>>()?;
+    let paths: Vec<_> = attributes.iter().map(|it| (it.path(), it.name(), it.depth())).collect();
+    let wanted = [
+        ("IFLA_IFNAME", "IFLA_IFNAME", 1),
+        ("IFLA_MTU", "IFLA_MTU", 1),
+        ("IFLA_LINKINFO", "IFLA_LINKINFO", 1),
+        ("IFLA_LINKINFO.IFLA_INFO_KIND", "IFLA_INFO_KIND", 2),
+    ];
+    assert_eq!(paths, wanted);
+    let payloads: Vec<_> = attributes.iter().map(|it| it.payload()).collect();
+    assert_eq!((payloads[0], payloads[1], payloads[3]), (&b"one\0"[..], &b"\xdc\x05\0\0"[..], &b"veth\0"[..]));
+    assert_eq!((attributes[0].value()?, attributes[1].value()?), ("\"one\"".to_owned(), "1500".to_owned()));
+    assert_eq!((attributes[2].kind(), attributes[1].number()), (Kind::NEST, u16::from(Ifla::Mtu)));
+    assert_eq!(message.check(), Ok(()));
+    let json = message.to_json()?;
+    assert!(json.contains("\"name\":\"RTM_NEWLINK\"") && json.contains("\"value\":1500"), "{json}");
+    assert_eq!(schema.datagram_json(NlFamily::Route, &bytes)?, json + "\n");
+    let text = message.to_string();
+    assert!(text.starts_with("RTM_NEWLINK ") && text.contains("  IFLA_MTU 1500\n"), "{text}");
+    assert_eq!(schema.datagram_text(NlFamily::Route, &bytes)?, text);
+    Ok(())
+}
+
+#[test]
+fn a_request_is_checked_before_it_is_sent() -> Result<(), Box<dyn Error>> {
+    let schema = Schema::built_in()?;
+    let bytes = request(b"\xdc\x05")?;
+    let violation = schema.message(NlFamily::Route, &bytes)?.check().expect_err("an MTU has four bytes");
+    assert!(violation.to_string().starts_with("IFLA_MTU: "), "{violation}");
+    Ok(())
+}
+
+/// The kernel says at which byte a request is wrong, and the schema which attribute that is.
+#[test]
+fn a_refusal_names_the_attribute() -> Result<(), Box<dyn Error>> {
+    let kernel = Kernel::new(7, |request: &Request<'_>| {
+        let why = [attribute(1, b"Unknown device type\0"), attribute(2, &52u32.to_ne_bytes())].concat();
+        Ok(vec![request.capped_error(-95, &why)?])
+    });
+    let schema = Schema::built_in()?;
+    let sent = request(&1500u32.to_ne_bytes())?;
+    let (router, _multicast) = NlRouter::over(kernel)?;
+    let body = NlPayload::Payload(Buffer::from(link(&1500u32.to_ne_bytes())));
+    let mut replies = router.send::<_, _, Rtm, Buffer>(Rtm::Newlink, NlmF::ACK | NlmF::CREATE, body)?;
+    let Some(Err(RouterError::Nlmsgerr(answer))) = replies.next() else { panic!("it is refused") };
+    let refusal = schema.message(NlFamily::Route, &sent)?.refusal(&answer);
+    assert_eq!((refusal.errno(), refusal.attribute()), (95, Some("IFLA_LINKINFO.IFLA_INFO_KIND")));
+    let line = "Operation not supported: Unknown device type, at IFLA_LINKINFO.IFLA_INFO_KIND";
+    assert_eq!(refusal.to_string(), line);
+    Ok(())
+}
+
+#[test]
+fn tables_of_a_programs_own_are_added() -> Result<(), Box<dyn Error>> {
+    let schema = Schema::empty()?;
+    let bytes = request(&1500u32.to_ne_bytes())?;
+    assert_eq!(schema.message(NlFamily::Route, &bytes)?.attributes().count(), 0);
+    schema
+        .add("family own 0\nmessage OWN_NEW 16 nest=own after=head\nstruct head 16\nset own\nattr OWN_MTU 4 u32\n")?;
+    let message = schema.message(NlFamily::Route, &bytes)?;
+    let paths = message.attributes().map(|it| it.map(|it| it.path().to_owned())).collect::<Result<Vec<_>, _>>()?;
+    assert_eq!(paths, ["3", "OWN_MTU", "18"]);
+    let bad = schema.add("set own\n").expect_err("a family comes first");
+    assert!(matches!(bad, SchemaError::Line { number: 1, .. }), "{bad}");
+    Ok(())
+}
+
+/// Threads share a schema.
+#[test]
+fn threads_share_a_schema() -> Result<(), Box<dyn Error>> {
+    let schema = Schema::built_in()?;
+    let bytes = request(&1500u32.to_ne_bytes())?;
+    std::thread::scope(|scope| {
+        for _ in 0..4 {
+            scope.spawn(|| {
+                for _ in 0..100 {
+                    let message = schema.message(NlFamily::Route, &bytes).expect("is a message");
+                    assert_eq!(message.attributes().count(), 4);
+                }
+            });
+        }
+    });
+    Ok(())
+}
+
+/// A link that a body is built for is read by the same names.
+#[test]
+fn a_body_is_read_by_name() -> Result<(), Box<dyn Error>> {
+    let schema = Schema::built_in()?;
+    let body: Ifinfomsg = IfinfomsgBuilder::default().ifi_family(RtAddrFamily::Unspecified).ifi_index(7).build()?;
+    let message = NlmsghdrBuilder::default().nl_type(Rtm::Newlink).nl_payload(NlPayload::Payload(body)).build()?;
+    let mut bytes = Vec::new();
+    message.to_bytes(&mut bytes)?;
+    let json = schema.message(NlFamily::Route, &bytes)?.to_json()?;
+    assert!(json.contains("\"ifi_index\":7"), "{json}");
+    Ok(())
+}
