@@ -3,7 +3,8 @@
 //! - [`values`]: the wire layer, constants, groups and bit arrays. [`attributes`]: attributes and lists of them.
 //! - [`bodies`]: the bodies of all families. [`payloads`]: attributes' payloads other than numbers and texts.
 //! - [`messages`]: messages, owned and lent. [`router`]: the router and the resolvers, over each store.
-//! - [`simulator`]: a kernel's answers.
+//! - [`simulator`]: a kernel's answers. [`schema`]: messages by the tables of their families. [`programs`]: whole
+//!   programs.
 #![tactic(auto)]
 
 #[cfg(test)]
@@ -15,7 +16,11 @@ mod messages;
 #[cfg(test)]
 mod payloads;
 #[cfg(test)]
+mod programs;
+#[cfg(test)]
 mod router;
+#[cfg(test)]
+mod schema;
 #[cfg(test)]
 mod simulator;
 #[cfg(test)]

@@ -10,7 +10,7 @@ use neli::nl::{NlPayload, Nlmsghdr};
 use neli::rtnl::{Ifinfomsg, Rtmsg};
 use neli::types::Buffer;
 use neli::{FromBytesWithInput, ToBytes};
-use std::alloc::{AllocError, Global};
+use std::alloc::{AllocError, AllocFailed, Global};
 use std::fmt::Display;
 
 /// A message with untyped payload.
@@ -31,6 +31,12 @@ impl From<NoMemory> for Trouble {
     }
 }
 
+impl<V: Drop> From<AllocFailed<V>> for Trouble {
+    fn from(_: AllocFailed<V>) -> Trouble {
+        Trouble::Memory
+    }
+}
+
 impl From<AllocError> for Trouble {
     fn from(_: AllocError) -> Trouble {
         Trouble::Memory
@@ -45,7 +51,7 @@ pub struct Counts {
 }
 
 /// Differs by this, unless it is the same.
-fn agree(is_same: bool, what: &'static str) -> Result<(), Trouble> {
+pub fn agree(is_same: bool, what: &'static str) -> Result<(), Trouble> {
     if is_same {
         Ok(())
     } else {

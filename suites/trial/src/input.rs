@@ -3,12 +3,14 @@
 use std::alloc::Global;
 use std::io;
 
-/// The request: a seed, and the numbers of datagrams and scripts.
+/// The request: a seed, and the numbers of datagrams, scripts, texts, and datagrams that are shown.
 #[derive(Clone, Copy)]
 pub struct Wanted {
     pub seed: u64,
     pub datagrams: u64,
     pub scripts: u64,
+    pub texts: u64,
+    pub shown: u64,
 }
 
 /// The error of words or lines that cannot be read.
@@ -28,6 +30,8 @@ pub fn read_words(words: &[String]) -> io::Result<Wanted> {
         seed: number(words, 0)?,
         datagrams: number(words, 1)?,
         scripts: number(words, 2)?,
+        texts: number(words, 3)?,
+        shown: number(words, 4)?,
     })
 }
 

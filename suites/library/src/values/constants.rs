@@ -5,7 +5,7 @@ use neli::TypeSize;
 use neli::consts::Constant;
 use neli::consts::connector::ProcEventType;
 use neli::consts::genl::CtrlCmd;
-use neli::consts::linux::{self, NetlinkAttributeType, Nha, Rtnlgrp};
+use neli::consts::linux::{self, AF_BRIDGE, AF_MPLS, NetlinkAttributeType, Nha, Rtnlgrp};
 use neli::consts::nl::{NlTypeWrapper, NlmF};
 use neli::consts::rtnl::{Iff, Rtm};
 use neli::consts::socket::AddrFamily;
@@ -29,6 +29,8 @@ fn both_ways(rt: HostRuntime) {
     check(&rt, alloc, ProcEventType::Exit, b"\x00\x00\x00\x80");
     check(&rt, alloc, AddrFamily::Netlink, b"\x10\x00\x00\x00");
     check(&rt, alloc, linux::CtrlCmd::Getpolicy, b"\x0a");
+    check(&rt, alloc, AF_BRIDGE, b"\x07");
+    check(&rt, alloc, AF_MPLS, b"\x1c");
     check(&rt, alloc, Nha::Gateway, b"\x06\x00");
     check(&rt, alloc, Rtnlgrp::Nexthop, b"\x20\x00\x00\x00");
     let nested = NetlinkAttributeType::Nested;

@@ -130,7 +130,7 @@ const LINES: [(NlFamily, u16, u16, &str); 9] = [
         NlFamily::Generic,
         31,
         0x301,
-        "type 31 seq 5 port 1200 REQUEST|0x300",
+        "type 31 seq 5 port 1200 REQUEST|DUMP",
     ),
 ];
 

@@ -1,0 +1,198 @@
+//! Messages by the tables, as text and as JSON: `neli_print`.
+//!
+//! Rows are recorded datagrams, by their file. Headers, codes, echoed headers and numbers of attributes are those that
+//! libmnl reads there, values those that pyroute2 reads; names are those of the kernel's headers (`linux/netlink.h`,
+//! `linux/neighbour.h`, `linux/rtnetlink.h`, `linux/if_link.h`, `linux/if_arp.h`, `linux/cn_proc.h`, `linux/genetlink.h`)
+//! as the tables have them.
+
+use hex::decode;
+use neli_print::{Datagram, DatagramJson, DatagramText};
+use neli_tables_bodies::built_in;
+use std::alloc::Global;
+use std::fmt::Write;
+use std::test::Fail;
+
+/// The file of a recording, its protocol, its bytes, and what is to be printed.
+type Row = (&'static str, u16, &'static str, &'static str);
+
+const JSON: [Row; 7] = [
+    (
+        "0308-route-dump-neigh",
+        0,
+        "240000001c0002006a0400000b1ec88402000000030000000000080108000100c000024d\
+        14000000030002006a0400000b1ec88400000000",
+        "{\"protocol\":0,\"type\":28,\"name\":\"RTM_NEWNEIGH\",\"length\":36,\"flags\":[\"NLM_F_MULTI\"],\
+        \"seq\":1130,\"port\":2227707403,\"structure\":\"ndmsg\",\"fields\":{\"ndm_family\":2,\"ndm_ifindex\":3,\
+        \"ndm_state\":[],\"ndm_flags\":[\"proxy\"],\"ndm_type\":\"unicast\"},\"attributes\":[{\"number\":1,\
+        \"name\":\"NDA_DST\",\"value\":\"192.0.2.77\"}]}\n\
+        {\"protocol\":0,\"type\":3,\"name\":\"NLMSG_DONE\",\"length\":20,\"flags\":[\"NLM_F_MULTI\"],\"seq\":1130,\
+        \"port\":2227707403,\"code\":0,\"attributes\":[]}\n",
+    ),
+    (
+        "0414-route-echo",
+        0,
+        "3c00000019000000cc0400007011a5f202180000fe0400010000000008000f00fe000000080001000a320000\
+        08000500c00002090800040003000000",
+        "{\"protocol\":0,\"type\":25,\"name\":\"RTM_DELROUTE\",\"length\":60,\"flags\":[],\"seq\":1228,\
+        \"port\":4070904176,\"structure\":\"rtmsg\",\"fields\":{\"rtm_family\":2,\"rtm_dst_len\":24,\"rtm_src_len\":0,\
+        \"rtm_tos\":0,\"rtm_table\":\"main\",\"rtm_protocol\":\"static\",\"rtm_scope\":\"universe\",\
+        \"rtm_type\":\"unicast\",\"rtm_flags\":[]},\"attributes\":[{\"number\":15,\"name\":\"RTA_TABLE\",\
+        \"value\":\"main\"},{\"number\":1,\"name\":\"RTA_DST\",\"value\":\"10.50.0.0\"},{\"number\":5,\
+        \"name\":\"RTA_GATEWAY\",\"value\":\"192.0.2.9\"},{\"number\":4,\"name\":\"RTA_OIF\",\"value\":3}]}\n",
+    ),
+    (
+        "0651-route-error",
+        0,
+        "4800000002000003a30400002b310000eaffffff2800000013000500a304000000000000\
+        210001006d7475206c657373207468616e20646576696365206d696e696d756d00000000",
+        "{\"protocol\":0,\"type\":2,\"name\":\"NLMSG_ERROR\",\"length\":72,\
+        \"flags\":[\"NLM_F_CAPPED\",\"NLM_F_ACK_TLVS\"],\"seq\":1187,\"port\":12587,\"code\":-22,\"error\":\"EINVAL\",\
+        \"meaning\":\"Invalid argument\",\"request\":{\"type\":19,\"name\":\"RTM_SETLINK\",\"length\":40,\
+        \"flags\":[\"NLM_F_REQUEST\",\"NLM_F_ACK\"],\"seq\":1187,\"port\":0},\"attributes\":[{\"number\":1,\
+        \"name\":\"NLMSGERR_ATTR_MSG\",\"value\":\"mtu less than device minimum\"}]}\n",
+    ),
+    (
+        "0519-route-acknowledgement",
+        0,
+        "24000000020000011e0400002b3100000000000020000000130005001e04000000000000",
+        "{\"protocol\":0,\"type\":2,\"name\":\"NLMSG_ERROR\",\"length\":36,\"flags\":[\"NLM_F_CAPPED\"],\"seq\":1054,\
+        \"port\":12587,\"code\":0,\"request\":{\"type\":19,\"name\":\"RTM_SETLINK\",\"length\":32,\
+        \"flags\":[\"NLM_F_REQUEST\",\"NLM_F_ACK\"],\"seq\":1054,\"port\":0}}\n",
+    ),
+    (
+        "0467-route-acknowledgement",
+        0,
+        "2800000002000000ea0300002b310000eaffffff1400000065000100ea0300000000000000000000",
+        "{\"protocol\":0,\"type\":2,\"name\":\"NLMSG_ERROR\",\"length\":40,\"flags\":[],\"seq\":1002,\"port\":12587,\
+        \"code\":-22,\"error\":\"EINVAL\",\"meaning\":\"Invalid argument\",\"request\":{\"type\":101,\
+        \"name\":\"RTM_DELCHAIN\",\"length\":20,\"flags\":[\"NLM_F_REQUEST\"],\"seq\":1002,\"port\":0,\
+        \"structure\":\"tcmsg\",\"fields\":{\"tcm_family\":0}},\"attributes\":[]}\n",
+    ),
+    (
+        "1070-connector-process-event",
+        11,
+        "4c000000030000003300000000000000010000000100000033000000000000002800000000000080010000006b5778f637020000\
+        894300008943000000030000110000004b4300004b430000",
+        "{\"protocol\":11,\"type\":3,\"name\":\"PROC_EVENT_EXIT\",\"length\":76,\"flags\":[],\"seq\":51,\"port\":0,\
+        \"structure\":\"proc_event_exit\",\"fields\":{\"idx\":1,\"val\":1,\"seq\":51,\"ack\":0,\"len\":40,\"flags\":0,\
+        \"what\":2147483648,\"cpu\":1,\"timestamp_ns\":2439381538667,\"process_pid\":17289,\"process_tgid\":17289,\
+        \"exit_code\":768,\"exit_signal\":17,\"parent_pid\":17227,\"parent_tgid\":17227}}\n",
+    ),
+    (
+        "0875-generic-generic-family",
+        16,
+        "88000000100000002204000049430000010200000b0002006e6c6374726c00000600010010000000080003000200000008000400\
+        00000000080005000000000\
+        02c000600140001000800010003000000080002000e00000014000200080001000a000000080002000c0000001c000700180001\
+        0008000200100000000b0001006e6f746966790000",
+        "{\"protocol\":16,\"type\":16,\"name\":\"CTRL_CMD_NEWFAMILY\",\"length\":136,\"flags\":[],\"seq\":1058,\
+        \"port\":17225,\"command\":1,\"version\":2,\"attributes\":[{\"number\":2,\"name\":\"CTRL_ATTR_FAMILY_NAME\",\
+        \"value\":\"nlctrl\"},{\"number\":1,\"name\":\"CTRL_ATTR_FAMILY_ID\",\"value\":16},{\"number\":3,\
+        \"name\":\"CTRL_ATTR_VERSION\",\"value\":2},{\"number\":4,\"name\":\"CTRL_ATTR_HDRSIZE\",\"value\":0},\
+        {\"number\":5,\"name\":\"CTRL_ATTR_MAXATTR\",\"value\":0},{\"number\":6,\"name\":\"CTRL_ATTR_OPS\",\
+        \"attributes\":[{\"number\":1,\"name\":\"index\",\"attributes\":[{\"number\":1,\"name\":\"CTRL_ATTR_OP_ID\",\
+        \"value\":3},{\"number\":2,\"name\":\"CTRL_ATTR_OP_FLAGS\",\
+        \"value\":[\"cmd-cap-do\",\"cmd-cap-dump\",\"cmd-cap-haspol\"]}]},{\"number\":2,\"name\":\"index\",\
+        \"attributes\":[{\"number\":1,\"name\":\"CTRL_ATTR_OP_ID\",\"value\":10},{\"number\":2,\
+        \"name\":\"CTRL_ATTR_OP_FLAGS\",\"value\":[\"cmd-cap-dump\",\"cmd-cap-haspol\"]}]}]},{\"number\":7,\
+        \"name\":\"CTRL_ATTR_MCAST_GROUPS\",\"attributes\":[{\"number\":1,\"name\":\"index\",\
+        \"attributes\":[{\"number\":2,\"name\":\"CTRL_ATTR_MCAST_GRP_ID\",\"value\":16},{\"number\":1,\
+        \"name\":\"CTRL_ATTR_MCAST_GRP_NAME\",\"value\":\"notify\"}]}]}]}\n",
+    ),
+];
+
+const TEXT: [Row; 4] = [
+    (
+        "0115-route-notify",
+        0,
+        "5000000018000006fc97026b9a31000002100000fe0300010000000008000f00fe000000080001000a070000\
+        240009001000000203000000\
+        08000500c0000209100000000400000008000500c6336409",
+        "RTM_NEWROUTE length 80 flags NLM_F_EXCL|NLM_F_CREATE seq 1795332092 port 12698\n  \
+        rtmsg rtm_family 2 rtm_dst_len 16 rtm_src_len 0 rtm_tos 0 rtm_table main rtm_protocol boot rtm_scope universe \
+        rtm_type unicast rtm_flags 0\n  \
+        RTA_TABLE main\n  \
+        RTA_DST 10.7.0.0\n  \
+        RTA_MULTIPATH\n    \
+        hop rtnexthop rtnh_len 16 rtnh_flags 0 rtnh_hops 2 rtnh_ifindex 3\n      \
+        RTA_GATEWAY 192.0.2.9\n    \
+        hop rtnexthop rtnh_len 16 rtnh_flags 0 rtnh_hops 0 rtnh_ifindex 4\n      \
+        RTA_GATEWAY 198.51.100.9\n",
+    ),
+    (
+        "0593-route-error",
+        0,
+        "9000000002000002680400002b310000deffffff2800000013000500680400000000000000000000030000000000000000000000\
+        06000400dc05000027000100417474726962757465206661696c656420706f6c6963792076616c69646174696f6e0000\
+        0800020020000000240004800c00040000000000000000000c000500ffffffff000000000800010004000000",
+        "NLMSG_ERROR length 144 flags NLM_F_ACK_TLVS seq 1128 port 12587\n  \
+        error -34 ERANGE Numerical result out of range\n  \
+        of RTM_SETLINK length 40 flags NLM_F_REQUEST|NLM_F_ACK seq 1128 port 0\n    \
+        ifinfomsg ifi_family 0 ifi_type netrom ifi_index 3 ifi_flags 0 ifi_change 0\n    \
+        IFLA_MTU broken: shorter than 4 bytes: 0xdc05\n  \
+        NLMSGERR_ATTR_MSG \"Attribute failed policy validation\"\n  \
+        NLMSGERR_ATTR_OFFS 32\n  \
+        NLMSGERR_ATTR_POLICY nested\n    \
+        NL_POLICY_TYPE_ATTR_MIN_VALUE_U 0\n    \
+        NL_POLICY_TYPE_ATTR_MAX_VALUE_U 4294967295\n    \
+        NL_POLICY_TYPE_ATTR_TYPE u32\n",
+    ),
+    (
+        "a header that ends too early after a message",
+        0,
+        "1c0000005800000023040000e9729683000000000800010000000000ffff",
+        "RTM_NEWNSID length 28 flags 0 seq 1059 port 2207675113\n  \
+        rtgenmsg rtgen_family 0\n  \
+        NETNSA_NSID 0\n\
+        fault: at 28: the bytes end too early\n",
+    ),
+    (
+        "a message of a family that is not known, with bits in its header",
+        16,
+        "1800000030000103000000000000000003010200ff00ff00",
+        "type 48 length 24 flags NLM_F_REQUEST|NLM_F_DUMP seq 0 port 0\n  \
+        command 3 version 1 reserved 2\n  \
+        payload 0xff00ff00\n",
+    ),
+];
+
+/// Asserts what datagrams are printed as by the built-in tables.
+fn assert_printed(
+    rt: &impl std::process::Abort,
+    alloc: Global,
+    rows: &[Row],
+    is_json: bool,
+) -> Result<(), Fail> {
+    let tables = built_in(alloc)?;
+    for (what, protocol, digits, wanted) in rows {
+        let bytes = decode(alloc, digits)?;
+        let datagram = Datagram {
+            tables: &tables,
+            protocol: *protocol,
+            bytes: &bytes,
+        };
+        let mut text = String::new(alloc);
+        if is_json {
+            let json = DatagramJson(datagram);
+            write!(text, "{json}")?;
+        } else {
+            let lines = DatagramText {
+                is_coloured: false,
+                datagram,
+            };
+            write!(text, "{lines}")?;
+        }
+        assert_eq!(rt; text.as_str(), *wanted, "at {what}");
+    }
+    Ok(())
+}
+
+#[test]
+fn messages_are_objects(rt: HostRuntime) -> Result<(), Fail> {
+    assert_printed(&rt, rt.alloc(), &JSON, true)
+}
+
+#[test]
+fn messages_are_lines(rt: HostRuntime) -> Result<(), Fail> {
+    assert_printed(&rt, rt.alloc(), &TEXT, false)
+}
