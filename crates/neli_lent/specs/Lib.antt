@@ -1,3 +1,4 @@
+pub mod Frames
 pub mod Walks
 pub mod Attributes
 pub mod Messages

@@ -7,13 +7,13 @@ ghost use Rattle.neli_wire.specs.Refusals.{Refuses};
 ghost use Rattle.neli_attr.specs.Payloads.{ReadsFirst, RefusesAs};
 ghost use Rattle.neli_lent.specs.Attributes.{attribute_said, lent_attribute};
 
-use crate::LentAttrs;
+use crate::{LentAttrs, lend_payload};
 use byteorder::{ByteOrder, LittleEndian};
 use neli_attr::AttrType;
 use neli_consts::ATTRIBUTE_HEADER_SIZE;
 use neli_list::{read_borrowed, read_first, read_whole};
 use neli_wire::{
-    Constant, Cursor, DeError, FromBytes, FromBytesWithInput, FromBytesWithInputBorrowed, alignto,
+    Constant, Cursor, DeError, FromBytes, FromBytesWithInput, FromBytesWithInputBorrowed,
 };
 use std::alloc::Global;
 use std::io::ErrorKind;
@@ -78,19 +78,7 @@ impl<'b, K: Constant<Number = u16>> LentAttr<'b, K> {
         }
         let len = LittleEndian::read_u16(rest);
         let kind = K::from_wire(LittleEndian::read_u16(&rest[2..]));
-        let size = len as usize;
-        if size < ATTRIBUTE_HEADER_SIZE {
-            return Err(DeError::InvalidInput(size));
-        }
-        if rest.len() < size {
-            return Err(DeError::InvalidInput(size - ATTRIBUTE_HEADER_SIZE));
-        }
-        let end = alignto(size);
-        if rest.len() < end {
-            return Err(DeError::Io(ErrorKind::UnexpectedEof));
-        }
-        cursor.advance(end);
-        let payload = &rest[ATTRIBUTE_HEADER_SIZE..size];
+        let payload = lend_payload(cursor, ATTRIBUTE_HEADER_SIZE, len as usize)?;
         Ok(LentAttr { len, kind, payload })
     }
 

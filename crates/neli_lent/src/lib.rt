@@ -6,6 +6,7 @@
 //!   [`LentAttr`] is one. [`LentNlattrs`] and [`LentRtattrs`] are names for the two.
 //! - [`FromSpan`]: `Nlmsghdr::<T, P>::from_span` reads the bytes of one message as the caller's types, with its lengths
 //!   computed.
+//! - [`lend_payload`]: the frame that all of them are, once its header is read.
 //! - [`AttrSelector`]: the types that find attributes.
 //! - [`laws`]: lent values are those read as owned values, or refused with them.
 //!
@@ -17,6 +18,7 @@
 
 mod attribute;
 mod attributes;
+mod frame;
 pub mod laws;
 mod message;
 mod messages;
@@ -25,6 +27,7 @@ mod span;
 
 pub use attribute::{LentAttr, LentNlattr, LentRtattr};
 pub use attributes::{LentAttrs, LentNlattrs, LentRtattrs};
+pub use frame::lend_payload;
 pub use message::LentMessage;
 pub use messages::LentMessages;
 pub use selector::AttrSelector;

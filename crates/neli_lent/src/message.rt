@@ -10,10 +10,10 @@ ghost use Rattle.neli_reader.specs.NlPayload.TheVariants as payload;
 ghost use Rattle.neli_reader.specs.Retyping.{typed_header};
 ghost use Rattle.neli_lent.specs.Messages.{as_owned, as_owned_takes_memory, lent_message, message_said};
 
-use crate::LentAttrs;
+use crate::{LentAttrs, lend_payload};
 use neli_consts::{MESSAGE_HEADER_SIZE, NLMSG_DONE, NLMSG_ERROR, NlType, NlmF};
 use neli_reader::{NlPayload, Nlmsghdr, NlmsghdrAck};
-use neli_wire::{Constant, Cursor, DeError, FromBytesWithInput, Header, alignto};
+use neli_wire::{Constant, Cursor, DeError, FromBytesWithInput, Header};
 use std::alloc::Global;
 use std::io::ErrorKind;
 
@@ -26,8 +26,8 @@ pub struct LentMessage<'b, T> {
 }
 
 impl<'b, T> LentMessage<'b, T> {
-    /// The header as it was read.
-    pub(crate) fn header(&self) -> &NlmsghdrAck<T>
+    /// The header as it was read, 16 bytes; it can be copied, and takes no memory.
+    pub fn header(&self) -> &NlmsghdrAck<T>
         ensures { result.now ≡ self.now.header }
     {
         &self.header
@@ -115,18 +115,7 @@ impl<'b, T: NlType> LentMessage<'b, T> {
             return Err(DeError::Io(ErrorKind::UnexpectedEof));
         };
         let len = *header.nl_len() as usize;
-        if len < MESSAGE_HEADER_SIZE {
-            return Err(DeError::InvalidInput(len));
-        }
-        if rest.len() < len {
-            return Err(DeError::InvalidInput(len - MESSAGE_HEADER_SIZE));
-        }
-        let end = alignto(len);
-        if rest.len() < end {
-            return Err(DeError::Io(ErrorKind::UnexpectedEof));
-        }
-        cursor.advance(end);
-        let payload = &rest[MESSAGE_HEADER_SIZE..len];
+        let payload = lend_payload(cursor, MESSAGE_HEADER_SIZE, len)?;
         Ok(LentMessage { header, payload })
     }
 

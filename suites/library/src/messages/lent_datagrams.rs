@@ -110,6 +110,9 @@ fn assert_all_same(
         let message = message.expect(rt, row);
         assert_is_at(rt, row, *message.nl_type(), *owned.nl_type());
         assert_is_at(rt, row, lent_numbers(&message), numbers_of(owned));
+        let header = message.header();
+        assert_is_at(rt, row, *header.nl_len(), *owned.nl_len());
+        assert_is_at(rt, row, *header.nl_seq(), *owned.nl_seq());
         let payload = owned.get_payload().expect(rt, "a payload");
         assert_is_at(rt, row, message.nl_payload(), payload.as_ref());
     }
