@@ -16,9 +16,7 @@ use neli_attr::{Buffer, GenlBuffer};
 use neli_consts::{NlType, NlmF, NlmsgerrAttr};
 use neli_lent::LentMessage;
 use neli_list::read_whole;
-use neli_reader::{
-    NlPayload, Nlmsgerr, NlmsgerrBuilder, Nlmsghdr, NlmsghdrAck, NlmsghdrAckBuilder,
-};
+use neli_reader::{NlPayload, Nlmsgerr, NlmsgerrBuilder, Nlmsghdr, NlmsghdrAck};
 use neli_wire::{DeError, SerError, ToBytes};
 use std::alloc::Global;
 
@@ -44,23 +42,6 @@ pub fn read_ext_ack(alloc: Global, bytes: &[u8]) -> Result<ExtAck, DeError>
     ensures refused { IfErr result (Refuses (ext_ack_in bytes.now) (0 < length bytes.now)) }
 {
     read_whole(alloc, bytes)
-}
-
-/// The header of a message that is lent.
-fn header_of(message: &LentMessage<'_, u16>) -> NlmsghdrAck<u16>
-    ensures { result ≡ message.now.header }
-{
-    let built = NlmsghdrAckBuilder::default()
-        .nl_len(*message.nl_len())
-        .nl_type(*message.nl_type())
-        .nl_flags(*message.nl_flags())
-        .nl_seq(*message.nl_seq())
-        .nl_pid(*message.nl_pid())
-        .build();
-    match built {
-        Ok(header) => header,
-        Err(_) => unreachable!(),
-    }
 }
 
 /// The flags of an acknowledgement or an error with these attributes.
@@ -98,7 +79,7 @@ impl<'b> Request<'b> {
     {
         Request {
             port,
-            header: header_of(message),
+            header: *message.header(),
             payload: message.nl_payload(),
         }
     }
