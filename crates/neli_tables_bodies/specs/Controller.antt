@@ -6,7 +6,8 @@ use Rattle.std.specs.Option.{option_map}
 use Rattle.byteorder.specs.Endian.{little_number}
 use Rattle.neli_tables_rows.specs.Families.{Lines, generic_in, learnt_as}
 use Rattle.neli_tables_walk.specs.Elements.{Lent}
-use Rattle.neli_tables_walk.specs.Shapes.{attributes_of, has_number, without_zero}
+use Rattle.neli_tables_walk.specs.Shapes.{attributes_of, has_number}
+use Rattle.neli_values.specs.Breaches.{without_zero}
 use Rattle.neli_tables_bodies.specs.declared.generic.GenericHeader.{GenericHeader}
 use Rattle.neli_tables_bodies.specs.declared.head.Head.{Head}
 use Rattle.neli_tables_bodies.specs.Bodies.{generic_header}

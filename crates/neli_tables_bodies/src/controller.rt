@@ -13,7 +13,7 @@ use byteorder::{ByteOrder, LittleEndian};
 use neli_consts::{CtrlAttr, CtrlCmd, GenlId};
 use neli_lent::LentNlattrs;
 use neli_tables_rows::Tables;
-use neli_tables_walk::without_zero;
+use neli_values::without_zero;
 use std::alloc::AllocError;
 
 /// Learns the number of a family of generic netlink from a message of the controller that names it

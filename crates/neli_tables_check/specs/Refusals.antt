@@ -8,7 +8,7 @@ use Rattle.neli_errno.specs.Errnos.{Row, errno_of, errno_text}
 use Rattle.neli_tables_bodies.specs.Bodies.{BodySeen}
 use Rattle.neli_tables_bodies.specs.Controller.{first_payload}
 use Rattle.neli_tables_walk.specs.declared.item.Step.{Step}
-use Rattle.neli_tables_walk.specs.Shapes.{without_zero}
+use Rattle.neli_values.specs.Breaches.{without_zero}
 use Rattle.neli_values.specs.Names.{name_text}
 use Rattle.neli_tables_check.specs.declared.place.Place.{Place}
 use Rattle.neli_tables_check.specs.Offsets.{found_at}

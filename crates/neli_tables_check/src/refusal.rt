@@ -11,8 +11,7 @@ use byteorder::{ByteOrder, LittleEndian};
 use neli_consts::NlmsgerrAttr;
 use neli_errno::Errno;
 use neli_tables_bodies::{Body, first_payload};
-use neli_tables_walk::without_zero;
-use neli_values::Name;
+use neli_values::{Name, without_zero};
 use std::fmt;
 
 /// An error of the kernel and what its acknowledgement says: in one line, as

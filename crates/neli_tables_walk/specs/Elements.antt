@@ -6,9 +6,10 @@ use Rattle.neli_attr.specs.TypeField.{type_of}
 use Rattle.neli_attr.specs.AttrType.{AttrType}
 use Rattle.neli_attr.specs.Attributes.{Attr, Head}
 use Rattle.neli_lent.specs.Attributes.{lent_attribute}
+use Rattle.neli_lent.specs.Frames.{headed}
 use Rattle.neli_wire.specs.Bytes.{Reading}
 use Rattle.neli_wire.specs.DeError.{DeError}
-use Rattle.neli_wire.specs.Frames.{Layout, frame_at, number_in}
+use Rattle.neli_wire.specs.Frames.{Layout, frame_at}
 use Rattle.neli_tables_walk.specs.declared.element.Element.{Element}
 use Rattle.neli_tables_walk.specs.declared.level.Sort.{Sort}
 
@@ -35,12 +36,7 @@ hop_size header = if nat_lt header 4 then 4 else header
 
 -- hops: a structure that states the length of the whole in its first two bytes, and attributes
 abbrev pub hop_layout : ℕ → Layout ℕ (List ℕ)
-hop_layout header = record {
-  size = hop_size header;
-  header_of = number_in 2 0;
-  length_of = λ length. length;
-  payload_of = λ length bytes. Ok bytes;
-}
+hop_layout header = headed (hop_size header)
 
 -- an element and what follows it
 abbrev pub attribute_read : Reading Lent → Reading Elem

@@ -1,7 +1,7 @@
 -- What a payload is by its row.
-use Rattle.std.specs.Prelude.{ℕ, ◌-◌, Bool, false, not, ◌&&◌, ◌==◌, nat_eq, nat_lt, if◌then◌else◌}
+use Rattle.std.specs.Prelude.{ℕ, Bool, false, not, ◌&&◌, ◌==◌, nat_eq, nat_lt, if◌then◌else◌}
 use Rattle.std.specs.Prelude.{List, [], ◌∷◌, length, take, find}
-use Rattle.std.specs.Prelude.{slice_get, slice_index, Option, Some, None}
+use Rattle.std.specs.Prelude.{slice_get, Option, Some, None}
 use Rattle.std.specs.Option.{option_map}
 use Rattle.byteorder.specs.Endian.{little_number, big_number}
 use Rattle.neli_tables.specs.declared.kind.Kind.{Kind}
@@ -13,6 +13,7 @@ use Rattle.neli_tables_rows.specs.Bits.{mask_of}
 use Rattle.neli_tables_rows.specs.Keys.{place_of, rest_key}
 use Rattle.neli_tables_rows.specs.Options.{options_of}
 use Rattle.neli_tables_rows.specs.Rows.{case_in, row_in}
+use Rattle.neli_values.specs.Breaches.{without_zero}
 use Rattle.neli_tables_walk.specs.declared.context.Context.{Context}
 use Rattle.neli_tables_walk.specs.declared.level.Level.{Level}
 use Rattle.neli_tables_walk.specs.declared.level.Listed.{Listed}
@@ -67,14 +68,6 @@ abbrev pub nest_of : Lines → Options → Option Nest
 nest_of table o = option_map (λ set. nest_with set o.after (size_of table o.after)) o.of
 
 -- ---- what picks a case
-
--- the last byte is a zero
-abbrev pub ends_in_zero : List ℕ → Bool
-ends_in_zero bytes = nat_lt 0 (length bytes) && slice_index bytes (length bytes - 1) == 0
-
--- the bytes before a zero at the end
-abbrev pub without_zero : List ℕ → List ℕ
-without_zero bytes = if ends_in_zero bytes then take (length bytes - 1) bytes else bytes
 
 -- bytes are a number where there are one to eight
 abbrev pub number_by : (ℕ → List ℕ → ℕ) → List ℕ → Option ℕ

@@ -3,11 +3,9 @@
 ghost use Rattle.std.specs.Prelude.{◌≡◌, ◌<◌, ◌∷◌, [], IfSome, None, Some, find, if◌then◌else◌};
 ghost use Rattle.std.specs.Prelude.{slice_get};
 ghost use Rattle.std.specs.Option.{option_map};
-ghost use Rattle.neli_tables_walk.specs.Shapes.{beside, chosen, context_seen, ends_in_zero};
-ghost use Rattle.neli_tables_walk.specs.Shapes.{has_row};
+ghost use Rattle.neli_tables_walk.specs.Shapes.{beside, chosen, context_seen, has_row};
 ghost use Rattle.neli_tables_walk.specs.Shapes.{kind_at, listed_seen, number_by};
 ghost use Rattle.neli_tables_walk.specs.Shapes.{number_in, numbered, onto, picked_as, picker};
-ghost use Rattle.neli_tables_walk.specs.Shapes.{without_zero};
 ghost use Rattle.byteorder.specs.Endian.{big_number, little_number};
 
 use crate::Context;
@@ -16,6 +14,7 @@ use byteorder::{BigEndian, ByteOrder, LittleEndian};
 use neli_lent::LentNlattr;
 use neli_tables::Kind;
 use neli_tables_rows::Options;
+use neli_values::without_zero;
 use neli_wire::Cursor;
 
 /// Among how many attributes at the front of a list that which picks a case is sought.
@@ -174,25 +173,6 @@ fn big_number(bytes: &[u8]) -> Option<u64>
         Some(BigEndian::read_uint(bytes, size))
     } else {
         None
-    }
-}
-
-/// Whether the last byte is a zero.
-fn ends_in_zero(bytes: &[u8]) -> bool
-    ensures { result ≡ ends_in_zero bytes.now }
-{
-    let size = bytes.len();
-    0 < size && bytes[size - 1] == 0
-}
-
-/// The bytes of a text before a zero at its end.
-pub fn without_zero(bytes: &[u8]) -> &[u8]
-    ensures { result.now ≡ without_zero bytes.now }
-{
-    if ends_in_zero(bytes) {
-        &bytes[..bytes.len() - 1]
-    } else {
-        bytes
     }
 }
 

@@ -9,8 +9,8 @@ ghost use Rattle.neli_tables_walk.specs.Elements.{hop_layout, hop_read, hop_size
 use crate::level::Sort;
 use byteorder::{ByteOrder, LittleEndian};
 use neli_attr::AttrType;
-use neli_lent::LentNlattr;
-use neli_wire::{Cursor, DeError, alignto};
+use neli_lent::{LentNlattr, lend_payload};
+use neli_wire::{Cursor, DeError};
 use std::io::ErrorKind;
 
 /// The least size in bytes of a hop: it states its length in two bytes, and is padded to four.
@@ -78,19 +78,11 @@ fn take_hop(header: usize, bytes: &[u8]) -> Result<(Element<'_>, &[u8]), DeError
         return Err(DeError::Io(ErrorKind::UnexpectedEof));
     }
     let size = LittleEndian::read_u16(bytes) as usize;
-    if size < least {
-        return Err(DeError::InvalidInput(size));
-    }
-    if bytes.len() < size {
-        return Err(DeError::InvalidInput(size - least));
-    }
-    let end = alignto(size);
-    if bytes.len() < end {
-        return Err(DeError::Io(ErrorKind::UnexpectedEof));
-    }
+    let mut cursor = Cursor::new(bytes);
+    lend_payload(&mut cursor, least, size)?;
     let element = Element {
         kind: None,
         payload: &bytes[..size],
     };
-    Ok((element, &bytes[end..]))
+    Ok((element, cursor.rest()))
 }

@@ -23,7 +23,6 @@ mod offset;
 mod shape;
 mod walk;
 
-pub use chosen::without_zero;
 pub use context::Context;
 pub use item::{Found, Item, Path, Rest, Step};
 pub use level::MAX_DEPTH;
