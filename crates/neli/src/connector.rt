@@ -1,7 +1,7 @@
 //! Messages of the connector, and their process events.
 
 pub use neli_genl::{CnMsg, CnMsgBuilder, CnMsgBuilderError, ProcEvent, ProcEventHeader};
-pub use neli_texts::ExitStatus;
+pub use neli_texts::{ExitStatus, laws as laws_of_texts};
 
 /// Laws: written values are read back, values are their fields, and `==` is equality.
 pub mod laws {

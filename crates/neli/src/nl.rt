@@ -1,7 +1,6 @@
-//! Messages: the header, and the kinds of payload; the header and the body on a line, for a log. With [`FromSpan`] in
-//! scope, `Nlmsghdr::<T, P>::from_span` reads the bytes of one message.
+//! Messages: the header, and the kinds of payload. With [`FromSpan`] in scope, `Nlmsghdr::<T, P>::from_span` reads the
+//! bytes of one message.
 
 pub use neli_lent::FromSpan;
 pub use neli_msg::laws as laws_of_messages;
 pub use neli_reader::{NlPayload, Nlmsghdr, NlmsghdrBuilder, NlmsghdrBuilderError, laws};
-pub use neli_texts::{BodyLine, LineFields, MessageLine, laws as laws_of_texts};

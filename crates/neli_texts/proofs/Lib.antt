@@ -1,3 +1,1 @@
-mod Events
 mod Names
-mod Rows

@@ -1,9 +1,2 @@
-pub mod BodyLine
 pub mod ExitStatus
 pub mod FlagNames
-pub mod GenlFields
-pub mod MessageLine
-pub mod MessageTypes
-pub mod NumberNames
-pub mod ProcFields
-pub mod RtnlFields

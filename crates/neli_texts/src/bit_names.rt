@@ -4,7 +4,6 @@ ghost use Rattle.std.specs.Prelude.{◌≡◌, IsOk, map};
 ghost use Rattle.std.specs.Fmt.{HasWritten, IsPlainFormatter};
 ghost use Rattle.bitflags.specs.Sets.{Row, is_next};
 ghost use Rattle.neli_texts.specs.FlagNames.{mark, names_text};
-ghost use Rattle.neli_message_flags.specs.MessageFlags.{flag_seen};
 
 use std::fmt;
 
@@ -20,18 +19,6 @@ pub(crate) trait NamedBits {
     /// Their name.
     fn name_of_bits(&self) -> &str
         ensures { result.now ≡ (row_of self.now).0 };
-}
-
-impl NamedBits for (u32, &'static str) {
-    ghost row_of = { flag_seen };
-
-    fn bits_named(&self) -> u32 {
-        self.0
-    }
-
-    fn name_of_bits(&self) -> &str {
-        self.1
-    }
 }
 
 /// The mark before a name: a bar, except before the first.

@@ -15,7 +15,7 @@
 //! - [`constants`], [`types`], [`wrappers`]: constants on the wire, and the traits and wrappers over the tables.
 //!   [`sets`]: flags as sets. [`equality`]: which constants are equal. `neli_constants` lists the reading of each
 //!   number, the number written for it, and each flag.
-//! - [`shown`]: exit codes, sets of flags and headers of messages as texts. [`body_lines`]: the fields of bodies.
+//! - [`shown`]: exit codes and sets of flags as texts.
 //! - [`groups`] and [`masks`]: lists of multicast groups, and their masks. [`bit_arrays`]: bit arrays.
 //! - [`own_types`], [`own_enums`]: a user's own types, those of `example_body`, and enums, those of
 //!   `example_enum`.
@@ -24,7 +24,6 @@
 //! - [`support`]: shared parts of the tests.
 
 mod bit_arrays;
-mod body_lines;
 mod constants;
 mod cursor;
 mod equality;

@@ -1,25 +1,19 @@
-//! Exit codes, sets of flags and headers of messages as texts for people.
+//! Exit codes and sets of flags as texts for people.
 //!
 //! Exit codes are those of wait(2): `W_EXITCODE` of glibc's bits/waitstatus.h puts a status in bits 8 to 15 and a
 //! signal in bits 0 to 6, and `WCOREFLAG` is bit 7. Flags are those of linux/if.h, linux/if_addr.h and
-//! linux/neighbour.h, types and flags of messages those of linux/rtnetlink.h and linux/netlink.h.
+//! linux/neighbour.h.
 
 use super::support::{assert_is, assert_is_at};
-use neli::Cursor;
 use neli::connector::ExitStatus;
-use neli::consts::nl::NlmF;
-use neli::consts::rtnl::{IfaF, Iff, Nud, Rtm};
-use neli::consts::socket::NlFamily;
+use neli::consts::rtnl::{IfaF, Iff, Nud};
 use neli::consts::{Constant, FlagNames, NamedFlags};
-use neli::lent::LentMessage;
-use neli::nl::MessageLine;
-use neli::types::Buffer;
 use std::alloc::Global;
 use std::fmt::Display;
 use std::process::Abort;
 
 /// Asserts the printed text of a value.
-pub fn assert_prints<D: Display>(rt: &impl Abort, alloc: Global, value: &D, want: &str) {
+fn assert_prints<D: Display>(rt: &impl Abort, alloc: Global, value: &D, want: &str) {
     let text = value.to_string(alloc).expect(rt, "memory");
     assert_is(rt, text.as_str(), want);
 }
@@ -84,81 +78,4 @@ fn sets_of_flags(rt: HostRuntime) {
     check(&rt, alloc, IfaF::from_wire(0x80), 0x80, "PERMANENT");
     check(&rt, alloc, Nud::from_wire(0x8000), 0x8000, "0x8000");
     check(&rt, alloc, Nud::REACHABLE, 2, "REACHABLE");
-}
-
-/// The protocol of a message, its type and its flags, and the line of a message with the number 5 and the port 1200.
-const LINES: [(NlFamily, u16, u16, &str); 9] = [
-    (
-        NlFamily::Route,
-        16,
-        0x605,
-        "RTM_NEWLINK seq 5 port 1200 REQUEST|ACK|EXCL|CREATE",
-    ),
-    (
-        NlFamily::Route,
-        18,
-        0x301,
-        "RTM_GETLINK seq 5 port 1200 REQUEST|DUMP",
-    ),
-    (
-        NlFamily::Route,
-        25,
-        0x105,
-        "RTM_DELROUTE seq 5 port 1200 REQUEST|ACK|NONREC",
-    ),
-    (
-        NlFamily::Route,
-        2,
-        0x100,
-        "NLMSG_ERROR seq 5 port 1200 CAPPED",
-    ),
-    (NlFamily::Route, 3, 2, "NLMSG_DONE seq 5 port 1200 MULTI"),
-    (NlFamily::Route, 122, 0, "RTM_GETTUNNEL seq 5 port 1200"),
-    (
-        NlFamily::Route,
-        200,
-        0x8000,
-        "type 200 seq 5 port 1200 0x8000",
-    ),
-    (
-        NlFamily::Generic,
-        16,
-        5,
-        "type 16 seq 5 port 1200 REQUEST|ACK",
-    ),
-    (
-        NlFamily::Generic,
-        31,
-        0x301,
-        "type 31 seq 5 port 1200 REQUEST|DUMP",
-    ),
-];
-
-#[test]
-fn lines_of_messages(rt: HostRuntime) {
-    for (protocol, message_type, flags, want) in LINES {
-        let line = MessageLine {
-            protocol,
-            message_type,
-            flags: NlmF::from_wire(flags),
-            sequence_number: 5,
-            port: 1200,
-        };
-        assert_prints(&rt, rt.alloc(), &line, want);
-    }
-}
-
-// The line of a message is that of its header, whether it is owned or lent: an acknowledged RTM_GETLINK.
-#[test]
-fn lines_of_owned_and_lent_messages(rt: HostRuntime) {
-    let bytes = b"\x10\x00\x00\x00\x12\x00\x05\x00\x05\x00\x00\x00\xb0\x04\x00\x00";
-    let want = "RTM_GETLINK seq 5 port 1200 REQUEST|ACK";
-    let lent = LentMessage::<Rtm>::lend(&mut Cursor::new(bytes)).expect(&rt, "a message");
-    let line = MessageLine::of_lent(NlFamily::Route, &lent);
-    assert_prints(&rt, rt.alloc(), &line, want);
-    let owned = lent
-        .to_nlmsghdr::<Buffer>(rt.alloc())
-        .expect(&rt, "an owned message");
-    let line = MessageLine::of(NlFamily::Route, &owned);
-    assert_prints(&rt, rt.alloc(), &line, want);
 }
