@@ -1,4 +1,5 @@
--- The error numbers of Linux (asm-generic/errno-base.h, asm-generic/errno.h) with the texts of strerror(3).
+-- The error numbers of Linux (asm-generic/errno-base.h, asm-generic/errno.h) with the texts of strerror(3), and ENOTSUPP
+-- of the kernel's own include/linux/errno.h.
 use Rattle.std.specs.Prelude.{ℕ, List, [], ◌∷◌, ◌++◌, Option, codes, find, nat_eq}
 use Rattle.std.specs.Borrow.{Bor}
 use Rattle.neli_errno.specs.declared.number.Errno.{Errno}
@@ -149,6 +150,7 @@ errnos =
     (131, codes "ENOTRECOVERABLE", codes "State not recoverable") ∷
     (132, codes "ERFKILL", codes "Operation not possible due to RF-kill") ∷
     (133, codes "EHWPOISON", codes "Memory page has hardware error") ∷
+    (524, codes "ENOTSUPP", codes "Operation is not supported") ∷
     []
 
 -- the row of a number, where it has one

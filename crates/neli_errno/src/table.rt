@@ -10,7 +10,7 @@ use crate::Errno;
 type Row = (u32, &'static str, &'static str);
 
 /// Every number that has a name.
-static ERRNOS: [Row; 131] = [
+static ERRNOS: [Row; 132] = [
     (1, "EPERM", "Operation not permitted"),
     (2, "ENOENT", "No such file or directory"),
     (3, "ESRCH", "No such process"),
@@ -162,6 +162,7 @@ static ERRNOS: [Row; 131] = [
     (131, "ENOTRECOVERABLE", "State not recoverable"),
     (132, "ERFKILL", "Operation not possible due to RF-kill"),
     (133, "EHWPOISON", "Memory page has hardware error"),
+    (524, "ENOTSUPP", "Operation is not supported"),
 ];
 
 /// The whole table.

@@ -138,9 +138,9 @@ fn refusals_are_printed(rt: HostRuntime) -> Result<(), Fail> {
     }
     // An error without a name, of which nothing is said.
     let (head, payload) = parts(0, REFUSED[0].2);
-    let refusal = Refusal::of(&body_of(&tables, head, payload), 524, b"");
+    let refusal = Refusal::of(&body_of(&tables, head, payload), 4095, b"");
     let mut said = String::new(alloc);
     write!(said, "{refusal}")?;
-    assert_eq!(rt; said.as_str(), "error 524");
+    assert_eq!(rt; said.as_str(), "error 4095");
     Ok(())
 }
