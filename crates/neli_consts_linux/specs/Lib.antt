@@ -8,8 +8,10 @@ pub mod IflaBondSlave
 pub mod IflaBr
 pub mod IflaBrport
 pub mod IflaMacvlan
+pub mod IflaStats
 pub mod IflaVf
 pub mod IflaVxlan
+pub mod Mdba
 pub mod NetlinkAttributeType
 pub mod NexthopGrpType
 pub mod Nha
@@ -21,3 +23,4 @@ pub mod NlPolicyTypeAttr
 pub mod NlmsgerrAttr
 pub mod Rtax
 pub mod Rtnlgrp
+pub mod TcaStats

@@ -4,9 +4,9 @@ ghost use Rattle.neli_wire.specs.Constants.{IsEquality};
 
 use crate::{
     CtrlAttr, CtrlAttrOp, CtrlAttrPolicy, CtrlCmd, IflaBond, IflaBondAdInfo, IflaBondSlave, IflaBr,
-    IflaBrport, IflaMacvlan, IflaVf, IflaVxlan, NetlinkAttributeType, NexthopGrpType, Nha,
-    NhaGroupStats, NhaGroupStatsEntry, NhaResBucket, NhaResGroup, NlPolicyTypeAttr, NlmsgerrAttr,
-    Rtax, Rtnlgrp,
+    IflaBrport, IflaMacvlan, IflaStats, IflaVf, IflaVxlan, Mdba, NetlinkAttributeType,
+    NexthopGrpType, Nha, NhaGroupStats, NhaGroupStatsEntry, NhaResBucket, NhaResGroup,
+    NlPolicyTypeAttr, NlmsgerrAttr, Rtax, Rtnlgrp, TcaStats,
 };
 
 /// `==` is true exactly where the two values are the same: the same variant, with the same number
@@ -35,4 +35,7 @@ pub fn equality()
     ensures nl_policy_type_attr { IsEquality ⟦<NlPolicyTypeAttr as PartialEq>⟧.eq }
     ensures netlink_attribute_type { IsEquality ⟦<NetlinkAttributeType as PartialEq>⟧.eq }
     ensures nlmsgerr_attr { IsEquality ⟦<NlmsgerrAttr as PartialEq>⟧.eq }
+    ensures ifla_stats { IsEquality ⟦<IflaStats as PartialEq>⟧.eq }
+    ensures tca_stats { IsEquality ⟦<TcaStats as PartialEq>⟧.eq }
+    ensures mdba { IsEquality ⟦<Mdba as PartialEq>⟧.eq }
 {}

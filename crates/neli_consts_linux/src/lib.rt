@@ -19,9 +19,12 @@
 //! - `families`: address families
 //! - `groups`: multicast groups of routing
 //! - `macvlans`: `macvlan` and `macvtap`
+//! - `messages`: types of messages of routing
 //! - `metrics`: metrics of routes
+//! - `multicast`: multicast groups of bridges
 //! - `next_hops`: next hops of routes
 //! - `policies`: the kernel's policies for the attributes that it takes
+//! - `statistics`: statistics of links and of queueing disciplines
 //! - `virtual_functions`: virtual functions of a link
 //! - `vxlans`: VXLAN tunnels
 #![tactic(auto)]
@@ -34,9 +37,12 @@ mod families;
 mod groups;
 pub mod laws;
 mod macvlans;
+mod messages;
 mod metrics;
+mod multicast;
 mod next_hops;
 mod policies;
+mod statistics;
 mod virtual_functions;
 mod vxlans;
 
@@ -47,10 +53,20 @@ pub use controller::{CtrlAttr, CtrlAttrOp, CtrlAttrPolicy, CtrlCmd};
 pub use families::{AF_BRIDGE, AF_MPLS};
 pub use groups::Rtnlgrp;
 pub use macvlans::IflaMacvlan;
+pub use messages::{
+    RTM_DELANYCAST, RTM_DELCHAIN, RTM_DELLINKPROP, RTM_DELMULTICAST, RTM_DELNETCONF,
+    RTM_DELNEXTHOP, RTM_DELNEXTHOPBUCKET, RTM_DELTUNNEL, RTM_DELVLAN, RTM_GETCHAIN,
+    RTM_GETLINKPROP, RTM_GETNEXTHOP, RTM_GETNEXTHOPBUCKET, RTM_GETSTATS, RTM_GETTUNNEL,
+    RTM_GETVLAN, RTM_NEWANYCAST, RTM_NEWCACHEREPORT, RTM_NEWCHAIN, RTM_NEWLINKPROP,
+    RTM_NEWMULTICAST, RTM_NEWNEXTHOP, RTM_NEWNEXTHOPBUCKET, RTM_NEWSTATS, RTM_NEWTUNNEL,
+    RTM_NEWVLAN, RTM_SETSTATS,
+};
 pub use metrics::Rtax;
+pub use multicast::Mdba;
 pub use next_hops::{
     NexthopGrpType, Nha, NhaGroupStats, NhaGroupStatsEntry, NhaResBucket, NhaResGroup,
 };
 pub use policies::{NetlinkAttributeType, NlPolicyTypeAttr};
+pub use statistics::{IflaStats, TcaStats};
 pub use virtual_functions::IflaVf;
 pub use vxlans::IflaVxlan;

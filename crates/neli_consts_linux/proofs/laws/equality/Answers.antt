@@ -46,6 +46,12 @@ use Rattle.neli_consts_linux.specs.contracts.policies.NetlinkAttributeType.{enum
 use Rattle.neli_consts_linux.specs.contracts.policies.NetlinkAttributeTypeEq.TheImpl.Laws.{laws-law as netlink_attribute_type-laws}
 use Rattle.neli_consts_linux.specs.contracts.acknowledgements.NlmsgerrAttr.{enum as nlmsgerr_attr}
 use Rattle.neli_consts_linux.specs.contracts.acknowledgements.NlmsgerrAttrEq.TheImpl.Laws.{laws-law as nlmsgerr_attr-laws}
+use Rattle.neli_consts_linux.specs.contracts.statistics.IflaStats.{enum as ifla_stats}
+use Rattle.neli_consts_linux.specs.contracts.statistics.IflaStatsEq.TheImpl.Laws.{laws-law as ifla_stats-laws}
+use Rattle.neli_consts_linux.specs.contracts.statistics.TcaStats.{enum as tca_stats}
+use Rattle.neli_consts_linux.specs.contracts.statistics.TcaStatsEq.TheImpl.Laws.{laws-law as tca_stats-laws}
+use Rattle.neli_consts_linux.specs.contracts.multicast.Mdba.{enum as mdba}
+use Rattle.neli_consts_linux.specs.contracts.multicast.MdbaEq.TheImpl.Laws.{laws-law as mdba-laws}
 use Rattle.neli_consts_linux.proofs.laws.equality.Goals as goal
 
 pub returns-clause-rtnlgrp : goal.returns-clause-rtnlgrp
@@ -130,3 +136,12 @@ returns-clause-netlink_attribute_type c = derived-equality netlink_attribute_typ
 pub returns-clause-nlmsgerr_attr : goal.returns-clause-nlmsgerr_attr
 returns-clause-nlmsgerr_attr c = derived-equality nlmsgerr_attr _ nlmsgerr_attr-laws
     (λ x y e i. (eqb-true x.0 y.0 e i, tt), tt)
+
+pub returns-clause-ifla_stats : goal.returns-clause-ifla_stats
+returns-clause-ifla_stats c = derived-equality ifla_stats _ ifla_stats-laws (λ x y e i. (eqb-true x.0 y.0 e i, tt), tt)
+
+pub returns-clause-tca_stats : goal.returns-clause-tca_stats
+returns-clause-tca_stats c = derived-equality tca_stats _ tca_stats-laws (λ x y e i. (eqb-true x.0 y.0 e i, tt), tt)
+
+pub returns-clause-mdba : goal.returns-clause-mdba
+returns-clause-mdba c = derived-equality mdba _ mdba-laws (λ x y e i. (eqb-true x.0 y.0 e i, tt), tt)
