@@ -15,13 +15,14 @@ use neli_wire::{Cursor, DeError, FromBytesWithInput, Header, NoMemory, SerError,
 use std::alloc::Global;
 use std::fmt::{self, Debug, Formatter, Write};
 
-/// The fields of a body before its attributes.
+/// The fields of a body before its attributes, as [`Body`] has them.
 pub trait Fields: FixedHeader + Copy {
     /// The name of the body in `Debug`.
     fn name() -> &'static str;
 }
 
-/// Fields of type `H`, and then attributes with types of `A`: [`Rtmsg`](crate::Rtmsg) and the others are its instances.
+/// Fields of type `H`, and then attributes with types of `A`: [`Rtmsg`](crate::Rtmsg) and the others are its instances,
+/// and so can be a body of your own, by a type of fields that implements [`FixedHeader`] and [`Fields`].
 #[derive(Drop, PartialEq, Eq)]
 pub struct Body<H, A> {
     pub(crate) header: H,
@@ -29,6 +30,21 @@ pub struct Body<H, A> {
 }
 
 impl<H, A> Body<H, A> {
+    /// These fields and these attributes.
+    pub fn new(header: H, rtattrs: RtBuffer<A, Buffer>) -> Body<H, A>
+        ensures header { result.header ≡ header }
+        ensures rtattrs { result.rtattrs ≡ rtattrs }
+    {
+        Body { header, rtattrs }
+    }
+
+    /// The fields.
+    pub fn header(&self) -> &H
+        ensures { result.now ≡ self.now.header }
+    {
+        &self.header
+    }
+
     /// The attributes.
     pub fn rtattrs(&self) -> &RtBuffer<A, Buffer>
         ensures { result.now ≡ self.now.rtattrs }

@@ -15,8 +15,9 @@
 //! - [`Fibmsg`], 12 bytes: a rule. [`Rtgenmsg`], 4 bytes: a request by family only.
 //! - [`NdaCacheinfo`], [`IflaVlanFlags`], [`IflaVlanQosMapping`]: payloads of fixed size, without attributes.
 //!
-//! Those with attributes are one type, `Body`, over a header and a type of attributes. `body.rt` has copying,
-//! comparing, printing, reading and writing; each body's own file has its fields, their getters and its builder.
+//! Those with attributes are one type, [`Body`], over a header and a type of attributes. `body.rt` has copying,
+//! comparing, printing, reading and writing; each body's own file has its fields, their getters and its builder. A body
+//! of your own is the same type over [`Fields`] of your own.
 //!
 //! A read takes the number of the body's bytes: `InvalidInput` of it if they are fewer than the header's, then the
 //! refusal of the attributes. Bytes without a meaning are kept, whatever their value, and written as they were.
@@ -36,6 +37,7 @@ mod rtgenmsg;
 mod rtmsg;
 mod tcmsg;
 
+pub use body::{Body, Fields};
 pub use fibmsg::{Fibmsg, FibmsgBuilder, FibmsgBuilderError};
 pub use ifaddrmsg::{Ifaddrmsg, IfaddrmsgBuilder, IfaddrmsgBuilderError};
 pub use ifinfomsg::{Ifinfomsg, IfinfomsgBuilder, IfinfomsgBuilderError};

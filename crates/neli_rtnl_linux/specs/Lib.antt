@@ -1,0 +1,7 @@
+pub mod BrPortMsg
+pub mod GnetStatsBasic
+pub mod GnetStatsQueue
+pub mod IfStatsMsg
+pub mod Nhmsg
+pub mod TcHandle
+pub mod laws

@@ -1,0 +1,5 @@
+pub mod BrPortMsg
+pub mod GnetStatsBasic
+pub mod GnetStatsQueue
+pub mod IfStatsMsg
+pub mod Nhmsg
