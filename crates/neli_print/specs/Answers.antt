@@ -1,6 +1,6 @@
 -- Answers: errors, acknowledgements and the ends of dumps (RFC 3549 section 2.3.2.2).
-use Rattle.std.specs.Prelude.{ℕ, ◌-◌, ◌==◌, ◌||◌, ◌&&◌, min, Bool, true, false, if◌then◌else◌}
-use Rattle.std.specs.Prelude.{List, [], drop, length, take, Option, Some, None}
+use Rattle.std.specs.Prelude.{ℕ, ◌-◌, ◌==◌, ◌||◌, ◌&&◌, min, Bool, true, false, if◌then◌else◌, List}
+use Rattle.std.specs.Prelude.{[], drop, length, take, Option, Some, None}
 use Rattle.std.specs.Borrow.{Bor}
 use Rattle.std.specs.Option.{option_map}
 use Rattle.neli_consts.specs.declared.nlm_f.NlmF.{NlmF}
@@ -11,8 +11,8 @@ use Rattle.neli_print.specs.declared.answer.Parts.{Parts}
 use Rattle.neli_print.specs.declared.head.Header.{Header}
 use Rattle.neli_print.specs.Heads.{header_in}
 
--- what an answer has behind its code: the header of the request that it is for, the body of that request, attributes,
--- and bytes of which nothing is known
+-- what an answer has behind its code: the header of the request that it is for, the body of that
+-- request, attributes, and bytes of which nothing is known
 abbrev pub PartsSeen : Type 0
 PartsSeen = Option Header × Option (List ℕ) × Option (List ℕ) × List ℕ
 
@@ -20,7 +20,8 @@ abbrev pub bytes_seen : Option (Bor (List ℕ)) → Option (List ℕ)
 bytes_seen bytes = option_map (λ b. b.now) bytes
 
 abbrev pub parts_seen : Parts → PartsSeen
-parts_seen parts = (parts.request, bytes_seen parts.body, bytes_seen parts.attributes, parts.rest.now)
+parts_seen parts =
+    (parts.request, bytes_seen parts.body, bytes_seen parts.attributes, parts.rest.now)
 
 -- bytes of which nothing is known
 abbrev pub bare : List ℕ → PartsSeen
@@ -35,7 +36,8 @@ abbrev pub headed : Header → Bool → List ℕ → PartsSeen
 headed request true behind = (Some request, None, Some behind, [])
 headed request false behind = (Some request, None, None, behind)
 
--- the bytes of a request's body that are echoed: as many as it states behind its header's 16, at most all
+-- the bytes of a request's body that are echoed: as many as it states behind its header's 16, at
+-- most all
 abbrev pub echoed_size : ℕ → List ℕ → ℕ
 echoed_size stated echoed = min (stated - 16) (length echoed)
 
@@ -57,17 +59,19 @@ whole_in (Some request) behind = whole request (drop 16 behind)
 abbrev pub is_listed : NlmF → Bool
 is_listed flags = is_capped flags && has_attributes flags
 
--- an acknowledgement, and an error that is capped, have the header of the request alone; other errors all of it. Each
--- is behind a code of four bytes
+-- an acknowledgement, and an error that is capped, have the header of the request alone; other
+-- errors all of it. Each is behind a code of four bytes
 abbrev pub error_parts : Head → List ℕ → PartsSeen
 error_parts head payload =
     if is_acknowledged payload || is_capped head.flags
-    then headed_in (header_in head.protocol (drop 4 payload)) (is_listed head.flags) (drop 4 payload)
+    then headed_in (header_in head.protocol (drop 4 payload)) (is_listed head.flags)
+    (drop 4 payload)
     else whole_in (header_in head.protocol (drop 4 payload)) (drop 4 payload)
 
 -- the end of a dump is one of several messages, and has attributes
 abbrev pub end_parts : Head → List ℕ → PartsSeen
-end_parts head payload = if is_multi head.flags then listed (drop 4 payload) else bare (drop 4 payload)
+end_parts head payload =
+    if is_multi head.flags then listed (drop 4 payload) else bare (drop 4 payload)
 
 -- what an answer has behind its code: 2 is NLMSG_ERROR, 3 NLMSG_DONE
 abbrev pub answer_parts : Head → List ℕ → PartsSeen

@@ -32,7 +32,8 @@ reserved text number = if number == 0 then [] else text ++ decimal number
 abbrev pub generic_members : Option GenericHeader → List ℕ
 generic_members (Some h) =
     codes ",\"command\":" ++ (decimal h.command
-    ++ (codes ",\"version\":" ++ (decimal h.version ++ reserved (codes ",\"reserved\":") h.reserved)))
+    ++ (codes ",\"version\":" ++ (decimal h.version
+    ++ reserved (codes ",\"reserved\":") h.reserved)))
 generic_members None = []
 
 -- bytes of which nothing is known
@@ -42,7 +43,8 @@ bytes_member (b ∷ bytes) = codes ",\"payload\":" ++ bytes_json (b ∷ bytes)
 
 abbrev pub payload_member : Lines → ℕ → List ℕ → List ℕ
 payload_member table place [] = []
-payload_member table place (b ∷ bytes) = codes ",\"payload\":" ++ payload_json table place (b ∷ bytes)
+payload_member table place (b ∷ bytes) =
+    codes ",\"payload\":" ++ payload_json table place (b ∷ bytes)
 
 abbrev pub row_members_by : Option ℕ → Lines → ℕ → List ℕ → List ℕ
 row_members_by (Some of) table place bytes =
@@ -56,7 +58,8 @@ row_members table place bytes = row_members_by (struct_in table place) table pla
 -- a body by its shape: of a list the structure at its front, and its attributes
 abbrev pub known_members : ContextSeen → Shape → List ℕ → List ℕ
 known_members context (shape.Nest nest) bytes =
-    structure_members context.0 nest.after (take nest.header bytes) ++ list_member context nest bytes
+    structure_members context.0 nest.after (take nest.header bytes)
+    ++ list_member context nest bytes
 known_members context (shape.Short nest) bytes = structure_members context.0 nest.after bytes
 known_members context (shape.Row place) bytes = row_members context.0 place bytes
 known_members context s bytes = bytes_member bytes
@@ -67,14 +70,16 @@ members_with None s bytes = bytes_member bytes
 
 -- the members of a body, after others
 abbrev pub body_members : BodySeen → List ℕ
-body_members body = generic_members body.2 ++ members_with (body_context body) (body_shape body) body.3
+body_members body =
+    generic_members body.2 ++ members_with (body_context body) (body_shape body) body.3
 
 -- ---- as lines of text
 
 abbrev pub generic_line : ℕ → Option GenericHeader → List ℕ
 generic_line level (Some h) =
     indent level ++ (codes "command " ++ (decimal h.command
-    ++ (codes " version " ++ (decimal h.version ++ (reserved (codes " reserved ") h.reserved ++ codes "\n")))))
+    ++ (codes " version " ++ (decimal h.version
+    ++ (reserved (codes " reserved ") h.reserved ++ codes "\n")))))
 generic_line level None = []
 
 abbrev pub structure_line : Bool → ℕ → Lines → Option ℕ → List ℕ → List ℕ
@@ -84,7 +89,8 @@ structure_line coloured level table None bytes = []
 
 abbrev pub bytes_line : ℕ → List ℕ → List ℕ
 bytes_line level [] = []
-bytes_line level (b ∷ bytes) = indent level ++ (codes "payload " ++ (bytes_text (b ∷ bytes) ++ codes "\n"))
+bytes_line level (b ∷ bytes) =
+    indent level ++ (codes "payload " ++ (bytes_text (b ∷ bytes) ++ codes "\n"))
 
 abbrev pub payload_line : ℕ → Lines → ℕ → List ℕ → List ℕ
 payload_line level table place [] = []
@@ -107,7 +113,8 @@ known_text coloured level context (shape.Nest nest) bytes =
     ++ list_text coloured level context nest bytes
 known_text coloured level context (shape.Short nest) bytes =
     structure_line coloured level context.0 nest.after bytes
-known_text coloured level context (shape.Row place) bytes = row_line coloured level context.0 place bytes
+known_text coloured level context (shape.Row place) bytes =
+    row_line coloured level context.0 place bytes
 known_text coloured level context s bytes = bytes_line level bytes
 
 abbrev pub text_with : Bool → ℕ → Option ContextSeen → Shape → List ℕ → List ℕ
@@ -117,4 +124,5 @@ text_with coloured level None s bytes = bytes_line level bytes
 -- the lines of a body
 abbrev pub body_text : Bool → ℕ → BodySeen → List ℕ
 body_text coloured level body =
-    generic_line level body.2 ++ text_with coloured level (body_context body) (body_shape body) body.3
+    generic_line level body.2 ++ text_with coloured level (body_context body) (body_shape body)
+    body.3

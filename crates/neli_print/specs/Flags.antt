@@ -1,6 +1,6 @@
 -- The flags of a message by name (`NLM_F_*` of linux/netlink.h).
-use Rattle.std.specs.Prelude.{ℕ, ◌-◌, ◌==◌, ◌&&◌, not, Bool, true, false, List, [], ◌∷◌, ◌++◌, codes, bit_and}
-use Rattle.std.specs.Prelude.{if◌then◌else◌}
+use Rattle.std.specs.Prelude.{ℕ, ◌-◌, ◌==◌, ◌&&◌, not, Bool, true, false, List, [], ◌∷◌, ◌++◌}
+use Rattle.std.specs.Prelude.{codes, bit_and, if◌then◌else◌}
 use Rattle.std.specs.Fmt.{digits}
 use Rattle.bitflags.specs.Sets.{Row}
 use Rattle.neli_values.specs.Names.{name_text}

@@ -1,6 +1,6 @@
 -- Items of a walk, whatever the form that prints them.
-use Rattle.std.specs.Prelude.{ℕ, ◌+◌, ◌-◌, max, min, Bool, true, false, if◌then◌else◌, List, length, slice_get}
-use Rattle.std.specs.Prelude.{Option, Result, Ok, Err}
+use Rattle.std.specs.Prelude.{ℕ, ◌+◌, ◌-◌, max, min, Bool, true, false, if◌then◌else◌, List, length}
+use Rattle.std.specs.Prelude.{slice_get, Option, Result, Ok, Err}
 use Rattle.neli_wire.specs.DeError.{DeError}
 use Rattle.neli_tables_walk.specs.declared.item.Step.{Step}
 use Rattle.neli_tables_walk.specs.declared.shape.Shape.{Shape}
@@ -16,7 +16,8 @@ abbrev pub lists_with : ℕ → Result Said (List ℕ × DeError) → ℕ
 lists_with steps (Ok said) = steps
 lists_with steps (Err left) = steps + 1
 
--- the number of lists around an item: the parts of its path, and one more around what is left of a list
+-- the number of lists around an item: the parts of its path, and one more around what is left of a
+-- list
 abbrev pub lists_around : Seen → ℕ
 lists_around item = lists_with (length item.0) item.1
 

@@ -1,6 +1,6 @@
 -- Items of a walk in JSON.
-use Rattle.std.specs.Prelude.{ℕ, ◌-◌, ◌==◌, ◌||◌, not, Bool, List, [], ◌∷◌, ◌++◌, codes, length, take}
-use Rattle.std.specs.Prelude.{Option, Some, None, Result, Ok, Err}
+use Rattle.std.specs.Prelude.{ℕ, ◌-◌, ◌==◌, ◌||◌, not, Bool, List, [], ◌∷◌, ◌++◌, codes, length}
+use Rattle.std.specs.Prelude.{take, Option, Some, None, Result, Ok, Err}
 use Rattle.std.specs.Fmt.{decimal}
 use Rattle.neli_attr.specs.AttrType.{AttrType}
 use Rattle.neli_wire.specs.DeError.{DeError}
@@ -20,7 +20,8 @@ use Rattle.neli_print.specs.Names.{Lines, name_member, row_name, structure_membe
 use Rattle.neli_print.specs.Pieces.{repeated, when}
 use Rattle.neli_print.specs.Rests.{rest_member, rest_of}
 
--- the first members of an attribute: its number, its name if it has a row, and the flags of its type
+-- the first members of an attribute: its number, its name if it has a row, and the flags of its
+-- type
 abbrev pub label_json : Lines → Option Step → AttrType ℕ → List ℕ
 label_json table step kind =
     codes "\"number\":" ++ (decimal kind.nla_type ++ (name_member (row_name table step)
@@ -34,7 +35,8 @@ breach_member None = []
 
 -- bytes, and the end of their attribute
 abbrev pub value_json : Option Breach → List ℕ → List ℕ
-value_json broken bytes = breach_member broken ++ (codes ",\"value\":" ++ (bytes_json bytes ++ codes "}"))
+value_json broken bytes =
+    breach_member broken ++ (codes ",\"value\":" ++ (bytes_json bytes ++ codes "}"))
 
 -- what a payload is by the line at a place, and the end of its attribute
 abbrev pub row_json : Lines → ℕ → List ℕ → List ℕ
@@ -67,7 +69,8 @@ element_json table step said = element_with table step said.0 said.1 said.2
 -- what is left of a list
 abbrev pub left_json : List ℕ → DeError → List ℕ
 left_json bytes e =
-    codes "{\"fault\":\"" ++ (fault_text e ++ (codes "\",\"rest\":\"" ++ (hex_text bytes ++ codes "\"}")))
+    codes "{\"fault\":\"" ++ (fault_text e
+    ++ (codes "\",\"rest\":\"" ++ (hex_text bytes ++ codes "\"}")))
 
 abbrev pub object_json : Lines → List Step → Result Said (List ℕ × DeError) → List ℕ
 object_json table path (Ok said) = element_json table (last_step path) said
@@ -78,9 +81,11 @@ abbrev pub item_json : Lines → Open → Seen → List ℕ
 item_json table o item =
     let depth = depth_in o item in
     repeated (codes "]}") (o.lists - depth)
-    ++ (when (not o.is_first || not (depth == o.lists)) (codes ",") ++ object_json table item.0 item.1)
+    ++ (when (not o.is_first || not (depth == o.lists)) (codes ",")
+    ++ object_json table item.0 item.1)
 
 -- the items of a list, and its end
 abbrev pub items_json : Lines → Open → List Seen → List ℕ
 items_json table o [] = repeated (codes "]}") (o.lists - 1) ++ codes "]"
-items_json table o (item ∷ items) = item_json table o item ++ items_json table (after_item o item) items
+items_json table o (item ∷ items) =
+    item_json table o item ++ items_json table (after_item o item) items

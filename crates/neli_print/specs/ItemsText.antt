@@ -1,6 +1,6 @@
 -- Items of a walk as lines of text.
-use Rattle.std.specs.Prelude.{ℕ, ◌-◌, Bool, List, [], ◌∷◌, ◌++◌, codes, take}
-use Rattle.std.specs.Prelude.{Option, Some, None, is_some, Result, Ok, Err}
+use Rattle.std.specs.Prelude.{ℕ, ◌-◌, Bool, List, [], ◌∷◌, ◌++◌, codes, take, Option, Some, None}
+use Rattle.std.specs.Prelude.{is_some, Result, Ok, Err}
 use Rattle.std.specs.Fmt.{decimal}
 use Rattle.neli_attr.specs.AttrType.{AttrType}
 use Rattle.neli_wire.specs.DeError.{DeError}
@@ -34,7 +34,8 @@ row_words coloured name number = painted coloured colour.Attribute (named_or_num
 abbrev pub label_text : Bool → Lines → Option Step → AttrType ℕ → List ℕ
 label_text coloured table step kind =
     row_words coloured (row_name table step) kind.nla_type
-    ++ (when kind.nla_nested (codes " nested") ++ when kind.nla_network_order (codes " net_byteorder"))
+    ++ (when kind.nla_nested (codes " nested")
+    ++ when kind.nla_network_order (codes " net_byteorder"))
 
 -- how a payload breaches its kind, if it does
 abbrev pub breach_words : Option Breach → List ℕ
@@ -47,12 +48,14 @@ content_text coloured table (shape.Row place) payload =
     breach_words (payload_breach table place payload)
     ++ (payload_text table place payload ++ rest_words (rest_of table place payload))
 content_text coloured table (shape.Nest nest) payload =
-    when (is_some nest.after) (codes " ") ++ structure_text coloured table nest.after (take nest.header payload)
+    when (is_some nest.after) (codes " ")
+    ++ structure_text coloured table nest.after (take nest.header payload)
 content_text coloured table (shape.Hops nest) payload = []
 content_text coloured table shape.Bytes payload = codes " " ++ bytes_text payload
 content_text coloured table (shape.Short nest) payload =
     breach_words (Some (Shorter nest.header)) ++ (codes " " ++ bytes_text payload)
-content_text coloured table (shape.Deep nest) payload = codes " broken: nested too deep: " ++ bytes_text payload
+content_text coloured table (shape.Deep nest) payload =
+    codes " broken: nested too deep: " ++ bytes_text payload
 
 abbrev pub element_with : Bool → Lines → Option Step → Option (AttrType ℕ) → List ℕ → Shape → List ℕ
 element_with coloured table step (Some kind) payload s =
@@ -67,7 +70,8 @@ element_text coloured table step said = element_with coloured table step said.0 
 -- what is left of a list
 abbrev pub left_text : Bool → List ℕ → DeError → List ℕ
 left_text coloured bytes e =
-    painted coloured colour.Error (codes "fault") ++ (codes ": " ++ (fault_text e ++ (codes ": " ++ bytes_text bytes)))
+    painted coloured colour.Error (codes "fault")
+    ++ (codes ": " ++ (fault_text e ++ (codes ": " ++ bytes_text bytes)))
 
 abbrev pub words_of : Bool → Lines → List Step → Result Said (List ℕ × DeError) → List ℕ
 words_of coloured table path (Ok said) = element_text coloured table (last_step path) said
@@ -76,7 +80,8 @@ words_of coloured table path (Err left) = left_text coloured left.0 left.1
 -- an item: two blanks for each level and each list around its own, and its line
 abbrev pub item_text : Bool → Lines → ℕ → Seen → List ℕ
 item_text coloured table level item =
-    indent level ++ (indent (lists_around item - 1) ++ (words_of coloured table item.0 item.1 ++ codes "\n"))
+    indent level ++ (indent (lists_around item - 1)
+    ++ (words_of coloured table item.0 item.1 ++ codes "\n"))
 
 -- the items of a list
 abbrev pub items_text : Bool → Lines → ℕ → List Seen → List ℕ

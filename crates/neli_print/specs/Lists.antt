@@ -9,7 +9,8 @@ use Rattle.neli_print.specs.ItemsText.{items_text}
 
 -- as lines of text, at this level
 abbrev pub list_text : Bool → ℕ → ContextSeen → Nest → List ℕ → List ℕ
-list_text coloured level context nest bytes = items_text coloured context.0 level (walk_items context nest bytes)
+list_text coloured level context nest bytes =
+    items_text coloured context.0 level (walk_items context nest bytes)
 
 -- one list is open, and nothing is in it
 abbrev pub body_open : Open

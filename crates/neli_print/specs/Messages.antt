@@ -1,6 +1,6 @@
 -- Messages, and datagrams of them.
-use Rattle.std.specs.Prelude.{ℕ, ◌+◌, ◌-◌, ◌^◌, min, Bool, if◌then◌else◌, List, [], ◌∷◌, ◌++◌, codes}
-use Rattle.std.specs.Prelude.{Result, Ok, Err}
+use Rattle.std.specs.Prelude.{ℕ, ◌+◌, ◌-◌, ◌^◌, min, Bool, if◌then◌else◌, List, [], ◌∷◌, ◌++◌}
+use Rattle.std.specs.Prelude.{codes, Result, Ok, Err}
 use Rattle.std.specs.Fmt.{decimal}
 use Rattle.neli_lent.specs.Messages.{Lent, messages_in}
 use Rattle.neli_lent.specs.Walks.{items_of}
@@ -47,7 +47,8 @@ message_text coloured tables header payload =
 
 -- ---- a datagram
 
--- the place behind a message that begins at a place, as far as 64 bits say: as many bytes further as it states, padded
+-- the place behind a message that begins at a place, as far as 64 bits say: as many bytes further
+-- as it states, padded
 abbrev pub place_behind : ℕ → Lent ℕ → ℕ
 place_behind place message = min (place + align message.0.len) (2 ^ 64 - 1)
 
@@ -59,7 +60,8 @@ fault_line coloured place e =
 
 abbrev pub fault_json : ℕ → DeError → List ℕ
 fault_json place e =
-    codes "{\"fault\":\"" ++ (fault_text e ++ (codes "\",\"at\":" ++ (decimal place ++ codes "}\n")))
+    codes "{\"fault\":\"" ++ (fault_text e
+    ++ (codes "\",\"at\":" ++ (decimal place ++ codes "}\n")))
 
 -- these items of a datagram, of which the first is at a place: messages, and the fault after them
 abbrev pub lines_from : Bool → Tables → ℕ → ℕ → List (Result (Lent ℕ) DeError) → List ℕ
@@ -83,4 +85,5 @@ datagram_text coloured tables protocol bytes =
 
 -- a datagram as lines of JSON
 abbrev pub datagram_json : Tables → ℕ → List ℕ → List ℕ
-datagram_json tables protocol bytes = json_from tables protocol 0 (items_of (messages_in (λ n. n) bytes))
+datagram_json tables protocol bytes =
+    json_from tables protocol 0 (items_of (messages_in (λ n. n) bytes))

@@ -39,5 +39,6 @@ structure_members table None bytes = []
 -- a structure on a line
 abbrev pub structure_text : Bool → Lines → Option ℕ → List ℕ → List ℕ
 structure_text coloured table (Some place) bytes =
-    painted coloured colour.Structure (name_text (line_name table place)) ++ fields_text table place bytes
+    painted coloured colour.Structure (name_text (line_name table place))
+    ++ fields_text table place bytes
 structure_text coloured table None bytes = []

@@ -27,4 +27,5 @@ escape_of colour.End = 27 ∷ codes "[0m"
 
 -- a text in a colour, if there are colours
 abbrev pub painted : Bool → Colour → List ℕ → List ℕ
-painted coloured c text = when coloured (escape_of c) ++ (text ++ when coloured (escape_of colour.End))
+painted coloured c text =
+    when coloured (escape_of c) ++ (text ++ when coloured (escape_of colour.End))

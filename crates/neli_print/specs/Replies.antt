@@ -1,6 +1,6 @@
 -- Answers, printed.
-use Rattle.std.specs.Prelude.{ℕ, ℤ, pos, int_lt, unsigned_abs, Bool, if◌then◌else◌, nat_lt, List, [], ◌∷◌, ◌++◌, codes}
-use Rattle.std.specs.Prelude.{length, Option, Some, None, unwrap_or}
+use Rattle.std.specs.Prelude.{ℕ, ℤ, pos, int_lt, unsigned_abs, Bool, if◌then◌else◌, nat_lt, List}
+use Rattle.std.specs.Prelude.{[], ◌∷◌, ◌++◌, codes, length, Option, Some, None, unwrap_or}
 use Rattle.std.specs.Fmt.{signed_decimal}
 use Rattle.std.specs.Int.{cast_signed, w32}
 use Rattle.std.specs.Option.{option_or}
@@ -50,7 +50,8 @@ echo_members tables head None = []
 -- the request that an answer is for, with its body where that is echoed
 abbrev pub request_member : Tables → Option Header → Option (List ℕ) → List ℕ
 request_member tables (Some header) body =
-    codes ",\"request\":{" ++ (header_members header (message_name tables header.head (unwrap_or body []))
+    codes ",\"request\":{" ++ (header_members header
+    (message_name tables header.head (unwrap_or body []))
     ++ (echo_members tables header.head body ++ codes "}"))
 request_member tables None body = []
 
@@ -60,7 +61,8 @@ attributes_members tables head None = []
 
 abbrev pub parts_members : Tables → Head → PartsSeen → List ℕ
 parts_members tables head parts =
-    request_member tables parts.0 parts.1 ++ (attributes_members tables head parts.2 ++ rest_member parts.3)
+    request_member tables parts.0 parts.1
+    ++ (attributes_members tables head parts.2 ++ rest_member parts.3)
 
 -- the members of an answer: its code, its request, its attributes, and what is left
 abbrev pub reply_members : Tables → Head → List ℕ → List ℕ
@@ -85,12 +87,14 @@ echo_lines coloured tables head None = []
 
 abbrev pub request_lines : Bool → Tables → Option Header → Option (List ℕ) → List ℕ
 request_lines coloured tables (Some header) body =
-    codes "  of " ++ (header_text coloured header (message_name tables header.head (unwrap_or body []))
+    codes "  of " ++ (header_text coloured header
+    (message_name tables header.head (unwrap_or body []))
     ++ echo_lines coloured tables header.head body)
 request_lines coloured tables None body = []
 
 abbrev pub attributes_lines : Bool → Tables → Head → Option (List ℕ) → List ℕ
-attributes_lines coloured tables head (Some attributes) = body_text coloured 1 (answer_in tables head attributes)
+attributes_lines coloured tables head (Some attributes) =
+    body_text coloured 1 (answer_in tables head attributes)
 attributes_lines coloured tables head None = []
 
 abbrev pub rest_line : List ℕ → List ℕ
@@ -106,4 +110,5 @@ parts_lines coloured tables head parts =
 abbrev pub reply_lines : Bool → Tables → Head → List ℕ → List ℕ
 reply_lines coloured tables head payload =
     if nat_lt (length payload) 4 then bytes_line 1 payload
-    else code_line coloured (code_in payload) ++ parts_lines coloured tables head (answer_parts head payload)
+    else code_line coloured (code_in payload)
+    ++ parts_lines coloured tables head (answer_parts head payload)

@@ -1,5 +1,6 @@
 -- Structures, and the bytes behind them.
-use Rattle.std.specs.Prelude.{ℕ, Bool, false, List, [], ◌∷◌, ◌++◌, codes, drop, slice_get, Option, Some, None}
+use Rattle.std.specs.Prelude.{ℕ, Bool, false, List, [], ◌∷◌, ◌++◌, codes, drop, slice_get, Option}
+use Rattle.std.specs.Prelude.{Some, None}
 use Rattle.neli_tables.specs.declared.kind.Kind.{Kind}
 use Rattle.neli_tables.specs.declared.kind.Kind.TheVariants as kind
 use Rattle.neli_tables_rows.specs.declared.options.Options.{Options}

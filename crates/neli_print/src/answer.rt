@@ -1,8 +1,8 @@
 //! What an answer has: an error, an acknowledgement, or the end of a dump.
 
 ghost use Rattle.std.specs.Prelude.{◌≡◌, ◌≤◌, length};
-ghost use Rattle.neli_print.specs.Answers.{answer_parts, bare, echoed_size, error_parts, headed, is_listed};
-ghost use Rattle.neli_print.specs.Answers.{listed, parts_seen, whole};
+ghost use Rattle.neli_print.specs.Answers.{answer_parts, bare, echoed_size, error_parts, headed};
+ghost use Rattle.neli_print.specs.Answers.{is_listed, listed, parts_seen, whole};
 
 use crate::head::Header;
 use crate::item::front_of;

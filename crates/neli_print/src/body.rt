@@ -4,8 +4,9 @@ ghost use Rattle.std.specs.Prelude.{◌≡◌, Some};
 ghost use Rattle.std.specs.Option.{option_map};
 ghost use Rattle.neli_tables_bodies.specs.Bodies.{body_seen};
 ghost use Rattle.neli_tables_walk.specs.Shapes.{context_seen};
-ghost use Rattle.neli_print.specs.Bodies.{body_members, body_name, body_text, bytes_line, bytes_member, generic_line};
-ghost use Rattle.neli_print.specs.Bodies.{generic_members, known_members, known_text, reserved, row_line};
+ghost use Rattle.neli_print.specs.Bodies.{body_members, body_name, body_text, bytes_line};
+ghost use Rattle.neli_print.specs.Bodies.{bytes_member, generic_line, generic_members};
+ghost use Rattle.neli_print.specs.Bodies.{known_members, known_text, reserved, row_line};
 ghost use Rattle.neli_print.specs.Bodies.{row_members, structure_line};
 
 use crate::item::front_of;
@@ -133,11 +134,7 @@ impl fmt::Display for KnownMembers<'_, '_, '_> {
         let table = context.table;
         match self.shape {
             Shape::Nest(nest) => {
-                let structure = StructureMembers(Structure {
-                    table,
-                    place: nest.after,
-                    bytes: front_of(bytes, nest.header),
-                });
+                let structure = StructureMembers(Structure::of_nest(table, &nest, bytes));
                 let list = ListMember(List {
                     context,
                     nest,

@@ -2,7 +2,8 @@
 
 ghost use Rattle.std.specs.Prelude.{◌≡◌, Some};
 ghost use Rattle.neli_lent.specs.Messages.{message_said};
-ghost use Rattle.neli_print.specs.Messages.{datagram_json, datagram_text, fault_json, fault_line, place_behind};
+ghost use Rattle.neli_print.specs.Messages.{datagram_json, datagram_text, fault_json, fault_line};
+ghost use Rattle.neli_print.specs.Messages.{place_behind};
 
 use crate::fault::Fault;
 use crate::message::{Message, MessageJson, MessageText};
@@ -79,8 +80,8 @@ pub struct DatagramText<'b, 'w, 't> {
 }
 
 impl fmt::Display for DatagramText<'_, '_, '_> {
-    ghost output = { λ d. Some (datagram_text d.is_coloured d.datagram.tables.now d.datagram.protocol
-        d.datagram.bytes.now) };
+    ghost output = { λ d. Some (datagram_text d.is_coloured d.datagram.tables.now
+        d.datagram.protocol d.datagram.bytes.now) };
 
     fn fmt<W: fmt::Write>(&self, f: &mut fmt::Formatter<W>) -> fmt::Result {
         let is_coloured = self.is_coloured;
@@ -114,7 +115,8 @@ impl fmt::Display for DatagramText<'_, '_, '_> {
     }
 }
 
-/// A datagram as lines of JSON: an object for each of its messages, and one for the fault after them, if there is one.
+/// A datagram as lines of JSON: an object for each of its messages, and one for the fault after
+/// them, if there is one.
 #[derive(Clone, Copy)]
 pub struct DatagramJson<'b, 'w, 't>(pub Datagram<'b, 'w, 't>);
 

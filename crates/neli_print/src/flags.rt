@@ -2,8 +2,8 @@
 
 ghost use Rattle.std.specs.Prelude.{◌≡◌, Some, map};
 ghost use Rattle.neli_message_flags.specs.MessageFlags.{flag_seen};
-ghost use Rattle.neli_print.specs.Flags.{after_flag, all_left, closing, flag_text, flags_from, is_named, mark};
-ghost use Rattle.neli_print.specs.Flags.{rest_text};
+ghost use Rattle.neli_print.specs.Flags.{after_flag, all_left, closing, flag_text, flags_from};
+ghost use Rattle.neli_print.specs.Flags.{is_named, mark, rest_text};
 
 use crate::pieces::When;
 use neli_values::Name;

@@ -3,7 +3,8 @@
 ghost use Rattle.std.specs.Prelude.{◌≡◌, Some, map};
 ghost use Rattle.std.specs.Option.{option_map};
 ghost use Rattle.neli_message_flags.specs.MessageFlags.{flag_seen};
-ghost use Rattle.neli_print.specs.Heads.{common_name, header_in, header_members, header_of, header_text, rows_of, type_words};
+ghost use Rattle.neli_print.specs.Heads.{common_name, header_in, header_members, header_of};
+ghost use Rattle.neli_print.specs.Heads.{header_text, rows_of, type_words};
 
 use crate::flags::{FlagForm, Flags};
 use crate::names::NameMember;
@@ -111,7 +112,8 @@ struct TypeText<'t> {
 }
 
 impl fmt::Display for TypeText<'_> {
-    ghost output = { λ t. Some (type_words t.is_coloured (option_map (λ name. name.now) t.name) t.number) };
+    ghost output = { λ t. Some (type_words t.is_coloured (option_map (λ name. name.now) t.name)
+        t.number) };
 
     #[tactic(auto, unfolding(crate::specs::Heads::type_words))]
     fn fmt<W: fmt::Write>(&self, f: &mut fmt::Formatter<W>) -> fmt::Result {

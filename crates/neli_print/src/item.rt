@@ -7,15 +7,16 @@ ghost use Rattle.neli_print.specs.Items.{after_item, depth_in, last_step, lists_
 
 use neli_tables_walk::{Found, Item, Rest, Shape, Step};
 
-/// The last part of an item's path: the attribute itself; of what is left of a list the nest that this is in.
+/// The last part of an item's path: the attribute itself; of what is left of a list the nest that
+/// this is in.
 pub(crate) fn last_step<'i>(item: &'i Item<'_>) -> Option<&'i Step>
     ensures { option_copied result ≡ last_step item.now.path.steps.items }
 {
     item.path.steps().last()
 }
 
-/// How many lists of attributes are around an item: as many as its path has parts, and one more around what is left of
-/// a list.
+/// How many lists of attributes are around an item: as many as its path has parts, and one more
+/// around what is left of a list.
 pub(crate) fn lists_around(item: &Item<'_>) -> usize
     ensures value { result ≡ lists_around (item_seen item.now) }
     ensures few { result ≤ 2 ^ 63 }
@@ -63,7 +64,8 @@ impl Open {
         is_first: true,
     };
 
-    /// How many are open around an item: as many as it is in, but no more than were open, and one at least.
+    /// How many are open around an item: as many as it is in, but no more than were open, and one
+    /// at least.
     pub(crate) fn depth(&self, item: &Item<'_>) -> usize
         ensures value { result ≡ depth_in self.now (item_seen item.now) }
         ensures few { result ≤ 2 ^ 63 }

@@ -1,23 +1,24 @@
 //! An item of a walk in JSON.
 
-ghost use Rattle.std.specs.Prelude.{◌≡◌, Some, take};
+ghost use Rattle.std.specs.Prelude.{Some};
 ghost use Rattle.std.specs.Option.{option_copied};
 ghost use Rattle.neli_tables_walk.specs.Walks.{item_seen};
 ghost use Rattle.neli_print.specs.ItemsJson.{breach_member, content_json, element_json, item_json};
 ghost use Rattle.neli_print.specs.ItemsJson.{label_json, left_json, row_json, value_json};
 
 use crate::fault::Fault;
-use crate::item::{Open, front_of, last_step};
+use crate::item::{Open, last_step};
 use crate::names::{NameMember, Structure, StructureMembers, row_name};
 use crate::pieces::{Repeated, When};
 use crate::rests::{RestMember, rest_of};
 use neli_attr::AttrType;
 use neli_tables_rows::Table;
-use neli_tables_walk::{Found, Item, Nest, Rest, Shape, Step};
+use neli_tables_walk::{Found, Item, Rest, Shape, Step};
 use neli_values::{Breach, BytesJson, Hex, Payload, PayloadJson, breach_of};
 use std::fmt;
 
-/// The first members of an attribute: its number, its name if it has a row, and the flags of its type.
+/// The first members of an attribute: its number, its name if it has a row, and the flags of its
+/// type.
 #[derive(Clone, Copy)]
 struct Label<'i, 'w, 't> {
     table: &'w Table<'t>,
@@ -90,27 +91,13 @@ impl fmt::Display for Value<'_> {
     }
 }
 
-/// What stands behind an attribute's first members: its value and its end, or the beginning of the list in it.
+/// What stands behind an attribute's first members: its value and its end, or the beginning of the
+/// list in it.
 #[derive(Clone, Copy)]
 struct Content<'b, 'w, 't> {
     table: &'w Table<'t>,
     shape: Shape,
     payload: &'b [u8],
-}
-
-impl<'b, 'w, 't> Content<'b, 'w, 't> {
-    /// The structure at the front of a nest.
-    fn structure(&self, nest: &Nest) -> Structure<'b, 'w, 't>
-        ensures table { result.table.now ≡ self.now.table.now }
-        ensures place { result.place ≡ nest.now.after }
-        ensures bytes { result.bytes.now ≡ take nest.now.header self.now.payload.now }
-    {
-        Structure {
-            table: self.table,
-            place: nest.after,
-            bytes: front_of(self.payload, nest.header),
-        }
-    }
 }
 
 impl fmt::Display for Content<'_, '_, '_> {
@@ -127,7 +114,11 @@ impl fmt::Display for Content<'_, '_, '_> {
                 write!(f, "{row}")
             }
             Shape::Nest(nest) => {
-                let structure = StructureMembers(self.structure(nest));
+                let structure = StructureMembers(Structure::of_nest(
+                    self.table,
+                    nest,
+                    self.payload,
+                ));
                 write!(f, "{structure},\"attributes\":[")
             }
             Shape::Hops(_) => write!(f, ",\"structures\":["),
@@ -202,8 +193,8 @@ impl fmt::Display for Left<'_, '_> {
     }
 }
 
-/// An item of a walk in JSON: the ends of the lists that it is not in, a comma if it needs one, and an object; the
-/// object of a nest, of hops and of a hop ends with the list in it.
+/// An item of a walk in JSON: the ends of the lists that it is not in, a comma if it needs one, and
+/// an object; the object of a nest, of hops and of a hop ends with the list in it.
 #[derive(Clone, Copy)]
 pub struct ItemJson<'i, 'b, 'w, 't> {
     /// The table that the walk reads by.

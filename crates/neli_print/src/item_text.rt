@@ -1,19 +1,19 @@
 //! An item of a walk as a line of text.
 
-ghost use Rattle.std.specs.Prelude.{◌≡◌, Some, take};
+ghost use Rattle.std.specs.Prelude.{Some};
 ghost use Rattle.std.specs.Option.{option_copied, option_map};
 ghost use Rattle.neli_tables_walk.specs.Walks.{item_seen};
-ghost use Rattle.neli_print.specs.ItemsText.{breach_words, content_text, element_text, item_text, label_text};
-ghost use Rattle.neli_print.specs.ItemsText.{left_text, row_words};
+ghost use Rattle.neli_print.specs.ItemsText.{breach_words, content_text, element_text, item_text};
+ghost use Rattle.neli_print.specs.ItemsText.{label_text, left_text, row_words};
 
 use crate::fault::Fault;
-use crate::item::{front_of, last_step, lists_around};
+use crate::item::{last_step, lists_around};
 use crate::names::{Structure, StructureText, row_name};
 use crate::pieces::{Colour, When, escape, indent};
 use crate::rests::{RestWords, rest_of};
 use neli_attr::AttrType;
 use neli_tables_rows::Table;
-use neli_tables_walk::{Found, Item, Nest, Rest, Shape, Step};
+use neli_tables_walk::{Found, Item, Rest, Shape, Step};
 use neli_values::{Breach, Bytes, Name, Payload, PayloadText, breach_of};
 use std::fmt;
 
@@ -56,7 +56,8 @@ struct Label<'i, 'w, 't> {
 }
 
 impl fmt::Display for Label<'_, '_, '_> {
-    ghost output = { λ l. Some (label_text l.is_coloured l.table.now (option_copied l.step) l.kind) };
+    ghost output = { λ l. Some (label_text l.is_coloured l.table.now (option_copied l.step)
+        l.kind) };
 
     fn fmt<W: fmt::Write>(&self, f: &mut fmt::Formatter<W>) -> fmt::Result {
         let name = RowName {
@@ -100,21 +101,6 @@ struct Content<'b, 'w, 't> {
     payload: &'b [u8],
 }
 
-impl<'b, 'w, 't> Content<'b, 'w, 't> {
-    /// The structure at the front of a nest.
-    fn structure(&self, nest: &Nest) -> Structure<'b, 'w, 't>
-        ensures table { result.table.now ≡ self.now.table.now }
-        ensures place { result.place ≡ nest.now.after }
-        ensures bytes { result.bytes.now ≡ take nest.now.header self.now.payload.now }
-    {
-        Structure {
-            table: self.table,
-            place: nest.after,
-            bytes: front_of(self.payload, nest.header),
-        }
-    }
-}
-
 impl fmt::Display for Content<'_, '_, '_> {
     ghost output = { λ c. Some (content_text c.is_coloured c.table.now c.shape c.payload.now) };
 
@@ -139,7 +125,7 @@ impl fmt::Display for Content<'_, '_, '_> {
                 };
                 let structure = StructureText {
                     is_coloured: self.is_coloured,
-                    structure: self.structure(nest),
+                    structure: Structure::of_nest(self.table, nest, self.payload),
                 };
                 write!(f, "{blank}{structure}")
             }
@@ -226,7 +212,8 @@ pub struct ItemText<'i, 'b, 'w, 't> {
 }
 
 impl fmt::Display for ItemText<'_, '_, '_, '_> {
-    ghost output = { λ i. Some (item_text i.is_coloured i.table.now i.level (item_seen i.item.now)) };
+    ghost output = { λ i. Some (item_text i.is_coloured i.table.now i.level
+        (item_seen i.item.now)) };
 
     fn fmt<W: fmt::Write>(&self, f: &mut fmt::Formatter<W>) -> fmt::Result {
         let around = indent(self.level);

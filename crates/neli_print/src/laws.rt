@@ -14,7 +14,8 @@ pub fn message_is_one_value()
         → IsJson (message_json tables header payload) }
 {}
 
-/// A datagram in JSON is lines of one value each: one for each of its messages, and one for the fault after them.
+/// A datagram in JSON is lines of one value each: one for each of its messages, and one for the
+/// fault after them.
 pub fn datagram_is_lines()
     ensures { (tables : TablesOf) (protocol : ℕ) (bytes : List ℕ)
         → AreSoManyLines (length (items_of (messages_in (λ n. n) bytes)))

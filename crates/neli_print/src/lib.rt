@@ -1,12 +1,13 @@
 //! Netlink messages by families' tables, as text for people and as JSON (RFC 8259).
 //!
 //! - [`DatagramText`], [`DatagramJson`]: the messages of a datagram, and the fault after them.
-//! - [`MessageText`], [`MessageJson`]: a message: its header, and what its payload is by the tables.
+//! - [`MessageText`], [`MessageJson`]: a message: its header, and what its payload is by the
+//!   tables.
 //! - [`ItemText`], [`ItemJson`]: an item of a walk over attributes.
 //! - [`laws`]: JSON is one value a message, and lines of such values a datagram.
 //!
-//! Each is printed by `Display`, and takes no memory. What it prints is a function of the tables and
-//! the bytes: `datagram_text`, `message_json` and the others of `specs/`.
+//! Each is printed by `Display`, and takes no memory. What it prints is a function of the tables
+//! and the bytes: `datagram_text`, `message_json` and the others of `specs/`.
 #![tactic(auto)]
 
 mod answer;

@@ -28,8 +28,8 @@ pub(crate) struct ListText<'b, 'w, 't> {
 }
 
 impl fmt::Display for ListText<'_, '_, '_> {
-    ghost output = { λ l. Some (list_text l.is_coloured l.level (context_seen l.list.context) l.list.nest
-        l.list.bytes.now) };
+    ghost output = { λ l. Some (list_text l.is_coloured l.level (context_seen l.list.context)
+        l.list.nest l.list.bytes.now) };
 
     fn fmt<W: fmt::Write>(&self, f: &mut fmt::Formatter<W>) -> fmt::Result {
         let List {
@@ -55,7 +55,8 @@ impl fmt::Display for ListText<'_, '_, '_> {
 struct ListItems<'b, 'w, 't>(List<'b, 'w, 't>);
 
 impl fmt::Display for ListItems<'_, '_, '_> {
-    ghost output = { λ l. Some (list_items_json (context_seen l.0.context) l.0.nest l.0.bytes.now) };
+    ghost output = { λ l. Some (list_items_json (context_seen l.0.context) l.0.nest
+        l.0.bytes.now) };
 
     fn fmt<W: fmt::Write>(&self, f: &mut fmt::Formatter<W>) -> fmt::Result {
         let List {

@@ -3,7 +3,8 @@
 ghost use Rattle.std.specs.Prelude.{◌≡◌, Some};
 ghost use Rattle.neli_lent.specs.Messages.{message_said};
 ghost use Rattle.neli_print.specs.Heads.{header_of};
-ghost use Rattle.neli_print.specs.Messages.{content_lines, content_members, message_json, message_text};
+ghost use Rattle.neli_print.specs.Messages.{content_lines, content_members, message_json};
+ghost use Rattle.neli_print.specs.Messages.{message_text};
 
 use crate::body::{BodyMembers, BodyText};
 use crate::head::{Header, HeaderMembers, HeaderText};
@@ -103,8 +104,8 @@ struct ContentLines<'b, 'w, 't> {
 }
 
 impl fmt::Display for ContentLines<'_, '_, '_> {
-    ghost output = { λ c. Some (content_lines c.is_coloured c.message.tables.now c.message.header.head
-        c.message.payload.now) };
+    ghost output = { λ c. Some (content_lines c.is_coloured c.message.tables.now
+        c.message.header.head c.message.payload.now) };
 
     fn fmt<W: fmt::Write>(&self, f: &mut fmt::Formatter<W>) -> fmt::Result {
         let is_coloured = self.is_coloured;

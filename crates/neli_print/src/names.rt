@@ -1,12 +1,14 @@
 //! Names of lines, as parts of a printed line.
 
-ghost use Rattle.std.specs.Prelude.{◌≡◌, Some};
+ghost use Rattle.std.specs.Prelude.{◌≡◌, Some, take};
 ghost use Rattle.std.specs.Option.{option_copied, option_map};
-ghost use Rattle.neli_print.specs.Names.{line_name, name_member, row_name, structure_members, structure_text};
+ghost use Rattle.neli_print.specs.Names.{line_name, name_member, row_name, structure_members};
+ghost use Rattle.neli_print.specs.Names.{structure_text};
 
+use crate::item::front_of;
 use crate::pieces::{Colour, escape};
 use neli_tables_rows::Table;
-use neli_tables_walk::Step;
+use neli_tables_walk::{Nest, Step};
 use neli_values::{Fields, FieldsJson, FieldsText, Name, NameJson};
 use std::fmt;
 
@@ -53,6 +55,25 @@ pub(crate) struct Structure<'b, 'w, 't> {
     pub bytes: &'b [u8],
 }
 
+impl<'b, 'w, 't> Structure<'b, 'w, 't> {
+    /// The structure at the front of a nest with this payload.
+    pub(crate) fn of_nest(
+        table: &'w Table<'t>,
+        nest: &Nest,
+        payload: &'b [u8],
+    ) -> Structure<'b, 'w, 't>
+        ensures table { result.table.now ≡ table.now }
+        ensures place { result.place ≡ nest.now.after }
+        ensures bytes { result.bytes.now ≡ take nest.now.header payload.now }
+    {
+        Structure {
+            table,
+            place: nest.after,
+            bytes: front_of(payload, nest.header),
+        }
+    }
+}
+
 /// The members of a structure, after others: its name, and its fields; none without a structure.
 #[derive(Clone, Copy)]
 pub(crate) struct StructureMembers<'b, 'w, 't>(pub Structure<'b, 'w, 't>);
@@ -79,7 +100,8 @@ impl fmt::Display for StructureMembers<'_, '_, '_> {
     }
 }
 
-/// A structure on a line: its name, and its fields, each after a blank; nothing without a structure.
+/// A structure on a line: its name, and its fields, each after a blank; nothing without a
+/// structure.
 #[derive(Clone, Copy)]
 pub(crate) struct StructureText<'b, 'w, 't> {
     pub is_coloured: bool,

@@ -4,9 +4,10 @@ ghost use Rattle.std.specs.Prelude.{◌≡◌, Some};
 ghost use Rattle.std.specs.Option.{option_map};
 ghost use Rattle.neli_errno.specs.Errnos.{errno_seen};
 ghost use Rattle.neli_print.specs.Answers.{bytes_seen};
-ghost use Rattle.neli_print.specs.Replies.{attributes_lines, attributes_members, code_line, code_members, echo_lines};
-ghost use Rattle.neli_print.specs.Replies.{echo_members, errno_in, reply_lines, reply_members};
-ghost use Rattle.neli_print.specs.Replies.{request_lines, request_member, rest_line};
+ghost use Rattle.neli_print.specs.Replies.{attributes_lines, attributes_members, code_line};
+ghost use Rattle.neli_print.specs.Replies.{code_members, echo_lines, echo_members, errno_in};
+ghost use Rattle.neli_print.specs.Replies.{reply_lines, reply_members, request_lines};
+ghost use Rattle.neli_print.specs.Replies.{request_member, rest_line};
 
 use crate::answer::{Parts, answer_parts};
 use crate::body::{BodyMembers, BodyText, BytesLine, BytesMember};
@@ -83,7 +84,8 @@ struct RequestMember<'b, 'w, 't> {
 }
 
 impl fmt::Display for RequestMember<'_, '_, '_> {
-    ghost output = { λ r. Some (request_member r.tables.now r.parts.request (bytes_seen r.parts.body)) };
+    ghost output = { λ r. Some (request_member r.tables.now r.parts.request
+        (bytes_seen r.parts.body)) };
 
     fn fmt<W: fmt::Write>(&self, f: &mut fmt::Formatter<W>) -> fmt::Result {
         let Some(header) = self.parts.request else {

@@ -1,6 +1,6 @@
 -- An input in JSON is as many lines as it has messages, faults and parts that are no datagrams.
-use Rattle.std.proofs.Common.{◌≡◌, ℕ, zero, suc, ◌+◌, List, [], ◌∷◌, ◌++◌, codes, refl, sym, ap, subst, ◌∙◌}
-use Rattle.std.proofs.Common.{append_assoc, append-nil, arith, true, Result, Ok, Err}
+use Rattle.std.proofs.Common.{◌≡◌, ℕ, zero, suc, ◌+◌, List, [], ◌∷◌, ◌++◌, codes, refl, sym, ap}
+use Rattle.std.proofs.Common.{subst, ◌∙◌, append_assoc, append-nil, arith, true, Result, Ok, Err}
 use Rattle.std.specs.Fmt.{decimal}
 use Rattle.std.specs.List.{list_all}
 use Rattle.std.specs.Option.{unwrap_or}
@@ -39,10 +39,12 @@ lines_more (suc n) m before text is some =
 
 -- ---- a part that is no datagram
 
-around-plain : (n : ℕ) (before behind : List ℕ) → list_all is_plain before ≡ true → list_all is_plain behind ≡ true
+around-plain : (n : ℕ) (before behind : List ℕ) → list_all is_plain before ≡ true
+    → list_all is_plain behind ≡ true
     → list_all is_plain (before ++ (decimal n ++ behind)) ≡ true
 around-plain n before behind first last =
-    plain-append before (decimal n ++ behind) first (plain-append (decimal n) behind (digits-plain 10 n) last)
+    plain-append before (decimal n ++ behind) first
+    (plain-append (decimal n) behind (digits-plain 10 n) last)
 
 refusal-plain : (r : Refusal) → list_all is_plain (refusal_text r) ≡ true
 refusal-plain refusal.FileHeader = refl
@@ -59,7 +61,8 @@ refusal-plain refusal.NotHex = refl
 
 -- its members, closed
 closed : (place : ℕ) (text : List ℕ) → codes "{"
-    ++ ((codes "\"fault\":\"" ++ (text ++ codes "\"") ++ (codes "," ++ (codes "\"input\":" ++ decimal place)))
+    ++ ((codes "\"fault\":\"" ++ (text ++ codes "\"")
+    ++ (codes "," ++ (codes "\"input\":" ++ decimal place)))
     ++ codes "}") ++ codes "\n"
     ≡ codes "{\"fault\":\"" ++ (text ++ (codes "\",\"input\":" ++ (decimal place ++ codes "}\n")))
 closed place text = search (append_assoc)
@@ -69,8 +72,10 @@ refusal-line place r =
     let text = refusal_text r in
     let first = codes "\"fault\":\"" ++ (text ++ codes "\"") in
     let second = codes "\"input\":" ++ decimal place in
-    let json : IsJson (codes "{" ++ ((first ++ (codes "," ++ second)) ++ codes "}")) = object _ (members first second
-    (named (codes "fault") (codes "\"" ++ (text ++ codes "\"")) refl (plain_string text (refusal-plain r)))
+    let json : IsJson (codes "{" ++ ((first ++ (codes "," ++ second)) ++ codes "}")) =
+    object _ (members first second
+    (named (codes "fault") (codes "\"" ++ (text ++ codes "\"")) refl
+    (plain_string text (refusal-plain r)))
     (named (codes "input") (decimal place) refl (natural place))) in (
       refusal_json place r,
       [],
@@ -81,8 +86,10 @@ refusal-line place r =
 
 -- ---- an input
 
-packet-lines : (tables : Tables) (protocol : ℕ) (bytes : List ℕ) (place : ℕ) (packet : Result Packet Refusal)
-    → AreSoManyLines (packet_lines bytes packet) (packet_by output.Json tables protocol bytes place packet)
+packet-lines : (tables : Tables) (protocol : ℕ) (bytes : List ℕ) (place : ℕ)
+    (packet : Result Packet Refusal)
+    → AreSoManyLines (packet_lines bytes packet)
+    (packet_by output.Json tables protocol bytes place packet)
 packet-lines tables protocol bytes place (Ok packet) =
     datagram_json-lines tables (unwrap_or packet.family protocol) (packet_bytes bytes packet)
 packet-lines tables protocol bytes place (Err r) = refusal-line place r
@@ -92,4 +99,5 @@ pub input-lines : (tables : Tables) (protocol : ℕ) (bytes : List ℕ) (items :
 input-lines tables protocol bytes [] = refl
 input-lines tables protocol bytes (item ∷ items) =
     lines_more (packet_lines bytes item.packet) (input_lines bytes items) _ _
-    (packet-lines tables protocol bytes item.place item.packet) (input-lines tables protocol bytes items)
+    (packet-lines tables protocol bytes item.place item.packet)
+    (input-lines tables protocol bytes items)

@@ -1,5 +1,6 @@
 -- A family of generic netlink and its number, in a word of the command line.
-use Rattle.std.specs.Prelude.{ℕ, ◌==◌, List, codes, bytes_eq, length, if◌then◌else◌, Option, Some, None}
+use Rattle.std.specs.Prelude.{ℕ, ◌==◌, List, codes, bytes_eq, length, if◌then◌else◌, Option, Some}
+use Rattle.std.specs.Prelude.{None}
 use Rattle.std.specs.Borrow.{Bor}
 use Rattle.std.specs.List.{after_first, before_first, position_or_len}
 use Rattle.neli_show.specs.Numbers.{number_in}
@@ -24,7 +25,8 @@ named_in (Some parts) = named parts.0 (number_in parts.1)
 named_in None = None
 
 abbrev pub family_with : Option (List ℕ × List ℕ) → Option (List ℕ × ℕ)
-family_with (Some parts) = if bytes_eq parts.0 (codes "generic") then named_in (around 61 parts.1) else None
+family_with (Some parts) =
+    if bytes_eq parts.0 (codes "generic") then named_in (around 61 parts.1) else None
 family_with None = None
 
 -- the family and its number, as in `generic:nl80211=28`

@@ -17,7 +17,8 @@ use Rattle.neli_show.specs.Parts.{packet_bytes}
 
 -- the table that is known for a number after a family's
 abbrev pub family_learnt : List Lines → ℕ → Option ℕ → Option (List ℕ × ℕ) → Option ℕ
-family_learnt tables n before (Some family) = learnt_as family.1 (generic_in family.0 tables) n before
+family_learnt tables n before (Some family) =
+    learnt_as family.1 (generic_in family.0 tables) n before
 family_learnt tables n before None = before
 
 -- after a word of the command line
@@ -61,10 +62,11 @@ packet_learnt protocol tables bytes n before (Err refusal) = before
 abbrev pub input_learnt : ℕ → List Lines → List ℕ → ℕ → Option ℕ → List Item → Option ℕ
 input_learnt protocol tables bytes n before [] = before
 input_learnt protocol tables bytes n before (item ∷ items) =
-    input_learnt protocol tables bytes n (packet_learnt protocol tables bytes n before item.packet) items
+    input_learnt protocol tables bytes n (packet_learnt protocol tables bytes n before item.packet)
+    items
 
--- the tables that an input is read by: those that are built in, with the numbers of families that the last word and the
--- input have
+-- the tables that an input is read by: those that are built in, with the numbers of families that
+-- the last word and the input have
 abbrev pub AreTables : Option (List ℕ) → ℕ → List ℕ → List Item → Tables → Type 0
 AreTables word protocol bytes items tables =
     AreRead built_in_headings (tables_in tables)

@@ -1,5 +1,6 @@
 -- Numbers in words of the command line.
-use Rattle.std.specs.Prelude.{ℕ, Bool, List, length, nat_lt, ◌&&◌, if◌then◌else◌, Option, Some, None}
+use Rattle.std.specs.Prelude.{ℕ, Bool, List, length, nat_lt, ◌&&◌, if◌then◌else◌, Option, Some}
+use Rattle.std.specs.Prelude.{None}
 use Rattle.std.specs.Str.{all_ascii_digits}
 use Rattle.std.specs.Str.Parse.{digits_value, without_leading_plus}
 
@@ -11,4 +12,5 @@ is_numeral digits = nat_lt 0 (length digits) && all_ascii_digits digits
 abbrev pub number_in : List ℕ → Option ℕ
 number_in word =
     let digits = without_leading_plus word in
-    if is_numeral digits && nat_lt (digits_value 10 digits) 65536 then Some (digits_value 10 digits) else None
+    if is_numeral digits && nat_lt (digits_value 10 digits) 65536 then Some (digits_value 10 digits)
+    else None

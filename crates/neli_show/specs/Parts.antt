@@ -1,6 +1,6 @@
 -- What is printed of an input.
-use Rattle.std.specs.Prelude.{ℕ, Bool, true, false, ◌&&◌, if◌then◌else◌, nat_le, List, [], ◌++◌, codes, length}
-use Rattle.std.specs.Prelude.{slice_range, Result, Ok, Err}
+use Rattle.std.specs.Prelude.{ℕ, Bool, true, false, ◌&&◌, if◌then◌else◌, nat_le, List, [], ◌++◌}
+use Rattle.std.specs.Prelude.{codes, length, slice_range, Result, Ok, Err}
 use Rattle.std.specs.Fmt.{decimal}
 use Rattle.std.specs.List.{flat_map}
 use Rattle.std.specs.Option.{unwrap_or}
@@ -48,7 +48,8 @@ packet_by o tables protocol bytes place (Ok packet) =
     datagram_by o tables (unwrap_or packet.family protocol) (packet_bytes bytes packet)
 packet_by o tables protocol bytes place (Err refusal) = refusal_by o place refusal
 
--- a part of an input: a datagram of the protocol that it states, or else of this one; or why it is none
+-- a part of an input: a datagram of the protocol that it states, or else of this one; or why it is
+-- none
 abbrev pub part_by : Output → Tables → ℕ → List ℕ → Item → List ℕ
 part_by o tables protocol bytes item = packet_by o tables protocol bytes item.place item.packet
 

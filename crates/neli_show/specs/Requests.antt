@@ -1,6 +1,5 @@
 -- The command line's words, and their meaning.
-use Rattle.std.specs.Prelude.{ℕ, List, [], ◌∷◌, codes, bytes_eq, if◌then◌else◌}
-use Rattle.std.specs.Prelude.{Option, Some, None}
+use Rattle.std.specs.Prelude.{ℕ, List, [], ◌∷◌, codes, bytes_eq, if◌then◌else◌, Option, Some, None}
 use Rattle.std.specs.Option.{option_or}
 use Rattle.neli_show.specs.Families.{family_in}
 use Rattle.neli_show.specs.Numbers.{number_in}
@@ -41,6 +40,7 @@ both_asked None protocol = None
 abbrev pub request_in : List (List ℕ) → Option Request
 request_in [] = both_asked (Some output.Text) (Some 0)
 request_in (word ∷ []) =
-    option_or (both_asked (named_output word) (Some 0)) (both_asked (Some output.Text) (protocol_in word))
+    option_or (both_asked (named_output word) (Some 0))
+    (both_asked (Some output.Text) (protocol_in word))
 request_in (output ∷ protocol ∷ []) = both_asked (named_output output) (protocol_in protocol)
 request_in (output ∷ protocol ∷ word ∷ words) = None

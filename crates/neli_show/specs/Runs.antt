@@ -1,7 +1,6 @@
 -- How a run ends.
-use Rattle.std.specs.Prelude.{◌≡◌, ℕ, ◌-◌, Bool, true, false, List, length, map, codes, slice_get, string_bytes}
-use Rattle.std.specs.Prelude.{Option, Some, None}
-use Rattle.std.specs.Prelude.{Result, Ok, Err}
+use Rattle.std.specs.Prelude.{◌≡◌, ℕ, ◌-◌, Bool, true, false, List, length, map, codes, slice_get}
+use Rattle.std.specs.Prelude.{string_bytes, Option, Some, None, Result, Ok, Err}
 use Rattle.std.specs.Io.KnownBytes.{Appends}
 use Rattle.std.specs.IoError.{error_kind}
 use Rattle.std.specs.Option.{ok_or}
@@ -38,7 +37,8 @@ complaint_text status.Fault = None
 complaint_text status.NoInput = Some (codes "neli_show: the input cannot be read")
 complaint_text status.NoOutput = Some (codes "neli_show: the output cannot be written")
 complaint_text status.Usage =
-    Some (codes "usage: neli_show [json | color] [route | connector | generic[:FAMILY=ID] | NUMBER] < FILE")
+    Some (codes
+    "usage: neli_show [json | color] [route | connector | generic[:FAMILY=ID] | NUMBER] < FILE")
 complaint_text status.Memory = Some (codes "neli_show: out of memory")
 
 -- the status if the words were not read: memory ran out, or they are not accepted
@@ -64,9 +64,11 @@ abbrev pub printed_status : Bool → Status
 printed_status true = status.Whole
 printed_status false = status.Fault
 
--- what a run with this request writes of an input, and how it ends: the input's datagrams and what is none, as text or
--- JSON by the tables that are built in and the numbers of families that the input has
-abbrev pub IsShown : Request → Option (List ℕ) → List ℕ → Option (List ℕ) → Option (List ℕ) → Status → Type 0
+-- what a run with this request writes of an input, and how it ends: the input's datagrams and what
+-- is none, as text or JSON by the tables that are built in and the numbers of families that the
+-- input has
+abbrev pub IsShown : Request → Option (List ℕ) → List ℕ → Option (List ℕ) → Option (List ℕ) → Status
+    → Type 0
 IsShown request word input old new end =
     (bytes : List ℕ) × (items : List Item) × (tables : Tables) × IsInput input bytes items
     × AreTables word request.protocol bytes items tables

@@ -1,11 +1,13 @@
-//! `neli_show` prints netlink messages for people: types, flags, attributes and values by name. `neli_show json` prints
-//! an object for each message, `neli_show color` names in colours.
+//! `neli_show` prints netlink messages for people: types, flags, attributes and values by name.
+//! `neli_show json` prints an object for each message, `neli_show color` names in colours.
 //!
-//! Standard input is raw bytes, hexadecimal text or a pcap file of `nlmon`; the format is detected. docs/SHOW.md shows
-//! the output.
+//! Standard input is raw bytes, hexadecimal text or a pcap file of `nlmon`; the format is detected.
+//! docs/SHOW.md shows the output.
 //!
-//! - [`run`]: the request, the input, and the status of a run. [`request`]: the words of the command line.
-//! - [`learn`]: the numbers of generic netlink's families, from a word ([`family`]) and from the controller's messages.
+//! - [`run`]: the request, the input, and the status of a run. [`request`]: the words of the
+//!   command line.
+//! - [`learn`]: the numbers of generic netlink's families, from a word ([`family`]) and from the
+//!   controller's messages.
 //! - [`part`]: a part of the input, as it is printed. [`whole`]: whether all of it is messages.
 #![tactic(auto)]
 

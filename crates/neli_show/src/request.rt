@@ -1,6 +1,7 @@
 //! The request in the words of the command line.
 
-ghost use Rattle.std.specs.Prelude.{◌≡◌, ◌<◌, None, IfSome, [], Some, codes, length, map, string_bytes};
+ghost use Rattle.std.specs.Prelude.{◌≡◌, ◌<◌, None, IfSome, [], Some, codes, length, map};
+ghost use Rattle.std.specs.Prelude.{string_bytes};
 ghost use Rattle.neli_show.specs.Requests.{named_output, named_protocol, protocol_in, request_in};
 
 use crate::family::{family_of, number_of};

@@ -8,8 +8,8 @@ ghost use Rattle.neli_show.specs.declared.request.Request.{Request as Asked};
 ghost use Rattle.neli_show.specs.Learnt.{AreTables};
 ghost use Rattle.neli_show.specs.Lines.{Writes, WritesInput, is_whole_input};
 ghost use Rattle.neli_show.specs.Parts.{input_by};
-ghost use Rattle.neli_show.specs.Runs.{IsShown, asked_in, complaint_text, last_word, printed_status};
-ghost use Rattle.neli_show.specs.Runs.{status_code, unread_status};
+ghost use Rattle.neli_show.specs.Runs.{IsShown, asked_in, complaint_text, last_word};
+ghost use Rattle.neli_show.specs.Runs.{printed_status, status_code, unread_status};
 ghost use Rattle.neli_values.specs.Json.{AreLines};
 
 use crate::learn::{learn_input, learn_word};
@@ -63,7 +63,8 @@ impl Status {
             Status::NoInput => Some("neli_show: the input cannot be read"),
             Status::NoOutput => Some("neli_show: the output cannot be written"),
             Status::Usage => Some(
-                "usage: neli_show [json | color] [route | connector | generic[:FAMILY=ID] | NUMBER] < FILE",
+                "usage: neli_show [json | color] \
+                [route | connector | generic[:FAMILY=ID] | NUMBER] < FILE",
             ),
             Status::Memory => Some("neli_show: out of memory"),
         }
@@ -113,8 +114,8 @@ fn show_by<W: Write>(out: &mut W, tables: &Tables<'_>, request: Request, input: 
     }
 }
 
-/// The tables that an input is read by: those that are built in, with the numbers of families that the last word and
-/// the input have.
+/// The tables that an input is read by: those that are built in, with the numbers of families that
+/// the last word and the input have.
 fn tables_for(
     alloc: Global,
     word: Option<&str>,
@@ -139,7 +140,8 @@ fn show_bytes<W: Write>(
     out: &mut W,
 ) -> Result<Status, ReadError>
     ensures shown { IfOk result (λ status. status ≢ Status.NoOutput
-        → IsShown request (option_map (λ w. w.now) word.entry) bytes.items (W.contents out.old) (W.contents out.new) status) }
+        → IsShown request (option_map (λ w. w.now) word.entry) bytes.items (W.contents out.old)
+        (W.contents out.new) status) }
     ensures ran { IfOk result (λ status. (status ≢ Status.Usage) × (status ≢ Status.Memory)
         × (status ≢ Status.NoInput)) }
     ensures silent { OnErr result (out.new ≡ out.old) }
@@ -166,7 +168,8 @@ fn show<R: Read, W: Write>(
     ensures asked { result ≢ Status.Usage }
     ensures unread { result ≡ Status.NoInput → out.new ≡ out.old }
     ensures memory { result ≡ Status.Memory → out.new ≡ out.old }
-    ensures read { result ≢ Status.NoInput → result ≢ Status.Memory → IsAtEnd (R.remaining input.new) }
+    ensures read { result ≢ Status.NoInput → result ≢ Status.Memory
+        → IsAtEnd (R.remaining input.new) }
 {
     let mut bytes = Vec::new(alloc);
     match input.read_to_end(&mut bytes) {
@@ -204,8 +207,8 @@ fn last_word(words: &io::Result<Vec<String>>) -> Option<&str>
     }
 }
 
-/// Performs the request in these words, and returns the status of the run; writes the cause of a failure to
-/// `complaints`.
+/// Performs the request in these words, and returns the status of the run; writes the cause of a
+/// failure to `complaints`.
 pub fn run<R: Read, W: Write, C: Write>(
     alloc: Global,
     words: &io::Result<Vec<String>>,
@@ -218,10 +221,12 @@ pub fn run<R: Read, W: Write, C: Write>(
         → IfSome (R.remaining input.old)
         (λ bytes. IsShown request (last_word words.now) bytes (W.contents out.old)
         (W.contents out.new) result) }
-    ensures json { (request : Asked) → asked_in words.now ≡ Ok request → request.output ≡ Output.Json
-        → result ≢ Status.NoOutput → Writes (W.contents out.old) (W.contents out.new) AreLines }
-    ensures lines { (request : Asked) → asked_in words.now ≡ Ok request → request.output ≡ Output.Json
-        → result ≢ Status.NoOutput → result ≢ Status.NoInput → result ≢ Status.Memory
+    ensures json { (request : Asked) → asked_in words.now ≡ Ok request
+        → request.output ≡ Output.Json → result ≢ Status.NoOutput
+        → Writes (W.contents out.old) (W.contents out.new) AreLines }
+    ensures lines { (request : Asked) → asked_in words.now ≡ Ok request
+        → request.output ≡ Output.Json → result ≢ Status.NoOutput → result ≢ Status.NoInput
+        → result ≢ Status.Memory
         → IfSome (R.remaining input.old)
         (λ bytes. WritesInput bytes (W.contents out.old) (W.contents out.new)) }
     ensures asked { (request : Asked) → asked_in words.now ≡ Ok request → result ≢ Status.Usage }

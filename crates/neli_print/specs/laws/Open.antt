@@ -1,9 +1,10 @@
 -- Lists of attributes in JSON, while they are open.
-use Rattle.std.proofs.Common.{◌≡◌, ℕ, zero, suc, ◌+◌, Bool, true, false, List, [], ◌++◌, codes, refl, sym, ap}
-use Rattle.std.proofs.Common.{subst, ◌∙◌, append_assoc, append-nil, arith}
+use Rattle.std.proofs.Common.{◌≡◌, ℕ, zero, suc, ◌+◌, Bool, true, false, List, [], ◌++◌, codes}
+use Rattle.std.proofs.Common.{refl, sym, ap, subst, ◌∙◌, append_assoc, append-nil, arith}
 use Rattle.std.specs.List.{list_all}
 use Rattle.neli_values.specs.Json.{AreElements, AreMembers, IsJson, is_plain, object}
-use Rattle.neli_values.specs.laws.Parts.{FirstElements, Turns, array_of, comma, first_elements_more, part, turns_then}
+use Rattle.neli_values.specs.laws.Parts.{FirstElements, Turns, array_of, comma, first_elements_more}
+use Rattle.neli_values.specs.laws.Parts.{part, turns_then}
 use Rattle.neli_print.specs.Pieces.{repeated}
 
 -- ---- words
@@ -15,12 +16,14 @@ InArray P first text =
 
 -- the place of the next element
 abbrev pub InPlace : (List ℕ → Type 0) → List ℕ → Type 0
-InPlace P text = (start : List ℕ) × (first : Bool) × InArray P first start × (text ≡ start ++ comma first)
+InPlace P text =
+    (start : List ℕ) × (first : Bool) × InArray P first start × (text ≡ start ++ comma first)
 
 -- an element that is an object with members, not closed yet
 abbrev pub InElement : (List ℕ → Type 0) → List ℕ → Type 0
 InElement P text =
-    (start members : List ℕ) × InPlace P start × AreMembers members × (text ≡ start ++ (codes "{" ++ members))
+    (start members : List ℕ) × InPlace P start × AreMembers members
+    × (text ≡ start ++ (codes "{" ++ members))
 
 -- the text that begins a list as a member
 abbrev pub beginning : List ℕ → List ℕ
@@ -28,7 +31,8 @@ beginning name = codes ",\"" ++ (name ++ codes "\":[")
 
 -- the attributes of a message begin, or the nth list in them
 abbrev pub IsListBegun : ℕ → List ℕ → Type 0
-IsListBegun zero text = (start : List ℕ) × AreMembers start × (text ≡ start ++ beginning (codes "attributes"))
+IsListBegun zero text =
+    (start : List ℕ) × AreMembers start × (text ≡ start ++ beginning (codes "attributes"))
 IsListBegun (suc n) text =
     (start name : List ℕ) × InElement (IsListBegun n) start × (list_all is_plain name ≡ true)
     × (text ≡ start ++ beginning name)
@@ -81,7 +85,8 @@ element_more P text more before is = (
 element_end : (P : List ℕ → Type 0) → Turns (InElement P) (InArray P false) (codes "}")
 element_end P before is =
     subst (InArray P false)
-    (sym (ap (λ (l : List ℕ). l ++ codes "}") is.4 ∙ append_assoc is.0 (codes "{" ++ is.1) (codes "}")))
+    (sym (ap (λ (l : List ℕ). l ++ codes "}") is.4
+    ∙ append_assoc is.0 (codes "{" ++ is.1) (codes "}")))
     (place_value P (codes "{" ++ (is.1 ++ codes "}")) (object is.1 is.3) is.0 is.2)
 
 -- a list that is the last member of an element ends, and the element with it
@@ -111,9 +116,11 @@ pub list_end : (first : Bool) → Turns (IsOpen 1 first) AreMembers (codes "]")
 list_end first before is =
     let start = is.2.0 in
     subst AreMembers (sym (
-    ap (λ (l : List ℕ). l ++ codes "]") (is.4 ∙ ap (λ (l : List ℕ). l ++ is.1) is.2.2 ∙ append_assoc start _ is.1)
+    ap (λ (l : List ℕ). l ++ codes "]")
+    (is.4 ∙ ap (λ (l : List ℕ). l ++ is.1) is.2.2 ∙ append_assoc start _ is.1)
     ∙ append_assoc start (codes ",\"attributes\":[" ++ is.1) (codes "]")))
-    (part (codes "attributes") (codes "[" ++ (is.1 ++ codes "]")) refl (array_of first is.1 is.3) start is.2.1)
+    (part (codes "attributes") (codes "[" ++ (is.1 ++ codes "]")) refl (array_of first is.1 is.3)
+    start is.2.1)
 
 pub nest_begin : (n : ℕ) (name : List ℕ) → list_all is_plain name ≡ true
     → Turns (IsElement n) (IsOpen (suc n) true) (beginning name)
@@ -122,7 +129,8 @@ nest_begin (suc n) name plain before is =
     let text = before ++ beginning name in
     (text, [], (before, name, is, plain, refl), refl, sym (append-nil text))
 
-pub nest_end : (n : ℕ) (first : Bool) → Turns (IsOpen (suc (suc n)) first) (IsOpen (suc n) false) (codes "]}")
+pub nest_end : (n : ℕ) (first : Bool)
+    → Turns (IsOpen (suc (suc n)) first) (IsOpen (suc n) false) (codes "]}")
 nest_end n first before is =
     let begun = is.2 in
     subst (InArray (IsListBegun n) false) (sym (
@@ -140,11 +148,13 @@ pub place_end : (n : ℕ) (value : List ℕ) → IsJson value → Turns (IsPlace
 place_end zero value json before is = absurd is
 place_end (suc n) value json before is = place_value (IsListBegun n) value json before is
 
-pub object_begin : (n : ℕ) (text : List ℕ) → AreMembers text → Turns (IsPlace n) (IsElement n) (codes "{" ++ text)
+pub object_begin : (n : ℕ) (text : List ℕ) → AreMembers text
+    → Turns (IsPlace n) (IsElement n) (codes "{" ++ text)
 object_begin zero text some before is = absurd is
 object_begin (suc n) text some before is = (before, text, is, some, refl)
 
-pub object_more : (n : ℕ) (text : List ℕ) → Turns AreMembers AreMembers text → Turns (IsElement n) (IsElement n) text
+pub object_more : (n : ℕ) (text : List ℕ) → Turns AreMembers AreMembers text
+    → Turns (IsElement n) (IsElement n) text
 object_more zero text more before is = absurd is
 object_more (suc n) text more before is = element_more (IsListBegun n) text more before is
 
@@ -160,10 +170,12 @@ after_ends zero first = first
 after_ends (suc k) first = false
 
 pub ends : (k m : ℕ) (first : Bool)
-    → Turns (IsOpen (suc m + k) first) (IsOpen (suc m) (after_ends k first)) (repeated (codes "]}") k)
+    → Turns (IsOpen (suc m + k) first) (IsOpen (suc m) (after_ends k first))
+    (repeated (codes "]}") k)
 ends zero m first before is =
     let same : suc m + 0 ≡ suc m = omega arith in
-    subst (λ (n : ℕ). IsOpen n first (before ++ [])) same (turns_none (IsOpen (suc m + 0) first) before is)
+    subst (λ (n : ℕ). IsOpen n first (before ++ [])) same
+    (turns_none (IsOpen (suc m + 0) first) before is)
 ends (suc k) m first before is =
     let same : suc m + suc k ≡ suc (suc m) + k = omega arith in
     turns_then (IsOpen (suc (suc m) + k) first) (IsOpen (suc (suc m)) (after_ends k first))

@@ -1,7 +1,8 @@
 -- What is printed as JSON is one value a message, and lines of such values a datagram.
-use Rattle.std.proofs.Common.{◌≡◌, ℕ, zero, suc, ◌+◌, ◌-◌, ◌≤◌, min, max, Bool, true, false, not, List, [], ◌∷◌}
-use Rattle.std.proofs.Common.{◌++◌, codes, length, drop, take, refl, sym, ap, subst, ◌∙◌, append_assoc, append-nil, arith}
-use Rattle.std.proofs.Common.{Option, Some, None, Result, Ok, Err, eq-eqb}
+use Rattle.std.proofs.Common.{◌≡◌, ℕ, zero, suc, ◌+◌, ◌-◌, ◌≤◌, min, max, Bool, true, false, not}
+use Rattle.std.proofs.Common.{List, [], ◌∷◌, ◌++◌, codes, length, drop, take, refl, sym, ap, subst}
+use Rattle.std.proofs.Common.{◌∙◌, append_assoc, append-nil, arith, Option, Some, None, Result, Ok}
+use Rattle.std.proofs.Common.{Err, eq-eqb}
 use Rattle.std.specs.Prelude.{ℤ, ◌==◌, ◌||◌, nat_lt, unwrap_or}
 use Rattle.std.specs.Fmt.{decimal, digits, signed_decimal}
 use Rattle.std.specs.List.{list_all}
@@ -13,7 +14,8 @@ use Rattle.neli_lent.specs.Messages.{Lent, messages_in}
 use Rattle.neli_lent.specs.Walks.{fault_item, items_of}
 use Rattle.neli_tables_bodies.specs.declared.generic.GenericHeader.{GenericHeader}
 use Rattle.neli_tables_bodies.specs.declared.head.Head.{Head}
-use Rattle.neli_tables_bodies.specs.Bodies.{BodySeen, answer_in, body_context, body_in, body_shape, is_answer}
+use Rattle.neli_tables_bodies.specs.Bodies.{BodySeen, answer_in, body_context, body_in, body_shape}
+use Rattle.neli_tables_bodies.specs.Bodies.{is_answer}
 use Rattle.neli_tables_rows.specs.declared.tables.Tables.{Tables}
 use Rattle.neli_tables_walk.specs.declared.item.Step.{Step}
 use Rattle.neli_tables_walk.specs.declared.shape.Nest.{Nest}
@@ -26,16 +28,18 @@ use Rattle.neli_values.specs.declared.breach.Breach.TheVariants.{Shorter}
 use Rattle.neli_values.specs.Breaches.{breach_text}
 use Rattle.neli_values.specs.Fields.{fields_json}
 use Rattle.neli_values.specs.Hex.{bytes_json, hex_text}
-use Rattle.neli_values.specs.Json.{AreElements, AreMembers, AreSoManyLines, IsChars, IsJson, IsLine, both, is_plain, member}
-use Rattle.neli_values.specs.Json.{members, object, plain, string, truth, integer}
+use Rattle.neli_values.specs.Json.{AreElements, AreMembers, AreSoManyLines, IsChars, IsJson, IsLine}
+use Rattle.neli_values.specs.Json.{both, is_plain, member, members, object, plain, string, truth}
+use Rattle.neli_values.specs.Json.{integer}
 use Rattle.neli_values.specs.Names.{name_json, name_text}
 use Rattle.neli_values.specs.Quoted.{quoted}
 use Rattle.neli_values.specs.Values.{payload_breach, payload_json}
-use Rattle.neli_values.specs.laws.Parts.{FirstElements, Turns, array_of, comma, first_elements_more, named, natural, part}
-use Rattle.neli_values.specs.laws.Parts.{plain_string, turns_then}
+use Rattle.neli_values.specs.laws.Parts.{FirstElements, Turns, array_of, comma, first_elements_more}
+use Rattle.neli_values.specs.laws.Parts.{named, natural, part, plain_string, turns_then}
 use Rattle.neli_values.specs.laws.Strings.{digits-plain, plain-append, quoted-string}
-use Rattle.neli_values.specs.laws.Values.{breach-plain, bytes_json-json, fields_json-json, hex-plain, name_json-json}
-use Rattle.neli_values.specs.laws.Values.{name_text-chars, payload_json-json}
+use Rattle.neli_values.specs.laws.Values.{breach-plain, bytes_json-json, fields_json-json}
+use Rattle.neli_values.specs.laws.Values.{hex-plain, name_json-json, name_text-chars}
+use Rattle.neli_values.specs.laws.Values.{payload_json-json}
 use Rattle.neli_wire.specs.DeError.{DeError}
 use Rattle.neli_wire.specs.DeError.TheVariants as de
 use Rattle.neli_print.specs.declared.flags.FlagForm.TheVariants.{Strings}
@@ -43,23 +47,29 @@ use Rattle.neli_print.specs.declared.flags.Left.{Left}
 use Rattle.neli_print.specs.declared.head.Header.{Header}
 use Rattle.neli_print.specs.declared.item.Open.{Open}
 use Rattle.neli_print.specs.Answers.{PartsSeen, answer_parts}
-use Rattle.neli_print.specs.Bodies.{body_members, bytes_member, generic_members, known_members, members_with}
-use Rattle.neli_print.specs.Bodies.{payload_member, reserved, row_members, row_members_by}
+use Rattle.neli_print.specs.Bodies.{body_members, bytes_member, generic_members, known_members}
+use Rattle.neli_print.specs.Bodies.{members_with, payload_member, reserved, row_members}
+use Rattle.neli_print.specs.Bodies.{row_members_by}
 use Rattle.neli_print.specs.Faults.{fault_text}
-use Rattle.neli_print.specs.Flags.{after_flag, all_left, left_without, flag_text, flags_from, is_named, mark, rest_text}
+use Rattle.neli_print.specs.Flags.{after_flag, all_left, left_without, flag_text, flags_from}
+use Rattle.neli_print.specs.Flags.{is_named, mark, rest_text}
 use Rattle.neli_print.specs.Heads.{header_flags, header_members, header_of, rows_of}
 use Rattle.neli_print.specs.Items.{after_item, depth_in, has_items, last_step, opened, opens_list}
-use Rattle.neli_print.specs.ItemsJson.{breach_member, content_json, element_json, element_with, item_json, items_json}
-use Rattle.neli_print.specs.ItemsJson.{label_json, left_json, object_json, row_json, value_json}
+use Rattle.neli_print.specs.ItemsJson.{breach_member, content_json, element_json, element_with}
+use Rattle.neli_print.specs.ItemsJson.{item_json, items_json, label_json, left_json, object_json}
+use Rattle.neli_print.specs.ItemsJson.{row_json, value_json}
 use Rattle.neli_print.specs.Lists.{body_open, list_member}
-use Rattle.neli_print.specs.Messages.{content_members, datagram_json, fault_json, json_from, message_json, place_behind}
+use Rattle.neli_print.specs.Messages.{content_members, datagram_json, fault_json, json_from}
+use Rattle.neli_print.specs.Messages.{message_json, place_behind}
 use Rattle.neli_print.specs.Names.{Lines, line_name, name_member, row_name, structure_members}
 use Rattle.neli_print.specs.Pieces.{repeated, when}
 use Rattle.neli_print.specs.Rests.{rest_member, rest_of, struct_in}
-use Rattle.neli_print.specs.Replies.{attributes_members, code_in, code_members, echo_members, errno_in, error_members}
-use Rattle.neli_print.specs.Replies.{message_name, parts_members, reply_members, request_member}
-use Rattle.neli_print.specs.laws.Open.{IsElement, IsOpen, IsPlace, after_ends, ends, list_begin, list_end, nest_begin}
-use Rattle.neli_print.specs.laws.Open.{object_begin, object_end, object_more, place_begin, place_end, turns_none}
+use Rattle.neli_print.specs.Replies.{attributes_members, code_in, code_members, echo_members}
+use Rattle.neli_print.specs.Replies.{errno_in, error_members, message_name, parts_members}
+use Rattle.neli_print.specs.Replies.{reply_members, request_member}
+use Rattle.neli_print.specs.laws.Open.{IsElement, IsOpen, IsPlace, after_ends, ends, list_begin}
+use Rattle.neli_print.specs.laws.Open.{list_end, nest_begin, object_begin, object_end, object_more}
+use Rattle.neli_print.specs.laws.Open.{place_begin, place_end, turns_none}
 
 -- ---- members that follow others
 
@@ -82,7 +92,8 @@ name-more : (name : Option (List ℕ)) → More (name_member name)
 name-more (Some name) = part (codes "name") (name_json name) refl (name_json-json name)
 name-more None = no_more
 
-structure-more : (table : Lines) (place : Option ℕ) (bytes : List ℕ) → More (structure_members table place bytes)
+structure-more : (table : Lines) (place : Option ℕ) (bytes : List ℕ)
+    → More (structure_members table place bytes)
 structure-more table (Some place) bytes =
     let name = name_json (line_name table place) in
     let fields = fields_json table place bytes in
@@ -100,7 +111,8 @@ rest-more (b ∷ bytes) =
 
 -- ---- an attribute
 
-label-members : (table : Lines) (step : Option Step) (kind : AttrType ℕ) → AreMembers (label_json table step kind)
+label-members : (table : Lines) (step : Option Step) (kind : AttrType ℕ)
+    → AreMembers (label_json table step kind)
 label-members table step kind =
     more_then (name_member (row_name table step)) _ (name-more (row_name table step))
     (more_then (when kind.nla_nested (codes ",\"nested\":true")) _
@@ -120,7 +132,8 @@ ended : (n : ℕ) (before value : List ℕ) → More before → IsJson value
     → Turns (IsElement n) (IsOpen n false) (before ++ (codes ",\"value\":" ++ (value ++ codes "}")))
 ended n before value more json =
     turns_then (IsElement n) (IsElement n) (IsOpen n false) before _ (object_more n before more)
-    (turns_then (IsElement n) (IsElement n) (IsOpen n false) (codes ",\"value\":" ++ value) (codes "}")
+    (turns_then (IsElement n) (IsElement n) (IsOpen n false) (codes ",\"value\":" ++ value)
+    (codes "}")
     (object_more n _ (part (codes "value") value refl json)) (object_end n))
 
 -- the lists that are open after an attribute that has a list, or has none
@@ -140,7 +153,8 @@ content-turns : (n : ℕ) (table : Lines) (s : Shape) (payload : List ℕ)
 content-turns n table (shape.Row place) payload =
     turns_then (IsElement n) (IsElement n) (IsOpen n false) _ _
     (object_more n _ (breach-more (payload_breach table place payload)))
-    (turns_then (IsElement n) (IsElement n) (IsOpen n false) (codes ",\"value\":" ++ payload_json table place payload) _
+    (turns_then (IsElement n) (IsElement n) (IsOpen n false)
+    (codes ",\"value\":" ++ payload_json table place payload) _
     (object_more n _ (part (codes "value") _ refl (payload_json-json table place payload)))
     (turns_then (IsElement n) (IsElement n) (IsOpen n false) _ (codes "}")
     (object_more n _ (rest-more (rest_of table place payload))) (object_end n)))
@@ -156,14 +170,17 @@ content-turns n table (shape.Deep nest) payload =
     ended n _ _ (part (codes "broken") (codes "\"nested too deep\"") refl
     (plain_string (codes "nested too deep") refl)) (bytes_json-json payload)
 
-element-turns : (n : ℕ) (table : Lines) (step : Option Step) (kind : Option (AttrType ℕ)) (payload : List ℕ)
-    (s : Shape) → Turns (IsPlace n) (IsOpenAfter n (has_items s)) (element_with table step kind payload s)
+element-turns : (n : ℕ) (table : Lines) (step : Option Step) (kind : Option (AttrType ℕ))
+    (payload : List ℕ) (s : Shape)
+    → Turns (IsPlace n) (IsOpenAfter n (has_items s))
+    (element_with table step kind payload s)
 element-turns n table step (Some kind) payload s =
     turns_then (IsPlace n) (IsElement n) (IsOpenAfter n (has_items s)) _ _
     (object_begin n _ (label-members table step kind)) (content-turns n table s payload)
 element-turns n table step None payload s =
     turns_then (IsPlace n) (IsElement n) (IsOpenAfter n (has_items s)) (codes "{\"length\":" ++ _) _
-    (object_begin n _ (named (codes "length") (decimal (length payload)) refl (natural (length payload))))
+    (object_begin n _ (named (codes "length") (decimal (length payload)) refl
+    (natural (length payload))))
     (content-turns n table s payload)
 
 -- ---- what is left of a list, and faults
@@ -176,17 +193,20 @@ begun-more : (text : List ℕ) → More text → Turns IsObjectBegun IsObjectBeg
 begun-more text more before is = (is.0 ++ text, more is.0 is.1, ap (λ (l : List ℕ). l ++ text) is.2)
 
 begun-end : Turns IsObjectBegun IsJson (codes "}")
-begun-end before is = subst IsJson (sym (ap (λ (l : List ℕ). l ++ codes "}") is.2)) (object is.0 is.1)
+begun-end before is =
+    subst IsJson (sym (ap (λ (l : List ℕ). l ++ codes "}") is.2)) (object is.0 is.1)
 
 -- two members of an object
 two-members : (first second : List ℕ) → AreMembers first → More second
     → IsJson ((codes "{" ++ first) ++ (second ++ codes "}"))
 two-members first second some more =
-    turns_then IsObjectBegun IsObjectBegun IsJson second (codes "}") (begun-more second more) begun-end
+    turns_then IsObjectBegun IsObjectBegun IsJson second (codes "}") (begun-more second more)
+    begun-end
     (codes "{" ++ first) (first, some, refl)
 
 fault-plain : (e : DeError) → list_all is_plain (fault_text e) ≡ true
-fault-plain (de.InvalidInput n) = plain-append (codes "a wrong length, ") (decimal n) refl (digits-plain 10 n)
+fault-plain (de.InvalidInput n) =
+    plain-append (codes "a wrong length, ") (decimal n) refl (digits-plain 10 n)
 fault-plain (de.Io kind) = refl
 fault-plain de.Memory = refl
 fault-plain (de.Msg text) = refl
@@ -203,16 +223,19 @@ left-json bytes e =
     let rest = codes ",\"rest\":\"" ++ (hex ++ codes "\"") in
     subst (λ (l : List ℕ). IsJson (codes "{\"fault\":\"" ++ l)) (
     append_assoc (fault_text e) (codes "\"") (rest ++ codes "}")
-    ∙ ap (λ (l : List ℕ). fault_text e ++ (codes "\",\"rest\":\"" ++ l)) (append_assoc hex (codes "\"") (codes "}")))
+    ∙ ap (λ (l : List ℕ). fault_text e ++ (codes "\",\"rest\":\"" ++ l))
+    (append_assoc hex (codes "\"") (codes "}")))
     (two-members _ rest (fault-members e)
-    (part (codes "rest") (codes "\"" ++ (hex ++ codes "\"")) refl (plain_string hex (hex-plain bytes))))
+    (part (codes "rest") (codes "\"" ++ (hex ++ codes "\"")) refl
+    (plain_string hex (hex-plain bytes))))
 
 -- ---- items
 
 object-turns : (n : ℕ) (table : Lines) (path : List Step) (content : Result Said (List ℕ × DeError))
     → Turns (IsPlace n) (IsOpenAfter n (opens_list content)) (object_json table path content)
 object-turns n table path (Ok said) = element-turns n table (last_step path) said.0 said.1 said.2
-object-turns n table path (Err left) = place_end n (left_json left.0 left.1) (left-json left.0 left.1)
+object-turns n table path (Err left) =
+    place_end n (left_json left.0 left.1) (left-json left.0 left.1)
 
 -- so many lists are open
 abbrev pub IsOpenAs : Open → List ℕ → Type 0
@@ -251,12 +274,14 @@ item-at table o item (suc m) some few before is =
     let object = object_json table item.0 item.1 in
     let done = object-turns (suc m) table item.0 item.1 (closed ++ mark) placed in
     subst (IsOpenAs (opened (suc m) (opens_list item.1)))
-    (append_assoc closed mark object ∙ append_assoc before (repeated (codes "]}") k) (mark ++ object))
+    (append_assoc closed mark object ∙ append_assoc before (repeated (codes "]}") k)
+    (mark ++ object))
     (opened-after (suc m) (opens_list item.1) ((closed ++ mark) ++ object) done)
 
 item-turns : (table : Lines) (o : Open) (item : Seen) → 1 ≤ o.lists
     → Turns (IsOpenAs o) (IsOpenAs (after_item o item)) (item_json table o item)
-item-turns table o item some = item-at table o item (depth_in o item) (omega arith) (omega (arith, some))
+item-turns table o item some =
+    item-at table o item (depth_in o item) (omega arith) (omega (arith, some))
 
 depth-some : (o : Open) (item : Seen) → 1 ≤ (after_item o item).lists
 depth-some o item = by (opens_list item.1)
@@ -270,16 +295,19 @@ items-turns : (table : Lines) (items : List Seen) (o : Open) → 1 ≤ o.lists
 items-turns table [] o some before is =
     let n = o.lists in
     let all : n ≡ suc 0 + (n - 1) = omega (arith, some) in
-    turns_then (IsOpen (suc 0 + (n - 1)) o.is_first) (IsOpen 1 (after_ends (n - 1) o.is_first)) AreMembers
+    turns_then (IsOpen (suc 0 + (n - 1)) o.is_first) (IsOpen 1 (after_ends (n - 1) o.is_first))
+    AreMembers
     (repeated (codes "]}") (n - 1)) (codes "]") (ends (n - 1) 0 o.is_first)
     (list_end (after_ends (n - 1) o.is_first)) before
     (subst (λ (j : ℕ). IsOpen j o.is_first before) all is)
 items-turns table (item ∷ items) o some before is =
     turns_then (IsOpenAs o) (IsOpenAs (after_item o item)) AreMembers
-    (item_json table o item) (items_json table (after_item o item) items) (item-turns table o item some)
+    (item_json table o item) (items_json table (after_item o item) items)
+    (item-turns table o item some)
     (items-turns table items (after_item o item) (depth-some o item)) before is
 
-list-more : (context : ContextSeen) (nest : Nest) (bytes : List ℕ) → More (list_member context nest bytes)
+list-more : (context : ContextSeen) (nest : Nest) (bytes : List ℕ)
+    → More (list_member context nest bytes)
 list-more context nest bytes =
     turns_then AreMembers (IsOpen 1 true) AreMembers (codes ",\"attributes\":[") _ list_begin
     (items-turns context.0 (walk_items context nest bytes) body_open (omega arith))
@@ -296,17 +324,21 @@ generic-more (Some h) =
     more_then (codes ",\"command\":" ++ decimal h.command) _
     (part (codes "command") (decimal h.command) refl (natural h.command))
     (more_then (codes ",\"version\":" ++ decimal h.version) _
-    (part (codes "version") (decimal h.version) refl (natural h.version)) (reserved-more h.reserved))
+    (part (codes "version") (decimal h.version) refl (natural h.version))
+    (reserved-more h.reserved))
 generic-more None = no_more
 
 bytes-more : (bytes : List ℕ) → More (bytes_member bytes)
 bytes-more [] = no_more
-bytes-more (b ∷ bytes) = part (codes "payload") (bytes_json (b ∷ bytes)) refl (bytes_json-json (b ∷ bytes))
+bytes-more (b ∷ bytes) =
+    part (codes "payload") (bytes_json (b ∷ bytes)) refl (bytes_json-json (b ∷ bytes))
 
-payload-more : (table : Lines) (place : ℕ) (bytes : List ℕ) → More (payload_member table place bytes)
+payload-more : (table : Lines) (place : ℕ) (bytes : List ℕ)
+    → More (payload_member table place bytes)
 payload-more table place [] = no_more
 payload-more table place (b ∷ bytes) =
-    part (codes "payload") (payload_json table place (b ∷ bytes)) refl (payload_json-json table place (b ∷ bytes))
+    part (codes "payload") (payload_json table place (b ∷ bytes)) refl
+    (payload_json-json table place (b ∷ bytes))
 
 row-more : (table : Lines) (place : ℕ) (bytes : List ℕ) → More (row_members table place bytes)
 row-more table place bytes = by (struct_in table place)
@@ -317,7 +349,8 @@ row-more table place bytes = by (struct_in table place)
         (rest-more (rest_of table place bytes))
     by None = payload-more table place bytes
 
-known-more : (context : ContextSeen) (s : Shape) (bytes : List ℕ) → More (known_members context s bytes)
+known-more : (context : ContextSeen) (s : Shape) (bytes : List ℕ)
+    → More (known_members context s bytes)
 known-more context (shape.Nest nest) bytes =
     more_then (structure_members context.0 nest.after (take nest.header bytes)) _
     (structure-more context.0 nest.after (take nest.header bytes)) (list-more context nest bytes)
@@ -341,7 +374,8 @@ body-more body =
 abbrev pub AreFlags : List ℕ → Type 0
 AreFlags text = (first : Bool) × FirstElements first text
 
-mark-comma : (first : Bool) (t : List ℕ) → mark Strings first ++ t ≡ comma first ++ (codes "\"" ++ t)
+mark-comma : (first : Bool) (t : List ℕ)
+    → mark Strings first ++ t ≡ comma first ++ (codes "\"" ++ t)
 mark-comma true t = refl
 mark-comma false t = refl
 
@@ -360,26 +394,30 @@ rest-flags left before some =
     (λ e. (
       false,
       flag-more left.is_first before (codes "0x" ++ digits 16 false left.bits) some
-          (plain _ (plain-append (codes "0x") (digits 16 false left.bits) refl (digits-plain 16 left.bits))),
+          (plain _ (plain-append (codes "0x") (digits 16 false left.bits) refl
+          (digits-plain 16 left.bits))),
     ))
 
 -- a row is printed, or passed
 flag-cases :
     (set : ℕ) (row : Row) (rows : List Row) (left : Left) (before : List ℕ) (named : Bool)
     → is_named row set left.bits ≡ named
-    → AreFlags ((before ++ (mark Strings left.is_first ++ (codes "NLM_F_" ++ (name_text row.0 ++ codes "\""))))
+    → AreFlags ((before ++ (mark Strings left.is_first
+    ++ (codes "NLM_F_" ++ (name_text row.0 ++ codes "\""))))
     ++ flags_from Strings set (left_without row left) rows)
     → AreFlags ((before ++ []) ++ flags_from Strings set left rows)
-    → AreFlags ((before ++ flag_text Strings set left row) ++ flags_from Strings set (after_flag row set left) rows)
+    → AreFlags ((before ++ flag_text Strings set left row)
+    ++ flags_from Strings set (after_flag row set left) rows)
 flag-cases set row rows left before true e taken passed = rw e taken
 flag-cases set row rows left before false e taken passed = rw e passed
 
-flags-are : (set : ℕ) (rows : List Row) (left : Left) (before : List ℕ) → FirstElements left.is_first before
+flags-are : (set : ℕ) (rows : List Row) (left : Left) (before : List ℕ)
+    → FirstElements left.is_first before
     → AreFlags (before ++ flags_from Strings set left rows)
 flags-are set [] left before some = rest-flags left before some
 flags-are set (row ∷ rows) left before some =
-    let name : IsChars (codes "NLM_F_" ++ name_text row.0)
-    = both (codes "NLM_F_") (name_text row.0) (plain (codes "NLM_F_") refl) (name_text-chars row.0) in
+    let name : IsChars (codes "NLM_F_" ++ name_text row.0) =
+    both (codes "NLM_F_") (name_text row.0) (plain (codes "NLM_F_") refl) (name_text-chars row.0) in
     subst AreFlags (append_assoc before (flag_text Strings set left row) _)
     (flag-cases set row rows left before (is_named row set left.bits) refl
     (flags-are set rows (left_without row left) _
@@ -395,7 +433,8 @@ flags-json head =
 header-members : (h : Header) (name : Option (List ℕ)) → AreMembers (header_members h name)
 header-members h name =
     let flags = header_flags Strings h.head in
-    let last = (codes ",\"seq\":" ++ decimal h.sequence) ++ (codes ",\"port\":" ++ decimal h.port) in
+    let last =
+    (codes ",\"seq\":" ++ decimal h.sequence) ++ (codes ",\"port\":" ++ decimal h.port) in
     let first = codes "\"type\":" ++ decimal h.head.message_type in
     let middle = codes ",\"length\":" ++ decimal h.length in
     let all = more_then (name_member name) _ (name-more name)
@@ -406,7 +445,8 @@ header-members h name =
     (part (codes "seq") (decimal h.sequence) refl (natural h.sequence))
     (part (codes "port") (decimal h.port) refl (natural h.port)))))
     first (named (codes "type") (decimal h.head.message_type) refl (natural h.head.message_type)) in
-    subst (λ (l : List ℕ). AreMembers (first ++ (name_member name ++ (middle ++ (codes ",\"flags\":[" ++ l)))))
+    subst (λ (l : List ℕ). AreMembers (first
+    ++ (name_member name ++ (middle ++ (codes ",\"flags\":[" ++ l)))))
     (append_assoc flags (codes "]") last) all
 
 -- ---- answers
@@ -423,7 +463,8 @@ code-more code =
     more_then (codes ",\"code\":" ++ signed_decimal code) _
     (part (codes "code") (signed_decimal code) refl (integer code)) (errno-more (errno_in code))
 
-echo-more : (tables : Tables) (head : Head) (body : Option (List ℕ)) → More (echo_members tables head body)
+echo-more : (tables : Tables) (head : Head) (body : Option (List ℕ))
+    → More (echo_members tables head body)
 echo-more tables head (Some body) = body-more (body_in tables head body)
 echo-more tables head None = no_more
 
@@ -434,8 +475,10 @@ request-more tables (Some header) body =
     let members = header_members header name in
     let echo = echo_members tables header.head body in
     let inner = echo-more tables header.head body members (header-members header name) in
-    subst (λ (l : List ℕ). More (codes ",\"request\":{" ++ l)) (append_assoc members echo (codes "}"))
-    (part (codes "request") (codes "{" ++ ((members ++ echo) ++ codes "}")) refl (object (members ++ echo) inner))
+    subst (λ (l : List ℕ). More (codes ",\"request\":{" ++ l))
+    (append_assoc members echo (codes "}"))
+    (part (codes "request") (codes "{" ++ ((members ++ echo) ++ codes "}")) refl
+    (object (members ++ echo) inner))
 request-more tables None body = no_more
 
 attributes-more : (tables : Tables) (head : Head) (attributes : Option (List ℕ))
@@ -443,13 +486,15 @@ attributes-more : (tables : Tables) (head : Head) (attributes : Option (List ℕ
 attributes-more tables head (Some attributes) = body-more (answer_in tables head attributes)
 attributes-more tables head None = no_more
 
-parts-more : (tables : Tables) (head : Head) (parts : PartsSeen) → More (parts_members tables head parts)
+parts-more : (tables : Tables) (head : Head) (parts : PartsSeen)
+    → More (parts_members tables head parts)
 parts-more tables head parts =
     more_then (request_member tables parts.0 parts.1) _ (request-more tables parts.0 parts.1)
     (more_then (attributes_members tables head parts.2) (rest_member parts.3)
     (attributes-more tables head parts.2) (rest-more parts.3))
 
-reply-more : (tables : Tables) (head : Head) (payload : List ℕ) → More (reply_members tables head payload)
+reply-more : (tables : Tables) (head : Head) (payload : List ℕ)
+    → More (reply_members tables head payload)
 reply-more tables head payload =
     cond_both (nat_lt (length payload) 4) _ _ More (λ e. bytes-more payload)
     (λ e. more_then (code_members (code_in payload)) _ (code-more (code_in payload))
@@ -457,7 +502,8 @@ reply-more tables head payload =
 
 -- ---- messages
 
-content-more : (tables : Tables) (head : Head) (payload : List ℕ) → More (content_members tables head payload)
+content-more : (tables : Tables) (head : Head) (payload : List ℕ)
+    → More (content_members tables head payload)
 content-more tables head payload =
     cond_both (is_answer tables head) _ _ More (λ e. reply-more tables head payload)
     (λ e. body-more (body_in tables head payload))
@@ -470,10 +516,14 @@ message_json-json tables header payload =
     let first = codes "\"protocol\":" ++ decimal header.head.protocol in
     turns_then IsObjectBegun IsObjectBegun IsJson (codes "," ++ header_members header name) _
     (begun-more _ (λ before some. members before _ some (header-members header name)))
-    (turns_then IsObjectBegun IsObjectBegun IsJson (content_members tables header.head payload) (codes "}")
+    (turns_then IsObjectBegun IsObjectBegun IsJson (content_members tables header.head payload)
+    (codes "}")
     (begun-more _ (content-more tables header.head payload)) begun-end)
-    (codes "{" ++ first)
-    (first, named (codes "protocol") (decimal header.head.protocol) refl (natural header.head.protocol), refl)
+    (codes "{" ++ first) (
+      first,
+      named (codes "protocol") (decimal header.head.protocol) refl (natural header.head.protocol),
+      refl,
+    )
 
 -- ---- datagrams
 
@@ -486,12 +536,16 @@ fault_json-line place e =
       two-members _ at (fault-members e) (part (codes "at") (decimal place) refl (natural place)),
       sym (ap (λ (l : List ℕ). (codes "{\"fault\":\"" ++ l) ++ codes "\n")
           (append_assoc fault (codes "\"") (at ++ codes "}"))
-          ∙ ap (λ (l : List ℕ). codes "{\"fault\":\"" ++ l) (append_assoc fault (codes "\"" ++ (at ++ codes "}")) (codes "\n")
-          ∙ ap (λ (l : List ℕ). fault ++ (codes "\",\"at\":" ++ l)) (append_assoc (decimal place) (codes "}") (codes "\n")))),
+          ∙ ap (λ (l : List ℕ). codes "{\"fault\":\"" ++ l)
+          (append_assoc fault (codes "\"" ++ (at ++ codes "}")) (codes "\n")
+          ∙ ap (λ (l : List ℕ). fault ++ (codes "\",\"at\":" ++ l))
+          (append_assoc (decimal place) (codes "}") (codes "\n")))),
     )
 
-lines-are : (tables : Tables) (protocol : ℕ) (messages : List (Lent ℕ)) (fault : Option DeError) (place : ℕ)
-    → AreSoManyLines (length (items_of (messages, fault))) (json_from tables protocol place (items_of (messages, fault)))
+lines-are : (tables : Tables) (protocol : ℕ) (messages : List (Lent ℕ)) (fault : Option DeError)
+    (place : ℕ)
+    → AreSoManyLines (length (items_of (messages, fault)))
+    (json_from tables protocol place (items_of (messages, fault)))
 lines-are tables protocol [] None place = refl
 lines-are tables protocol [] (Some e) place =
     (fault_json place e, [], fault_json-line place e, refl, sym (append-nil (fault_json place e)))
@@ -506,6 +560,7 @@ lines-are tables protocol (m ∷ ms) fault place =
 
 -- a datagram is lines of JSON, as many as it has messages, and one more where a fault follows them
 pub datagram_json-lines : (tables : Tables) (protocol : ℕ) (bytes : List ℕ)
-    → AreSoManyLines (length (items_of (messages_in (λ n. n) bytes))) (datagram_json tables protocol bytes)
+    → AreSoManyLines (length (items_of (messages_in (λ n. n) bytes)))
+    (datagram_json tables protocol bytes)
 datagram_json-lines tables protocol bytes =
     let cut = messages_in (λ n. n) bytes in lines-are tables protocol cut.0 cut.1 0

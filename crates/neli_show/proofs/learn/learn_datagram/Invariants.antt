@@ -7,5 +7,6 @@ use Rattle.neli_show.proofs.learn.learn_datagram.Given as goal
 abbrev pub invariant-loop-message : goal.invariant-loop-message
 invariant-loop-message l =
     (tables_in l.tables ≡ tables_in l.fn.tables)
-    × ((n : ℕ) → datagram_learnt l.fn.protocol (tables_in l.fn.tables) n (learnt l.tables n) l.message-iterator
+    × ((n : ℕ) → datagram_learnt l.fn.protocol (tables_in l.fn.tables) n (learnt l.tables n)
+    l.message-iterator
     ≡ datagram_learnt l.fn.protocol (tables_in l.fn.tables) n (learnt l.fn.tables n) l.fn.bytes)

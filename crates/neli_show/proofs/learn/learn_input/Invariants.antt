@@ -7,6 +7,8 @@ use Rattle.neli_show.proofs.learn.learn_input.Given as goal
 abbrev pub invariant-loop-part : goal.invariant-loop-part
 invariant-loop-part l =
     (tables_in l.tables ≡ tables_in l.fn.tables)
-    × ((n : ℕ) → input_learnt l.fn.protocol (tables_in l.fn.tables) l.input.bytes.items n (learnt l.tables n)
+    × ((n : ℕ) → input_learnt l.fn.protocol (tables_in l.fn.tables) l.input.bytes.items n
+    (learnt l.tables n)
     (drop l.part-index l.part-items)
-    ≡ input_learnt l.fn.protocol (tables_in l.fn.tables) l.input.bytes.items n (learnt l.fn.tables n) l.part-items)
+    ≡ input_learnt l.fn.protocol (tables_in l.fn.tables) l.input.bytes.items n
+    (learnt l.fn.tables n) l.part-items)

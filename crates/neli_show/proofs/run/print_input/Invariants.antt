@@ -7,4 +7,5 @@ use Rattle.neli_show.proofs.run.print_input.Given as goal
 abbrev pub invariant-loop-item : goal.invariant-loop-item
 invariant-loop-item g l =
     Appends (g.W.Write.contents l.fn.out) (g.W.Write.contents l.out)
-    (input_by l.request.output l.tables l.request.protocol l.input.bytes.items (take l.item-index l.item-items))
+    (input_by l.request.output l.tables l.request.protocol l.input.bytes.items
+    (take l.item-index l.item-items))

@@ -17,13 +17,16 @@ returns-in_default-clause-shown g c = λ request asked output input memory.
           let old = g.W.Write.contents c.args.out.now in
           let new = g.W.Write.contents w.show-status.new.out in
           let there = g.R.Read.remaining c.args.input.now in
-          let shown = w.show-status.ensures.shown (λ e. output (w.status-is ∙ e)) (λ e. input (w.status-is ∙ e))
+          let shown =
+          w.show-status.ensures.shown (λ e. output (w.status-is ∙ e)) (λ e. input (w.status-is ∙ e))
           (λ e. memory (w.status-is ∙ e)) in
           rw (w.out-is, w.status-is)
           (subst (λ (r : Request). IfSome there
-          (λ (bytes : List ℕ). IsShown r (last_word c.args.words.now) bytes old new w.show-status.result)) same
+          (λ (bytes : List ℕ). IsShown r (last_word c.args.words.now) bytes old new
+          w.show-status.result)) same
           (subst (λ (word : Option (List ℕ)). IfSome there
-          (λ (bytes : List ℕ). IsShown w.in-Ok.request word bytes old new w.show-status.result)) w.last_word.ensures
+          (λ (bytes : List ℕ). IsShown w.in-Ok.request word bytes old new w.show-status.result))
+          w.last_word.ensures
           shown))
       | in-Err w ↦ let is = w.in-Err.is in absurd cc
     ]
@@ -38,10 +41,12 @@ returns-in_default-clause-lines g c = λ request asked json output input memory.
           let old = g.W.Write.contents c.args.out.now in
           let new = g.W.Write.contents w.show-status.new.out in
           let word = option_map (λ w. w.now) w.last_word.result in
-          let shown = w.show-status.ensures.shown (λ e. output (w.status-is ∙ e)) (λ e. input (w.status-is ∙ e))
+          let shown =
+          w.show-status.ensures.shown (λ e. output (w.status-is ∙ e)) (λ e. input (w.status-is ∙ e))
           (λ e. memory (w.status-is ∙ e)) in
           rw w.out-is
-          (on_some (λ (bytes : List ℕ). IsShown w.in-Ok.request word bytes old new w.show-status.result)
+          (on_some (λ (bytes : List ℕ). IsShown w.in-Ok.request word bytes old new
+          w.show-status.result)
           (λ (bytes : List ℕ). WritesInput bytes old new) (g.R.Read.remaining c.args.input.now)
           (λ bytes s. shown-lines w.in-Ok.request word bytes old new w.show-status.result
           (ap (λ (r : Request). r.output) same ∙ json) s) shown)

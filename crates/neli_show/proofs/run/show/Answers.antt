@@ -8,7 +8,8 @@ pub returns-in-Ok-show_bytes-clause-shown : goal.returns-in-Ok-show_bytes-clause
 returns-in-Ok-show_bytes-clause-shown g c = λ output input memory.
     of_the_input _ _ _
     (λ (bytes : List ℕ). IsShown c.args.request (option_map (λ w. w.now) c.args.word) bytes
-    (g.W.Write.contents c.args.out.now) (g.W.Write.contents c.show_bytes.new.out) c.in-Ok-show_bytes.status)
+    (g.W.Write.contents c.args.out.now) (g.W.Write.contents c.show_bytes.new.out)
+    c.in-Ok-show_bytes.status)
     c.new-bytes.ensures.items c.in-Ok.ensures.bytes (c.in-Ok-show_bytes.ensures.shown output)
 
 pub returns-in-Ok-show_bytes-clause-json : goal.returns-in-Ok-show_bytes-clause-json
@@ -16,5 +17,6 @@ returns-in-Ok-show_bytes-clause-json g c = λ json output.
     let bytes = c.read_to_end.new.buf.items in
     let old = g.W.Write.contents c.args.out.now in
     let new = g.W.Write.contents c.show_bytes.new.out in
-    input-json bytes old new (shown-lines c.args.request (option_map (λ w. w.now) c.args.word) bytes old new
+    input-json bytes old new (shown-lines c.args.request (option_map (λ w. w.now) c.args.word) bytes
+    old new
     c.in-Ok-show_bytes.status json (c.in-Ok-show_bytes.ensures.shown output))

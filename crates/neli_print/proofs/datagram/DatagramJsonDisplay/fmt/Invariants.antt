@@ -1,14 +1,14 @@
-use Rattle.std.proofs.Common.{◌≡◌, ℕ, List, ◌++◌}
-use Rattle.std.specs.Fmt.{HasWritten, IsPlainFormatter}
 use Rattle.neli_lent.specs.Messages.{messages_in}
 use Rattle.neli_lent.specs.Walks.{items_of}
 use Rattle.neli_print.specs.Messages.{datagram_json, json_from}
+use Rattle.neli_print.proofs.Loops.{IsPrinted}
 use Rattle.neli_print.proofs.datagram.DatagramJsonDisplay.fmt.Given as goal
 
 -- the output so far, and the items that are left, are all of it
 abbrev pub invariant-loop-message : goal.invariant-loop-message
 invariant-loop-message g l =
     let d = l.fn.self.0 in
-    IsPlainFormatter l.initial.f → (done : List ℕ) × HasWritten g.W.Write.write_str_gives l.initial.f done l.f
-    × (done ++ json_from d.tables.now d.protocol l.place (items_of (messages_in (λ n. n) l.message-iterator))
-    ≡ datagram_json d.tables.now d.protocol d.bytes.now)
+    IsPrinted g.W.Write.write_str_gives l.initial.f l.f
+    (json_from d.tables.now d.protocol l.place
+    (items_of (messages_in (λ n. n) l.message-iterator)))
+    (datagram_json d.tables.now d.protocol d.bytes.now)

@@ -1,44 +1,44 @@
 use Rattle.std.proofs.Common.{rules, refl, ◌∙◌, List, [], ℕ, ap}
-use Rattle.std.proofs.Output.{has_written_append, has_written_of_eq}
 use Rattle.neli_lent.specs.Messages.{message_said, messages_in}
 use Rattle.neli_lent.specs.Walks.{items_of}
 use Rattle.neli_print.specs.Messages.{lines_from}
-use Rattle.neli_print.proofs.Loops.{Message, lines-step, printed_all, printed_end}
+use Rattle.neli_print.proofs.Loops.{Message, message_text_printed, printed_all, printed_end}
 use Rattle.neli_print.proofs.datagram.DatagramTextDisplay.fmt.Goals as goal
 
 pub loop-message-init : goal.loop-message-init
 loop-message-init g c = λ plain.
     let me = c.args.self.now in
-    let rest : List ℕ → List ℕ
-    = λ bytes. lines_from me.is_coloured me.datagram.tables.now me.datagram.protocol 0 (items_of (messages_in (λ n. n) bytes)) in (
+    let d = me.datagram in
+    let rest : List ℕ → List ℕ = λ bytes.
+    lines_from me.is_coloured d.tables.now d.protocol 0
+    (items_of (messages_in (λ n. n) bytes)) in (
       [],
       search rules,
       ap rest (c.into_iter-message-iterator.ensures.into_iter_gives ∙ c.new-message-items.ensures),
     )
 
 pub loop-message-preserved : goal.loop-message-preserved
-loop-message-preserved g c = λ plain.
-    let i = c.loop-message.invariant plain in
-    let me = c.args.self.now in (
-      _,
-      has_written_append _ _ _ _ _ _ i.1 (c.in_ok-write-in-Ok.ensures.writes i.1.plain refl),
-      lines-step me.is_coloured me.datagram.tables.now me.datagram.protocol c.loop-message.place _
-          (message_said c.in-Ok.lent) _ _ i.0 _ _ _ _ c.new.ensures.tables c.new.ensures.header c.new.ensures.payload
-          (rw c.in-Ok.is at c.in-Some.ensures.steps) c.place_behind-place.ensures i.2,
-    )
+loop-message-preserved g c =
+    let me = c.args.self.now in
+    message_text_printed _ _ _ _ me.is_coloured me.datagram.tables.now me.datagram.protocol
+    c.loop-message.place _ (message_said c.in-Ok.lent) _ _ _ _ _ _ c.new.ensures.tables
+    c.new.ensures.header c.new.ensures.payload (rw c.in-Ok.is at c.in-Some.ensures.steps)
+    c.place_behind-place.ensures (λ plain. c.in_ok-write-in-Ok.ensures.writes plain refl)
+    c.loop-message.invariant
 
 pub returns-in-Err-clause-writes : goal.returns-in-Err-clause-writes
 returns-in-Err-clause-writes g c = λ plain ok.
-    let i = c.loop-message.invariant plain in
     let me = c.args.self.now in
-    let rest : List Message → List ℕ = lines_from me.is_coloured me.datagram.tables.now me.datagram.protocol c.loop-message.place in
-    has_written_of_eq _ _ _ _ _
-    (printed_all i.0 _ _ _ i.2 (ap rest (rw c.in-Err.is at c.in-Some.ensures.steps)))
-    (has_written_append _ _ _ _ _ _ i.1 (c.write-in-Err.ensures.writes i.1.plain ok))
+    let d = me.datagram in
+    let rest : List Message → List ℕ =
+    lines_from me.is_coloured d.tables.now d.protocol c.loop-message.place in
+    printed_all _ _ _ _ _ _ _ (λ still. c.write-in-Err.ensures.writes still ok)
+    (ap rest (rw c.in-Err.is at c.in-Some.ensures.steps)) c.loop-message.invariant plain
 
 pub returns-clause-writes : goal.returns-clause-writes
 returns-clause-writes g c = λ plain ok.
-    let i = c.loop-message.invariant plain in
     let me = c.args.self.now in
-    let rest : List Message → List ℕ = lines_from me.is_coloured me.datagram.tables.now me.datagram.protocol c.loop-message.place in
-    has_written_of_eq _ _ _ _ _ (printed_end i.0 _ _ i.2 (ap rest c.in-None.ensures.steps.0)) i.1
+    let d = me.datagram in
+    let rest : List Message → List ℕ =
+    lines_from me.is_coloured d.tables.now d.protocol c.loop-message.place in
+    printed_end _ _ _ _ _ (ap rest c.in-None.ensures.steps.0) c.loop-message.invariant plain

@@ -1,8 +1,7 @@
-use Rattle.std.proofs.Common.{◌≡◌, ℕ, List, ◌++◌}
-use Rattle.std.specs.Fmt.{HasWritten, IsPlainFormatter}
 use Rattle.neli_lent.specs.Messages.{messages_in}
 use Rattle.neli_lent.specs.Walks.{items_of}
 use Rattle.neli_print.specs.Messages.{datagram_text, lines_from}
+use Rattle.neli_print.proofs.Loops.{IsPrinted}
 use Rattle.neli_print.proofs.datagram.DatagramTextDisplay.fmt.Given as goal
 
 -- the output so far, and the items that are left, are all of it
@@ -10,7 +9,7 @@ abbrev pub invariant-loop-message : goal.invariant-loop-message
 invariant-loop-message g l =
     let me = l.fn.self in
     let d = me.datagram in
-    IsPlainFormatter l.initial.f → (done : List ℕ) × HasWritten g.W.Write.write_str_gives l.initial.f done l.f
-    × (done ++ lines_from me.is_coloured d.tables.now d.protocol l.place
-    (items_of (messages_in (λ n. n) l.message-iterator))
-    ≡ datagram_text me.is_coloured d.tables.now d.protocol d.bytes.now)
+    IsPrinted g.W.Write.write_str_gives l.initial.f l.f
+    (lines_from me.is_coloured d.tables.now d.protocol l.place
+    (items_of (messages_in (λ n. n) l.message-iterator)))
+    (datagram_text me.is_coloured d.tables.now d.protocol d.bytes.now)

@@ -1,14 +1,13 @@
-use Rattle.std.proofs.Common.{◌≡◌, ℕ, List, ◌++◌}
-use Rattle.std.specs.Fmt.{HasWritten, IsPlainFormatter}
 use Rattle.neli_tables_walk.specs.Shapes.{context_seen}
 use Rattle.neli_print.specs.ItemsJson.{items_json}
 use Rattle.neli_print.specs.Lists.{list_items_json}
+use Rattle.neli_print.proofs.Loops.{IsPrinted}
 use Rattle.neli_print.proofs.list.ListItemsDisplay.fmt.Given as goal
 
 -- the output so far, and the items that are left, are all of it
 abbrev pub invariant-loop-item : goal.invariant-loop-item
 invariant-loop-item g l =
     let me = l.fn.self.0 in
-    IsPlainFormatter l.initial.f → (done : List ℕ) × HasWritten g.W.Write.write_str_gives l.initial.f done l.f
-    × (done ++ items_json me.context.table.now l.open l.item-iterator
-    ≡ list_items_json (context_seen me.context) me.nest me.bytes.now)
+    IsPrinted g.W.Write.write_str_gives l.initial.f l.f
+    (items_json me.context.table.now l.open l.item-iterator)
+    (list_items_json (context_seen me.context) me.nest me.bytes.now)
