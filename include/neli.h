@@ -54,8 +54,8 @@ enum neli_code {
     NELI_SHORT = -1,          /* the bytes end before the header, the padding or the number does */
     NELI_LENGTH = -2,         /* a length does not fit: below its header, past the bytes, or past its field */
     NELI_MEMORY = -3,         /* memory ran out; everything is unchanged */
-    NELI_ROOM = -4,           /* the room is too small; nothing was written */
-    NELI_STATE = -5,          /* the router is closed, or is open already */
+    NELI_ROOM = -4,           /* the room is too small; nothing was written, or of a text its beginning */
+    NELI_STATE = -5,          /* the router, the dump or the tables are closed, or are open already */
     NELI_HANDLE = -6,         /* no such handle exists, or no item was read */
     NELI_IN_USE = -7,         /* the sequence number belongs to a request that is not closed */
     NELI_STRAY = -8,          /* a message arrived with a port or a sequence number that no request has */
@@ -65,7 +65,7 @@ enum neli_code {
     NELI_BYTES = -12,         /* a datagram that was passed in is not made of messages to its end */
     NELI_NULL = -13,          /* a pointer is null, or a length is past PTRDIFF_MAX */
     NELI_PLACE = -14,         /* a place is past the bytes, or past the end of its walk */
-    NELI_KIND = -15,          /* the message is of another type */
+    NELI_KIND = -15,          /* the message is of another type, or of one whose attributes no table has */
     NELI_TEXT = -16,          /* no zero byte ends the text */
     NELI_TABLE = -17          /* a line of a table is bad */
 };
@@ -217,12 +217,14 @@ enum neli_kind {
     NELI_KIND_REST = 35   /* bytes behind the attributes of a list, which are none */
 };
 
-/* An item of a walk by name. */
+/* An item by name: an attribute, a hop, or a rest. */
 struct neli_named {
     uint16_t number; /* of an attribute; 0 of a hop and of a rest */
     uint8_t kind;    /* of enum neli_kind */
     uint8_t depth;   /* 1 in the message's own list, and one more in each nest */
     size_t payload, payload_length; /* its place in the bytes that the message was read from */
+    size_t path, path_length;       /* the place of its path in the texts of its call, and of its value in JSON */
+    size_t value, value_length;
 };
 
 /* ---- The exports ---- */
@@ -309,11 +311,9 @@ int32_t neli_c_datagram_text(struct neli_tables *tables, uint16_t protocol, cons
                              uint8_t *out, size_t room, size_t *size);
 int32_t neli_c_datagram_json(struct neli_tables *tables, uint16_t protocol, const uint8_t *bytes, size_t length,
                              uint8_t *out, size_t room, size_t *size);
-int32_t neli_c_named_item(struct neli_tables *tables, uint16_t protocol, const uint8_t *bytes, size_t length,
-                          const struct neli_message *message, size_t index, struct neli_named *named, uint8_t *out,
-                          size_t room, size_t *size);
-int32_t neli_c_value_json(struct neli_tables *tables, uint16_t protocol, const uint8_t *bytes, size_t length,
-                          const struct neli_message *message, size_t index, uint8_t *out, size_t room, size_t *size);
+int32_t neli_c_named_items(struct neli_tables *tables, uint16_t protocol, const uint8_t *bytes, size_t length,
+                           const struct neli_message *message, struct neli_named *items, size_t item_room,
+                           size_t *count, uint8_t *out, size_t room, size_t *size);
 int32_t neli_c_check(struct neli_tables *tables, uint16_t protocol, const uint8_t *bytes, size_t length,
                      const struct neli_message *message, uint8_t *out, size_t room, size_t *size);
 int32_t neli_c_path_at(struct neli_tables *tables, uint16_t protocol, const uint8_t *bytes, size_t length,
@@ -839,27 +839,22 @@ static inline int32_t neli_datagram_json(struct neli_tables *tables, uint16_t pr
                                 size);
 }
 
-/* Shows the item of this index among a message's attributes, those in a nest behind the nest, and prints its path: the
- * names from the outside in, with dots between them, as IFLA_LINKINFO.IFLA_INFO_KIND; a number where there is no row.
- * NELI_ITEM; NELI_END past the last; NELI_KIND where the tables know no attributes of such a message. A walk:
- * `for (i = 0; neli_named_item(.., i, &named, ..) == NELI_ITEM; i++)`. */
-static inline int32_t neli_named_item(struct neli_tables *tables, uint16_t protocol, const uint8_t *bytes,
-                                      size_t length, const struct neli_message *message, size_t index,
-                                      struct neli_named *named, char *path, size_t room, size_t *size) {
-    if (tables == NULL || !neli_is_slice(bytes, length) || message == NULL || named == NULL) return NELI_NULL;
-    if (!neli_is_slice(path, room) || size == NULL) return NELI_NULL;
-    return neli_c_named_item(tables, protocol, neli_read_at(bytes), length, message, index, named,
-                             neli_write_at((uint8_t *)path), room, size);
-}
-
-/* Prints the value of that item in JSON, by what its row says that it is, or else its bytes; as neli_named_item. */
-static inline int32_t neli_value_json(struct neli_tables *tables, uint16_t protocol, const uint8_t *bytes,
-                                      size_t length, const struct neli_message *message, size_t index, char *out,
-                                      size_t room, size_t *size) {
-    if (tables == NULL || !neli_is_slice(bytes, length) || message == NULL) return NELI_NULL;
-    if (!neli_is_slice(out, room) || size == NULL) return NELI_NULL;
-    return neli_c_value_json(tables, protocol, neli_read_at(bytes), length, message, index,
-                             neli_write_at((uint8_t *)out), room, size);
+/* Stores a message's attributes by name, those in a nest behind the nest; and writes of each its path, the names from
+ * the outside in with dots between them, as IFLA_LINKINFO.IFLA_INFO_KIND, a number where there is no row, and behind
+ * it its value in JSON, by what its row says that it is, or else its bytes. `count` is how many items there are, and
+ * `size` how many bytes their texts have: NELI_OK if both had room. NELI_ROOM if not: the first items are stored that
+ * had, and the beginning of the texts; a second call with this room has it all. `item_room` counts items. No zero byte
+ * ends a text. The time is that of one walk, however many items there are. NELI_KIND if no table has the attributes of
+ * such a message, NELI_PLACE if its payload is past the bytes; then nothing is stored. */
+static inline int32_t neli_named_items(struct neli_tables *tables, uint16_t protocol, const uint8_t *bytes,
+                                       size_t length, const struct neli_message *message, struct neli_named *items,
+                                       size_t item_room, size_t *count, char *text, size_t room, size_t *size) {
+    static struct neli_named none[1];
+    if (tables == NULL || !neli_is_slice(bytes, length) || message == NULL || count == NULL) return NELI_NULL;
+    if (item_room > PTRDIFF_MAX / sizeof *items || !neli_is_slice(items, item_room)) return NELI_NULL;
+    if (!neli_is_slice(text, room) || size == NULL) return NELI_NULL;
+    return neli_c_named_items(tables, protocol, neli_read_at(bytes), length, message, items != NULL ? items : none,
+                              item_room, count, neli_write_at((uint8_t *)text), room, size);
 }
 
 /* Checks that a message's attributes are as their rows say, as those of a request before it is sent: NELI_OK, or
@@ -884,9 +879,10 @@ static inline int32_t neli_path_at(struct neli_tables *tables, uint16_t protocol
                           neli_write_at((uint8_t *)path), room, size);
 }
 
-/* Prints a refusal of the kernel in a line: the meaning of its code, as -22 for EINVAL; its text, if it sent one
- * (NELI_ANSWER_TEXT); and the attribute at its offset (NELI_ANSWER_OFFSET) in the request, which is this message, as
- * `Invalid argument: Unknown device type, at IFLA_LINKINFO.IFLA_INFO_KIND`. An offset of 0 is none. */
+/* Prints a refusal of the kernel in a line: the name and the meaning of its code, as -22 for EINVAL; its text, if it
+ * sent one (NELI_ANSWER_TEXT); and the path to the attribute at its offset (NELI_ANSWER_OFFSET) in the request, which
+ * is this message, if the tables know one there, as
+ * `EINVAL: Invalid argument: Unknown device type: IFLA_LINKINFO.IFLA_INFO_KIND`. An offset of 0 is none. */
 static inline int32_t neli_refusal_text(struct neli_tables *tables, uint16_t protocol, const uint8_t *bytes,
                                         size_t length, const struct neli_message *message, int32_t code,
                                         const void *text, size_t text_length, size_t offset, char *out, size_t room,

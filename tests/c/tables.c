@@ -6,6 +6,7 @@
 #include <stdio.h>
 #include <stdlib.h>
 #include <string.h>
+#include <time.h>
 
 static int failures;
 
@@ -51,6 +52,20 @@ static bool is_text(const char *wanted, const char *found, size_t size) {
     return size == strlen(wanted) && memcmp(found, wanted, size) == 0;
 }
 
+/* The items of a message, and their texts. */
+static struct neli_named items[8];
+static char texts[512];
+static size_t item_count, text_size;
+
+static int32_t read_items(struct neli_tables *by, uint16_t protocol, const uint8_t *at, size_t room_of,
+                          const struct neli_message *of) {
+    return neli_named_items(by, protocol, at, room_of, of, items, 8, &item_count, texts, sizeof texts, &text_size);
+}
+
+static bool has_path(size_t index, const char *wanted) {
+    return index < item_count && is_text(wanted, texts + items[index].path, items[index].path_length);
+}
+
 /* Each attribute with its path, its kind and its place, and its value in JSON. */
 static void check_walk(void) {
     static const struct {
@@ -66,31 +81,99 @@ static void check_walk(void) {
         {"IFLA_LINKINFO.IFLA_INFO_KIND", "\"veth\"", INFO_KIND, NELI_KIND_ZTEXT, 2, "veth", 5},
         {"4000", "{\"bytes\":\"6162\"}", UNKNOWN, NELI_KIND_NONE, 1, "ab", 2},
     };
-    char path[64], value[64];
-    size_t size = 0, count = sizeof rows / sizeof *rows;
-    struct neli_named named;
-    for (size_t i = 0; i < count; i++) {
-        CHECK(neli_named_item(&tables, 0, bytes, length, &message, i, &named, path, sizeof path, &size) == NELI_ITEM);
-        CHECK(is_text(rows[i].path, path, size));
-        CHECK(named.number == rows[i].number && named.depth == rows[i].depth);
-        CHECK(named.kind == rows[i].kind || (rows[i].kind == NELI_KIND_ZTEXT && named.kind == NELI_KIND_TEXT));
-        CHECK(named.payload_length == rows[i].payload_length && named.payload + named.payload_length <= length);
-        CHECK(rows[i].payload == NULL || memcmp(bytes + named.payload, rows[i].payload, named.payload_length) == 0);
-        CHECK(neli_value_json(&tables, 0, bytes, length, &message, i, value, sizeof value, &size) == NELI_ITEM);
-        CHECK(rows[i].value == NULL || is_text(rows[i].value, value, size));
+    size_t end = 0;
+    CHECK(read_items(&tables, 0, bytes, length, &message) == NELI_OK && item_count == sizeof rows / sizeof *rows);
+    for (size_t i = 0; i < item_count; i++) {
+        const struct neli_named *it = &items[i];
+        CHECK(has_path(i, rows[i].path) && it->path == end && it->value == it->path + it->path_length);
+        CHECK(it->number == rows[i].number && it->depth == rows[i].depth);
+        CHECK(it->kind == rows[i].kind || (rows[i].kind == NELI_KIND_ZTEXT && it->kind == NELI_KIND_TEXT));
+        CHECK(it->payload_length == rows[i].payload_length && it->payload + it->payload_length <= length);
+        CHECK(rows[i].payload == NULL || memcmp(bytes + it->payload, rows[i].payload, it->payload_length) == 0);
+        CHECK(rows[i].value == NULL || is_text(rows[i].value, texts + it->value, it->value_length));
+        end = it->value + it->value_length;
     }
-    CHECK(neli_named_item(&tables, 0, bytes, length, &message, count, &named, path, sizeof path, &size) == NELI_END);
-    CHECK(neli_value_json(&tables, 0, bytes, length, &message, count, value, sizeof value, &size) == NELI_END);
-    CHECK(neli_value_json(&tables, 0, bytes, length, &message, SIZE_MAX, value, 0, &size) == NELI_END);
-    /* A path that has no room is cut, and its length is the whole one's. */
-    memset(path, '?', sizeof path);
-    CHECK(neli_named_item(&tables, 0, bytes, length, &message, 3, &named, path, 4, &size) == NELI_ITEM && size == 28);
-    CHECK(memcmp(path, "IFLA????", 8) == 0);
+    CHECK(text_size == end);
     /* What no table has has no attributes. */
     message.type = 4711;
-    CHECK(neli_named_item(&tables, 0, bytes, length, &message, 0, &named, path, sizeof path, &size) == NELI_KIND);
-    CHECK(neli_value_json(&tables, 0, bytes, length, &message, 0, value, sizeof value, &size) == NELI_KIND);
+    CHECK(read_items(&tables, 0, bytes, length, &message) == NELI_KIND);
     read_first();
+}
+
+static bool are_same(const struct neli_named *a, const struct neli_named *b, size_t number_of) {
+    for (size_t i = 0; i < number_of; i++) {
+        bool shown = a[i].number == b[i].number && a[i].kind == b[i].kind && a[i].depth == b[i].depth;
+        bool placed = a[i].payload == b[i].payload && a[i].payload_length == b[i].payload_length;
+        bool path = a[i].path == b[i].path && a[i].path_length == b[i].path_length;
+        if (!shown || !placed || !path || a[i].value != b[i].value || a[i].value_length != b[i].value_length)
+            return false;
+    }
+    return true;
+}
+
+/* The same in a room of each size: the first items, the beginning of the texts, and how much there is of both. */
+static void check_rooms(void) {
+    struct neli_named all[8], some[8];
+    char whole[512], cut[512];
+    size_t items_there, text_there;
+    CHECK(read_items(&tables, 0, bytes, length, &message) == NELI_OK);
+    memcpy(all, items, sizeof all);
+    memcpy(whole, texts, sizeof whole);
+    for (size_t i = 0; i <= item_count && i < 8; i++) {
+        for (size_t room = i == item_count ? 0 : text_size; room <= text_size; room++) {
+            memset(some, '?', sizeof some);
+            memset(cut, '?', sizeof cut);
+            int32_t code = neli_named_items(&tables, 0, bytes, length, &message, some, i, &items_there, cut, room,
+                                            &text_there);
+            CHECK(code == (i == item_count && room == text_size ? NELI_OK : NELI_ROOM));
+            CHECK(items_there == item_count && text_there == text_size && are_same(some, all, i));
+            CHECK(some[i].depth == '?' && memcmp(cut, whole, room) == 0 && cut[room] == '?');
+        }
+    }
+    CHECK(neli_named_items(&tables, 0, bytes, length, &message, NULL, 0, &items_there, NULL, 0, &text_there) ==
+          NELI_ROOM);
+    CHECK(items_there == item_count && text_there == text_size);
+}
+
+/* ---- A long message */
+
+enum { LONGEST = 10000 };
+
+/* A link with so many attributes; gives the seconds that its items take, the least of some runs. */
+static double time_of(size_t attributes) {
+    static uint8_t sent[32 + 8 * LONGEST];
+    static struct neli_named all[LONGEST];
+    static char text[64 * LONGEST];
+    struct neli_writer writer = {0, 0};
+    struct neli_walk walk = {0, 0};
+    struct neli_message one;
+    size_t there, there_size;
+    double least = 1e9;
+    CHECK(neli_begin_message(sent, sizeof sent, &writer, NEWLINK, 0, 9, 0) == NELI_OK);
+    CHECK(neli_put_bytes(sent, sizeof sent, &writer, (const uint8_t[16]){0}, 16) == NELI_OK);
+    for (size_t i = 0; i < attributes; i++)
+        CHECK(neli_put_attribute(sent, sizeof sent, &writer, MTU, mtu, sizeof mtu) == NELI_OK);
+    CHECK(neli_end_message(sent, sizeof sent, &writer) == NELI_OK);
+    walk.end = writer.end;
+    CHECK(neli_next_message(sent, writer.end, &walk, &one) == NELI_ITEM);
+    for (int run = 0; run < 20; run++) {
+        struct timespec begin, end;
+        timespec_get(&begin, TIME_UTC);
+        CHECK(neli_named_items(&tables, 0, sent, writer.end, &one, all, LONGEST, &there, text, sizeof text,
+                               &there_size) == NELI_OK);
+        timespec_get(&end, TIME_UTC);
+        double took = (double)(end.tv_sec - begin.tv_sec) + 1e-9 * (double)(end.tv_nsec - begin.tv_nsec);
+        if (took < least) least = took;
+    }
+    CHECK(there == attributes && all[there - 1].payload + 4 == writer.end);
+    return least;
+}
+
+/* A hundred times the attributes take at most a thousand times the time: a walk anew for each takes ten thousand. */
+static void check_time(void) {
+    double few = time_of(100), many = time_of(LONGEST);
+    printf("the items of 100 and of 10000 attributes: %.1f and %.1f us\n", 1e6 * few, 1e6 * many);
+    CHECK(many <= 1000 * few);
 }
 
 /* A text in a room of each length: its beginning, and its length. */
@@ -155,13 +238,17 @@ static void check_offsets(void) {
         int32_t code = neli_path_at(&tables, 0, bytes, length, &message, rows[i].offset, path, sizeof path, &size);
         CHECK(code == (rows[i].path != NULL ? NELI_ITEM : NELI_END));
         CHECK(rows[i].path == NULL || is_text(rows[i].path, path, size));
+        path[2] = '?';
+        CHECK(neli_path_at(&tables, 0, bytes, length, &message, rows[i].offset, path, 2, &size) == code);
+        CHECK(rows[i].path == NULL || (size == strlen(rows[i].path) && memcmp(path, rows[i].path, 2) == 0));
+        CHECK(path[2] == '?');
     }
     CHECK(refusal_text(line, sizeof line, &size) == NELI_OK);
-    CHECK(is_text("Invalid argument: no such device type, at IFLA_LINKINFO.IFLA_INFO_KIND", line, size));
+    CHECK(is_text("EINVAL: Invalid argument: no such device type: IFLA_LINKINFO.IFLA_INFO_KIND", line, size));
     CHECK(neli_refusal_text(&tables, 0, bytes, length, &message, -95, NULL, 0, 0, line, sizeof line, &size) == NELI_OK);
-    CHECK(is_text("Operation not supported", line, size));
+    CHECK(is_text("EOPNOTSUPP: Operation not supported", line, size));
     CHECK(neli_refusal_text(&tables, 0, bytes, length, &message, -4711, NULL, 0, 4, line, sizeof line, &size) == NELI_OK);
-    CHECK(is_text("error 4711, at byte 4 of the request", line, size));
+    CHECK(is_text("error 4711", line, size));
 }
 
 static void check_violations(void) {
@@ -172,6 +259,10 @@ static void check_violations(void) {
     read_first();
     CHECK(neli_check(&tables, 0, bytes, length, &message, text, sizeof text, &size) == NELI_VIOLATION);
     CHECK(size > 10 && memcmp(text, "IFLA_MTU: ", 10) == 0);
+    size_t whole = size;
+    text[4] = '?';
+    CHECK(neli_check(&tables, 0, bytes, length, &message, text, 4, &size) == NELI_VIOLATION);
+    CHECK(size == whole && memcmp(text, "IFLA?", 5) == 0);
     length = write_link(bytes, sizeof bytes, mtu, sizeof mtu);
     read_first();
 }
@@ -186,7 +277,6 @@ static void check_tables(void) {
     struct neli_writer writer = {0, 0};
     struct neli_walk walk = {0, 0};
     struct neli_message one;
-    struct neli_named named;
     char path[64];
     size_t line = 0, size = 0;
     CHECK(neli_begin_message(sent, sizeof sent, &writer, 16, 0, 0, 0) == NELI_OK);
@@ -195,13 +285,13 @@ static void check_tables(void) {
     walk.end = writer.end;
     CHECK(neli_next_message(sent, writer.end, &walk, &one) == NELI_ITEM);
     CHECK(neli_tables_new(&own) == NELI_OK && neli_tables_new(&own) == NELI_STATE);
-    CHECK(neli_named_item(&own, 31, sent, writer.end, &one, 0, &named, path, sizeof path, &size) == NELI_KIND);
+    CHECK(read_items(&own, 31, sent, writer.end, &one) == NELI_KIND);
     CHECK(neli_tables_add(&own, bad, strlen(bad), &line, path, sizeof path, &size) == NELI_TABLE && line == 3);
     CHECK(is_text("a number is missing", path, size));
     CHECK(neli_tables_add(&own, bad, strlen(bad), &line, path, 8, &size) == NELI_TABLE && size == 19);
     CHECK(neli_tables_add(&own, text, strlen(text), &line, path, sizeof path, &size) == NELI_OK);
-    CHECK(neli_named_item(&own, 31, sent, writer.end, &one, 0, &named, path, sizeof path, &size) == NELI_ITEM);
-    CHECK(is_text("EXAMPLE_A_NUMBER", path, size) && named.kind == NELI_KIND_U16 && named.payload == 20);
+    CHECK(read_items(&own, 31, sent, writer.end, &one) == NELI_OK && item_count == 1 && has_path(0, "EXAMPLE_A_NUMBER"));
+    CHECK(items[0].kind == NELI_KIND_U16 && items[0].payload == 20);
     CHECK(neli_tables_free(&own) == NELI_OK && neli_tables_free(&own) == NELI_OK);
     CHECK(neli_tables_add(&own, text, strlen(text), &line, path, sizeof path, &size) == NELI_STATE);
 }
@@ -213,9 +303,6 @@ static void check_learning(void) {
     struct neli_writer writer = {0, 0};
     struct neli_walk walk = {0, 0};
     struct neli_message one;
-    struct neli_named named;
-    char path[64];
-    size_t size = 0;
     CHECK(neli_begin_message(said, sizeof said, &writer, 16, 0, 0, 0) == NELI_OK);
     CHECK(neli_put_bytes(said, sizeof said, &writer, "\1\2\0", 4) == NELI_OK);
     CHECK(neli_put_attribute(said, sizeof said, &writer, 2, "ethtool", 8) == NELI_OK);
@@ -223,17 +310,17 @@ static void check_learning(void) {
     CHECK(neli_end_message(said, sizeof said, &writer) == NELI_OK);
     walk.end = writer.end;
     CHECK(neli_next_message(said, writer.end, &walk, &one) == NELI_ITEM);
-    CHECK(neli_named_item(&tables, 16, said, writer.end, &one, 0, &named, path, sizeof path, &size) == NELI_ITEM);
-    CHECK(is_text("CTRL_ATTR_FAMILY_NAME", path, size) && named.payload == 24);
+    CHECK(read_items(&tables, 16, said, writer.end, &one) == NELI_OK);
+    CHECK(has_path(0, "CTRL_ATTR_FAMILY_NAME") && items[0].payload == 24);
     CHECK(neli_tables_learn_from(&tables, 16, said, writer.end, &one) == NELI_OK);
     one.type = 0x21; /* as ETHTOOL_MSG_STRSET_GET, a request: 1 */
     one.flags = 1;
-    CHECK(neli_named_item(&tables, 16, said, writer.end, &one, 0, &named, path, sizeof path, &size) == NELI_ITEM);
-    CHECK(size > 8 && memcmp(path, "ETHTOOL_", 8) == 0);
+    CHECK(read_items(&tables, 16, said, writer.end, &one) == NELI_OK);
+    CHECK(items[0].path_length > 8 && memcmp(texts, "ETHTOOL_", 8) == 0);
     one.type = 0x22;
-    CHECK(neli_named_item(&tables, 16, said, writer.end, &one, 0, &named, path, sizeof path, &size) == NELI_KIND);
+    CHECK(read_items(&tables, 16, said, writer.end, &one) == NELI_KIND);
     CHECK(neli_tables_learn(&tables, 0x22, "ethtool", 7) == NELI_OK);
-    CHECK(neli_named_item(&tables, 16, said, writer.end, &one, 0, &named, path, sizeof path, &size) == NELI_ITEM);
+    CHECK(read_items(&tables, 16, said, writer.end, &one) == NELI_OK);
     one.payload_length = sizeof said;
     CHECK(neli_tables_learn_from(&tables, 16, said, writer.end, &one) == NELI_PLACE);
 }
@@ -242,26 +329,27 @@ static void check_learning(void) {
 static void check_refusals(void) {
     struct neli_tables closed = NELI_TABLES_CLOSED;
     struct neli_message past = message;
-    struct neli_named named;
     char out[8] = "????????";
     size_t size = 5;
     past.payload_length = length;
+    text_size = item_count = 5;
     CHECK(neli_message_json(&closed, 0, bytes, length, &message, out, 8, &size) == NELI_STATE);
     CHECK(neli_datagram_json(&closed, 0, bytes, length, out, 8, &size) == NELI_STATE);
-    CHECK(neli_named_item(&closed, 0, bytes, length, &message, 0, &named, out, 8, &size) == NELI_STATE);
+    CHECK(neli_named_items(&closed, 0, bytes, length, &message, items, 8, &item_count, out, 8, &text_size) == NELI_STATE);
     CHECK(neli_check(&closed, 0, bytes, length, &message, out, 8, &size) == NELI_STATE);
     CHECK(neli_message_json(&tables, 0, bytes, length, &past, out, 8, &size) == NELI_PLACE);
     CHECK(neli_message_text(&tables, 0, bytes, length, &past, out, 8, &size) == NELI_PLACE);
-    CHECK(neli_named_item(&tables, 0, bytes, length, &past, 0, &named, out, 8, &size) == NELI_PLACE);
-    CHECK(neli_value_json(&tables, 0, bytes, length, &past, 0, out, 8, &size) == NELI_PLACE);
+    CHECK(neli_named_items(&tables, 0, bytes, length, &past, items, 8, &item_count, out, 8, &text_size) == NELI_PLACE);
     CHECK(neli_check(&tables, 0, bytes, length, &past, out, 8, &size) == NELI_PLACE);
     CHECK(neli_path_at(&tables, 0, bytes, length, &past, 32, out, 8, &size) == NELI_PLACE);
     CHECK(neli_refusal_text(&tables, 0, bytes, length, &past, -22, NULL, 0, 0, out, 8, &size) == NELI_PLACE);
-    CHECK(memcmp(out, "????????", 8) == 0 && size == 5);
+    CHECK(memcmp(out, "????????", 8) == 0 && size == 5 && item_count == 5 && text_size == 5);
     CHECK(neli_message_json(NULL, 0, bytes, length, &message, out, 8, &size) == NELI_NULL);
     CHECK(neli_message_json(&tables, 0, NULL, length, &message, out, 8, &size) == NELI_NULL);
     CHECK(neli_message_json(&tables, 0, bytes, length, &message, NULL, 8, &size) == NELI_NULL);
-    CHECK(neli_named_item(&tables, 0, bytes, length, &message, 0, NULL, out, 8, &size) == NELI_NULL);
+    CHECK(neli_named_items(&tables, 0, bytes, length, &message, NULL, 8, &item_count, out, 8, &text_size) == NELI_NULL);
+    CHECK(neli_named_items(&tables, 0, bytes, length, &message, items, SIZE_MAX / 8, &item_count, out, 8, &text_size) == NELI_NULL);
+    CHECK(neli_named_items(&tables, 0, bytes, length, &message, items, 8, NULL, out, 8, &size) == NELI_NULL);
     CHECK(neli_tables_built_in(&tables) == NELI_STATE && neli_tables_built_in(NULL) == NELI_NULL);
 }
 
@@ -270,6 +358,8 @@ int main(void) {
     length = write_link(bytes, sizeof bytes, mtu, sizeof mtu);
     read_first();
     check_walk();
+    check_rooms();
+    check_time();
     check_texts();
     check_offsets();
     check_violations();

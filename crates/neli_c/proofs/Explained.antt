@@ -2,7 +2,10 @@
 use Rattle.std.proofs.Common.{◌≡◌, ◌≢◌, ℕ, ℤ, List, Option, Some, None, refl, sym, subst}
 use Rattle.std.specs.Option.{option_map}
 use Rattle.neli_tables_bodies.specs.Bodies.{BodySeen}
+use Rattle.neli_tables_check.specs.declared.place.Place.{Place}
+use Rattle.neli_tables_check.specs.Refusals.{place_text, refusal_text}
 use Rattle.neli_c.specs.Codes.{bad_length}
+use Rattle.neli_c.specs.Named.{at_text, place_seen}
 use Rattle.neli_c.specs.Printed.{PrintsMessage, PrintsText}
 
 -- of a payload that lies there
@@ -23,3 +26,17 @@ pub explained : (o : Option (List ℕ)) (f : List ℕ → BodySeen) (body : Body
 explained None f body line code old new size size' same prints = absurd (let no : Some body ≡ None = same in cc)
 explained (Some p) f body line code old new size size' same prints = λ ne.
     subst (λ (b : BodySeen). PrintsText code (line b) old new size') (some-is body (f p) same) (prints ne)
+
+-- the path to a place is that of its table and its steps
+pub text-at : (o : Option Place) → option_map place_text o ≡ option_map at_text (place_seen o)
+text-at None = refl
+text-at (Some place) = refl
+
+-- a refusal by the same number, text and path is the same
+pub refused-as : (n m : ℕ) (t u p q : Option (List ℕ)) (code : ℤ) (old new : List ℕ) (size : ℕ) → n ≡ m
+    → t ≡ u → p ≡ q → PrintsText code (refusal_text n t p) old new size
+    → PrintsText code (refusal_text m u q) old new size
+refused-as n m t u p q code old new size number text path prints =
+    subst (λ (x : ℕ). PrintsText code (refusal_text x u q) old new size) number
+    (subst (λ (x : Option (List ℕ)). PrintsText code (refusal_text n x q) old new size) text
+    (subst (λ (x : Option (List ℕ)). PrintsText code (refusal_text n t x) old new size) path prints))

@@ -1,23 +1,25 @@
 -- What is found in a message by name.
-use Rattle.std.specs.Prelude.{◌≡◌, ◌≢◌, ℕ, ◌+◌, ◌-◌, ◌^◌, ℤ, min, unsigned_abs, List, length, Option, Some, None}
+use Rattle.std.specs.Prelude.{◌≡◌, ◌≢◌, ℕ, ◌+◌, ◌-◌, ◌^◌, ℤ, ◌&&◌, nat_le, if◌then◌else◌, min}
+use Rattle.std.specs.Prelude.{unsigned_abs, List, [], ◌∷◌, length, Option, Some, None}
+use Rattle.std.specs.Option.{option_map}
 use Rattle.neli_tables_bodies.specs.declared.generic.GenericHeader.{GenericHeader}
 use Rattle.neli_tables_bodies.specs.Bodies.{BodySeen, body_context, body_in, body_shape}
+use Rattle.neli_tables_check.specs.declared.place.Place.{Place}
 use Rattle.neli_tables_check.specs.Offsets.{found_at}
 use Rattle.neli_tables_check.specs.Paths.{path_text}
+use Rattle.neli_tables_check.specs.Refusals.{refusal_text}
 use Rattle.neli_tables_check.specs.Violations.{Where, violation_in, violation_text}
 use Rattle.neli_tables_walk.specs.declared.item.Step.{Step}
 use Rattle.neli_tables_walk.specs.declared.shape.Nest.{Nest as NestOf}
 use Rattle.neli_tables_walk.specs.declared.shape.Shape.{Shape}
 use Rattle.neli_tables_walk.specs.declared.shape.Shape.TheVariants.{Nest}
 use Rattle.neli_tables_walk.specs.Shapes.{ContextSeen, Lines}
-use Rattle.neli_tables_walk.specs.Walks.{Seen}
 use Rattle.neli_c_tables.specs.declared.families.Families.{Families}
 use Rattle.neli_c_tables.specs.declared.named.NeliNamed.{NeliNamed}
-use Rattle.neli_c_tables.specs.Named.{named_in, value_json}
-use Rattle.neli_c_tables.specs.Refusals.{At, refusal_text}
-use Rattle.neli_c_tables.specs.Rooms.{beginning}
+use Rattle.neli_c_tables.specs.Named.{named_items, named_text}
+use Rattle.neli_c_tables.specs.Rooms.{beginning, put_at}
 use Rattle.neli_c.specs.declared.lent.NeliMessage.{NeliMessage}
-use Rattle.neli_c.specs.Codes.{bad_length, item, kind, ok, place, violation}
+use Rattle.neli_c.specs.Codes.{bad_length, item, kind, ok, place, room, violation}
 use Rattle.neli_c.specs.Printed.{PrintsMessage}
 use Rattle.neli_c.specs.Tables.{head_of}
 
@@ -45,47 +47,34 @@ body_place body m = behind body.2 m.payload
 abbrev pub IsWritten : List ℕ → List ℕ → List ℕ → ℕ → Type 0
 IsWritten text old new size = (new ≡ beginning text old) × (size ≡ length text)
 
--- ---- an item by its index
+-- ---- the items
 
--- an item is shown, and its path is printed; or there is none with this index
-abbrev pub ShowsItem : ℤ → Lines → Option (NeliNamed × Seen) → NeliNamed → NeliNamed → List ℕ → List ℕ → ℕ → Type 0
-ShowsItem code table None named named' old new size = (code ≡ ok) × (named' ≡ named) × (new ≡ old)
-ShowsItem code table (Some found) named named' old new size =
-    (code ≡ item) × (named' ≡ found.0) × IsWritten (path_text table found.1.0) old new size
+-- the first items are stored that there is room for, and the beginning of their texts; `count` is
+-- how many there are, `size` how long the texts are, and the code says whether that is all
+abbrev pub StoresItems : ℤ → List NeliNamed → List ℕ → List NeliNamed → List NeliNamed → ℕ → List ℕ
+    → List ℕ → ℕ → Type 0
+StoresItems code all text items items' count old new size =
+    (items' ≡ put_at 0 all items) × (count ≡ length all) × IsWritten text old new size
+    × (code ≡ (if nat_le (length all) (length items) && nat_le (length text) (length old) then ok
+    else room))
 
 -- the same where the tables know the attributes of the message
-abbrev pub ShowsIn : ℤ → BodySeen → NeliMessage → ℕ → Option (ContextSeen × NestOf) → NeliNamed → NeliNamed → List ℕ
-    → List ℕ → ℕ → Type 0
-ShowsIn code body m index None named named' old new size = (code ≡ kind) × (named' ≡ named) × (new ≡ old)
-ShowsIn code body m index (Some (context, nest)) named named' old new size =
-    code ≢ bad_length → ShowsItem code context.0 (named_in context nest body.3 (body_place body m) index) named named'
-    old new size
+abbrev pub StoresIn : ℤ → BodySeen → NeliMessage → Option (ContextSeen × NestOf) → List NeliNamed
+    → List NeliNamed → ℕ → List ℕ → List ℕ → ℕ → Type 0
+StoresIn code body m None items items' count old new size =
+    (code ≡ kind) × (items' ≡ items) × (new ≡ old)
+StoresIn code body m (Some (context, nest)) items items' count old new size =
+    code ≢ bad_length → StoresItems code (named_items context nest body.3 (body_place body m))
+    (named_text context nest body.3) items items' count old new size
 
 -- the same of a message whose payload lies within the bytes
-abbrev pub GivesNamed : ℤ → ℕ → NeliMessage → Option (List ℕ) → ℕ → Families → NeliNamed → NeliNamed → List ℕ → List ℕ
-    → ℕ → Type 0
-GivesNamed code protocol m None index s named named' old new size = (code ≡ place) × (named' ≡ named) × (new ≡ old)
-GivesNamed code protocol m (Some payload) index s named named' old new size =
-    ShowsIn code (body_in s.tables (head_of protocol m) payload) m index
-    (list_in (body_in s.tables (head_of protocol m) payload)) named named' old new size
-
--- ---- its value
-
--- the value of an item is printed; or there is none with this index
-abbrev pub PrintsItem : ℤ → Lines → Option (NeliNamed × Seen) → List ℕ → List ℕ → ℕ → Type 0
-PrintsItem code table None old new size = (code ≡ ok) × (new ≡ old)
-PrintsItem code table (Some found) old new size = (code ≡ item) × IsWritten (value_json table found.1) old new size
-
-abbrev pub PrintsIn : ℤ → BodySeen → NeliMessage → ℕ → Option (ContextSeen × NestOf) → List ℕ → List ℕ → ℕ → Type 0
-PrintsIn code body m index None old new size = (code ≡ kind) × (new ≡ old)
-PrintsIn code body m index (Some (context, nest)) old new size =
-    code ≢ bad_length → PrintsItem code context.0 (named_in context nest body.3 (body_place body m) index) old new size
-
-abbrev pub GivesValue : ℤ → ℕ → NeliMessage → Option (List ℕ) → ℕ → Families → List ℕ → List ℕ → ℕ → Type 0
-GivesValue code protocol m None index s old new size = (code ≡ place) × (new ≡ old)
-GivesValue code protocol m (Some payload) index s old new size =
-    PrintsIn code (body_in s.tables (head_of protocol m) payload) m index
-    (list_in (body_in s.tables (head_of protocol m) payload)) old new size
+abbrev pub GivesItems : ℤ → ℕ → NeliMessage → Option (List ℕ) → Families → List NeliNamed
+    → List NeliNamed → ℕ → List ℕ → List ℕ → ℕ → Type 0
+GivesItems code protocol m None s items items' count old new size =
+    (code ≡ place) × (items' ≡ items) × (new ≡ old)
+GivesItems code protocol m (Some payload) s items items' count old new size =
+    StoresIn code (body_in s.tables (head_of protocol m) payload) m
+    (list_in (body_in s.tables (head_of protocol m) payload)) items items' count old new size
 
 -- ---- checks
 
@@ -104,6 +93,17 @@ Checks code protocol m (Some payload) s old new size =
 
 -- ---- offsets
 
+-- an attribute: a table, and a path in it
+abbrev pub At : Type 0
+At = Lines × List Step
+
+abbrev pub place_seen : Option Place → Option At
+place_seen None = None
+place_seen (Some place) = Some (place.table.now, place.path.steps.items)
+
+abbrev pub at_text : At → List ℕ
+at_text at = path_text at.0 at.1
+
 abbrev pub at_with : Option Lines → Option (List Step) → Option At
 at_with (Some table) (Some path) = Some (table, path)
 at_with table path = None
@@ -115,7 +115,7 @@ at_in body offset = at_with body.0 (found_at body offset)
 -- the path to an attribute is printed, or there is none
 abbrev pub PrintsPath : ℤ → Option At → List ℕ → List ℕ → ℕ → Type 0
 PrintsPath code None old new size = (code ≡ ok) × (new ≡ old)
-PrintsPath code (Some at) old new size = (code ≡ item) × IsWritten (path_text at.0 at.1) old new size
+PrintsPath code (Some at) old new size = (code ≡ item) × IsWritten (at_text at) old new size
 
 abbrev pub FindsPath : ℤ → ℕ → NeliMessage → Option (List ℕ) → ℕ → Families → List ℕ → List ℕ → ℕ → Type 0
 FindsPath code protocol m None offset s old new size = (code ≡ place) × (new ≡ old)
@@ -124,10 +124,16 @@ FindsPath code protocol m (Some payload) offset s old new size =
 
 -- ---- refusals
 
+-- the kernel's text, if it sent one
+abbrev pub said : List ℕ → Option (List ℕ)
+said [] = None
+said (byte ∷ bytes) = Some (byte ∷ bytes)
+
 -- a refusal of a request: its number, its text, and the attribute at its offset
 abbrev pub refusal_line : Families → ℕ → NeliMessage → ℤ → List ℕ → ℕ → List ℕ → List ℕ
 refusal_line s protocol m error text offset payload =
-    refusal_text (unsigned_abs error) text (at_in (body_in s.tables (head_of protocol m) payload) offset) offset
+    refusal_text (unsigned_abs error) (said text)
+    (option_map at_text (at_in (body_in s.tables (head_of protocol m) payload) offset))
 
 abbrev pub Explains : ℤ → ℕ → NeliMessage → Option (List ℕ) → ℤ → List ℕ → ℕ → Families → List ℕ → List ℕ → ℕ → ℕ
     → Type 0

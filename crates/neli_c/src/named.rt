@@ -1,76 +1,52 @@
-//! What is in a message by name: its attributes one by one, their values, and what is wrong with them. They take no
-//! memory.
+//! What is in a message by name: its attributes, each with its path and its value, and what is
+//! wrong with them. They take no memory.
 //!
-//! Each call returns `STATE` if the tables are closed; `PLACE` if the message's payload is past the bytes. Texts are
-//! written as much as there is room for, and `size` is how long the whole is. The tables are unchanged.
+//! Each call returns `STATE` if the tables are closed; `PLACE` if the message's payload is past the
+//! bytes. Texts are written as much as there is room for, and `size` is how long the whole is. The
+//! tables are unchanged.
 
 ghost use Rattle.std.specs.Prelude.{◌≡◌, IfSome, None};
 ghost use Rattle.neli_c.specs.AnswersShown.{payload_shown};
 ghost use Rattle.neli_c.specs.Codes.{state};
-ghost use Rattle.neli_c.specs.Named.{Checks, Explains, FindsPath, GivesNamed, GivesValue};
+ghost use Rattle.neli_c.specs.Named.{Checks, Explains, FindsPath, GivesItems};
 
 use crate::code::STATE;
 use crate::lent::NeliMessage;
-use crate::naming::{check_message, named_item, path_at, refusal_text, value_json};
+use crate::naming::{check_message, message_items, path_at, refusal_text};
 use neli_c_tables::named::NeliNamed;
 use neli_c_tables::opaque::NeliTables;
 use std::alloc::Global;
 
-/// Shows the item of this index among a message's attributes, those in nests behind their nest, and prints its path: the
-/// names with dots between them.
+/// Stores the items of a message's attributes, those in nests behind their nest, and writes of each
+/// its path, the names with dots between them, and behind it its value in JSON: by what its row
+/// says that it is, or else its bytes.
 ///
-/// Returns `ITEM`; `OK` if there is none; `KIND` if the tables know no attributes of such a message. Without `ITEM`
-/// nothing is shown.
+/// `count` is how many items there are, and `size` how long their texts are. Returns `OK`; `ROOM`
+/// if not all of it has room, and then the first items are stored that have, and the beginning of
+/// the texts; `KIND` if the tables know no attributes of such a message, and then nothing is stored.
 #[unsafe(no_mangle)]
-pub extern "C" fn neli_c_named_item(
+pub extern "C" fn neli_c_named_items(
     alloc: Global,
     tables: &mut NeliTables,
     protocol: u16,
     bytes: &[u8],
     message: &NeliMessage,
-    index: usize,
-    named: &mut NeliNamed,
+    items: &mut [NeliNamed],
+    count: &mut usize,
     out: &mut [u8],
     size: &mut usize,
 ) -> i32
     ensures closed { tables.old.place.value ≡ None
-        → (result ≡ state) × (out.new ≡ out.old) × (named.new ≡ named.old) }
-    ensures open { IfSome tables.old.place.value (λ s. GivesNamed result protocol message.now
-        (payload_shown bytes.now message.now) index s named.old named.new out.old out.new size.new) }
+        → (result ≡ state) × (items.new ≡ items.old) × (out.new ≡ out.old) }
+    ensures open { IfSome tables.old.place.value (λ s. GivesItems result protocol message.now
+        (payload_shown bytes.now message.now) s items.old items.new count.new out.old out.new
+        size.new) }
     ensures same { tables.new.place.value ≡ tables.old.place.value }
 {
     let Some(families) = tables.take(alloc) else {
         return STATE;
     };
-    let code = named_item(&families, protocol, bytes, message, index, named, out, size);
-    tables.put(families);
-    code
-}
-
-/// Prints the value of the item of this index in JSON: by what its row says that it is, or else its bytes.
-///
-/// Returns `ITEM`; `OK` if there is none; `KIND` if the tables know no attributes of such a message.
-#[unsafe(no_mangle)]
-pub extern "C" fn neli_c_value_json(
-    alloc: Global,
-    tables: &mut NeliTables,
-    protocol: u16,
-    bytes: &[u8],
-    message: &NeliMessage,
-    index: usize,
-    out: &mut [u8],
-    size: &mut usize,
-) -> i32
-    ensures closed { tables.old.place.value ≡ None
-        → (result ≡ state) × (out.new ≡ out.old) }
-    ensures open { IfSome tables.old.place.value (λ s. GivesValue result protocol message.now
-        (payload_shown bytes.now message.now) index s out.old out.new size.new) }
-    ensures same { tables.new.place.value ≡ tables.old.place.value }
-{
-    let Some(families) = tables.take(alloc) else {
-        return STATE;
-    };
-    let code = value_json(&families, protocol, bytes, message, index, out, size);
+    let code = message_items(&families, protocol, bytes, message, items, count, out, size);
     tables.put(families);
     code
 }
@@ -132,8 +108,9 @@ pub extern "C" fn neli_c_path_at(
     code
 }
 
-/// Prints a refusal of the kernel in a line: the meaning of its number, its text, if it sent one, and the attribute at its
-/// offset in the request, which is this message. An offset of 0 is none.
+/// Prints a refusal of the kernel in a line: the name and the meaning of its number, its text, if
+/// it sent one, and the path to the attribute at its offset in the request, which is this message,
+/// if the tables know one there.
 ///
 /// Returns `OK`; `ROOM` if the line is longer than `out`, which then has its beginning.
 #[unsafe(no_mangle)]

@@ -1,24 +1,25 @@
 //! What the calls find in a message by name, with their codes.
 
-ghost use Rattle.std.specs.Prelude.{◌≡◌};
+ghost use Rattle.std.specs.Prelude.{◌≡◌, ◌≢◌};
 ghost use Rattle.std.specs.Option.{option_map};
 ghost use Rattle.neli_tables_bodies.specs.Bodies.{body_in, body_seen};
 ghost use Rattle.neli_tables_walk.specs.Shapes.{context_seen};
 ghost use Rattle.neli_c.specs.AnswersShown.{payload_shown};
-ghost use Rattle.neli_c_tables.specs.Refusals.{place_seen};
-ghost use Rattle.neli_c.specs.Named.{Checks, Explains, FindsPath, GivesNamed, GivesValue, at_in, body_place, list_in};
+ghost use Rattle.neli_c.specs.Codes.{bad_length};
+ghost use Rattle.neli_c.specs.Named.{Checks, Explains, FindsPath, GivesItems, StoresIn, StoresItems, at_in};
+ghost use Rattle.neli_c.specs.Named.{body_place, list_in, place_seen, said};
+ghost use Rattle.neli_c_tables.specs.Named.{named_items, named_text};
 ghost use Rattle.neli_c.specs.Tables.{head_of};
 
 use crate::answer::payload_of;
-use crate::code::{ITEM, KIND, LENGTH, OK, PLACE, VIOLATION};
+use crate::code::{ITEM, KIND, LENGTH, OK, PLACE, ROOM, VIOLATION};
 use crate::lent::NeliMessage;
 use crate::printing::print;
 use crate::tabling::head_of;
 use neli_c_tables::families::Families;
-use neli_c_tables::named::{ItemValue, NeliNamed, named_in};
-use neli_c_tables::refusal::Refusal;
+use neli_c_tables::named::{NeliNamed, named_items};
 use neli_tables_bodies::{Body, GENERIC_HEADER_SIZE, body_of};
-use neli_tables_check::{PathText, Place, Violation, check, find};
+use neli_tables_check::{Place, Refusal, Violation, check, find};
 use neli_tables_walk::{Context, Nest, Shape};
 
 /// The body of a message, where its payload lies within the bytes.
@@ -58,78 +59,71 @@ fn body_place(body: &Body<'_, '_, 'static>, message: &NeliMessage) -> usize
     }
 }
 
-/// Shows the item of this index of a message's attributes, and prints its path.
-pub(crate) fn named_item(
-    families: &Families,
-    protocol: u16,
+/// Stores the items of a body at this place, and writes their texts, as many as there is room for.
+fn store_items(
+    context: Context<'_, 'static>,
+    nest: Nest,
     bytes: &[u8],
-    message: &NeliMessage,
-    index: usize,
-    named: &mut NeliNamed,
+    place: usize,
+    items: &mut [NeliNamed],
+    count: &mut usize,
     out: &mut [u8],
     size: &mut usize,
 ) -> i32
-    ensures { GivesNamed result protocol message.now (payload_shown bytes.now message.now) index
-        families.now named.old named.new out.old out.new size.new }
+    ensures { result ≢ bad_length → StoresItems result
+        (named_items (context_seen context.entry) nest bytes.now place)
+        (named_text (context_seen context.entry) nest bytes.now)
+        items.old items.new count.new out.old out.new size.new }
 {
-    let Some(body) = body_in(families, protocol, bytes, message) else {
-        return PLACE;
+    let (room, text_room) = (items.len(), out.len());
+    let Ok(stored) = named_items(context, nest, bytes, place, items, out) else {
+        return LENGTH;
     };
-    let Some((context, nest)) = list_in(&body) else {
-        return KIND;
-    };
-    let place = body_place(&body, message);
-    match named_in(context, nest, body.bytes, place, index) {
-        Ok(Some((shown, item))) => {
-            let path = PathText {
-                table: context.table,
-                steps: item.path.steps(),
-            };
-            if print(path, out, size) == LENGTH {
-                return LENGTH;
-            }
-            *named = shown;
-            ITEM
-        }
-        Ok(None) => OK,
-        Err(_) => LENGTH,
+    *count = stored.count;
+    *size = stored.size;
+    if stored.count <= room && stored.size <= text_room {
+        OK
+    } else {
+        ROOM
     }
 }
 
-/// Prints the value of the item of this index of a message's attributes in JSON.
-pub(crate) fn value_json(
+/// Stores the items of a body, if its table has its attributes.
+fn body_items(
+    body: &Body<'_, '_, 'static>,
+    message: &NeliMessage,
+    items: &mut [NeliNamed],
+    count: &mut usize,
+    out: &mut [u8],
+    size: &mut usize,
+) -> i32
+    ensures { StoresIn result (body_seen body.now) message.now (list_in (body_seen body.now))
+        items.old items.new count.new out.old out.new size.new }
+{
+    let Some((context, nest)) = list_in(body) else {
+        return KIND;
+    };
+    let place = body_place(body, message);
+    store_items(context, nest, body.bytes, place, items, count, out, size)
+}
+
+/// Stores the items of a message's attributes, and writes their paths and values.
+pub(crate) fn message_items(
     families: &Families,
     protocol: u16,
     bytes: &[u8],
     message: &NeliMessage,
-    index: usize,
+    items: &mut [NeliNamed],
+    count: &mut usize,
     out: &mut [u8],
     size: &mut usize,
 ) -> i32
-    ensures { GivesValue result protocol message.now (payload_shown bytes.now message.now) index
-        families.now out.old out.new size.new }
+    ensures { GivesItems result protocol message.now (payload_shown bytes.now message.now)
+        families.now items.old items.new count.new out.old out.new size.new }
 {
-    let Some(body) = body_in(families, protocol, bytes, message) else {
-        return PLACE;
-    };
-    let Some((context, nest)) = list_in(&body) else {
-        return KIND;
-    };
-    let place = body_place(&body, message);
-    match named_in(context, nest, body.bytes, place, index) {
-        Ok(Some((_shown, item))) => {
-            let value = ItemValue {
-                table: context.table,
-                item: &item,
-            };
-            if print(value, out, size) == LENGTH {
-                LENGTH
-            } else {
-                ITEM
-            }
-        }
-        Ok(None) => OK,
-        Err(_) => LENGTH,
+    match body_in(families, protocol, bytes, message) {
+        Some(body) => body_items(&body, message, items, count, out, size),
+        None => PLACE,
     }
 }
 
@@ -202,7 +196,15 @@ pub(crate) fn path_at(
     }
 }
 
-/// Prints a refusal of the kernel: the meaning of its number, its text, and the attribute at an offset of the request.
+/// The kernel's text, if it sent one.
+fn said(text: &[u8]) -> Option<&[u8]>
+    ensures { option_map (λ t. t.now) result ≡ said text.now }
+{
+    if text.is_empty() { None } else { Some(text) }
+}
+
+/// Prints a refusal of the kernel: its number by name and meaning, its text, and the attribute at
+/// an offset of the request.
 pub(crate) fn refusal_text(
     families: &Families,
     protocol: u16,
@@ -222,9 +224,8 @@ pub(crate) fn refusal_text(
     };
     let refusal = Refusal {
         number: error.unsigned_abs(),
-        text,
+        text: said(text),
         place: place_in(&body, offset),
-        offset,
     };
     print(refusal, out, size)
 }

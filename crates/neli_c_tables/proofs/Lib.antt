@@ -1,3 +1,3 @@
 mod FamiliesBox
 mod Items
-mod Parts
+pub mod Parts

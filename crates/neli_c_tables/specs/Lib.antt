@@ -1,4 +1,3 @@
 pub mod Held
 pub mod Named
-pub mod Refusals
 pub mod Rooms

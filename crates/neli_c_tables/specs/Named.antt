@@ -1,19 +1,21 @@
--- The items of a walk, as C has them: each with its kind, and with the place of its payload.
+-- The items of a walk, as C has them: each with its kind, and with the places of its payload, its path
+-- and its value.
 use Rattle.std.specs.Prelude.{ℕ, zero, suc, ◌+◌, ◌-◌, List, [], ◌∷◌, ◌++◌, length, take, slice_get}
 use Rattle.std.specs.Prelude.{Option, Some, None, Ok, Err}
-use Rattle.std.specs.Option.{option_map, unwrap_or}
+use Rattle.std.specs.List.{flat_map}
+use Rattle.std.specs.Option.{unwrap_or}
 use Rattle.neli_attr.specs.AttrType.{AttrType}
 use Rattle.neli_wire.specs.Sizes.{align}
 use Rattle.neli_tables.specs.declared.kind.Kind.{Kind}
 use Rattle.neli_tables.specs.declared.kind.Kind.TheVariants as kind
 use Rattle.neli_tables_walk.specs.declared.item.Found.{Found}
-use Rattle.neli_tables_walk.specs.declared.item.Item.{Item}
 use Rattle.neli_tables_walk.specs.declared.shape.Nest.{Nest as NestOf}
 use Rattle.neli_tables_walk.specs.declared.shape.Shape.{Shape}
 use Rattle.neli_tables_walk.specs.declared.shape.Shape.TheVariants as shape
 use Rattle.neli_tables_walk.specs.Found.{element_size, front_of, list_start}
 use Rattle.neli_tables_walk.specs.Shapes.{ContextSeen, Lines, kind_at}
-use Rattle.neli_tables_walk.specs.Walks.{Said, Seen, item_seen, sort_in, walk_items}
+use Rattle.neli_tables_walk.specs.Walks.{Said, Seen, sort_in, walk_items}
+use Rattle.neli_tables_check.specs.Paths.{path_text}
 use Rattle.neli_values.specs.Values.{payload_json}
 use Rattle.neli_values.specs.Hex.{bytes_json}
 use Rattle.neli_tables_walk.specs.declared.level.Sort.{Sort}
@@ -99,11 +101,24 @@ abbrev pub begins_after : Begins → Seen → Begins
 begins_after begins (path, Ok said) = begins_behind begins (length path - 1) said
 begins_after begins (path, Err left) = begins
 
--- the item with this index, and where elements begin then
-unfoldable pub item_from : Begins → ℕ → List Seen → Option (Begins × Seen)
-item_from begins index [] = None
-item_from begins zero (item ∷ items) = Some (begins, item)
-item_from begins (suc index) (item ∷ items) = item_from (begins_after begins item) index items
+-- ---- texts
+
+abbrev pub shape_json : Lines → Shape → List ℕ → List ℕ
+shape_json table (shape.Row place) bytes = payload_json table place bytes
+shape_json table s bytes = bytes_json bytes
+
+-- the value of an item in JSON: by the line that says what it is, or else its bytes
+abbrev pub value_json : Lines → Seen → List ℕ
+value_json table (path, Ok (kind, payload, s)) = shape_json table s payload
+value_json table (path, Err (bytes, error)) = bytes_json bytes
+
+-- the path of an item, and behind it its value
+abbrev pub item_text : Lines → Seen → List ℕ
+item_text table item = path_text table item.0 ++ value_json table item
+
+-- of all items, one after the other
+abbrev pub items_text : Lines → List Seen → List ℕ
+items_text table items = flat_map (item_text table) items
 
 -- ---- what is shown
 
@@ -119,6 +134,10 @@ element_shown table begins depth (kind, payload, s) = record {
   depth = depth;
   payload = begin_at begins (depth - 1) + front_of kind;
   payload_length = length payload;
+  path = 0;
+  path_length = 0;
+  value = 0;
+  value_length = 0;
 }
 
 -- what is left of a list in so many others
@@ -129,30 +148,46 @@ left_shown begins depth bytes = record {
   depth = depth + 1;
   payload = begin_at begins depth;
   payload_length = length bytes;
+  path = 0;
+  path_length = 0;
+  value = 0;
+  value_length = 0;
 }
 
+-- an item, but for its texts
 abbrev pub item_shown : Lines → Begins → Seen → NeliNamed
 item_shown table begins (path, Ok said) = element_shown table begins (length path) said
 item_shown table begins (path, Err left) = left_shown begins (length path) left.0
 
-abbrev pub named_with : Lines → Begins × Seen → NeliNamed × Seen
-named_with table (begins, item) = (item_shown table begins item, item)
+-- with a path of so many bytes at a place, and behind it a value of so many
+abbrev pub with_texts : NeliNamed → ℕ → ℕ → ℕ → NeliNamed
+with_texts named path path_length value_length = record named {
+  path = path;
+  path_length = path_length;
+  value = path + path_length;
+  value_length = value_length;
+}
 
--- the item of this index in a body at a place, a structure and attributes
-abbrev pub named_in : ContextSeen → NestOf → List ℕ → ℕ → ℕ → Option (NeliNamed × Seen)
-named_in context nest bytes place index =
-    option_map (named_with context.0) (item_from ((place + align nest.header) ∷ []) index (walk_items context nest bytes))
+-- an item whose texts begin at a place
+abbrev pub item_at : Lines → Begins → ℕ → Seen → NeliNamed
+item_at table begins place item =
+    with_texts (item_shown table begins item) place (length (path_text table item.0))
+    (length (value_json table item))
 
--- ---- its value
+-- items whose texts begin at a place, one behind the other
+unfoldable pub items_from : Lines → Begins → ℕ → List Seen → List NeliNamed
+items_from table begins place [] = []
+items_from table begins place (item ∷ items) =
+    item_at table begins place item
+    ∷ items_from table (begins_after begins item) (place + length (item_text table item)) items
 
-abbrev pub shape_json : Lines → Shape → List ℕ → List ℕ
-shape_json table (shape.Row place) bytes = payload_json table place bytes
-shape_json table s bytes = bytes_json bytes
+-- the items of a body at a place, a structure and attributes; and their texts
+abbrev pub named_items : ContextSeen → NestOf → List ℕ → ℕ → List NeliNamed
+named_items context nest bytes place =
+    items_from context.0 ((place + align nest.header) ∷ []) 0 (walk_items context nest bytes)
 
--- the value of an item in JSON: by the line that says what it is, or else its bytes
-abbrev pub value_json : Lines → Seen → List ℕ
-value_json table (path, Ok (kind, payload, s)) = shape_json table s payload
-value_json table (path, Err (bytes, error)) = bytes_json bytes
+abbrev pub named_text : ContextSeen → NestOf → List ℕ → List ℕ
+named_text context nest bytes = items_text context.0 (walk_items context nest bytes)
 
 -- ---- what values say
 
@@ -162,6 +197,3 @@ listed (Some n) = n ∷ []
 
 abbrev pub found_seen : Found → Said
 found_seen f = (f.kind, f.payload.now, f.shape)
-
-abbrev pub named_seen : NeliNamed × Item → NeliNamed × Seen
-named_seen (named, item) = (named, item_seen item)

@@ -1,10 +1,10 @@
--- Texts in bytes that may be too few for them.
+-- Texts and items in a room that may be too small for them.
 use Rattle.std.specs.Prelude.{◌≡◌, ℕ, ◌+◌, ◌-◌, List, ◌++◌, length, take, drop}
 use Rattle.neli_c_tables.specs.declared.room.Room.{Room}
 
--- bytes with these in place of as many from a place on; those past the end are left out
-abbrev pub put_at : ℕ → List ℕ → List ℕ → List ℕ
-put_at place bytes out = take place out ++ take (length out - place) bytes ++ drop (place + length bytes) out
+-- a list with these in place of as many from a place on; those past the end are left out
+abbrev pub put_at : {A : Type 0} → ℕ → List A → List A → List A
+put_at place xs out = take place out ++ take (length out - place) xs ++ drop (place + length xs) out
 
 -- bytes with a text in place of as many at their front, or with its beginning where it has more
 abbrev pub beginning : List ℕ → List ℕ → List ℕ

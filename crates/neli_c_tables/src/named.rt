@@ -1,20 +1,25 @@
 //! The items of a walk by name, as C has them.
 
 ghost use Rattle.std.specs.Prelude.{◌≡◌, ◌+◌, ◌<◌, [], ◌∷◌, ◌++◌, IfOk, OnOk, Some, length};
-ghost use Rattle.std.specs.Option.{option_map};
 ghost use Rattle.neli_wire.specs.Sizes.{align};
 ghost use Rattle.neli_tables_walk.specs.Found.{front_of};
 ghost use Rattle.neli_tables_walk.specs.Shapes.{context_seen, kind_at};
 ghost use Rattle.neli_tables_walk.specs.Walks.{item_seen, sort_in};
-ghost use Rattle.neli_c_tables.specs.Named.{begin_at, begins_after, begins_behind, element_number, element_shown};
-ghost use Rattle.neli_c_tables.specs.Named.{found_seen, inner_begin, item_from, item_shown, kind_number, kind_or_none};
-ghost use Rattle.neli_c_tables.specs.Named.{listed, named_in, named_seen, number_of, shape_number, value_json};
+ghost use Rattle.neli_tables_check.specs.Paths.{path_text};
+ghost use Rattle.neli_c_tables.specs.Named.{begin_at, begins_after, begins_behind, element_number};
+ghost use Rattle.neli_c_tables.specs.Named.{element_shown, found_seen, inner_begin, item_at};
+ghost use Rattle.neli_c_tables.specs.Named.{item_shown, item_text, items_from, items_text};
+ghost use Rattle.neli_c_tables.specs.Named.{kind_number, kind_or_none, listed, named_items};
+ghost use Rattle.neli_c_tables.specs.Named.{named_text, number_of, shape_number, value_json};
+ghost use Rattle.neli_c_tables.specs.Named.{with_texts};
+ghost use Rattle.neli_c_tables.specs.Rooms.{put_at};
 
-use crate::room::TooLong;
+use crate::room::{TooLong, write_text_at};
 use arrayvec::ArrayVec;
 use neli_attr::AttrType;
 use neli_consts::ATTRIBUTE_HEADER_SIZE;
 use neli_tables::Kind;
+use neli_tables_check::PathText;
 use neli_tables_rows::{Table, options_of};
 use neli_tables_walk::{Context, Found, Item, MAX_DEPTH, Nest, Path, Shape, Walk};
 use neli_values::{BytesJson, Payload, PayloadJson};
@@ -46,6 +51,14 @@ pub struct NeliNamed {
     pub payload: usize,
     /// How many bytes that has.
     pub payload_length: usize,
+    /// The place of its path among the texts.
+    pub path: usize,
+    /// How long that is.
+    pub path_length: usize,
+    /// The place of its value in JSON.
+    pub value: usize,
+    /// How long that is.
+    pub value_length: usize,
 }
 
 /// The number of a kind.
@@ -199,29 +212,6 @@ fn go_past(begins: &mut Begins, item: &Item<'_>) -> Result<(), TooLong>
     }
 }
 
-/// The item of this index, and where elements begin then. The first element begins at this place.
-fn item_from<'b>(
-    walk: Walk<'b, '_, '_>,
-    start: usize,
-    index: usize,
-) -> Result<Option<(Begins, Item<'b>)>, TooLong>
-    ensures { IfOk result (λ found. option_map (λ f. (f.0.items, item_seen f.1)) found
-        ≡ item_from (start ∷ []) index walk.entry) }
-{
-    let mut walk = walk;
-    let mut begins = ArrayVec::new();
-    begins.push(start);
-    let mut left = index;
-    while let Some(item) = walk.next() {
-        if left == 0 {
-            return Ok(Some((begins, item)));
-        }
-        go_past(&mut begins, &item)?;
-        left -= 1;
-    }
-    Ok(None)
-}
-
 /// The number of an attribute; 0 of a hop.
 fn number_of(kind: &Option<AttrType<u16>>) -> u16
     ensures { result ≡ number_of kind.now }
@@ -259,6 +249,10 @@ fn element_shown(
         depth,
         payload: further(begin, front_of(&found.kind))?,
         payload_length: found.payload.len(),
+        path: 0,
+        path_length: 0,
+        value: 0,
+        value_length: 0,
     })
 }
 
@@ -274,7 +268,7 @@ fn depth_of(path: &Path) -> Result<u8, TooLong>
     }
 }
 
-/// An item, as C has it.
+/// An item, as C has it but for its texts.
 fn item_shown(table: &Table<'_>, begins: &Begins, item: &Item<'_>) -> Result<NeliNamed, TooLong>
     ensures { IfOk result
         (λ named. named ≡ item_shown table.now begins.now.items (item_seen item.now)) }
@@ -288,38 +282,169 @@ fn item_shown(table: &Table<'_>, begins: &Begins, item: &Item<'_>) -> Result<Nel
             depth: depth + 1,
             payload: begin_at(begins, depth as usize),
             payload_length: rest.bytes.len(),
+            path: 0,
+            path_length: 0,
+            value: 0,
+            value_length: 0,
         }),
     }
 }
 
-/// The item of this index of a walk over a body at this place, and what C has of it.
-pub fn named_in<'b>(
+/// An item with its texts, a path of so many bytes at a place and behind it a value of so many.
+fn with_texts(
+    shown: NeliNamed,
+    path: usize,
+    path_length: usize,
+    value_length: usize,
+) -> Result<NeliNamed, TooLong>
+    ensures { IfOk result (λ named. named ≡ with_texts shown path path_length value_length) }
+{
+    let mut named = shown;
+    named.path = path;
+    named.path_length = path_length;
+    named.value = further(path, path_length)?;
+    named.value_length = value_length;
+    Ok(named)
+}
+
+/// Writes an item's path into bytes from a place on, and its value behind that; returns how long
+/// each is.
+#[tactic(auto, using(crate::proofs::Parts::put_both))]
+fn write_texts(
+    table: &Table<'_>,
+    item: &Item<'_>,
+    out: &mut [u8],
+    place: usize,
+) -> Result<(usize, usize), TooLong>
+    ensures path { IfOk result
+        (λ sizes. sizes.0 ≡ length (path_text table.now item.now.path.steps.items)) }
+    ensures value { IfOk result
+        (λ sizes. sizes.1 ≡ length (value_json table.now (item_seen item.now))) }
+    ensures text { OnOk result
+        (out.new ≡ put_at place (item_text table.now (item_seen item.now)) out.old) }
+{
+    let path = PathText {
+        table,
+        steps: item.path.steps(),
+    };
+    let behind = write_text_at(path, out, place)?;
+    let end = write_text_at(ItemValue { table, item }, out, behind)?;
+    Ok((behind - place, end - behind))
+}
+
+/// Puts an item at its index, if there is room.
+#[tactic(auto, using(crate::proofs::Parts::put_stored, crate::proofs::Parts::put_past))]
+fn put_item(items: &mut [NeliNamed], index: usize, item: NeliNamed)
+    ensures { items.new ≡ put_at index (item ∷ []) items.old }
+{
+    if index < items.len() {
+        items[index] = item;
+    }
+}
+
+/// What a walk has stored: how many items there are, and how long their texts are. What has no room
+/// is counted alone.
+#[derive(Clone, Copy)]
+pub struct Stored {
+    /// How many items.
+    pub count: usize,
+    /// How many bytes of text.
+    pub size: usize,
+}
+
+/// Stores an item behind others, and its texts behind theirs, and goes past it.
+#[tactic(auto, using(crate::proofs::Parts::long_both))]
+fn store(
+    table: &Table<'_>,
+    begins: &mut Begins,
+    item: &Item<'_>,
+    stored: Stored,
+    items: &mut [NeliNamed],
+    out: &mut [u8],
+) -> Result<Stored, TooLong>
+    ensures begins { OnOk result
+        (begins.new.items ≡ begins_after begins.old.items (item_seen item.now)) }
+    ensures items { OnOk result (items.new ≡ put_at stored.count
+        (item_at table.now begins.old.items stored.size (item_seen item.now) ∷ []) items.old) }
+    ensures text { OnOk result
+        (out.new ≡ put_at stored.size (item_text table.now (item_seen item.now)) out.old) }
+    ensures count { IfOk result (λ next. next.count ≡ stored.count + 1) }
+    ensures size { IfOk result
+        (λ next. next.size ≡ stored.size + length (item_text table.now (item_seen item.now))) }
+{
+    let shown = item_shown(table, begins, item)?;
+    let (path, value) = write_texts(table, item, out, stored.size)?;
+    let named = with_texts(shown, stored.size, path, value)?;
+    put_item(items, stored.count, named);
+    go_past(begins, item)?;
+    Ok(Stored {
+        count: further(stored.count, 1)?,
+        size: further(further(stored.size, path)?, value)?,
+    })
+}
+
+/// Stores the items of a walk, of which the first element begins at this place, and their texts.
+fn store_all(
+    table: &Table<'_>,
+    walk: Walk<'_, '_, '_>,
+    start: usize,
+    items: &mut [NeliNamed],
+    out: &mut [u8],
+) -> Result<Stored, TooLong>
+    ensures items { OnOk result
+        (items.new ≡ put_at 0 (items_from table.now (start ∷ []) 0 walk.entry) items.old) }
+    ensures text { OnOk result (out.new ≡ put_at 0 (items_text table.now walk.entry) out.old) }
+    ensures count { IfOk result
+        (λ stored. stored.count ≡ length (items_from table.now (start ∷ []) 0 walk.entry)) }
+    ensures size { IfOk result
+        (λ stored. stored.size ≡ length (items_text table.now walk.entry)) }
+{
+    let mut walk = walk;
+    let mut begins = ArrayVec::new();
+    begins.push(start);
+    let mut stored = Stored { count: 0, size: 0 };
+    while let Some(item) = walk.next() {
+        stored = store(table, &mut begins, &item, stored, items, out)?;
+    }
+    Ok(stored)
+}
+
+/// Stores the items of a walk over a body at this place, and writes their paths and values, as many
+/// as there is room for; returns how many there are in all, and how long their texts are.
+pub fn named_items(
     context: Context<'_, '_>,
     nest: Nest,
-    bytes: &'b [u8],
+    bytes: &[u8],
     place: usize,
-    index: usize,
-) -> Result<Option<(NeliNamed, Item<'b>)>, TooLong>
-    ensures { IfOk result (λ named. option_map named_seen named
-        ≡ named_in (context_seen context.entry) nest bytes.now place index) }
+    items: &mut [NeliNamed],
+    out: &mut [u8],
+) -> Result<Stored, TooLong>
+    ensures items { OnOk result (items.new ≡ put_at 0
+        (named_items (context_seen context.entry) nest bytes.now place) items.old) }
+    ensures text { OnOk result
+        (out.new ≡ put_at 0 (named_text (context_seen context.entry) nest bytes.now) out.old) }
+    ensures count { IfOk result (λ stored. stored.count
+        ≡ length (named_items (context_seen context.entry) nest bytes.now place)) }
+    ensures size { IfOk result (λ stored. stored.size
+        ≡ length (named_text (context_seen context.entry) nest bytes.now)) }
 {
     let start = further(place, aligned(nest.header)?)?;
-    match item_from(Walk::new(context, nest, bytes), start, index)? {
-        Some((begins, item)) => {
-            let named = item_shown(context.table, &begins, &item)?;
-            Ok(Some((named, item)))
-        }
-        None => Ok(None),
-    }
+    store_all(
+        context.table,
+        Walk::new(context, nest, bytes),
+        start,
+        items,
+        out,
+    )
 }
 
 /// The value of an item in JSON: by the line that says what it is, or else its bytes.
 #[derive(Clone, Copy)]
-pub struct ItemValue<'i, 'b, 'w, 't> {
+struct ItemValue<'i, 'b, 'w, 't> {
     /// The table of the walk.
-    pub table: &'w Table<'t>,
+    table: &'w Table<'t>,
     /// The item.
-    pub item: &'i Item<'b>,
+    item: &'i Item<'b>,
 }
 
 impl fmt::Display for ItemValue<'_, '_, '_, '_> {

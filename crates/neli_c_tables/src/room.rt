@@ -1,6 +1,6 @@
 //! Text that is written into bytes which may be too few for it.
 
-ghost use Rattle.std.specs.Prelude.{◌≡◌, ◌+◌, ◌<◌, ◌^◌, IfErr, IfOk, IfSome, IsOk, length};
+ghost use Rattle.std.specs.Prelude.{◌≡◌, ◌+◌, IfOk, IfSome, length};
 ghost use Rattle.neli_c_tables.specs.Rooms.{Writes, beginning, put_at};
 
 use std::cmp::min;
@@ -48,7 +48,22 @@ pub fn write_text<D: Display + Drop>(value: D, out: &mut [u8]) -> Result<usize, 
     ensures text { IfOk result
         (λ _. IfSome (D.output value) (λ text. out.new ≡ beginning text out.old)) }
 {
-    let mut room = Room { out, size: 0 };
+    write_text_at(value, out, 0)
+}
+
+/// Writes the text of a value into bytes from a place on, as much of its beginning as there is room
+/// for, and returns where the whole ends.
+pub fn write_text_at<D: Display + Drop>(
+    value: D,
+    out: &mut [u8],
+    place: usize,
+) -> Result<usize, TooLong>
+    ensures end { IfOk result
+        (λ end. IfSome (D.output value) (λ text. end ≡ place + length text)) }
+    ensures text { IfOk result
+        (λ _. IfSome (D.output value) (λ text. out.new ≡ put_at place text out.old)) }
+{
+    let mut room = Room { out, size: place };
     match room.write(value) {
         Ok(()) => Ok(room.size),
         Err(_) => Err(TooLong),

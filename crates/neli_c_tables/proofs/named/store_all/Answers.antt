@@ -1,0 +1,78 @@
+use Rattle.std.proofs.Common.{rules}
+use Rattle.neli_c_tables.proofs.Items.{count-all, count-more, items-all, items-more, size-all}
+use Rattle.neli_c_tables.proofs.Items.{size-more, text-all, text-more}
+use Rattle.neli_c_tables.proofs.named.store_all.Goals as goal
+
+pub loop-item-preserved-in_ok-stored : goal.loop-item-preserved-in_ok-stored
+loop-item-preserved-in_ok-stored c =
+    let was = c.loop-item.invariant in
+    let is = c.in-Some.ensures.steps in
+    let did = c.in_ok-stored.ensures in
+    record {
+      can_next = tt;
+      is_finite = tt;
+      items = items-more _ _ _ _ is _ _ _ _ did.begins did.size _ _ _ _ _ did.count did.items
+          was.items;
+      text = text-more _ _ _ _ is _ _ did.size _ _ _ did.text was.text;
+      count = count-more _ _ _ _ is _ _ _ _ did.begins did.size _ _ _ did.count was.count;
+      size = size-more _ _ _ _ is _ _ did.size _ was.size;
+    }
+
+pub loop-item-preserved-in_ok-stored-2 : goal.loop-item-preserved-in_ok-stored-2
+loop-item-preserved-in_ok-stored-2 c =
+    let was = c.loop-item.invariant in
+    let is = c.in-Some.ensures.steps in
+    let did = c.in_ok-stored.ensures in
+    record {
+      can_next = tt;
+      is_finite = tt;
+      items = items-more _ _ _ _ is _ _ _ _ did.begins did.size _ _ _ _ _ did.count did.items
+          was.items;
+      text = text-more _ _ _ _ is _ _ did.size _ _ _ did.text was.text;
+      count = count-more _ _ _ _ is _ _ _ _ did.begins did.size _ _ _ did.count was.count;
+      size = size-more _ _ _ _ is _ _ did.size _ was.size;
+    }
+
+pub loop-item-preserved-in_ok-stored-3 : goal.loop-item-preserved-in_ok-stored-3
+loop-item-preserved-in_ok-stored-3 c =
+    let was = c.loop-item.invariant in
+    let is = c.in-Some.ensures.steps in
+    let did = c.in_ok-stored.ensures in
+    record {
+      can_next = tt;
+      is_finite = tt;
+      items = items-more _ _ _ _ is _ _ _ _ did.begins did.size _ _ _ _ _ did.count did.items
+          was.items;
+      text = text-more _ _ _ _ is _ _ did.size _ _ _ did.text was.text;
+      count = count-more _ _ _ _ is _ _ _ _ did.begins did.size _ _ _ did.count was.count;
+      size = size-more _ _ _ _ is _ _ did.size _ was.size;
+    }
+
+pub loop-item-preserved : goal.loop-item-preserved
+loop-item-preserved c =
+    let was = c.loop-item.invariant in
+    let is = c.in-Some.ensures.steps in
+    let did = c.in_ok-stored.ensures in
+    record {
+      can_next = tt;
+      is_finite = tt;
+      items = items-more _ _ _ _ is _ _ _ _ did.begins did.size _ _ _ _ _ did.count did.items
+          was.items;
+      text = text-more _ _ _ _ is _ _ did.size _ _ _ did.text was.text;
+      count = count-more _ _ _ _ is _ _ _ _ did.begins did.size _ _ _ did.count was.count;
+      size = size-more _ _ _ _ is _ _ did.size _ was.size;
+    }
+
+pub returns-clause-items : goal.returns-clause-items
+returns-clause-items c =
+    items-all _ _ c.in_default.ensures.steps.0 _ _ _ _ _ c.loop-item.invariant.items
+
+pub returns-clause-text : goal.returns-clause-text
+returns-clause-text c = text-all _ _ c.in_default.ensures.steps.0 _ _ _ c.loop-item.invariant.text
+
+pub returns-clause-count : goal.returns-clause-count
+returns-clause-count c =
+    count-all _ _ c.in_default.ensures.steps.0 _ _ _ _ c.loop-item.invariant.count
+
+pub returns-clause-size : goal.returns-clause-size
+returns-clause-size c = size-all _ _ c.in_default.ensures.steps.0 _ _ c.loop-item.invariant.size
