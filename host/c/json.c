@@ -1,5 +1,6 @@
 /* `json FILE..` prints the messages of recordings by name, as `neli_show json` does: a line of JSON for each, and one for
- * what is left of a datagram. It ends with status 1 where a file can't be read. */
+ * what is left of a datagram. The numbers of families of generic netlink are learnt first from all of a file. It ends
+ * with status 1 where a file can't be read. */
 #include "neli.h"
 #include "pcap.h"
 #include <stdio.h>
@@ -36,17 +37,32 @@ static int print_datagram(const struct pcap_frame *frame) {
     return again != size;
 }
 
-static int print_file(const char *path) {
-    struct pcap_file file = {0};
+/* Learns what the messages of the controller in a datagram say. */
+static int learn_datagram(const struct pcap_frame *frame) {
+    struct neli_walk walk = {0, frame->length};
+    struct neli_message message;
+    int32_t code = NELI_OK;
+    while (code == NELI_OK && neli_next_message(frame->bytes, frame->length, &walk, &message) == NELI_ITEM)
+        code = neli_tables_learn_from(&tables, frame->protocol, frame->bytes, frame->length, &message);
+    return code != NELI_OK;
+}
+
+/* Gives why a file is none. */
+static const char *each_datagram(const uint8_t *bytes, size_t size, int (*take)(const struct pcap_frame *), int *status) {
+    struct pcap_file file = {.bytes = bytes, .size = size};
     struct pcap_frame frame;
-    size_t size = 0;
-    uint8_t *bytes = content(path, &size);
-    file.bytes = bytes;
-    file.size = size;
     const char *why = bytes == NULL ? "it can't be read" : pcap_open(&file);
+    while (why == NULL && *status == 0 && (why = pcap_next(&file, &frame)) == NULL && frame.bytes != NULL)
+        *status = take(&frame);
+    return why;
+}
+
+static int print_file(const char *path) {
+    size_t size = 0;
     int status = 0;
-    while (why == NULL && status == 0 && (why = pcap_next(&file, &frame)) == NULL && frame.bytes != NULL)
-        status = print_datagram(&frame);
+    uint8_t *bytes = content(path, &size);
+    const char *why = each_datagram(bytes, size, learn_datagram, &status);
+    if (why == NULL && status == 0) why = each_datagram(bytes, size, print_datagram, &status);
     if (why != NULL) fprintf(stderr, "json: %s: %s\n", path, why);
     free(bytes);
     return why != NULL || status != 0;

@@ -108,31 +108,45 @@ static int32_t refusal_text(struct neli_tables *tables, uint16_t protocol, const
 
 /* ---- A message */
 
-/* Each item lies in the message. In the message's own list it is the attribute that a walk by numbers finds there. */
-static void try_items(struct neli_tables *tables, uint16_t protocol, const uint8_t *bytes, size_t length) {
-    size_t begin = message.payload, end = begin + message.payload_length, size = 0, index = 0;
-    struct neli_named named;
+/* The items of a message, each in the message, and their texts one behind the other. In the message's own list each is
+ * the attribute that a walk by numbers finds there. In a smaller room the first of them are the same. */
+static void want_items(const struct neli_named *items, size_t count, const char *text, const uint8_t *bytes,
+                       size_t length) {
+    size_t begin = message.payload, end = begin + message.payload_length, at = 0;
     struct neli_walk walk = {0, 0};
-    int32_t code;
-    for (; index < 300; index++) {
-        code = neli_named_item(tables, protocol, bytes, length, &message, index, &named, (char *)out, ROOM, &size);
-        if (code != NELI_ITEM) break;
-        WANT(size > 0 && named.depth > 0 && named.kind <= NELI_KIND_REST);
-        WANT(begin <= named.payload && named.payload <= end && named.payload_length <= end - named.payload);
-        if (index == 0) walk = (struct neli_walk){named.payload - (named.kind == NELI_KIND_REST ? 0 : 4), end};
-        if (named.depth == 1) {
-            struct neli_attribute found;
-            bool is_one = neli_next_attribute(bytes, length, &walk, &found) == NELI_ITEM;
-            WANT(is_one == (named.kind != NELI_KIND_REST));
-            WANT(!is_one || (found.number == named.number && found.payload == named.payload));
-            WANT(!is_one || found.payload_length == named.payload_length);
-        }
-        WANT(neli_value_json(tables, protocol, bytes, length, &message, index, (char *)out, ROOM, &size) == NELI_ITEM);
-        if (size <= ROOM) want_json((char *)out, size);
+    for (const struct neli_named *it = items; it < items + count; it++) {
+        WANT(it->depth > 0 && it->kind <= NELI_KIND_REST && it->path_length > 0);
+        WANT(begin <= it->payload && it->payload <= end && it->payload_length <= end - it->payload);
+        WANT(it->path == at && it->value == at + it->path_length && it->value_length > 0);
+        at = it->value + it->value_length;
+        if (at <= ROOM) want_json(text + it->value, it->value_length);
+        if (it == items) walk = (struct neli_walk){it->payload - (it->kind == NELI_KIND_REST ? 0 : 4), end};
+        if (it->depth > 1) continue;
+        struct neli_attribute found;
+        bool is_one = neli_next_attribute(bytes, length, &walk, &found) == NELI_ITEM;
+        WANT(is_one == (it->kind != NELI_KIND_REST));
+        WANT(!is_one || (found.number == it->number && found.payload == it->payload));
+        WANT(!is_one || found.payload_length == it->payload_length);
     }
-    WANT(index == 300 || code == NELI_END || (index == 0 && code == NELI_KIND));
-    WANT(index == 300 ||
-         neli_value_json(tables, protocol, bytes, length, &message, index, (char *)out, ROOM, &size) == code);
+}
+
+static void try_items(struct neli_tables *tables, uint16_t protocol, const uint8_t *bytes, size_t length) {
+    static struct neli_named items[ROOM], some[ROOM];
+    static char model[ROOM];
+    size_t count = 0, size = 0, few, short_size;
+    char *text = (char *)out;
+    int32_t code = neli_named_items(tables, protocol, bytes, length, &message, items, ROOM, &count, text, ROOM, &size);
+    if (code == NELI_KIND) return;
+    WANT(code == (size <= ROOM ? NELI_OK : NELI_ROOM) && count < ROOM);
+    want_items(items, count, text, bytes, length);
+    size_t whole = size < ROOM ? size : ROOM, cut = message.number % (whole + 1), room = message.port % (count + 1);
+    memcpy(model, text, whole);
+    text += ROOM - cut;
+    code = neli_named_items(tables, protocol, bytes, length, &message, some, room, &few, text, cut, &short_size);
+    WANT(code == (cut == size && room == count ? NELI_OK : NELI_ROOM) && few == count && short_size == size);
+    WANT(memcmp(text, model, cut) == 0);
+    for (size_t i = 0; i < room; i++)
+        WANT(some[i].payload == items[i].payload && some[i].path == items[i].path && some[i].kind == items[i].kind);
 }
 
 static void try_message(struct neli_tables *tables, uint16_t protocol, const uint8_t *bytes, size_t length) {

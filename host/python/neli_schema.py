@@ -15,7 +15,7 @@ import json
 import os
 
 import neli
-from neli import END, ITEM, KIND, OK
+from neli import ITEM, KIND, OK, ROOM
 
 __all__ = ["Schema", "TableError"]
 
@@ -32,7 +32,8 @@ class _Tables(ctypes.Structure):
 
 class _Named(ctypes.Structure):
     _fields_ = [("number", ctypes.c_uint16), ("kind", ctypes.c_uint8), ("depth", ctypes.c_uint8),
-                ("payload", ctypes.c_size_t), ("payload_length", ctypes.c_size_t)]
+                ("payload", ctypes.c_size_t), ("payload_length", ctypes.c_size_t), ("path", ctypes.c_size_t),
+                ("path_length", ctypes.c_size_t), ("value", ctypes.c_size_t), ("value_length", ctypes.c_size_t)]
 
 
 def _library():
@@ -51,8 +52,7 @@ def _library():
         "neli_c_message_json": [*message, *room],
         "neli_c_datagram_text": [pointer, u16, *slice_of, *room],
         "neli_c_datagram_json": [pointer, u16, *slice_of, *room],
-        "neli_c_named_item": [*message, size, pointer, *room],
-        "neli_c_value_json": [*message, size, *room],
+        "neli_c_named_items": [*message, pointer, size, pointer, *room],
         "neli_c_check": [*message, *room],
         "neli_c_path_at": [*message, size, *room],
         "neli_c_refusal_text": [*message, ctypes.c_int32, *slice_of, size, *room],
@@ -81,7 +81,11 @@ def _written(call, *words):
     if size.value > len(out):
         out = ctypes.create_string_buffer(size.value)
         code = call(*words, out, len(out), ctypes.byref(size))
-    return code, out.raw[: size.value].decode("utf-8", "surrogateescape")
+    return code, _part(out.raw, 0, size.value)
+
+
+def _part(text, place, length):
+    return text[place : place + length].decode("utf-8", "surrogateescape")
 
 
 def _done(code):
@@ -171,19 +175,25 @@ class Schema:
         """The attributes of a message by name, those in nests behind the nest: `(path, kind, payload, value)` of each.
 
         A path has dots between the names, and `value` is what JSON has of the attribute. Without a table for the
-        message there are none.
+        message there are none. The message is walked once, so that the time grows with its length.
         """
-        words, named, index = self._words(message), _Named(), 0
+        words, items, out = self._words(message), (_Named * 64)(), ctypes.create_string_buffer(4096)
+        count, size = ctypes.c_size_t(), ctypes.c_size_t()
         while True:
-            code, path = _written(_lib.neli_c_named_item, *words, index, ctypes.byref(named))
-            if code in (END, KIND):
+            rooms = items, len(items), ctypes.byref(count), out, len(out), ctypes.byref(size)
+            code = _lib.neli_c_named_items(*words, *rooms)
+            if code == KIND:
                 return
-            if code != ITEM:
-                _done(code)
+            if code != ROOM:
+                break
+            items = (_Named * max(count.value, len(items)))()
+            out = ctypes.create_string_buffer(max(size.value, len(out)))
+        _done(code)
+        text = out.raw
+        for named in items[: count.value]:
             payload = message._data[named.payload : named.payload + named.payload_length]
-            _, value = _written(_lib.neli_c_value_json, *words, index)
-            yield path, named.kind, payload, json.loads(value)
-            index += 1
+            path = _part(text, named.path, named.path_length)
+            yield path, named.kind, payload, json.loads(_part(text, named.value, named.value_length))
 
     def values(self, message):
         """The values of a message's attributes by their paths, nests left out; the first of several with one path."""

@@ -1,5 +1,6 @@
 //! `json FAMILY FILE..` prints the messages of recordings by name, as `neli_show json` does. FAMILY is the number of the
-//! family of netlink, as 0 for routing and 16 for generic netlink.
+//! family of netlink, as 0 for routing and 16 for generic netlink. The numbers of families of generic netlink are learnt
+//! first from all of a file.
 
 use neli::consts::socket::NlFamily;
 use neli::recording::Recording;
@@ -12,7 +13,13 @@ fn main() -> Result<(), Box<dyn Error>> {
     let family = NlFamily::from(words.next().ok_or("usage: json FAMILY FILE..")?.parse::<i32>()?);
     let schema = Schema::built_in()?;
     for path in words {
-        for frame in Recording::from_pcap(&fs::read(&path)?, family)?.frames() {
+        let recording = Recording::from_pcap(&fs::read(&path)?, family)?;
+        for frame in recording.frames() {
+            for message in schema.messages(family, &frame.bytes).map_while(Result::ok) {
+                message.learn()?;
+            }
+        }
+        for frame in recording.frames() {
             print!("{}", schema.datagram_json(family, &frame.bytes)?);
         }
     }

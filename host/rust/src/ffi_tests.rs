@@ -115,7 +115,7 @@ fn structs_are_laid_out_as_in_c() {
         (size_of::<Request>(), 48),
         (size_of::<RawDump>(), 16),
         (size_of::<RawTables>(), 16),
-        (size_of::<Named>(), 24),
+        (size_of::<Named>(), 56),
     ];
     for (found, wanted) in sizes {
         assert_eq!(found, wanted);

@@ -17,9 +17,8 @@
 //!     let message = message?;
 //!     message.check()?;
 //!     println!("{}", message.to_json()?);
-//!     for attribute in message.attributes() {
-//!         let attribute = attribute?;
-//!         assert_eq!((attribute.path(), attribute.value()?.as_str()), ("IFLA_MTU", "1500"));
+//!     for attribute in message.attributes()? {
+//!         assert_eq!((attribute.path(), attribute.value()), ("IFLA_MTU", "1500"));
 //!     }
 //! }
 //! # Ok(())
@@ -78,7 +77,7 @@ impl fmt::Display for Violation {
 
 impl Error for Violation {}
 
-/// The kernel's refusal of a request: the meaning of its number, its text, and the attribute that it is about.
+/// The kernel's refusal of a request: its number by name and meaning, its text, and the attribute that it is about.
 #[derive(Clone, Debug, PartialEq, Eq)]
 pub struct KernelRefusal {
     errno: i32,
@@ -98,7 +97,7 @@ impl KernelRefusal {
     }
 }
 
-/// `Invalid argument: Unknown device type, at IFLA_LINKINFO.IFLA_INFO_KIND`.
+/// `EINVAL: Invalid argument: Unknown device type: IFLA_LINKINFO.IFLA_INFO_KIND`.
 impl fmt::Display for KernelRefusal {
     fn fmt(&self, f: &mut fmt::Formatter<'_>) -> fmt::Result {
         f.write_str(&self.line)
@@ -300,9 +299,27 @@ impl<'s> Message<'s> {
         KernelRefusal { errno: answer.error().wrapping_neg(), attribute, line }
     }
 
-    /// Its attributes by name, those in a nest behind the nest. There are none where no table knows the message.
-    pub fn attributes(&self) -> Attributes<'s> {
-        Attributes { message: *self, index: 0 }
+    /// Its attributes by name, those in a nest behind the nest. There are none where no table knows the message. It is
+    /// walked once, so that the time grows with its length.
+    pub fn attributes(&self) -> Result<Attributes<'s>, Refusal> {
+        let (mut items, mut text) = (vec![Named::default(); 64], vec![0; 4096]);
+        let (mut count, mut size) = (0, 0);
+        let mut tables = self.schema.tables();
+        loop {
+            match tables.named_items(&self.sought, &mut items, &mut count, &mut text, &mut size) {
+                ffi::ROOM => {
+                    items.resize(count.max(items.len()), Named::default());
+                    text.resize(size.max(text.len()), 0);
+                }
+                ffi::KIND => break,
+                code => {
+                    done(code)?;
+                    break;
+                }
+            }
+        }
+        items.truncate(count);
+        Ok(Attributes { bytes: self.sought.bytes, text, items: items.into_iter() })
     }
 
     /// Learns the number of the family of generic netlink that this message of the controller names; of any other
@@ -323,27 +340,36 @@ impl fmt::Display for Message<'_> {
 #[derive(Clone, Debug)]
 #[must_use = "attributes are read one by one"]
 pub struct Attributes<'s> {
-    message: Message<'s>,
-    index: usize,
+    bytes: &'s [u8],
+    text: Vec<u8>,
+    items: std::vec::IntoIter<Named>,
+}
+
+/// The part of these bytes at a place.
+fn part(bytes: &[u8], place: usize, length: usize) -> &[u8] {
+    bytes.get(place..).and_then(|it| it.get(..length)).unwrap_or_default()
 }
 
 impl<'s> Iterator for Attributes<'s> {
-    type Item = Result<Attribute<'s>, Refusal>;
+    type Item = Attribute<'s>;
 
     fn next(&mut self) -> Option<Self::Item> {
-        let (message, index) = (self.message, self.index);
-        let mut named = Named::default();
-        let mut tables = message.schema.tables();
-        match written(|out, size| tables.named_item(&message.sought, index, &mut named, out, size)) {
-            (ffi::ITEM, path) => {
-                self.index += 1;
-                Some(Ok(Attribute { message, index, named, path }))
-            }
-            (ffi::END | ffi::KIND, _) => None,
-            (code, _) => Some(Err(refused(code))),
-        }
+        let named = self.items.next()?;
+        let printed = |place, length| String::from_utf8_lossy(part(&self.text, place, length)).into_owned();
+        Some(Attribute {
+            path: printed(named.path, named.path_length),
+            value: printed(named.value, named.value_length),
+            payload: part(self.bytes, named.payload, named.payload_length),
+            named,
+        })
+    }
+
+    fn size_hint(&self) -> (usize, Option<usize>) {
+        self.items.size_hint()
     }
 }
+
+impl ExactSizeIterator for Attributes<'_> {}
 
 /// What an item of a walk by name is, by the numbers of `enum neli_kind` of `neli.h`.
 #[derive(Clone, Copy, Debug, PartialEq, Eq)]
@@ -370,10 +396,10 @@ impl Kind {
 /// An attribute of a message by name; or a hop, or what is left behind the attributes of a list.
 #[derive(Clone, Debug)]
 pub struct Attribute<'s> {
-    message: Message<'s>,
-    index: usize,
     named: Named,
     path: String,
+    value: String,
+    payload: &'s [u8],
 }
 
 impl<'s> Attribute<'s> {
@@ -404,16 +430,11 @@ impl<'s> Attribute<'s> {
 
     /// Its payload.
     pub fn payload(&self) -> &'s [u8] {
-        let (start, length) = (self.named.payload, self.named.payload_length);
-        self.message.sought.bytes.get(start..).and_then(|it| it.get(..length)).unwrap_or_default()
+        self.payload
     }
 
     /// Its value in JSON: by what its row says that it is, or else its bytes.
-    pub fn value(&self) -> Result<String, Refusal> {
-        let mut tables = self.message.schema.tables();
-        match written(|out, size| tables.value_json(&self.message.sought, self.index, out, size)) {
-            (ffi::ITEM, value) => Ok(value),
-            (code, _) => Err(refused(code)),
-        }
+    pub fn value(&self) -> &str {
+        &self.value
     }
 }

@@ -13,6 +13,7 @@ use neli::schema::{Kind, Schema, SchemaError};
 use neli::simulator::{Kernel, Request};
 use neli::types::Buffer;
 use std::error::Error;
+use std::time::Instant;
 
 /// An attribute with its padding.
 fn attribute(number: u16, payload: &[u8]) -> Vec<u8> {
@@ -48,7 +49,7 @@ fn each_attribute_has_its_path_its_place_and_its_value() -> Result<(), Box<dyn E
     let schema = Schema::built_in()?;
     let bytes = request(&1500u32.to_ne_bytes())?;
     let message = schema.message(NlFamily::Route, &bytes)?;
-    let attributes = message.attributes().collect::<Result<Vec<_>, _>>()?;
+    let attributes: Vec<_> = message.attributes()?.collect();
     let paths: Vec<_> = attributes.iter().map(|it| (it.path(), it.name(), it.depth())).collect();
     let wanted = [
         ("IFLA_IFNAME", "IFLA_IFNAME", 1),
@@ -59,7 +60,7 @@ fn each_attribute_has_its_path_its_place_and_its_value() -> Result<(), Box<dyn E
     assert_eq!(paths, wanted);
     let payloads: Vec<_> = attributes.iter().map(|it| it.payload()).collect();
     assert_eq!((payloads[0], payloads[1], payloads[3]), (&b"one\0"[..], &b"\xdc\x05\0\0"[..], &b"veth\0"[..]));
-    assert_eq!((attributes[0].value()?, attributes[1].value()?), ("\"one\"".to_owned(), "1500".to_owned()));
+    assert_eq!((attributes[0].value(), attributes[1].value()), ("\"one\"", "1500"));
     assert_eq!((attributes[2].kind(), attributes[1].number()), (Kind::NEST, u16::from(Ifla::Mtu)));
     assert_eq!(message.check(), Ok(()));
     let json = message.to_json()?;
@@ -68,6 +69,36 @@ fn each_attribute_has_its_path_its_place_and_its_value() -> Result<(), Box<dyn E
     let text = message.to_string();
     assert!(text.starts_with("RTM_NEWLINK ") && text.contains("  IFLA_MTU 1500\n"), "{text}");
     assert_eq!(schema.datagram_text(NlFamily::Route, &bytes)?, text);
+    Ok(())
+}
+
+/// The seconds that reading all attributes of a link takes, of which it has so many: the least of some runs.
+fn time_of(schema: &Schema, attributes: usize) -> Result<f64, Box<dyn Error>> {
+    let mut body = vec![0; 16];
+    for _ in 0..attributes {
+        body.extend(attribute(u16::from(Ifla::Mtu), &1500u32.to_ne_bytes()));
+    }
+    let payload = NlPayload::Payload(Buffer::from(body));
+    let mut bytes = Vec::new();
+    NlmsghdrBuilder::default().nl_type(Rtm::Newlink).nl_payload(payload).build()?.to_bytes(&mut bytes)?;
+    let message = schema.message(NlFamily::Route, &bytes)?;
+    let mut least = f64::MAX;
+    for _ in 0..20 {
+        let begin = Instant::now();
+        let read = message.attributes()?.filter(|it| it.path() == "IFLA_MTU" && it.value() == "1500").count();
+        least = least.min(begin.elapsed().as_secs_f64());
+        assert_eq!(read, attributes);
+    }
+    Ok(least)
+}
+
+/// A hundred times the attributes take at most a thousand times the time: a walk anew for each takes ten thousand.
+#[test]
+fn a_long_message_is_walked_once() -> Result<(), Box<dyn Error>> {
+    let schema = Schema::built_in()?;
+    let (few, many) = (time_of(&schema, 100)?, time_of(&schema, 10000)?);
+    println!("100 attributes: {few} s, 10000: {many} s");
+    assert!(many <= 1000.0 * few, "{few} s, {many} s");
     Ok(())
 }
 
@@ -95,7 +126,7 @@ fn a_refusal_names_the_attribute() -> Result<(), Box<dyn Error>> {
     let Some(Err(RouterError::Nlmsgerr(answer))) = replies.next() else { panic!("it is refused") };
     let refusal = schema.message(NlFamily::Route, &sent)?.refusal(&answer);
     assert_eq!((refusal.errno(), refusal.attribute()), (95, Some("IFLA_LINKINFO.IFLA_INFO_KIND")));
-    let line = "Operation not supported: Unknown device type, at IFLA_LINKINFO.IFLA_INFO_KIND";
+    let line = "EOPNOTSUPP: Operation not supported: Unknown device type: IFLA_LINKINFO.IFLA_INFO_KIND";
     assert_eq!(refusal.to_string(), line);
     Ok(())
 }
@@ -104,11 +135,11 @@ fn a_refusal_names_the_attribute() -> Result<(), Box<dyn Error>> {
 fn tables_of_a_programs_own_are_added() -> Result<(), Box<dyn Error>> {
     let schema = Schema::empty()?;
     let bytes = request(&1500u32.to_ne_bytes())?;
-    assert_eq!(schema.message(NlFamily::Route, &bytes)?.attributes().count(), 0);
+    assert_eq!(schema.message(NlFamily::Route, &bytes)?.attributes()?.len(), 0);
     schema
         .add("family own 0\nmessage OWN_NEW 16 nest=own after=head\nstruct head 16\nset own\nattr OWN_MTU 4 u32\n")?;
     let message = schema.message(NlFamily::Route, &bytes)?;
-    let paths = message.attributes().map(|it| it.map(|it| it.path().to_owned())).collect::<Result<Vec<_>, _>>()?;
+    let paths: Vec<_> = message.attributes()?.map(|it| it.path().to_owned()).collect();
     assert_eq!(paths, ["3", "OWN_MTU", "18"]);
     let bad = schema.add("set own\n").expect_err("a family comes first");
     assert!(matches!(bad, SchemaError::Line { number: 1, .. }), "{bad}");
@@ -125,7 +156,7 @@ fn threads_share_a_schema() -> Result<(), Box<dyn Error>> {
             scope.spawn(|| {
                 for _ in 0..100 {
                     let message = schema.message(NlFamily::Route, &bytes).expect("is a message");
-                    assert_eq!(message.attributes().count(), 4);
+                    assert_eq!(message.attributes().expect("is walked").len(), 4);
                 }
             });
         }

@@ -12,6 +12,10 @@ pub struct Named {
     pub depth: u8,
     pub payload: usize,
     pub payload_length: usize,
+    pub path: usize,
+    pub path_length: usize,
+    pub value: usize,
+    pub value_length: usize,
 }
 
 /// `struct neli_tables`.
@@ -81,25 +85,15 @@ unsafe extern "C" {
         room: usize,
         size: *mut usize,
     ) -> i32;
-    fn neli_c_named_item(
+    fn neli_c_named_items(
         tables: *mut RawTables,
         protocol: u16,
         bytes: *const u8,
         length: usize,
         message: *const Message,
-        index: usize,
-        named: *mut Named,
-        out: *mut u8,
-        room: usize,
-        size: *mut usize,
-    ) -> i32;
-    fn neli_c_value_json(
-        tables: *mut RawTables,
-        protocol: u16,
-        bytes: *const u8,
-        length: usize,
-        message: *const Message,
-        index: usize,
+        items: *mut Named,
+        item_room: usize,
+        count: *mut usize,
         out: *mut u8,
         room: usize,
         size: *mut usize,
@@ -233,26 +227,20 @@ impl Tables {
         unsafe { neli_c_datagram_json(&mut self.raw, protocol, bytes.as_ptr(), length, at, room, size) }
     }
 
-    /// An item of a walk by name, and its path.
-    pub fn named_item(
+    /// The items of a message by name, and their texts; how many there are, and how long the texts.
+    pub fn named_items(
         &mut self,
         of: &Sought<'_>,
-        index: usize,
-        named: &mut Named,
+        items: &mut [Named],
+        count: &mut usize,
         out: &mut [u8],
         size: &mut usize,
     ) -> i32 {
         let (bytes, length, at, room) = (of.bytes.as_ptr(), of.bytes.len(), out.as_mut_ptr(), out.len());
+        let (to, item_room) = (items.as_mut_ptr(), items.len());
         let (raw, message) = (&mut self.raw, &of.message);
-        // SAFETY: as for `message_text`.
-        unsafe { neli_c_named_item(raw, of.protocol, bytes, length, message, index, named, at, room, size) }
-    }
-
-    /// The value of an item of a walk by name.
-    pub fn value_json(&mut self, of: &Sought<'_>, index: usize, out: &mut [u8], size: &mut usize) -> i32 {
-        let (bytes, length, at, room) = (of.bytes.as_ptr(), of.bytes.len(), out.as_mut_ptr(), out.len());
-        // SAFETY: as for `message_text`.
-        unsafe { neli_c_value_json(&mut self.raw, of.protocol, bytes, length, &of.message, index, at, room, size) }
+        // SAFETY: as for `message_text`, of `items` too.
+        unsafe { neli_c_named_items(raw, of.protocol, bytes, length, message, to, item_room, count, at, room, size) }
     }
 
     /// The first violation of a message.
