@@ -1,3 +1,4 @@
 pub mod laws
+pub mod Gauge
 pub mod Probe
 pub mod Watch

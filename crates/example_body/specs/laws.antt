@@ -1,2 +1,3 @@
+pub mod Gauge
 pub mod Probe
 pub mod Watch

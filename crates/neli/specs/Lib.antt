@@ -10,6 +10,7 @@ pub use Rattle.neli_consts_flags.specs as consts_flags
 pub use Rattle.neli_consts_linux.specs as consts_linux
 pub use Rattle.neli_consts_system.specs as consts_system
 pub use Rattle.neli_rtnl.specs as rtnl
+pub use Rattle.neli_rtnl_linux.specs as rtnl_linux
 pub use Rattle.neli_payloads.specs as payloads
 pub use Rattle.neli_texts.specs as texts
 pub use Rattle.neli_genl.specs as genl

@@ -20,32 +20,25 @@
 //! # Link, address and route tools
 //!
 //! [`rtnl`] has the bodies of links, addresses, neighbours, routes, queues and rules, each with a builder, and their
-//! attributes; [`consts::rtnl`] the values of their fields. This sets a link up:
+//! attributes; [`consts::rtnl`] the values of their fields; [`rtnl::linux`] and [`consts::linux`] what newer kernels
+//! added. This sets a link up:
 //!
 //! ```
 //! use neli::consts::nl::NlmF;
 //! use neli::consts::rtnl::{RtAddrFamily, Rtm};
-//! use neli::nl::NlPayload;
-//! use neli::router::synchronous::Reply;
-//! use neli::rtnl::{Ifinfomsg, IfinfomsgBuilder};
-//! use neli::utils::Groups;
+//! use neli::rtnl::IfinfomsgBuilder;
+//! use neli::short::{Client, Next};
 //!
 //! let up = IfinfomsgBuilder::default()
 //!     .ifi_family(RtAddrFamily::Unspecified)
 //!     .ifi_index(3)
 //!     .up()
 //!     .build(alloc)?;
-//! let body = NlPayload::Payload(up);
-//! let (request, mut handle) = router.send::<_, _, Rtm, Ifinfomsg>(
-//!     alloc,
-//!     Rtm::Setlink,
-//!     NlmF::ACK,
-//!     body,
-//! )?;
-//! // Your link sends `request`, and `datagram` comes back.
-//! router.processing_loop(datagram, &Groups::empty(alloc))?;
-//! let answer = router.next_typed::<Rtm, Ifinfomsg, _, _>(alloc, &mut handle)?;
-//! let is_up = matches!(answer, Reply::Item(Ok(_)));
+//! let mut request = router.request(alloc, Rtm::Setlink, NlmF::ACK, up)?;
+//! // Your link sends `request.bytes`, and `datagram` comes back.
+//! router.receive_for(alloc, datagram, &[])?;
+//! let answer = router.next(alloc, &mut request.handle)?;
+//! let is_up = matches!(answer, Next::Message(_)); // what the kernel refused is an error
 //! ```
 //!
 //! # A client of generic netlink
@@ -56,31 +49,21 @@
 //!
 //! ```
 //! use neli::consts::nl::NlmF;
-//! use neli::genl::{Genlmsghdr, GenlmsghdrBuilder};
-//! use neli::nl::NlPayload;
-//! use neli::router::synchronous::{Reply, resolve_genl_family};
-//! use neli::utils::Groups;
+//! use neli::genl::GenlmsghdrBuilder;
+//! use neli::router::synchronous::resolve_genl_family;
+//! use neli::short::Client;
 //!
 //! let (_request, mut handle) = router.request_genl_family(alloc, "tcp_metrics")?;
 //! // Your link sends the request, and `datagram` comes back.
-//! router.processing_loop(datagram, &Groups::empty(alloc))?;
-//! let mut items = Vec::new(alloc);
-//! if let Reply::Item(item) = router.next_typed(alloc, &mut handle)? {
-//!     items.push(item)?;
-//! }
+//! router.receive_for(alloc, datagram, &[])?;
+//! let items = router.read_dump(alloc, &mut handle)?.items;
 //! let family = resolve_genl_family(alloc, "tcp_metrics", items)?;
 //! // Command 1 of the family, whose number is the type of the message.
 //! let command = GenlmsghdrBuilder::<u8, u16>::default()
 //!     .cmd(1)
 //!     .version(1)
 //!     .build(alloc)?;
-//! let body = NlPayload::Payload(command);
-//! let (request, _handle) = router.send::<_, _, u16, Genlmsghdr<u8, u16>>(
-//!     alloc,
-//!     family,
-//!     NlmF::DUMP,
-//!     body,
-//! )?;
+//! let request = router.request(alloc, family, NlmF::DUMP, command)?;
 //! ```
 //!
 //! # Process events

@@ -1,5 +1,6 @@
 //! Routing netlink: the bodies of links, addresses, neighbours, routes, queues and rules, their attributes, and the
-//! payloads of these: hardware addresses, counters, cache entries, next hops and settings of virtual functions.
+//! payloads of these: hardware addresses, counters, cache entries, next hops and settings of virtual functions. The
+//! module [`linux`] has bodies and payloads that the Rust crate lacks.
 
 pub use neli_attr::{RtAttrHandle, Rtattr, RtattrBuilder, RtattrBuilderError};
 pub use neli_payloads::{
@@ -7,9 +8,9 @@ pub use neli_payloads::{
     RtaCacheinfo, VfGuid, VfMac, VfRate, VfSetting, VfVlan, VfVlanInfo,
 };
 pub use neli_rtnl::{
-    Fibmsg, FibmsgBuilder, FibmsgBuilderError, Ifaddrmsg, IfaddrmsgBuilder, IfaddrmsgBuilderError,
-    Ifinfomsg, IfinfomsgBuilder, IfinfomsgBuilderError, IflaVlanFlags, IflaVlanFlagsBuilder,
-    IflaVlanFlagsBuilderError, IflaVlanQosMapping, IflaVlanQosMappingBuilder,
+    Body, Fibmsg, FibmsgBuilder, FibmsgBuilderError, Fields, Ifaddrmsg, IfaddrmsgBuilder,
+    IfaddrmsgBuilderError, Ifinfomsg, IfinfomsgBuilder, IfinfomsgBuilderError, IflaVlanFlags,
+    IflaVlanFlagsBuilder, IflaVlanFlagsBuilderError, IflaVlanQosMapping, IflaVlanQosMappingBuilder,
     IflaVlanQosMappingBuilderError, NdaCacheinfo, NdaCacheinfoBuilder, NdaCacheinfoBuilderError,
     Ndmsg, NdmsgBuilder, NdmsgBuilderError, Rtgenmsg, RtgenmsgBuilder, RtgenmsgBuilderError, Rtmsg,
     RtmsgBuilder, RtmsgBuilderError, Tcmsg, TcmsgBuilder, TcmsgBuilderError,
@@ -25,10 +26,20 @@ pub mod laws {
         walk_gives_what_is_left,
     };
     pub use neli_rtnl::laws::{
-        attributes_begin_after_the_fields, bodies_are_read, bodies_are_written, equality_of_links,
-        equality_of_routes, fibmsg_is_read_back, ifaddrmsg_is_read_back, ifinfomsg_is_read_back,
+        attributes_begin_after_the_fields, bodies_are_read, bodies_are_written,
+        bodies_take_memory_for_attributes, equality_of_links, equality_of_routes,
+        fibmsg_is_read_back, ifaddrmsg_is_read_back, ifinfomsg_is_read_back,
         ifla_vlan_flags_is_read_back, ifla_vlan_qos_mapping_is_read_back,
         nda_cacheinfo_is_read_back, ndmsg_is_read_back, payloads_are_their_fields,
         rtgenmsg_is_read_back, rtmsg_is_read_back, tcmsg_is_read_back,
+    };
+}
+
+/// Bodies and payloads that the Rust crate lacks: next hops, the multicast groups of bridges, the statistics of links,
+/// the counters and the handles of queueing disciplines.
+pub mod linux {
+    pub use neli_rtnl_linux::{
+        BrPortMsg, BrPortMsgHeader, GnetStatsBasic, GnetStatsQueue, IfStatsMsg, IfStatsMsgHeader,
+        Nhmsg, NhmsgHeader, TcHandle, laws,
     };
 }

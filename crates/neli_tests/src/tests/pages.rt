@@ -2,11 +2,11 @@
 
 use super::support::{assert_is, assert_spelled, assert_written, bytes_of};
 use neli::consts::genl::{CtrlAttr, CtrlAttrMcastGrp, Index, NlAttrType};
+use neli::consts::nl::GenlId;
 use neli::consts::rtnl::Ifla;
 use neli::genl::{AttrType, Nlattr, NlattrBuilder, NlattrBuilderError};
 use neli::lent::LentRtattrs;
 use neli::nl::Nlmsghdr;
-use neli::router::synchronous::{NlRouter, NlRouterReceiverHandle};
 use neli::rtnl::Ifinfomsg;
 use neli::types::Buffer;
 use neli::utils::Groups;
@@ -94,45 +94,23 @@ fn first_reply(
     port: u32,
     payload: Buffer,
     datagram: &[u8],
-) -> Result<(Vec<u8>, Option<Nlmsghdr<u16, Buffer>>), Fail> {
+) -> Result<(Vec<u8>, Option<Nlmsghdr<GenlId, Buffer>>), Fail> {
     use neli::consts::nl::{GenlId, NlmF};
-    use neli::nl::NlPayload;
-    use neli::router::synchronous::{Log, NlRouter, Reply};
-    use neli::types::Buffer;
-    use neli::utils::Groups;
+    use neli::router::synchronous::{Log, NlRouter};
+    use neli::short::{Client, Next};
 
     let (mut router, _multicast) = NlRouter::<Log>::new(alloc, port);
-    let body = NlPayload::Payload(payload);
-    let (request, mut handle) = router.send::<_, _, u16, Buffer>(
-        alloc,
-        GenlId::Ctrl,
-        NlmF::ACK,
-        body,
-    )?;
-    let reply = reply_in(alloc, &mut router, handle, datagram)?;
-    Ok((request, reply))
-}
-
-/// The first reply of the datagram: the last lines of the example.
-fn reply_in(
-    alloc: Global,
-    router: &mut NlRouter,
-    mut handle: NlRouterReceiverHandle<u16, Buffer>,
-    datagram: &[u8],
-) -> Result<Option<Nlmsghdr<u16, Buffer>>, Fail> {
-    use neli::router::synchronous::Reply;
-    use neli::utils::Groups;
-
-    // Your link sends `request`, and `datagram` comes back.
-    router.processing_loop(datagram, &Groups::empty(alloc))?;
-    let reply = match router.next_typed::<u16, Buffer, _, _>(alloc, &mut handle)? {
-        Reply::Item(Ok(message)) => Some(message), // the next reply
-        Reply::Item(Err(error)) => return Err(error.into()), // an error, a stray, a fault: the last item
-        Reply::End => None, // no item comes any more
-        Reply::Waits => None, // none is here yet
+    let mut request = router.request(alloc, GenlId::Ctrl, NlmF::ACK, payload)?;
+    // Your link sends `request.bytes`, and `datagram` comes back.
+    router.receive_for(alloc, datagram, &[])?;
+    // An error of the kernel, a stray or a fault is returned as the error.
+    let reply = match router.next(alloc, &mut request.handle)? {
+        Next::Message(message) => Some(message), // the next reply
+        Next::End => None, // no item comes any more
+        Next::Waits => None, // none is here yet
     };
-    router.close(handle);
-    Ok(reply)
+    router.close(request.handle);
+    Ok((request.bytes, reply))
 }
 
 // The controller receives a request for `nlctrl`, and returns the number 16.
@@ -149,8 +127,8 @@ fn the_first_reply_of_a_datagram(rt: HostRuntime) -> Result<(), Fail> {
     let want = "20000000100005000000000000000000030200000b0002006e6c6374726c0000";
     assert_spelled(&rt, alloc, &request, want);
     let reply = reply.expect(&rt, "a reply");
-    let told = reply.get_payload().map(|body| body.as_ref());
-    assert_is(&rt, told, datagram.get(16..));
+    let body = reply.get_payload().map(|body| body.as_ref());
+    assert_is(&rt, body, datagram.get(16..));
     Ok(())
 }
 

@@ -3,62 +3,36 @@
 use super::support::{assert_is, assert_spelled, bytes_of};
 use neli::consts::nl::NlmF;
 use neli::consts::rtnl::{Ifa, RtAddrFamily, RtScope, Rtm};
-use neli::err::RouterError;
-use neli::nl::NlPayload;
-use neli::router::synchronous::{Log, NlRouter, Reply};
-use neli::rtnl::{Ifaddrmsg, IfaddrmsgBuilder};
-use neli::utils::Groups;
+use neli::router::synchronous::{Log, NlRouter};
+use neli::rtnl::IfaddrmsgBuilder;
+use neli::short::{Client, Lookup, Next};
 use std::alloc::Global;
 use std::net::Ipv4Addr;
 use std::test::Fail;
 
-/// A refusal of the link, the router or a builder.
-type Trouble = RouterError<Rtm, Ifaddrmsg>;
-
-/// Reads the answers to the request.
-type Handle = neli::router::synchronous::NlRouterReceiverHandle<Rtm, Ifaddrmsg>;
-
-/// A request for the addresses of a link, and the first of them in the kernel's answer, which the function below reads.
+/// A request for the addresses of a link, and the first of them in the kernel's answer.
 fn first_address(
     alloc: Global,
     port: u32,
     datagram: &[u8],
-) -> Result<(Vec<u8>, Option<Ipv4Addr>), Trouble> {
+) -> Result<(Vec<u8>, Option<Ipv4Addr>), Fail> {
     let (mut router, _multicast) = NlRouter::<Log>::new(alloc, port);
-    let asked = IfaddrmsgBuilder::default()
+    let of_link = IfaddrmsgBuilder::default()
         .ifa_family(RtAddrFamily::Inet)
         .ifa_prefixlen(0)
         .ifa_scope(RtScope::Universe)
         .ifa_index(3)
         .build(alloc)?;
-    let body = NlPayload::Payload(asked);
-    let (request, mut handle) = router.send::<_, _, Rtm, Ifaddrmsg>(
-        alloc,
-        Rtm::Getaddr,
-        NlmF::DUMP,
-        body,
-    )?;
-    let address = first_answer(alloc, &mut router, handle, datagram)?;
-    Ok((request, address))
-}
-
-/// The first address in the kernel's answer.
-fn first_answer(
-    alloc: Global,
-    router: &mut NlRouter,
-    mut handle: Handle,
-    datagram: &[u8],
-) -> Result<Option<Ipv4Addr>, Trouble> {
-    // Your link sends `request`, and `datagram` comes back.
-    router.processing_loop(datagram, &Groups::empty(alloc))?;
+    let mut request = router.request(alloc, Rtm::Getaddr, NlmF::DUMP, of_link)?;
+    // Your link sends `request.bytes`, and `datagram` comes back.
+    router.receive_for(alloc, datagram, &[])?;
     let mut address: Option<Ipv4Addr> = None;
-    if let Reply::Item(item) = router.next_typed::<Rtm, Ifaddrmsg, _, _>(alloc, &mut handle)? {
-        if let Some(body) = item?.get_payload() {
-            let attrs = body.rtattrs().get_attr_handle();
-            address = Some(attrs.get_attr_payload_as(alloc, Ifa::Local)?); // 192.0.2.1
+    if let Next::Message(message) = router.next(alloc, &mut request.handle)? {
+        if let Some(body) = message.get_payload() {
+            address = body.rtattrs().get(alloc, Ifa::Local)?; // 192.0.2.1
         }
     }
-    Ok(address)
+    Ok((request.bytes, address))
 }
 
 // Recorded from Linux 6.18, but for the number, which was 1179: one of the addresses of veth0.

@@ -5,7 +5,7 @@ use neli::connector::CnMsg;
 use neli::consts::connector::ProcCnMcastOp;
 use neli::consts::rtnl::{RtAddrFamily, Rtm};
 use neli::nl::Nlmsghdr;
-use neli::router::synchronous::{Log, NlRouter, NlRouterReceiverHandle};
+use neli::router::synchronous::{Log, NlRouter};
 use neli::rtnl::{Ifinfomsg, IfinfomsgBuilder};
 use std::alloc::Global;
 use std::test::Fail;
@@ -14,42 +14,20 @@ use std::test::Fail;
 fn set_up(alloc: Global, router: &mut NlRouter, datagram: &[u8]) -> Result<(Vec<u8>, bool), Fail> {
     use neli::consts::nl::NlmF;
     use neli::consts::rtnl::{RtAddrFamily, Rtm};
-    use neli::nl::NlPayload;
-    use neli::router::synchronous::Reply;
-    use neli::rtnl::{Ifinfomsg, IfinfomsgBuilder};
-    use neli::utils::Groups;
+    use neli::rtnl::IfinfomsgBuilder;
+    use neli::short::{Client, Next};
 
     let up = IfinfomsgBuilder::default()
         .ifi_family(RtAddrFamily::Unspecified)
         .ifi_index(3)
         .up()
         .build(alloc)?;
-    let body = NlPayload::Payload(up);
-    let (request, mut handle) = router.send::<_, _, Rtm, Ifinfomsg>(
-        alloc,
-        Rtm::Setlink,
-        NlmF::ACK,
-        body,
-    )?;
-    let is_up = is_set_up(alloc, router, handle, datagram)?;
-    Ok((request, is_up))
-}
-
-/// Whether the kernel did it: the last lines of the example.
-fn is_set_up(
-    alloc: Global,
-    router: &mut NlRouter,
-    mut handle: NlRouterReceiverHandle<Rtm, Ifinfomsg>,
-    datagram: &[u8],
-) -> Result<bool, Fail> {
-    use neli::router::synchronous::Reply;
-    use neli::utils::Groups;
-
-    // Your link sends `request`, and `datagram` comes back.
-    router.processing_loop(datagram, &Groups::empty(alloc))?;
-    let answer = router.next_typed::<Rtm, Ifinfomsg, _, _>(alloc, &mut handle)?;
-    let is_up = matches!(answer, Reply::Item(Ok(_)));
-    Ok(is_up)
+    let mut request = router.request(alloc, Rtm::Setlink, NlmF::ACK, up)?;
+    // Your link sends `request.bytes`, and `datagram` comes back.
+    router.receive_for(alloc, datagram, &[])?;
+    let answer = router.next(alloc, &mut request.handle)?;
+    let is_up = matches!(answer, Next::Message(_)); // what the kernel refused is an error
+    Ok((request.bytes, is_up))
 }
 
 // Recorded from Linux 6.18: veth0 is set up, acknowledged.
@@ -73,57 +51,37 @@ fn a_link_tool(rt: HostRuntime) -> Result<(), Fail> {
 /// Resolves a family: its number, and a request to it.
 fn resolve(alloc: Global, router: &mut NlRouter, datagram: &[u8]) -> Result<(u16, Vec<u8>), Fail> {
     use neli::consts::nl::NlmF;
-    use neli::genl::{Genlmsghdr, GenlmsghdrBuilder};
-    use neli::nl::NlPayload;
-    use neli::router::synchronous::{Reply, resolve_genl_family};
-    use neli::utils::Groups;
+    use neli::genl::GenlmsghdrBuilder;
+    use neli::router::synchronous::resolve_genl_family;
+    use neli::short::Client;
 
     let (_request, mut handle) = router.request_genl_family(alloc, "tcp_metrics")?;
     // Your link sends the request, and `datagram` comes back.
-    router.processing_loop(datagram, &Groups::empty(alloc))?;
-    let mut items = Vec::new(alloc);
-    if let Reply::Item(item) = router.next_typed(alloc, &mut handle)? {
-        items.push(item)?;
-    }
+    router.receive_for(alloc, datagram, &[])?;
+    let items = router.read_dump(alloc, &mut handle)?.items;
     let family = resolve_genl_family(alloc, "tcp_metrics", items)?;
-    let request = command(alloc, router, family)?;
-    Ok((family, request))
-}
-
-/// A request to the family: the last lines of the example.
-fn command(alloc: Global, router: &mut NlRouter, family: u16) -> Result<Vec<u8>, Fail> {
-    use neli::consts::nl::NlmF;
-    use neli::genl::{Genlmsghdr, GenlmsghdrBuilder};
-    use neli::nl::NlPayload;
-
     // Command 1 of the family, whose number is the type of the message.
     let command = GenlmsghdrBuilder::<u8, u16>::default()
         .cmd(1)
         .version(1)
         .build(alloc)?;
-    let body = NlPayload::Payload(command);
-    let (request, _handle) = router.send::<_, _, u16, Genlmsghdr<u8, u16>>(
-        alloc,
-        family,
-        NlmF::DUMP,
-        body,
-    )?;
-    Ok(request)
+    let request = router.request(alloc, family, NlmF::DUMP, command)?;
+    Ok((family, request.bytes))
 }
 
-// Recorded from Linux 6.18: the controller tells of `tcp_metrics`, whose number was 27.
+// Recorded from Linux 6.18: the controller returns the number of `tcp_metrics`, 27.
 #[test]
 fn a_generic_client(rt: HostRuntime) -> Result<(), Fail> {
     let alloc = rt.alloc();
     let (mut router, _multicast) = NlRouter::<Log>::new(alloc, 17225);
     router.set_next_seq(1009);
-    let told = bytes_of(
+    let found = bytes_of(
         &rt,
         alloc,
         "7000000010000000f10300004943000001020000100002007463705f6d65747269637300060001001b000000080003000100000008000400000000000800\
         05000d0000002c000600140001000800010001000000080002000e000000140002000800010002000000080002000b000000",
     );
-    let (family, request) = resolve(alloc, &mut router, &told)?;
+    let (family, request) = resolve(alloc, &mut router, &found)?;
     assert_spelled(
         &rt,
         alloc,
