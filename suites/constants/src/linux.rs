@@ -3,9 +3,9 @@
 use crate::rows::write_rows;
 use neli_consts_linux::{
     CtrlAttr, CtrlAttrOp, CtrlAttrPolicy, CtrlCmd, IflaBond, IflaBondAdInfo, IflaBondSlave, IflaBr,
-    IflaBrport, IflaMacvlan, IflaVf, IflaVxlan, NetlinkAttributeType, NexthopGrpType, Nha,
-    NhaGroupStats, NhaGroupStatsEntry, NhaResBucket, NhaResGroup, NlPolicyTypeAttr, NlmsgerrAttr,
-    Rtax, Rtnlgrp,
+    IflaBrport, IflaMacvlan, IflaStats, IflaVf, IflaVxlan, Mdba, NetlinkAttributeType,
+    NexthopGrpType, Nha, NhaGroupStats, NhaGroupStatsEntry, NhaResBucket, NhaResGroup,
+    NlPolicyTypeAttr, NlmsgerrAttr, Rtax, Rtnlgrp, TcaStats,
 };
 use std::io::{self, Write};
 
@@ -15,6 +15,7 @@ pub fn write_tables(out: &mut impl Write) -> io::Result<()> {
     write_next_hops(out)?;
     write_links(out)?;
     write_virtual_functions(out)?;
+    write_statistics(out)?;
     write_controller(out)?;
     write_policies(out)
 }
@@ -104,6 +105,23 @@ fn write_links(out: &mut impl Write) -> io::Result<()> {
 /// Virtual functions.
 fn write_virtual_functions(out: &mut impl Write) -> io::Result<()> {
     write_rows(out, "linux::IflaVf", 0..=u16::MAX, IflaVf::is_unrecognized)
+}
+
+/// Statistics, and the groups of bridges.
+fn write_statistics(out: &mut impl Write) -> io::Result<()> {
+    write_rows(
+        out,
+        "linux::IflaStats",
+        0..=u16::MAX,
+        IflaStats::is_unrecognized,
+    )?;
+    write_rows(
+        out,
+        "linux::TcaStats",
+        0..=u16::MAX,
+        TcaStats::is_unrecognized,
+    )?;
+    write_rows(out, "linux::Mdba", 0..=u16::MAX, Mdba::is_unrecognized)
 }
 
 /// The controller.

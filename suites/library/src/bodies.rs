@@ -4,7 +4,7 @@
 //! read by pyroute2.
 //!
 //! - [`builders`]: results of builders.
-//! - [`links`], [`routes`], [`generic`]: recorded bodies, a file a family.
+//! - [`links`], [`routes`], [`generic`]: recorded bodies, a file a family. [`linux`]: those of newer kernels.
 //! - [`cuts`]: bodies at each length, and wrong lengths of attributes.
 //! - [`laws`]: that each law can be called.
 //! - [`printed`]: the `Debug` output of the bodies of routing.
@@ -15,6 +15,7 @@ mod cuts;
 mod generic;
 mod laws;
 mod links;
+mod linux;
 mod printed;
 mod routes;
 mod support;

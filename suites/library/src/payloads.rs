@@ -1,4 +1,5 @@
-//! Tests of `neli_payloads`: hardware addresses, counters, cache entries, next hops and virtual functions.
+//! Tests of payloads: hardware addresses, counters, cache entries, next hops and virtual functions of `neli_payloads`,
+//! queues and their handles of `neli_rtnl_linux`.
 //!
 //! The bytes are payloads of recorded datagrams, named by their numbers (docs/RECORDINGS.md), or were made by hand.
 //! Their expected values were counted by hand from the structs of linux/if_link.h, linux/if_addr.h and
@@ -8,6 +9,7 @@ mod addresses;
 mod cache_entries;
 mod counters;
 mod next_hops;
+mod queues;
 mod support;
 mod texts;
 mod virtual_functions;

@@ -17,7 +17,8 @@
 //! - [`conversations`]: conversations with a kernel, as they were recorded.
 //! - [`random`]: scripts that a generator makes, over both stores. [`entries`]: what the log keeps.
 //! - [`out_of_memory`]: each allocation of a run refused in turn. [`limited`]: a store with a limit.
-//! - [`verdicts`]: verdicts on answers, requests that are given up, and listening that continues.
+//! - [`verdicts`]: verdicts on answers, requests that are given up, and listening that continues. [`short`]: the short
+//!   calls.
 //! - [`laws`]: the laws of runs, called. [`support`]: shared parts of the tests.
 
 mod answers;
@@ -37,6 +38,7 @@ mod refused_bodies;
 mod requests;
 mod resolvers;
 mod script;
+mod short;
 mod steps;
 mod strays;
 mod support;

@@ -156,6 +156,17 @@ const TEXT: [Row; 4] = [
     ),
 ];
 
+/// A link whose name for people (`IFLA_IFALIAS`) has a direction of writing, U+202E, and the control characters U+001B,
+/// U+0085 and U+007F.
+const ALIAS: &str = "3400000010000000000000000000000000000000000000000000000000000000\
+    1100140061e280ae621b5b324ac2857f00000000";
+
+/// An answer with the code -4095, past which the kernel has none (`MAX_ERRNO` of `linux/err.h`): no error has it.
+const NAMELESS: &str = "1400000002000000000000000000000001f0ffff";
+
+/// An answer with `ENOTSUPP` of the kernel's own `include/linux/errno.h`, which no header for programs has.
+const NOT_SUPPORTED: &str = "14000000020000000000000000000000f4fdffff";
+
 /// Asserts what datagrams are printed as by the built-in tables.
 fn assert_printed(
     rt: &impl std::process::Abort,
@@ -195,4 +206,49 @@ fn messages_are_objects(rt: HostRuntime) -> Result<(), Fail> {
 #[test]
 fn messages_are_lines(rt: HostRuntime) -> Result<(), Fail> {
     assert_printed(&rt, rt.alloc(), &TEXT, false)
+}
+
+#[test]
+fn a_terminal_gets_no_control_characters_but_directions(rt: HostRuntime) -> Result<(), Fail> {
+    let text = "RTM_NEWLINK length 52 flags 0 seq 0 port 0\n  \
+        ifinfomsg ifi_family 0 ifi_type netrom ifi_index 0 ifi_flags 0 ifi_change 0\n  \
+        IFLA_IFALIAS \"a\u{202e}b\\u001b[2J\\u0085\\u007f\"\n";
+    let json =
+        "{\"protocol\":0,\"type\":16,\"name\":\"RTM_NEWLINK\",\"length\":52,\"flags\":[],\"seq\":0,\
+        \"port\":0,\"structure\":\"ifinfomsg\",\"fields\":{\"ifi_family\":0,\"ifi_type\":\"netrom\",\
+        \"ifi_index\":0,\"ifi_flags\":[],\"ifi_change\":0},\"attributes\":[{\"number\":20,\
+        \"name\":\"IFLA_IFALIAS\",\"value\":\"a\u{202e}b\\u001b[2J\\u0085\\u007f\"}]}\n";
+    assert_printed(&rt, rt.alloc(), &[("as text", 0, ALIAS, text)], false)?;
+    assert_printed(&rt, rt.alloc(), &[("as JSON", 0, ALIAS, json)], true)
+}
+
+#[test]
+fn an_error_of_the_kernel_alone_has_its_name(rt: HostRuntime) -> Result<(), Fail> {
+    let text =
+        "NLMSG_ERROR length 20 flags 0 seq 0 port 0\n  error -524 ENOTSUPP Operation is not supported\n";
+    let json =
+        "{\"protocol\":0,\"type\":2,\"name\":\"NLMSG_ERROR\",\"length\":20,\"flags\":[],\"seq\":0,\
+        \"port\":0,\"code\":-524,\"error\":\"ENOTSUPP\",\"meaning\":\"Operation is not supported\"}\n";
+    assert_printed(
+        &rt,
+        rt.alloc(),
+        &[("as text", 0, NOT_SUPPORTED, text)],
+        false,
+    )?;
+    assert_printed(
+        &rt,
+        rt.alloc(),
+        &[("as JSON", 0, NOT_SUPPORTED, json)],
+        true,
+    )
+}
+
+#[test]
+fn an_error_without_a_name_is_its_code(rt: HostRuntime) -> Result<(), Fail> {
+    let text = "NLMSG_ERROR length 20 flags 0 seq 0 port 0\n  code -4095\n";
+    let json =
+        "{\"protocol\":0,\"type\":2,\"name\":\"NLMSG_ERROR\",\"length\":20,\"flags\":[],\"seq\":0,\
+        \"port\":0,\"code\":-4095}\n";
+    assert_printed(&rt, rt.alloc(), &[("as text", 0, NAMELESS, text)], false)?;
+    assert_printed(&rt, rt.alloc(), &[("as JSON", 0, NAMELESS, json)], true)
 }

@@ -125,7 +125,7 @@ const VALUES: [(&str, &[u8], &str, &str); 74] = [
     ),
     ("S8", b"\x80", " -128", "-128"),
     ("S16", b"\xfe\xff", " -2", "-2"),
-    ("S32", b"\x07\0\0\0", " 7", "7"),
+    ("S32", b"\xf9\xff\xff\xff", " -7", "-7"),
     (
         "S64",
         b"\0\0\0\0\0\0\0\x80",
@@ -389,6 +389,38 @@ const LISTS: [(&str, &[u8], &str, &str); 11] = [
     ),
 ];
 
+/// What is kept of a text: each character but a zero at its end, and of a field what stands before its first zero.
+/// Control characters of Unicode (category Cc) are escaped; directions of writing (Bidi_Control) are none.
+const TEXTS: [(&str, &[u8], &str, &str); 6] = [
+    ("TEXT", b"a\0\0", " \"a\\u0000\"", "\"a\\u0000\""),
+    (
+        "TEXT",
+        b"\x7f\xc2\x80\xc2\x9f\xc2\xa0",
+        " \"\\u007f\\u0080\\u009f\u{a0}\"",
+        "\"\\u007f\\u0080\\u009f\u{a0}\"",
+    ),
+    (
+        "TEXT",
+        b"a\xe2\x80\xaeb\xe2\x81\xa6",
+        " \"a\u{202e}b\u{2066}\"",
+        "\"a\u{202e}b\u{2066}\"",
+    ),
+    ("ZTEXT", b"\0\0", " \"\\u0000\"", "\"\\u0000\""),
+    (
+        "STRUCT",
+        b"\x01\0\0\0\x01\x02\0a",
+        " first 1 second 258 name \"\"",
+        "{\"first\":1,\"second\":258,\"name\":\"\"}",
+    ),
+    // A number that is cut off is left out, a text is not.
+    (
+        "STRUCT",
+        b"\x01\0\0\0\x01\x02b",
+        " first 1 second 258 name \"b\"",
+        "{\"first\":1,\"second\":258,\"name\":\"b\"}",
+    ),
+];
+
 /// Payloads of the recorded datagrams 0004 and 0009, by the tables that are built in; with the
 /// values that pyroute2 reads, by their names in `linux/if_addr.h` and `linux/if.h`.
 const RECORDED: [(RoutingTable, &str, &[u8], &str, &str); 9] = [
@@ -635,6 +667,11 @@ fn names_are_escaped(rt: HostRuntime) -> Result<(), Fail> {
         assert_eq!(rt; json.as_str(), wanted_json, "at {name:?}");
     }
     Ok(())
+}
+
+#[test]
+fn texts_are_kept(rt: HostRuntime) -> Result<(), Fail> {
+    assert_printed(&rt, rt.alloc(), &TEXTS)
 }
 
 #[test]

@@ -147,16 +147,31 @@ fn are_lines(bytes: &[u8]) -> bool {
     depth == 0 && !is_quoted && str::from_utf8(bytes).is_ok()
 }
 
-/// Walks over the messages of a datagram.
+/// How many lines do not begin with a blank: in text and in JSON the first line of each message, and of a fault.
+fn unindented(text: &[u8]) -> u64 {
+    let mut count = 0u64;
+    let mut is_begin = true;
+    for byte in text {
+        if is_begin && *byte != b' ' {
+            count = count.saturating_add(1);
+        }
+        is_begin = *byte == b'\n';
+    }
+    count
+}
+
+/// Walks over the messages of a datagram, and returns how many there are, with the fault behind them.
 fn walk(
     tables: &Tables<'_>,
     protocol: u16,
     bytes: &[u8],
     counts: &mut Walked,
-) -> Result<(), Trouble> {
+) -> Result<u64, Trouble> {
+    let mut parts = 0u64;
     for message in LentMessages::<u16>::new(bytes) {
+        parts = parts.saturating_add(1);
         let Ok(lent) = message else {
-            return Ok(());
+            return Ok(parts);
         };
         counts.messages = counts.messages.saturating_add(1);
         let head = Head {
@@ -171,7 +186,7 @@ fn walk(
             }
         }
     }
-    Ok(())
+    Ok(parts)
 }
 
 /// Walks over a datagram's messages, and prints it.
@@ -182,7 +197,7 @@ pub fn check_shown(
     bytes: &[u8],
     counts: &mut Walked,
 ) -> Result<(), Trouble> {
-    walk(tables, protocol, bytes, counts)?;
+    let parts = walk(tables, protocol, bytes, counts)?;
     let datagram = Datagram {
         tables,
         protocol,
@@ -190,12 +205,13 @@ pub fn check_shown(
     };
     let json = DatagramJson(datagram).to_string(alloc)?;
     agree(are_lines(json.as_bytes()), "JSON")?;
+    agree(unindented(json.as_bytes()) == parts, "the lines of JSON")?;
     let text = DatagramText {
         is_coloured: false,
         datagram,
     };
     let text = text.to_string(alloc)?;
-    agree(text.is_empty() == json.is_empty(), "the text")?;
+    agree(unindented(text.as_bytes()) == parts, "the lines of text")?;
     counts.printed = counts.printed.saturating_add(json.len() as u64);
     Ok(())
 }

@@ -220,6 +220,22 @@ const PATHS: [(&[u16], Option<u16>); 6] = [
     (&[], None),
 ];
 
+/// An attribute 1 with an attribute 2 that has an attribute 3 of two bytes, 7.
+const THREE_DEEP: [u8; 16] = [16, 0, 1, 0, 12, 0, 2, 0, 6, 0, 3, 0, 7, 0, 0, 0];
+
+#[test]
+fn paths_of_three_steps(rt: HostRuntime) {
+    let alloc = rt.alloc();
+    let list: RtBuffer<Ifla, Buffer> = read_list(&rt, alloc, &THREE_DEEP);
+    let lent: LentRtattrs<'_, Ifla> = LentRtattrs::new(&THREE_DEEP);
+    let rows: [(&[u16], Option<u16>); 2] = [(&[1, 2, 3], Some(7)), (&[1, 2, 4], None)];
+    for (path, want) in rows {
+        let number: Option<u16> = list.get_path(alloc, path).expect(&rt, "no refusal");
+        assert_is(&rt, number, want);
+        assert_is(&rt, lent.get_path(path).expect(&rt, "no refusal"), want);
+    }
+}
+
 #[test]
 fn paths_through_nests(rt: HostRuntime) {
     let alloc = rt.alloc();

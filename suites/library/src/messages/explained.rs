@@ -8,7 +8,7 @@ use std::alloc::Global;
 use std::process::Abort;
 
 /// A code and attributes, as the end of a dump has them, and their printed text.
-const ANSWERS: [(&[u8], &str); 17] = [
+const ANSWERS: [(&[u8], &str); 18] = [
     (&[0, 0, 0, 0], "0"),
     (
         &[0xff, 0xff, 0xff, 0xff],
@@ -58,6 +58,8 @@ const ANSWERS: [(&[u8], &str); 17] = [
         ],
         "0; on",
     ),
+    // A text without a character.
+    (&[0, 0, 0, 0, 5, 0, 1, 0, 0, 0, 0, 0], "0; "),
     // No text without a byte, none that is not UTF-8, and no offset of two bytes.
     (&[0, 0, 0, 0, 4, 0, 1, 0], "0"),
     (&[0, 0, 0, 0, 6, 0, 1, 0, 0xff, 0, 0, 0], "0"),

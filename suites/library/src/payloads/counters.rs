@@ -36,6 +36,42 @@ fn lengths(rt: HostRuntime) {
     assert_fields(&rt, 0, (0, 0, 0, 0));
 }
 
+// The order of `struct rtnl_link_stats64` in linux/if_link.h.
+#[test]
+fn each_counter_has_its_place(rt: HostRuntime) {
+    let stats = LinkStats64::from_bytes(&counted());
+    let fields = [
+        stats.rx_packets,
+        stats.tx_packets,
+        stats.rx_bytes,
+        stats.tx_bytes,
+        stats.rx_errors,
+        stats.tx_errors,
+        stats.rx_dropped,
+        stats.tx_dropped,
+        stats.multicast,
+        stats.collisions,
+        stats.rx_length_errors,
+        stats.rx_over_errors,
+        stats.rx_crc_errors,
+        stats.rx_frame_errors,
+        stats.rx_fifo_errors,
+        stats.rx_missed_errors,
+        stats.tx_aborted_errors,
+        stats.tx_carrier_errors,
+        stats.tx_fifo_errors,
+        stats.tx_heartbeat_errors,
+        stats.tx_window_errors,
+        stats.rx_compressed,
+        stats.tx_compressed,
+        stats.rx_nohandler,
+        stats.rx_otherhost_dropped,
+    ];
+    for (place, field) in fields.iter().enumerate() {
+        assert_is(&rt, *field, place as u64 + 1);
+    }
+}
+
 // The counters of the link in datagram 0080: 14 packets and 1440 bytes received, 8 and 916 sent.
 #[test]
 fn recorded(rt: HostRuntime) {

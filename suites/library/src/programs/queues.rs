@@ -1,24 +1,32 @@
 //! A program: the queueing disciplines of all links, a line each.
 
+use neli::consts::Constant;
+use neli::consts::linux::TcaStats;
 use neli::consts::nl::NlmF;
 use neli::consts::rtnl::{Rtm, Tca};
 use neli::router::synchronous::NlRouter;
+use neli::rtnl::linux::{GnetStatsBasic, GnetStatsQueue, TcHandle};
 use neli::rtnl::{Tcmsg, TcmsgBuilder};
 use neli::short::{Client, Lookup};
 use std::alloc::Global;
 use std::test::Fail;
 
-/// A line of a discipline, as `tbf 8002: below ffff:ffff, link 4, sent 150, 0 wait`.
+/// The path to these counters in the attributes of a discipline.
+fn counters(kind: TcaStats) -> [u16; 2] {
+    [Tca::Stats2.to_wire(), kind.to_wire()]
+}
+
+/// A line of a discipline, as `tbf 8002: below root, link 4, sent 150, 0 wait`.
 fn line(alloc: Global, queue: &Tcmsg) -> Result<String, Fail> {
     let attrs = queue.rtattrs();
     let kind = attrs.get_str(Tca::Kind)?.unwrap_or("?");
-    // `TCA_STATS2`, and in it `TCA_STATS_BASIC` and `TCA_STATS_QUEUE` of `linux/gen_stats.h`.
-    let sent: u64 = attrs.get_path(alloc, &[7, 1])?.unwrap_or(0);
-    let wait: u32 = attrs.get_path(alloc, &[7, 3])?.unwrap_or(0);
-    let (own, link) = (*queue.tcm_handle() >> 16, queue.tcm_ifindex());
-    let (high, low) = (*queue.tcm_parent() >> 16, *queue.tcm_parent() & 0xffff);
-    let place = format!(in alloc; "{own:x}: below {high:x}:{low:x}, link {link}")?;
-    Ok(format!(in alloc; "{kind} {place}, sent {sent}, {wait} wait")?)
+    let sent: Option<GnetStatsBasic> = attrs.get_path(alloc, &counters(TcaStats::Basic))?;
+    let wait: Option<GnetStatsQueue> = attrs.get_path(alloc, &counters(TcaStats::Queue))?;
+    let (bytes, packets) = (sent.map_or(0, |it| it.bytes), wait.map_or(0, |it| it.qlen));
+    let own = TcHandle::from_wire(*queue.tcm_handle());
+    let parent = TcHandle::from_wire(*queue.tcm_parent());
+    let link = queue.tcm_ifindex();
+    Ok(format!(in alloc; "{kind} {own} below {parent}, link {link}, sent {bytes}, {packets} wait")?)
 }
 
 /// The lines of all disciplines, of the kernel's answer in these datagrams.

@@ -1,14 +1,17 @@
 //! The programs, tried on recorded answers; the expected values are those that pyroute2 reads in them, or iproute2
 //! wrote.
 
-use super::recorded::{FORWARDING, NEXT_HOP, NO_NEXT_HOP, POLICIES, QUEUES};
-use super::{forwarding, next_hop, policies, queues, whole, wireguard};
+use super::recorded::{
+    ALL_STATISTICS, FORWARDING, NAMESPACE, NEXT_HOP, NO_NEXT_HOP, POLICIES, QUEUES, SHORT_MTU,
+};
+use super::{forwarding, json, lint, next_hop, policies, queues, whole, wireguard};
 use neli::Cursor;
 use neli::consts::nl::NlmF;
 use neli::consts::rtnl::{RtAddrFamily, RtScope, Rtm};
 use neli::lent::LentMessage;
 use neli::router::synchronous::{Log, NlRouter, Verdict};
 use neli::rtnl::IfaddrmsgBuilder;
+use neli::schema::built_in;
 use neli::simulator::{ExtAck, Request};
 use std::alloc::Global;
 use std::process::Abort;
@@ -48,15 +51,15 @@ fn queueing_disciplines(rt: HostRuntime) -> Result<(), Fail> {
         &answer,
     )?;
     let want = [
-        "noqueue 0: below ffff:ffff, link 1, sent 0, 0 wait",
-        "noqueue 0: below ffff:ffff, link 2, sent 0, 0 wait",
-        "htb 1: below ffff:ffff, link 3, sent 0, 0 wait",
+        "noqueue none below root, link 1, sent 0, 0 wait",
+        "noqueue none below root, link 2, sent 0, 0 wait",
+        "htb 1: below root, link 3, sent 0, 0 wait",
         "pfifo 10: below 1:10, link 3, sent 0, 0 wait",
         "ingress ffff: below ffff:fff1, link 3, sent 0, 0 wait",
-        "tbf 8002: below ffff:ffff, link 4, sent 150, 0 wait",
+        "tbf 8002: below root, link 4, sent 150, 0 wait",
         "clsact ffff: below ffff:fff1, link 4, sent 0, 0 wait",
-        "noqueue 0: below ffff:ffff, link 5, sent 0, 0 wait",
-        "noqueue 0: below ffff:ffff, link 7, sent 0, 0 wait",
+        "noqueue none below root, link 5, sent 0, 0 wait",
+        "noqueue none below root, link 7, sent 0, 0 wait",
     ];
     assert_lines(&rt, &lines, &want);
     Ok(())
@@ -147,6 +150,38 @@ fn a_tunnel(rt: HostRuntime) -> Result<(), Fail> {
         "peer bb..: received 0, sent 148, prefix 32",
     ];
     assert_lines(&rt, &lines, &want);
+    Ok(())
+}
+
+#[test]
+fn requests_are_checked(rt: HostRuntime) -> Result<(), Fail> {
+    let alloc = rt.alloc();
+    let tables = built_in(alloc)?;
+    let short = decoded(&rt, alloc, &SHORT_MTU);
+    let found = lint::findings(alloc, &tables, 0, &short[0])?;
+    assert_lines(&rt, &found, &["IFLA_MTU: shorter than 4 bytes"]);
+    let all = decoded(&rt, alloc, &ALL_STATISTICS);
+    let found = lint::findings(alloc, &tables, 0, &all[0])?;
+    assert_lines(&rt, &found, &["ok"]);
+    // The text and the offset are the kernel's; the rest is what `strerror` says of 34.
+    let reason = lint::reason(alloc, &tables, 0, &short[0], &short[1])?;
+    let want =
+        "ERANGE: Numerical result out of range: Attribute failed policy validation: IFLA_MTU";
+    assert_eq!(rt; reason.expect(&rt, "an error").as_str(), want);
+    let none = lint::reason(alloc, &tables, 0, &short[0], &all[0])?;
+    assert!(rt; none.is_none());
+    Ok(())
+}
+
+#[test]
+fn messages_are_json(rt: HostRuntime) -> Result<(), Fail> {
+    let namespace = decoded(&rt, rt.alloc(), &NAMESPACE);
+    let lines = json::lines(rt.alloc(), 0, &namespace[0])?;
+    let want =
+        "{\"protocol\":0,\"type\":88,\"name\":\"RTM_NEWNSID\",\"length\":28,\"flags\":[],\"seq\":0,\"port\":0,\
+        \"structure\":\"rtgenmsg\",\"fields\":{\"rtgen_family\":0},\"attributes\":[{\"number\":1,\
+        \"name\":\"NETNSA_NSID\",\"value\":0}]}\n";
+    assert_eq!(rt; lines.as_str(), want);
     Ok(())
 }
 

@@ -4,12 +4,13 @@
 //! Any one allocation may be refused in this test (`rt try --test --fail-alloc N`). A refused call of the router
 //! changes nothing, and when repeated has the outcome that it would have had.
 
-use super::script::Step::{Close, Come, Read, Send};
-use super::script::Told::{Done, Message, Refused, Sent, Stray};
+use super::script::Step::{Close, Come, Next, Read, Send};
+use super::script::Told::{Done, Message, Refused, Sent, Stray, Waits};
 use super::script::{Came, Step, Told, kind_once};
 use super::steps::Asker;
 use super::support::assert_is_at;
 use neli::router::synchronous::Log;
+use neli_places::Places;
 use std::alloc::Global;
 use std::process::Abort;
 
@@ -28,8 +29,19 @@ pub const ECHO: &str = "1400000010000200000000000000000001020304\
     150000000004050001000000000000006162636465000000\
     0800010062616400";
 
+/// A message of type 16 with the number 9, which no request has.
+const STRAY: &str = "10000000100000000900000000000000";
+
+/// Two of them.
+const TWO_STRAYS: &str = "10000000100000000900000000000000\
+    10000000100000000900000000000000";
+
+/// Messages of type 16 with the flag MULTI and the numbers 0 and 1.
+const ONE_EACH: &str = "10000000100002000000000000000000\
+    10000000100002000100000000000000";
+
 /// Scripts: steps, the outcome of each, and the number of entries and bytes kept then.
-const SCRIPTS: [(&str, &[(Step, Told, [usize; 2])]); 3] = [
+const SCRIPTS: [(&str, &[(Step, Told, [usize; 2])]); 6] = [
     (
         // Messages to a group at the end are kept until multicast is closed, and not at all after that.
         "an entry goes with the last handle that waits for it",
@@ -44,6 +56,45 @@ const SCRIPTS: [(&str, &[(Step, Told, [usize; 2])]); 3] = [
             (Come(ONE, 1), Done, [1, 16]),
             (Close(0), Done, [0, 0]),
             (Come(ONE, 1), Done, [0, 0]),
+        ],
+    ),
+    (
+        "a stray is kept until the last handle has read it or is closed",
+        &[
+            (Send(16, 0, ""), Sent(0, 0), [0, 0]),
+            (Send(16, 0, ""), Sent(1, 0), [0, 0]),
+            (Come(STRAY, 0), Done, [1, 16]),
+            (Read(1), Stray(9, 0), [1, 16]),
+            (Read(2), Stray(9, 0), [0, 0]),
+            (Come(STRAY, 0), Done, [1, 16]),
+            (Close(1), Done, [1, 16]),
+            (Close(2), Done, [0, 0]),
+        ],
+    ),
+    (
+        "of two strays the first is kept for who has read none",
+        &[
+            (Send(16, 0, ""), Sent(0, 0), [0, 0]),
+            (Send(16, 0, ""), Sent(1, 0), [0, 0]),
+            (Come(TWO_STRAYS, 0), Done, [2, 32]),
+            (Read(1), Stray(9, 0), [2, 32]),
+            (Close(1), Done, [2, 32]),
+            (Read(2), Stray(9, 0), [1, 32]),
+            (Close(2), Done, [0, 0]),
+        ],
+    ),
+    (
+        // The message to number 1 stands behind another one when its handle is closed.
+        "an entry of a closed handle does not wait for a new one with its number",
+        &[
+            (Send(16, 0, ""), Sent(0, 0), [0, 0]),
+            (Send(16, 0, ""), Sent(1, 0), [0, 0]),
+            (Come(ONE_EACH, 0), Done, [2, 32]),
+            (Close(2), Done, [2, 32]),
+            (Next(1), Done, [2, 32]),
+            (Send(16, 0, ""), Sent(1, 0), [2, 32]),
+            (Read(3), Waits, [2, 32]),
+            (Read(1), Message(16, 0, 0), [0, 0]),
         ],
     ),
     (
@@ -96,6 +147,17 @@ fn play(rt: &impl Abort, alloc: Global, row: &str, steps: &[(Step, Told, [usize;
 pub fn play_all(rt: &impl Abort, alloc: Global) {
     for (row, steps) in &SCRIPTS {
         play(rt, alloc, row, steps);
+    }
+}
+
+/// The places among the entries: one whose list waits for nothing stays open when it is passed.
+#[test]
+fn an_empty_list_stays_open(rt: HostRuntime) {
+    let mut places: Places<u8> = Places::new(rt.alloc());
+    places.open(1).expect(&rt, "memory");
+    for whose in [None, Some(1)] {
+        places.pass(whose);
+        assert_is_at(&rt, whose, places.is_open(whose), true);
     }
 }
 

@@ -2,12 +2,14 @@
 //! nothing: when repeated, it returns what it returns without a refusal, and so does each call after it.
 //! [`super::entries`] tests what the log keeps when a call is refused.
 
-use super::script::{Script, assert_told, kind_once, outcomes};
+use super::script::{Script, Step, assert_told, kind_once, outcomes};
 use super::steps::Asker;
 use super::support::assert_is_at;
 use super::{answers, conversations, datagrams, entries, faults, numbers};
 use neli::router::synchronous::{Deliveries, Log, Queues};
+use neli_places::Places;
 use std::alloc::Global;
+use std::io::ErrorKind;
 use std::process::Abort;
 
 /// Performs the steps of a script by the router's calls over this store, each once more if memory ran out.
@@ -94,6 +96,24 @@ fn runs_for_faults_are_answered_again(rt: HostRuntime) {
 #[test]
 fn runs_of_conversations_are_answered_again(rt: HostRuntime) {
     run_all(&rt, rt.alloc(), &conversations::SCRIPTS);
+}
+
+/// A fault of the link takes no memory where no number is open.
+fn fail<D: Deliveries>(rt: &impl Abort, alloc: Global) {
+    let mut asker = Asker::<D>::new(rt, alloc, 0);
+    let failed = asker.step(alloc, Step::Fail(ErrorKind::ConnectionReset));
+    assert!(rt; failed.is_ok());
+}
+
+#[test]
+fn what_is_for_nobody_takes_no_memory(rt: HostRuntime) {
+    let alloc = rt.alloc();
+    fail::<Queues>(&rt, alloc);
+    fail::<Log>(&rt, alloc);
+    let mut asker = Asker::<Log>::new(&rt, alloc, 0);
+    let stray = b"\x10\0\0\0\x10\0\0\0\x09\0\0\0\0\0\0\0";
+    assert!(rt; asker.hand_in(alloc, stray, 0).is_ok());
+    assert!(rt; Places::<u8>::new(alloc).reserve(0).is_ok());
 }
 
 #[test]

@@ -1,14 +1,19 @@
 //! A body that is refused as the caller's types is an item of its own, and is never reported as out of memory: a caller
 //! who repeats the read after that would do so without end. Over both stores.
 
+ghost use Rattle.std.specs.Prelude.{◌≡◌, [], Err, Ok};
+ghost use Rattle.neli_wire.specs.DeError.TheVariants as de;
+ghost use Rattle.neli_wire.specs.laws.Sizes.{unpadded-rounded};
+
 use super::script::{Step, bytes_of};
 use super::steps::Asker;
 use super::support::assert_is_at;
 use neli::consts::nl::NlmF;
 use neli::consts::rtnl::Rtm;
-use neli::err::{DeError, NoMemory, RouterError};
+use neli::err::{DeError, MsgError, NoMemory, RouterError, SocketError};
 use neli::router::synchronous::{Deliveries, Log, Queues, Reply};
 use neli::rtnl::Ifinfomsg;
+use neli::{Cursor, FromBytesWithInput, Size};
 use std::alloc::Global;
 use std::process::Abort;
 
@@ -113,4 +118,155 @@ fn check<D: Deliveries>(rt: &impl Abort, alloc: Global) {
 fn refused_bodies_are_items(rt: HostRuntime) {
     check::<Log>(&rt, rt.alloc());
     check::<Queues>(&rt, rt.alloc());
+}
+
+/// A body of the caller's that is refused in words.
+#[derive(Clone, Copy, Debug)]
+struct Wordy;
+
+impl Size for Wordy {
+    ghost unpadded_length = { λ _. 0 };
+
+    ghost wire_length = { λ _. 0 };
+
+    ghost rounded = { unpadded-rounded (λ _. 0) };
+
+    fn unpadded_size(&self) -> usize {
+        0
+    }
+
+    fn written_size(&self) -> usize {
+        0
+    }
+}
+
+impl FromBytesWithInput for Wordy {
+    ghost Value = { Wordy };
+
+    ghost view = { λ body. body };
+
+    ghost read = { λ _. Err (de.Msg []) };
+
+    ghost takes_memory = { λ _. ⊥ };
+
+    ghost no_memory = { λ s e. Prim.cc };
+
+    ghost never_short = { λ s e. Prim.cc };
+
+    fn from_bytes_with_input(
+        _alloc: Global,
+        _cursor: &mut Cursor<'_>,
+        _n: usize,
+    ) -> Result<Wordy, DeError> {
+        Err(DeError::Msg(MsgError::from_static("")))
+    }
+}
+
+/// A body of the caller's that is read from any bytes, and has so many.
+#[derive(Clone, Copy, Debug)]
+struct Long<const N: usize>;
+
+impl<const N: usize> Size for Long<N> {
+    ghost unpadded_length = { λ _. N };
+
+    ghost wire_length = { λ _. N };
+
+    ghost rounded = { unpadded-rounded (λ _. N) };
+
+    fn unpadded_size(&self) -> usize {
+        N
+    }
+
+    fn written_size(&self) -> usize {
+        N
+    }
+}
+
+impl<const N: usize> FromBytesWithInput for Long<N> {
+    ghost Value = { Long N };
+
+    ghost view = { λ body. body };
+
+    ghost read = { λ _. Ok Prim.cc };
+
+    ghost takes_memory = { λ _. ⊥ };
+
+    ghost no_memory = { λ s e. Prim.cc };
+
+    ghost never_short = { λ s e. Prim.cc };
+
+    fn from_bytes_with_input(
+        _alloc: Global,
+        cursor: &mut Cursor<'_>,
+        n: usize,
+    ) -> Result<Long<N>, DeError> {
+        cursor.input(n)?;
+        cursor.advance(n);
+        Ok(Long)
+    }
+}
+
+/// The result of a handle's next read, as this body, in words.
+fn read_as<P: FromBytesWithInput + Size, D: Deliveries>(
+    asker: &mut Asker<D>,
+    alloc: Global,
+    k: usize,
+) -> &'static str {
+    let Some(Some(handle)) = asker.handles.get_mut(k) else {
+        return "no handle";
+    };
+    match asker.router.next_typed::<Rtm, P, _, _>(alloc, handle) {
+        Ok(Reply::Item(Ok(_))) => "a message",
+        Ok(Reply::Item(Err(RouterError::De(DeError::Msg(_))))) => "refused in words",
+        Ok(Reply::Item(Err(RouterError::Msg(_)))) => "too long",
+        Ok(Reply::Item(Err(RouterError::Socket(SocketError::Msg(_))))) => "a fault in words",
+        Err(NoMemory) => "out of memory",
+        _ => "another answer",
+    }
+}
+
+/// Hands in a message of four bytes, to a group and as an answer, and reads it as this body.
+fn check_body<P: FromBytesWithInput + Size, D: Deliveries>(
+    rt: &impl Abort,
+    alloc: Global,
+    want: &'static str,
+) {
+    let mut asker = Asker::<D>::new(rt, alloc, 0);
+    let sent = asker.send(alloc, 18, u16::from(NlmF::REQUEST), "");
+    sent.expect(rt, "memory");
+    for (k, mask) in [(0, 1), (1, 0)] {
+        let bytes = bytes_of(
+            alloc,
+            "14000000100000000000000000000000\
+            01020304",
+        )
+        .expect(rt, "memory");
+        asker.hand_in(alloc, &bytes, mask).expect(rt, "memory");
+        assert_is_at(rt, k, read_as::<P, D>(&mut asker, alloc, k), want);
+    }
+}
+
+/// Hands in a fault in words, and reads it.
+fn check_fault<D: Deliveries>(rt: &impl Abort, alloc: Global) {
+    let mut asker = Asker::<D>::new(rt, alloc, 0);
+    let sent = asker.send(alloc, 18, u16::from(NlmF::REQUEST), "");
+    sent.expect(rt, "memory");
+    let words = SocketError::Msg(MsgError::from_static("the link is down"));
+    asker.router.error_handling(words).expect(rt, "memory");
+    let came = read_as::<Wordy, D>(&mut asker, alloc, 1);
+    assert_is_at(rt, "a fault", came, "a fault in words");
+}
+
+// With the 16 bytes of a header the longer body passes 32 bits by one.
+#[test]
+fn what_is_refused_in_words_is_an_item(rt: HostRuntime) {
+    let alloc = rt.alloc();
+    check_body::<Wordy, Log>(&rt, alloc, "refused in words");
+    check_body::<Wordy, Queues>(&rt, alloc, "refused in words");
+    check_body::<Long<4294967276>, Log>(&rt, alloc, "a message");
+    check_body::<Long<4294967276>, Queues>(&rt, alloc, "a message");
+    check_body::<Long<4294967280>, Log>(&rt, alloc, "too long");
+    check_body::<Long<4294967280>, Queues>(&rt, alloc, "too long");
+    check_fault::<Log>(&rt, alloc);
+    check_fault::<Queues>(&rt, alloc);
 }

@@ -61,6 +61,33 @@ const NAMELESS: &str = "2c00000010000000000000000000000001020000\
     100007800c000180\
     0800020005000000";
 
+/// The family `a`, of which group 1 is `b` without a number, and group 2 is `b` with the number 5.
+///
+/// Its lines: the headers; FamilyName "a"; McastGroups; its group 1; "b"; its group 2; "b", 5.
+const UNNUMBERED: &str = "4000000010000000000000000000000001020000\
+    0600020061000000\
+    24000780\
+    0c0001800600010062000000\
+    1400028006000100620000000800020005000000";
+
+/// The family `a`, of which groups 1 and 2, `b` and `c`, both have the number 5.
+///
+/// Its lines: the headers; FamilyName "a"; McastGroups; its group 1; "b", 5; its group 2; "c", 5.
+const SAME_NUMBER: &str = "4800000010000000000000000000000001020000\
+    0600020061000000\
+    2c000780\
+    1400018006000100620000000800020005000000\
+    1400028006000100630000000800020005000000";
+
+/// The family `a`, of which group 1 is `b`, with the number 6.
+const NUMBER_6: &str = "3400000010000000000000000000000001020000\
+    0600020061000000\
+    1800078014000180\
+    06000100620000000800020006000000";
+
+/// The family `a` with a list of groups that has none.
+const NO_GROUPS: &str = "2000000010000000000000000000000001020000060002006100000004000780";
+
 /// A look-up: the answers and the number of errors after them; its outcome, and its text: a number, the names of a
 /// family and a group, or the error.
 type Row = (
@@ -71,7 +98,7 @@ type Row = (
 );
 
 /// Lookups.
-const LOOKUPS: [Row; 27] = [
+const LOOKUPS: [Row; 33] = [
     (
         "a family, by one answer",
         Family("nlctrl"),
@@ -127,6 +154,18 @@ const LOOKUPS: [Row; 27] = [
         (Found, "5"),
     ),
     (
+        "the last message with the group wins",
+        Group("a", "b"),
+        (&[OTHER_NAMES, NUMBER_6], 0),
+        (Found, "6"),
+    ),
+    (
+        "a group without a number is passed over",
+        Group("a", "b"),
+        (&[UNNUMBERED], 0),
+        (Found, "5"),
+    ),
+    (
         "a match before a group without a name",
         Group("a", "b"),
         (&[OTHER_NAMES, NAMELESS], 0),
@@ -137,6 +176,12 @@ const LOOKUPS: [Row; 27] = [
         Names(5),
         (&[NLCTRL, ACK, OTHER_NAMES], 0),
         (Found, "a b"),
+    ),
+    (
+        "the last names of a message win",
+        Names(5),
+        (&[SAME_NUMBER], 0),
+        (Found, "a c"),
     ),
     (
         "the last names win, the other way round",
@@ -235,6 +280,27 @@ const LOOKUPS: [Row; 27] = [
         "no group has the number",
         Names(6),
         (&[NLCTRL], 0),
+        (Msg, "ID does not correspond to a multicast group"),
+    ),
+    (
+        "no group has the number: one has none",
+        Names(6),
+        (&[UNNUMBERED], 0),
+        (Msg, "ID does not correspond to a multicast group"),
+    ),
+    (
+        "no group is found: there is none",
+        Group("a", "b"),
+        (&[NO_GROUPS], 0),
+        (
+            Msg,
+            "Failed to resolve multicast group ID for family name a, multicast group name b",
+        ),
+    ),
+    (
+        "no group has the number: there is none",
+        Names(5),
+        (&[NO_GROUPS], 0),
         (Msg, "ID does not correspond to a multicast group"),
     ),
     (

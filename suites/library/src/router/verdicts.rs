@@ -29,6 +29,9 @@ type Item = Result<Nlmsghdr<u16, Buffer>, RouterError<u16, Buffer>>;
 /// A part of a dump with number 0 and port 7, and the same with the marks.
 const PART: &str = "10000000100002000000000007000000";
 
+const TWO_PARTS: &str = "10000000100002000000000007000000\
+    10000000100002000000000007000000";
+
 const MARKED: &str = "10000000100012000000000007000000";
 
 const FILTERED: &str = "10000000100022000000000007000000";
@@ -263,8 +266,8 @@ fn nothing_is_kept_of_what_was_given_up(rt: HostRuntime) {
     assert_is_at(&rt, "before", router.deliveries().kept(), 1);
     router.give_up(alloc, dump).expect(&rt, "memory");
     assert_is_at(&rt, "given up", router.deliveries().kept(), 0);
-    come(&rt, alloc, &mut router, PART);
-    assert_is_at(&rt, "a part", router.deliveries().kept(), 0);
+    come(&rt, alloc, &mut router, TWO_PARTS);
+    assert_is_at(&rt, "two parts", router.deliveries().kept(), 0);
     come(&rt, alloc, &mut router, ONE);
     assert_is_at(&rt, "a stray", router.deliveries().kept_bytes(), 0);
 }

@@ -40,3 +40,42 @@ fn both_ways(rt: HostRuntime) {
     check(&rt, alloc, NlmF::REQUEST | NlmF::DUMP, b"\x01\x03");
     check(&rt, alloc, Iff::UP | Iff::LOWERUP, b"\x01\x00\x01\x00");
 }
+
+/// The types of messages that the port's table has no name for, by their numbers in `linux/rtnetlink.h`.
+const NEWER: [(u16, Rtm); 27] = [
+    (56, linux::RTM_NEWMULTICAST),
+    (57, linux::RTM_DELMULTICAST),
+    (60, linux::RTM_NEWANYCAST),
+    (61, linux::RTM_DELANYCAST),
+    (81, linux::RTM_DELNETCONF),
+    (92, linux::RTM_NEWSTATS),
+    (94, linux::RTM_GETSTATS),
+    (95, linux::RTM_SETSTATS),
+    (96, linux::RTM_NEWCACHEREPORT),
+    (100, linux::RTM_NEWCHAIN),
+    (101, linux::RTM_DELCHAIN),
+    (102, linux::RTM_GETCHAIN),
+    (104, linux::RTM_NEWNEXTHOP),
+    (105, linux::RTM_DELNEXTHOP),
+    (106, linux::RTM_GETNEXTHOP),
+    (108, linux::RTM_NEWLINKPROP),
+    (109, linux::RTM_DELLINKPROP),
+    (110, linux::RTM_GETLINKPROP),
+    (112, linux::RTM_NEWVLAN),
+    (113, linux::RTM_DELVLAN),
+    (114, linux::RTM_GETVLAN),
+    (116, linux::RTM_NEWNEXTHOPBUCKET),
+    (117, linux::RTM_DELNEXTHOPBUCKET),
+    (118, linux::RTM_GETNEXTHOPBUCKET),
+    (120, linux::RTM_NEWTUNNEL),
+    (121, linux::RTM_DELTUNNEL),
+    (122, linux::RTM_GETTUNNEL),
+];
+
+#[test]
+fn newer_types_are_what_a_read_gives(rt: HostRuntime) {
+    for (number, value) in NEWER {
+        assert_eq!(rt; Rtm::from_wire(number), value, "{number}");
+        assert_eq!(rt; value.to_wire(), number);
+    }
+}

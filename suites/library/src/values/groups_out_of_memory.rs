@@ -14,8 +14,23 @@ fn what_takes_no_memory(rt: HostRuntime) {
     assert!(rt; groups.add_groups(&[0]).is_ok());
     assert!(rt; matches!(groups.as_bitmask(rt.alloc()), Ok(0)));
     assert_is(&rt, groups.into_groups().len(), 0);
+    assert!(rt; Groups::new_bitmask(rt.alloc(), 0).is_ok());
+    assert!(rt; Groups::new_groups(rt.alloc(), &[]).is_ok());
+    assert!(rt; Groups::empty(rt.alloc()).as_groups(rt.alloc()).is_ok());
     let refused = NetlinkBitArray::new(rt.alloc(), usize::MAX);
     assert!(rt; matches!(refused, Err(SerError::Msg(_))));
+}
+
+// The list itself may be refused.
+#[test]
+fn what_is_there_takes_no_memory(rt: HostRuntime) {
+    if let Ok(mut groups) = Groups::new_groups(rt.alloc(), &[1, 32, 40]) {
+        assert!(rt; groups.add_groups(&[40, 0, 1, 40]).is_ok());
+        assert!(rt; groups.add_bitmask(0x8000_0001).is_ok());
+    }
+    if let Ok(array) = NetlinkBitArray::new(rt.alloc(), 32) {
+        assert!(rt; array.to_vec(rt.alloc()).is_ok());
+    }
 }
 
 #[test]
@@ -41,6 +56,13 @@ fn groups_added_or_as_they_were(rt: HostRuntime) {
         (false, false) => &[],
     };
     assert_is(&rt, list.as_slice(), want);
+}
+
+#[test]
+fn masks_added_or_as_they_were(rt: HostRuntime) {
+    let mut groups = Groups::empty(rt.alloc());
+    let added = groups.add_bitmask(0xffff_ffff).is_ok();
+    assert_is(&rt, groups.into_groups().len(), if added { 32 } else { 0 });
 }
 
 #[test]

@@ -1,12 +1,18 @@
 //! Lists of values, one after the other.
 
+ghost use Rattle.std.specs.Prelude.{[], ◌∷◌, Err, Ok, nat_eq, if◌then◌else◌};
+ghost use Rattle.std.specs.declared.io.ErrorKind.TheVariants.{UnexpectedEof};
+ghost use Rattle.neli_wire.specs.SerError.TheVariants as ser;
+ghost use Rattle.neli_wire.specs.laws.Sizes.{unpadded-rounded};
+
 use super::support::{
     Refusal, assert_behind_dots, assert_is, assert_is_at, assert_list, assert_sizes,
     assert_written, dots,
 };
-use neli::err::DeError;
+use neli::err::{DeError, SerError};
 use neli::implementing::{read_all, size_of_all, write_all};
-use neli::{Cursor, FromBytesWithInput};
+use neli::{Cursor, FromBytesWithInput, Size, ToBytes};
+use std::io::ErrorKind;
 
 /// The numbers 1 and 2, and half of another.
 const BYTES: [u8; 5] = [1, 0, 2, 0, 3];
@@ -77,4 +83,50 @@ fn written_slices_of_values(rt: HostRuntime) {
         write_all(items, &mut buffer).expect(&rt, "memory");
         assert_behind_dots(&rt, &buffer, want);
     }
+}
+
+/// A byte that refuses to be written where it is 0.
+#[derive(Clone, Copy, Debug)]
+struct Count(u8);
+
+impl Size for Count {
+    ghost unpadded_length = { λ _. 1 };
+
+    ghost wire_length = { λ _. 1 };
+
+    ghost rounded = { unpadded-rounded (λ _. 1) };
+
+    fn unpadded_size(&self) -> usize {
+        1
+    }
+
+    fn written_size(&self) -> usize {
+        1
+    }
+}
+
+impl ToBytes for Count {
+    ghost wire = { λ n. if nat_eq n.0 0 then Err (ser.Io UnexpectedEof) else Ok (n.0 ∷ []) };
+
+    ghost length_is = { λ n bytes e. Prim.cc };
+
+    ghost zeros_after = { λ n bytes e. Prim.cc };
+
+    ghost no_memory = { λ n e. Prim.cc };
+
+    fn to_bytes(&self, buffer: &mut Vec<u8>) -> Result<(), SerError> {
+        if self.0 == 0 {
+            return Err(SerError::Io(ErrorKind::UnexpectedEof));
+        }
+        Ok(buffer.push(self.0)?)
+    }
+}
+
+// What stands before it was written already, and is taken back.
+#[test]
+fn a_refused_value_leaves_nothing_of_its_list(rt: HostRuntime) {
+    let mut buffer = dots(&rt, rt.alloc());
+    let written = write_all(&[Count(1), Count(0)], &mut buffer);
+    assert!(rt; matches!(written, Err(SerError::Io(ErrorKind::UnexpectedEof))));
+    assert_behind_dots(&rt, &buffer, b"");
 }

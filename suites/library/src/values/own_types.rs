@@ -1,9 +1,12 @@
 //! A user's own types, those of `example_body`.
 
 use super::support::{Refusal, assert_is, assert_is_at, assert_sizes, assert_written, refusal_of};
-use example_body::{Probe, ProbeBuilder, ProbeBuilderError, Watch};
+use example_body::{Gauge, GaugeHeader, Probe, ProbeBuilder, ProbeBuilderError, Watch};
 use neli::err::BuildError;
+use neli::short::{Lookup, Put};
+use neli::types::RtBuffer;
 use neli::{Cursor, FromBytesWithInput, Header};
+use std::test::Fail;
 
 /// The port 1337 and the levels 1 and 2.
 const WATCH: [u8; 10] = [0x39, 5, 1, 0, 0, 0, 2, 0, 0, 0];
@@ -79,4 +82,26 @@ fn fields_that_a_probe_misses(rt: HostRuntime) {
     assert_is(&rt, missing_of(builder.build()), "port");
     let builder = ProbeBuilder::<u8>::default().kind(7).port(1337);
     assert_is(&rt, missing_of(builder.build()), "payload");
+}
+
+/// Gauge 7 of unit 2 and scale 1000, and attribute 5, the number 9.
+const GAUGE: [u8; 16] = [7, 0, 0, 0, 2, 0, 0xe8, 3, 8, 0, 5, 0, 9, 0, 0, 0];
+
+#[test]
+fn a_gauge_both_ways(rt: HostRuntime) -> Result<(), Fail> {
+    let mut attrs = RtBuffer::new(rt.alloc());
+    attrs.put(rt.alloc(), 5u16, 9u32)?;
+    let fields = GaugeHeader {
+        number: 7,
+        unit: 2,
+        scale: 1000,
+    };
+    let gauge = Gauge::new(fields, attrs);
+    assert_sizes(&rt, &gauge, (16, 16, 16));
+    assert_written(&rt, rt.alloc(), &gauge, &GAUGE);
+    let read = Gauge::from_bytes_with_input(rt.alloc(), &mut Cursor::new(&GAUGE), 16)?;
+    assert!(rt; read == gauge);
+    let number: Option<u32> = read.rtattrs().get(rt.alloc(), 5u16)?;
+    assert_is(&rt, number, Some(9));
+    Ok(())
 }

@@ -43,7 +43,7 @@ set vlan
 
 /// Bodies, and what a walk gives: of each item the numbers of its path, its payload, and what that
 /// is.
-const WALKS: [(&[u8], &str); 14] = [
+const WALKS: [(&[u8], &str); 15] = [
     (b"\x06\0\x01\0ab\0\0", "1:6162 NAME"),
     // A nest that is not marked as one, and what picks it behind it.
     (
@@ -114,6 +114,11 @@ const WALKS: [(&[u8], &str); 14] = [
     ),
     // Bytes that are no attribute.
     (b"\x06\0\x01\0ab\0\0\x03\0", "1:6162 NAME; :0300 rest"),
+    // Bytes that are no attribute in a nest, and an attribute behind it.
+    (
+        b"\x08\0\x02\0\x03\0\x01\0\x06\0\x01\0ab\0\0",
+        "2:03000100 nest; 2:03000100 rest; 1:6162 NAME",
+    ),
     // Nothing.
     (b"", ""),
     // Ten lists are open at most.

@@ -6,9 +6,11 @@ use super::listing::{ANSWERS, DATAGRAMS, Row};
 use super::rewriting::PADDED;
 use super::support::{assert_is_at, decoded};
 use super::writers::Kept;
+use neli_program::listing::read_line;
 use neli_program::run::run;
 use neli_program::status::Status;
 use neli_queues::Queues;
+use neli_wire::Cursor;
 use std::alloc::Global;
 use std::process::Abort;
 
@@ -71,6 +73,13 @@ fn datagrams_are_listed_again(rt: HostRuntime) {
     for row in ANSWERS {
         list_again(&rt, rt.alloc(), row);
     }
+}
+
+/// A body's line is printed from the bytes that it lies in.
+#[test]
+fn lines_of_bodies_take_no_memory(rt: HostRuntime) {
+    let datagram = b"\x14\0\0\0\x10\0\0\0\0\0\0\0\0\0\0\0\x01\x02\x03\x04";
+    assert!(rt; read_line(rt.alloc(), &mut Cursor::new(datagram)).is_ok());
 }
 
 /// Writes a datagram again. Asserts that its bytes are written, or that memory ran out, and returns which.
