@@ -15,7 +15,7 @@ use std::test::Fail;
 /// The file of a recording, its protocol, its bytes, and what is to be printed.
 type Row = (&'static str, u16, &'static str, &'static str);
 
-const JSON: [Row; 7] = [
+const JSON: [Row; 8] = [
     (
         "0308-route-dump-neigh",
         0,
@@ -60,6 +60,14 @@ const JSON: [Row; 7] = [
         \"flags\":[\"NLM_F_REQUEST\",\"NLM_F_ACK\"],\"seq\":1054,\"port\":0}}\n",
     ),
     (
+        "that with a bit in its header that has no name",
+        0,
+        "24000000020000811e0400002b3100000000000020000000130005001e04000000000000",
+        "{\"protocol\":0,\"type\":2,\"name\":\"NLMSG_ERROR\",\"length\":36,\"flags\":[\"NLM_F_CAPPED\",\"0x8000\"],\
+        \"seq\":1054,\"port\":12587,\"code\":0,\"request\":{\"type\":19,\"name\":\"RTM_SETLINK\",\"length\":32,\
+        \"flags\":[\"NLM_F_REQUEST\",\"NLM_F_ACK\"],\"seq\":1054,\"port\":0}}\n",
+    ),
+    (
         "0467-route-acknowledgement",
         0,
         "2800000002000000ea0300002b310000eaffffff1400000065000100ea0300000000000000000000",
@@ -101,7 +109,7 @@ const JSON: [Row; 7] = [
     ),
 ];
 
-const TEXT: [Row; 4] = [
+const TEXT: [Row; 5] = [
     (
         "0115-route-notify",
         0,
@@ -151,6 +159,14 @@ const TEXT: [Row; 4] = [
         16,
         "1800000030000103000000000000000003010200ff00ff00",
         "type 48 length 24 flags NLM_F_REQUEST|NLM_F_DUMP seq 0 port 0\n  \
+        command 3 version 1 reserved 2\n  \
+        payload 0xff00ff00\n",
+    ),
+    (
+        "that with two bits in its header that have no name",
+        16,
+        "1800000030004180000000000000000003010200ff00ff00",
+        "type 48 length 24 flags NLM_F_REQUEST|0x8040 seq 0 port 0\n  \
         command 3 version 1 reserved 2\n  \
         payload 0xff00ff00\n",
     ),
