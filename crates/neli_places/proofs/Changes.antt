@@ -1,7 +1,8 @@
 -- A place is added, moved or removed.
 use Rattle.std.proofs.Common.{ℕ, zero, suc, ◌≡◌, ◌≢◌, ◌+◌, ◌-◌, ◌≤◌, ◌<◌, false, cond, List, [], ◌∷◌, length, drop}
 use Rattle.std.proofs.Common.{take, map, get_or, Option, Some, None, refl, sym, ap, ◌∙◌, inl, inr, ◌⊎◌, arith}
-use Rattle.std.specs.Prelude.{◌==◌, if◌then◌else◌, nat_eq}
+use Rattle.std.specs.Prelude.{◌==◌, if◌then◌else◌, nat_eq, position}
+use Rattle.std.specs.Map.{keys_of}
 use Rattle.std.specs.Option.{option_map}
 use Rattle.std.proofs.Math.ListN.{set}
 use Rattle.std.proofs.lemmas.Bool.{cases_eq}
@@ -15,11 +16,10 @@ use Rattle.neli_places.specs.Places.{IsPlace, CountsPassed, AreSound, BeginsAwai
 use Rattle.neli_places.proofs.Pops.{true_or_false}
 use Rattle.neli_places.proofs.Waits.{eqb_refl, eqb_same, lookup_counts}
 use Rattle.neli_places.proofs.Nexts.{slice_get_end}
-use Rattle.std.specs.HashMap.{HashMap, PutsEntry, get, values}
-use Rattle.std.specs.List.Sorted.{IsPermutation}
-use Rattle.std.specs.Map.{remove_entry}
-use Rattle.std.proofs.lemmas.Map.Entries.{length-values_of, sum_by_puts_entry, sum_by_values_permutation}
-use Rattle.std.proofs.lemmas.Map.Entries.{sum_by-remove_entry}
+use Rattle.std.specs.HashMap.{HashMap, get, values}
+use Rattle.indexmap.specs.IndexMap.{insert_entry, swap_remove_entry}
+use Rattle.std.proofs.lemmas.Map.Entries.{length-values_of}
+use Rattle.neli_places.proofs.Numbers.{sum_inserted, sum_removed}
 use Rattle.std.proofs.lemmas.List.Sums.{count_by-le-length}
 
 pub standing_end : (ss : List Shared) (c : ℕ) → readers_at ss c (length ss) ≡ c
@@ -207,20 +207,15 @@ fresh_seen shared_base base es shared x from seen sp =
 abbrev one_at : ℕ → Place → ℕ
 one_at k p = cond (p.shared_passed == k) 1 0
 
-pub waiting_put : {S : Type 0} (m n : HashMap ℕ Place S) (q k : ℕ) (x : Place) (old : Option Place)
-    → old ≡ get nat_eq m q → PutsEntry nat_eq m n q x old → old ≡ None
+pub waiting_put : {S : Type 0} (m n : HashMap ℕ Place S) (q k : ℕ) (x : Place)
+    → get nat_eq m q ≡ None → n.entries ≡ insert_entry nat_eq m.entries q x
     → waiting_count k (values n) ≡ waiting_count k (values m) + (if x.shared_passed == k then 1 else 0)
-waiting_put m n q k x old is puts none = let f = sum_by_puts_entry (one_at k) nat_eq m n q x old is puts in
-    let g = rw none at f in omega (arith, g)
+waiting_put m n q k x none puts = sum_inserted (one_at k) m n q x none puts
 
-pub waiting_removed : {S : Type 0} (m n : HashMap ℕ Place S) (q k : ℕ) (y : Place)
-    → IsPermutation (remove_entry (nat_eq q) m.entries) n.entries → get nat_eq m q ≡ Some y
+pub waiting_removed : {S : Type 0} (m n : HashMap ℕ Place S) (q k i : ℕ) (y : Place)
+    → position (nat_eq q) (keys_of m.entries) ≡ Some i → n.entries ≡ swap_remove_entry (nat_eq q) m.entries → get nat_eq m q ≡ Some y
     → waiting_count k (values n) + (if y.shared_passed == k then 1 else 0) ≡ waiting_count k (values m)
-waiting_removed m n q k y perm is =
-    let f = sum_by_values_permutation (one_at k) (remove_entry (nat_eq q) m.entries) n.entries perm in
-    let g = sum_by-remove_entry (one_at k) (nat_eq q) m.entries in
-    let i = rw is at g in
-    omega (arith, f, i)
+waiting_removed m n q k i y at less is = sum_removed (one_at k) m n q i y at less is
 
 pub few_waiting : (k : ℕ) (ps : List Place) → waiting_count k ps ≤ length ps
 few_waiting k ps = count_by-le-length (λ p. p.shared_passed == k) ps
@@ -262,19 +257,20 @@ module _ {S T : Type 0} (m : HashMap ℕ Place S) (place : Option ℕ → Option
 
   -- its place is gone
   pub sound_closed : (n : HashMap ℕ Place S) (place' : Option ℕ
-      → Option Place) (q c' : ℕ) (p : Place) (shared' : List Shared) → get nat_eq m q ≡ Some p
-      → IsPermutation (remove_entry (nat_eq q) m.entries) n.entries
+      → Option Place) (q c' i : ℕ) (p : Place) (shared' : List Shared) → get nat_eq m q ≡ Some p
+      → position (nat_eq q) (keys_of m.entries) ≡ Some i
+      → n.entries ≡ swap_remove_entry (nat_eq q) m.entries
       → place' None ≡ place None → ((r : ℕ) → place' (Some r) ≡ cond (nat_eq q r) None (place (Some r)))
       → ((k : ℕ) → readers_at shared' c' k + (if k == (p.shared_passed - shared_base) then 1 else 0)
       ≡ readers_at shared c k)
       → map (λ s. s.at) shared' ≡ map (λ s. s.at) shared
       → AreSound place' (values n) base shared_base c' es links shared'
-  sound_closed n place' q c' p shared' is perm none some less same =
+  sound_closed n place' q c' i p shared' is index gone none some less same =
       let b = place_bounds q p is in
       sound_less place place' (values m) (values n) base shared_base c c' es links shared shared'
       (removed place place' q none some) same
       (λ k.
-      let a = waiting_removed m n q (shared_base + k) p perm is in
+      let a = waiting_removed m n q (shared_base + k) i p index gone is in
       let d = less k in
       let g = h.standing_are k in
       elim (cases_eq k (p.shared_passed - shared_base)) [
@@ -328,17 +324,17 @@ module _ {S T : Type 0} (m n : HashMap ℕ Place S) (place place' : Option ℕ
       omega (arith, a, b, f, length-values_of m.entries)
 
   -- a place after the last entry is added
-  pub sound_opened : (q : ℕ) (x : Place) (old : Option Place) → place (Some q) ≡ None → get nat_eq m q ≡ None
-      → old ≡ get nat_eq m q → PutsEntry nat_eq m n q x old
+  pub sound_opened : (q : ℕ) (x : Place) → place (Some q) ≡ None → get nat_eq m q ≡ None
+      → n.entries ≡ insert_entry nat_eq m.entries q x
       → place' None ≡ place None → ((r : ℕ) → place' (Some r) ≡ cond (nat_eq q r) (Some x) (place (Some r)))
       → x.from ≡ base + length es → x.chain ≡ None → x.shared_passed ≡ shared_base + length shared
       → AreSound place' (values n) base shared_base (c + 1) es links shared
-  sound_opened q x old closed unheld is puts none some from own_none seen =
+  sound_opened q x closed unheld puts none some from own_none seen =
       sound_put place place' (values m) (values n) base shared_base c (c + 1) es links shared shared (Some q) x
       (changed_number place place' q x none some) (fresh_place (Some q) base es links x from own_none)
       (λ r _. fresh_seen shared_base base es shared x from seen h.positions_are) refl
       (λ k.
-      let a = waiting_put m n q (shared_base + k) x old is puts (is ∙ unheld) in
+      let a = waiting_put m n q (shared_base + k) x unheld puts in
       let d = raise_end shared c (length shared) k (omega arith) (omega arith) in
       let g = h.standing_are k in
       elim (cases_eq k (length shared)) [

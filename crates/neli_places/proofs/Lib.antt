@@ -1,3 +1,4 @@
+pub mod Numbers
 pub mod Pops
 pub mod Waits
 pub mod Changes

@@ -55,7 +55,7 @@ impl<T: Drop> Places<T> {
     {
         let at = self.base + self.entries.len() as u64;
         link(&mut self.links, self.base, p.chain, at);
-        put(&mut self.numbers, n, extended(p, at));
+        put(&mut self.numbers, self.hints.hint(n), n, extended(p, at));
         append(
             &mut self.entries,
             &mut self.links,

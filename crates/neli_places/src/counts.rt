@@ -7,19 +7,23 @@ ghost use Rattle.std.specs.Map.{set_value};
 ghost use Rattle.std.specs.VecDeque.{deque_capacity, deque_len};
 ghost use Rattle.neli_places.specs.Places.{readers_at};
 
+use crate::hints::index_of;
 use crate::place::{Place, Shared};
-use std::collections::{HashMap, VecDeque};
+use indexmap::IndexMap;
+use std::collections::VecDeque;
 
 /// Replaces the place of a number that has one.
-pub(crate) fn put(numbers: &mut HashMap<u32, Place>, number: u32, place: Place)
+pub(crate) fn put(numbers: &mut IndexMap<u32, Place>, hint: usize, number: u32, place: Place)
     requires { is_some (get nat_eq numbers.old number) ≡ true }
     ensures updates { (q : ℕ) → get nat_eq numbers.new q
         ≡ (if nat_eq number q then Some place else get nat_eq numbers.old q) }
     ensures entries { numbers.new.entries ≡ set_value (nat_eq number) numbers.old.entries place }
     ensures room { spare numbers.new ≡ spare numbers.old }
 {
-    if let Some(kept) = numbers.get_mut(&number) {
-        *kept = place;
+    if let Some(index) = index_of(numbers, hint, number) {
+        if let Some(kept) = numbers.get_index_mut(index) {
+            *kept = place;
+        }
     }
 }
 

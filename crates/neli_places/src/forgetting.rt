@@ -8,6 +8,7 @@ ghost use Rattle.neli_places.specs.Routes.{is_shared};
 
 use crate::counts::lower;
 use crate::entry::{Entry, Route};
+use crate::hints::place_at;
 use crate::places::Places;
 
 impl<T: Drop> Places<T> {
@@ -23,7 +24,7 @@ impl<T: Drop> Places<T> {
                 None => false,
                 Some(p) => p.from <= self.base,
             },
-            Route::Number(n) => match self.numbers.get(&n) {
+            Route::Number(n) => match place_at(&self.numbers, self.hints.hint(n), n) {
                 None => false,
                 Some(p) => p.from <= self.base,
             },
@@ -116,7 +117,8 @@ impl<T: Drop> Places<T> {
         ensures room { KeepsRoom self.old self.new }
         ensures place_room { KeepsPlaceRoom self.old self.new }
     {
-        if let Some(p) = self.numbers.remove(&n) {
+        if let Some((index, _, p)) = self.numbers.swap_remove_full(&n) {
+            self.hints.note_at(&self.numbers, index);
             let i = (p.shared_passed - self.shared_base) as usize;
             lower(&mut self.shared, &mut self.caught_up, i);
         }

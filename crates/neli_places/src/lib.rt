@@ -17,7 +17,8 @@
 //!
 //! By definition, the entries alone show what a list waits for. To avoid a search, an entry links to the next one of
 //! its number, a place stores the first and the last of its own, and each entry for all numbers counts the places that
-//! stand at it. No clause speaks of time; as the code is written, that of a step does not grow with the places, nor
+//! stand at it. The place of a number is found without hashing where numbers come in a row: by a hint, after which the
+//! number is compared. No clause speaks of time; as the code is written, that of a step does not grow with the places, nor
 //! with the entries that wait.
 //!
 //! - [`Route`]: the receivers of an entry.
@@ -32,6 +33,7 @@ mod chains;
 mod counts;
 mod entry;
 mod forgetting;
+mod hints;
 pub mod laws;
 mod passing;
 mod place;

@@ -72,7 +72,7 @@ impl<T: Drop> Places<T> {
         ensures place_room { KeepsPlaceRoom self.old self.new }
     {
         let after = self.after_own(Some(n), p, m);
-        put(&mut self.numbers, n, after);
+        put(&mut self.numbers, self.hints.hint(n), n, after);
     }
 
     /// Moves a number's place past the entry at position `m`, its first, which goes to all numbers.
@@ -99,7 +99,7 @@ impl<T: Drop> Places<T> {
             chain: p.chain,
             shared_passed: p.shared_passed + 1,
         };
-        put(&mut self.numbers, n, after);
+        put(&mut self.numbers, self.hints.hint(n), n, after);
     }
 
     /// The place after the entry at position `m`, its first, which goes to this list only.

@@ -11,9 +11,11 @@ ghost use Rattle.neli_places.specs.Routes.{entry};
 ghost use Rattle.neli_places.specs.declared.entry.Route.{Route as Way};
 
 use crate::entry::{Entry, Route};
+use crate::hints::{Hints, place_at};
 use crate::place::{Place, Shared};
+use indexmap::IndexMap;
 use std::alloc::{AllocError, Global};
-use std::collections::{HashMap, VecDeque};
+use std::collections::VecDeque;
 
 /// Entries in the order of arrival, each stored once however many lists wait for it, and a place for each open number
 /// and for multicast.
@@ -28,7 +30,8 @@ pub struct Places<T> {
     pub(crate) shared: VecDeque<Shared>,
     pub(crate) caught_up: usize,
     pub(crate) multicast: Option<Place>,
-    pub(crate) numbers: HashMap<u32, Place>,
+    pub(crate) numbers: IndexMap<u32, Place>,
+    pub(crate) hints: Hints,
 }
 
 impl<T: Drop> Places<T> {
@@ -51,7 +54,8 @@ impl<T: Drop> Places<T> {
                 chain: None,
                 shared_passed: 0,
             }),
-            numbers: HashMap::new(alloc),
+            numbers: IndexMap::new(alloc),
+            hints: Hints::new(alloc),
         }
     }
 
@@ -60,7 +64,7 @@ impl<T: Drop> Places<T> {
     {
         match whose {
             None => self.multicast,
-            Some(n) => self.numbers.get(&n).copied(),
+            Some(n) => place_at(&self.numbers, self.hints.hint(n), n),
         }
     }
 
@@ -77,7 +81,7 @@ impl<T: Drop> Places<T> {
     {
         match route {
             Route::Multicast => self.multicast.is_some(),
-            Route::Number(n) => self.numbers.contains_key(&n),
+            Route::Number(n) => place_at(&self.numbers, self.hints.hint(n), n).is_some(),
             Route::Numbers => self.numbers.len() > 0,
         }
     }
@@ -112,6 +116,7 @@ impl<T: Drop> Places<T> {
             },
         )?;
         self.caught_up += 1;
+        self.hints.note_last(&self.numbers);
         Ok(())
     }
 

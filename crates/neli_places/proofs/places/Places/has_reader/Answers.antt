@@ -1,4 +1,4 @@
-use Rattle.std.proofs.Common.{Some, arith, ◌<◌, ◌∙◌, refl, sym}
+use Rattle.std.proofs.Common.{Some, arith, ◌<◌, ◌∙◌, refl, sym, ap, is_some}
 use Rattle.std.proofs.lemmas.Bool.Decides.{nat_tests}
 use Rattle.neli_places.specs.Places.{pending_of, rest}
 use Rattle.neli_places.specs.Routes.{items_for}
@@ -8,10 +8,11 @@ use Rattle.neli_places.proofs.places.Places.has_reader.Goals as goal
 pub returns-in-Number : goal.returns-in-Number
 returns-in-Number g c =
     let s = c.args.self.now in
+    let there = c.is_some-in-Number.ensures ∙ ap is_some c.place_at.ensures in
     rw c.in-Number.is (
       (λ t. number_reads s.numbers (λ q p. items_for (Some q) (rest s.base s.entries.items p)) (pending_of s)
-          (λ q. refl) c.in-Number.n (sym c.contains_key.ensures ∙ t)),
-      (λ r. c.contains_key.ensures ∙ reads_number s.numbers (λ q p. items_for (Some q) (rest s.base s.entries.items p))
+          (λ q. refl) c.in-Number.n (sym there ∙ t)),
+      (λ r. there ∙ reads_number s.numbers (λ q p. items_for (Some q) (rest s.base s.entries.items p))
           (pending_of s) (λ q. refl) c.in-Number.n r),
     )
 

@@ -4,15 +4,14 @@ use Rattle.neli_places.specs.Places.{place_of, readers_at}
 use Rattle.neli_places.proofs.Waits.{awaited, unawaited, front_standing, eqb_refl}
 use Rattle.neli_places.proofs.places.Places.is_awaited.Goals as goal
 
-pub returns-in-Some-get-clause-yes : goal.returns-in-Some-get-clause-yes
-returns-in-Some-get-clause-yes g c = λ t.
-    let v = rw c.in-Some-get.is at c.get.ensures.value in (
-      Some c.in-Number.n,
-      c.in-Some-get.p.now,
-      sym v,
-      grind (arith, nat_tests),
-      rw c.in-Number.is (eqb_refl c.in-Number.n),
-    )
+pub returns-in-Some-place_at-clause-yes : goal.returns-in-Some-place_at-clause-yes
+returns-in-Some-place_at-clause-yes g c = λ t. (
+  Some c.in-Number.n,
+  c.in-Some-place_at.p,
+  sym c.place_at.ensures ∙ c.in-Some-place_at.is,
+  grind (arith, nat_tests),
+  rw c.in-Number.is (eqb_refl c.in-Number.n),
+)
 
 pub returns-in-Some-front-clause-yes : goal.returns-in-Some-front-clause-yes
 returns-in-Some-front-clause-yes g c = λ t.

@@ -40,7 +40,7 @@ returns-clause-trimmed g c =
     record {
       sound = sound_opened s.numbers c.insert.new.self
           (place_of s) _ s.base s.shared_base s.caught_up s.entries.items s.links.items s.shared.items h.sound
-          c.args.number x c.in_ok-insert.field-0 closed closed e.old e.entries refl e.updates.0
+          c.args.number x closed closed e.entries refl e.updates.0
           (omega (arith, s.entries.ok.0, c.len-2.ensures)) refl (omega (arith, s.shared.ok.0, c.len-3.ensures));
       begins = kept_trimmed (place_of s) _ s.base s.entries.items
           (put_keeps (place_of s) _ c.args.number x closed refl e.updates.0) h.begins;
