@@ -52,7 +52,7 @@ module _ (f : Place → ℕ) where
       let e = sum_entries m.entries in
       omega (arith, a, b, c, d, e)
 
-apart : (x : ℕ) (es : List (ℕ × Place)) (i q : ℕ) (y : Place)
+apart : {X : Type 0} (x : ℕ) (es : List (ℕ × X)) (i q : ℕ) (y : X)
     → AllByRecursion (λ k. nat_eq x k ≡ false) (keys_of es) → slice_get es i ≡ Some (q, y) → nat_eq q x ≡ false
 apart x [] i q y all h = cc
 apart x (e ∷ es) zero q y all h = let same : e ≡ (q, y) = cc in let key : e.0 ≡ q = ap (λ p. p.0) same in
@@ -60,29 +60,29 @@ apart x (e ∷ es) zero q y all h = let same : e ≡ (q, y) = cc in let key : e.
 apart x (e ∷ es) (suc i) q y all h = apart x es i q y all.1 h
 
 -- the place at an index of the table has a value there
-pub none_there : (es : List (ℕ × Place)) (i q : ℕ) (y : Place) → slice_get es i ≡ Some (q, y)
+pub none_there : {X : Type 0} (es : List (ℕ × X)) (i q : ℕ) (y : X) → slice_get es i ≡ Some (q, y)
     → None ≡ slice_get (values_of es) i → ⊥
 none_there [] i q y h none = cc
 none_there (e ∷ es) zero q y h none = cc
 none_there (e ∷ es) (suc i) q y h none = none_there es i q y h none
 
-key_passes : (q k : ℕ) (es : List (ℕ × Place)) → lookup_key (nat_eq q) es ≡ Some k → q ≡ k
+key_passes : {X : Type 0} (q k : ℕ) (es : List (ℕ × X)) → lookup_key (nat_eq q) es ≡ Some k → q ≡ k
 key_passes q k [] h = cc
 key_passes q k (e ∷ es) h = elim (true_or_false (nat_eq q e.0)) [
   | inl it ↦ (let f = rw it at h in let same : e.0 ≡ k = cc in eqb_same q e.0 it ∙ same)
   | inr it ↦ (let f = rw it at h in key_passes q k es f)
 ]
 
-entry_of_key : (es : List (ℕ × Place)) (i : ℕ) → i < length es
-    → (k : ℕ) × (y : Place) × (slice_get (keys_of es) i ≡ Some k) × (slice_get es i ≡ Some (k, y))
+entry_of_key : {X : Type 0} (es : List (ℕ × X)) (i : ℕ) → i < length es
+    → (k : ℕ) × (y : X) × (slice_get (keys_of es) i ≡ Some k) × (slice_get es i ≡ Some (k, y))
 entry_of_key [] i h = absurd (omega arith)
 entry_of_key (e ∷ es) zero h = (e.0, e.1, refl, refl)
 entry_of_key (e ∷ es) (suc i) h = entry_of_key es i (omega arith)
 
 -- at the index of a number's key its place stands
-pub found_at : {S : Type 0} (m : HashMap ℕ Place S) (q : ℕ) (o : Option ℕ)
+pub found_at : {X S : Type 0} (m : HashMap ℕ X S) (q : ℕ) (o : Option ℕ)
     → o ≡ position (nat_eq q) (keys_of m.entries)
-    → IfSome o (λ i. (y : Place) × (slice_get m.entries i ≡ Some (q, y)))
+    → IfSome o (λ i. (y : X) × (slice_get m.entries i ≡ Some (q, y)))
 found_at m q None at = tt
 found_at m q (Some i) at =
     let there = Found-position (nat_eq q) m.entries i (sym at) in
@@ -91,7 +91,7 @@ found_at m q (Some i) at =
     (e.1, e.3 ∙ ap (λ k. Some (k, e.1)) (sym same))
 
 -- the place at an index of the table is its number's
-pub set_at : (es : List (ℕ × Place)) (i q : ℕ) (y w : Place) → IsDistinct nat_eq (keys_of es)
+pub set_at : {X : Type 0} (es : List (ℕ × X)) (i q : ℕ) (y w : X) → IsDistinct nat_eq (keys_of es)
     → slice_get es i ≡ Some (q, y) → set_value_at es i w ≡ set_value (nat_eq q) es w
 set_at [] i q y w unique h = refl
 set_at (e ∷ es) zero q y w unique h =

@@ -7,8 +7,8 @@ ghost use Rattle.neli_places.specs.Places.{pending_of, place_of};
 ghost use Rattle.neli_places.specs.Routes.{entry};
 
 use crate::chains::{extended, link};
-use crate::counts::put;
 use crate::entry::{Entry, Route};
+use crate::hints::put;
 use crate::place::{Place, Shared};
 use crate::places::Places;
 use std::collections::VecDeque;

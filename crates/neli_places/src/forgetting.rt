@@ -8,7 +8,7 @@ ghost use Rattle.neli_places.specs.Routes.{is_shared};
 
 use crate::counts::lower;
 use crate::entry::{Entry, Route};
-use crate::hints::place_at;
+use crate::hints::value_of;
 use crate::places::Places;
 
 impl<T: Drop> Places<T> {
@@ -24,7 +24,7 @@ impl<T: Drop> Places<T> {
                 None => false,
                 Some(p) => p.from <= self.base,
             },
-            Route::Number(n) => match place_at(&self.numbers, self.hints.hint(n), n) {
+            Route::Number(n) => match value_of(&self.numbers, self.hints.hint(n), n) {
                 None => false,
                 Some(p) => p.from <= self.base,
             },

@@ -1,44 +1,45 @@
-//! Finds a number's place without hashing, where numbers come in a row.
+//! Finds what belongs to a number without hashing, where numbers come in a row.
 
-ghost use Rattle.std.specs.Prelude.{◌≡◌, None, Some, IfSome, IsNone, nat_eq, slice_get};
-ghost use Rattle.std.specs.HashMap.{get};
-ghost use Rattle.neli_places.specs.declared.place.Place.{Place as Stood};
+ghost use Rattle.std.specs.Prelude.{◌≡◌, None, Some, IfSome, IsNone, if◌then◌else◌, is_some, nat_eq, slice_get, true};
+ghost use Rattle.std.specs.Prelude.{ℕ};
+ghost use Rattle.std.specs.HashMap.{get, spare};
+ghost use Rattle.std.specs.Map.{set_value};
 
-use crate::place::Place;
 use indexmap::IndexMap;
 use std::alloc::Global;
 
 /// The fewest hints that are kept, if any.
 const FEWEST: usize = 16;
 
-/// Where the places of numbers may be found: by the low bits of a number, an index of the table of places.
+/// Where numbers may be found in a table: by the low bits of a number, an index of the table.
 ///
 /// A hint may be wrong, so each look-up compares the number that is found there with its own. It is right for numbers
-/// in a row, however they were opened and closed and also where they wrap, since no two of them share a hint.
+/// in a row, however they were added and removed, and also where they wrap: no two of them share a hint.
 #[derive(Drop)]
-pub(crate) struct Hints {
+pub struct Hints {
     /// A power of two of them, or none.
     indices: Vec<u32>,
 }
 
 impl Hints {
     /// No hints. It takes no memory.
-    pub(crate) fn new(alloc: Global) -> Hints {
+    pub fn new(alloc: Global) -> Hints {
         Hints {
             indices: Vec::new(alloc),
         }
     }
 
     /// The hint for a number.
-    pub(crate) fn hint(&self, number: u32) -> usize {
+    #[inline]
+    pub fn hint(&self, number: u32) -> usize {
         match self.indices.get(slot(number, self.indices.len())) {
             None => 0,
             Some(index) => *index as usize,
         }
     }
 
-    /// Stores the hint for the number at an index of the table, if there is one.
-    pub(crate) fn note_at(&mut self, numbers: &IndexMap<u32, Place>, index: usize) {
+    /// Stores the hint for the number at an index of the table, if there is one. It takes no memory.
+    pub fn note_at<V>(&mut self, numbers: &IndexMap<u32, V>, index: usize) {
         if let Some((number, _)) = numbers.get_index(index) {
             let slot = slot(*number, self.indices.len());
             if let Some(kept) = self.indices.get_mut(slot) {
@@ -49,7 +50,7 @@ impl Hints {
 
     /// Stores the hint for the last number of the table. If memory runs out, fewer hints are kept than there are
     /// numbers.
-    pub(crate) fn note_last(&mut self, numbers: &IndexMap<u32, Place>) {
+    pub fn note_last<V>(&mut self, numbers: &IndexMap<u32, V>) {
         if self.indices.len() < numbers.len() {
             self.grow(numbers);
         }
@@ -57,7 +58,7 @@ impl Hints {
     }
 
     /// Makes twice as many hints, and stores all of them anew; if memory runs out, none is changed.
-    fn grow(&mut self, numbers: &IndexMap<u32, Place>) {
+    fn grow<V>(&mut self, numbers: &IndexMap<u32, V>) {
         let count = self.indices.len().saturating_mul(2).max(FEWEST);
         if self.indices.resize(count, 0).is_ok() {
             for index in 0..numbers.len() {
@@ -68,14 +69,16 @@ impl Hints {
 }
 
 /// Which of so many hints is a number's own.
+#[inline]
 fn slot(number: u32, count: usize) -> usize {
     number as usize & count.wrapping_sub(1)
 }
 
-/// The index of a number's place, if it has one.
-pub(crate) fn index_of(numbers: &IndexMap<u32, Place>, hint: usize, number: u32) -> Option<usize>
+/// The index of a number in the table, if it is there.
+#[inline]
+fn index_of<V>(numbers: &IndexMap<u32, V>, hint: usize, number: u32) -> Option<usize>
     ensures found { IfSome result
-        (λ i. (p : Stood) × (slice_get numbers.now.entries i ≡ Some (number, p))) }
+        (λ i. (v : V) × (slice_get numbers.now.entries i ≡ Some (number, v))) }
     ensures none { IsNone result → get nat_eq numbers.now number ≡ None }
 {
     if let Some((hinted, _)) = numbers.get_index(hint) {
@@ -86,14 +89,30 @@ pub(crate) fn index_of(numbers: &IndexMap<u32, Place>, hint: usize, number: u32)
     numbers.get_index_of(&number)
 }
 
-/// The place of a number, if it has one.
-pub(crate) fn place_at(numbers: &IndexMap<u32, Place>, hint: usize, number: u32) -> Option<Place>
+/// What belongs to a number in the table, if it is there.
+#[inline]
+pub fn value_of<V: Copy>(numbers: &IndexMap<u32, V>, hint: usize, number: u32) -> Option<V>
     ensures { result ≡ get nat_eq numbers.now number }
 {
-    if let Some((kept, place)) = numbers.get_index(hint) {
+    if let Some((kept, value)) = numbers.get_index(hint) {
         if *kept == number {
-            return Some(*place);
+            return Some(*value);
         }
     }
     numbers.get(&number).copied()
+}
+
+/// Replaces what belongs to a number that is in the table.
+pub fn put<V: Copy>(numbers: &mut IndexMap<u32, V>, hint: usize, number: u32, value: V)
+    requires { is_some (get nat_eq numbers.old number) ≡ true }
+    ensures updates { (q : ℕ) → get nat_eq numbers.new q
+        ≡ (if nat_eq number q then Some value else get nat_eq numbers.old q) }
+    ensures entries { numbers.new.entries ≡ set_value (nat_eq number) numbers.old.entries value }
+    ensures room { spare numbers.new ≡ spare numbers.old }
+{
+    if let Some(index) = index_of(numbers, hint, number) {
+        if let Some(kept) = numbers.get_index_mut(index) {
+            *kept = value;
+        }
+    }
 }

@@ -23,6 +23,7 @@
 //!
 //! - [`Route`]: the receivers of an entry.
 //! - [`Places`]: the entries and the places.
+//! - [`hints`]: what belongs to a number, found without hashing where numbers come in a row.
 //! - [`laws`]: `==` of routes is equality.
 //!
 //! `specs/Routes.antt` defines the receivers of entries, `specs/Places.antt` what the fields hold.
@@ -33,7 +34,7 @@ mod chains;
 mod counts;
 mod entry;
 mod forgetting;
-mod hints;
+pub mod hints;
 pub mod laws;
 mod passing;
 mod place;

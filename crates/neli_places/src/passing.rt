@@ -8,7 +8,8 @@ ghost use Rattle.neli_places.specs.Places.{entries_of, next_position, pending_of
 ghost use Rattle.neli_places.specs.Routes.{is_shared, leads_only};
 
 use crate::chains::{lesser_of, start, without_first};
-use crate::counts::{lower, put, raise};
+use crate::counts::{lower, raise};
+use crate::hints::put;
 use crate::place::Place;
 use crate::places::Places;
 

@@ -11,7 +11,7 @@ ghost use Rattle.neli_places.specs.Routes.{entry};
 ghost use Rattle.neli_places.specs.declared.entry.Route.{Route as Way};
 
 use crate::entry::{Entry, Route};
-use crate::hints::{Hints, place_at};
+use crate::hints::{Hints, value_of};
 use crate::place::{Place, Shared};
 use indexmap::IndexMap;
 use std::alloc::{AllocError, Global};
@@ -59,12 +59,13 @@ impl<T: Drop> Places<T> {
         }
     }
 
+    #[inline]
     fn place(&self, whose: Option<u32>) -> Option<Place>
         ensures { result ≡ place_of self.now whose }
     {
         match whose {
             None => self.multicast,
-            Some(n) => place_at(&self.numbers, self.hints.hint(n), n),
+            Some(n) => value_of(&self.numbers, self.hints.hint(n), n),
         }
     }
 
@@ -81,7 +82,7 @@ impl<T: Drop> Places<T> {
     {
         match route {
             Route::Multicast => self.multicast.is_some(),
-            Route::Number(n) => place_at(&self.numbers, self.hints.hint(n), n).is_some(),
+            Route::Number(n) => value_of(&self.numbers, self.hints.hint(n), n).is_some(),
             Route::Numbers => self.numbers.len() > 0,
         }
     }

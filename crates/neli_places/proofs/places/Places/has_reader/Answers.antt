@@ -8,7 +8,7 @@ use Rattle.neli_places.proofs.places.Places.has_reader.Goals as goal
 pub returns-in-Number : goal.returns-in-Number
 returns-in-Number g c =
     let s = c.args.self.now in
-    let there = c.is_some-in-Number.ensures ∙ ap is_some c.place_at.ensures in
+    let there = c.is_some-in-Number.ensures ∙ ap is_some c.value_of.ensures in
     rw c.in-Number.is (
       (λ t. number_reads s.numbers (λ q p. items_for (Some q) (rest s.base s.entries.items p)) (pending_of s)
           (λ q. refl) c.in-Number.n (sym there ∙ t)),

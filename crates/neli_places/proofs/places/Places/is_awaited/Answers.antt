@@ -4,11 +4,11 @@ use Rattle.neli_places.specs.Places.{place_of, readers_at}
 use Rattle.neli_places.proofs.Waits.{awaited, unawaited, front_standing, eqb_refl}
 use Rattle.neli_places.proofs.places.Places.is_awaited.Goals as goal
 
-pub returns-in-Some-place_at-clause-yes : goal.returns-in-Some-place_at-clause-yes
-returns-in-Some-place_at-clause-yes g c = λ t. (
+pub returns-in-Some-value_of-clause-yes : goal.returns-in-Some-value_of-clause-yes
+returns-in-Some-value_of-clause-yes g c = λ t. (
   Some c.in-Number.n,
-  c.in-Some-place_at.p,
-  sym c.place_at.ensures ∙ c.in-Some-place_at.is,
+  c.in-Some-value_of.p,
+  sym c.value_of.ensures ∙ c.in-Some-value_of.is,
   grind (arith, nat_tests),
   rw c.in-Number.is (eqb_refl c.in-Number.n),
 )
