@@ -3,3 +3,4 @@ pub mod Entries
 pub mod Routed
 pub mod Stages
 pub mod Stores
+pub mod LentSpans

@@ -3,3 +3,4 @@ pub mod Routed
 pub mod Next
 pub mod Staged
 pub mod Log
+pub mod Lending

@@ -1,6 +1,7 @@
 //! The shared store of deliveries: each is stored once, however many handles wait for it.
 //!
 //! - [`Log`]: the store, an implementation of [`neli_deliveries::Deliveries`].
+//! - [`LentDelivery`]: the first delivery that waits, lent in place by [`Log::lend_first`].
 //!
 //! A datagram's bytes are copied once, and a message is a span of them. An entry of the log is such a span or a fault,
 //! with the route that was decided on arrival; each open number, and multicast until it is closed, has a place among
@@ -19,15 +20,17 @@
 //!
 //! `specs/Contents.antt` defines the delivery of an entry, `specs/Routed.antt` the routes of a datagram's deliveries,
 //! `specs/Log.antt` what the fields hold, `specs/Next.antt` and `specs/Staged.antt` the reading of a datagram, step by
-//! step.
+//! step, and `specs/Lending.antt` what is lent.
 #![tactic(auto)]
 
 mod content;
 mod handing;
+mod lending;
 mod log;
 mod next;
 mod reading;
 mod staging;
 mod store;
 
+pub use lending::LentDelivery;
 pub use log::Log;

@@ -25,7 +25,7 @@ use std::marker::Model;
 /// many numbers are open and however much waits.
 #[derive(Drop)]
 pub struct Log {
-    store: Store,
+    pub(crate) store: Store,
 }
 
 impl Model for Log {
