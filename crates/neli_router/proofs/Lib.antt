@@ -1,3 +1,5 @@
 mod Families
 mod Sends
 mod Settling
+mod LentItems
+mod LentTypes

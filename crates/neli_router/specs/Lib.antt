@@ -1,4 +1,5 @@
 pub mod GivenUp
+pub mod Lending
 pub mod Listening
 pub mod Requests
 pub mod Rule

@@ -5,18 +5,21 @@
 //! - [`NlRouterReceiverHandle`]: the handle of a request, by its sequence number, or that of multicast, without one.
 //! - [`Reply`]: what a read answers: an item, the end, or a wait.
 //! - [`Verdict`]: how an answer stands: whether what was given is all of it; [`verdict_of`] returns it of items in a list.
-//! - [`laws`]: `==` of what is known of handles is equality.
+//! - [`NlRouter::lend_next`] and [`NlRouter::pass`]: the same read of a router over a log, without a copy; [`LentReply`] is
+//!   what it answers.
+//! - [`laws`]: `==` of what is known of handles is equality, and a lent read is an owned one.
 //!
 //! `specs/Rule.antt` defines where a handle's answers end and what each read returns; `specs/Sends.antt` the bytes of a
 //! request, and the three causes that refuse it; `specs/Requests.antt` the two requests to the controller of generic
 //! netlink; `specs/Verdicts.antt` the verdict on an answer, and `specs/GivenUp.antt` what is kept of one that was given
-//! up.
+//! up; `specs/Lending.antt` what a lent read lends, and what passing it changes.
 #![tactic(auto)]
 
 mod given_up;
 mod handle;
 mod items;
 pub mod laws;
+mod lending;
 mod listening;
 mod reply;
 mod requests;
@@ -27,6 +30,7 @@ mod verdict;
 pub use given_up::GivenUp;
 pub use handle::{HandleState, NlRouterReceiverHandle};
 pub use items::{filtered_of, verdict_of};
+pub use lending::{LentError, LentReply};
 pub use listening::{Missed, Notice};
 pub use neli_deliveries::{Deliveries, Delivery};
 pub use reply::Reply;

@@ -94,7 +94,7 @@ pub(crate) fn has_flag<T, P>(flag: NlmF, item: &Result<Nlmsghdr<T, P>, RouterErr
 }
 
 /// By a fault of the link, or of a datagram.
-fn fault_verdict(error: &SocketError) -> Verdict
+pub(crate) fn fault_verdict(error: &SocketError) -> Verdict
     ensures { result ≡ fault_verdict error.now }
 {
     match error {

@@ -1,0 +1,371 @@
+//! Lent reads: a handle's next item where the log keeps its bytes, and the step past it.
+
+ghost use Rattle.std.specs.Prelude.{true, false, ◌≡◌, ◌||◌, ◌∷◌, [], ℕ, List, None, Some, Err, option_map};
+ghost use Rattle.neli_reader.specs.Kinds.{is_acknowledged};
+ghost use Rattle.neli_lent.specs.Messages.{message_said};
+ghost use Rattle.neli_deliveries.specs.Lists.{SameListsBut};
+ghost use Rattle.neli_deliveries.specs.declared.delivery.Delivery.{Delivery as Waiting};
+ghost use Rattle.neli_log.specs.Log.{pending_of};
+ghost use Rattle.neli_router.specs.Lending.{IsLentReply, code_or_zero, lent_end_code, lent_ends, lent_error_verdict};
+ghost use Rattle.neli_router.specs.Lending.{lent_item, lent_last, lent_single, lent_step, lent_verdict};
+ghost use Rattle.neli_router.specs.Lending.{is_lent_flagged, untyped, with_step};
+ghost use Rattle.neli_router.specs.Rule.{ends_at, has_number, is_single, item_of};
+ghost use Rattle.neli_router.specs.Verdicts.{heard_of, heard_with};
+ghost use Rattle.neli_router.specs.declared.lending.LentError.TheVariants as error;
+ghost use Rattle.neli_router.specs.declared.lending.LentReply.TheVariants as reply;
+
+use crate::verdict::{ends_exchange, fault_verdict};
+use crate::{Deliveries, HandleState, Heard, Loss, NlRouter, NlRouterReceiverHandle, Verdict};
+use bitflags::Flags;
+use byteorder::{ByteOrder, LittleEndian};
+use neli_consts::{NLMSG_DONE, NLMSG_ERROR, NlmF};
+use neli_lent::LentMessage;
+use neli_log::{LentDelivery, Log};
+use neli_reader::SocketError;
+use std::collections::HashMap;
+
+/// The error in place of a lent message: the [`RouterError`](neli_reader::RouterError) of that name, with nothing of it
+/// copied.
+#[derive(Clone, Copy, Debug)]
+pub enum LentError<'b> {
+    /// The other side answered with an error: its code, as -19 for `ENODEV`, and the message of it. An owned read
+    /// returns it as `Nlmsgerr`, or as `Capped`.
+    Answer(i32, LentMessage<'b, u16>),
+    /// Something else arrived in place of the acknowledgement.
+    NoAck,
+    /// An acknowledgement arrived that was not requested.
+    UnexpectedAck,
+    /// A message arrived with a sequence number or a port that no request has.
+    BadSeqOrPid(LentMessage<'b, u16>),
+    /// A datagram could not be read to its end, or the link failed.
+    Socket(&'b SocketError),
+    /// The handle is not open here.
+    ClosedChannel,
+}
+
+/// The result of a lent read of a handle.
+#[derive(Clone, Copy, Debug)]
+pub enum LentReply<'b> {
+    /// The next item: a message, or an error in place of one.
+    Item(Result<LentMessage<'b, u16>, LentError<'b>>),
+    /// The handle has ended: no item follows.
+    End,
+    /// No item has arrived yet.
+    Waits,
+}
+
+/// The code at the front of an answer or of the end of a dump; 0 if these bytes are too few.
+fn code_of(payload: &[u8]) -> i32
+    ensures { result ≡ code_or_zero payload.now }
+{
+    if payload.len() < 4 {
+        return 0;
+    }
+    LittleEndian::read_i32(payload)
+}
+
+/// Whether the payload of an answer is an acknowledgement, and no error.
+fn is_acknowledgement(payload: &[u8]) -> bool
+    ensures { result ≡ is_acknowledged payload.now }
+{
+    payload.len() >= 20 && LittleEndian::read_u32(payload) == 0
+}
+
+/// Whether a lent message is a whole reply to a request, or the last message of one.
+fn is_single(numbered: bool, message: &LentMessage<'_, u16>) -> bool
+    ensures { result ≡ lent_single numbered (message_said message.now) }
+{
+    let number = *message.nl_type();
+    numbered
+        && number != NLMSG_ERROR
+        && (!message.nl_flags().contains(NlmF::MULTI) || number == NLMSG_DONE)
+}
+
+/// Whether a handle's answers end at this message.
+fn ends(state: HandleState, message: &LentMessage<'_, u16>) -> bool
+    ensures { result ≡ lent_ends state.needs_ack (has_number state.number) state.single_given
+        (message_said message.now) }
+{
+    *message.nl_type() == NLMSG_ERROR
+        || if state.needs_ack {
+            state.single_given
+        } else {
+            is_single(state.number.is_some(), message)
+        }
+}
+
+/// The item that is lent where the answers end at this message.
+fn last_item<'b>(
+    state: HandleState,
+    message: LentMessage<'b, u16>,
+) -> Result<LentMessage<'b, u16>, LentError<'b>>
+    ensures { result ≡ lent_last state.needs_ack state.single_given message.entry }
+{
+    if *message.nl_type() != NLMSG_ERROR {
+        return if state.single_given {
+            Err(LentError::NoAck)
+        } else {
+            Ok(message)
+        };
+    }
+    let payload = message.nl_payload();
+    if is_acknowledgement(payload) {
+        if state.needs_ack {
+            Ok(message)
+        } else {
+            Err(LentError::UnexpectedAck)
+        }
+    } else if state.single_given {
+        Err(LentError::NoAck)
+    } else {
+        Err(LentError::Answer(code_of(payload), message))
+    }
+}
+
+/// The item that is lent of a delivery.
+fn item_of<'b>(
+    state: HandleState,
+    delivery: LentDelivery<'b>,
+) -> Result<LentMessage<'b, u16>, LentError<'b>>
+    ensures { result ≡ lent_item state.needs_ack (has_number state.number) state.single_given
+        delivery.entry }
+{
+    match delivery {
+        LentDelivery::Message(message) => {
+            if ends(state, &message) {
+                last_item(state, message)
+            } else {
+                Ok(message)
+            }
+        }
+        LentDelivery::Stray(message) => Err(LentError::BadSeqOrPid(message)),
+        LentDelivery::Fault(fault) => Err(LentError::Socket(fault)),
+    }
+}
+
+/// The code of the end of a dump, if a message is one; 0 of any other.
+fn end_code(message: &LentMessage<'_, u16>) -> i32
+    ensures { result ≡ lent_end_code (message_said message.now) }
+{
+    if *message.nl_type() == NLMSG_DONE && message.nl_flags().contains(NlmF::MULTI) {
+        code_of(message.nl_payload())
+    } else {
+        0
+    }
+}
+
+/// By the error in place of a message.
+fn error_verdict(error: LentError<'_>) -> Verdict
+    ensures { result ≡ lent_error_verdict error.entry }
+{
+    match error {
+        LentError::Answer(code, _) => Verdict::Failed(code),
+        LentError::NoAck => Verdict::Lost(Loss::NoAck),
+        LentError::UnexpectedAck => Verdict::Lost(Loss::UnexpectedAck),
+        LentError::BadSeqOrPid(_) => Verdict::Lost(Loss::Stray),
+        LentError::Socket(fault) => fault_verdict(fault),
+        LentError::ClosedChannel => Verdict::Lost(Loss::Closed),
+    }
+}
+
+/// Whether an item is a message with this flag.
+fn has_flag(flag: NlmF, item: &Result<LentMessage<'_, u16>, LentError<'_>>) -> bool
+    ensures { result ≡ is_lent_flagged flag.0 item.now }
+{
+    match item {
+        Ok(message) => message.nl_flags().contains(flag),
+        Err(_) => false,
+    }
+}
+
+/// By an item that is given, at which the answer ends or not.
+fn item_verdict(ended: bool, item: &Result<LentMessage<'_, u16>, LentError<'_>>) -> Verdict
+    ensures { result ≡ lent_verdict ended item.now }
+{
+    if has_flag(NlmF::DUMP_INTR, item) {
+        return Verdict::Interrupted;
+    }
+    if !ended {
+        return Verdict::Pending;
+    }
+    match item {
+        Ok(message) => {
+            let code = end_code(message);
+            if code == 0 {
+                Verdict::Complete
+            } else {
+                Verdict::Failed(code)
+            }
+        }
+        Err(error) => error_verdict(*error),
+    }
+}
+
+/// What a step past a delivery changes.
+#[derive(Clone, Copy)]
+struct Step {
+    single: bool,
+    ended: bool,
+    last: bool,
+    filtered: bool,
+    verdict: Verdict,
+}
+
+/// The step past a delivery.
+fn step_past(state: HandleState, delivery: LentDelivery<'_>) -> Step
+    ensures { result ≡ lent_step state.needs_ack (has_number state.number) state.single_given
+        delivery.entry }
+{
+    let (single, ended, last) = match &delivery {
+        LentDelivery::Message(message) => (
+            is_single(state.number.is_some(), message),
+            ends(state, message),
+            ends_exchange(state.needs_ack, *message.nl_type(), *message.nl_flags()),
+        ),
+        _ => (false, true, false),
+    };
+    let item = item_of(state, delivery);
+    Step {
+        single,
+        ended,
+        last,
+        filtered: has_flag(NlmF::DUMP_FILTERED, &item),
+        verdict: item_verdict(ended, &item),
+    }
+}
+
+/// A handle's state after a step.
+fn state_after(state: HandleState, step: Step) -> HandleState
+    ensures { result ≡ record state {
+      single_given = state.single_given || step.single;
+      ended = step.ended;
+    } }
+{
+    HandleState {
+        single_given: state.single_given || step.single,
+        ended: step.ended,
+        ..state
+    }
+}
+
+/// Notes a step in what is known of the answer to a request.
+fn hear(all: &mut HashMap<u32, Heard>, whose: Option<u32>, step: Step)
+    ensures heard { heard_of all.new whose ≡ option_map (with_step step) (heard_of all.old whose) }
+    ensures others { SameListsBut whose (heard_of all.old) (heard_of all.new) }
+{
+    if let Some(number) = whose {
+        if let Some(heard) = all.get_mut(&number) {
+            let verdict = match heard.verdict {
+                Verdict::Pending => step.verdict,
+                before => before,
+            };
+            *heard = Heard {
+                verdict,
+                filtered: heard.filtered || step.filtered,
+                finished: heard.finished || step.last,
+            };
+        }
+    }
+}
+
+impl NlRouter<Log> {
+    /// Lends the handle's next item until the next call that changes the router; or the end, or that it waits. It
+    /// takes no memory and copies nothing, and the item stays the next one until [`pass`](NlRouter::pass).
+    ///
+    /// It is the item that [`next_typed`](NlRouter::next_typed) returns, a message as its header and its payload's
+    /// bytes, whatever the handle's types are: the body is not read, so none is refused. A handle that is not open here
+    /// gives `ClosedChannel`.
+    ///
+    /// ```
+    /// while let LentReply::Item(Ok(message)) = router.lend_next(&handle) {
+    ///     for attr in message.get_attrs::<Ifinfomsg, Ifla>()? {
+    ///         count += attr?.attr_payload().len();
+    ///     }
+    ///     router.pass(&mut handle);
+    /// }
+    /// ```
+    pub fn lend_next<RT, RP>(&self, handle: &NlRouterReceiverHandle<RT, RP>) -> LentReply<'_>
+        ensures ended { handle.now.ended ≡ true → result ≡ reply.End }
+        ensures closed { handle.now.ended ≡ false
+            → pending_of self.now.deliveries handle.now.number ≡ None
+            → result ≡ reply.Item (Err error.ClosedChannel) }
+        ensures waits { handle.now.ended ≡ false
+            → pending_of self.now.deliveries handle.now.number ≡ Some []
+            → result ≡ reply.Waits }
+        ensures lends { handle.now.ended ≡ false → (d : Waiting) (ds : List Waiting)
+            → pending_of self.now.deliveries handle.now.number ≡ Some (d ∷ ds)
+            → IsLentReply (item_of (λ n. n) handle.now.needs_ack (has_number handle.now.number)
+            handle.now.single_given (untyped d)) result }
+    {
+        let state = handle.state();
+        if state.ended {
+            return LentReply::End;
+        }
+        if !self.deliveries.is_open(state.number) {
+            return LentReply::Item(Err(LentError::ClosedChannel));
+        }
+        match self.deliveries.lend_first(state.number) {
+            None => LentReply::Waits,
+            Some(delivery) => LentReply::Item(item_of(state, delivery)),
+        }
+    }
+
+    /// Goes on to the handle's next item: the router and the handle change as [`next_typed`](NlRouter::next_typed)
+    /// changes them where the message can be read as its types, and nothing is read. It takes no memory.
+    ///
+    /// Where no item waits nothing changes. A handle that is not open here is then ended.
+    pub fn pass<RT, RP>(&mut self, handle: &mut NlRouterReceiverHandle<RT, RP>)
+        ensures port { self.new.deliveries.port ≡ self.old.deliveries.port }
+        ensures next_seq { self.new.next_seq ≡ self.old.next_seq }
+        ensures ended { handle.old.ended ≡ true
+            → (handle.new ≡ handle.old) × (self.new ≡ self.old) }
+        ensures closed { handle.old.ended ≡ false
+            → pending_of self.old.deliveries handle.old.number ≡ None
+            → (handle.new ≡ record handle.old { ended = true }) × (self.new ≡ self.old) }
+        ensures waits { handle.old.ended ≡ false
+            → pending_of self.old.deliveries handle.old.number ≡ Some []
+            → (handle.new ≡ handle.old) × (self.new ≡ self.old) }
+        ensures passes { handle.old.ended ≡ false → (d : Waiting) (ds : List Waiting)
+            → pending_of self.old.deliveries handle.old.number ≡ Some (d ∷ ds)
+            → (pending_of self.new.deliveries handle.old.number ≡ Some ds)
+            × (handle.new ≡ record handle.old {
+              single_given = handle.old.single_given
+                  || is_single (λ n. n) (has_number handle.old.number) (untyped d);
+              ended = ends_at (λ n. n) handle.old.needs_ack
+                  (has_number handle.old.number) handle.old.single_given (untyped d);
+            }) }
+        ensures others { SameListsBut handle.old.number
+            (pending_of self.old.deliveries) (pending_of self.new.deliveries) }
+        // Beside `passes`: what that item adds for `verdict`.
+        ensures heard { handle.old.ended ≡ false → (d : Waiting) (ds : List Waiting)
+            → pending_of self.old.deliveries handle.old.number ≡ Some (d ∷ ds)
+            → heard_of self.new.heard handle.old.number
+            ≡ option_map (heard_with (λ n. n) handle.old.needs_ack
+            (has_number handle.old.number) handle.old.single_given (untyped d))
+            (heard_of self.old.heard handle.old.number) }
+        ensures unheard { SameListsBut handle.old.number
+            (heard_of self.old.heard) (heard_of self.new.heard) }
+        ensures given_up { self.new.given_up ≡ self.old.given_up }
+        ensures missed { self.new.missed ≡ self.old.missed }
+    {
+        let state = handle.state();
+        if state.ended {
+            return;
+        }
+        if !self.deliveries.is_open(state.number) {
+            handle.set_state(HandleState {
+                ended: true,
+                ..state
+            });
+            return;
+        }
+        let Some(delivery) = self.deliveries.lend_first(state.number) else {
+            return;
+        };
+        let step = step_past(state, delivery);
+        self.deliveries.drop_first(state.number);
+        hear(&mut self.heard, state.number, step);
+        let after = state_after(state, step);
+        handle.set_state(after);
+    }
+}
