@@ -2,13 +2,13 @@
 
 /// The router, its stores of deliveries, whole runs of it, and the resolvers of generic netlink's names.
 pub mod synchronous {
-    pub use neli_log::Log;
+    pub use neli_log::{LentDelivery, Log};
     pub use neli_queues::Queues;
     pub use neli_resolvers::{
         CtrlError, CtrlItem, find_genl_family, find_genl_family_and_group, find_nl_mcast_group,
         lookup_id, resolve_genl_family, resolve_nl_mcast_group,
     };
-    pub use neli_router::laws as laws_of_handles;
+    pub use neli_router::{LentError, LentReply, laws as laws_of_handles};
     pub use neli_runs::{
         Command, Deliveries, Delivery, GivenUp, HandleState, Heard, Loss, Missed, NlRouter,
         NlRouterReceiverHandle, Notice, Outcome, Reply, Verdict, filtered_of, laws, run,

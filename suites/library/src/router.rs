@@ -17,6 +17,7 @@
 //! - [`conversations`]: conversations with a kernel, as they were recorded.
 //! - [`random`]: scripts that a generator makes, over both stores. [`entries`]: what the log keeps.
 //! - [`out_of_memory`]: each allocation of a run refused in turn. [`limited`]: a store with a limit.
+//! - [`lent_reads`]: lent reads beside owned ones.
 //! - [`verdicts`]: verdicts on answers, requests that are given up, and listening that continues. [`short`]: the short
 //!   calls.
 //! - [`laws`]: the laws of runs, called. [`support`]: shared parts of the tests.
@@ -29,6 +30,7 @@ mod entries;
 mod faults;
 mod handles;
 mod laws;
+mod lent_reads;
 mod limited;
 mod many;
 mod numbers;

@@ -11,6 +11,7 @@ use neli::types::Buffer;
 #[test]
 fn laws_are_called() {
     laws_of_handles::equality();
+    laws_of_handles::lent_items_are_read::<u16, Buffer>();
     answers_only_grow::<u16, Buffer>();
     deliveries_only_grow::<u16, Buffer, u16, Buffer>();
     later_commands_leave_answers::<u16, Buffer, u16, Buffer>();

@@ -27,7 +27,7 @@ type Handle = NlRouterReceiverHandle<u16, Buffer>;
 type Item = Result<Nlmsghdr<u16, Buffer>, RouterError<u16, Buffer>>;
 
 /// A part of a dump with number 0 and port 7, and the same with the marks.
-const PART: &str = "10000000100002000000000007000000";
+pub const PART: &str = "10000000100002000000000007000000";
 
 const TWO_PARTS: &str = "10000000100002000000000007000000\
     10000000100002000000000007000000";
@@ -37,7 +37,7 @@ const MARKED: &str = "10000000100012000000000007000000";
 const FILTERED: &str = "10000000100022000000000007000000";
 
 /// The end of that dump, with code 0; marked; with the code -19.
-const END: &str = "1400000003000200000000000700000000000000";
+pub const END: &str = "1400000003000200000000000700000000000000";
 
 const MARKED_END: &str = "1400000003001200000000000700000000000000";
 
@@ -51,15 +51,15 @@ const ACK: &str = "2400000002000001000000000700000000000000140000001000050000000
 const ACK_OF_1: &str = "240000000200000101000000070000000000000014000000100005000100000007000000";
 
 /// A message without MULTI.
-const SINGLE: &str = "10000000100000000000000007000000";
+pub const SINGLE: &str = "10000000100000000000000007000000";
 
 /// A dump; a request with an acknowledgement.
-const DUMP: u16 = 0x300;
+pub const DUMP: u16 = 0x300;
 
-const WITH_ACK: u16 = 4;
+pub const WITH_ACK: u16 = 4;
 
 /// A request's flags, the datagrams that come, and how its answer stands when they are read; whether it was filtered.
-const ROWS: [(&str, u16, &[&str], Verdict, bool); 15] = [
+pub const ROWS: [(&str, u16, &[&str], Verdict, bool); 15] = [
     ("nothing came", DUMP, &[], Verdict::Pending, false),
     ("no end", DUMP, &[PART, PART], Verdict::Pending, false),
     ("a dump", DUMP, &[PART, PART, END], Verdict::Complete, false),
@@ -137,7 +137,7 @@ const ROWS: [(&str, u16, &[&str], Verdict, bool); 15] = [
     ),
 ];
 
-fn request<D: Deliveries>(
+pub fn request<D: Deliveries>(
     rt: &impl Abort,
     alloc: Global,
     router: &mut NlRouter<D>,
@@ -148,7 +148,7 @@ fn request<D: Deliveries>(
     sent.expect(rt, "a number and memory").1
 }
 
-fn come<D: Deliveries>(rt: &impl Abort, alloc: Global, router: &mut NlRouter<D>, text: &str) {
+pub fn come<D: Deliveries>(rt: &impl Abort, alloc: Global, router: &mut NlRouter<D>, text: &str) {
     let bytes = bytes_of(alloc, text).expect(rt, "memory");
     router
         .receive(&bytes, &Groups::empty(alloc))
