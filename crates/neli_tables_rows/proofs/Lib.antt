@@ -1,2 +1,3 @@
 mod Keyed
+mod Noted
 mod Passed

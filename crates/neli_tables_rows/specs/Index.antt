@@ -1,9 +1,10 @@
 -- Where the lines of a table stand, by their keys.
-use Rattle.std.specs.Prelude.{◌≡◌, ℕ, if◌then◌else◌, List, Option, Some, None}
+use Rattle.std.specs.Prelude.{◌≡◌, ℕ, Bool, true, false, if◌then◌else◌, List, Option, Some, None, slice_get}
 use Rattle.std.specs.BTreeMap.{get_by}
 use Rattle.std.specs.Option.{option_or}
 use Rattle.std.specs.Ordering.{nat_cmp, ordering_then}
 use Rattle.neli_tables.specs.Lines.{LineSeen}
+use Rattle.neli_tables_rows.specs.declared.firsts.Firsts.{Firsts}
 use Rattle.neli_tables_rows.specs.declared.index.Index.{Index}
 use Rattle.neli_tables_rows.specs.Keys.{Key, has_key, place_of}
 
@@ -20,3 +21,18 @@ first_found before key line place = option_or before (if has_key key line then S
 -- an index has the place of the first line with each key
 abbrev pub Indexes : Index → List LineSeen → Type 0
 Indexes index lines = (key : Key) → finds index key ≡ place_of key lines
+
+-- ---- lines that are the first with their keys
+
+abbrev pub has_that : Key → Option (Option Key) → Bool
+has_that key (Some first) = has_key key first
+has_that key None = false
+
+-- the line at a place is noted as the first with this key
+abbrev pub is_first : Firsts → ℕ → Key → Bool
+is_first firsts place key = has_that key (slice_get firsts.keys.items place)
+
+-- each line that is so noted is the first with its key
+abbrev pub AreFirsts : Firsts → List LineSeen → Type 0
+AreFirsts firsts lines =
+    (place : ℕ) (key : Key) → is_first firsts place key ≡ true → place_of key lines ≡ Some place

@@ -7,7 +7,7 @@ ghost use Rattle.neli_tables_rows.specs.Bits.{covers, is_set, left_by, mask_of, 
 use neli_tables::Line;
 
 /// The number of a line; 0 where it has none.
-fn mask_of(line: &Line<'_>) -> u64
+pub fn mask_of(line: &Line<'_>) -> u64
     ensures { result ≡ mask_of (line_seen line.now) }
 {
     match line.span {

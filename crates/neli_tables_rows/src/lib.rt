@@ -10,6 +10,7 @@
 #![tactic(auto)]
 
 mod bits;
+mod firsts;
 mod index;
 mod key;
 mod options;

@@ -1,6 +1,6 @@
 //! What the options of a line say.
 
-ghost use Rattle.std.specs.Prelude.{◌≡◌, map};
+ghost use Rattle.std.specs.Prelude.{◌≡◌, map, IfOk};
 ghost use Rattle.std.specs.Option.{option_map};
 ghost use Rattle.neli_tables.specs.Lines.{line_seen};
 ghost use Rattle.neli_tables.specs.Settings.{setting_seen, value_seen};
@@ -8,6 +8,7 @@ ghost use Rattle.neli_tables_rows.specs.Options.{key_option, kind_option, line_i
 ghost use Rattle.neli_tables_rows.specs.Options.{first_word, prefix_of, span_in, with_setting, word_in};
 
 use neli_tables::{Key, Kind, Line, Said, Setting, Span, Value};
+use std::alloc::{AllocError, Global};
 
 /// What the options of a line say. A place is that of a line of the same table, counted from 0.
 #[derive(Clone, Copy, Debug, PartialEq, Eq)]
@@ -106,98 +107,47 @@ fn number_in(value: &Value<&[u8]>) -> Option<u64>
 }
 
 impl Options {
-    /// These options, and a kind.
-    fn with_kind(self, kind: Kind, value: &Value<&[u8]>) -> Options
-        ensures { result ≡ kind_option self kind (value_seen value.now) }
+    /// Notes a kind.
+    fn note_kind(&mut self, kind: Kind, value: &Value<&[u8]>)
+        ensures { self.new ≡ kind_option self.old kind (value_seen value.now) }
     {
-        Options {
-            kind: Some(kind),
-            of: line_in(value),
-            ..self
-        }
+        self.kind = Some(kind);
+        self.of = line_in(value);
     }
 
-    /// These options, and one more that refers to a line, or says whether something holds.
-    fn with_key(self, key: Key, value: &Value<&[u8]>) -> Options
-        ensures { result ≡ key_option self key (value_seen value.now) }
+    /// Notes one more that refers to a line, or says whether something holds.
+    fn note_key(&mut self, key: Key, value: &Value<&[u8]>)
+        ensures { self.new ≡ key_option self.old key (value_seen value.now) }
     {
         match key {
-            Key::After => Options {
-                after: line_in(value),
-                ..self
-            },
-            Key::By => Options {
-                by: line_in(value),
-                ..self
-            },
-            Key::ByFamily => Options {
-                by_family: true,
-                ..self
-            },
-            Key::Enum => Options {
-                values: line_in(value),
-                ..self
-            },
-            Key::Flags => Options {
-                flags: line_in(value),
-                ..self
-            },
-            Key::Array => Options {
-                array: true,
-                ..self
-            },
-            Key::Multi => Options {
-                multi: true,
-                ..self
-            },
-            Key::Length => Options {
-                length: span_in(value),
-                ..self
-            },
-            Key::Range => Options {
-                range: span_in(value),
-                ..self
-            },
-            Key::Mask => Options {
-                mask: number_in(value),
-                ..self
-            },
-            Key::Hex => Options { hex: true, ..self },
-            Key::Request => Options {
-                request: true,
-                ..self
-            },
-            Key::Reply => Options {
-                reply: true,
-                ..self
-            },
-            Key::Family => Options {
-                family: number_in(value),
-                ..self
-            },
-            Key::Version => Options {
-                version: number_in(value),
-                ..self
-            },
-            Key::Id => Options {
-                id: number_in(value),
-                ..self
-            },
-            Key::At => Options {
-                at: span_in(value),
-                ..self
-            },
-            Key::Prefix => self,
+            Key::After => self.after = line_in(value),
+            Key::By => self.by = line_in(value),
+            Key::ByFamily => self.by_family = true,
+            Key::Enum => self.values = line_in(value),
+            Key::Flags => self.flags = line_in(value),
+            Key::Array => self.array = true,
+            Key::Multi => self.multi = true,
+            Key::Length => self.length = span_in(value),
+            Key::Range => self.range = span_in(value),
+            Key::Mask => self.mask = number_in(value),
+            Key::Hex => self.hex = true,
+            Key::Request => self.request = true,
+            Key::Reply => self.reply = true,
+            Key::Family => self.family = number_in(value),
+            Key::Version => self.version = number_in(value),
+            Key::Id => self.id = number_in(value),
+            Key::At => self.at = span_in(value),
+            Key::Prefix => {}
         }
     }
 
-    /// These options, and one more.
-    fn with_setting(self, setting: &Setting<&[u8]>) -> Options
-        ensures { result ≡ with_setting self (setting_seen setting.now) }
+    /// Notes one more.
+    fn note(&mut self, setting: &Setting<&[u8]>)
+        ensures { self.new ≡ with_setting self.old (setting_seen setting.now) }
     {
         match setting.said {
-            Said::Kind(kind) => self.with_kind(kind, &setting.value),
-            Said::Key(key) => self.with_key(key, &setting.value),
+            Said::Kind(kind) => self.note_kind(kind, &setting.value),
+            Said::Key(key) => self.note_key(key, &setting.value),
         }
     }
 }
@@ -208,7 +158,7 @@ fn options_in(settings: &[Setting<&[u8]>]) -> Options
 {
     let mut options = NONE;
     for setting in settings {
-        options = options.with_setting(setting);
+        options.note(setting);
     }
     options
 }
@@ -218,6 +168,17 @@ pub fn options_of(line: &Line<'_>) -> Options
     ensures { result ≡ options_of (line_seen line.now) }
 {
     options_in(&line.settings)
+}
+
+/// What the options of these lines say, in order. Refused where memory runs out.
+pub fn all_options(alloc: Global, lines: &[Line<'_>]) -> Result<Vec<Options>, AllocError>
+    ensures { IfOk result (λ all. all.items ≡ map options_of (map line_seen lines.now)) }
+{
+    let mut all = Vec::new(alloc);
+    for line in lines {
+        all.push(options_of(line))?;
+    }
+    Ok(all)
 }
 
 /// The word that an option has.

@@ -5,13 +5,17 @@ ghost use Rattle.std.specs.Prelude.{slice_get};
 ghost use Rattle.std.specs.Option.{option_map};
 ghost use Rattle.neli_tables.specs.Lines.{LineSeen, line_seen};
 ghost use Rattle.neli_tables.specs.Schemas.{IsWhyNot, table_in};
-ghost use Rattle.neli_tables_rows.specs.Index.{Indexes};
+ghost use Rattle.neli_tables_rows.specs.Index.{AreFirsts, Indexes};
 ghost use Rattle.neli_tables_rows.specs.Keys.{place_of, rest_key, way_number};
+ghost use Rattle.neli_tables_rows.specs.Options.{options_of};
 ghost use Rattle.neli_tables_rows.specs.Rows.{begins_section, case_in, group_in, is_case, message_for, message_in};
 ghost use Rattle.neli_tables_rows.specs.Rows.{row_in, rows_among, rows_of};
 
+use crate::bits::mask_of;
+use crate::firsts::Firsts;
 use crate::index::Index;
 use crate::key::{Way, group_key, is_row, message_key, rest_key, row_key, way_number};
+use crate::options::{Options, all_options};
 use neli_tables::{Line, ReadError, Word, read_table};
 use std::alloc::{AllocError, Global};
 use std::marker::Model;
@@ -22,6 +26,8 @@ use std::marker::Model;
 #[derive(Drop)]
 pub struct Table<'t> {
     lines: Vec<Line<'t>>,
+    options: Vec<Options>,
+    firsts: Firsts,
     index: Index,
 }
 
@@ -30,7 +36,9 @@ impl<'t> Model for Table<'t> {
 
     ghost view = { λ t. map line_seen t.lines.items };
 
-    ghost invariant = { λ t. Indexes t.index (map line_seen t.lines.items) };
+    ghost invariant = { λ t. Indexes t.index (map line_seen t.lines.items)
+        × AreFirsts t.firsts (map line_seen t.lines.items)
+        × (t.options.items ≡ map options_of (map line_seen t.lines.items)) };
 }
 
 impl<'t> Table<'t> {
@@ -52,7 +60,14 @@ impl<'t> Table<'t> {
         ensures { IfOk result (λ table. table ≡ map line_seen lines.entry.items) }
     {
         let index = Index::of(alloc, &lines)?;
-        Ok(Table { lines, index })
+        let firsts = Firsts::of(alloc, &lines, &index)?;
+        let options = all_options(alloc, &lines)?;
+        Ok(Table {
+            lines,
+            options,
+            firsts,
+            index,
+        })
     }
 
     /// All lines; the first is the family.
@@ -69,6 +84,14 @@ impl<'t> Table<'t> {
         self.lines.get(place)
     }
 
+    /// What the options of the line at this place say.
+    pub fn options(&self, place: usize) -> Option<&Options>
+        ensures { option_map (λ options. options.now) result
+            ≡ option_map options_of (slice_get self.now place) }
+    {
+        self.options.get(place)
+    }
+
     /// The rows of the section at this place, in order: the fields of a structure, the values of an enum, the
     /// attributes of a set, the cases of a choice.
     pub fn rows(&self, section: usize) -> &[Line<'t>]
@@ -83,10 +106,24 @@ impl<'t> Table<'t> {
     pub fn row(&self, section: usize, number: u64) -> Option<usize>
         ensures { result ≡ row_in self.now section number }
     {
+        let place = self.likely_place(section, number);
+        if self.firsts.has(place, row_key(section, number)) {
+            return Some(place);
+        }
         match self.index.find(row_key(section, number)) {
             Some(place) => Some(place),
             None => self.rest(section),
         }
+    }
+
+    /// Where a row stands most likely: each number follows the one before it in most sections.
+    fn likely_place(&self, section: usize, number: u64) -> usize {
+        let start = section.saturating_add(1);
+        let least = match self.lines.get(start) {
+            Some(line) => mask_of(line),
+            None => 0,
+        };
+        start.saturating_add(number.saturating_sub(least) as usize)
     }
 
     /// The place of the case that this text picks of the choice at this place, or of `else`, if there is one. Looks at

@@ -5,5 +5,5 @@ use Rattle.neli_tables_rows.proofs.options.options_in.Goals as goal
 
 pub loop-setting-preserved : goal.loop-setting-preserved
 loop-setting-preserved c =
-    rw c.with_setting-options.ensures (turn setting_seen (options_from c.loop-setting.options) _ c.args.settings.now
+    rw c.note.ensures (turn setting_seen (options_from c.loop-setting.options) _ c.args.settings.now
     c.loop-setting.setting-index _ c.loop-setting.invariant c.loop-setting-test.true)
