@@ -1,11 +1,16 @@
 -- Texts character by character.
-use Rattle.std.proofs.Common.{◌≡◌, ℕ, List, ◌++◌, length, sym, ap, ◌∙◌, append_assoc, append-nil}
+use Rattle.std.proofs.Common.{◌≡◌, ℕ, List, [], ◌∷◌, ◌++◌, ◌<◌, length, refl, arith, sym, ap, ◌∙◌, append_assoc, append-nil}
 use Rattle.std.proofs.lemmas.List.{nil_from_length}
 use Rattle.std.proofs.lemmas.Str.{chars_past_char, chars-nil}
 use Rattle.std.specs.Char.{encode_utf8}
-use Rattle.std.specs.List.{flat_map}
+use Rattle.std.specs.List.{flat_map, list_all}
 use Rattle.std.specs.Str.{IsUtf8}
-use Rattle.neli_values.specs.Quoted.{escaped, escaped_char}
+use Rattle.std.specs.Cmp.{first_so, second_so}
+use Rattle.std.specs.Prelude.{true}
+use Rattle.std.proofs.lemmas.List.Sums.{AllPass-from_list_all}
+use Rattle.std.proofs.lemmas.Str.{chars-IsAscii, encode_ascii}
+use Rattle.std.proofs.lemmas.Str.Ascii.{IsAscii-from_all}
+use Rattle.neli_values.specs.Quoted.{escaped, escaped_char, is_plain}
 
 -- a text's first character stands first
 escaped_first :
@@ -27,3 +32,26 @@ pub escaped_end : (done bs all : List ℕ) → length bs ≡ 0 → done ++ escap
 escaped_end done bs all empty so_far =
     sym (append-nil done) ∙ ap (λ (l : List ℕ). done ++ l)
     (sym (ap escaped (nil_from_length bs empty) ∙ ap (flat_map escaped_char) chars-nil)) ∙ so_far
+
+-- ---- texts that stand as themselves
+
+plain_char : (b : ℕ) → is_plain b ≡ true → escaped_char b ≡ b ∷ []
+plain_char b plain = grind (arith, encode_ascii)
+
+plain_chars : (bs : List ℕ) → list_all is_plain bs ≡ true → flat_map escaped_char bs ≡ bs
+plain_chars [] plain = refl
+plain_chars (b ∷ bs) plain =
+    ap (λ (l : List ℕ). l ++ flat_map escaped_char bs)
+    (plain_char b (first_so (is_plain b) (list_all is_plain bs) plain))
+    ∙ ap (λ (l : List ℕ). b ∷ l)
+    (plain_chars bs (second_so (is_plain b) (list_all is_plain bs) plain))
+
+below_128 : (b : ℕ) → is_plain b ≡ true → b < 128
+below_128 b plain = grind arith
+
+-- such a text is its own form in a string
+pub escaped_plain : (text : List ℕ) → list_all is_plain text ≡ true → escaped text ≡ text
+escaped_plain text plain =
+    ap (flat_map escaped_char) (chars-IsAscii text (IsAscii-from_all text
+    (λ k d within. below_128 _ (AllPass-from_list_all is_plain text plain k d within))))
+    ∙ plain_chars text plain

@@ -30,18 +30,18 @@ fields_text_by value table place bytes =
 
 -- ---- in JSON
 
--- a member of an object: a field that is these bytes
-abbrev pub member_json_by : Printed → Lines → LineSeen → List ℕ → List ℕ
-member_json_by value table row part =
-    name_json row.name ++ (codes ":" ++ value table (options_of row) part)
+-- a member of an object: a field with this name that is these bytes
+abbrev pub member_json_with : Printed → Lines → List ℕ → Options → List ℕ → List ℕ
+member_json_with value table name o part = name_json name ++ (codes ":" ++ value table o part)
 
-abbrev pub member_if : Printed → Lines → LineSeen → Option (List ℕ) → List (List ℕ)
-member_if value table row None = []
-member_if value table row (Some part) = member_json_by value table row part ∷ []
+abbrev pub member_with : Printed → Lines → List ℕ → Options → Option (List ℕ) → List (List ℕ)
+member_with value table name o None = []
+member_with value table name o (Some part) = member_json_with value table name o part ∷ []
 
 -- the member of a field, if it is there
 abbrev pub member_by : Printed → Lines → List ℕ → LineSeen → List (List ℕ)
-member_by value table bytes row = member_if value table row (field_bytes row bytes)
+member_by value table bytes row =
+    member_with value table row.name (options_of row) (field_bytes row bytes)
 
 abbrev pub members_by : Printed → Lines → ℕ → List ℕ → List (List ℕ)
 members_by value table place bytes = flat_map (member_by value table bytes) (rows_of place table)

@@ -1,7 +1,7 @@
 -- Payloads by the lines of a table, as text and as JSON.
 use Rattle.std.specs.Prelude.{ℕ, if◌then◌else◌, is_some, List, ◌++◌, length, codes}
 use Rattle.std.specs.Prelude.{Option, Some, None, slice_get}
-use Rattle.neli_tables.specs.Lines.{LineSeen}
+use Rattle.std.specs.Option.{option_map}
 use Rattle.neli_tables_rows.specs.declared.options.Options.{Options}
 use Rattle.neli_tables_rows.specs.Families.{Lines}
 use Rattle.neli_tables_rows.specs.Options.{options_of}
@@ -35,29 +35,30 @@ kept_form table o bytes =
 
 -- ---- a payload by the line at a place
 
-abbrev pub payload_text_by : Lines → List ℕ → Option LineSeen → List ℕ
-payload_text_by table bytes None = codes " " ++ bytes_text bytes
-payload_text_by table bytes (Some line) =
-    form_text table (options_of line) (kept_form table (options_of line) bytes) bytes
+-- what the options of the line at a place say
+abbrev pub line_options : Lines → ℕ → Option Options
+line_options table place = option_map options_of (slice_get table place)
 
-abbrev pub payload_json_by : Lines → List ℕ → Option LineSeen → List ℕ
+abbrev pub payload_text_by : Lines → List ℕ → Option Options → List ℕ
+payload_text_by table bytes None = codes " " ++ bytes_text bytes
+payload_text_by table bytes (Some o) = form_text table o (kept_form table o bytes) bytes
+
+abbrev pub payload_json_by : Lines → List ℕ → Option Options → List ℕ
 payload_json_by table bytes None = bytes_json bytes
-payload_json_by table bytes (Some line) =
-    form_json table (options_of line) (kept_form table (options_of line) bytes) bytes
+payload_json_by table bytes (Some o) = form_json table o (kept_form table o bytes) bytes
 
 -- each value after a blank
 abbrev pub payload_text : Lines → ℕ → List ℕ → List ℕ
-payload_text table place bytes = payload_text_by table bytes (slice_get table place)
+payload_text table place bytes = payload_text_by table bytes (line_options table place)
 
 -- one value of JSON
 abbrev pub payload_json : Lines → ℕ → List ℕ → List ℕ
-payload_json table place bytes = payload_json_by table bytes (slice_get table place)
+payload_json table place bytes = payload_json_by table bytes (line_options table place)
 
-abbrev pub line_breach : Lines → List ℕ → Option LineSeen → Option Breach
+abbrev pub line_breach : Lines → List ℕ → Option Options → Option Breach
 line_breach table bytes None = None
-line_breach table bytes (Some line) =
-    form_breach (form_of table (options_of line) (length bytes)) bytes
+line_breach table bytes (Some o) = form_breach (form_of table o (length bytes)) bytes
 
 -- how a payload cannot be of its kind
 abbrev pub payload_breach : Lines → ℕ → List ℕ → Option Breach
-payload_breach table place bytes = line_breach table bytes (slice_get table place)
+payload_breach table place bytes = line_breach table bytes (line_options table place)

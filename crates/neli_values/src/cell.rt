@@ -17,7 +17,7 @@ pub struct Value<'b, 'w, 't> {
     /// The table.
     pub table: &'w Table<'t>,
     /// The options of the line.
-    pub options: Options,
+    pub options: &'w Options,
     /// What the bytes are.
     pub cell: Cell,
     /// The bytes.
@@ -37,15 +37,15 @@ fn kept_cell(table: &Table<'_>, options: &Options, bytes: &[u8]) -> Cell
 
 impl<'b, 'w, 't> Value<'b, 'w, 't> {
     /// The bytes of a field, as what they are by its options.
-    pub fn of(table: &'w Table<'t>, options: Options, bytes: &'b [u8]) -> Value<'b, 'w, 't>
+    pub fn of(table: &'w Table<'t>, options: &'w Options, bytes: &'b [u8]) -> Value<'b, 'w, 't>
         ensures { result ≡ record {
           table = table.entry;
-          options = options;
-          cell = kept_cell table.now options bytes.now;
+          options = options.entry;
+          cell = kept_cell table.now options.now bytes.now;
           bytes = bytes.entry;
         } }
     {
-        let cell = kept_cell(table, &options, bytes);
+        let cell = kept_cell(table, options, bytes);
         Value {
             table,
             options,
@@ -92,7 +92,7 @@ impl<'b, 'w, 't> Value<'b, 'w, 't> {
 pub struct ValueText<'b, 'w, 't>(pub Value<'b, 'w, 't>);
 
 impl fmt::Display for ValueText<'_, '_, '_> {
-    ghost output = { λ v. Some (cell_text v.0.table.now v.0.options v.0.cell v.0.bytes.now) };
+    ghost output = { λ v. Some (cell_text v.0.table.now v.0.options.now v.0.cell v.0.bytes.now) };
 
     fn fmt<W: fmt::Write>(&self, f: &mut fmt::Formatter<W>) -> fmt::Result {
         match self.0.cell {
@@ -113,7 +113,7 @@ impl fmt::Display for ValueText<'_, '_, '_> {
 pub struct ValueJson<'b, 'w, 't>(pub Value<'b, 'w, 't>);
 
 impl fmt::Display for ValueJson<'_, '_, '_> {
-    ghost output = { λ v. Some (cell_json v.0.table.now v.0.options v.0.cell v.0.bytes.now) };
+    ghost output = { λ v. Some (cell_json v.0.table.now v.0.options.now v.0.cell v.0.bytes.now) };
 
     fn fmt<W: fmt::Write>(&self, f: &mut fmt::Formatter<W>) -> fmt::Result {
         match self.0.cell {

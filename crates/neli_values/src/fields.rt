@@ -3,7 +3,7 @@
 ghost use Rattle.std.specs.Prelude.{Some, codes};
 ghost use Rattle.neli_tables.specs.Lines.{line_seen};
 ghost use Rattle.neli_values.specs.Cells.{value_json, value_text};
-ghost use Rattle.neli_values.specs.FieldLists.{field_text_by, member_json_by, members_by};
+ghost use Rattle.neli_values.specs.FieldLists.{field_text_by, member_json_with, members_by};
 ghost use Rattle.neli_values.specs.Fields.{fields_json, fields_text};
 ghost use Rattle.neli_values.specs.Lists.{joined};
 
@@ -11,7 +11,7 @@ use crate::cell::{Value, ValueJson, ValueText};
 use crate::field_bytes::field_bytes;
 use crate::name::{Name, NameJson};
 use neli_tables::Line;
-use neli_tables_rows::{Table, options_of};
+use neli_tables_rows::{Options, Table, options_of};
 use std::fmt;
 
 /// The bytes of a structure, and the line that says what they are.
@@ -41,7 +41,7 @@ impl fmt::Display for FieldText<'_, '_, '_> {
         match field_bytes(self.row, &options, self.fields.bytes) {
             Some(part) => {
                 let name = Name(self.row.name);
-                let value = ValueText(Value::of(self.fields.table, options, part));
+                let value = ValueText(Value::of(self.fields.table, &options, part));
                 write!(f, " {name}{value}")
             }
             None => Ok(()),
@@ -53,17 +53,18 @@ impl fmt::Display for FieldText<'_, '_, '_> {
 #[derive(Clone, Copy)]
 struct MemberJson<'b, 'w, 't> {
     table: &'w Table<'t>,
-    row: &'w Line<'t>,
+    name: &'t [u8],
+    options: &'w Options,
     bytes: &'b [u8],
 }
 
 impl fmt::Display for MemberJson<'_, '_, '_> {
     ghost output = { λ m. Some
-        (member_json_by value_json m.table.now (line_seen m.row.now) m.bytes.now) };
+        (member_json_with value_json m.table.now m.name.now m.options.now m.bytes.now) };
 
     fn fmt<W: fmt::Write>(&self, f: &mut fmt::Formatter<W>) -> fmt::Result {
-        let name = NameJson(self.row.name);
-        let value = ValueJson(Value::of(self.table, options_of(self.row), self.bytes));
+        let name = NameJson(self.name);
+        let value = ValueJson(Value::of(self.table, self.options, self.bytes));
         write!(f, "{name}:{value}")
     }
 }
@@ -105,8 +106,14 @@ impl fmt::Display for Members<'_, '_, '_> {
         let rows = table.rows(place);
         let mut comma = "";
         for row in rows {
-            if let Some(bytes) = field_bytes(row, &options_of(row), bytes) {
-                let member = MemberJson { table, row, bytes };
+            let options = options_of(row);
+            if let Some(bytes) = field_bytes(row, &options, bytes) {
+                let member = MemberJson {
+                    table,
+                    name: row.name,
+                    options: &options,
+                    bytes,
+                };
                 write!(f, "{comma}{member}")?;
                 comma = ",";
             }

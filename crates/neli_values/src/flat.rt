@@ -3,7 +3,7 @@
 ghost use Rattle.std.specs.Prelude.{Some, codes};
 ghost use Rattle.neli_tables.specs.Lines.{line_seen};
 ghost use Rattle.neli_values.specs.FieldLists.{field_text_by, fields_json_by, fields_text_by};
-ghost use Rattle.neli_values.specs.FieldLists.{member_json_by, members_by};
+ghost use Rattle.neli_values.specs.FieldLists.{member_json_with, members_by};
 ghost use Rattle.neli_values.specs.Lists.{joined};
 ghost use Rattle.neli_values.specs.Plains.{item_json, item_text};
 
@@ -12,7 +12,7 @@ use crate::fields::Fields;
 use crate::name::{Name, NameJson};
 use crate::plain::{Item, ItemJson, ItemText};
 use neli_tables::Line;
-use neli_tables_rows::{Table, options_of};
+use neli_tables_rows::{Options, Table, options_of};
 use std::fmt;
 
 /// A field with its value, after blanks; nothing where it is not there.
@@ -31,7 +31,7 @@ impl fmt::Display for FlatFieldText<'_, '_, '_> {
         match field_bytes(self.row, &options, self.fields.bytes) {
             Some(part) => {
                 let name = Name(self.row.name);
-                let value = ItemText(Item::of(self.fields.table, options, part));
+                let value = ItemText(Item::of(self.fields.table, &options, part));
                 write!(f, " {name}{value}")
             }
             None => Ok(()),
@@ -43,17 +43,18 @@ impl fmt::Display for FlatFieldText<'_, '_, '_> {
 #[derive(Clone, Copy)]
 struct FlatMemberJson<'b, 'w, 't> {
     table: &'w Table<'t>,
-    row: &'w Line<'t>,
+    name: &'t [u8],
+    options: &'w Options,
     bytes: &'b [u8],
 }
 
 impl fmt::Display for FlatMemberJson<'_, '_, '_> {
     ghost output = { λ m. Some
-        (member_json_by item_json m.table.now (line_seen m.row.now) m.bytes.now) };
+        (member_json_with item_json m.table.now m.name.now m.options.now m.bytes.now) };
 
     fn fmt<W: fmt::Write>(&self, f: &mut fmt::Formatter<W>) -> fmt::Result {
-        let name = NameJson(self.row.name);
-        let value = ItemJson(Item::of(self.table, options_of(self.row), self.bytes));
+        let name = NameJson(self.name);
+        let value = ItemJson(Item::of(self.table, self.options, self.bytes));
         write!(f, "{name}:{value}")
     }
 }
@@ -95,8 +96,14 @@ impl fmt::Display for FlatMembers<'_, '_, '_> {
         let rows = table.rows(place);
         let mut comma = "";
         for row in rows {
-            if let Some(bytes) = field_bytes(row, &options_of(row), bytes) {
-                let member = FlatMemberJson { table, row, bytes };
+            let options = options_of(row);
+            if let Some(bytes) = field_bytes(row, &options, bytes) {
+                let member = FlatMemberJson {
+                    table,
+                    name: row.name,
+                    options: &options,
+                    bytes,
+                };
                 write!(f, "{comma}{member}")?;
                 comma = ",";
             }

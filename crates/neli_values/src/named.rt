@@ -17,7 +17,7 @@ pub struct Named<'w, 't> {
     /// The table.
     pub table: &'w Table<'t>,
     /// The options of the line.
-    pub options: Options,
+    pub options: &'w Options,
     /// The number.
     pub number: Number,
 }
@@ -26,7 +26,7 @@ impl<'w, 't> Named<'w, 't> {
     /// The name of the number by the enum that the options mean.
     fn name(&self) -> Option<&'t [u8]>
         ensures { option_map (λ name. name.now) result
-            ≡ name_of self.now.table.now self.now.options.values self.now.number.bits }
+            ≡ name_of self.now.table.now self.now.options.now.values self.now.number.bits }
     {
         let place = self.table.row(self.options.values?, self.number.bits)?;
         Some(self.table.line(place)?.name)
@@ -53,7 +53,7 @@ impl<'w, 't> Named<'w, 't> {
 pub struct NamedText<'w, 't>(pub Named<'w, 't>);
 
 impl fmt::Display for NamedText<'_, '_> {
-    ghost output = { λ n. Some (number_text n.0.table.now n.0.options n.0.number) };
+    ghost output = { λ n. Some (number_text n.0.table.now n.0.options.now n.0.number) };
 
     fn fmt<W: fmt::Write>(&self, f: &mut fmt::Formatter<W>) -> fmt::Result {
         if let Some(place) = self.0.options.flags {
@@ -81,7 +81,7 @@ impl fmt::Display for NamedText<'_, '_> {
 pub struct NamedJson<'w, 't>(pub Named<'w, 't>);
 
 impl fmt::Display for NamedJson<'_, '_> {
-    ghost output = { λ n. Some (number_json n.0.table.now n.0.options n.0.number) };
+    ghost output = { λ n. Some (number_json n.0.table.now n.0.options.now n.0.number) };
 
     fn fmt<W: fmt::Write>(&self, f: &mut fmt::Formatter<W>) -> fmt::Result {
         if let Some(place) = self.0.options.flags {
@@ -107,7 +107,7 @@ pub struct Part<'b, 'w, 't> {
     /// The table.
     pub table: &'w Table<'t>,
     /// The options of the line.
-    pub options: Options,
+    pub options: &'w Options,
     /// How the number lies in its bytes.
     pub width: Width,
     /// The bytes.
@@ -119,7 +119,7 @@ pub struct Part<'b, 'w, 't> {
 pub struct PartText<'b, 'w, 't>(pub Part<'b, 'w, 't>);
 
 impl fmt::Display for PartText<'_, '_, '_> {
-    ghost output = { λ p. Some (part_text p.0.table.now p.0.options p.0.width p.0.bytes.now) };
+    ghost output = { λ p. Some (part_text p.0.table.now p.0.options.now p.0.width p.0.bytes.now) };
 
     fn fmt<W: fmt::Write>(&self, f: &mut fmt::Formatter<W>) -> fmt::Result {
         let Part {
@@ -150,7 +150,7 @@ impl fmt::Display for PartText<'_, '_, '_> {
 pub struct PartJson<'b, 'w, 't>(pub Part<'b, 'w, 't>);
 
 impl fmt::Display for PartJson<'_, '_, '_> {
-    ghost output = { λ p. Some (part_json p.0.table.now p.0.options p.0.width p.0.bytes.now) };
+    ghost output = { λ p. Some (part_json p.0.table.now p.0.options.now p.0.width p.0.bytes.now) };
 
     fn fmt<W: fmt::Write>(&self, f: &mut fmt::Formatter<W>) -> fmt::Result {
         let Part {

@@ -9,7 +9,7 @@ use crate::cell::{Value, ValueJson, ValueText};
 use crate::fields::{Fields, FieldsJson, FieldsText};
 use crate::form::{Cell, Form, Plain, form_of};
 use crate::hex::{Bytes, BytesJson};
-use neli_tables_rows::{Options, Table, options_of};
+use neli_tables_rows::{Options, Table};
 use std::fmt;
 
 /// The bytes of an attribute or a body, and the line that says what they are.
@@ -30,9 +30,9 @@ pub fn breach_of(payload: &Payload<'_, '_, '_>) -> Option<Breach>
     ensures { result
         ≡ payload_breach payload.now.table.now payload.now.place payload.now.bytes.now }
 {
-    let options = options_of(payload.table.line(payload.place)?);
+    let options = payload.table.options(payload.place)?;
     form_breach(
-        form_of(payload.table, &options, payload.bytes.len()),
+        form_of(payload.table, options, payload.bytes.len()),
         payload.bytes,
     )
 }
@@ -52,25 +52,25 @@ fn kept_form(table: &Table<'_>, options: &Options, bytes: &[u8]) -> Form
 #[derive(Clone, Copy)]
 struct Shown<'b, 'w, 't> {
     table: &'w Table<'t>,
-    options: Options,
+    options: &'w Options,
     form: Form,
     bytes: &'b [u8],
 }
 
 impl<'b, 'w, 't> Shown<'b, 'w, 't> {
     /// A payload, as what it is by these options.
-    fn of(payload: &Payload<'b, 'w, 't>, options: Options) -> Shown<'b, 'w, 't>
+    fn of(payload: &Payload<'b, 'w, 't>, options: &'w Options) -> Shown<'b, 'w, 't>
         ensures { result ≡ record {
           table = payload.now.table;
-          options = options;
-          form = kept_form payload.now.table.now options payload.now.bytes.now;
+          options = options.entry;
+          form = kept_form payload.now.table.now options.now payload.now.bytes.now;
           bytes = payload.now.bytes;
         } }
     {
         Shown {
             table: payload.table,
             options,
-            form: kept_form(payload.table, &options, payload.bytes),
+            form: kept_form(payload.table, options, payload.bytes),
             bytes: payload.bytes,
         }
     }
@@ -113,7 +113,7 @@ impl<'b, 'w, 't> Shown<'b, 'w, 't> {
 struct FormText<'b, 'w, 't>(Shown<'b, 'w, 't>);
 
 impl fmt::Display for FormText<'_, '_, '_> {
-    ghost output = { λ v. Some (form_text v.0.table.now v.0.options v.0.form v.0.bytes.now) };
+    ghost output = { λ v. Some (form_text v.0.table.now v.0.options.now v.0.form v.0.bytes.now) };
 
     fn fmt<W: fmt::Write>(&self, f: &mut fmt::Formatter<W>) -> fmt::Result {
         match self.0.form {
@@ -134,7 +134,7 @@ impl fmt::Display for FormText<'_, '_, '_> {
 struct FormJson<'b, 'w, 't>(Shown<'b, 'w, 't>);
 
 impl fmt::Display for FormJson<'_, '_, '_> {
-    ghost output = { λ v. Some (form_json v.0.table.now v.0.options v.0.form v.0.bytes.now) };
+    ghost output = { λ v. Some (form_json v.0.table.now v.0.options.now v.0.form v.0.bytes.now) };
 
     fn fmt<W: fmt::Write>(&self, f: &mut fmt::Formatter<W>) -> fmt::Result {
         match self.0.form {
@@ -158,9 +158,9 @@ impl fmt::Display for PayloadText<'_, '_, '_> {
     ghost output = { λ p. Some (payload_text p.0.table.now p.0.place p.0.bytes.now) };
 
     fn fmt<W: fmt::Write>(&self, f: &mut fmt::Formatter<W>) -> fmt::Result {
-        match self.0.table.line(self.0.place) {
-            Some(line) => {
-                let value = FormText(Shown::of(&self.0, options_of(line)));
+        match self.0.table.options(self.0.place) {
+            Some(options) => {
+                let value = FormText(Shown::of(&self.0, options));
                 write!(f, "{value}")
             }
             None => {
@@ -179,9 +179,9 @@ impl fmt::Display for PayloadJson<'_, '_, '_> {
     ghost output = { λ p. Some (payload_json p.0.table.now p.0.place p.0.bytes.now) };
 
     fn fmt<W: fmt::Write>(&self, f: &mut fmt::Formatter<W>) -> fmt::Result {
-        match self.0.table.line(self.0.place) {
-            Some(line) => {
-                let value = FormJson(Shown::of(&self.0, options_of(line)));
+        match self.0.table.options(self.0.place) {
+            Some(options) => {
+                let value = FormJson(Shown::of(&self.0, options));
                 write!(f, "{value}")
             }
             None => {

@@ -21,7 +21,7 @@ pub struct Item<'b, 'w, 't> {
     /// The table.
     pub table: &'w Table<'t>,
     /// The options of the line.
-    pub options: Options,
+    pub options: &'w Options,
     /// What the bytes are.
     pub plain: Plain,
     /// The bytes.
@@ -56,15 +56,15 @@ fn kept_plain(options: &Options, bytes: &[u8]) -> Plain
 
 impl<'b, 'w, 't> Item<'b, 'w, 't> {
     /// Bytes, as what they are by these options.
-    pub fn of(table: &'w Table<'t>, options: Options, bytes: &'b [u8]) -> Item<'b, 'w, 't>
+    pub fn of(table: &'w Table<'t>, options: &'w Options, bytes: &'b [u8]) -> Item<'b, 'w, 't>
         ensures { result ≡ record {
           table = table.entry;
-          options = options;
-          plain = kept_plain options bytes.now;
+          options = options.entry;
+          plain = kept_plain options.now bytes.now;
           bytes = bytes.entry;
         } }
     {
-        let plain = kept_plain(&options, bytes);
+        let plain = kept_plain(options, bytes);
         Item {
             table,
             options,
@@ -142,7 +142,7 @@ struct NumbersText<'b, 'w, 't> {
 
 impl fmt::Display for NumbersText<'_, '_, '_> {
     ghost output = { λ n. Some
-        (numbers_text n.item.table.now n.item.options n.width n.item.bytes.now) };
+        (numbers_text n.item.table.now n.item.options.now n.width n.item.bytes.now) };
 
     fn fmt<W: fmt::Write>(&self, f: &mut fmt::Formatter<W>) -> fmt::Result {
         for bytes in self.item.bytes.chunks(self.width.size.max(1)) {
@@ -162,7 +162,7 @@ struct NumbersJson<'b, 'w, 't> {
 
 impl fmt::Display for NumbersJson<'_, '_, '_> {
     ghost output = { λ n. Some
-        (numbers_json n.item.table.now n.item.options n.width n.item.bytes.now) };
+        (numbers_json n.item.table.now n.item.options.now n.width n.item.bytes.now) };
 
     fn fmt<W: fmt::Write>(&self, f: &mut fmt::Formatter<W>) -> fmt::Result {
         let mut comma = "";
@@ -180,7 +180,7 @@ impl fmt::Display for NumbersJson<'_, '_, '_> {
 struct BitsText<'b, 'w, 't>(Item<'b, 'w, 't>);
 
 impl fmt::Display for BitsText<'_, '_, '_> {
-    ghost output = { λ b. Some (bits_text b.0.table.now b.0.options b.0.bytes.now) };
+    ghost output = { λ b. Some (bits_text b.0.table.now b.0.options.now b.0.bytes.now) };
 
     fn fmt<W: fmt::Write>(&self, f: &mut fmt::Formatter<W>) -> fmt::Result {
         let (bits, mask) = halves(self.0.bytes);
@@ -195,7 +195,7 @@ impl fmt::Display for BitsText<'_, '_, '_> {
 struct BitsJson<'b, 'w, 't>(Item<'b, 'w, 't>);
 
 impl fmt::Display for BitsJson<'_, '_, '_> {
-    ghost output = { λ b. Some (bits_json b.0.table.now b.0.options b.0.bytes.now) };
+    ghost output = { λ b. Some (bits_json b.0.table.now b.0.options.now b.0.bytes.now) };
 
     fn fmt<W: fmt::Write>(&self, f: &mut fmt::Formatter<W>) -> fmt::Result {
         let (bits, mask) = halves(self.0.bytes);
@@ -210,7 +210,7 @@ impl fmt::Display for BitsJson<'_, '_, '_> {
 pub struct ItemText<'b, 'w, 't>(pub Item<'b, 'w, 't>);
 
 impl fmt::Display for ItemText<'_, '_, '_> {
-    ghost output = { λ i. Some (plain_text i.0.table.now i.0.options i.0.plain i.0.bytes.now) };
+    ghost output = { λ i. Some (plain_text i.0.table.now i.0.options.now i.0.plain i.0.bytes.now) };
 
     fn fmt<W: fmt::Write>(&self, f: &mut fmt::Formatter<W>) -> fmt::Result {
         let bytes = self.0.bytes;
@@ -241,7 +241,7 @@ impl fmt::Display for ItemText<'_, '_, '_> {
 pub struct ItemJson<'b, 'w, 't>(pub Item<'b, 'w, 't>);
 
 impl fmt::Display for ItemJson<'_, '_, '_> {
-    ghost output = { λ i. Some (plain_json i.0.table.now i.0.options i.0.plain i.0.bytes.now) };
+    ghost output = { λ i. Some (plain_json i.0.table.now i.0.options.now i.0.plain i.0.bytes.now) };
 
     fn fmt<W: fmt::Write>(&self, f: &mut fmt::Formatter<W>) -> fmt::Result {
         let bytes = self.0.bytes;

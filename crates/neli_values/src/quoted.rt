@@ -1,8 +1,9 @@
 //! Texts in quotes, as strings of JSON (RFC 8259, section 7).
 
 ghost use Rattle.std.specs.Prelude.{◌≡◌, Some};
+ghost use Rattle.std.specs.List.{list_all};
 ghost use Rattle.std.specs.Option.{option_map};
-ghost use Rattle.neli_values.specs.Quoted.{escape_of, escaped, escaped_char, quoted, text_in};
+ghost use Rattle.neli_values.specs.Quoted.{escape_of, escaped, escaped_char, is_plain, quoted, text_in};
 
 use std::{fmt, str};
 
@@ -54,11 +55,25 @@ impl fmt::Display for EscapedChar {
     }
 }
 
-/// The characters of a text in their form in a string.
-#[derive(Clone, Copy)]
-pub(crate) struct Escaped<'t>(pub &'t str);
+/// Whether a byte is a character that stands as itself in a string.
+fn is_plain(byte: u8) -> bool
+    ensures { result ≡ is_plain byte }
+{
+    0x1f < byte && byte < 0x7f && byte != b'"' && byte != b'\\'
+}
 
-impl fmt::Display for Escaped<'_> {
+/// Whether all bytes stand as themselves in a string, as those of most texts do.
+fn are_plain(bytes: &[u8]) -> bool
+    ensures { result ≡ list_all is_plain bytes.now }
+{
+    bytes.iter().all(|byte| is_plain(*byte))
+}
+
+/// The characters of a text in their form in a string, one after the other.
+#[derive(Clone, Copy)]
+struct EscapedChars<'t>(&'t str);
+
+impl fmt::Display for EscapedChars<'_> {
     ghost output = { λ t. Some (escaped t.0.now) };
 
     fn fmt<W: fmt::Write>(&self, f: &mut fmt::Formatter<W>) -> fmt::Result {
@@ -67,6 +82,25 @@ impl fmt::Display for Escaped<'_> {
             write!(f, "{written}")?;
         }
         Ok(())
+    }
+}
+
+/// A text in its form in a string.
+#[derive(Clone, Copy)]
+pub(crate) struct Escaped<'t>(pub &'t str);
+
+impl fmt::Display for Escaped<'_> {
+    ghost output = { λ t. Some (escaped t.0.now) };
+
+    #[tactic(auto, using(crate::proofs::Texts::escaped_plain))]
+    fn fmt<W: fmt::Write>(&self, f: &mut fmt::Formatter<W>) -> fmt::Result {
+        let text = self.0;
+        if are_plain(text.as_bytes()) {
+            f.write_str(text)
+        } else {
+            let chars = EscapedChars(text);
+            write!(f, "{chars}")
+        }
     }
 }
 

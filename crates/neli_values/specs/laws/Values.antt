@@ -30,8 +30,8 @@ use Rattle.neli_values.specs.Addresses.{socket_json, v4_json, v6_json}
 use Rattle.neli_values.specs.Breaches.{breach_text, without_zero}
 use Rattle.neli_values.specs.Cells.{cell_json, kept_cell, value_json}
 use Rattle.neli_values.specs.FieldBytes.{field_bytes}
-use Rattle.neli_values.specs.FieldLists.{Printed, fields_json_by, member_by, member_if}
-use Rattle.neli_values.specs.FieldLists.{member_json_by}
+use Rattle.neli_values.specs.FieldLists.{Printed, fields_json_by, member_by, member_with}
+use Rattle.neli_values.specs.FieldLists.{member_json_with}
 use Rattle.neli_values.specs.Fields.{fields_json}
 use Rattle.neli_values.specs.Flags.{bit_texts_by, flags_json, in_quotes, name_if_set, unnamed_text}
 use Rattle.neli_values.specs.Hex.{byte_text, bytes_json, bytes_text, hardware_text, hex_text}
@@ -49,7 +49,8 @@ use Rattle.neli_values.specs.Plains.{bits_json, bits_width, item_json, kept_plai
 use Rattle.neli_values.specs.Plains.{plain_json}
 use Rattle.neli_values.specs.Plains.{quoted_or_json, text_json}
 use Rattle.neli_values.specs.Quoted.{escaped, quoted, text_in}
-use Rattle.neli_values.specs.Values.{form_json, kept_form, payload_json, payload_json_by}
+use Rattle.neli_values.specs.Values.{form_json, kept_form, line_options, payload_json}
+use Rattle.neli_values.specs.Values.{payload_json_by}
 use Rattle.neli_values.specs.laws.Addresses.{dotted-plain, ipv6-plain}
 use Rattle.neli_values.specs.laws.Parts.{Each, array-joined, each-append, each-flat, each-map}
 use Rattle.neli_values.specs.laws.Parts.{named, natural}
@@ -309,10 +310,11 @@ member-members : (value : Printed) → PrintsJson value
     → Each AreMembers (member_by value table bytes row)
 member-members value json table bytes row = by (field_bytes row bytes)
   where
-    by : (part : Option (List ℕ)) → Each AreMembers (member_if value table row part)
+    by : (part : Option (List ℕ))
+        → Each AreMembers (member_with value table row.name (options_of row) part)
     by None = none
     by (Some part) =
-        one (member_json_by value table row part) []
+        one (member_json_with value table row.name (options_of row) part) []
         (named_member row.name (value table (options_of row) part) (json table
         (options_of row) part)) none
 
@@ -350,9 +352,8 @@ form_json-json table o (form.Fields place) bytes = fields_json-json table place 
 -- a payload is one value of JSON, whatever the table and the bytes are
 pub payload_json-json : (table : Lines) (place : ℕ) (bytes : List ℕ)
     → IsJson (payload_json table place bytes)
-payload_json-json table place bytes = by (slice_get table place)
+payload_json-json table place bytes = by (line_options table place)
   where
-    by : (line : Option LineSeen) → IsJson (payload_json_by table bytes line)
+    by : (o : Option Options) → IsJson (payload_json_by table bytes o)
     by None = bytes_json-json bytes
-    by (Some line) =
-        form_json-json table (options_of line) (kept_form table (options_of line) bytes) bytes
+    by (Some o) = form_json-json table o (kept_form table o bytes) bytes

@@ -6,7 +6,7 @@ use Rattle.neli_tables_rows.specs.declared.options.Options.{Options}
 use Rattle.neli_tables_rows.specs.Families.{Lines}
 use Rattle.neli_tables_rows.specs.Options.{options_of}
 use Rattle.neli_values.specs.FieldBytes.{field_bytes_by}
-use Rattle.neli_values.specs.FieldLists.{member_by, member_if, member_json_by}
+use Rattle.neli_values.specs.FieldLists.{member_by, member_json_with, member_with}
 use Rattle.neli_values.specs.Cells.{value_json}
 use Rattle.neli_values.proofs.Lists.{rows-after-skip, rows-after-step}
 use Rattle.neli_values.proofs.fields.MembersDisplay.fmt.Goals as goal
@@ -16,10 +16,10 @@ use Rattle.neli_values.proofs.fields.MembersDisplay.fmt.Goals.{in-Some+in_ok-wri
 has : (table : Lines) (bytes : List ℕ) (row : LineSeen) (o : Options) (part : Option (List ℕ))
     → o ≡ options_of row
     → part ≡ field_bytes_by row o bytes
-    → member_by value_json table bytes row ≡ member_if value_json table row part
+    → member_by value_json table bytes row ≡ member_with value_json table row.name o part
 has table bytes row o part same is =
-    ap (member_if value_json table row) (ap (λ (p : Options). field_bytes_by row p bytes)
-    (sym same) ∙ sym is)
+    ap (λ (p : Options). member_with value_json table row.name p (field_bytes_by row p bytes)) (sym same)
+    ∙ ap (member_with value_json table row.name o) (sym is)
 
 pub loop-row-preserved : goal.loop-row-preserved
 loop-row-preserved g c =
@@ -33,15 +33,17 @@ loop-row-preserved g c =
         search rules,
         λ plain.
             let i = c.loop-row.invariant.1 plain in
-            let text = member_json_by value_json table (line_seen row) w.in-Some.bytes.now in (
+            let text =
+            member_json_with value_json table row.name.now c.options_of-options.result
+            w.in-Some.bytes.now in (
               i.0 ++ (c.loop-row.comma.now ++ text),
               has_written_append _ _ _ _ _ _ i.1 (search rules),
               rows-after-step
                   (member_by value_json table bytes) h line_seen rows c.loop-row.row-index row
                   c.loop-row-test.true c.row-item.is
                   (codes ",") c.loop-row.comma.now i.0 _ text text
-                  (has table bytes (line_seen row) c.options_of.result (Some w.in-Some.bytes.now)
-                  c.options_of.ensures w.in-Some.ensures)
+                  (has table bytes (line_seen row) c.options_of-options.result (Some w.in-Some.bytes.now)
+                  c.options_of-options.ensures w.in-Some.ensures)
                   (λ ts. refl) i.2,
             ),
       )
@@ -54,8 +56,8 @@ loop-row-preserved g c =
               rows-after-skip
                   (member_by value_json table bytes) h line_seen rows c.loop-row.row-index row
                   c.loop-row-test.true c.row-item.is (codes ",") c.loop-row.comma.now i.0 _
-                  (has table bytes (line_seen row) c.options_of.result None
-                  c.options_of.ensures w.in_default.ensures)
+                  (has table bytes (line_seen row) c.options_of-options.result None
+                  c.options_of-options.ensures w.in_default.ensures)
                   i.2,
             ),
       )

@@ -6,7 +6,7 @@ use Rattle.neli_values.proofs.plain.NumbersJsonDisplay.fmt.Goals as goal
 
 pub loop-bytes-preserved : goal.loop-bytes-preserved
 loop-bytes-preserved g c =
-    let f = part_json c.args.self.now.item.table.now c.args.self.now.item.options
+    let f = part_json c.args.self.now.item.table.now c.args.self.now.item.options.now
     c.args.self.now.width in
     let step = c.in-Some.ensures.steps in (
       search rules,
@@ -25,7 +25,7 @@ returns-clause-writes g c = λ plain _.
     let i = c.loop-bytes.invariant.2 plain in
     has_written_of_eq _ _ _ _ _
     (parts-after-done
-    (part_json c.args.self.now.item.table.now c.args.self.now.item.options c.args.self.now.width)
+    (part_json c.args.self.now.item.table.now c.args.self.now.item.options.now c.args.self.now.width)
     (codes ",") c.loop-bytes.comma.now c.args.self.now.width.size _ i.0 _
     c.in-None.ensures.steps.1.0 i.2)
     i.1

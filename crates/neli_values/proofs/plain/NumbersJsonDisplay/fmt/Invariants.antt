@@ -17,7 +17,7 @@ invariant-loop-bytes g l =
     (IsPlainFormatter l.initial.f
     → (done : List ℕ) × HasWritten g.W.Write.write_str_gives l.initial.f done l.f
     × (done ++ after (codes ",") l.comma
-    (map (part_json l.fn.self.item.table.now l.fn.self.item.options l.fn.self.width)
+    (map (part_json l.fn.self.item.table.now l.fn.self.item.options.now l.fn.self.width)
     (parts_of l.fn.self.width.size (chunks_rest l.bytes-iterator)))
-    ≡ numbers_json l.fn.self.item.table.now l.fn.self.item.options l.fn.self.width
+    ≡ numbers_json l.fn.self.item.table.now l.fn.self.item.options.now l.fn.self.width
     l.fn.self.item.bytes.now))

@@ -11,7 +11,7 @@ pub loop-bytes-init : goal.loop-bytes-init
 loop-bytes-init g c =
     let rest : chunks_rest c.into_iter-bytes-iterator.result ≡ c.args.self.now.item.bytes.now =
     search rules in
-    let f = blank_part_text c.args.self.now.item.table.now c.args.self.now.item.options
+    let f = blank_part_text c.args.self.now.item.table.now c.args.self.now.item.options.now
     c.args.self.now.width in (
       search rules,
       λ plain. (
@@ -24,7 +24,7 @@ loop-bytes-init g c =
 
 pub loop-bytes-preserved : goal.loop-bytes-preserved
 loop-bytes-preserved g c =
-    let f = blank_part_text c.args.self.now.item.table.now c.args.self.now.item.options
+    let f = blank_part_text c.args.self.now.item.table.now c.args.self.now.item.options.now
     c.args.self.now.width in
     let step = c.in-Some.ensures.steps in (
       step.0 ∙ c.loop-bytes.invariant.0,
@@ -42,7 +42,7 @@ returns-clause-writes g c = λ plain _.
     let i = c.loop-bytes.invariant.1 plain in
     has_written_of_eq _ _ _ _ _
     (parts-flat-done
-    (blank_part_text c.args.self.now.item.table.now c.args.self.now.item.options
+    (blank_part_text c.args.self.now.item.table.now c.args.self.now.item.options.now
     c.args.self.now.width)
     c.args.self.now.width.size _ i.0 _ c.in-None.ensures.steps.1.0 i.2)
     i.1

@@ -3,7 +3,7 @@ use Rattle.std.specs.Fmt.{HasWritten, IsPlainFormatter}
 use Rattle.std.specs.Str.{IsUtf8}
 use Rattle.std.specs.Str.Iter.{chars_rest}
 use Rattle.neli_values.specs.Quoted.{escaped}
-use Rattle.neli_values.proofs.quoted.EscapedDisplay.fmt.Given as goal
+use Rattle.neli_values.proofs.quoted.EscapedCharsDisplay.fmt.Given as goal
 
 -- the rest is text, and the output so far with the output of the rest is that of all
 abbrev pub invariant-loop-c : goal.invariant-loop-c

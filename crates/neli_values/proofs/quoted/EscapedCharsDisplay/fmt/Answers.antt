@@ -3,7 +3,7 @@ use Rattle.std.proofs.Output.{has_written_append, has_written_of_eq}
 use Rattle.std.proofs.lemmas.Str.{IsUtf8-past_char}
 use Rattle.neli_values.specs.Quoted.{escaped_char}
 use Rattle.neli_values.proofs.Texts.{escaped_step, escaped_end}
-use Rattle.neli_values.proofs.quoted.EscapedDisplay.fmt.Goals as goal
+use Rattle.neli_values.proofs.quoted.EscapedCharsDisplay.fmt.Goals as goal
 
 pub loop-c-preserved : goal.loop-c-preserved
 loop-c-preserved g c =
