@@ -1,6 +1,7 @@
 //! What payloads are read by.
 
 ghost use Rattle.std.specs.Prelude.{◌≡◌, ◌∷◌, [], Some};
+ghost use Rattle.std.specs.Option.{option_map};
 ghost use Rattle.neli_tables_walk.specs.Shapes.{case_shape, context_seen, hops_shape, line_options};
 ghost use Rattle.neli_tables_walk.specs.Shapes.{listed_seen};
 ghost use Rattle.neli_tables_walk.specs.Shapes.{nest_of, nest_shape};
@@ -9,7 +10,7 @@ ghost use Rattle.neli_tables_walk.specs.Shapes.{onto, options_shape, row_shape, 
 use crate::level::{Level, Listed};
 use crate::{Nest, Shape};
 use neli_tables::Kind;
-use neli_tables_rows::{Options, Table, options_of};
+use neli_tables_rows::{Options, Table};
 
 /// What payloads are read by: a family's table, and the address family of the message.
 #[derive(Clone, Copy)]
@@ -30,10 +31,11 @@ impl<'w, 't> Context<'w, 't> {
     }
 
     /// What the options of the line at this place say.
-    pub(crate) fn line_options(&self, place: usize) -> Option<Options>
-        ensures { result ≡ line_options self.now.table.now place }
+    pub(crate) fn line_options(&self, place: usize) -> Option<&'w Options>
+        ensures { option_map (λ options. options.now) result
+            ≡ line_options self.now.table.now place }
     {
-        Some(options_of(self.table.line(place)?))
+        self.table.options(place)
     }
 
     /// The size in bytes of the structure at this place; 0 where there is none.
@@ -83,7 +85,7 @@ impl<'w, 't> Context<'w, 't> {
             return Shape::Bytes;
         };
         match self.line_options(place) {
-            Some(options) => self.options_shape(place, &options, payload),
+            Some(options) => self.options_shape(place, options, payload),
             None => Shape::Bytes,
         }
     }
@@ -107,8 +109,8 @@ impl<'w, 't> Context<'w, 't> {
             return Shape::Bytes;
         };
         match options.kind {
-            Some(Kind::Choice) => self.case_shape(self.chosen(list, around, &options), payload),
-            _ => self.options_shape(place, &options, payload),
+            Some(Kind::Choice) => self.case_shape(self.chosen(list, around, options), payload),
+            _ => self.options_shape(place, options, payload),
         }
     }
 }
