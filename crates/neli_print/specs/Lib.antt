@@ -8,6 +8,7 @@ pub mod ItemsJson
 pub mod ItemsText
 pub mod laws
 pub mod Lists
+pub mod MessageFlags
 pub mod Messages
 pub mod Names
 pub mod Pieces

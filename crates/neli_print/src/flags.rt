@@ -1,10 +1,11 @@
 //! The flags of a message by name.
 
 ghost use Rattle.std.specs.Prelude.{◌≡◌, Some, map};
-ghost use Rattle.neli_message_flags.specs.MessageFlags.{flag_seen};
 ghost use Rattle.neli_print.specs.Flags.{after_flag, all_left, closing, flag_text, flags_from};
 ghost use Rattle.neli_print.specs.Flags.{is_named, mark, rest_text};
+ghost use Rattle.neli_print.specs.MessageFlags.{flag_seen};
 
+use crate::flag_rows::Row;
 use crate::pieces::When;
 use neli_values::Name;
 use std::fmt;
@@ -17,9 +18,6 @@ pub(crate) enum FlagForm {
     /// Strings of JSON with commas between them.
     Strings,
 }
-
-/// A flag: its bits, and its name without `NLM_F_`.
-type Row = (u32, &'static str);
 
 /// The flags that are left to be printed.
 #[derive(Clone, Copy)]

@@ -2,16 +2,16 @@
 
 ghost use Rattle.std.specs.Prelude.{◌≡◌, Some, map};
 ghost use Rattle.std.specs.Option.{option_map};
-ghost use Rattle.neli_message_flags.specs.MessageFlags.{flag_seen};
 ghost use Rattle.neli_print.specs.Heads.{common_name, header_in, header_members, header_of};
 ghost use Rattle.neli_print.specs.Heads.{header_text, rows_of, type_words};
+ghost use Rattle.neli_print.specs.MessageFlags.{flag_seen};
 
+use crate::flag_rows::flag_rows;
 use crate::flags::{FlagForm, Flags};
 use crate::names::NameMember;
 use crate::pieces::{Colour, escape};
 use neli_consts::{NLMSG_DONE, NLMSG_ERROR, NLMSG_NOOP, NLMSG_OVERRUN};
 use neli_lent::LentMessage;
-use neli_message_flags::flag_rows;
 use neli_msg::NlmsghdrAck;
 use neli_tables_bodies::Head;
 use neli_values::Name;

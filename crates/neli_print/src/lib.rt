@@ -14,6 +14,7 @@ mod answer;
 mod body;
 mod datagram;
 mod fault;
+mod flag_rows;
 mod flags;
 mod head;
 mod item;

@@ -1,5 +1,5 @@
 use Rattle.std.proofs.Common.{drop, map}
-use Rattle.neli_message_flags.specs.MessageFlags.{flag_seen}
+use Rattle.neli_print.specs.MessageFlags.{flag_seen}
 use Rattle.neli_print.specs.Flags.{all_left, flags_from}
 use Rattle.neli_print.proofs.Loops.{IsPrinted}
 use Rattle.neli_print.proofs.flags.FlagsDisplay.fmt.Given as goal

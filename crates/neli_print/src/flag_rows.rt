@@ -1,12 +1,11 @@
-//! The flags of a message by name (`NLM_F_*` of `linux/netlink.h`): the meaning of the bits from 0x100 on depends on
-//! the type of the message.
-#![tactic(auto)]
+//! The flags of a message by name (`NLM_F_*` of `linux/netlink.h`): the meaning of the bits from
+//! 0x100 on depends on the type of the message.
 
 ghost use Rattle.std.specs.Prelude.{◌≡◌, map};
-ghost use Rattle.neli_message_flags.specs.MessageFlags.{flag_rows, flag_seen};
+ghost use Rattle.neli_print.specs.MessageFlags.{flag_rows, flag_seen};
 
 /// A flag: its bits, and its name without `NLM_F_`.
-pub type Row = (u32, &'static str);
+pub(crate) type Row = (u32, &'static str);
 
 /// The flags that every message may have (`NLM_F_*` of `linux/netlink.h`).
 static COMMON: [Row; 6] = [
@@ -81,9 +80,10 @@ static ANSWERING: [Row; 8] = [
     (0x200, "ACK_TLVS"),
 ];
 
-/// The flags that a message of this type may have, in `NETLINK_ROUTE` or in another protocol. Types of routing come in
-/// fours: new, delete, get and set. In other protocols a request for a dump has the flag DUMP.
-pub fn flag_rows(is_route: bool, number: u16) -> &'static [Row]
+/// The flags that a message of this type may have, in `NETLINK_ROUTE` or in another protocol. Types
+/// of routing come in fours: new, delete, get and set. In other protocols a request for a dump has
+/// the flag DUMP.
+pub(crate) fn flag_rows(is_route: bool, number: u16) -> &'static [Row]
     ensures { map flag_seen result.now ≡ flag_rows is_route number }
 {
     // NLMSG_ERROR and NLMSG_DONE.
