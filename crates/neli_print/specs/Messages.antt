@@ -5,7 +5,7 @@ use Rattle.std.specs.Fmt.{decimal}
 use Rattle.neli_lent.specs.Messages.{Lent, messages_in}
 use Rattle.neli_lent.specs.Walks.{items_of}
 use Rattle.neli_tables_bodies.specs.declared.head.Head.{Head}
-use Rattle.neli_tables_bodies.specs.Bodies.{body_in, is_answer}
+use Rattle.neli_tables_bodies.specs.Bodies.{BodySeen, body_in, is_answer}
 use Rattle.neli_tables_rows.specs.declared.tables.Tables.{Tables}
 use Rattle.neli_wire.specs.DeError.{DeError}
 use Rattle.neli_wire.specs.Sizes.{align}
@@ -20,10 +20,13 @@ use Rattle.neli_print.specs.Replies.{message_name, reply_lines, reply_members}
 -- ---- a message in JSON
 
 -- what its payload is: an answer, or a body
+abbrev pub members_with : Tables → Head → List ℕ → BodySeen → List ℕ
+members_with tables head payload body =
+    if is_answer tables head then reply_members tables head payload else body_members body
+
 abbrev pub content_members : Tables → Head → List ℕ → List ℕ
 content_members tables head payload =
-    if is_answer tables head then reply_members tables head payload
-    else body_members (body_in tables head payload)
+    members_with tables head payload (body_in tables head payload)
 
 -- one object: the protocol, the header, and what the payload is
 abbrev pub message_json : Tables → Header → List ℕ → List ℕ
@@ -34,10 +37,14 @@ message_json tables header payload =
 
 -- ---- a message as lines of text
 
+abbrev pub lines_with : Bool → Tables → Head → List ℕ → BodySeen → List ℕ
+lines_with coloured tables head payload body =
+    if is_answer tables head then reply_lines coloured tables head payload
+    else body_text coloured 1 body
+
 abbrev pub content_lines : Bool → Tables → Head → List ℕ → List ℕ
 content_lines coloured tables head payload =
-    if is_answer tables head then reply_lines coloured tables head payload
-    else body_text coloured 1 (body_in tables head payload)
+    lines_with coloured tables head payload (body_in tables head payload)
 
 -- its header, and what its payload is
 abbrev pub message_text : Bool → Tables → Header → List ℕ → List ℕ

@@ -7,7 +7,7 @@ use Rattle.std.specs.Option.{option_or}
 use Rattle.byteorder.specs.Endian.{little_number}
 use Rattle.neli_errno.specs.Errnos.{Row, errno_of}
 use Rattle.neli_tables_bodies.specs.declared.head.Head.{Head}
-use Rattle.neli_tables_bodies.specs.Bodies.{answer_in, body_in}
+use Rattle.neli_tables_bodies.specs.Bodies.{BodySeen, answer_in, body_in}
 use Rattle.neli_tables_rows.specs.declared.tables.Tables.{Tables}
 use Rattle.neli_values.specs.Hex.{bytes_text}
 use Rattle.neli_values.specs.Quoted.{quoted}
@@ -20,9 +20,11 @@ use Rattle.neli_print.specs.Pieces.{painted}
 use Rattle.neli_print.specs.Rests.{rest_member}
 
 -- the name of a message by the tables, or else of a type that all protocols have
+abbrev pub name_by : BodySeen → ℕ → Option (List ℕ)
+name_by body message_type = option_or (body_name body) (common_name message_type)
+
 abbrev pub message_name : Tables → Head → List ℕ → Option (List ℕ)
-message_name tables head payload =
-    option_or (body_name (body_in tables head payload)) (common_name head.message_type)
+message_name tables head payload = name_by (body_in tables head payload) head.message_type
 
 -- the error of a code below 0, if it has a name
 abbrev pub errno_in : ℤ → Option Row

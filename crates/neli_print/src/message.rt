@@ -2,16 +2,17 @@
 
 ghost use Rattle.std.specs.Prelude.{◌≡◌, Some};
 ghost use Rattle.neli_lent.specs.Messages.{message_said};
+ghost use Rattle.neli_tables_bodies.specs.Bodies.{body_seen};
 ghost use Rattle.neli_print.specs.Heads.{header_of};
-ghost use Rattle.neli_print.specs.Messages.{content_lines, content_members, message_json};
+ghost use Rattle.neli_print.specs.Messages.{lines_with, members_with, message_json};
 ghost use Rattle.neli_print.specs.Messages.{message_text};
 
 use crate::body::{BodyMembers, BodyText};
 use crate::head::{Header, HeaderMembers, HeaderText};
-use crate::message_name::message_name;
+use crate::message_name::name_by;
 use crate::reply::{ReplyLines, ReplyMembers};
 use neli_lent::LentMessage;
-use neli_tables_bodies::{body_of, is_answer};
+use neli_tables_bodies::{Body, body_of, is_answer};
 use neli_tables_rows::Tables;
 use std::fmt;
 
@@ -47,17 +48,21 @@ impl<'b, 'w, 't> Message<'b, 'w, 't> {
 
 /// The members of a message behind those of its header.
 #[derive(Clone, Copy)]
-struct ContentMembers<'b, 'w, 't>(Message<'b, 'w, 't>);
+struct ContentMembers<'b, 'w, 't> {
+    message: Message<'b, 'w, 't>,
+    body: Body<'b, 'w, 't>,
+}
 
 impl fmt::Display for ContentMembers<'_, '_, '_> {
-    ghost output = { λ c. Some (content_members c.0.tables.now c.0.header.head c.0.payload.now) };
+    ghost output = { λ c. Some (members_with c.message.tables.now c.message.header.head
+        c.message.payload.now (body_seen c.body)) };
 
     fn fmt<W: fmt::Write>(&self, f: &mut fmt::Formatter<W>) -> fmt::Result {
         let Message {
             tables,
             header,
             payload,
-        } = self.0;
+        } = self.message;
         let head = header.head;
         if is_answer(tables, head) {
             let reply = ReplyMembers {
@@ -67,7 +72,7 @@ impl fmt::Display for ContentMembers<'_, '_, '_> {
             };
             write!(f, "{reply}")
         } else {
-            let body = BodyMembers(body_of(tables, head, payload));
+            let body = BodyMembers(self.body);
             write!(f, "{body}")
         }
     }
@@ -87,11 +92,15 @@ impl fmt::Display for MessageJson<'_, '_, '_> {
             payload,
         } = self.0;
         let protocol = header.head.protocol;
+        let body = body_of(tables, header.head, payload);
         let members = HeaderMembers {
             header,
-            name: message_name(tables, header.head, payload),
+            name: name_by(&body, header.head.message_type),
         };
-        let content = ContentMembers(self.0);
+        let content = ContentMembers {
+            message: self.0,
+            body,
+        };
         write!(f, "{{\"protocol\":{protocol},{members}{content}}}")
     }
 }
@@ -101,11 +110,12 @@ impl fmt::Display for MessageJson<'_, '_, '_> {
 struct ContentLines<'b, 'w, 't> {
     is_coloured: bool,
     message: Message<'b, 'w, 't>,
+    body: Body<'b, 'w, 't>,
 }
 
 impl fmt::Display for ContentLines<'_, '_, '_> {
-    ghost output = { λ c. Some (content_lines c.is_coloured c.message.tables.now
-        c.message.header.head c.message.payload.now) };
+    ghost output = { λ c. Some (lines_with c.is_coloured c.message.tables.now
+        c.message.header.head c.message.payload.now (body_seen c.body)) };
 
     fn fmt<W: fmt::Write>(&self, f: &mut fmt::Formatter<W>) -> fmt::Result {
         let is_coloured = self.is_coloured;
@@ -127,7 +137,7 @@ impl fmt::Display for ContentLines<'_, '_, '_> {
             let body = BodyText {
                 is_coloured,
                 level: 1,
-                body: body_of(tables, head, payload),
+                body: self.body,
             };
             write!(f, "{body}")
         }
@@ -153,14 +163,16 @@ impl fmt::Display for MessageText<'_, '_, '_> {
             header,
             payload,
         } = self.message;
+        let body = body_of(tables, header.head, payload);
         let first = HeaderText {
             is_coloured: self.is_coloured,
             header,
-            name: message_name(tables, header.head, payload),
+            name: name_by(&body, header.head.message_type),
         };
         let content = ContentLines {
             is_coloured: self.is_coloured,
             message: self.message,
+            body,
         };
         write!(f, "{first}{content}")
     }

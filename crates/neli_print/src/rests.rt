@@ -4,7 +4,7 @@ ghost use Rattle.std.specs.Prelude.{◌≡◌, Some, drop};
 ghost use Rattle.neli_print.specs.Rests.{rest_member, rest_of, rest_words, size_at, struct_in};
 
 use neli_tables::Kind;
-use neli_tables_rows::{Table, options_of};
+use neli_tables_rows::Table;
 use neli_values::{Bytes, Hex};
 use std::fmt;
 
@@ -22,7 +22,7 @@ pub(crate) fn bytes_from(bytes: &[u8], start: usize) -> &[u8]
 pub(crate) fn struct_in(table: &Table<'_>, place: usize) -> Option<usize>
     ensures { result ≡ struct_in table.now place }
 {
-    let options = options_of(table.line(place)?);
+    let options = table.options(place)?;
     match options.kind {
         Some(Kind::Struct) if !options.array => options.of,
         _ => None,
