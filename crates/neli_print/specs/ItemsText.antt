@@ -1,5 +1,5 @@
 -- Items of a walk as lines of text.
-use Rattle.std.specs.Prelude.{ℕ, ◌-◌, Bool, List, [], ◌∷◌, ◌++◌, codes, take, Option, Some, None}
+use Rattle.std.specs.Prelude.{ℕ, ◌-◌, Bool, true, false, List, [], ◌∷◌, ◌++◌, codes, take, Option, Some, None}
 use Rattle.std.specs.Prelude.{is_some, Result, Ok, Err}
 use Rattle.std.specs.Fmt.{decimal}
 use Rattle.neli_attr.specs.AttrType.{AttrType}
@@ -17,7 +17,7 @@ use Rattle.neli_values.specs.Values.{payload_breach, payload_text}
 use Rattle.neli_print.specs.declared.pieces.Colour.TheVariants as colour
 use Rattle.neli_print.specs.Faults.{fault_text}
 use Rattle.neli_print.specs.Items.{last_step, lists_around}
-use Rattle.neli_print.specs.Names.{Lines, row_name, structure_text}
+use Rattle.neli_print.specs.Names.{Lines, is_each, row_name, structure_text}
 use Rattle.neli_print.specs.Pieces.{indent, painted, when}
 use Rattle.neli_print.specs.Rests.{rest_of, rest_words}
 
@@ -30,10 +30,20 @@ named_or_number None number = decimal number
 unfoldable pub row_words : Bool → Option (List ℕ) → ℕ → List ℕ
 row_words coloured name number = painted coloured colour.Attribute (named_or_number name number)
 
+-- the number of an attribute in brackets, where its name is that of each number
+abbrev pub index_words : Bool → ℕ → List ℕ
+index_words true number = codes "[" ++ (decimal number ++ codes "]")
+index_words false number = []
+
+-- its name or its number, or both where the name is that of each number
+unfoldable pub name_words : Bool → Lines → Option Step → ℕ → List ℕ
+name_words coloured table step number =
+    row_words coloured (row_name table step) number ++ index_words (is_each table step) number
+
 -- an attribute: its name or its number, and the flags of its type
 abbrev pub label_text : Bool → Lines → Option Step → AttrType ℕ → List ℕ
 label_text coloured table step kind =
-    row_words coloured (row_name table step) kind.nla_type
+    name_words coloured table step kind.nla_type
     ++ (when kind.nla_nested (codes " nested")
     ++ when kind.nla_network_order (codes " net_byteorder"))
 

@@ -1,6 +1,8 @@
 -- Names of lines, and structures.
-use Rattle.std.specs.Prelude.{ℕ, Bool, List, [], ◌++◌, codes, slice_get, Option, Some, None}
+use Rattle.std.specs.Prelude.{ℕ, Bool, true, false, List, [], ◌++◌, codes, slice_get, Option, Some, None}
 use Rattle.std.specs.Option.{option_map}
+use Rattle.neli_tables.specs.declared.word.Word.{Word}
+use Rattle.neli_tables.specs.declared.word.Word.TheVariants as word
 use Rattle.neli_tables.specs.Lines.{LineSeen}
 use Rattle.neli_tables_walk.specs.declared.item.Step.{Step}
 use Rattle.neli_values.specs.Fields.{fields_json, fields_text}
@@ -23,6 +25,23 @@ line_name table place = name_in (slice_get table place)
 abbrev pub row_name : Lines → Option Step → Option (List ℕ)
 row_name table (Some step) = option_map (line_name table) step.row
 row_name table None = None
+
+abbrev pub is_each_word : Word → Bool
+is_each_word word.Each = true
+is_each_word w = false
+
+abbrev pub is_each_line : Option LineSeen → Bool
+is_each_line (Some line) = is_each_word line.word
+is_each_line None = false
+
+abbrev pub is_each_row : Lines → Option ℕ → Bool
+is_each_row table (Some place) = is_each_line (slice_get table place)
+is_each_row table None = false
+
+-- the row of an attribute stands for each number that has none of its own
+abbrev pub is_each : Lines → Option Step → Bool
+is_each table (Some step) = is_each_row table step.row
+is_each table None = false
 
 -- the member of a name, after others
 abbrev pub name_member : Option (List ℕ) → List ℕ

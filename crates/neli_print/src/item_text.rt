@@ -3,12 +3,13 @@
 ghost use Rattle.std.specs.Prelude.{Some};
 ghost use Rattle.std.specs.Option.{option_copied, option_map};
 ghost use Rattle.neli_tables_walk.specs.Walks.{item_seen};
-ghost use Rattle.neli_print.specs.ItemsText.{breach_words, content_text, element_text, item_text};
-ghost use Rattle.neli_print.specs.ItemsText.{label_text, left_text, row_words};
+ghost use Rattle.neli_print.specs.ItemsText.{breach_words, content_text, element_text, index_words};
+ghost use Rattle.neli_print.specs.ItemsText.{item_text, label_text, left_text, name_words};
+ghost use Rattle.neli_print.specs.ItemsText.{row_words};
 
 use crate::fault::Fault;
 use crate::item::{last_step, lists_around};
-use crate::names::{Structure, StructureText, row_name};
+use crate::names::{Structure, StructureText, is_each, row_name};
 use crate::pieces::{Colour, When, escape, indent};
 use crate::rests::{RestWords, rest_of};
 use neli_attr::AttrType;
@@ -46,6 +47,54 @@ impl fmt::Display for RowName<'_> {
     }
 }
 
+/// The number of an attribute in brackets, where its name is that of each number.
+#[derive(Clone, Copy)]
+struct IndexWords {
+    is_each: bool,
+    number: u16,
+}
+
+impl fmt::Display for IndexWords {
+    ghost output = { λ i. Some (index_words i.is_each i.number) };
+
+    fn fmt<W: fmt::Write>(&self, f: &mut fmt::Formatter<W>) -> fmt::Result {
+        let number = self.number;
+        if self.is_each {
+            write!(f, "[{number}]")
+        } else {
+            Ok(())
+        }
+    }
+}
+
+/// An attribute by its name or its number, or both where the name is that of each number.
+#[derive(Clone, Copy)]
+struct NameWords<'i, 'w, 't> {
+    is_coloured: bool,
+    table: &'w Table<'t>,
+    step: Option<&'i Step>,
+    number: u16,
+}
+
+impl fmt::Display for NameWords<'_, '_, '_> {
+    ghost output = { λ n. Some (name_words n.is_coloured n.table.now (option_copied n.step)
+        n.number) };
+
+    #[tactic(auto, unfolding(crate::specs::ItemsText::name_words))]
+    fn fmt<W: fmt::Write>(&self, f: &mut fmt::Formatter<W>) -> fmt::Result {
+        let name = RowName {
+            is_coloured: self.is_coloured,
+            name: row_name(self.table, self.step),
+            number: self.number,
+        };
+        let index = IndexWords {
+            is_each: is_each(self.table, self.step),
+            number: self.number,
+        };
+        write!(f, "{name}{index}")
+    }
+}
+
 /// An attribute: its name or its number, and the flags of its type.
 #[derive(Clone, Copy)]
 struct Label<'i, 'w, 't> {
@@ -60,9 +109,10 @@ impl fmt::Display for Label<'_, '_, '_> {
         l.kind) };
 
     fn fmt<W: fmt::Write>(&self, f: &mut fmt::Formatter<W>) -> fmt::Result {
-        let name = RowName {
+        let name = NameWords {
             is_coloured: self.is_coloured,
-            name: row_name(self.table, self.step),
+            table: self.table,
+            step: self.step,
             number: *self.kind.nla_type(),
         };
         let nested = When {

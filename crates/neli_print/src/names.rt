@@ -2,11 +2,12 @@
 
 ghost use Rattle.std.specs.Prelude.{◌≡◌, Some, take};
 ghost use Rattle.std.specs.Option.{option_copied, option_map};
-ghost use Rattle.neli_print.specs.Names.{line_name, name_member, row_name, structure_members};
-ghost use Rattle.neli_print.specs.Names.{structure_text};
+ghost use Rattle.neli_print.specs.Names.{is_each, is_each_row, line_name, name_member};
+ghost use Rattle.neli_print.specs.Names.{row_name, structure_members, structure_text};
 
 use crate::item::front_of;
 use crate::pieces::{Colour, escape};
+use neli_tables::Word;
 use neli_tables_rows::Table;
 use neli_tables_walk::{Nest, Step};
 use neli_values::{Fields, FieldsJson, FieldsText, Name, NameJson};
@@ -27,6 +28,29 @@ pub(crate) fn row_name<'w, 't>(table: &'w Table<'t>, step: Option<&Step>) -> Opt
     ensures { option_map (λ name. name.now) result ≡ row_name table.now (option_copied step.entry) }
 {
     Some(line_name(table, step?.row?))
+}
+
+/// Whether the line at this place is a row for each number that has none of its own.
+fn is_each_row(table: &Table<'_>, row: Option<usize>) -> bool
+    ensures { result ≡ is_each_row table.now row }
+{
+    let Some(place) = row else {
+        return false;
+    };
+    match table.line(place) {
+        Some(line) => matches!(line.word, Word::Each),
+        None => false,
+    }
+}
+
+/// Whether the row of an attribute stands for each number that has none of its own.
+pub(crate) fn is_each(table: &Table<'_>, step: Option<&Step>) -> bool
+    ensures { result ≡ is_each table.now (option_copied step.entry) }
+{
+    match step {
+        Some(step) => is_each_row(table, step.row),
+        None => false,
+    }
 }
 
 /// The member of a name, after others; nothing without a name.

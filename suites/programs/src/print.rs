@@ -109,7 +109,28 @@ const JSON: [Row; 8] = [
     ),
 ];
 
-const TEXT: [Row; 5] = [
+const TEXT: [Row; 6] = [
+    (
+        "0821-generic-generic-family",
+        16,
+        "7000000010000000f10300004943000001020000100002007463705f6d657472696373000600\
+        01001b00000008000300010000000800040000000000080005000d0000002c00060014000100\
+        0800010001000000080002000e000000140002000800010002000000080002000b000000",
+        "CTRL_CMD_NEWFAMILY length 112 flags 0 seq 1009 port 17225\n  \
+        command 1 version 2\n  \
+        CTRL_ATTR_FAMILY_NAME \"tcp_metrics\"\n  \
+        CTRL_ATTR_FAMILY_ID 27\n  \
+        CTRL_ATTR_VERSION 1\n  \
+        CTRL_ATTR_HDRSIZE 0\n  \
+        CTRL_ATTR_MAXATTR 13\n  \
+        CTRL_ATTR_OPS\n    \
+        index[1]\n      \
+        CTRL_ATTR_OP_ID 1\n      \
+        CTRL_ATTR_OP_FLAGS cmd-cap-do|cmd-cap-dump|cmd-cap-haspol\n    \
+        index[2]\n      \
+        CTRL_ATTR_OP_ID 2\n      \
+        CTRL_ATTR_OP_FLAGS admin-perm|cmd-cap-do|cmd-cap-haspol\n",
+    ),
     (
         "0115-route-notify",
         0,
