@@ -1,3 +1,3 @@
-mod FamiliesBox
 mod Items
 pub mod Parts
+mod TablesPlaces

@@ -3,7 +3,8 @@
 ghost use Rattle.std.specs.Prelude.{◌≡◌, Option, Some, None, IsSome};
 ghost use Rattle.neli_c_tables.specs.declared.families.Families.{Families};
 ghost use Rattle.std.specs.Coded.{coded_option};
-ghost use Rattle.neli_c_tables.specs.Held.{families_coded, owned};
+ghost use Rattle.neli_c_tables.specs.contracts.families.Families.{the_row};
+ghost use Rattle.neli_loose.specs.Places.{owned};
 
 use crate::families::Families;
 use neli_loose::loose::Loose;
@@ -18,11 +19,11 @@ use std::marker::Model;
 pub struct TablesPlace {
     at: *mut (),
     alloc: Global,
-    pub ghost value: { Option Families } by { coded_option families_coded },
+    pub ghost value: { Option Families } by { coded_option the_row.coded },
 }
 
 impl Model for TablesPlace {
-    ghost also_owns = { λ p. owned p.alloc p.at p.value };
+    ghost also_owns = { λ p. owned the_row p.alloc p.at p.value };
 }
 
 impl TablesPlace {
