@@ -5,9 +5,9 @@ use Rattle.std.proofs.Common.{Option, Some, None, Result, Ok, Err, IfOk, IfSome,
 use Rattle.std.specs.Prelude.{take, drop}
 use lib.ListN.{take-append-drop}
 use Rattle.std.specs.List.{FoldsTo, concat}
-use Rattle.std.specs.Fmt.{WritesInCalls, WritesText}
+use Rattle.std.specs.Fmt.{WritesText}
 use Rattle.neli_c_tables.specs.declared.room.Room.{Room}
-use Rattle.neli_c_tables.specs.Rooms.{Writes, put_at, beginning}
+use Rattle.neli_c_tables.specs.Rooms.{Writes, put_at}
 
 module _ {A : Type 0} where
   put-none : (place : ℕ) (xs : List A) → put_at place xs [] ≡ []
