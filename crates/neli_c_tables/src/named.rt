@@ -1,6 +1,6 @@
 //! The items of a walk by name, as C has them.
 
-ghost use Rattle.std.specs.Prelude.{◌≡◌, ◌+◌, ◌<◌, [], ◌∷◌, ◌++◌, IfOk, OnOk, Some, length};
+ghost use Rattle.std.specs.Prelude.{◌≡◌, ◌+◌, ◌<◌, ◌≤◌, [], ◌∷◌, ◌++◌, IfOk, OnErr, OnOk, Some, length};
 ghost use Rattle.neli_wire.specs.Sizes.{align};
 ghost use Rattle.neli_tables_walk.specs.Found.{front_of};
 ghost use Rattle.neli_tables_walk.specs.Shapes.{context_seen, kind_at};
@@ -149,7 +149,8 @@ fn front_of(kind: &Option<AttrType<u16>>) -> usize
 
 /// A size rounded up to four.
 fn aligned(size: usize) -> Result<usize, TooLong>
-    ensures { IfOk result (λ n. n ≡ align size) }
+    ensures ok { IfOk result (λ n. n ≡ align size) }
+    ensures err { OnErr result (usize.MAX < size + 3) }
 {
     if usize::MAX - 3 < size {
         return Err(TooLong);
@@ -159,7 +160,8 @@ fn aligned(size: usize) -> Result<usize, TooLong>
 
 /// A place so many bytes further on.
 fn further(place: usize, size: usize) -> Result<usize, TooLong>
-    ensures { IfOk result (λ n. n ≡ place + size) }
+    ensures ok { IfOk result (λ n. n ≡ place + size) }
+    ensures err { OnErr result (usize.MAX < place + size) }
 {
     place.checked_add(size).ok_or(TooLong)
 }
@@ -177,7 +179,8 @@ fn inner_begin(shape: &Shape, place: usize) -> Result<Option<usize>, TooLong>
 
 /// Puts a place behind the others, if there is room.
 fn push(begins: &mut Begins, place: usize) -> Result<(), TooLong>
-    ensures { OnOk result (begins.new.items ≡ begins.old.items ++ place ∷ []) }
+    ensures ok { OnOk result (begins.new.items ≡ begins.old.items ++ place ∷ []) }
+    ensures err { OnErr result (MAX_DEPTH ≤ length begins.old.items) }
 {
     match begins.try_push(place) {
         Ok(()) => Ok(()),
@@ -258,7 +261,8 @@ fn element_shown(
 
 /// How many steps a path has.
 fn depth_of(path: &Path) -> Result<u8, TooLong>
-    ensures { IfOk result (λ depth. (depth ≡ length path.now.steps.items) × (depth < 255)) }
+    ensures ok { IfOk result (λ depth. (depth ≡ length path.now.steps.items) × (depth < 255)) }
+    ensures err { OnErr result (255 ≤ length path.now.steps.items) }
 {
     let depth = path.steps().len();
     if depth < 255 {
@@ -297,7 +301,8 @@ fn with_texts(
     path_length: usize,
     value_length: usize,
 ) -> Result<NeliNamed, TooLong>
-    ensures { IfOk result (λ named. named ≡ with_texts shown path path_length value_length) }
+    ensures ok { IfOk result (λ named. named ≡ with_texts shown path path_length value_length) }
+    ensures err { OnErr result (usize.MAX < path + path_length) }
 {
     let mut named = shown;
     named.path = path;

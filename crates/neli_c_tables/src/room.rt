@@ -1,6 +1,6 @@
 //! Text that is written into bytes which may be too few for it.
 
-ghost use Rattle.std.specs.Prelude.{◌≡◌, ◌+◌, IfOk, IfSome, length};
+ghost use Rattle.std.specs.Prelude.{◌≡◌, ◌+◌, ◌<◌, IfOk, IfSome, IsOk, OnErr, length};
 ghost use Rattle.neli_c_tables.specs.Rooms.{Writes, beginning, put_at};
 
 use std::cmp::min;
@@ -21,7 +21,10 @@ struct Room<'a> {
 impl<'a> fmt::Write for Room<'a> {
     ghost write_str_gives = { Writes };
 
-    fn write_str(&mut self, text: &str) -> fmt::Result {
+    fn write_str(&mut self, text: &str) -> fmt::Result
+        ensures ok { IsOk result → Writes self.old text.now self.new }
+        ensures err { OnErr result (usize.MAX < self.old.size + length text.now) }
+    {
         let bytes = text.as_bytes();
         let Some(size) = self.size.checked_add(bytes.len()) else {
             return Err(fmt::Error);
