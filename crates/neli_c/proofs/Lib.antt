@@ -1,12 +1,12 @@
-pub mod AsBox
-pub mod DumpBox
+pub mod DumpPlaces
 pub mod Explained
 pub mod Frames
-pub mod Hears
 pub mod FreePlaces
+pub mod Hears
 pub mod Listens
 pub mod Opened
 pub mod OutOfPlace
 pub mod Replies
 pub mod Requests
+pub mod SessionPlaces
 pub mod Steps

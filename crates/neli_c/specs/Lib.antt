@@ -1,12 +1,11 @@
 pub mod AnswersShown
 pub mod Asked
 pub mod Codes
-pub mod DumpHeld
 pub mod DumpsHeld
-pub mod Held
 pub mod Listens
 pub mod Lists
 pub mod Named
+pub mod Opens
 pub mod Printed
 pub mod Reads
 pub mod Sessions

@@ -6,6 +6,7 @@
 ghost use Rattle.std.specs.Prelude.{◌≡◌, ◌≢◌, ◌⊎◌, IfSome, IsSome, None};
 ghost use Rattle.neli_c.specs.Asked.{reply_wire};
 ghost use Rattle.neli_c.specs.Codes.{memory, ok, state};
+ghost use Rattle.neli_c.specs.Opens.{StaysClosed, StaysOpen};
 ghost use Rattle.neli_c.specs.DumpsHeld.{BeginsDatagram, Finishes, HandsOut, IsNewDump, PutsMessage, dump_wire, end_wire};
 
 use crate::code::{MEMORY, OK, STATE};
@@ -65,11 +66,9 @@ pub extern "C" fn neli_c_kernel_dump_push(
     flags: u16,
     body: &[u8],
 ) -> i32
-    ensures closed { dump.old.place.value ≡ None
-        → (result ≡ state) × (dump.new.place.value ≡ None) }
-    ensures open { IfSome dump.old.place.value (λ s. IsSome dump.new.place.value
-        × IfSome dump.new.place.value
-        (PutsMessage result (dump_wire nl_type flags body.now) s)) }
+    ensures closed { StaysClosed result dump.old.place.value dump.new.place.value }
+    ensures open { StaysOpen (PutsMessage result (dump_wire nl_type flags body.now))
+        dump.old.place.value dump.new.place.value }
 {
     let Some(mut dumping) = dump.take(alloc) else {
         return STATE;
@@ -90,11 +89,9 @@ pub extern "C" fn neli_c_kernel_dump_push_reply(
     flags: u16,
     body: &[u8],
 ) -> i32
-    ensures closed { dump.old.place.value ≡ None
-        → (result ≡ state) × (dump.new.place.value ≡ None) }
-    ensures open { IfSome dump.old.place.value (λ s. IsSome dump.new.place.value
-        × IfSome dump.new.place.value
-        (PutsMessage result (reply_wire nl_type flags body.now) s)) }
+    ensures closed { StaysClosed result dump.old.place.value dump.new.place.value }
+    ensures open { StaysOpen (PutsMessage result (reply_wire nl_type flags body.now))
+        dump.old.place.value dump.new.place.value }
 {
     let Some(mut dumping) = dump.take(alloc) else {
         return STATE;
@@ -109,10 +106,9 @@ pub extern "C" fn neli_c_kernel_dump_push_reply(
 /// Returns `OK`; `STATE` if the end was put in; or `MEMORY`. Without `OK` the dump is as it was.
 #[unsafe(no_mangle)]
 pub extern "C" fn neli_c_kernel_dump_begin_datagram(alloc: Global, dump: &mut NeliKernelDump) -> i32
-    ensures closed { dump.old.place.value ≡ None
-        → (result ≡ state) × (dump.new.place.value ≡ None) }
-    ensures open { IfSome dump.old.place.value (λ s. IsSome dump.new.place.value
-        × IfSome dump.new.place.value (BeginsDatagram result s)) }
+    ensures closed { StaysClosed result dump.old.place.value dump.new.place.value }
+    ensures open { StaysOpen (BeginsDatagram result)
+        dump.old.place.value dump.new.place.value }
 {
     let Some(mut dumping) = dump.take(alloc) else {
         return STATE;
@@ -134,11 +130,9 @@ pub extern "C" fn neli_c_kernel_dump_finish(
     error: i32,
     ext_ack: &[u8],
 ) -> i32
-    ensures closed { dump.old.place.value ≡ None
-        → (result ≡ state) × (dump.new.place.value ≡ None) }
-    ensures open { IfSome dump.old.place.value (λ s. IsSome dump.new.place.value
-        × IfSome dump.new.place.value
-        (Finishes result (end_wire flags error) ext_ack.now s)) }
+    ensures closed { StaysClosed result dump.old.place.value dump.new.place.value }
+    ensures open { StaysOpen (Finishes result (end_wire flags error) ext_ack.now)
+        dump.old.place.value dump.new.place.value }
 {
     let Some(mut dumping) = dump.take(alloc) else {
         return STATE;
@@ -161,9 +155,9 @@ pub extern "C" fn neli_c_kernel_dump_next(
 ) -> i32
     ensures closed { dump.old.place.value ≡ None → (result ≡ state)
         × (dump.new.place.value ≡ None) × (out.new ≡ out.old) × (size.new ≡ size.old) }
-    ensures open { IfSome dump.old.place.value (λ s. IsSome dump.new.place.value
-        × IfSome dump.new.place.value
-        (λ t. HandsOut result s t out.old out.new size.old size.new)) }
+    ensures open { StaysOpen
+        (λ s t. HandsOut result s t out.old out.new size.old size.new)
+        dump.old.place.value dump.new.place.value }
 {
     let Some(mut dumping) = dump.take(alloc) else {
         return STATE;

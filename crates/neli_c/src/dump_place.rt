@@ -3,7 +3,8 @@
 ghost use Rattle.std.specs.Prelude.{◌≡◌, Option, Some, None, IsSome};
 ghost use Rattle.neli_c.specs.declared.dumping.Dumping.{Dumping};
 ghost use Rattle.std.specs.Coded.{coded_option};
-ghost use Rattle.neli_c.specs.DumpHeld.{owned, dumping_coded};
+ghost use Rattle.neli_c.specs.contracts.dumping.Dumping.{the_row};
+ghost use Rattle.neli_loose.specs.Places.{owned};
 
 use crate::dumping::Dumping;
 use neli_loose::loose::Loose;
@@ -18,11 +19,11 @@ use std::marker::Model;
 pub struct DumpPlace {
     at: *mut (),
     alloc: Global,
-    pub ghost value: { Option Dumping } by { coded_option dumping_coded },
+    pub ghost value: { Option Dumping } by { coded_option the_row.coded },
 }
 
 impl Model for DumpPlace {
-    ghost also_owns = { λ p. owned p.alloc p.at p.value };
+    ghost also_owns = { λ p. owned the_row p.alloc p.at p.value };
 }
 
 impl DumpPlace {
