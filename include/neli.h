@@ -755,7 +755,7 @@ static inline int32_t neli_kernel_dump_next(struct neli_kernel_dump *dump, uint8
 
 /* What attributes are called and what their payloads are stands in tables of families: docs/TABLES.md. All but the
  * first two calls return NELI_STATE if the tables are closed. NELI_MEMORY leaves them unchanged; printing takes no
- * memory. */
+ * memory. NELI_LENGTH if a text has more bytes than a size_t counts: `size` is as it was then. */
 
 /* Opens tables without any family; NELI_STATE if they are open, and they stay so. */
 static inline int32_t neli_tables_new(struct neli_tables *tables) {

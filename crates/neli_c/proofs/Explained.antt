@@ -1,16 +1,15 @@
 -- A text of a message's body, said of the message whose payload lies within the bytes.
-use Rattle.std.proofs.Common.{◌≡◌, ◌≢◌, ℕ, ℤ, List, Option, Some, None, refl, sym, subst}
+use Rattle.std.proofs.Common.{◌≡◌, ℕ, ℤ, List, Option, Some, None, refl, sym, subst}
 use Rattle.std.specs.Option.{option_map}
 use Rattle.neli_tables_bodies.specs.Bodies.{BodySeen}
 use Rattle.neli_tables_check.specs.declared.place.Place.{Place}
 use Rattle.neli_tables_check.specs.Refusals.{place_text, refusal_text}
-use Rattle.neli_c.specs.Codes.{bad_length}
 use Rattle.neli_c.specs.Named.{at_text, place_seen}
-use Rattle.neli_c.specs.Printed.{PrintsMessage, PrintsText}
+use Rattle.neli_c.specs.Printed.{IsPrinted, PrintsMessage, PrintsText}
 
 -- of a payload that lies there
 pub shown : (o : Option (List ℕ)) (payload : List ℕ) (line : List ℕ → List ℕ) (code : ℤ) (old new : List ℕ)
-    (size size' : ℕ) → o ≡ Some payload → (code ≢ bad_length → PrintsText code (line payload) old new size')
+    (size size' : ℕ) → o ≡ Some payload → IsPrinted code (line payload) old new size size'
     → PrintsMessage code line o old new size size'
 shown o payload line code old new size size' is prints =
     subst (λ (p : Option (List ℕ)). PrintsMessage code line p old new size size') (sym is) prints
@@ -21,11 +20,11 @@ some-is x y same = cc
 
 pub explained : (o : Option (List ℕ)) (f : List ℕ → BodySeen) (body : BodySeen) (line : BodySeen → List ℕ) (code : ℤ)
     (old new : List ℕ) (size size' : ℕ) → Some body ≡ option_map f o
-    → (code ≢ bad_length → PrintsText code (line body) old new size')
+    → IsPrinted code (line body) old new size size'
     → PrintsMessage code (λ p. line (f p)) o old new size size'
 explained None f body line code old new size size' same prints = absurd (let no : Some body ≡ None = same in cc)
-explained (Some p) f body line code old new size size' same prints = λ ne.
-    subst (λ (b : BodySeen). PrintsText code (line b) old new size') (some-is body (f p) same) (prints ne)
+explained (Some p) f body line code old new size size' same prints =
+    subst (λ (b : BodySeen). IsPrinted code (line b) old new size size') (some-is body (f p) same) prints
 
 -- the path to a place is that of its table and its steps
 pub text-at : (o : Option Place) → option_map place_text o ≡ option_map at_text (place_seen o)

@@ -1,8 +1,6 @@
 -- What is printed of messages, and of the items of a walk, by tables.
-use Rattle.std.specs.Prelude.{⊤, ◌≡◌, ◌≢◌, ℕ, ◌+◌, ℤ, false, List, length, nat_le, if◌then◌else◌, Option, Some, None}
+use Rattle.std.specs.Prelude.{⊤, ◌≡◌, ◌≢◌, ℕ, ℤ, List, length, nat_le, if◌then◌else◌, Option, Some, None}
 use Rattle.neli_print.specs.declared.head.Header.{Header}
-use Rattle.neli_print.specs.Messages.{datagram_json, datagram_text, message_json, message_text}
-use Rattle.neli_c_tables.specs.declared.families.Families.{Families}
 use Rattle.neli_c_tables.specs.Rooms.{beginning}
 use Rattle.neli_c.specs.declared.lent.NeliMessage.{NeliMessage}
 use Rattle.neli_c.specs.Codes.{bad_length, ok, place, room}
@@ -14,16 +12,20 @@ PrintsText code text old new size =
     (new ≡ beginning text old) × (size ≡ length text)
     × (code ≡ (if nat_le (length text) (length old) then ok else room))
 
--- the same of what is printed, where its text is known
+-- the same where the text has a length; else the code is `bad_length`, and `size` is as it was
+abbrev pub IsPrinted : ℤ → List ℕ → List ℕ → List ℕ → ℕ → ℕ → Type 0
+IsPrinted code text old new size size' =
+    (code ≢ bad_length → PrintsText code text old new size') × (code ≡ bad_length → size' ≡ size)
+
+-- the first of these of what is printed, where its text is known
 abbrev pub Prints : ℤ → Option (List ℕ) → List ℕ → List ℕ → ℕ → Type 0
 Prints code None old new size = ⊤
 Prints code (Some text) old new size = PrintsText code text old new size
 
--- the same of a message whose payload lies within the bytes
+-- the second of a message whose payload lies within the bytes
 abbrev pub PrintsMessage : ℤ → (List ℕ → List ℕ) → Option (List ℕ) → List ℕ → List ℕ → ℕ → ℕ → Type 0
 PrintsMessage code text None old new size size' = (code ≡ place) × (new ≡ old) × (size' ≡ size)
-PrintsMessage code text (Some payload) old new size size' =
-    code ≢ bad_length → PrintsText code (text payload) old new size'
+PrintsMessage code text (Some payload) old new size size' = IsPrinted code (text payload) old new size size'
 
 -- the header of a message of a protocol
 abbrev pub header_of : ℕ → NeliMessage → Header

@@ -2,6 +2,8 @@
 use Rattle.std.specs.Prelude.{◌≡◌, ◌≢◌, ◌⊎◌, ℕ, ℤ, List, [], length, Option, Some, None}
 use Rattle.std.specs.Prelude.{Result, Err}
 use Rattle.neli_reader.specs.Headers.{flags_of}
+use Rattle.neli_tables.specs.declared.schema.ReadError.{ReadError}
+use Rattle.neli_tables.specs.declared.schema.ReadError.TheVariants.{Line, Memory}
 use Rattle.neli_tables.specs.declared.why.Why.{Why}
 use Rattle.neli_tables.specs.Lines.{LineSeen}
 use Rattle.neli_tables.specs.Refusals.{why_text}
@@ -13,7 +15,6 @@ use Rattle.neli_tables_bodies.specs.Controller.{family_said, learnt_from}
 use Rattle.neli_c_tables.specs.declared.families.Families.{Families}
 use Rattle.neli_c_tables.specs.Rooms.{beginning}
 use Rattle.neli_c.specs.declared.lent.NeliMessage.{NeliMessage}
-use Rattle.neli_c.specs.AnswersShown.{payload_shown}
 use Rattle.neli_c.specs.Codes.{bad_length, bad_table, memory, ok, place}
 
 -- ---- what tables there are
@@ -31,6 +32,11 @@ IsEmpty s = (tables_in s.tables ≡ []) × ((n : ℕ) → learnt s.tables n ≡ 
 -- the families that are built in, and no number is learnt
 abbrev pub IsBuiltIn : Families → Type 0
 IsBuiltIn s = AreRead built_in_headings (tables_in s.tables) × ((n : ℕ) → learnt s.tables n ≡ None)
+
+-- the code of a text that cannot be read
+abbrev pub unread_code : ReadError → ℤ
+unread_code (Line number why) = bad_table
+unread_code Memory = memory
 
 -- the line with this number is the first that is bad, and this is why, as far as there is room
 abbrev pub IsBadLine : Result (List LineSeen) (ℕ × Why) → ℕ → List ℕ → List ℕ → ℕ → Type 0

@@ -2,12 +2,13 @@
 //! wrong with them. They take no memory.
 //!
 //! Each call returns `STATE` if the tables are closed; `PLACE` if the message's payload is past the
-//! bytes. Texts are written as much as there is room for, and `size` is how long the whole is. The
-//! tables are unchanged.
+//! bytes; `LENGTH` if a text has more bytes than a `usize` counts. Texts are written as much as there
+//! is room for, and `size` is how long the whole is; it is as it was where no text is printed, and at
+//! `LENGTH`. The tables are unchanged.
 
-ghost use Rattle.std.specs.Prelude.{◌≡◌, IfSome, None};
+ghost use Rattle.std.specs.Prelude.{◌≡◌, ◌≢◌, IfSome, None};
 ghost use Rattle.neli_c.specs.AnswersShown.{payload_shown};
-ghost use Rattle.neli_c.specs.Codes.{state};
+ghost use Rattle.neli_c.specs.Codes.{item, ok, room, state, violation};
 ghost use Rattle.neli_c.specs.Named.{Checks, Explains, FindsPath, GivesItems};
 
 use crate::code::STATE;
@@ -41,6 +42,8 @@ pub extern "C" fn neli_c_named_items(
     ensures open { IfSome tables.old.place.value (λ s. GivesItems result protocol message.now
         (payload_shown bytes.now message.now) s items.old items.new count.new out.old out.new
         size.new) }
+    ensures unstored { result ≢ ok → result ≢ room
+        → (count.new ≡ count.old) × (size.new ≡ size.old) }
     ensures same { tables.new.place.value ≡ tables.old.place.value }
 {
     let Some(families) = tables.take(alloc) else {
@@ -69,6 +72,7 @@ pub extern "C" fn neli_c_check(
         → (result ≡ state) × (out.new ≡ out.old) }
     ensures open { IfSome tables.old.place.value (λ s. Checks result protocol message.now
         (payload_shown bytes.now message.now) s out.old out.new size.new) }
+    ensures unprinted { result ≢ violation → size.new ≡ size.old }
     ensures same { tables.new.place.value ≡ tables.old.place.value }
 {
     let Some(families) = tables.take(alloc) else {
@@ -98,6 +102,7 @@ pub extern "C" fn neli_c_path_at(
         → (result ≡ state) × (out.new ≡ out.old) }
     ensures open { IfSome tables.old.place.value (λ s. FindsPath result protocol message.now
         (payload_shown bytes.now message.now) offset s out.old out.new size.new) }
+    ensures unprinted { result ≢ item → size.new ≡ size.old }
     ensures same { tables.new.place.value ≡ tables.old.place.value }
 {
     let Some(families) = tables.take(alloc) else {

@@ -1,11 +1,11 @@
 //! What the calls find in a message by name, with their codes.
 
-ghost use Rattle.std.specs.Prelude.{◌≡◌, ◌≢◌};
+ghost use Rattle.std.specs.Prelude.{◌≡◌, ◌≢◌, ◌&&◌, IfOk, OnErr, nat_le, if◌then◌else◌};
 ghost use Rattle.std.specs.Option.{option_map};
 ghost use Rattle.neli_tables_bodies.specs.Bodies.{body_in, body_seen};
 ghost use Rattle.neli_tables_walk.specs.Shapes.{context_seen};
 ghost use Rattle.neli_c.specs.AnswersShown.{payload_shown};
-ghost use Rattle.neli_c.specs.Codes.{bad_length};
+ghost use Rattle.neli_c.specs.Codes.{bad_length, item, ok, room, violation};
 ghost use Rattle.neli_c.specs.Named.{Checks, Explains, FindsPath, GivesItems, StoresIn, StoresItems, at_in};
 ghost use Rattle.neli_c.specs.Named.{body_place, list_in, place_seen, said};
 ghost use Rattle.neli_c_tables.specs.Named.{named_items, named_text};
@@ -17,7 +17,8 @@ use crate::lent::NeliMessage;
 use crate::printing::print;
 use crate::tabling::head_of;
 use neli_c_tables::families::Families;
-use neli_c_tables::named::{NeliNamed, named_items};
+use neli_c_tables::named::{NeliNamed, Stored, named_items};
+use neli_c_tables::room::TooLong;
 use neli_tables_bodies::{Body, GENERIC_HEADER_SIZE, body_of};
 use neli_tables_check::{Place, Refusal, Violation, check, find};
 use neli_tables_walk::{Context, Nest, Shape};
@@ -59,6 +60,33 @@ fn body_place(body: &Body<'_, '_, 'static>, message: &NeliMessage) -> usize
     }
 }
 
+/// The code of items that were stored, with how many they are and how long their texts are; of those that were not,
+/// `LENGTH`, and `count` and `size` are as they were.
+fn of_stored(
+    stored: Result<Stored, TooLong>,
+    item_room: usize,
+    text_room: usize,
+    count: &mut usize,
+    size: &mut usize,
+) -> i32
+    ensures sizes { IfOk stored (λ all. (count.new ≡ all.count) × (size.new ≡ all.size)) }
+    ensures code { IfOk stored (λ all. result
+        ≡ (if nat_le all.count item_room && nat_le all.size text_room then ok else room)) }
+    ensures refused { OnErr stored
+        ((result ≡ bad_length) × (count.new ≡ count.old) × (size.new ≡ size.old)) }
+{
+    let Ok(stored) = stored else {
+        return LENGTH;
+    };
+    *count = stored.count;
+    *size = stored.size;
+    if stored.count <= item_room && stored.size <= text_room {
+        OK
+    } else {
+        ROOM
+    }
+}
+
 /// Stores the items of a body at this place, and writes their texts, as many as there is room for.
 fn store_items(
     context: Context<'_, 'static>,
@@ -70,22 +98,16 @@ fn store_items(
     out: &mut [u8],
     size: &mut usize,
 ) -> i32
-    ensures { result ≢ bad_length → StoresItems result
+    ensures stored { result ≢ bad_length → StoresItems result
         (named_items (context_seen context.entry) nest bytes.now place)
         (named_text (context_seen context.entry) nest bytes.now)
         items.old items.new count.new out.old out.new size.new }
+    ensures unstored { result ≡ bad_length
+        → (count.new ≡ count.old) × (size.new ≡ size.old) }
 {
-    let (room, text_room) = (items.len(), out.len());
-    let Ok(stored) = named_items(context, nest, bytes, place, items, out) else {
-        return LENGTH;
-    };
-    *count = stored.count;
-    *size = stored.size;
-    if stored.count <= room && stored.size <= text_room {
-        OK
-    } else {
-        ROOM
-    }
+    let (item_room, text_room) = (items.len(), out.len());
+    let stored = named_items(context, nest, bytes, place, items, out);
+    of_stored(stored, item_room, text_room, count, size)
 }
 
 /// Stores the items of a body, if its table has its attributes.
@@ -97,8 +119,10 @@ fn body_items(
     out: &mut [u8],
     size: &mut usize,
 ) -> i32
-    ensures { StoresIn result (body_seen body.now) message.now (list_in (body_seen body.now))
+    ensures stored { StoresIn result (body_seen body.now) message.now (list_in (body_seen body.now))
         items.old items.new count.new out.old out.new size.new }
+    ensures unstored { result ≢ ok → result ≢ room
+        → (count.new ≡ count.old) × (size.new ≡ size.old) }
 {
     let Some((context, nest)) = list_in(body) else {
         return KIND;
@@ -118,8 +142,10 @@ pub(crate) fn message_items(
     out: &mut [u8],
     size: &mut usize,
 ) -> i32
-    ensures { GivesItems result protocol message.now (payload_shown bytes.now message.now)
+    ensures stored { GivesItems result protocol message.now (payload_shown bytes.now message.now)
         families.now items.old items.new count.new out.old out.new size.new }
+    ensures unstored { result ≢ ok → result ≢ room
+        → (count.new ≡ count.old) × (size.new ≡ size.old) }
 {
     match body_in(families, protocol, bytes, message) {
         Some(body) => body_items(&body, message, items, count, out, size),
@@ -136,8 +162,9 @@ pub(crate) fn check_message(
     out: &mut [u8],
     size: &mut usize,
 ) -> i32
-    ensures { Checks result protocol message.now (payload_shown bytes.now message.now) families.now
-        out.old out.new size.new }
+    ensures checked { Checks result protocol message.now (payload_shown bytes.now message.now)
+        families.now out.old out.new size.new }
+    ensures unprinted { result ≢ violation → size.new ≡ size.old }
 {
     let Some(body) = body_in(families, protocol, bytes, message) else {
         return PLACE;
@@ -181,8 +208,9 @@ pub(crate) fn path_at(
     out: &mut [u8],
     size: &mut usize,
 ) -> i32
-    ensures { FindsPath result protocol message.now (payload_shown bytes.now message.now) offset
-        families.now out.old out.new size.new }
+    ensures found { FindsPath result protocol message.now (payload_shown bytes.now message.now)
+        offset families.now out.old out.new size.new }
+    ensures unprinted { result ≢ item → size.new ≡ size.old }
 {
     let Some(body) = body_in(families, protocol, bytes, message) else {
         return PLACE;

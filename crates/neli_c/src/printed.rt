@@ -1,13 +1,14 @@
 //! Messages by name, as text and as JSON (docs/SHOW.md), printed into the caller's bytes. They take no memory.
 //!
 //! `size` is how long the text is. Returns `OK`; `ROOM` if the text is longer than `out`, which then has its beginning;
-//! `STATE` if the tables are closed. The tables are unchanged.
+//! `STATE` if the tables are closed; `LENGTH` if the text has more bytes than a `usize` counts, and then `size` is
+//! as it was. The tables are unchanged.
 
-ghost use Rattle.std.specs.Prelude.{◌≡◌, ◌≢◌, IfSome, None, false};
+ghost use Rattle.std.specs.Prelude.{◌≡◌, IfSome, None, false};
 ghost use Rattle.neli_print.specs.Messages.{datagram_json, datagram_text, message_json, message_text};
 ghost use Rattle.neli_c.specs.AnswersShown.{payload_shown};
-ghost use Rattle.neli_c.specs.Codes.{bad_length, state};
-ghost use Rattle.neli_c.specs.Printed.{PrintsMessage, PrintsText, header_of};
+ghost use Rattle.neli_c.specs.Codes.{state};
+ghost use Rattle.neli_c.specs.Printed.{IsPrinted, PrintsMessage, header_of};
 
 use crate::code::STATE;
 use crate::lent::NeliMessage;
@@ -27,11 +28,11 @@ pub extern "C" fn neli_c_message_text(
     out: &mut [u8],
     size: &mut usize,
 ) -> i32
-    ensures closed { tables.old.place.value ≡ None
-        → (result ≡ state) × (out.new ≡ out.old) × (size.new ≡ size.old) }
     ensures open { IfSome tables.old.place.value (λ s. PrintsMessage result
         (message_text false s.tables (header_of protocol message.now))
         (payload_shown bytes.now message.now) out.old out.new size.old size.new) }
+    ensures closed { tables.old.place.value ≡ None
+        → (result ≡ state) × (out.new ≡ out.old) × (size.new ≡ size.old) }
     ensures same { tables.new.place.value ≡ tables.old.place.value }
 {
     let Some(families) = tables.take(alloc) else {
@@ -54,11 +55,11 @@ pub extern "C" fn neli_c_message_json(
     out: &mut [u8],
     size: &mut usize,
 ) -> i32
-    ensures closed { tables.old.place.value ≡ None
-        → (result ≡ state) × (out.new ≡ out.old) × (size.new ≡ size.old) }
     ensures open { IfSome tables.old.place.value (λ s. PrintsMessage result
         (message_json s.tables (header_of protocol message.now))
         (payload_shown bytes.now message.now) out.old out.new size.old size.new) }
+    ensures closed { tables.old.place.value ≡ None
+        → (result ≡ state) × (out.new ≡ out.old) × (size.new ≡ size.old) }
     ensures same { tables.new.place.value ≡ tables.old.place.value }
 {
     let Some(families) = tables.take(alloc) else {
@@ -79,10 +80,10 @@ pub extern "C" fn neli_c_datagram_text(
     out: &mut [u8],
     size: &mut usize,
 ) -> i32
+    ensures open { IfSome tables.old.place.value (λ s. IsPrinted result
+        (datagram_text false s.tables protocol bytes.now) out.old out.new size.old size.new) }
     ensures closed { tables.old.place.value ≡ None
         → (result ≡ state) × (out.new ≡ out.old) × (size.new ≡ size.old) }
-    ensures open { IfSome tables.old.place.value (λ s. result ≢ bad_length → PrintsText result
-        (datagram_text false s.tables protocol bytes.now) out.old out.new size.new) }
     ensures same { tables.new.place.value ≡ tables.old.place.value }
 {
     let Some(families) = tables.take(alloc) else {
@@ -103,10 +104,10 @@ pub extern "C" fn neli_c_datagram_json(
     out: &mut [u8],
     size: &mut usize,
 ) -> i32
+    ensures open { IfSome tables.old.place.value (λ s. IsPrinted result
+        (datagram_json s.tables protocol bytes.now) out.old out.new size.old size.new) }
     ensures closed { tables.old.place.value ≡ None
         → (result ≡ state) × (out.new ≡ out.old) × (size.new ≡ size.old) }
-    ensures open { IfSome tables.old.place.value (λ s. result ≢ bad_length → PrintsText result
-        (datagram_json s.tables protocol bytes.now) out.old out.new size.new) }
     ensures same { tables.new.place.value ≡ tables.old.place.value }
 {
     let Some(families) = tables.take(alloc) else {

@@ -1,30 +1,42 @@
 //! What the calls print of messages, with their codes.
 
-ghost use Rattle.std.specs.Prelude.{◌≡◌, ◌≢◌, false};
+ghost use Rattle.std.specs.Prelude.{◌≡◌, ◌≢◌, IfOk, OnErr, false, nat_le, if◌then◌else◌};
 ghost use Rattle.neli_print.specs.Messages.{datagram_json, datagram_text, message_json, message_text};
 ghost use Rattle.neli_c.specs.AnswersShown.{payload_shown};
-ghost use Rattle.neli_c.specs.Codes.{bad_length};
-ghost use Rattle.neli_c.specs.Printed.{Prints, PrintsMessage, PrintsText, header_of};
+ghost use Rattle.neli_c.specs.Codes.{bad_length, ok, room};
+ghost use Rattle.neli_c.specs.Printed.{IsPrinted, Prints, PrintsMessage, header_of};
 
 use crate::answer::payload_of;
 use crate::code::{LENGTH, OK, PLACE, ROOM};
 use crate::lent::NeliMessage;
 use crate::tabling::head_of;
 use neli_c_tables::families::Families;
-use neli_c_tables::room::write_text;
+use neli_c_tables::room::{TooLong, write_text};
 use neli_print::{Datagram, DatagramJson, DatagramText, Header, Message, MessageJson, MessageText};
 use std::fmt::Display;
+
+/// The code of a text that was written, with its length as `size`; of one that was not, `LENGTH`, and `size` stays.
+fn of_written(written: Result<usize, TooLong>, available: usize, size: &mut usize) -> i32
+    ensures size { IfOk written (λ length. size.new ≡ length) }
+    ensures code { IfOk written
+        (λ length. result ≡ (if nat_le length available then ok else room)) }
+    ensures refused { OnErr written ((result ≡ bad_length) × (size.new ≡ size.old)) }
+{
+    let Ok(length) = written else {
+        return LENGTH;
+    };
+    *size = length;
+    if length <= available { OK } else { ROOM }
+}
 
 /// Prints a value into bytes, as much of its text as there is room for; `size` is how long the text is.
 pub(crate) fn print<D: Display + Drop>(value: D, out: &mut [u8], size: &mut usize) -> i32
     ensures printed { result ≢ bad_length → Prints result (D.output value) out.old out.new size.new }
+    ensures unprinted { result ≡ bad_length → size.new ≡ size.old }
 {
-    let room = out.len();
-    let Ok(length) = write_text(value, out) else {
-        return LENGTH;
-    };
-    *size = length;
-    if length <= room { OK } else { ROOM }
+    let available = out.len();
+    let written = write_text(value, out);
+    of_written(written, available, size)
 }
 
 /// The header of a message of this protocol.
@@ -99,8 +111,8 @@ pub(crate) fn datagram_text(
     out: &mut [u8],
     size: &mut usize,
 ) -> i32
-    ensures { result ≢ bad_length → PrintsText result
-        (datagram_text false families.now.tables protocol bytes.now) out.old out.new size.new }
+    ensures { IsPrinted result (datagram_text false families.now.tables protocol bytes.now)
+        out.old out.new size.old size.new }
 {
     let text = DatagramText {
         is_coloured: false,
@@ -121,8 +133,8 @@ pub(crate) fn datagram_json(
     out: &mut [u8],
     size: &mut usize,
 ) -> i32
-    ensures { result ≢ bad_length → PrintsText result
-        (datagram_json families.now.tables protocol bytes.now) out.old out.new size.new }
+    ensures { IsPrinted result (datagram_json families.now.tables protocol bytes.now)
+        out.old out.new size.old size.new }
 {
     let datagram = Datagram {
         tables: &families.tables,

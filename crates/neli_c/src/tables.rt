@@ -4,15 +4,15 @@
 
 ghost use Rattle.std.specs.Prelude.{◌≡◌, ◌≢◌, ◌⊎◌, IfSome, IsSome, None};
 ghost use Rattle.neli_c.specs.AnswersShown.{payload_shown};
-ghost use Rattle.neli_c.specs.Codes.{bad_table, memory, ok, state};
+ghost use Rattle.neli_c.specs.Codes.{bad_length, bad_table, memory, ok, state};
+ghost use Rattle.neli_c.specs.Opens.{StaysClosed, StaysOpen};
 ghost use Rattle.neli_c.specs.Tables.{AddsTable, IsBuiltIn, IsEmpty, Learns, LearnsFrom, head_of};
 
-use crate::code::{MEMORY, OK, STATE, TABLE};
+use crate::code::{MEMORY, OK, STATE};
 use crate::lent::NeliMessage;
-use crate::tabling::{add, learn, learn_from};
+use crate::tabling::{add, learn, learn_from, of_unread};
 use neli_c_tables::families::Families;
 use neli_c_tables::opaque::NeliTables;
-use neli_tables::ReadError;
 use std::alloc::Global;
 
 /// Opens tables without any family.
@@ -58,8 +58,7 @@ pub extern "C" fn neli_c_tables_built_in(alloc: Global, tables: &mut NeliTables)
     }
     let families = match Families::built_in(alloc) {
         Ok(families) => families,
-        Err(ReadError::Memory) => return MEMORY,
-        Err(ReadError::Line(_, _)) => return TABLE,
+        Err(error) => return of_unread(error),
     };
     match Box::new(alloc, families) {
         Ok(families) => {
@@ -83,7 +82,8 @@ pub extern "C" fn neli_c_tables_free(alloc: Global, tables: &mut NeliTables) -> 
 /// Adds the table that a text is behind the others. The text stays as it is until the tables are freed.
 ///
 /// Returns `OK`; `TABLE` if a line of it is bad, and then `line` is the number of the first, counted from 1, `out` has
-/// why, as much as there is room for, and `size` is how long that is; or `MEMORY`. Without `OK` nothing is added.
+/// why, as much as there is room for, and `size` is how long that is; `MEMORY`; or `LENGTH` if that has more bytes
+/// than a `usize` counts. Without `OK` nothing is added, and without `TABLE` `line` and `size` are as they were.
 #[unsafe(no_mangle)]
 pub extern "C" fn neli_c_tables_add(
     alloc: Global,
@@ -95,9 +95,12 @@ pub extern "C" fn neli_c_tables_add(
 ) -> i32
     ensures closed { tables.old.place.value ≡ None
         → (result ≡ state) × (tables.new.place.value ≡ None) × (out.new ≡ out.old) }
-    ensures open { IfSome tables.old.place.value (λ s. IsSome tables.new.place.value
-        × IfSome tables.new.place.value
-        (λ t. AddsTable result text.now s t line.new out.old out.new size.new)) }
+    ensures open { StaysOpen
+        (λ s t. AddsTable result text.now s t line.new out.old out.new size.new)
+        tables.old.place.value tables.new.place.value }
+    ensures unshown { result ≢ bad_table
+        → (line.new ≡ line.old) × (size.new ≡ size.old) }
+    ensures silent { result ≢ bad_table → result ≢ bad_length → out.new ≡ out.old }
 {
     let Some(mut families) = tables.take(alloc) else {
         return STATE;
@@ -117,10 +120,9 @@ pub extern "C" fn neli_c_tables_learn(
     id: u16,
     name: &[u8],
 ) -> i32
-    ensures closed { tables.old.place.value ≡ None
-        → (result ≡ state) × (tables.new.place.value ≡ None) }
-    ensures open { IfSome tables.old.place.value (λ s. IsSome tables.new.place.value
-        × IfSome tables.new.place.value (Learns result id name.now s)) }
+    ensures closed { StaysClosed result tables.old.place.value tables.new.place.value }
+    ensures open { StaysOpen (Learns result id name.now)
+        tables.old.place.value tables.new.place.value }
 {
     let Some(mut families) = tables.take(alloc) else {
         return STATE;
@@ -142,11 +144,10 @@ pub extern "C" fn neli_c_tables_learn_from(
     bytes: &[u8],
     message: &NeliMessage,
 ) -> i32
-    ensures closed { tables.old.place.value ≡ None
-        → (result ≡ state) × (tables.new.place.value ≡ None) }
-    ensures open { IfSome tables.old.place.value (λ s. IsSome tables.new.place.value
-        × IfSome tables.new.place.value (LearnsFrom result (head_of protocol message.now)
-        (payload_shown bytes.now message.now) s)) }
+    ensures closed { StaysClosed result tables.old.place.value tables.new.place.value }
+    ensures open { StaysOpen
+        (LearnsFrom result (head_of protocol message.now) (payload_shown bytes.now message.now))
+        tables.old.place.value tables.new.place.value }
 {
     let Some(mut families) = tables.take(alloc) else {
         return STATE;

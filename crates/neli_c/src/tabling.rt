@@ -9,7 +9,7 @@ ghost use Rattle.neli_c_tables.specs.Rooms.{beginning};
 ghost use Rattle.neli_c.specs.AnswersShown.{payload_shown};
 ghost use Rattle.neli_c.specs.Codes.{bad_length, bad_table, memory, ok};
 ghost use Rattle.neli_c.specs.Tables.{IsBadLine, Learns, LearnsFrom, SameLearnt, SameTables};
-ghost use Rattle.neli_c.specs.Tables.{head_of};
+ghost use Rattle.neli_c.specs.Tables.{head_of, unread_code};
 
 use crate::answer::payload_of;
 use crate::code::{LENGTH, MEMORY, OK, PLACE, TABLE};
@@ -22,11 +22,23 @@ use neli_tables_bodies::Head;
 use neli_wire::Constant;
 use std::alloc::{AllocError, Global};
 
+/// The code of a text that cannot be read.
+pub(crate) fn of_unread(error: ReadError) -> i32
+    ensures { result ≡ unread_code error }
+{
+    match error {
+        ReadError::Line(_, _) => TABLE,
+        ReadError::Memory => MEMORY,
+    }
+}
+
 /// Prints why a line is bad, and what its number is.
 fn show_bad_line(number: usize, why: Why, line: &mut usize, out: &mut [u8], size: &mut usize) -> i32
     ensures code { (result ≡ bad_table) ⊎ (result ≡ bad_length) }
     ensures shown { result ≡ bad_table → (line.new ≡ number) × (out.new ≡ beginning (why_text why) out.old)
         × (size.new ≡ length (why_text why)) }
+    ensures unshown { result ≢ bad_table
+        → (line.new ≡ line.old) × (size.new ≡ size.old) }
 {
     if print(why, out, size) == LENGTH {
         return LENGTH;
@@ -51,6 +63,9 @@ pub(crate) fn add(
     ensures bad { result ≡ bad_table
         → IsBadLine (table_in text.now) line.new out.old out.new size.new }
     ensures code { (result ≡ ok) ⊎ (result ≡ memory) ⊎ (result ≡ bad_table) ⊎ (result ≡ bad_length) }
+    ensures unshown { result ≢ bad_table
+        → (line.new ≡ line.old) × (size.new ≡ size.old) }
+    ensures silent { result ≢ bad_table → result ≢ bad_length → out.new ≡ out.old }
 {
     match families.add(alloc, text) {
         Ok(()) => OK,

@@ -1,4 +1,4 @@
-use Rattle.std.proofs.Common.{◌≡◌, ◌∙◌, sym, ap, Some}
+use Rattle.std.proofs.Common.{◌∙◌, sym, ap, Some}
 use Rattle.std.specs.Option.{option_map}
 use Rattle.neli_tables_bodies.specs.Bodies.{body_in}
 use Rattle.neli_tables_bodies.specs.declared.head.Head.{Head}

@@ -21,5 +21,8 @@ returns c =
     (sym (to_z-of_z w32 c.print.result (record { sfits = c.print.type_inv })))
     (explained _ _ body (λ (b : BodySeen). refusal_text (unsigned_abs c.args.error) (said text)
     (option_map at_text (at_in b offset))) c.print.result c.args.out.now c.print.new.out
-    c.args.size.now c.print.new.size c.in-Some.ensures (λ ne.
-    refused-as _ _ _ _ _ _ _ _ _ _ number c.said.ensures path (c.print.ensures.printed ne)))
+    c.args.size.now c.print.new.size c.in-Some.ensures (
+      (λ ne.
+          refused-as _ _ _ _ _ _ _ _ _ _ number c.said.ensures path (c.print.ensures.printed ne)),
+      c.print.ensures.unprinted,
+    ))

@@ -14,6 +14,9 @@ returns c =
     subst (λ (z : ℤ). PrintsMessage z (message_text false tables header) payload c.args.out.now c.print.new.out
     c.args.size.now c.print.new.size) (sym (to_z-of_z w32 c.print.result (record { sfits = c.print.type_inv })))
     (shown payload c.in-Some.payload.now (message_text false tables header) c.print.result c.args.out.now
-    c.print.new.out c.args.size.now c.print.new.size c.in-Some.ensures.some (λ ne.
-    subst (λ (h : Header). PrintsText c.print.result (message_text false tables h c.in-Some.payload.now) c.args.out.now
-    c.print.new.out c.print.new.size) c.header_of.ensures (c.print.ensures.printed ne)))
+    c.print.new.out c.args.size.now c.print.new.size c.in-Some.ensures.some (
+      (λ ne.
+          subst (λ (h : Header). PrintsText c.print.result (message_text false tables h c.in-Some.payload.now)
+          c.args.out.now c.print.new.out c.print.new.size) c.header_of.ensures (c.print.ensures.printed ne)),
+      c.print.ensures.unprinted,
+    ))
