@@ -21,7 +21,12 @@ family_learnt tables n before (Some family) =
     learnt_as family.1 (generic_in family.0 tables) n before
 family_learnt tables n before None = before
 
--- after a word of the command line
+-- the family that a word of the command line names, if there is one
+abbrev pub word_family : Option (List ℕ) → Option (List ℕ × ℕ)
+word_family (Some word) = family_in word
+word_family None = None
+
+-- after such a word
 abbrev pub word_learnt : List Lines → ℕ → Option ℕ → Option (List ℕ) → Option ℕ
 word_learnt tables n before (Some word) = family_learnt tables n before (family_in word)
 word_learnt tables n before None = before

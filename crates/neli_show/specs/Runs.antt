@@ -1,5 +1,5 @@
 -- How a run ends.
-use Rattle.std.specs.Prelude.{◌≡◌, ℕ, ◌-◌, Bool, true, false, List, length, map, codes, slice_get}
+use Rattle.std.specs.Prelude.{◌≡◌, ℕ, ◌-◌, Bool, true, false, List, [], ◌∷◌, ◌++◌, length, map, codes, slice_get}
 use Rattle.std.specs.Prelude.{string_bytes, Option, Some, None, Result, Ok, Err}
 use Rattle.std.specs.Io.KnownBytes.{Appends}
 use Rattle.std.specs.IoError.{error_kind}
@@ -40,6 +40,16 @@ complaint_text status.Usage =
     Some (codes
     "usage: neli_show [json | color] [route | connector | generic[:FAMILY=ID] | NUMBER] < FILE")
 complaint_text status.Memory = Some (codes "neli_show: out of memory")
+
+-- a message in a line of its own, or nothing
+abbrev pub complaint_line : Option (List ℕ) → List ℕ
+complaint_line None = []
+complaint_line (Some text) = text ++ 10 ∷ []
+
+-- the status if the input failed: memory ran out, or it cannot be read
+abbrev pub input_status : ErrorKind → Status
+input_status OutOfMemory = status.Memory
+input_status kind = status.NoInput
 
 -- the status if the words were not read: memory ran out, or they are not accepted
 abbrev pub unread_status : ErrorKind → Status

@@ -1,8 +1,8 @@
 //! The numbers of generic netlink's families, as the controller's messages in an input say.
 
-ghost use Rattle.std.specs.Prelude.{◌≡◌, ℕ, OnOk};
+ghost use Rattle.std.specs.Prelude.{◌≡◌, ℕ, IsErr, IsOk, None, OnOk};
 ghost use Rattle.std.specs.Option.{option_map};
-ghost use Rattle.neli_show.specs.Learnt.{datagram_learnt, input_learnt, packet_learnt, word_learnt};
+ghost use Rattle.neli_show.specs.Learnt.{datagram_learnt, input_learnt, packet_learnt, word_family, word_learnt};
 ghost use Rattle.neli_tables_rows.specs.Families.{learnt, tables_in};
 
 use crate::family::family_of;
@@ -19,6 +19,7 @@ pub fn learn_word(tables: &mut Tables<'_>, word: Option<&str>) -> Result<(), All
     ensures ok { OnOk result ((n : ℕ) → learnt tables.new n
         ≡ word_learnt (tables_in tables.old) n (learnt tables.old n)
         (option_map (λ w. w.now) word.entry)) }
+    ensures other { word_family (option_map (λ w. w.now) word.entry) ≡ None → IsOk result }
 {
     match word {
         Some(word) => match family_of(word) {
@@ -59,6 +60,7 @@ fn learn_part(
     ensures ok { OnOk result ((n : ℕ) → learnt tables.new n
         ≡ packet_learnt protocol (tables_in tables.old) bytes.now n (learnt tables.old n)
         part.now.packet) }
+    ensures other { IsErr part.now.packet → IsOk result }
 {
     match part.packet {
         Ok(packet) => {

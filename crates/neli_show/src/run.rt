@@ -1,6 +1,6 @@
 //! A run of the program.
 
-ghost use Rattle.std.specs.Prelude.{◌≡◌, ◌≢◌, Err, IfErr, IfOk, IfSome, Ok, OnErr, OnOk};
+ghost use Rattle.std.specs.Prelude.{◌≡◌, ◌≢◌, Err, IfErr, IfOk, IfSome, IsErr, IsOk, None, Ok, OnErr, OnOk};
 ghost use Rattle.std.specs.IoError.{error_kind};
 ghost use Rattle.std.specs.Io.KnownBytes.{Appends, IsAtEnd};
 ghost use Rattle.std.specs.Option.{option_map};
@@ -8,7 +8,7 @@ ghost use Rattle.neli_show.specs.declared.request.Request.{Request as Asked};
 ghost use Rattle.neli_show.specs.Learnt.{AreTables};
 ghost use Rattle.neli_show.specs.Lines.{Writes, WritesInput, is_whole_input};
 ghost use Rattle.neli_show.specs.Parts.{input_by};
-ghost use Rattle.neli_show.specs.Runs.{IsShown, asked_in, complaint_text, last_word};
+ghost use Rattle.neli_show.specs.Runs.{IsShown, asked_in, complaint_line, complaint_text, input_status, last_word};
 ghost use Rattle.neli_show.specs.Runs.{printed_status, status_code, unread_status};
 ghost use Rattle.neli_values.specs.Json.{AreLines};
 
@@ -95,6 +95,18 @@ fn print_input<W: Write>(
     out.flush()
 }
 
+/// The status of a run that printed its input, which is messages alone or not; or of one whose output failed.
+fn status_of(printed: io::Result<()>, is_whole: bool) -> Status
+    ensures ok { IsOk printed → result ≡ printed_status is_whole }
+    ensures err { IsErr printed → result ≡ Status.NoOutput }
+{
+    match printed {
+        Ok(()) if is_whole => Status::Whole,
+        Ok(()) => Status::Fault,
+        Err(_) => Status::NoOutput,
+    }
+}
+
 /// Prints an input by these tables, and returns the status of the run.
 fn show_by<W: Write>(out: &mut W, tables: &Tables<'_>, request: Request, input: &Input) -> Status
     ensures text { result ≢ Status.NoOutput → Appends (W.contents out.old) (W.contents out.new)
@@ -104,14 +116,8 @@ fn show_by<W: Write>(out: &mut W, tables: &Tables<'_>, request: Request, input: 
         → result ≡ printed_status (is_whole_input input.now.bytes.items input.now.items.items) }
     ensures shown { (result ≢ Status.Usage) × (result ≢ Status.Memory) × (result ≢ Status.NoInput) }
 {
-    if print_input(out, tables, request, input).is_err() {
-        return Status::NoOutput;
-    }
-    if is_whole_input(input) {
-        Status::Whole
-    } else {
-        Status::Fault
-    }
+    let printed = print_input(out, tables, request, input);
+    status_of(printed, is_whole_input(input))
 }
 
 /// The tables that an input is read by: those that are built in, with the numbers of families that
@@ -151,6 +157,17 @@ fn show_bytes<W: Write>(
     Ok(show_by(out, &tables, request, &input))
 }
 
+/// The status of a run whose input failed: memory ran out, or it cannot be read.
+fn status_without_input(error: &io::Error) -> Status
+    ensures { result ≡ input_status (error_kind error.now) }
+{
+    if error.kind() == ErrorKind::OutOfMemory {
+        Status::Memory
+    } else {
+        Status::NoInput
+    }
+}
+
 /// Reads the input, and prints it in the requested form.
 fn show<R: Read, W: Write>(
     alloc: Global,
@@ -177,8 +194,7 @@ fn show<R: Read, W: Write>(
             Ok(status) => status,
             Err(_) => Status::Memory,
         },
-        Err(error) if error.kind() == ErrorKind::OutOfMemory => Status::Memory,
-        Err(_) => Status::NoInput,
+        Err(error) => status_without_input(&error),
     }
 }
 
@@ -204,6 +220,18 @@ fn last_word(words: &io::Result<Vec<String>>) -> Option<&str>
             None => None,
         },
         Err(_) => None,
+    }
+}
+
+/// Writes the message about a status, if there is one, in a line.
+fn complain<C: Write>(complaints: &mut C, status: Status) -> io::Result<()>
+    ensures written { OnOk result (Appends (C.contents complaints.old) (C.contents complaints.new)
+        (complaint_line (complaint_text status))) }
+    ensures quiet { complaint_text status ≡ None → complaints.new ≡ complaints.old }
+{
+    match status.complaint() {
+        Some(complaint) => writeln!(complaints, "{complaint}"),
+        None => Ok(()),
     }
 }
 
@@ -236,14 +264,13 @@ pub fn run<R: Read, W: Write, C: Write>(
     ensures memory { result ≡ Status.Memory → out.new ≡ out.old }
     ensures read { (request : Asked) → asked_in words.now ≡ Ok request → result ≢ Status.NoInput
         → result ≢ Status.Memory → IsAtEnd (R.remaining input.new) }
+    ensures quiet { complaint_text result ≡ None → complaints.new ≡ complaints.old }
 {
     let status = match asked(words) {
         Ok(request) => show(alloc, request, last_word(words), input, out),
         Err(status) => status,
     };
-    if let Some(complaint) = status.complaint() {
-        // If this fails too, only the status reports it.
-        let _ = writeln!(complaints, "{complaint}");
-    }
+    // If this fails too, only the status reports it.
+    let _ = complain(complaints, status);
     status
 }

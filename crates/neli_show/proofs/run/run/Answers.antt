@@ -7,8 +7,8 @@ use Rattle.neli_show.proofs.Shown.{on_some, shown-lines}
 use Rattle.neli_show.proofs.run.run.Goals.{in-Ok, in-Err}
 use Rattle.neli_show.proofs.run.run.Goals as goal
 
-pub returns-in_default-clause-shown : goal.returns-in_default-clause-shown
-returns-in_default-clause-shown g c = λ request asked output input memory.
+pub returns-clause-shown : goal.returns-clause-shown
+returns-clause-shown g c = λ request asked output input memory.
     let any = c.asked.ensures.any in
     elim c.match-asked.branch [
       | in-Ok w ↦
@@ -31,8 +31,8 @@ returns-in_default-clause-shown g c = λ request asked output input memory.
       | in-Err w ↦ let is = w.in-Err.is in absurd cc
     ]
 
-pub returns-in_default-clause-lines : goal.returns-in_default-clause-lines
-returns-in_default-clause-lines g c = λ request asked json output input memory.
+pub returns-clause-lines : goal.returns-clause-lines
+returns-clause-lines g c = λ request asked json output input memory.
     let any = c.asked.ensures.any in
     elim c.match-asked.branch [
       | in-Ok w ↦
