@@ -127,8 +127,7 @@ fn read_one<D: Deliveries, T: NlType, P: FromBytesWithInput + Size + Drop>(
             put(items, item);
             Ok(true)
         }
-        Reply::End => Ok(false),
-        Reply::Waits => Ok(false),
+        Reply::End | Reply::Waits => Ok(false),
     }
 }
 
