@@ -12,17 +12,17 @@ PrintsText code text old new size =
     (new ≡ beginning text old) × (size ≡ length text)
     × (code ≡ (if nat_le (length text) (length old) then ok else room))
 
--- the same where the text has a length; else the code is `bad_length`, and `size` is as it was
+-- the same of a text that could be written; of one that could not the code is `bad_length`, and `size` is as it was
 abbrev pub IsPrinted : ℤ → List ℕ → List ℕ → List ℕ → ℕ → ℕ → Type 0
 IsPrinted code text old new size size' =
     (code ≢ bad_length → PrintsText code text old new size') × (code ≡ bad_length → size' ≡ size)
 
--- the first of these of what is printed, where its text is known
+-- `PrintsText` of what is printed, where its text is known
 abbrev pub Prints : ℤ → Option (List ℕ) → List ℕ → List ℕ → ℕ → Type 0
 Prints code None old new size = ⊤
 Prints code (Some text) old new size = PrintsText code text old new size
 
--- the second of a message whose payload lies within the bytes
+-- `IsPrinted` of a message whose payload lies within the bytes
 abbrev pub PrintsMessage : ℤ → (List ℕ → List ℕ) → Option (List ℕ) → List ℕ → List ℕ → ℕ → ℕ → Type 0
 PrintsMessage code text None old new size size' = (code ≡ place) × (new ≡ old) × (size' ≡ size)
 PrintsMessage code text (Some payload) old new size size' = IsPrinted code (text payload) old new size size'
