@@ -310,7 +310,7 @@ impl<D: Deliveries> NlRouter<D> {
                 if finished {
                     self.close(handle);
                 } else {
-                    let _ = self.heard.remove(&number);
+                    self.forget_heard(number);
                 }
                 Ok(())
             }

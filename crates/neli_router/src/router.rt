@@ -19,15 +19,16 @@ use crate::verdict::is_last;
 use crate::{
     Deliveries, GivenUp, HandleState, Heard, Loss, Missed, NlRouterReceiverHandle, Reply, Verdict,
 };
+use indexmap::IndexMap;
 use neli_consts::{NlType, NlmF};
 use neli_genl::Genlmsghdr;
 use neli_log::Log;
+use neli_places::hints::{Hints, put, value_of};
 use neli_reader::{NlPayload, Nlmsghdr, NlmsghdrBuilder, RouterError, SocketError};
 use neli_util::Groups;
 use neli_wire::implementing::length_refusal;
 use neli_wire::{FromBytesWithInput, MsgError, NoMemory, Size, ToBytes};
 use std::alloc::Global;
-use std::collections::HashMap;
 
 /// A router: it gives each request a sequence number, and delivers a reply that arrived for no group to the handle of
 /// its request.
@@ -39,7 +40,9 @@ pub struct NlRouter<D = Log> {
     pub(crate) deliveries: D,
     pub(crate) next_seq: u32,
     /// What is known of the answer to each request that is open, and was not given up.
-    pub(crate) heard: HashMap<u32, Heard>,
+    pub(crate) heard: IndexMap<u32, Heard>,
+    /// Where its numbers may be found there.
+    pub(crate) hints: Hints,
     /// The numbers that were given up, and are open.
     pub(crate) given_up: Vec<GivenUp>,
     /// What multicast missed, and was not yet reported.
@@ -65,7 +68,8 @@ impl<D: Deliveries> NlRouter<D> {
         let router = NlRouter {
             deliveries: D::new(alloc, pid),
             next_seq: 0,
-            heard: HashMap::new(alloc),
+            heard: IndexMap::new(alloc),
+            hints: Hints::new(alloc),
             given_up: Vec::new(alloc),
             missed: None,
         };
@@ -156,6 +160,7 @@ impl<D: Deliveries> NlRouter<D> {
             self.deliveries.close(Some(number));
             return Err(RouterError::Memory);
         };
+        self.hints.note_last(&self.heard);
         self.next_seq = number.wrapping_add(1);
         let handle = NlRouterReceiverHandle::new(HandleState {
             number: Some(number),
@@ -269,20 +274,29 @@ impl<D: Deliveries> NlRouter<D> {
         if state.ended {
             return Ok(Reply::End);
         }
-        if !self.deliveries.is_open(state.number) {
-            handle.set_state(HandleState {
-                ended: true,
-                ..state
-            });
-            return Ok(Reply::Item(Err(RouterError::ClosedChannel)));
-        }
         match self.deliveries.first(alloc, state.number)? {
-            None => Ok(Reply::Waits),
+            None => {
+                if self.deliveries.is_open(state.number) {
+                    return Ok(Reply::Waits);
+                }
+                handle.set_state(HandleState {
+                    ended: true,
+                    ..state
+                });
+                Ok(Reply::Item(Err(RouterError::ClosedChannel)))
+            }
             Some(item) => {
                 self.deliveries.drop_first(state.number);
                 let last = is_last(state.needs_ack, &item);
                 let (after, given) = answer(state, item);
-                hear(&mut self.heard, state.number, after.ended, last, &given);
+                hear(
+                    &mut self.heard,
+                    &self.hints,
+                    state.number,
+                    after.ended,
+                    last,
+                    &given,
+                );
                 handle.set_state(after);
                 Ok(Reply::Item(given))
             }
@@ -308,7 +322,7 @@ impl<D: Deliveries> NlRouter<D> {
     {
         self.deliveries.close(handle.state().number);
         if let Some(number) = handle.state().number {
-            let _ = self.heard.remove(&number);
+            self.forget_heard(number);
         }
         self.forget_closed();
     }
@@ -343,12 +357,28 @@ impl<D: Deliveries> NlRouter<D> {
             Some(number) => self.heard.get(&number).copied(),
         }
     }
+
+    /// Forgets what is known of the answer to a request.
+    pub(crate) fn forget_heard(&mut self, number: u32)
+        ensures deliveries { self.new.deliveries ≡ self.old.deliveries }
+        ensures next_seq { self.new.next_seq ≡ self.old.next_seq }
+        ensures unheard { heard_of self.new.heard (Some number) ≡ None }
+        ensures heard { SameListsBut (Some number)
+            (heard_of self.old.heard) (heard_of self.new.heard) }
+        ensures given_up { self.new.given_up ≡ self.old.given_up }
+        ensures missed { self.new.missed ≡ self.old.missed }
+    {
+        if let Some((index, _, _)) = self.heard.swap_remove_full(&number) {
+            self.hints.note_at(&self.heard, index);
+        }
+    }
 }
 
 /// Notes one more returned item of the answer to a request, at which the answer ends or not; `last` is whether it is
 /// the other side's last.
 fn hear<T, P>(
-    all: &mut HashMap<u32, Heard>,
+    all: &mut IndexMap<u32, Heard>,
+    hints: &Hints,
     whose: Option<u32>,
     ended: bool,
     last: bool,
@@ -359,8 +389,9 @@ fn hear<T, P>(
     ensures others { SameListsBut whose (heard_of all.old) (heard_of all.new) }
 {
     if let Some(number) = whose {
-        if let Some(heard) = all.get_mut(&number) {
-            *heard = heard.with(ended, last, item);
+        let hint = hints.hint(number);
+        if let Some(heard) = value_of(all, hint, number) {
+            put(all, hint, number, heard.with(ended, last, item));
         }
     }
 }
