@@ -30,11 +30,13 @@ pub fn lent_items_are_read<T: NlType, P: FromBytesWithInput + Size>()
     ensures item { (needs numbered single : Bool) (d : Waiting) (x : Given T P) → HasType d
         → IsReading T.wire_value P.view P.wire_length P.read d x → IsReadable d x
         → IsTypedItem T.wire_value P.view P.wire_length P.read
-        (item_of (λ n. n) needs numbered single (untyped d)) (item_of T.wire_number needs numbered single x) }
+        (item_of (λ n. n) needs numbered single (untyped d))
+        (item_of T.wire_number needs numbered single x) }
     ensures handle { (needs numbered single : Bool) (d : Waiting) (x : Given T P) → HasType d
         → IsReading T.wire_value P.view P.wire_length P.read d x → IsReadable d x
         → (is_single (λ n. n) numbered (untyped d) ≡ is_single T.wire_number numbered x)
-        × (ends_at (λ n. n) needs numbered single (untyped d) ≡ ends_at T.wire_number needs numbered single x) }
+        × (ends_at (λ n. n) needs numbered single (untyped d)
+        ≡ ends_at T.wire_number needs numbered single x) }
     ensures heard { (needs numbered single : Bool) (d : Waiting) (x : Given T P) (h : Known)
         → HasType d → IsReading T.wire_value P.view P.wire_length P.read d x → IsReadable d x
         → heard_with (λ n. n) needs numbered single (untyped d) h
@@ -42,5 +44,6 @@ pub fn lent_items_are_read<T: NlType, P: FromBytesWithInput + Size>()
     ensures message { (m : Lent ℕ) (u : Message ℕ (List ℕ)) (x : Message T P) → Lends m u
         → u.header.message_type < 65536 → IsTyped T.wire_value P.view P.wire_length P.read u x
         → as_owned T.wire_value T.wire_number P.read (typed_header T.wire_value m.0, m.1)
-        ≡ Ok (typed_header T.wire_value u.header, payload_stating (stated_echo u.payload) P.view x.payload) }
+        ≡ Ok (typed_header T.wire_value u.header,
+        payload_stating (stated_echo u.payload) P.view x.payload) }
 {}
