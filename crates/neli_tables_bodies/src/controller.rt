@@ -1,6 +1,6 @@
 //! What the controller of generic netlink says of a family.
 
-ghost use Rattle.std.specs.Prelude.{◌≡◌, ℕ, OnErr, OnOk};
+ghost use Rattle.std.specs.Prelude.{◌≡◌, ℕ, IsOk, None, OnErr, OnOk};
 ghost use Rattle.std.specs.Option.{option_map};
 ghost use Rattle.neli_tables_rows.specs.Families.{learnt, tables_in};
 ghost use Rattle.neli_tables_bodies.specs.Controller.{family_said, first_payload, id_in};
@@ -18,7 +18,7 @@ use std::alloc::AllocError;
 
 /// Learns the number of a family of generic netlink from a message of the controller that names it
 /// (`CTRL_CMD_NEWFAMILY` with `CTRL_ATTR_FAMILY_ID` and `CTRL_ATTR_FAMILY_NAME`). Of any other
-/// message nothing is learnt.
+/// message nothing is learnt, and none is refused.
 ///
 /// Refused where memory runs out; then nothing is learnt.
 pub fn learn_from(tables: &mut Tables<'_>, head: Head, payload: &[u8]) -> Result<(), AllocError>
@@ -27,6 +27,7 @@ pub fn learn_from(tables: &mut Tables<'_>, head: Head, payload: &[u8]) -> Result
         ≡ learnt_from (family_said head payload.now) (tables_in tables.old) n
         (learnt tables.old n)) }
     ensures err { OnErr result ((n : ℕ) → learnt tables.new n ≡ learnt tables.old n) }
+    ensures other { family_said head payload.now ≡ None → IsOk result }
 {
     match family_said(head, payload) {
         Some((id, name)) => tables.learn(id, name),
