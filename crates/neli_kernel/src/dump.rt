@@ -56,9 +56,7 @@ impl<'b> Dump<'b> {
     ) -> Result<(), SerError>
         ensures request { self.new.request ≡ self.old.request }
         ensures limit { self.new.limit ≡ self.old.limit }
-        ensures put { OnOk result
-            (put_wire self.old.limit
-            (message_or_refusal T.wire_number P.wire
+        ensures put { OnOk result (put_wire self.old.limit (message_or_refusal T.wire_number P.wire
             (dump_message P.Size.wire_length self.old.request nl_type nl_flags body))
             (packed_in self.old) ≡ Ok (packed_in self.new)) }
         ensures refused { IfErr result
@@ -82,9 +80,7 @@ impl<'b> Dump<'b> {
     ) -> Result<(), SerError>
         ensures request { self.new.request ≡ self.old.request }
         ensures limit { self.new.limit ≡ self.old.limit }
-        ensures put { OnOk result
-            (put_wire self.old.limit
-            (message_or_refusal T.wire_number P.wire
+        ensures put { OnOk result (put_wire self.old.limit (message_or_refusal T.wire_number P.wire
             (reply P.Size.wire_length self.old.request nl_type nl_flags body))
             (packed_in self.old) ≡ Ok (packed_in self.new)) }
         ensures refused { IfErr result
