@@ -9,7 +9,7 @@ use neli_consts_attrs::RtaType;
 use neli_wire::Constant;
 
 /// Attributes of a bridge's multicast groups, `RTM_GETMDB` and `RTM_NEWMDB`: `MDBA_*` of `linux/if_bridge.h`. In a
-/// request 1 and 2 are `MDBA_SET_ENTRY` and `MDBA_SET_ENTRY_ATTRS`.
+/// request, the attributes 1 and 2 are `MDBA_SET_ENTRY` and `MDBA_SET_ENTRY_ATTRS`.
 #[derive(Clone, Copy, Debug, PartialEq, Eq)]
 pub enum Mdba {
     /// No attribute: 0 stands for none.
