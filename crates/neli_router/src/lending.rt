@@ -18,11 +18,12 @@ use crate::verdict::{ends_exchange, fault_verdict};
 use crate::{Deliveries, HandleState, Heard, Loss, NlRouter, NlRouterReceiverHandle, Verdict};
 use bitflags::Flags;
 use byteorder::{ByteOrder, LittleEndian};
+use indexmap::IndexMap;
 use neli_consts::{NLMSG_DONE, NLMSG_ERROR, NlmF};
 use neli_lent::LentMessage;
 use neli_log::{LentDelivery, Log};
+use neli_places::hints::{Hints, put, value_of};
 use neli_reader::SocketError;
-use std::collections::HashMap;
 
 /// The error in place of a lent message: the [`RouterError`](neli_reader::RouterError) of that name, with nothing of it
 /// copied.
@@ -211,6 +212,23 @@ struct Step {
     verdict: Verdict,
 }
 
+impl Step {
+    /// What is known of an answer after it.
+    fn after(self, heard: Heard) -> Heard
+        ensures { result ≡ with_step self heard }
+    {
+        let verdict = match heard.verdict {
+            Verdict::Pending => self.verdict,
+            before => before,
+        };
+        Heard {
+            verdict,
+            filtered: heard.filtered || self.filtered,
+            finished: heard.finished || self.last,
+        }
+    }
+}
+
 /// The step past a delivery.
 fn step_past(state: HandleState, delivery: LentDelivery<'_>) -> Step
     ensures { result ≡ lent_step state.needs_ack (has_number state.number) state.single_given
@@ -249,21 +267,14 @@ fn state_after(state: HandleState, step: Step) -> HandleState
 }
 
 /// Notes a step in what is known of the answer to a request.
-fn hear(all: &mut HashMap<u32, Heard>, whose: Option<u32>, step: Step)
+fn hear(all: &mut IndexMap<u32, Heard>, hints: &Hints, whose: Option<u32>, step: Step)
     ensures heard { heard_of all.new whose ≡ option_map (with_step step) (heard_of all.old whose) }
     ensures others { SameListsBut whose (heard_of all.old) (heard_of all.new) }
 {
     if let Some(number) = whose {
-        if let Some(heard) = all.get_mut(&number) {
-            let verdict = match heard.verdict {
-                Verdict::Pending => step.verdict,
-                before => before,
-            };
-            *heard = Heard {
-                verdict,
-                filtered: heard.filtered || step.filtered,
-                finished: heard.finished || step.last,
-            };
+        let hint = hints.hint(number);
+        if let Some(heard) = value_of(all, hint, number) {
+            put(all, hint, number, step.after(heard));
         }
     }
 }
@@ -364,7 +375,7 @@ impl NlRouter<Log> {
         };
         let step = step_past(state, delivery);
         self.deliveries.drop_first(state.number);
-        hear(&mut self.heard, state.number, step);
+        hear(&mut self.heard, &self.hints, state.number, step);
         let after = state_after(state, step);
         handle.set_state(after);
     }
