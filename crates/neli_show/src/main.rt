@@ -24,6 +24,9 @@ use std::io::BufWriter;
 use std::process::ExitCode;
 use std::{env, io};
 
+/// How many bytes are written at once, where there is memory for so many.
+const OUTPUT: usize = 65536;
+
 /// The words after the program's name.
 fn arguments<R: Env + AllocGlobal>(rt: &R) -> io::Result<Vec<String>> {
     let words: Vec<String> = env::args(rt)?.skip(1).collect(rt.alloc())?;
@@ -34,7 +37,7 @@ fn main(rt: HostRuntime) -> ExitCode {
     let words = arguments(&rt);
     let alloc = rt.alloc();
     // Without memory for a buffer each piece of a line is written by itself.
-    let status = match BufWriter::new(alloc, rt.stdout()) {
+    let status = match BufWriter::with_capacity(alloc, OUTPUT, rt.stdout()) {
         Ok(mut out) => run(alloc, &words, &mut rt.stdin(), &mut out, &mut rt.stderr()),
         Err(_) => run(
             alloc,
