@@ -2,7 +2,7 @@
 //! the rounds, so that a pause of the machine counts for nothing.
 #![tactic(auto)]
 
-use neli_tables_rows::Table;
+use neli_tables::Table;
 use std::alloc::Global;
 use std::env::{self, Env};
 use std::fs;

@@ -23,16 +23,11 @@ pub use Rattle.neli_kernel_laws.specs as kernel_laws
 pub use Rattle.neli_util.specs as util
 pub use Rattle.neli_deliveries.specs as deliveries
 pub use Rattle.neli_queues.specs as queues
-pub use Rattle.neli_places.specs as places
-pub use Rattle.neli_spans.specs as spans
 pub use Rattle.neli_log.specs as log
 pub use Rattle.neli_runs.specs as runs
 pub use Rattle.neli_resolvers.specs as resolvers
 pub use Rattle.neli_tables.specs as tables
-pub use Rattle.neli_tables_rows.specs as tables_rows
 pub use Rattle.neli_tables_walk.specs as tables_walk
-pub use Rattle.neli_tables_bodies.specs as tables_bodies
 pub use Rattle.neli_tables_check.specs as tables_check
-pub use Rattle.neli_values.specs as values
 pub use Rattle.neli_print.specs as print
 pub mod laws

@@ -7,20 +7,17 @@
 //! - [`check`]: the first attribute of a request that its row does not allow. [`find`]: the attribute
 //!   at the offset that an extended acknowledgement states. [`Refusal`]: an error in one line.
 
-pub use neli_tables::{Kind, Line, ReadError, Span, Why, Word};
-pub use neli_tables_bodies::{
-    Body, GENERIC_HEADER_SIZE, GenericHeader, Head, answer_of, body_of, built_in, first_payload,
-    is_answer, learn_from,
+pub use neli_tables::{
+    Kind, Line, MessagePlace, Options, ReadError, Span, Table, Tables, Way, Why, Word, is_set,
+    options_of, prefix_of, unnamed_bits,
 };
 pub use neli_tables_check::{PathText, Place, Refusal, Violation, Wrong, check, find};
 pub use neli_tables_generic::GenericTable;
 pub use neli_tables_routing::RoutingTable;
-pub use neli_tables_rows::{
-    MessagePlace, Options, Table, Tables, Way, is_set, options_of, prefix_of, unnamed_bits,
-};
 pub use neli_tables_system::SystemTable;
-pub use neli_tables_walk::{Context, Found, Item, MAX_DEPTH, Nest, Path, Rest, Shape, Step, Walk};
-pub use neli_values::{
-    Breach, Fields, FieldsJson, FieldsText, Name, NameJson, Payload, PayloadJson, PayloadText,
-    breach_of,
+pub use neli_tables_walk::{
+    Body, Breach, Context, Fields, FieldsJson, FieldsText, Found, GENERIC_HEADER_SIZE,
+    GenericHeader, Head, Item, MAX_DEPTH, Name, NameJson, Nest, Path, Payload, PayloadJson,
+    PayloadText, Rest, Shape, Step, Walk, answer_of, body_of, breach_of, built_in, first_payload,
+    is_answer, learn_from,
 };

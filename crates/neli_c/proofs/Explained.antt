@@ -1,7 +1,7 @@
 -- A text of a message's body, said of the message whose payload lies within the bytes.
 use Rattle.std.proofs.Common.{◌≡◌, ℕ, ℤ, List, Option, Some, None, refl, sym, subst}
 use Rattle.std.specs.Option.{option_map}
-use Rattle.neli_tables_bodies.specs.Bodies.{BodySeen}
+use Rattle.neli_tables_walk.specs.Bodies.{BodySeen}
 use Rattle.neli_tables_check.specs.declared.place.Place.{Place}
 use Rattle.neli_tables_check.specs.Refusals.{place_text, refusal_text}
 use Rattle.neli_c.specs.Named.{at_text, place_seen}

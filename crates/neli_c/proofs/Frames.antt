@@ -1,5 +1,6 @@
 -- Frames at the front of a walk's rest.
-use Rattle.std.proofs.Common.{◌≡◌, ℕ, ◌+◌, ◌-◌, ◌≤◌, List, length, take, drop, Ok, sym, ap, subst, ◌∙◌, arith, ltb}
+use Rattle.std.proofs.Common.{◌≡◌, ℕ, ◌+◌, ◌-◌, ◌≤◌, List, length, take, drop, Ok, sym, ap, subst, ◌∙◌}
+use Rattle.std.proofs.Common.{arith, ltb}
 use Rattle.std.proofs.Common.{length-drop}
 use Rattle.std.proofs.lemmas.Bool.{ltb-false}
 use Rattle.std.proofs.lemmas.List.{length-take-le, drop-take, drop-drop, take-take}
@@ -14,7 +15,8 @@ use Rattle.neli_wire.specs.Frames.{number_in}
 use Rattle.neli_c.specs.declared.lent.NeliWalk.{NeliWalk}
 use Rattle.neli_c.specs.declared.lent.NeliMessage.{NeliMessage}
 use Rattle.neli_c.specs.declared.lent.NeliAttribute.{NeliAttribute}
-use Rattle.neli_c.specs.Walks.{GivesAttribute, GivesMessage, IsInParts, attribute_layout, bytes_from, head_shown}
+use Rattle.neli_c.specs.Walks.{GivesAttribute, GivesMessage, IsInParts, attribute_layout, bytes_from}
+use Rattle.neli_c.specs.Walks.{head_shown}
 use Rattle.neli_c.specs.Walks.{header_shown, message_layout}
 
 align-le : (n : ℕ) → n ≤ align n

@@ -1,5 +1,6 @@
 -- The free places of handles, and how a store at one place changes them.
-use Rattle.std.proofs.Common.{◌≡◌, ◌≢◌, ◌<◌, ℕ, List, [], ◌∷◌, ◌++◌, length, length-set, Option, Some, None, slice_get}
+use Rattle.std.proofs.Common.{◌≡◌, ◌≢◌, ◌<◌, ℕ, List, [], ◌∷◌, ◌++◌, length, length-set, Option, Some}
+use Rattle.std.proofs.Common.{None, slice_get}
 use Rattle.std.proofs.Common.{slice_set, arith, refl, suc, sym, subst, ap, ◌∙◌, zero}
 use Rattle.std.proofs.lemmas.Option.{slice_get_past}
 use Rattle.neli_router.specs.declared.handle.HandleState.{HandleState}

@@ -1,6 +1,7 @@
 -- The verdict on an answer after a read of a session, by that of its router.
 use Rattle.std.proofs.Common.{◌≡◌, ◌≢◌, ◌⊎◌, ℕ, false, List, ◌∷◌, length, Option, Some, None, Result}
-use Rattle.std.proofs.Common.{Ok, Err, IfOk, OnErr, subst, ◌∙◌, inl, inr, option_map, refl, Bool, ◌||◌, ℤ, slice_set}
+use Rattle.std.proofs.Common.{Ok, Err, IfOk, OnErr, subst, ◌∙◌, inl, inr, option_map, refl, Bool, ◌||◌}
+use Rattle.std.proofs.Common.{ℤ, slice_set}
 use Rattle.neli_deliveries.specs.declared.delivery.Delivery.{Delivery}
 use Rattle.neli_deliveries.specs.Readings.{IsReading, Item}
 use Rattle.neli_router.specs.declared.handle.HandleState.{HandleState}

@@ -1,5 +1,6 @@
 -- The result of listening by a session, by that of its router.
-use Rattle.std.proofs.Common.{◌≡◌, ◌≢◌, ◌⊎◌, ℕ, ℤ, List, [], ◌∷◌, length, Option, Some, None, Result, Ok, Err, IfOk}
+use Rattle.std.proofs.Common.{◌≡◌, ◌≢◌, ◌⊎◌, ℕ, ℤ, List, [], ◌∷◌, length, Option, Some, None, Result, Ok}
+use Rattle.std.proofs.Common.{Err, IfOk}
 use Rattle.std.proofs.Common.{OnErr, ap, subst, ◌∙◌, inl, inr}
 use Rattle.neli_deliveries.specs.declared.delivery.Delivery.{Delivery}
 use Rattle.neli_router.specs.Listening.{IsNotice}

@@ -1,6 +1,8 @@
 -- Consecutive steps of a walk.
-use Rattle.std.proofs.Common.{◌≡◌, ◌≢◌, ◌<◌, ◌≤◌, ℕ, ◌+◌, ℤ, Bool, false, nat_eq, if◌then◌else◌, List, [], ◌∷◌, ◌++◌}
-use Rattle.std.proofs.Common.{length, slice_set, drop, take, arith, refl, suc, sym, subst, zero, ap, ◌∙◌, length-set}
+use Rattle.std.proofs.Common.{◌≡◌, ◌≢◌, ◌<◌, ◌≤◌, ℕ, ◌+◌, ℤ, Bool, false, nat_eq, if◌then◌else◌, List}
+use Rattle.std.proofs.Common.{[], ◌∷◌, ◌++◌}
+use Rattle.std.proofs.Common.{length, slice_set, drop, take, arith, refl, suc, sym, subst, zero, ap, ◌∙◌}
+use Rattle.std.proofs.Common.{length-set}
 use Rattle.std.proofs.lemmas.Bool.{eqb-false, ne_eqb}
 use Rattle.std.proofs.lemmas.List.{drop-drop, drop-set-lt, take_more_set}
 use Rattle.neli_c.specs.declared.lent.NeliWalk.{NeliWalk}

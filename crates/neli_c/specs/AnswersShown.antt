@@ -1,5 +1,6 @@
 -- The fields shown for an error, an acknowledgement or the end of a dump: by the kinds of neli_reader.
-use Rattle.std.specs.Prelude.{◌≡◌, ℕ, ◌+◌, ℤ, Bool, ◌&&◌, ◌||◌, not, nat_eq, nat_lt, nat_le, min, if◌then◌else◌, List}
+use Rattle.std.specs.Prelude.{◌≡◌, ℕ, ◌+◌, ℤ, Bool, ◌&&◌, ◌||◌, not, nat_eq, nat_lt, nat_le, min}
+use Rattle.std.specs.Prelude.{if◌then◌else◌, List}
 use Rattle.std.specs.Prelude.{length, drop, Option, Some, None, Result, Ok, Err}
 use Rattle.neli_wire.specs.DeError.{DeError}
 use Rattle.neli_reader.specs.Answers.{code_in, echo_end, echoed_in}

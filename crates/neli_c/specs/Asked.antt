@@ -8,7 +8,8 @@ use Rattle.neli_wire.specs.Writing.{Wire}
 use Rattle.neli_reader.specs.Answers.{Attributes, ext_ack_in}
 use Rattle.neli_reader.specs.Headers.{flags_of}
 use Rattle.neli_reader.specs.NlPayload.TheVariants as payload
-use Rattle.neli_kernel.specs.Answers.{acknowledgement, capped_error, error, message_or_refusal, message_with, reply}
+use Rattle.neli_kernel.specs.Answers.{acknowledgement, capped_error, error, message_or_refusal}
+use Rattle.neli_kernel.specs.Answers.{message_with, reply}
 use Rattle.neli_kernel.specs.Requests.{has_flags, is_handled, wants_routing_dump}
 use Rattle.neli_kernel.specs.declared.request.Request.{Request}
 use Rattle.neli_c.specs.declared.kernel.NeliRequest.{NeliRequest}

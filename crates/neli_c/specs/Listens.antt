@@ -1,5 +1,6 @@
 -- Listening, in C's terms: reads of multicast that continue after any item.
-use Rattle.std.specs.Prelude.{◌≡◌, ◌≢◌, ◌⊎◌, ℕ, ℤ, List, [], ◌∷◌, length, Option, Some, None, Result, Ok, Err, nat_eq}
+use Rattle.std.specs.Prelude.{◌≡◌, ◌≢◌, ◌⊎◌, ℕ, ℤ, List, [], ◌∷◌, length, Option, Some, None, Result, Ok}
+use Rattle.std.specs.Prelude.{Err, nat_eq}
 use Rattle.std.specs.Prelude.{unsigned_abs, if◌then◌else◌}
 use Rattle.neli_reader.specs.Framed.{Nlmsghdr}
 use Rattle.neli_reader.specs.SocketError.TheVariants as socket
@@ -13,7 +14,8 @@ use Rattle.neli_router.specs.declared.listening.Notice.TheVariants as notice
 use Rattle.neli_c.specs.declared.session.NeliItem.{NeliItem}
 use Rattle.neli_c.specs.declared.session.Session.{Session}
 use Rattle.neli_c.specs.Codes.{item, link, memory, no_handle, ok, overrun, waits}
-use Rattle.neli_c.specs.Sessions.{GivesNothing, fault_kind, item_code, item_message, item_shown, pending, shown_of}
+use Rattle.neli_c.specs.Sessions.{GivesNothing, fault_kind, item_code, item_message, item_shown, pending}
+use Rattle.neli_c.specs.Sessions.{shown_of}
 
 -- what listeners missed after the link's fault of this number: an overrun by its name (105, ENOBUFS)
 abbrev pub missed_by : ℤ → Option Missed → Option Missed

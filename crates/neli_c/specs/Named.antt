@@ -2,8 +2,8 @@
 use Rattle.std.specs.Prelude.{◌≡◌, ◌≢◌, ℕ, ◌+◌, ◌-◌, ◌^◌, ℤ, ◌&&◌, nat_le, if◌then◌else◌, min}
 use Rattle.std.specs.Prelude.{unsigned_abs, List, [], ◌∷◌, length, Option, Some, None}
 use Rattle.std.specs.Option.{option_map}
-use Rattle.neli_tables_bodies.specs.declared.generic.GenericHeader.{GenericHeader}
-use Rattle.neli_tables_bodies.specs.Bodies.{BodySeen, body_context, body_in, body_shape}
+use Rattle.neli_tables_walk.specs.declared.generic.GenericHeader.{GenericHeader}
+use Rattle.neli_tables_walk.specs.Bodies.{BodySeen, body_context, body_in, body_shape}
 use Rattle.neli_tables_check.specs.declared.place.Place.{Place}
 use Rattle.neli_tables_check.specs.Offsets.{found_at}
 use Rattle.neli_tables_check.specs.Paths.{path_text}

@@ -1,5 +1,6 @@
 -- Reads of a caller's bytes.
-use Rattle.std.specs.Prelude.{◌≡◌, ◌≢◌, ℕ, ◌+◌, ◌<◌, ℤ, nat_le, if◌then◌else◌, All, List, length, slice_index, take}
+use Rattle.std.specs.Prelude.{◌≡◌, ◌≢◌, ℕ, ◌+◌, ◌<◌, ℤ, nat_le, if◌then◌else◌, All, List, length}
+use Rattle.std.specs.Prelude.{slice_index, take}
 use Rattle.neli_c.specs.Codes.{ok, short}
 
 -- of a number of n bytes at a place in so many bytes

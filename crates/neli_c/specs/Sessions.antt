@@ -1,6 +1,8 @@
 -- What the calls of a router do to it, for every handle: as neli_router says it of its own calls.
-use Rattle.std.specs.Prelude.{◌≡◌, ◌≢◌, ◌⊎◌, ◌||◌, not, ℕ, ◌+◌, ℤ, pos, Bool, List, [], ◌∷◌, ◌++◌, Option, Some, None}
-use Rattle.std.specs.Prelude.{IfSome, is_some, option_map, nat_eq, nat_lt, unsigned_abs, if◌then◌else◌, length}
+use Rattle.std.specs.Prelude.{◌≡◌, ◌≢◌, ◌⊎◌, ◌||◌, not, ℕ, ◌+◌, ℤ, pos, Bool, List, [], ◌∷◌, ◌++◌}
+use Rattle.std.specs.Prelude.{Option, Some, None}
+use Rattle.std.specs.Prelude.{IfSome, is_some, option_map, nat_eq, nat_lt, unsigned_abs, if◌then◌else◌}
+use Rattle.std.specs.Prelude.{length}
 use Rattle.std.specs.Prelude.{slice_set, Result, Ok, Err, true, false}
 use Rattle.std.specs.declared.io.ErrorKind.{ErrorKind}
 use Rattle.std.specs.declared.io.ErrorKind.TheVariants as kind
@@ -36,7 +38,8 @@ use Rattle.neli_c.specs.Walks.{refusal_code}
 use Rattle.neli_c.specs.declared.session.Session.{Session}
 use Rattle.neli_c.specs.declared.session.Slot.TheVariants as slot
 use Rattle.neli_c.specs.Slots.{AreFree, handle_at, later_places, next_place, put_at}
-use Rattle.neli_c.specs.Codes.{bad_bytes, bad_length, in_use, item, kernel_error, link, memory, no_ack, no_handle, ok}
+use Rattle.neli_c.specs.Codes.{bad_bytes, bad_length, in_use, item, kernel_error, link, memory, no_ack}
+use Rattle.neli_c.specs.Codes.{no_handle, ok}
 use Rattle.neli_c.specs.Codes.{room, stray, unexpected_ack, waits}
 use Rattle.neli_c.specs.Writes.{WritesMessage, put_first}
 

@@ -4,7 +4,8 @@ use Rattle.neli_c.specs.declared.lent.NeliWalk.{NeliWalk}
 use Rattle.neli_c.specs.declared.lent.NeliMessage.{NeliMessage}
 use Rattle.neli_c.specs.declared.lent.NeliAttribute.{NeliAttribute}
 use Rattle.neli_c.specs.Codes.{item, room}
-use Rattle.neli_c.specs.Walks.{GivesAttribute, GivesMessage, attribute_layout, bytes_left, message_layout, walk_code}
+use Rattle.neli_c.specs.Walks.{GivesAttribute, GivesMessage, attribute_layout, bytes_left}
+use Rattle.neli_c.specs.Walks.{message_layout, walk_code}
 
 -- a single call at the first walk, which returns `code_at`, returns that there is one, stores it, and leaves the second
 abbrev pub StepOf : {A : Type 0} → (NeliWalk → ℤ) → (NeliWalk → NeliWalk → A → Type 0) → NeliWalk → NeliWalk → A

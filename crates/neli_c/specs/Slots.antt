@@ -1,5 +1,6 @@
 -- The places of handles: the content of each, and the free ones.
-use Rattle.std.specs.Prelude.{◌≡◌, ◌≢◌, ⊤, ℕ, List, [], ◌∷◌, ◌++◌, Option, Some, None, length, nat_lt, slice_get}
+use Rattle.std.specs.Prelude.{◌≡◌, ◌≢◌, ⊤, ℕ, List, [], ◌∷◌, ◌++◌, Option, Some, None, length, nat_lt}
+use Rattle.std.specs.Prelude.{slice_get}
 use Rattle.std.specs.Prelude.{slice_set, if◌then◌else◌}
 use Rattle.neli_router.specs.declared.handle.HandleState.{HandleState}
 use Rattle.neli_c.specs.declared.session.Slot.{Slot}

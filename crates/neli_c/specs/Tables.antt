@@ -8,10 +8,10 @@ use Rattle.neli_tables.specs.declared.why.Why.{Why}
 use Rattle.neli_tables.specs.Lines.{LineSeen}
 use Rattle.neli_tables.specs.Refusals.{why_text}
 use Rattle.neli_tables.specs.Schemas.{table_in}
-use Rattle.neli_tables_rows.specs.Families.{generic_in, learnt, learnt_as, tables_in}
-use Rattle.neli_tables_bodies.specs.declared.head.Head.{Head}
-use Rattle.neli_tables_bodies.specs.Built.{AreRead, IsAdded, built_in_headings}
-use Rattle.neli_tables_bodies.specs.Controller.{family_said, learnt_from}
+use Rattle.neli_tables.specs.Families.{generic_in, learnt, learnt_as, tables_in}
+use Rattle.neli_tables_walk.specs.declared.head.Head.{Head}
+use Rattle.neli_tables_walk.specs.Built.{AreRead, IsAdded, built_in_headings}
+use Rattle.neli_tables_walk.specs.Controller.{family_said, learnt_from}
 use Rattle.neli_c_tables.specs.declared.families.Families.{Families}
 use Rattle.neli_c_tables.specs.Rooms.{beginning}
 use Rattle.neli_c.specs.declared.lent.NeliMessage.{NeliMessage}

@@ -1,5 +1,6 @@
 -- Verdicts on answers, in C's terms, and the effect of giving up.
-use Rattle.std.specs.Prelude.{◌≡◌, ◌≢◌, ◌⊎◌, ◌||◌, ℕ, ℤ, pos, Bool, List, if◌then◌else◌, ◌∷◌, Option, Some, None, IfSome}
+use Rattle.std.specs.Prelude.{◌≡◌, ◌≢◌, ◌⊎◌, ◌||◌, ℕ, ℤ, pos, Bool, List, if◌then◌else◌, ◌∷◌, Option}
+use Rattle.std.specs.Prelude.{Some, None, IfSome}
 use Rattle.std.specs.Prelude.{false, length, option_map, slice_set, Ok}
 use Rattle.neli_deliveries.specs.declared.delivery.Delivery.{Delivery}
 use Rattle.neli_deliveries.specs.Readings.{IsReading, Item}
@@ -14,7 +15,8 @@ use Rattle.neli_router.specs.Verdicts.{has_finished, heard_of, heard_with, verdi
 use Rattle.neli_c.specs.declared.session.NeliVerdict.{NeliVerdict}
 use Rattle.neli_c.specs.declared.session.Session.{Session}
 use Rattle.neli_c.specs.declared.session.Slot.TheVariants as slot
-use Rattle.neli_c.specs.Codes.{bad_bytes, interrupted, kernel_error, link, memory, no_ack, no_handle, ok, stray}
+use Rattle.neli_c.specs.Codes.{bad_bytes, interrupted, kernel_error, link, memory, no_ack, no_handle, ok}
+use Rattle.neli_c.specs.Codes.{stray}
 use Rattle.neli_c.specs.Codes.{unexpected_ack, waits}
 use Rattle.neli_c.specs.Sessions.{HasFree, pending}
 use Rattle.neli_c.specs.Slots.{handle_at}

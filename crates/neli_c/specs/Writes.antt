@@ -1,5 +1,6 @@
 -- What is written into a caller's bytes.
-use Rattle.std.specs.Prelude.{◌≡◌, ℕ, ◌+◌, ◌-◌, ℤ, ◌&&◌, nat_le, nat_lt, if◌then◌else◌, List, ◌++◌, length, take, drop, Ok}
+use Rattle.std.specs.Prelude.{◌≡◌, ℕ, ◌+◌, ◌-◌, ℤ, ◌&&◌, nat_le, nat_lt, if◌then◌else◌, List, ◌++◌}
+use Rattle.std.specs.Prelude.{length, take, drop, Ok}
 use Rattle.byteorder.specs.Endian.{little_bytes}
 use Rattle.neli_wire.specs.Sizes.{align}
 use Rattle.neli_wire.specs.Writing.{Wire}

@@ -1,6 +1,7 @@
 //! Reads an error, an acknowledgement or the end of a dump. It takes no memory.
 
-ghost use Rattle.std.specs.Prelude.{◌≡◌, ◌≢◌, ◌≤◌, true, false, Some, None, IfErr, IfOk, IfSome, IsErr, IsNone, IsOk};
+ghost use Rattle.std.specs.Prelude.{◌≡◌, ◌≢◌, ◌≤◌, true, false, Some, None, IfErr, IfOk, IfSome, IsErr};
+ghost use Rattle.std.specs.Prelude.{IsNone, IsOk};
 ghost use Rattle.std.specs.Prelude.{drop, length, min};
 ghost use Rattle.neli_reader.specs.Answers.{code_in, echo_end, echoed_in};
 ghost use Rattle.neli_reader.specs.Headers.{header_in};

@@ -7,7 +7,8 @@ ghost use Rattle.std.specs.Prelude.{◌≡◌, ◌≢◌, ◌⊎◌, IfSome, IsS
 ghost use Rattle.neli_c.specs.Asked.{reply_wire};
 ghost use Rattle.neli_c.specs.Codes.{memory, ok, state};
 ghost use Rattle.neli_c.specs.Opens.{StaysClosed, StaysOpen};
-ghost use Rattle.neli_c.specs.DumpsHeld.{BeginsDatagram, Finishes, HandsOut, IsNewDump, PutsMessage, dump_wire, end_wire};
+ghost use Rattle.neli_c.specs.DumpsHeld.{BeginsDatagram, Finishes, HandsOut, IsNewDump, PutsMessage};
+ghost use Rattle.neli_c.specs.DumpsHeld.{dump_wire, end_wire};
 
 use crate::code::{MEMORY, OK, STATE};
 use crate::dump_opaque::NeliKernelDump;

@@ -3,7 +3,8 @@
 ghost use Rattle.std.specs.Prelude.{◌≡◌, ◌≢◌, [], IfErr, IfOk, false, true};
 ghost use Rattle.neli_c.specs.Asked.{reply_wire, ser_code};
 ghost use Rattle.neli_c.specs.Codes.{ok, state};
-ghost use Rattle.neli_c.specs.DumpsHeld.{BeginsDatagram, HandsOut, PutsEnd, PutsMessage, PutsWire, dump_wire, end_wire, packed};
+ghost use Rattle.neli_c.specs.DumpsHeld.{BeginsDatagram, HandsOut, PutsEnd, PutsMessage, PutsWire};
+ghost use Rattle.neli_c.specs.DumpsHeld.{dump_wire, end_wire, packed};
 ghost use Rattle.neli_reader.specs.Answers.{ext_ack_in};
 
 use crate::code::{ITEM, MEMORY, OK, STATE, WAITS};

@@ -4,8 +4,10 @@
 
 ghost use Rattle.std.specs.Prelude.{◌≡◌, ◌≢◌, [], IfErr, IfOk, Ok};
 ghost use Rattle.neli_c.specs.AnswersShown.{payload_shown};
-ghost use Rattle.neli_c.specs.Asked.{Answers, AnswersWhole, IsAsked, SaysWants, WritesAnswer, acknowledgement_wire};
-ghost use Rattle.neli_c.specs.Asked.{byte_of, capped_wire, error_wire, notification_wire, reply_wire, ser_code};
+ghost use Rattle.neli_c.specs.Asked.{Answers, AnswersWhole, IsAsked, SaysWants, WritesAnswer};
+ghost use Rattle.neli_c.specs.Asked.{acknowledgement_wire};
+ghost use Rattle.neli_c.specs.Asked.{byte_of, capped_wire, error_wire, notification_wire, reply_wire};
+ghost use Rattle.neli_c.specs.Asked.{ser_code};
 ghost use Rattle.neli_c.specs.Codes.{item, ok};
 ghost use Rattle.neli_c.specs.Writes.{WritesMessage};
 ghost use Rattle.neli_c.specs.Walks.{GivesMessage, bytes_left, header_shown, message_layout, walk_code};

@@ -2,7 +2,8 @@
 
 ghost use Rattle.std.specs.Prelude.{◌≡◌, ◌≢◌, ◌≤◌, ◌-◌, IfSome, IsNone, Some, None, length};
 ghost use Rattle.neli_c.specs.Codes.{item, ok};
-ghost use Rattle.neli_c.specs.Walks.{GivesAttribute, GivesMessage, IsInParts, attribute_layout, bytes_from, bytes_left};
+ghost use Rattle.neli_c.specs.Walks.{GivesAttribute, GivesMessage, IsInParts, attribute_layout};
+ghost use Rattle.neli_c.specs.Walks.{bytes_from, bytes_left};
 ghost use Rattle.neli_c.specs.Walks.{header_shown, message_layout, refusal_code, walk_code};
 
 use crate::code::{BYTES, ITEM, LENGTH, MEMORY, OK, PLACE, SHORT};

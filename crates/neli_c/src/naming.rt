@@ -2,7 +2,7 @@
 
 ghost use Rattle.std.specs.Prelude.{◌≡◌, ◌≢◌, ◌&&◌, IfOk, OnErr, nat_le, if◌then◌else◌};
 ghost use Rattle.std.specs.Option.{option_map};
-ghost use Rattle.neli_tables_bodies.specs.Bodies.{body_in, body_seen};
+ghost use Rattle.neli_tables_walk.specs.Bodies.{body_in, body_seen};
 ghost use Rattle.neli_tables_walk.specs.Shapes.{context_seen};
 ghost use Rattle.neli_c.specs.AnswersShown.{payload_shown};
 ghost use Rattle.neli_c.specs.Codes.{bad_length, item, ok, room, violation};
@@ -19,9 +19,8 @@ use crate::tabling::head_of;
 use neli_c_tables::families::Families;
 use neli_c_tables::named::{NeliNamed, Stored, named_items};
 use neli_c_tables::room::TooLong;
-use neli_tables_bodies::{Body, GENERIC_HEADER_SIZE, body_of};
 use neli_tables_check::{Place, Refusal, Violation, check, find};
-use neli_tables_walk::{Context, Nest, Shape};
+use neli_tables_walk::{Body, Context, GENERIC_HEADER_SIZE, Nest, Shape, body_of};
 
 /// The body of a message, where its payload lies within the bytes.
 fn body_in<'b, 'w>(

@@ -4,7 +4,8 @@
 
 ghost use Rattle.std.specs.Prelude.{◌≡◌, ◌≢◌, ◌⊎◌, IfSome, IsSome, None};
 ghost use Rattle.neli_c.specs.Codes.{memory, ok, state};
-ghost use Rattle.neli_c.specs.Sessions.{ClosesHandle, IsNew, ReadsPlace, RefusesRequest, SaysNeeded, SendsNothing};
+ghost use Rattle.neli_c.specs.Sessions.{ClosesHandle, IsNew, ReadsPlace, RefusesRequest, SaysNeeded};
+ghost use Rattle.neli_c.specs.Sessions.{SendsNothing};
 ghost use Rattle.neli_c.specs.Sessions.{SendsRequest, SetsNumber, TakesDatagram, TakesFault, WritesItem};
 ghost use Rattle.neli_c.specs.Verdicts.{GivesUpHandle, HearsHandle, TellsVerdict};
 ghost use Rattle.neli_c.specs.Listens.{Listens, Misses, MissesSame};

@@ -2,9 +2,11 @@
 
 ghost use Rattle.std.specs.Prelude.{◌≡◌, ◌≢◌, ◌≤◌, ◌⊎◌, ◌<◌, ℕ, ℤ, List, drop, length, take};
 ghost use Rattle.neli_c.specs.Codes.{item};
-ghost use Rattle.neli_c.specs.Several.{AttributeStep, GivesEach, MessageStep, StepOf, attribute_code, message_code};
+ghost use Rattle.neli_c.specs.Several.{AttributeStep, GivesEach, MessageStep, StepOf, attribute_code};
+ghost use Rattle.neli_c.specs.Several.{message_code};
 ghost use Rattle.neli_c.specs.Several.{several_code};
-ghost use Rattle.neli_c.specs.Walks.{GivesAttribute, GivesMessage, attribute_layout, bytes_left, message_layout};
+ghost use Rattle.neli_c.specs.Walks.{GivesAttribute, GivesMessage, attribute_layout, bytes_left};
+ghost use Rattle.neli_c.specs.Walks.{message_layout};
 ghost use Rattle.neli_c.specs.Walks.{walk_code};
 
 use crate::code::{ITEM, ROOM};

@@ -3,8 +3,8 @@
 ghost use Rattle.std.specs.Prelude.{◌≡◌, ◌≢◌, ◌⊎◌, IsErr, IsOk, length};
 ghost use Rattle.neli_tables.specs.Refusals.{why_text};
 ghost use Rattle.neli_tables.specs.Schemas.{table_in};
-ghost use Rattle.neli_tables_rows.specs.Families.{tables_in};
-ghost use Rattle.neli_tables_bodies.specs.Built.{IsAdded};
+ghost use Rattle.neli_tables.specs.Families.{tables_in};
+ghost use Rattle.neli_tables_walk.specs.Built.{IsAdded};
 ghost use Rattle.neli_c_tables.specs.Rooms.{beginning};
 ghost use Rattle.neli_c.specs.AnswersShown.{payload_shown};
 ghost use Rattle.neli_c.specs.Codes.{bad_length, bad_table, memory, ok};
@@ -18,7 +18,7 @@ use crate::printing::print;
 use neli_c_tables::families::Families;
 use neli_consts::NlmF;
 use neli_tables::{ReadError, Why};
-use neli_tables_bodies::Head;
+use neli_tables_walk::Head;
 use neli_wire::Constant;
 use std::alloc::{AllocError, Global};
 

@@ -1,6 +1,7 @@
 //! The texts of codes.
 
-ghost use Rattle.std.specs.Prelude.{◌≡◌, ◌≢◌, ◌+◌, ℕ, List, drop, length, nat_le, slice_index, take, if◌then◌else◌};
+ghost use Rattle.std.specs.Prelude.{◌≡◌, ◌≢◌, ◌+◌, ℕ, List, drop, length, nat_le, slice_index, take};
+ghost use Rattle.std.specs.Prelude.{if◌then◌else◌};
 ghost use Rattle.neli_c.specs.Codes.{ok, room};
 ghost use Rattle.neli_c.specs.Texts.{IsTextOf};
 

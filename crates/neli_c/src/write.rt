@@ -2,13 +2,15 @@
 //!
 //! The bytes before the writer's end and after the written ones are unchanged.
 
-ghost use Rattle.std.specs.Prelude.{◌≡◌, ◌≢◌, ◌≤◌, ◌-◌, ◌+◌, ◌++◌, [], Ok, IfOk, bit_or, length, nat_le, if◌then◌else◌};
+ghost use Rattle.std.specs.Prelude.{◌≡◌, ◌≢◌, ◌≤◌, ◌-◌, ◌+◌, ◌++◌, [], Ok, IfOk, bit_or, length, nat_le};
+ghost use Rattle.std.specs.Prelude.{if◌then◌else◌};
 ghost use Rattle.byteorder.specs.Endian.{little_bytes};
 ghost use Rattle.neli_attr.specs.Attributes.{attribute_wire};
 ghost use Rattle.neli_wire.specs.Sizes.{align};
 ghost use Rattle.neli_wire.specs.Writing.{pad_wire};
 ghost use Rattle.neli_c.specs.Codes.{ok, room};
-ghost use Rattle.neli_c.specs.Writes.{attribute_code, header_bytes, message_end_code, nest_end_code, put, put_first};
+ghost use Rattle.neli_c.specs.Writes.{attribute_code, header_bytes, message_end_code, nest_end_code, put};
+ghost use Rattle.neli_c.specs.Writes.{put_first};
 
 use crate::code::{LENGTH, OK, PLACE, ROOM};
 use byteorder::{ByteOrder, LittleEndian};

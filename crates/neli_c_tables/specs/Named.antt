@@ -16,8 +16,8 @@ use Rattle.neli_tables_walk.specs.Found.{element_size, front_of, list_start}
 use Rattle.neli_tables_walk.specs.Shapes.{ContextSeen, Lines, kind_at}
 use Rattle.neli_tables_walk.specs.Walks.{Said, Seen, sort_in, walk_items}
 use Rattle.neli_tables_check.specs.Paths.{path_text}
-use Rattle.neli_values.specs.Values.{payload_json}
-use Rattle.neli_values.specs.Hex.{bytes_json}
+use Rattle.neli_tables_walk.specs.Values.{payload_json}
+use Rattle.neli_tables_walk.specs.Hex.{bytes_json}
 use Rattle.neli_tables_walk.specs.declared.level.Sort.{Sort}
 use Rattle.neli_c_tables.specs.declared.named.NeliNamed.{NeliNamed}
 

@@ -2,13 +2,12 @@
 
 ghost use Rattle.std.specs.Prelude.{◌≡◌, [], ℕ, None, IfErr, IfOk, OnErr, OnOk};
 ghost use Rattle.neli_tables.specs.Schemas.{IsWhyNot, table_in};
-ghost use Rattle.neli_tables_rows.specs.Families.{generic_in, learnt, learnt_as, tables_in};
-ghost use Rattle.neli_tables_bodies.specs.Built.{AreRead, IsAdded, built_in_headings};
-ghost use Rattle.neli_tables_bodies.specs.Controller.{family_said, learnt_from};
+ghost use Rattle.neli_tables.specs.Families.{generic_in, learnt, learnt_as, tables_in};
+ghost use Rattle.neli_tables_walk.specs.Built.{AreRead, IsAdded, built_in_headings};
+ghost use Rattle.neli_tables_walk.specs.Controller.{family_said, learnt_from};
 
-use neli_tables::ReadError;
-use neli_tables_bodies::{Head, built_in, learn_from};
-use neli_tables_rows::{Table, Tables};
+use neli_tables::{ReadError, Table, Tables};
+use neli_tables_walk::{Head, built_in, learn_from};
 use std::alloc::{AllocError, Global};
 
 /// Tables of families, whose texts stay as they are while the tables are open.

@@ -18,11 +18,11 @@ use crate::room::{TooLong, write_text_at};
 use arrayvec::ArrayVec;
 use neli_attr::AttrType;
 use neli_consts::ATTRIBUTE_HEADER_SIZE;
-use neli_tables::Kind;
+use neli_tables::{Kind, Table, options_of};
 use neli_tables_check::PathText;
-use neli_tables_rows::{Table, options_of};
-use neli_tables_walk::{Context, Found, Item, MAX_DEPTH, Nest, Path, Shape, Walk};
-use neli_values::{BytesJson, Payload, PayloadJson};
+use neli_tables_walk::{
+    BytesJson, Context, Found, Item, MAX_DEPTH, Nest, Path, Payload, PayloadJson, Shape, Walk,
+};
 use neli_wire::alignto;
 use std::fmt;
 

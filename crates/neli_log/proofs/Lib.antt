@@ -4,3 +4,13 @@ pub mod Routed
 pub mod Stages
 pub mod Stores
 pub mod LentSpans
+pub mod Numbers
+pub mod Pops
+pub mod Waits
+pub mod Changes
+pub mod Nexts
+pub mod Passes
+pub mod Adds
+pub mod Keeps
+pub mod Readers
+pub mod Named

@@ -1,5 +1,6 @@
 -- The deliveries of a datagram with their routes, and those that have a receiver.
-use Rattle.std.proofs.Common.{◌≡◌, ℕ, Bool, true, false, ◌==◌, if◌then◌else◌, List, [], ◌∷◌, ◌++◌, map, Option, Some}
+use Rattle.std.proofs.Common.{◌≡◌, ℕ, Bool, true, false, ◌==◌, if◌then◌else◌, List, [], ◌∷◌, ◌++◌, map}
+use Rattle.std.proofs.Common.{Option, Some}
 use Rattle.std.proofs.Common.{None, refl, sym, ap, ◌∙◌, arith, inl, inr, is_some}
 use Rattle.std.proofs.lemmas.List.{append-nil}
 use Rattle.neli_wire.specs.DeError.{DeError}
@@ -8,13 +9,14 @@ use Rattle.neli_reader.specs.Cuts.{Cut, cut_of}
 use Rattle.neli_reader.specs.laws.Cuts.{cut_of-end}
 use Rattle.neli_reader.specs.laws.Messages.{layout_with-placed}
 use Rattle.neli_deliveries.specs.declared.delivery.Delivery.{Delivery}
-use Rattle.neli_deliveries.specs.Deliveries.{Untyped, datagram_share, is_reply, message, message_to, messages_to}
+use Rattle.neli_deliveries.specs.Deliveries.{Untyped, datagram_share, is_reply, message, message_to}
+use Rattle.neli_deliveries.specs.Deliveries.{messages_to}
 use Rattle.neli_deliveries.specs.Deliveries.{reader_fault, stray}
-use Rattle.neli_places.specs.declared.entry.Entry.{Entry}
-use Rattle.neli_places.specs.declared.entry.Route.{Route}
-use Rattle.neli_places.specs.declared.entry.Route.TheVariants as route
-use Rattle.neli_places.specs.Places.{HasReader}
-use Rattle.neli_places.specs.Routes.{entry, items_for, leads}
+use Rattle.neli_log.specs.declared.entry.Entry.{Entry}
+use Rattle.neli_log.specs.declared.entry.Route.{Route}
+use Rattle.neli_log.specs.declared.entry.Route.TheVariants as route
+use Rattle.neli_log.specs.Places.{HasReader}
+use Rattle.neli_log.specs.Routes.{entry, items_for, leads}
 use Rattle.neli_log.specs.Routed.{AreAwaited, datagram_routed, fault_routed, message_routed}
 use Rattle.neli_log.proofs.Entries.{items_append, items_first, true_or_false}
 

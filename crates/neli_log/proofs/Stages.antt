@@ -1,5 +1,6 @@
 -- The deliveries of a datagram, message by message.
-use Rattle.std.proofs.Common.{◌≡◌, ℕ, zero, suc, ◌+◌, ◌-◌, ◌≤◌, ◌<◌, true, List, [], ◌∷◌, ◌++◌, length, map, take, drop}
+use Rattle.std.proofs.Common.{◌≡◌, ℕ, zero, suc, ◌+◌, ◌-◌, ◌≤◌, ◌<◌, true, List, [], ◌∷◌, ◌++◌, length}
+use Rattle.std.proofs.Common.{map, take, drop}
 use Rattle.std.proofs.Common.{Option, Some, None, Ok, Err, refl, sym, ap, subst, ◌∙◌, arith, append_assoc}
 use Rattle.std.proofs.Common.{length-append, is_some}
 use Rattle.std.specs.List.{slice_get}
@@ -16,19 +17,20 @@ use Rattle.neli_lent.specs.Spans.{IsSpan, Spells}
 use Rattle.neli_deliveries.specs.declared.delivery.Delivery.{Delivery}
 use Rattle.neli_deliveries.specs.declared.delivery.Delivery.TheVariants as delivery
 use Rattle.neli_deliveries.specs.Deliveries.{Untyped, datagram_share}
-use Rattle.neli_places.specs.declared.entry.Entry.{Entry}
-use Rattle.neli_places.specs.Places.{HasReader}
-use Rattle.neli_places.specs.Routes.{entry}
-use Rattle.neli_spans.specs.declared.span.Span.{Span}
-use Rattle.neli_spans.specs.Spans.{AreApart, AreSpansOf, Apart, IsWithin}
+use Rattle.neli_log.specs.declared.entry.Entry.{Entry}
+use Rattle.neli_log.specs.Places.{HasReader}
+use Rattle.neli_log.specs.Routes.{entry}
+use Rattle.neli_log.specs.declared.span.Span.{Span}
+use Rattle.neli_log.specs.Spans.{AreApart, AreSpansOf, Apart, IsWithin}
 use Rattle.neli_reader.specs.SocketError.TheVariants as socket
-use Rattle.neli_places.specs.declared.entry.Route.TheVariants as route
+use Rattle.neli_log.specs.declared.entry.Route.TheVariants as route
 use Rattle.neli_log.specs.declared.content.Content.{Content}
 use Rattle.neli_log.specs.declared.content.Content.TheVariants as content
 use Rattle.neli_log.specs.declared.next.Address.{Address}
 use Rattle.neli_log.specs.Contents.{AreMessages, entry_read, part_of, span_of, spans_of}
 use Rattle.neli_log.specs.Routed.{AreAwaited, is_open, message_routed}
-use Rattle.neli_log.specs.Staged.{AreDueBefore, AreStaged, HaveReaders, IsFound, deliveries_added, entries_due}
+use Rattle.neli_log.specs.Staged.{AreDueBefore, AreStaged, HaveReaders, IsFound, deliveries_added}
+use Rattle.neli_log.specs.Staged.{entries_due}
 use Rattle.neli_log.proofs.Entries.{each_joined, each_one, items_read, spans_append}
 use Rattle.neli_log.proofs.Routed.{awaited_items, awaited_more, awaited_skipped, items_routed}
 

@@ -1,6 +1,7 @@
 -- Entries and the datagrams that they name, together.
 use Rattle.std.proofs.Common.{◌≡◌, ℕ, zero, suc, ◌+◌, ◌-◌, ◌<◌, ◌↔◌, Bool, true, false, List, [], ◌∷◌, ◌++◌}
-use Rattle.std.proofs.Common.{length, map, drop, Option, Some, None, refl, sym, ap, subst, ◌∙◌, arith, inl, inr}
+use Rattle.std.proofs.Common.{length, map, drop, Option, Some, None, refl, sym, ap, subst, ◌∙◌, arith}
+use Rattle.std.proofs.Common.{inl, inr}
 use Rattle.std.proofs.Common.{is_some, option_map}
 use Rattle.std.specs.List.{slice_get}
 use Rattle.std.specs.Prelude.{slice_range, Result, Ok, Err, OnOk}
@@ -11,26 +12,28 @@ use Rattle.neli_reader.specs.SocketError.{SocketError}
 use Rattle.neli_lent.specs.Spans.{IsSpan}
 use Rattle.neli_deliveries.specs.declared.delivery.Delivery.{Delivery}
 use Rattle.neli_deliveries.specs.Deliveries.{Untyped, datagram_share, fault_share, is_would_block}
-use Rattle.neli_places.specs.declared.entry.Entry.{Entry}
-use Rattle.neli_places.specs.declared.entry.Route.{Route}
-use Rattle.neli_places.specs.declared.entry.Route.TheVariants as route
-use Rattle.neli_places.specs.declared.place.Place.{Place}
-use Rattle.neli_places.specs.declared.places.Places.{Places}
-use Rattle.neli_places.specs.Places.{HasReader, entries_of, place_of, rest}
-use Rattle.neli_places.specs.Places.{pending_of as items_of, head_of as first_of}
-use Rattle.neli_places.specs.Routes.{entry, items_for, leads}
-use Rattle.neli_spans.specs.declared.span.Span.{Span}
-use Rattle.neli_spans.specs.declared.datagrams.Datagrams.{Datagrams}
-use Rattle.neli_spans.specs.Spans.{AreSpansOf, SpansName, next_serial, span_bytes}
+use Rattle.neli_log.specs.declared.entry.Entry.{Entry}
+use Rattle.neli_log.specs.declared.entry.Route.{Route}
+use Rattle.neli_log.specs.declared.entry.Route.TheVariants as route
+use Rattle.neli_log.specs.declared.place.Place.{Place}
+use Rattle.neli_log.specs.declared.places.Places.{Places}
+use Rattle.neli_log.specs.Places.{HasReader, entries_of, place_of, rest}
+use Rattle.neli_log.specs.Places.{pending_of as items_of, head_of as first_of}
+use Rattle.neli_log.specs.Routes.{entry, items_for, leads}
+use Rattle.neli_log.specs.declared.span.Span.{Span}
+use Rattle.neli_log.specs.declared.datagrams.Datagrams.{Datagrams}
+use Rattle.neli_log.specs.Spans.{AreSpansOf, SpansName, next_serial, span_bytes}
 use Rattle.neli_log.specs.declared.content.Content.{Content}
 use Rattle.neli_log.specs.declared.content.Content.TheVariants as content
-use Rattle.neli_log.specs.Contents.{AreBacked, AreMessages, IsReadable, delivery_of, entry_read, part_of, span_of}
+use Rattle.neli_log.specs.Contents.{AreBacked, AreMessages, IsReadable, delivery_of, entry_read, part_of}
+use Rattle.neli_log.specs.Contents.{span_of}
 use Rattle.neli_log.specs.Contents.{spans_of}
 use Rattle.neli_log.specs.declared.store.Store.{Store}
 use Rattle.neli_log.specs.Log.{Keeps, KeepsEachOnce, entries_read, pending_of}
 use Rattle.neli_log.specs.Routed.{AreAwaited, datagram_routed, is_open}
 use Rattle.neli_log.specs.Staged.{deliveries_added, entries_due}
-use Rattle.neli_log.proofs.Entries.{each_joined, true_or_false, get_end, get_right, items_same, read_same, spans_append}
+use Rattle.neli_log.proofs.Entries.{each_joined, true_or_false, get_end, get_right, items_same}
+use Rattle.neli_log.proofs.Entries.{read_same, spans_append}
 use Rattle.neli_log.proofs.Routed.{awaited_same, items_routed, routed_nothing, routed_same}
 
 -- ---- lists that are mapped, if they exist

@@ -9,11 +9,11 @@ use Rattle.neli_lent.specs.Spans.{IsSpan}
 use Rattle.neli_deliveries.specs.declared.delivery.Delivery.{Delivery}
 use Rattle.neli_deliveries.specs.declared.delivery.Delivery.TheVariants as delivery
 use Rattle.neli_deliveries.specs.Deliveries.{Untyped, message, stray}
-use Rattle.neli_places.specs.declared.entry.Entry.{Entry}
-use Rattle.neli_places.specs.Routes.{entry}
-use Rattle.neli_spans.specs.declared.span.Span.{Span}
-use Rattle.neli_spans.specs.declared.datagrams.Datagrams.{Datagrams}
-use Rattle.neli_spans.specs.Spans.{IsNamed, SpansName, span_bytes}
+use Rattle.neli_log.specs.declared.entry.Entry.{Entry}
+use Rattle.neli_log.specs.Routes.{entry}
+use Rattle.neli_log.specs.declared.span.Span.{Span}
+use Rattle.neli_log.specs.declared.datagrams.Datagrams.{Datagrams}
+use Rattle.neli_log.specs.Spans.{IsNamed, SpansName, span_bytes}
 use Rattle.neli_log.specs.declared.content.Content.{Content}
 use Rattle.neli_log.specs.declared.content.Content.TheVariants as content
 

@@ -1,6 +1,11 @@
+pub mod Bytes
+pub mod Spans
+pub mod Lists
+pub mod Routes
+pub mod Places
 pub mod Contents
 pub mod Routed
+pub mod Log
 pub mod Next
 pub mod Staged
-pub mod Log
 pub mod Lending

@@ -5,10 +5,10 @@ use Rattle.neli_reader.specs.Agreement.{untyped_layout}
 use Rattle.neli_reader.specs.Cuts.{cut_of}
 use Rattle.neli_deliveries.specs.declared.delivery.Delivery.{Delivery}
 use Rattle.neli_deliveries.specs.Deliveries.{datagram_share}
-use Rattle.neli_places.specs.declared.entry.Entry.{Entry}
-use Rattle.neli_places.specs.Places.{IsSound, IsTrimmed, entries_of}
-use Rattle.neli_places.specs.Places.{pending_of as items_of}
-use Rattle.neli_spans.specs.Spans.{bytes_of, span_bytes}
+use Rattle.neli_log.specs.declared.entry.Entry.{Entry}
+use Rattle.neli_log.specs.Places.{IsSound, IsTrimmed, entries_of}
+use Rattle.neli_log.specs.Places.{pending_of as items_of}
+use Rattle.neli_log.specs.Spans.{bytes_of, span_bytes}
 use Rattle.neli_log.specs.declared.content.Content.{Content}
 use Rattle.neli_log.specs.declared.store.Store.{Store}
 use Rattle.neli_log.specs.Contents.{AreBacked, delivery_of, entry_read, spans_of}

@@ -1,15 +1,16 @@
 -- The deliveries of a datagram with their routes, each once.
-use Rattle.std.specs.Prelude.{◌≡◌, ◌⊎◌, ℕ, Bool, List, [], ◌∷◌, ◌++◌, map, Option, Some, None, if◌then◌else◌, is_some}
+use Rattle.std.specs.Prelude.{◌≡◌, ◌⊎◌, ℕ, Bool, List, [], ◌∷◌, ◌++◌, map, Option, Some, None}
+use Rattle.std.specs.Prelude.{if◌then◌else◌, is_some}
 use Rattle.neli_wire.specs.DeError.{DeError}
 use Rattle.neli_reader.specs.Cuts.{Cut}
 use Rattle.neli_reader.specs.SocketError.TheVariants as socket
 use Rattle.neli_deliveries.specs.declared.delivery.Delivery.{Delivery}
 use Rattle.neli_deliveries.specs.declared.delivery.Delivery.TheVariants as delivery
 use Rattle.neli_deliveries.specs.Deliveries.{Untyped, is_reply, message, stray}
-use Rattle.neli_places.specs.declared.entry.Entry.{Entry}
-use Rattle.neli_places.specs.declared.entry.Route.TheVariants as route
-use Rattle.neli_places.specs.Places.{HasReader}
-use Rattle.neli_places.specs.Routes.{entry}
+use Rattle.neli_log.specs.declared.entry.Entry.{Entry}
+use Rattle.neli_log.specs.declared.entry.Route.TheVariants as route
+use Rattle.neli_log.specs.Places.{HasReader}
+use Rattle.neli_log.specs.Routes.{entry}
 
 -- whether a number is open, if the lists are these
 abbrev pub is_open : {T : Type 0} → (Option ℕ → Option (List T)) → ℕ → Bool

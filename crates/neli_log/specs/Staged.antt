@@ -6,12 +6,12 @@ use Rattle.neli_reader.specs.Agreement.{untyped_layout}
 use Rattle.neli_reader.specs.Cuts.{Cut, cut_of}
 use Rattle.neli_deliveries.specs.declared.delivery.Delivery.{Delivery}
 use Rattle.neli_deliveries.specs.Deliveries.{Untyped}
-use Rattle.neli_places.specs.declared.entry.Entry.{Entry}
-use Rattle.neli_places.specs.Places.{HasReader}
-use Rattle.neli_places.specs.Routes.{items_for}
+use Rattle.neli_log.specs.declared.entry.Entry.{Entry}
+use Rattle.neli_log.specs.Places.{HasReader}
+use Rattle.neli_log.specs.Routes.{items_for}
 use Rattle.neli_lent.specs.Spans.{Spells}
-use Rattle.neli_spans.specs.declared.span.Span.{Span}
-use Rattle.neli_spans.specs.Spans.{AreSpansOf}
+use Rattle.neli_log.specs.declared.span.Span.{Span}
+use Rattle.neli_log.specs.Spans.{AreSpansOf}
 use Rattle.neli_log.specs.declared.content.Content.{Content}
 use Rattle.neli_log.specs.declared.next.Address.{Address}
 use Rattle.neli_log.specs.Contents.{AreMessages, delivery_of, entry_read, part_of, spans_of}

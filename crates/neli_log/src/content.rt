@@ -1,7 +1,7 @@
 //! The content of an entry.
 
+use crate::Span;
 use neli_reader::SocketError;
-use neli_spans::Span;
 
 /// A delivery; a message is the span of its bytes.
 #[derive(Drop)]

@@ -1,19 +1,19 @@
 //! Stores entries and datagrams, once no refusal remains possible.
 
-ghost use Rattle.std.specs.Prelude.{◌≡◌, ◌++◌, ◌+◌, ◌<◌, ◌≤◌, ℕ, List, Option, Some, OnErr, OnOk, length, option_map};
+ghost use Rattle.std.specs.Prelude.{◌≡◌, ◌++◌, ◌+◌, ◌<◌, ◌≤◌, ℕ, List, Option, Some, OnErr, OnOk, length};
+ghost use Rattle.std.specs.Prelude.{option_map};
 ghost use Rattle.std.specs.Prelude.{slice_get, slice_range};
-ghost use Rattle.neli_places.specs.Places.{HasRoom, IsTrimmed, entries_of, pending_of};
-ghost use Rattle.neli_places.specs.Routes.{items_for};
-ghost use Rattle.neli_spans.specs.Spans.{AreNamed, AreSpansOf, IsUnchanged, SpansName, bytes_of, next_serial};
-ghost use Rattle.neli_spans.specs.Spans.{span_bytes};
-ghost use Rattle.neli_spans.specs.declared.span.Span.{Span as Part};
+ghost use Rattle.neli_log.specs.Places.{HasRoom, IsTrimmed, entries_of, pending_of};
+ghost use Rattle.neli_log.specs.Routes.{items_for};
+ghost use Rattle.neli_log.specs.Spans.{AreNamed, AreSpansOf, IsUnchanged, SpansName, bytes_of, next_serial};
+ghost use Rattle.neli_log.specs.Spans.{span_bytes};
+ghost use Rattle.neli_log.specs.declared.span.Span.{Span as Part};
 ghost use Rattle.neli_log.specs.Contents.{span_of, spans_of};
 ghost use Rattle.neli_log.specs.Log.{kept_with};
 ghost use Rattle.neli_log.specs.Staged.{HaveReaders};
 
 use crate::content::Content;
-use neli_places::{Entry, Places};
-use neli_spans::Datagrams;
+use crate::{Datagrams, Entry, Places};
 use neli_wire::NoMemory;
 use std::alloc::Global;
 

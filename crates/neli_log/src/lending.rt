@@ -4,7 +4,7 @@ ghost use Rattle.neli_reader.specs.Messages.{message_from};
 ghost use Rattle.neli_lent.specs.Messages.{message_said};
 ghost use Rattle.neli_lent.specs.Spans.{IsSpan, Spells};
 ghost use Rattle.neli_deliveries.specs.Deliveries.{Untyped, head_of};
-ghost use Rattle.neli_spans.specs.Spans.{span_bytes};
+ghost use Rattle.neli_log.specs.Spans.{span_bytes};
 ghost use Rattle.neli_log.specs.Contents.{IsReadable, delivery_of};
 ghost use Rattle.neli_log.specs.Lending.{IsFirstLent, IsLent, Lends};
 ghost use Rattle.neli_log.specs.Log.{IsTrimmedAndBacked, pending_of};

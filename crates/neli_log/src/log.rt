@@ -5,7 +5,8 @@ ghost use Rattle.std.specs.Prelude.{OnOk, option_map, true};
 ghost use Rattle.neli_deliveries.specs.Lists.{ListsGain, Opens, SameLists, SameListsBut};
 ghost use Rattle.neli_deliveries.specs.declared.delivery.Delivery.{Delivery as Waiting};
 ghost use Rattle.neli_deliveries.specs.Deliveries.{fault_share, is_would_block};
-ghost use Rattle.neli_log.specs.Log.{IsAsBefore, KeepsEachOnce, KeepsEntries, KeepsNoMore, byte_count, entry_count};
+ghost use Rattle.neli_log.specs.Log.{IsAsBefore, KeepsEachOnce, KeepsEntries, KeepsNoMore, byte_count};
+ghost use Rattle.neli_log.specs.Log.{entry_count};
 ghost use Rattle.neli_log.specs.Log.{pending_of, routed_by, share_of};
 
 use crate::store::Store;

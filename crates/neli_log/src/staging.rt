@@ -7,16 +7,15 @@ ghost use Rattle.neli_reader.specs.Cuts.{Cut as Rest};
 ghost use Rattle.neli_reader.specs.Cuts.{cut_of, message_before};
 ghost use Rattle.neli_deliveries.specs.Deliveries.{Untyped};
 ghost use Rattle.neli_lent.specs.Spans.{Spells};
-ghost use Rattle.neli_places.specs.Places.{pending_of};
+ghost use Rattle.neli_log.specs.Places.{pending_of};
 ghost use Rattle.neli_log.specs.Contents.{entry_read, part_of, span_of};
 ghost use Rattle.neli_log.specs.Routed.{is_open, message_routed};
 ghost use Rattle.neli_log.specs.Staged.{AreStaged, IsFound, cut_left};
 
 use crate::content::Content;
 use crate::next::{Address, next_message};
-use neli_places::{Entry, Places, Route};
+use crate::{Entry, Places, Route, Span};
 use neli_reader::SocketError;
-use neli_spans::Span;
 use neli_util::Groups;
 use neli_wire::{Cursor, DeError, NoMemory};
 use std::alloc::Global;

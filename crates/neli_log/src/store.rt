@@ -1,16 +1,20 @@
 //! The parts of a log, and the operations on them.
 
-ghost use Rattle.std.specs.Prelude.{◌≡◌, ◌↔◌, ◌++◌, ◌+◌, ◌≤◌, ℕ, List, [], ◌∷◌, Option, None, Some, IfOk, IsOk};
+ghost use Rattle.std.specs.Prelude.{◌≡◌, ◌↔◌, ◌++◌, ◌+◌, ◌≤◌, ℕ, List, [], ◌∷◌, Option, None, Some, IfOk};
+ghost use Rattle.std.specs.Prelude.{IsOk};
 ghost use Rattle.std.specs.Prelude.{OnErr, OnOk, is_some, length, map, option_map, true};
 ghost use Rattle.neli_deliveries.specs.Lists.{ListsGain, Opens, SameLists, SameListsBut};
 ghost use Rattle.neli_deliveries.specs.declared.delivery.Delivery.{Delivery as Waiting};
 ghost use Rattle.neli_deliveries.specs.Deliveries.{fault_share, head_of, is_would_block};
 ghost use Rattle.neli_deliveries.specs.Readings.{FirstTakesMemory, IsFirst, IsReading, ReadingTakesMemory};
-ghost use Rattle.neli_places.specs.Places.{pending_of as items_of};
-ghost use Rattle.neli_spans.specs.Spans.{AreSpansOf, next_serial, span_bytes};
-ghost use Rattle.neli_log.specs.Contents.{AreMessages, IsReadable, delivery_of, entry_read, part_of, spans_of};
-ghost use Rattle.neli_log.specs.Log.{IsAsBefore, IsTrimmedAndBacked, IsUntrimmed, Keeps, KeepsEachOnce, KeepsEntries};
-ghost use Rattle.neli_log.specs.Log.{KeepsNoMore, byte_count, entries_read, entry_count, pending_of, routed_by};
+ghost use Rattle.neli_log.specs.Places.{pending_of as items_of};
+ghost use Rattle.neli_log.specs.Spans.{AreSpansOf, next_serial, span_bytes};
+ghost use Rattle.neli_log.specs.Contents.{AreMessages, IsReadable, delivery_of, entry_read, part_of};
+ghost use Rattle.neli_log.specs.Contents.{spans_of};
+ghost use Rattle.neli_log.specs.Log.{IsAsBefore, IsTrimmedAndBacked, IsUntrimmed, Keeps, KeepsEachOnce};
+ghost use Rattle.neli_log.specs.Log.{KeepsEntries};
+ghost use Rattle.neli_log.specs.Log.{KeepsNoMore, byte_count, entries_read, entry_count, pending_of};
+ghost use Rattle.neli_log.specs.Log.{routed_by};
 ghost use Rattle.neli_log.specs.Log.{share_of};
 ghost use Rattle.neli_log.specs.Staged.{HaveReaders, deliveries_added};
 
@@ -18,10 +22,9 @@ use crate::content::Content;
 use crate::handing::{keep_copy, push_all, release, span_count};
 use crate::reading::typed;
 use crate::staging::staged;
+use crate::{Datagrams, Entry, Places, Route};
 use neli_consts::NlType;
-use neli_places::{Entry, Places, Route};
 use neli_reader::{Nlmsghdr, RouterError, SocketError};
-use neli_spans::Datagrams;
 use neli_util::Groups;
 use neli_wire::{FromBytesWithInput, NoMemory, Size};
 use std::alloc::Global;

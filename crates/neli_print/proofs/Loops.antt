@@ -8,7 +8,7 @@ use Rattle.std.specs.Fmt.{HasWritten, IsPlainFormatter}
 use Rattle.std.specs.declared.fmt.Formatter.{Formatter}
 use Rattle.neli_lent.specs.Messages.{Lent}
 use Rattle.neli_print.specs.MessageFlags.{flag_seen}
-use Rattle.neli_tables_rows.specs.declared.tables.Tables.{Tables}
+use Rattle.neli_tables.specs.declared.tables.Tables.{Tables}
 use Rattle.neli_tables_walk.specs.Walks.{Seen}
 use Rattle.neli_wire.specs.DeError.{DeError}
 use Rattle.neli_print.specs.declared.flags.FlagForm.{FlagForm}

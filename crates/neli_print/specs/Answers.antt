@@ -6,7 +6,7 @@ use Rattle.std.specs.Option.{option_map}
 use Rattle.neli_consts.specs.declared.nlm_f.NlmF.{NlmF}
 use Rattle.neli_wire.specs.Sizes.{align}
 use Rattle.neli_msg.specs.Kinds.{has_attributes, is_acknowledged, is_capped, is_multi}
-use Rattle.neli_tables_bodies.specs.declared.head.Head.{Head}
+use Rattle.neli_tables_walk.specs.declared.head.Head.{Head}
 use Rattle.neli_print.specs.declared.answer.Parts.{Parts}
 use Rattle.neli_print.specs.declared.head.Header.{Header}
 use Rattle.neli_print.specs.Heads.{header_in}

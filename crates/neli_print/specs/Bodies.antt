@@ -2,13 +2,13 @@
 use Rattle.std.specs.Prelude.{ℕ, ◌==◌, Bool, if◌then◌else◌, List, [], ◌∷◌, ◌++◌, codes, take}
 use Rattle.std.specs.Prelude.{Option, Some, None}
 use Rattle.std.specs.Fmt.{decimal}
-use Rattle.neli_tables_bodies.specs.declared.generic.GenericHeader.{GenericHeader}
-use Rattle.neli_tables_bodies.specs.Bodies.{BodySeen, body_context, body_shape}
+use Rattle.neli_tables_walk.specs.declared.generic.GenericHeader.{GenericHeader}
+use Rattle.neli_tables_walk.specs.Bodies.{BodySeen, body_context, body_shape}
 use Rattle.neli_tables_walk.specs.declared.shape.Shape.{Shape}
 use Rattle.neli_tables_walk.specs.declared.shape.Shape.TheVariants as shape
 use Rattle.neli_tables_walk.specs.Shapes.{ContextSeen}
-use Rattle.neli_values.specs.Hex.{bytes_json, bytes_text}
-use Rattle.neli_values.specs.Values.{payload_json, payload_text}
+use Rattle.neli_tables_walk.specs.Hex.{bytes_json, bytes_text}
+use Rattle.neli_tables_walk.specs.Values.{payload_json, payload_text}
 use Rattle.neli_print.specs.Lists.{list_member, list_text}
 use Rattle.neli_print.specs.Names.{Lines, line_name, structure_members, structure_text}
 use Rattle.neli_print.specs.Pieces.{indent}

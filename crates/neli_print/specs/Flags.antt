@@ -3,7 +3,7 @@ use Rattle.std.specs.Prelude.{ℕ, ◌-◌, ◌==◌, ◌&&◌, not, Bool, true,
 use Rattle.std.specs.Prelude.{codes, bit_and, if◌then◌else◌}
 use Rattle.std.specs.Fmt.{digits}
 use Rattle.bitflags.specs.Sets.{Row}
-use Rattle.neli_values.specs.Names.{name_text}
+use Rattle.neli_tables_walk.specs.Names.{name_text}
 use Rattle.neli_print.specs.declared.flags.FlagForm.{FlagForm}
 use Rattle.neli_print.specs.declared.flags.FlagForm.TheVariants.{Bars, Strings}
 use Rattle.neli_print.specs.declared.flags.Left.{Left}

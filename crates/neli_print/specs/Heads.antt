@@ -4,9 +4,9 @@ use Rattle.std.specs.Prelude.{Bool, if◌then◌else◌}
 use Rattle.std.specs.Fmt.{decimal}
 use Rattle.bitflags.specs.Sets.{Row}
 use Rattle.neli_msg.specs.Headers.{Header as Read, header_in as read_at}
-use Rattle.neli_tables_bodies.specs.declared.head.Head.{Head}
+use Rattle.neli_tables_walk.specs.declared.head.Head.{Head}
 use Rattle.neli_print.specs.MessageFlags.{flag_rows}
-use Rattle.neli_values.specs.Names.{name_text}
+use Rattle.neli_tables_walk.specs.Names.{name_text}
 use Rattle.neli_print.specs.declared.flags.FlagForm.{FlagForm}
 use Rattle.neli_print.specs.declared.flags.FlagForm.TheVariants.{Bars, Strings}
 use Rattle.neli_print.specs.declared.head.Header.{Header}

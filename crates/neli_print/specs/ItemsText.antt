@@ -8,12 +8,12 @@ use Rattle.neli_tables_walk.specs.declared.item.Step.{Step}
 use Rattle.neli_tables_walk.specs.declared.shape.Shape.{Shape}
 use Rattle.neli_tables_walk.specs.declared.shape.Shape.TheVariants as shape
 use Rattle.neli_tables_walk.specs.Walks.{Said, Seen}
-use Rattle.neli_values.specs.declared.breach.Breach.{Breach}
-use Rattle.neli_values.specs.declared.breach.Breach.TheVariants.{Shorter}
-use Rattle.neli_values.specs.Breaches.{breach_text}
-use Rattle.neli_values.specs.Hex.{bytes_text}
-use Rattle.neli_values.specs.Names.{name_text}
-use Rattle.neli_values.specs.Values.{payload_breach, payload_text}
+use Rattle.neli_tables_walk.specs.declared.breach.Breach.{Breach}
+use Rattle.neli_tables_walk.specs.declared.breach.Breach.TheVariants.{Shorter}
+use Rattle.neli_tables_walk.specs.Breaches.{breach_text}
+use Rattle.neli_tables_walk.specs.Hex.{bytes_text}
+use Rattle.neli_tables_walk.specs.Names.{name_text}
+use Rattle.neli_tables_walk.specs.Values.{payload_breach, payload_text}
 use Rattle.neli_print.specs.declared.pieces.Colour.TheVariants as colour
 use Rattle.neli_print.specs.Faults.{fault_text}
 use Rattle.neli_print.specs.Items.{last_step, lists_around}

@@ -4,9 +4,9 @@ use Rattle.std.specs.Prelude.{codes, Result, Ok, Err}
 use Rattle.std.specs.Fmt.{decimal}
 use Rattle.neli_lent.specs.Messages.{Lent, messages_in}
 use Rattle.neli_lent.specs.Walks.{items_of}
-use Rattle.neli_tables_bodies.specs.declared.head.Head.{Head}
-use Rattle.neli_tables_bodies.specs.Bodies.{BodySeen, body_in, is_answer}
-use Rattle.neli_tables_rows.specs.declared.tables.Tables.{Tables}
+use Rattle.neli_tables_walk.specs.declared.head.Head.{Head}
+use Rattle.neli_tables_walk.specs.Bodies.{BodySeen, body_in, is_answer}
+use Rattle.neli_tables.specs.declared.tables.Tables.{Tables}
 use Rattle.neli_wire.specs.DeError.{DeError}
 use Rattle.neli_wire.specs.Sizes.{align}
 use Rattle.neli_print.specs.declared.head.Header.{Header}

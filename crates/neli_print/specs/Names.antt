@@ -5,8 +5,8 @@ use Rattle.neli_tables.specs.declared.word.Word.{Word}
 use Rattle.neli_tables.specs.declared.word.Word.TheVariants as word
 use Rattle.neli_tables.specs.Lines.{LineSeen}
 use Rattle.neli_tables_walk.specs.declared.item.Step.{Step}
-use Rattle.neli_values.specs.Fields.{fields_json, fields_text}
-use Rattle.neli_values.specs.Names.{name_json, name_text}
+use Rattle.neli_tables_walk.specs.Fields.{fields_json, fields_text}
+use Rattle.neli_tables_walk.specs.Names.{name_json, name_text}
 use Rattle.neli_print.specs.declared.pieces.Colour.TheVariants as colour
 use Rattle.neli_print.specs.Pieces.{painted}
 

@@ -6,11 +6,11 @@ use Rattle.std.specs.Int.{cast_signed, w32}
 use Rattle.std.specs.Option.{option_or}
 use Rattle.byteorder.specs.Endian.{little_number}
 use Rattle.neli_errno.specs.Errnos.{Row, errno_of}
-use Rattle.neli_tables_bodies.specs.declared.head.Head.{Head}
-use Rattle.neli_tables_bodies.specs.Bodies.{BodySeen, answer_in, body_in}
-use Rattle.neli_tables_rows.specs.declared.tables.Tables.{Tables}
-use Rattle.neli_values.specs.Hex.{bytes_text}
-use Rattle.neli_values.specs.Quoted.{quoted}
+use Rattle.neli_tables_walk.specs.declared.head.Head.{Head}
+use Rattle.neli_tables_walk.specs.Bodies.{BodySeen, answer_in, body_in}
+use Rattle.neli_tables.specs.declared.tables.Tables.{Tables}
+use Rattle.neli_tables_walk.specs.Hex.{bytes_text}
+use Rattle.neli_tables_walk.specs.Quoted.{quoted}
 use Rattle.neli_print.specs.declared.head.Header.{Header}
 use Rattle.neli_print.specs.declared.pieces.Colour.TheVariants as colour
 use Rattle.neli_print.specs.Answers.{PartsSeen, answer_parts}

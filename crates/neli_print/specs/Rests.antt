@@ -3,9 +3,9 @@ use Rattle.std.specs.Prelude.{ℕ, Bool, false, List, [], ◌∷◌, ◌++◌, c
 use Rattle.std.specs.Prelude.{Some, None}
 use Rattle.neli_tables.specs.declared.kind.Kind.{Kind}
 use Rattle.neli_tables.specs.declared.kind.Kind.TheVariants as kind
-use Rattle.neli_tables_rows.specs.declared.options.Options.{Options}
+use Rattle.neli_tables.specs.declared.options.Options.{Options}
 use Rattle.neli_tables_walk.specs.Shapes.{line_number, line_options}
-use Rattle.neli_values.specs.Hex.{bytes_text, hex_text}
+use Rattle.neli_tables_walk.specs.Hex.{bytes_text, hex_text}
 use Rattle.neli_print.specs.Names.{Lines}
 
 abbrev pub struct_by : Option Kind → Bool → Option ℕ → Option ℕ

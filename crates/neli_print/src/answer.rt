@@ -10,7 +10,7 @@ use crate::rests::bytes_from;
 use bitflags::Flags;
 use byteorder::{ByteOrder, LittleEndian};
 use neli_consts::{NLMSG_DONE, NLMSG_ERROR, NlmF};
-use neli_tables_bodies::Head;
+use neli_tables_walk::Head;
 use neli_wire::implementing::padded_length;
 
 /// The size of a message's header.

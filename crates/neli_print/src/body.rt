@@ -2,7 +2,7 @@
 
 ghost use Rattle.std.specs.Prelude.{◌≡◌, Some};
 ghost use Rattle.std.specs.Option.{option_map};
-ghost use Rattle.neli_tables_bodies.specs.Bodies.{body_seen};
+ghost use Rattle.neli_tables_walk.specs.Bodies.{body_seen};
 ghost use Rattle.neli_tables_walk.specs.Shapes.{context_seen};
 ghost use Rattle.neli_print.specs.Bodies.{body_members, body_name, body_text, bytes_line};
 ghost use Rattle.neli_print.specs.Bodies.{bytes_member, generic_line, generic_members};
@@ -14,9 +14,9 @@ use crate::list::{List, ListMember, ListText};
 use crate::names::{Structure, StructureMembers, StructureText, line_name};
 use crate::pieces::indent;
 use crate::rests::{RestMember, RestWords, rest_of, struct_in};
-use neli_tables_bodies::{Body, GenericHeader};
-use neli_tables_walk::{Context, Shape};
-use neli_values::{Bytes, BytesJson, Payload, PayloadJson, PayloadText};
+use neli_tables_walk::{
+    Body, Bytes, BytesJson, Context, GenericHeader, Payload, PayloadJson, PayloadText, Shape,
+};
 use std::fmt;
 
 /// The name of a body's message, if a table has it.

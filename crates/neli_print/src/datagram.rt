@@ -9,7 +9,7 @@ use crate::fault::Fault;
 use crate::message::{Message, MessageJson, MessageText};
 use crate::pieces::{Colour, escape};
 use neli_lent::{LentMessage, LentMessages};
-use neli_tables_rows::Tables;
+use neli_tables::Tables;
 use neli_wire::DeError;
 use neli_wire::implementing::padded_length;
 use std::fmt;

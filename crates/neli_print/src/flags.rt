@@ -7,7 +7,7 @@ ghost use Rattle.neli_print.specs.MessageFlags.{flag_seen};
 
 use crate::flag_rows::Row;
 use crate::pieces::When;
-use neli_values::Name;
+use neli_tables_walk::Name;
 use std::fmt;
 
 /// The form of printed flags.

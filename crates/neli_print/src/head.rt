@@ -13,8 +13,7 @@ use crate::pieces::{Colour, escape};
 use neli_consts::{NLMSG_DONE, NLMSG_ERROR, NLMSG_NOOP, NLMSG_OVERRUN};
 use neli_lent::LentMessage;
 use neli_msg::NlmsghdrAck;
-use neli_tables_bodies::Head;
-use neli_values::Name;
+use neli_tables_walk::{Head, Name};
 use std::fmt;
 
 /// `NETLINK_ROUTE` of `linux/netlink.h`.

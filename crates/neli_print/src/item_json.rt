@@ -12,9 +12,10 @@ use crate::names::{NameMember, Structure, StructureMembers, row_name};
 use crate::pieces::{Repeated, When};
 use crate::rests::{RestMember, rest_of};
 use neli_attr::AttrType;
-use neli_tables_rows::Table;
-use neli_tables_walk::{Found, Item, Rest, Shape, Step};
-use neli_values::{Breach, BytesJson, Hex, Payload, PayloadJson, breach_of};
+use neli_tables::Table;
+use neli_tables_walk::{
+    Breach, BytesJson, Found, Hex, Item, Payload, PayloadJson, Rest, Shape, Step, breach_of,
+};
 use std::fmt;
 
 /// The first members of an attribute: its number, its name if it has a row, and the flags of its

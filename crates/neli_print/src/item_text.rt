@@ -13,9 +13,10 @@ use crate::names::{Structure, StructureText, is_each, row_name};
 use crate::pieces::{Colour, When, escape, indent};
 use crate::rests::{RestWords, rest_of};
 use neli_attr::AttrType;
-use neli_tables_rows::Table;
-use neli_tables_walk::{Found, Item, Rest, Shape, Step};
-use neli_values::{Breach, Bytes, Name, Payload, PayloadText, breach_of};
+use neli_tables::Table;
+use neli_tables_walk::{
+    Breach, Bytes, Found, Item, Name, Payload, PayloadText, Rest, Shape, Step, breach_of,
+};
 use std::fmt;
 
 /// An attribute by its name, or by its number if it has no row.

@@ -3,8 +3,8 @@
 ghost use Rattle.std.specs.Prelude.{ℕ, List, length};
 ghost use Rattle.neli_lent.specs.Messages.{messages_in};
 ghost use Rattle.neli_lent.specs.Walks.{items_of};
-ghost use Rattle.neli_tables_rows.specs.declared.tables.Tables.{Tables as TablesOf};
-ghost use Rattle.neli_values.specs.Json.{AreSoManyLines, IsJson};
+ghost use Rattle.neli_tables.specs.declared.tables.Tables.{Tables as TablesOf};
+ghost use Rattle.neli_tables_walk.specs.Json.{AreSoManyLines, IsJson};
 ghost use Rattle.neli_print.specs.declared.head.Header.{Header as HeaderOf};
 ghost use Rattle.neli_print.specs.Messages.{datagram_json, message_json};
 

@@ -2,7 +2,7 @@
 
 ghost use Rattle.std.specs.Prelude.{◌≡◌, Some};
 ghost use Rattle.neli_lent.specs.Messages.{message_said};
-ghost use Rattle.neli_tables_bodies.specs.Bodies.{body_seen};
+ghost use Rattle.neli_tables_walk.specs.Bodies.{body_seen};
 ghost use Rattle.neli_print.specs.Heads.{header_of};
 ghost use Rattle.neli_print.specs.Messages.{lines_with, members_with, message_json};
 ghost use Rattle.neli_print.specs.Messages.{message_text};
@@ -12,8 +12,8 @@ use crate::head::{Header, HeaderMembers, HeaderText};
 use crate::message_name::name_by;
 use crate::reply::{ReplyLines, ReplyMembers};
 use neli_lent::LentMessage;
-use neli_tables_bodies::{Body, body_of, is_answer};
-use neli_tables_rows::Tables;
+use neli_tables::Tables;
+use neli_tables_walk::{Body, body_of, is_answer};
 use std::fmt;
 
 /// A message, and the tables that it is read by.

@@ -2,13 +2,13 @@
 
 ghost use Rattle.std.specs.Prelude.{◌≡◌};
 ghost use Rattle.std.specs.Option.{option_map};
-ghost use Rattle.neli_tables_bodies.specs.Bodies.{body_seen};
+ghost use Rattle.neli_tables_walk.specs.Bodies.{body_seen};
 ghost use Rattle.neli_print.specs.Replies.{message_name, name_by};
 
 use crate::body::body_name;
 use crate::head::common_name;
-use neli_tables_bodies::{Body, Head, body_of};
-use neli_tables_rows::Tables;
+use neli_tables::Tables;
+use neli_tables_walk::{Body, Head, body_of};
 
 /// The name of a message of this type by its body's line, or else of a type that all protocols
 /// have.

@@ -7,10 +7,8 @@ ghost use Rattle.neli_print.specs.Names.{row_name, structure_members, structure_
 
 use crate::item::front_of;
 use crate::pieces::{Colour, escape};
-use neli_tables::Word;
-use neli_tables_rows::Table;
-use neli_tables_walk::{Nest, Step};
-use neli_values::{Fields, FieldsJson, FieldsText, Name, NameJson};
+use neli_tables::{Table, Word};
+use neli_tables_walk::{Fields, FieldsJson, FieldsText, Name, NameJson, Nest, Step};
 use std::fmt;
 
 /// The name of the line at this place; empty where there is none.

@@ -17,9 +17,8 @@ use crate::pieces::{Colour, escape, indent};
 use crate::rests::RestMember;
 use byteorder::{ByteOrder, LittleEndian};
 use neli_errno::Errno;
-use neli_tables_bodies::{Head, answer_of, body_of};
-use neli_tables_rows::Tables;
-use neli_values::{Bytes, Quoted};
+use neli_tables::Tables;
+use neli_tables_walk::{Bytes, Head, Quoted, answer_of, body_of};
 use std::fmt;
 
 /// The error of a code below 0, if it has a name.

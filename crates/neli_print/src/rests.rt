@@ -3,9 +3,8 @@
 ghost use Rattle.std.specs.Prelude.{◌≡◌, Some, drop};
 ghost use Rattle.neli_print.specs.Rests.{rest_member, rest_of, rest_words, size_at, struct_in};
 
-use neli_tables::Kind;
-use neli_tables_rows::Table;
-use neli_values::{Bytes, Hex};
+use neli_tables::{Kind, Table};
+use neli_tables_walk::{Bytes, Hex};
 use std::fmt;
 
 /// The bytes from this place on.

@@ -44,6 +44,8 @@ pub fn lent_items_are_read<T: NlType, P: FromBytesWithInput + Size>()
     ensures message { (m : Lent ℕ) (u : Message ℕ (List ℕ)) (x : Message T P) → Lends m u
         → u.header.message_type < 65536 → IsTyped T.wire_value P.view P.wire_length P.read u x
         → as_owned T.wire_value T.wire_number P.read (typed_header T.wire_value m.0, m.1)
-        ≡ Ok (typed_header T.wire_value u.header,
-        payload_stating (stated_echo u.payload) P.view x.payload) }
+        ≡ Ok (
+          typed_header T.wire_value u.header,
+          payload_stating (stated_echo u.payload) P.view x.payload,
+        ) }
 {}

@@ -21,8 +21,8 @@ use byteorder::{ByteOrder, LittleEndian};
 use indexmap::IndexMap;
 use neli_consts::{NLMSG_DONE, NLMSG_ERROR, NlmF};
 use neli_lent::LentMessage;
+use neli_log::hints::{Hints, put, value_of};
 use neli_log::{LentDelivery, Log};
-use neli_places::hints::{Hints, put, value_of};
 use neli_reader::SocketError;
 
 /// The error in place of a lent message: the [`RouterError`](neli_reader::RouterError) of that name, with nothing of it

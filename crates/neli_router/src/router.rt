@@ -23,7 +23,7 @@ use indexmap::IndexMap;
 use neli_consts::{NlType, NlmF};
 use neli_genl::Genlmsghdr;
 use neli_log::Log;
-use neli_places::hints::{Hints, put, value_of};
+use neli_log::hints::{Hints, put, value_of};
 use neli_reader::{NlPayload, Nlmsghdr, NlmsghdrBuilder, RouterError, SocketError};
 use neli_util::Groups;
 use neli_wire::implementing::length_refusal;

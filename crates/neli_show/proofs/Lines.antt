@@ -10,10 +10,10 @@ use Rattle.neli_inputs.specs.declared.item.Packet.{Packet}
 use Rattle.neli_inputs.specs.declared.item.Refusal.{Refusal}
 use Rattle.neli_inputs.specs.declared.item.Refusal.TheVariants as refusal
 use Rattle.neli_print.specs.laws.Printed.{datagram_json-lines}
-use Rattle.neli_tables_rows.specs.declared.tables.Tables.{Tables}
-use Rattle.neli_values.specs.Json.{AreSoManyLines, IsJson, is_plain, members, object}
-use Rattle.neli_values.specs.laws.Parts.{named, natural, plain_string}
-use Rattle.neli_values.specs.laws.Strings.{digits-plain, plain-append}
+use Rattle.neli_tables.specs.declared.tables.Tables.{Tables}
+use Rattle.neli_tables_walk.specs.Json.{AreSoManyLines, IsJson, is_plain, members, object}
+use Rattle.neli_tables_walk.specs.laws.Parts.{named, natural, plain_string}
+use Rattle.neli_tables_walk.specs.laws.Strings.{digits-plain, plain-append}
 use Rattle.neli_show.specs.Lines.{input_lines, packet_lines}
 use Rattle.neli_show.specs.Parts.{input_by, packet_by, packet_bytes, refusal_json}
 use Rattle.neli_show.specs.declared.request.Output.TheVariants as output

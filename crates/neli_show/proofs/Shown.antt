@@ -6,7 +6,7 @@ use Rattle.std.proofs.Math.Seq.{take-suc}
 use Rattle.std.proofs.lemmas.Grind.{flat_map-append}
 use Rattle.std.specs.Io.KnownBytes.{Appends}
 use Rattle.std.specs.List.{flat_map}
-use Rattle.neli_values.specs.Json.{AreLines, AreSoManyLines}
+use Rattle.neli_tables_walk.specs.Json.{AreLines, AreSoManyLines}
 use Rattle.neli_show.specs.declared.request.Output.{Output}
 use Rattle.neli_show.specs.declared.request.Output.TheVariants as output
 use Rattle.neli_show.specs.declared.request.Request.{Request}

@@ -6,11 +6,11 @@ use Rattle.neli_inputs.specs.declared.item.Packet.{Packet}
 use Rattle.neli_inputs.specs.declared.item.Refusal.{Refusal}
 use Rattle.neli_lent.specs.Messages.{Lent, messages_in}
 use Rattle.neli_lent.specs.Walks.{items_of}
-use Rattle.neli_tables_bodies.specs.Controller.{family_said, learnt_from}
-use Rattle.neli_tables_bodies.specs.declared.head.Head.{Head}
-use Rattle.neli_tables_bodies.specs.Built.{AreRead, built_in_headings}
-use Rattle.neli_tables_rows.specs.Families.{Lines, generic_in, learnt, learnt_as, tables_in}
-use Rattle.neli_tables_rows.specs.declared.tables.Tables.{Tables}
+use Rattle.neli_tables_walk.specs.Controller.{family_said, learnt_from}
+use Rattle.neli_tables_walk.specs.declared.head.Head.{Head}
+use Rattle.neli_tables_walk.specs.Built.{AreRead, built_in_headings}
+use Rattle.neli_tables.specs.Families.{Lines, generic_in, learnt, learnt_as, tables_in}
+use Rattle.neli_tables.specs.declared.tables.Tables.{Tables}
 use Rattle.neli_wire.specs.DeError.{DeError}
 use Rattle.neli_show.specs.Families.{family_in}
 use Rattle.neli_show.specs.Parts.{packet_bytes}

@@ -9,7 +9,7 @@ use Rattle.neli_inputs.specs.declared.item.Packet.{Packet}
 use Rattle.neli_inputs.specs.declared.item.Refusal.{Refusal}
 use Rattle.neli_lent.specs.Messages.{messages_in}
 use Rattle.neli_lent.specs.Walks.{items_of}
-use Rattle.neli_values.specs.Json.{AreSoManyLines}
+use Rattle.neli_tables_walk.specs.Json.{AreSoManyLines}
 use Rattle.neli_show.specs.Parts.{packet_bytes}
 
 -- a text with P is written

@@ -11,7 +11,7 @@ use Rattle.neli_inputs.specs.declared.item.Refusal.{Refusal}
 use Rattle.neli_print.specs.Messages.{datagram_json, datagram_text}
 use Rattle.neli_print.specs.Pieces.{painted}
 use Rattle.neli_print.specs.declared.pieces.Colour.TheVariants as colour
-use Rattle.neli_tables_rows.specs.declared.tables.Tables.{Tables}
+use Rattle.neli_tables.specs.declared.tables.Tables.{Tables}
 use Rattle.neli_show.specs.declared.request.Output.{Output}
 use Rattle.neli_show.specs.declared.request.Output.TheVariants as output
 

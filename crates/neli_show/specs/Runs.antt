@@ -1,5 +1,6 @@
 -- How a run ends.
-use Rattle.std.specs.Prelude.{◌≡◌, ℕ, ◌-◌, Bool, true, false, List, [], ◌∷◌, ◌++◌, length, map, codes, slice_get}
+use Rattle.std.specs.Prelude.{◌≡◌, ℕ, ◌-◌, Bool, true, false, List, [], ◌∷◌, ◌++◌, length, map, codes}
+use Rattle.std.specs.Prelude.{slice_get}
 use Rattle.std.specs.Prelude.{string_bytes, Option, Some, None, Result, Ok, Err}
 use Rattle.std.specs.Io.KnownBytes.{Appends}
 use Rattle.std.specs.IoError.{error_kind}
@@ -12,7 +13,7 @@ use Rattle.std.specs.declared.string.String.{String}
 use Rattle.std.specs.declared.vec.Vec.{Vec}
 use Rattle.neli_inputs.specs.Inputs.{IsInput}
 use Rattle.neli_inputs.specs.declared.item.Item.{Item}
-use Rattle.neli_tables_rows.specs.declared.tables.Tables.{Tables}
+use Rattle.neli_tables.specs.declared.tables.Tables.{Tables}
 use Rattle.neli_show.specs.declared.request.Request.{Request}
 use Rattle.neli_show.specs.declared.run.Status.{Status}
 use Rattle.neli_show.specs.declared.run.Status.TheVariants as status

@@ -2,15 +2,16 @@
 
 ghost use Rattle.std.specs.Prelude.{◌≡◌, ℕ, IsErr, IsOk, None, OnOk};
 ghost use Rattle.std.specs.Option.{option_map};
-ghost use Rattle.neli_show.specs.Learnt.{datagram_learnt, input_learnt, packet_learnt, word_family, word_learnt};
-ghost use Rattle.neli_tables_rows.specs.Families.{learnt, tables_in};
+ghost use Rattle.neli_show.specs.Learnt.{datagram_learnt, input_learnt, packet_learnt, word_family};
+ghost use Rattle.neli_show.specs.Learnt.{word_learnt};
+ghost use Rattle.neli_tables.specs.Families.{learnt, tables_in};
 
 use crate::family::family_of;
 use crate::part::packet_bytes;
 use neli_inputs::{Input, Item};
 use neli_lent::LentMessages;
-use neli_tables_bodies::{Head, learn_from};
-use neli_tables_rows::Tables;
+use neli_tables::Tables;
+use neli_tables_walk::{Head, learn_from};
 use std::alloc::AllocError;
 
 /// Learns the number of a family from a word, if that names one.

@@ -6,7 +6,7 @@ ghost use Rattle.neli_show.specs.Parts.{datagram_by, packet_bytes, part_by, refu
 use crate::request::Output;
 use neli_inputs::{Item, Packet, Refusal};
 use neli_print::{Colour, Datagram, DatagramJson, DatagramText, escape};
-use neli_tables_rows::Tables;
+use neli_tables::Tables;
 use std::fmt;
 
 /// The bytes of a datagram of an input.

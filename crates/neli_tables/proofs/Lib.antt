@@ -1,6 +1,9 @@
 mod Found
-mod Options
+mod OptionLines
 mod Passed
 mod Places
 mod Reading
 mod Texts
+mod Keyed
+mod Noted
+mod PassedRows

@@ -1,5 +1,6 @@
 -- The lines of a text, one after the other.
-use Rattle.std.proofs.Common.{Bor, get_or, ◌<◌, ◌≡◌, ◌∙◌, ℕ, ◌+◌, List, [], ◌∷◌, ◌++◌, length, drop, map, Option, Result}
+use Rattle.std.proofs.Common.{Bor, get_or, ◌<◌, ◌≡◌, ◌∙◌, ℕ, ◌+◌, List, [], ◌∷◌, ◌++◌, length, drop, map}
+use Rattle.std.proofs.Common.{Option, Result}
 use Rattle.std.proofs.Common.{Ok, Err, refl, sym, ap, append_assoc}
 use mathlib.Core.Path.{fun_ext}
 use Rattle.std.proofs.lemmas.List.{append-nil}
@@ -10,7 +11,8 @@ use Rattle.neli_tables.specs.declared.why.Why.{Why}
 use Rattle.neli_tables.specs.declared.word.Word.{Word}
 use Rattle.neli_tables.specs.Lines.{LineSeen, line_seen}
 use Rattle.neli_tables.specs.Refusals.{Reads}
-use Rattle.neli_tables.specs.Schemas.{IsWhyNot, before, error_at, line_at, lines_from, section_after, with_line}
+use Rattle.neli_tables.specs.Schemas.{IsWhyNot, before, error_at, line_at, lines_from, section_after}
+use Rattle.neli_tables.specs.Schemas.{with_line}
 use Rattle.neli_tables.specs.Text.{worded_seen}
 use Rattle.neli_tables.proofs.Places.{line_left}
 

@@ -1,8 +1,10 @@
 -- The options of a line, except its kind (docs/TABLES.md).
 use Rattle.std.specs.Prelude.{ℕ, List, [], ◌∷◌, Option, codes}
 use Rattle.neli_tables.specs.declared.key.Key.{Key}
-use Rattle.neli_tables.specs.declared.key.Key.TheVariants.{After, By, ByFamily, Enum, Flags, Array, Multi, Length, Range}
-use Rattle.neli_tables.specs.declared.key.Key.TheVariants.{Mask, Hex, Request, Reply, Family, Version, Id, At, Prefix}
+use Rattle.neli_tables.specs.declared.key.Key.TheVariants.{After, By, ByFamily, Enum, Flags, Array}
+use Rattle.neli_tables.specs.declared.key.Key.TheVariants.{Multi, Length, Range}
+use Rattle.neli_tables.specs.declared.key.Key.TheVariants.{Mask, Hex, Request, Reply, Family, Version}
+use Rattle.neli_tables.specs.declared.key.Key.TheVariants.{Id, At, Prefix}
 use Rattle.neli_tables.specs.Rows.{named}
 
 -- each name, and its option

@@ -1,9 +1,12 @@
 -- The kinds of a payload, a field, a body or a case (docs/TABLES.md).
 use Rattle.std.specs.Prelude.{ℕ, List, [], ◌∷◌, Option, codes}
 use Rattle.neli_tables.specs.declared.kind.Kind.{Kind}
-use Rattle.neli_tables.specs.declared.kind.Kind.TheVariants.{Flag, U8, U16, U32, U64, S8, S16, S32, S64, Be16, Be32, Be64, Sbe32}
-use Rattle.neli_tables.specs.declared.kind.Kind.TheVariants.{Uint, Sint, Text, Ztext, Hardware, Ipv4, Ipv6, Ip, Address, Sockaddr}
-use Rattle.neli_tables.specs.declared.kind.Kind.TheVariants.{Uuid, Bits, Struct, Nest, Hops, Choice, Bytes, Pad}
+use Rattle.neli_tables.specs.declared.kind.Kind.TheVariants.{Flag, U8, U16, U32, U64, S8, S16, S32, S64}
+use Rattle.neli_tables.specs.declared.kind.Kind.TheVariants.{Be16, Be32, Be64, Sbe32}
+use Rattle.neli_tables.specs.declared.kind.Kind.TheVariants.{Uint, Sint, Text, Ztext, Hardware, Ipv4}
+use Rattle.neli_tables.specs.declared.kind.Kind.TheVariants.{Ipv6, Ip, Address, Sockaddr}
+use Rattle.neli_tables.specs.declared.kind.Kind.TheVariants.{Uuid, Bits, Struct, Nest, Hops, Choice}
+use Rattle.neli_tables.specs.declared.kind.Kind.TheVariants.{Bytes, Pad}
 use Rattle.neli_tables.specs.Rows.{named}
 
 -- each name, and its kind

@@ -9,3 +9,9 @@ pub mod Schemas
 pub mod Settings
 pub mod Text
 pub mod Words
+pub mod Bits
+pub mod Families
+pub mod Index
+pub mod RowKeys
+pub mod Options
+pub mod FoundRows

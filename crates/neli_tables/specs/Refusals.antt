@@ -3,8 +3,10 @@ use Rattle.std.specs.Prelude.{⊤, ◌≡◌, ℕ, List, codes, Result, Ok, Err}
 use Rattle.neli_tables.specs.declared.why.Unread.{Unread}
 use Rattle.neli_tables.specs.declared.why.Unread.TheVariants.{Memory, Refused}
 use Rattle.neli_tables.specs.declared.why.Why.{Why}
-use Rattle.neli_tables.specs.declared.why.Why.TheVariants.{UnknownWord, NameMissing, NumberMissing, NumberElsewhere}
-use Rattle.neli_tables.specs.declared.why.Why.TheVariants.{NotANumber, UnknownOption, Value, Twice, OptionElsewhere}
+use Rattle.neli_tables.specs.declared.why.Why.TheVariants.{UnknownWord, NameMissing, NumberMissing}
+use Rattle.neli_tables.specs.declared.why.Why.TheVariants.{NumberElsewhere}
+use Rattle.neli_tables.specs.declared.why.Why.TheVariants.{NotANumber, UnknownOption, Value, Twice}
+use Rattle.neli_tables.specs.declared.why.Why.TheVariants.{OptionElsewhere}
 use Rattle.neli_tables.specs.declared.why.Why.TheVariants.{FamilyFirst, RowElsewhere, NothingNamed}
 
 abbrev pub why_text : Why → List ℕ

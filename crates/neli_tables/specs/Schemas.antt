@@ -1,5 +1,6 @@
 -- A text of a family: its lines, each in a valid place, or its first bad line.
-use Rattle.std.specs.Prelude.{⊤, ◌≡◌, ℕ, Bool, true, false, if◌then◌else◌, List, [], ◌∷◌, ◌++◌, codes, Option, Some, None}
+use Rattle.std.specs.Prelude.{⊤, ◌≡◌, ℕ, Bool, true, false, if◌then◌else◌, List, [], ◌∷◌, ◌++◌, codes}
+use Rattle.std.specs.Prelude.{Option, Some, None}
 use Rattle.std.specs.Prelude.{Result, Ok, Err}
 use Rattle.std.specs.Fmt.{decimal}
 use Rattle.neli_tables.specs.declared.schema.ReadError.{ReadError}

@@ -1,7 +1,8 @@
 -- The first words of lines (docs/TABLES.md).
 use Rattle.std.specs.Prelude.{ℕ, List, [], ◌∷◌, Option, codes}
 use Rattle.neli_tables.specs.declared.word.Word.{Word}
-use Rattle.neli_tables.specs.declared.word.Word.TheVariants.{Family, Group, Message, Struct, Field, Set, Attr, Each, Choice}
+use Rattle.neli_tables.specs.declared.word.Word.TheVariants.{Family, Group, Message, Struct, Field, Set}
+use Rattle.neli_tables.specs.declared.word.Word.TheVariants.{Attr, Each, Choice}
 use Rattle.neli_tables.specs.declared.word.Word.TheVariants.{Case, Else, Enum, Flags, Value}
 use Rattle.neli_tables.specs.Rows.{named}
 

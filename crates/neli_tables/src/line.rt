@@ -1,7 +1,8 @@
 //! A line, read from its words.
 
 ghost use Rattle.std.specs.Prelude.{◌≡◌, map};
-ghost use Rattle.neli_tables.specs.Lines.{after_number, all_belong, belongs, class_of, is_countable, key_belongs};
+ghost use Rattle.neli_tables.specs.Lines.{after_number, all_belong, belongs, class_of, is_countable};
+ghost use Rattle.neli_tables.specs.Lines.{key_belongs};
 ghost use Rattle.neli_tables.specs.Lines.{kind_in, kind_said, line_in, line_seen, line_with, no_number};
 ghost use Rattle.neli_tables.specs.Lines.{number_allowed, number_at, number_in, numbers_of};
 ghost use Rattle.neli_tables.specs.Names.{finds};

@@ -5,7 +5,8 @@ ghost use Rattle.std.specs.List.{position};
 ghost use Rattle.std.specs.Option.{option_map};
 ghost use Rattle.neli_tables.specs.Names.{finds};
 ghost use Rattle.neli_tables.specs.Refusals.{Reads, seen_as};
-ghost use Rattle.neli_tables.specs.Settings.{has_slot, said_named, setting_in, setting_seen, settings_in, settings_seen};
+ghost use Rattle.neli_tables.specs.Settings.{has_slot, said_named, setting_in, setting_seen, settings_in};
+ghost use Rattle.neli_tables.specs.Settings.{settings_seen};
 ghost use Rattle.neli_tables.specs.Settings.{setting_with, slot, taken, takes, value_in, value_or_none};
 ghost use Rattle.neli_tables.specs.Settings.{value_seen};
 

@@ -1,7 +1,7 @@
 -- The attribute at an offset of a message.
 use Rattle.std.specs.Prelude.{ℕ, ◌-◌, nat_lt, if◌then◌else◌, List, Option, Some, None}
-use Rattle.neli_tables_bodies.specs.declared.generic.GenericHeader.{GenericHeader}
-use Rattle.neli_tables_bodies.specs.Bodies.{BodySeen, body_context, body_shape}
+use Rattle.neli_tables_walk.specs.declared.generic.GenericHeader.{GenericHeader}
+use Rattle.neli_tables_walk.specs.Bodies.{BodySeen, body_context, body_shape}
 use Rattle.neli_tables_walk.specs.declared.item.Step.{Step}
 use Rattle.neli_tables_walk.specs.declared.shape.Shape.{Shape}
 use Rattle.neli_tables_walk.specs.declared.shape.Shape.TheVariants.{Nest}

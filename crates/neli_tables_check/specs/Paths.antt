@@ -7,7 +7,7 @@ use Rattle.neli_tables.specs.declared.word.Word.TheVariants as word
 use Rattle.neli_tables.specs.Lines.{LineSeen}
 use Rattle.neli_tables_walk.specs.declared.item.Step.{Step}
 use Rattle.neli_tables_walk.specs.Shapes.{Lines}
-use Rattle.neli_values.specs.Names.{name_text}
+use Rattle.neli_tables_walk.specs.Names.{name_text}
 
 abbrev pub name_by : Word → List ℕ → Option (List ℕ)
 name_by word.Attr name = Some name

@@ -5,11 +5,11 @@ use Rattle.std.specs.Fmt.{decimal}
 use Rattle.std.specs.Option.{option_map}
 use Rattle.byteorder.specs.Endian.{little_number}
 use Rattle.neli_errno.specs.Errnos.{Row, errno_of, errno_text}
-use Rattle.neli_tables_bodies.specs.Bodies.{BodySeen}
-use Rattle.neli_tables_bodies.specs.Controller.{first_payload}
+use Rattle.neli_tables_walk.specs.Bodies.{BodySeen}
+use Rattle.neli_tables_walk.specs.Controller.{first_payload}
 use Rattle.neli_tables_walk.specs.declared.item.Step.{Step}
-use Rattle.neli_values.specs.Breaches.{without_zero}
-use Rattle.neli_values.specs.Names.{name_text}
+use Rattle.neli_tables_walk.specs.Breaches.{without_zero}
+use Rattle.neli_tables_walk.specs.Names.{name_text}
 use Rattle.neli_tables_check.specs.declared.place.Place.{Place}
 use Rattle.neli_tables_check.specs.Offsets.{found_at}
 use Rattle.neli_tables_check.specs.Paths.{path_text}

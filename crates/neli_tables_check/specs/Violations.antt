@@ -8,20 +8,20 @@ use Rattle.std.specs.Option.{option_or}
 use Rattle.neli_tables.specs.declared.kind.Kind.{Kind}
 use Rattle.neli_tables.specs.declared.kind.Kind.TheVariants as kind
 use Rattle.neli_tables.specs.declared.number.Span.{Span}
-use Rattle.neli_tables_rows.specs.declared.options.Options.{Options}
-use Rattle.neli_tables_bodies.specs.Bodies.{BodySeen, body_items, body_shape}
+use Rattle.neli_tables.specs.declared.options.Options.{Options}
+use Rattle.neli_tables_walk.specs.Bodies.{BodySeen, body_items, body_shape}
 use Rattle.neli_tables_walk.specs.declared.item.Step.{Step}
 use Rattle.neli_tables_walk.specs.declared.shape.Shape.{Shape}
 use Rattle.neli_tables_walk.specs.declared.shape.Shape.TheVariants as shape
 use Rattle.neli_tables_walk.specs.Shapes.{Lines, line_options}
 use Rattle.neli_tables_walk.specs.Walks.{Seen}
-use Rattle.neli_values.specs.declared.breach.Breach.{Breach}
-use Rattle.neli_values.specs.declared.breach.Breach.TheVariants.{Shorter}
-use Rattle.neli_values.specs.declared.number.Number.{Number}
-use Rattle.neli_values.specs.declared.number.Width.{Width}
-use Rattle.neli_values.specs.Breaches.{breach_text, without_zero}
-use Rattle.neli_values.specs.Numbers.{number_in, width_of}
-use Rattle.neli_values.specs.Values.{payload_breach}
+use Rattle.neli_tables_walk.specs.declared.breach.Breach.{Breach}
+use Rattle.neli_tables_walk.specs.declared.breach.Breach.TheVariants.{Shorter}
+use Rattle.neli_tables_walk.specs.declared.number.Number.{Number}
+use Rattle.neli_tables_walk.specs.declared.number.Width.{Width}
+use Rattle.neli_tables_walk.specs.Breaches.{breach_text, without_zero}
+use Rattle.neli_tables_walk.specs.Numbers.{number_in, width_of}
+use Rattle.neli_tables_walk.specs.Values.{payload_breach}
 use Rattle.neli_tables_check.specs.declared.violation.Violation.{Violation}
 use Rattle.neli_tables_check.specs.declared.wrong.Wrong.{Wrong}
 use Rattle.neli_tables_check.specs.declared.wrong.Wrong.TheVariants as wrong

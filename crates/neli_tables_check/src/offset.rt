@@ -2,13 +2,12 @@
 
 ghost use Rattle.std.specs.Prelude.{◌≡◌};
 ghost use Rattle.std.specs.Option.{option_map};
-ghost use Rattle.neli_tables_bodies.specs.Bodies.{body_seen};
+ghost use Rattle.neli_tables_walk.specs.Bodies.{body_seen};
 ghost use Rattle.neli_tables_check.specs.Offsets.{body_start, found_at};
 
 use crate::Place;
 use neli_consts::MESSAGE_HEADER_SIZE;
-use neli_tables_bodies::{Body, GENERIC_HEADER_SIZE};
-use neli_tables_walk::Shape;
+use neli_tables_walk::{Body, GENERIC_HEADER_SIZE, Shape};
 
 /// The attribute or the hop that contains an offset, its header and its padding included: of nests
 /// the innermost, of ten at most. The offset counts from the first byte of the message whose body

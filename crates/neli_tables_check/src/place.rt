@@ -6,10 +6,8 @@ ghost use Rattle.neli_tables.specs.Lines.{line_seen};
 ghost use Rattle.neli_tables_check.specs.Paths.{attr_name, later_text, path_text, step_name};
 ghost use Rattle.neli_tables_check.specs.Paths.{step_text};
 
-use neli_tables::{Line, Word};
-use neli_tables_rows::Table;
-use neli_tables_walk::{Path, Step};
-use neli_values::Name;
+use neli_tables::{Line, Table, Word};
+use neli_tables_walk::{Name, Path, Step};
 use std::fmt;
 
 /// A path by the names of a table, with dots between them: an attribute without a row of its own by

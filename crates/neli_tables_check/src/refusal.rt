@@ -2,7 +2,7 @@
 
 ghost use Rattle.std.specs.Prelude.{◌≡◌, Some};
 ghost use Rattle.std.specs.Option.{option_map};
-ghost use Rattle.neli_tables_bodies.specs.Bodies.{body_seen};
+ghost use Rattle.neli_tables_walk.specs.Bodies.{body_seen};
 ghost use Rattle.neli_tables_check.specs.Refusals.{error_text, offset_in, place_of, place_text};
 ghost use Rattle.neli_tables_check.specs.Refusals.{refusal_text, said_text, text_of};
 
@@ -10,8 +10,7 @@ use crate::{Place, find};
 use byteorder::{ByteOrder, LittleEndian};
 use neli_consts::NlmsgerrAttr;
 use neli_errno::Errno;
-use neli_tables_bodies::{Body, first_payload};
-use neli_values::{Name, without_zero};
+use neli_tables_walk::{Body, Name, first_payload, without_zero};
 use std::fmt;
 
 /// An error of the kernel and what its acknowledgement says: in one line, as

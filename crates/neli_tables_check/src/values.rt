@@ -7,10 +7,10 @@ ghost use Rattle.neli_tables_check.specs.Violations.{range_wrong, row_wrong, sha
 ghost use Rattle.neli_tables_check.specs.Violations.{text_length, values_wrong};
 
 use crate::Wrong;
-use neli_tables::{Kind, Span};
-use neli_tables_rows::{Options, Table, options_of};
-use neli_tables_walk::Shape;
-use neli_values::{Breach, Number, Payload, breach_of, number_in, width_of, without_zero};
+use neli_tables::{Kind, Options, Span, Table, options_of};
+use neli_tables_walk::{
+    Breach, Number, Payload, Shape, breach_of, number_in, width_of, without_zero,
+};
 
 /// What the rows of a payload do not allow: that of its attribute, and what its shape says.
 pub fn shape_wrong(

@@ -1,7 +1,7 @@
 //! Checks a body by its table.
 
 ghost use Rattle.std.specs.Prelude.{◌≡◌, Some};
-ghost use Rattle.neli_tables_bodies.specs.Bodies.{body_seen};
+ghost use Rattle.neli_tables_walk.specs.Bodies.{body_seen};
 ghost use Rattle.neli_tables_walk.specs.Walks.{item_seen};
 ghost use Rattle.neli_tables_check.specs.Violations.{check_seen, items_violation, last_row};
 ghost use Rattle.neli_tables_check.specs.Violations.{violation_in, violation_seen, violation_text};
@@ -9,9 +9,8 @@ ghost use Rattle.neli_tables_check.specs.Violations.{wrong_of};
 
 use crate::values::shape_wrong;
 use crate::{Place, Wrong};
-use neli_tables_bodies::Body;
-use neli_tables_rows::Table;
-use neli_tables_walk::{Item, Path, Step, Walk};
+use neli_tables::Table;
+use neli_tables_walk::{Body, Item, Path, Step, Walk};
 use std::fmt;
 
 /// The first attribute that its row does not allow, and what that is.

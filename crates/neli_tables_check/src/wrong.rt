@@ -4,7 +4,7 @@ ghost use Rattle.std.specs.Prelude.{Some};
 ghost use Rattle.neli_tables_check.specs.Violations.{wrong_text};
 
 use neli_tables::Span;
-use neli_values::Breach;
+use neli_tables_walk::Breach;
 use std::fmt;
 
 /// What a row does not allow.

@@ -3,3 +3,7 @@ mod Lists
 mod Neighbours
 pub mod Offsets
 mod Walks
+pub mod Attributes
+pub mod BodyTexts
+mod ValueLists
+mod ValueTexts

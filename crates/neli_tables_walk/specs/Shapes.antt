@@ -8,12 +8,12 @@ use Rattle.neli_tables.specs.declared.kind.Kind.{Kind}
 use Rattle.neli_tables.specs.declared.kind.Kind.TheVariants as kind
 use Rattle.neli_tables.specs.declared.number.Span.{Span}
 use Rattle.neli_tables.specs.Lines.{LineSeen}
-use Rattle.neli_tables_rows.specs.declared.options.Options.{Options}
-use Rattle.neli_tables_rows.specs.Bits.{mask_of}
-use Rattle.neli_tables_rows.specs.Keys.{place_of, rest_key}
-use Rattle.neli_tables_rows.specs.Options.{options_of}
-use Rattle.neli_tables_rows.specs.Rows.{case_in, row_in}
-use Rattle.neli_values.specs.Breaches.{without_zero}
+use Rattle.neli_tables.specs.declared.options.Options.{Options}
+use Rattle.neli_tables.specs.Bits.{mask_of}
+use Rattle.neli_tables.specs.RowKeys.{place_of, rest_key}
+use Rattle.neli_tables.specs.Options.{options_of}
+use Rattle.neli_tables.specs.FoundRows.{case_in, row_in}
+use Rattle.neli_tables_walk.specs.Breaches.{without_zero}
 use Rattle.neli_tables_walk.specs.declared.context.Context.{Context}
 use Rattle.neli_tables_walk.specs.declared.level.Level.{Level}
 use Rattle.neli_tables_walk.specs.declared.level.Listed.{Listed}

@@ -6,7 +6,7 @@ use Rattle.std.specs.List.{flat_map}
 use Rattle.neli_attr.specs.AttrType.{AttrType}
 use Rattle.neli_wire.specs.DeError.{DeError}
 use Rattle.neli_wire.specs.Sizes.{align}
-use Rattle.neli_tables_rows.specs.Rows.{row_in}
+use Rattle.neli_tables.specs.FoundRows.{row_in}
 use Rattle.neli_tables_walk.specs.declared.item.Found.{Found}
 use Rattle.neli_tables_walk.specs.declared.item.Item.{Item}
 use Rattle.neli_tables_walk.specs.declared.item.Rest.{Rest}

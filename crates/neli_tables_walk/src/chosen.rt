@@ -8,13 +8,11 @@ ghost use Rattle.neli_tables_walk.specs.Shapes.{kind_at, listed_seen, number_by}
 ghost use Rattle.neli_tables_walk.specs.Shapes.{number_in, numbered, onto, picked_as, picker};
 ghost use Rattle.byteorder.specs.Endian.{big_number, little_number};
 
-use crate::Context;
 use crate::level::{Level, Listed};
+use crate::{Context, without_zero};
 use byteorder::{BigEndian, ByteOrder, LittleEndian};
 use neli_lent::LentNlattr;
-use neli_tables::Kind;
-use neli_tables_rows::Options;
-use neli_values::without_zero;
+use neli_tables::{Kind, Options};
 use neli_wire::Cursor;
 
 /// Among how many attributes at the front of a list that which picks a case is sought.

@@ -9,8 +9,7 @@ ghost use Rattle.neli_tables_walk.specs.Shapes.{onto, options_shape, row_shape, 
 
 use crate::level::{Level, Listed};
 use crate::{Nest, Shape};
-use neli_tables::Kind;
-use neli_tables_rows::{Options, Table};
+use neli_tables::{Kind, Options, Table};
 
 /// What payloads are read by: a family's table, and the address family of the message.
 #[derive(Clone, Copy)]

@@ -1,4 +1,4 @@
-//! Tests of `neli_tables_bodies`: which line of which table recorded messages have, what the controller says of a
+//! Tests of `neli_tables_walk`: which line of which table recorded messages have, what the controller says of a
 //! family, and the tables that are built in.
 //!
 //! Which message a recording is, is what `manifest.json` of the recordings says that was asked or had happened, by the

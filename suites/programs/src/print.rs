@@ -7,7 +7,7 @@
 
 use hex::decode;
 use neli_print::{Datagram, DatagramJson, DatagramText};
-use neli_tables_bodies::built_in;
+use neli_tables_walk::built_in;
 use std::alloc::Global;
 use std::fmt::Write;
 use std::test::Fail;

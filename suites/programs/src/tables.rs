@@ -1,4 +1,4 @@
-//! Tests of `neli_tables`, `neli_tables_rows` and `neli_tables_walk`: what a text says, the line for
+//! Tests of `neli_tables` and `neli_tables_walk`: what a text says, the line for
 //! which it is refused, what is found in it, and what a walk gives by it.
 //!
 //! What is expected was worked out by hand from docs/TABLES.md, and is what `tables/form.py` says of the same texts.

@@ -1,13 +1,13 @@
-//! Payloads as text and as JSON by the lines of a table: `neli_values`.
+//! Payloads as text and as JSON by the lines of a table: `neli_tables_walk`.
 //!
 //! What is expected was worked out by hand from docs/TABLES.md and the kernel's headers: bits and
 //! values of `linux/if.h` and `linux/rtnetlink.h`, `struct nla_bitfield32` of `linux/netlink.h`,
 //! `struct sockaddr_in` and `sockaddr_in6` of `linux/in.h` and `linux/in6.h`; texts of addresses
 //! are those of Python's `ipaddress` and `uuid`.
 
+use neli_tables::Table;
 use neli_tables_routing::RoutingTable;
-use neli_tables_rows::Table;
-use neli_values::{
+use neli_tables_walk::{
     Fields, FieldsJson, FieldsText, Name, NameJson, Payload, PayloadJson, PayloadText, breach_of,
 };
 use std::alloc::Global;

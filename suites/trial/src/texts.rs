@@ -4,10 +4,9 @@
 use crate::agree::{Trouble, agree};
 use crate::changes::{below, one_of};
 use neli::err::NoMemory;
-use neli_tables::{ReadError, Word};
+use neli_tables::{ReadError, Table, Word, options_of};
 use neli_tables_generic::GenericTable;
 use neli_tables_routing::RoutingTable;
-use neli_tables_rows::{Table, options_of};
 use neli_tables_system::SystemTable;
 use neli_tables_walk::{Context, Shape, Walk};
 use rand::RngExt;

@@ -12,34 +12,34 @@ use Rattle.neli_attr.specs.AttrType.{AttrType}
 use Rattle.neli_errno.specs.Errnos.{Row as ErrnoRow}
 use Rattle.neli_lent.specs.Messages.{Lent, messages_in}
 use Rattle.neli_lent.specs.Walks.{fault_item, items_of}
-use Rattle.neli_tables_bodies.specs.declared.generic.GenericHeader.{GenericHeader}
-use Rattle.neli_tables_bodies.specs.declared.head.Head.{Head}
-use Rattle.neli_tables_bodies.specs.Bodies.{BodySeen, answer_in, body_context, body_in, body_shape}
-use Rattle.neli_tables_bodies.specs.Bodies.{is_answer}
-use Rattle.neli_tables_rows.specs.declared.tables.Tables.{Tables}
+use Rattle.neli_tables_walk.specs.declared.generic.GenericHeader.{GenericHeader}
+use Rattle.neli_tables_walk.specs.declared.head.Head.{Head}
+use Rattle.neli_tables_walk.specs.Bodies.{BodySeen, answer_in, body_context, body_in, body_shape}
+use Rattle.neli_tables_walk.specs.Bodies.{is_answer}
+use Rattle.neli_tables.specs.declared.tables.Tables.{Tables}
 use Rattle.neli_tables_walk.specs.declared.item.Step.{Step}
 use Rattle.neli_tables_walk.specs.declared.shape.Nest.{Nest}
 use Rattle.neli_tables_walk.specs.declared.shape.Shape.{Shape}
 use Rattle.neli_tables_walk.specs.declared.shape.Shape.TheVariants as shape
 use Rattle.neli_tables_walk.specs.Shapes.{ContextSeen}
 use Rattle.neli_tables_walk.specs.Walks.{Said, Seen, walk_items}
-use Rattle.neli_values.specs.declared.breach.Breach.{Breach}
-use Rattle.neli_values.specs.declared.breach.Breach.TheVariants.{Shorter}
-use Rattle.neli_values.specs.Breaches.{breach_text}
-use Rattle.neli_values.specs.Fields.{fields_json}
-use Rattle.neli_values.specs.Hex.{bytes_json, hex_text}
-use Rattle.neli_values.specs.Json.{AreElements, AreMembers, AreSoManyLines, IsChars, IsJson, IsLine}
-use Rattle.neli_values.specs.Json.{both, is_plain, member, members, object, plain, string, truth}
-use Rattle.neli_values.specs.Json.{integer}
-use Rattle.neli_values.specs.Names.{name_json, name_text}
-use Rattle.neli_values.specs.Quoted.{quoted}
-use Rattle.neli_values.specs.Values.{payload_breach, payload_json}
-use Rattle.neli_values.specs.laws.Parts.{FirstElements, Turns, array_of, comma, first_elements_more}
-use Rattle.neli_values.specs.laws.Parts.{named, natural, part, plain_string, turns_then}
-use Rattle.neli_values.specs.laws.Strings.{digits-plain, plain-append, quoted-string}
-use Rattle.neli_values.specs.laws.Values.{breach-plain, bytes_json-json, fields_json-json}
-use Rattle.neli_values.specs.laws.Values.{hex-plain, name_json-json, name_text-chars}
-use Rattle.neli_values.specs.laws.Values.{payload_json-json}
+use Rattle.neli_tables_walk.specs.declared.breach.Breach.{Breach}
+use Rattle.neli_tables_walk.specs.declared.breach.Breach.TheVariants.{Shorter}
+use Rattle.neli_tables_walk.specs.Breaches.{breach_text}
+use Rattle.neli_tables_walk.specs.Fields.{fields_json}
+use Rattle.neli_tables_walk.specs.Hex.{bytes_json, hex_text}
+use Rattle.neli_tables_walk.specs.Json.{AreElements, AreMembers, AreSoManyLines, IsChars, IsJson, IsLine}
+use Rattle.neli_tables_walk.specs.Json.{both, is_plain, member, members, object, plain, string, truth}
+use Rattle.neli_tables_walk.specs.Json.{integer}
+use Rattle.neli_tables_walk.specs.Names.{name_json, name_text}
+use Rattle.neli_tables_walk.specs.Quoted.{quoted}
+use Rattle.neli_tables_walk.specs.Values.{payload_breach, payload_json}
+use Rattle.neli_tables_walk.specs.laws.Parts.{FirstElements, Turns, array_of, comma, first_elements_more}
+use Rattle.neli_tables_walk.specs.laws.Parts.{named, natural, part, plain_string, turns_then}
+use Rattle.neli_tables_walk.specs.laws.Strings.{digits-plain, plain-append, quoted-string}
+use Rattle.neli_tables_walk.specs.laws.Values.{breach-plain, bytes_json-json, fields_json-json}
+use Rattle.neli_tables_walk.specs.laws.Values.{hex-plain, name_json-json, name_text-chars}
+use Rattle.neli_tables_walk.specs.laws.Values.{payload_json-json}
 use Rattle.neli_wire.specs.DeError.{DeError}
 use Rattle.neli_wire.specs.DeError.TheVariants as de
 use Rattle.neli_print.specs.declared.flags.FlagForm.TheVariants.{Strings}

@@ -15,12 +15,12 @@ use neli::implementing::bodies::laws::{attributes_are_read_back, body_is_read_ba
 use neli::rtnl::NdaCacheinfo;
 use neli::rtnl::laws::{
     addresses_and_counters_are_their_bytes, attributes_begin_after_the_fields, bodies_are_read,
-    bodies_are_written, bodies_take_memory_for_attributes, cache_entries_are_their_fields, equality_of_links, equality_of_routes,
-    fibmsg_is_read_back, hardware_address_is_its_text, headers_are_plain_by_their_fields,
-    ifaddrmsg_is_read_back, ifinfomsg_is_read_back, ifla_vlan_flags_is_read_back,
-    ifla_vlan_qos_mapping_is_read_back, nda_cacheinfo_is_read_back, ndmsg_is_read_back,
-    payloads_are_their_fields, rtgenmsg_is_read_back, rtmsg_is_read_back, tcmsg_is_read_back,
-    virtual_functions_are_their_fields, walk_gives_what_is_left,
+    bodies_are_written, bodies_take_memory_for_attributes, cache_entries_are_their_fields,
+    equality_of_links, equality_of_routes, fibmsg_is_read_back, hardware_address_is_its_text,
+    headers_are_plain_by_their_fields, ifaddrmsg_is_read_back, ifinfomsg_is_read_back,
+    ifla_vlan_flags_is_read_back, ifla_vlan_qos_mapping_is_read_back, nda_cacheinfo_is_read_back,
+    ndmsg_is_read_back, payloads_are_their_fields, rtgenmsg_is_read_back, rtmsg_is_read_back,
+    tcmsg_is_read_back, virtual_functions_are_their_fields, walk_gives_what_is_left,
 };
 use neli::rtnl::linux::{IfStatsMsgHeader, laws as linux};
 use neli::types::Buffer;

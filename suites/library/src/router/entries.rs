@@ -10,7 +10,7 @@ use super::script::{Came, Step, Told, kind_once};
 use super::steps::Asker;
 use super::support::assert_is_at;
 use neli::router::synchronous::Log;
-use neli_places::Places;
+use neli_log::Places;
 use std::alloc::Global;
 use std::process::Abort;
 

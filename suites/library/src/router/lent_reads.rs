@@ -22,7 +22,8 @@ type Handle = NlRouterReceiverHandle<u16, Buffer>;
 type Item = Result<Nlmsghdr<u16, Buffer>, RouterError<u16, Buffer>>;
 
 /// A link with index 3 and the name `lo`, sent for no request to group 1.
-const LINK: &str = "2800000010000000000000000000000000000000030000000000000000000000070003006c6f0000";
+const LINK: &str =
+    "2800000010000000000000000000000000000000030000000000000000000000070003006c6f0000";
 
 /// Whether an owned message is what a lent one becomes; the lengths of all rows are multiples of four.
 fn is_same(
@@ -87,7 +88,12 @@ fn step(
     router.pass(handle);
     assert_is_at(rt, row, handle.state(), reads.1.state());
     assert_is_at(rt, row, router.heard(handle), reads.0.heard(reads.1));
-    assert_is_at(rt, row, router.deliveries().kept(), reads.0.deliveries().kept());
+    assert_is_at(
+        rt,
+        row,
+        router.deliveries().kept(),
+        reads.0.deliveries().kept(),
+    );
     assert_is_at(
         rt,
         row,

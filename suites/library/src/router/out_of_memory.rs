@@ -7,7 +7,7 @@ use super::steps::Asker;
 use super::support::assert_is_at;
 use super::{answers, conversations, datagrams, entries, faults, numbers};
 use neli::router::synchronous::{Deliveries, Log, Queues};
-use neli_places::Places;
+use neli_log::Places;
 use std::alloc::Global;
 use std::io::ErrorKind;
 use std::process::Abort;

@@ -1,7 +1,7 @@
 //! The tables that are built in.
 
 use neli_tables::ReadError;
-use neli_tables_bodies::built_in;
+use neli_tables_walk::built_in;
 
 #[test]
 fn all_tables_are_read(rt: HostRuntime) -> Result<(), ReadError> {

@@ -1,7 +1,7 @@
 //! Families of generic netlink, as the controller names them.
 
 use super::support;
-use neli_tables_bodies::{built_in, learn_from};
+use neli_tables_walk::{built_in, learn_from};
 use std::test::Fail;
 
 /// 0821: the controller says that `tcp_metrics` is 27.

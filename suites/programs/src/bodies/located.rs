@@ -1,7 +1,7 @@
 //! Recorded messages, and the lines that they have.
 
 use super::support;
-use neli_tables_bodies::{answer_of, body_of, built_in, is_answer};
+use neli_tables_walk::{answer_of, body_of, built_in, is_answer};
 use std::test::Fail;
 
 /// A name, a protocol, a message, and what its body is.

@@ -1,8 +1,8 @@
 //! Any one allocation may be refused in these tests: `suites/run` refuses each in turn.
 
 use super::support;
-use neli_tables_bodies::learn_from;
-use neli_tables_rows::{Table, Tables};
+use neli_tables::{Table, Tables};
+use neli_tables_walk::learn_from;
 use std::test::Fail;
 
 /// A number is learnt, or memory ran out and it is not.

@@ -2,8 +2,8 @@
 
 use bitflags::Flags;
 use neli_consts::NlmF;
-use neli_tables_bodies::{Body, Head};
-use neli_tables_rows::options_of;
+use neli_tables::options_of;
+use neli_tables_walk::{Body, Head};
 use std::fmt::Write;
 use std::test::Fail;
 

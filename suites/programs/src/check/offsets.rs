@@ -1,8 +1,8 @@
 //! The attribute at each offset. Where attributes begin is counted by hand in the bytes.
 
 use neli_consts::NlmF;
-use neli_tables_bodies::{Body, Head, body_of, built_in};
 use neli_tables_check::find;
+use neli_tables_walk::{Body, Head, body_of, built_in};
 use std::alloc::Global;
 use std::fmt::Write;
 use std::process::Abort;

@@ -1,8 +1,8 @@
 //! Requests that a kernel (Linux 6.18) refused, with the attribute that it stated by `NLMSGERR_ATTR_OFFS`.
 
 use crate::bodies::support::parts;
-use neli_tables_bodies::{body_of, built_in};
 use neli_tables_check::{Refusal, check, find};
+use neli_tables_walk::{body_of, built_in};
 use std::fmt::Write;
 use std::test::Fail;
 

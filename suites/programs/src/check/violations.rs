@@ -1,9 +1,9 @@
 //! What rows do not allow.
 
 use neli_consts::NlmF;
-use neli_tables_bodies::{Head, body_of};
+use neli_tables::{Table, Tables};
 use neli_tables_check::check;
-use neli_tables_rows::{Table, Tables};
+use neli_tables_walk::{Head, body_of};
 use std::fmt::Write;
 use std::test::Fail;
 

@@ -1,8 +1,7 @@
-//! Several families' tables: `Tables` of `neli_tables_rows`.
+//! Several families' tables: `Tables` of `neli_tables`.
 
 use super::rows::{LINKS, SOCKETS};
-use neli_tables::ReadError;
-use neli_tables_rows::{MessagePlace, Table, Tables, Way};
+use neli_tables::{MessagePlace, ReadError, Table, Tables, Way};
 use std::alloc::Global;
 
 /// Families of generic netlink, of routing and of every protocol.

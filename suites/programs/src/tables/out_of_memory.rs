@@ -2,8 +2,7 @@
 //! ran out; read once more, it is read.
 
 use super::families::{TEXTS as TEXTS_OF_FAMILIES, tables_of};
-use neli_tables::{ReadError, Why, read_table};
-use neli_tables_rows::{Table, Tables};
+use neli_tables::{ReadError, Table, Tables, Why, read_table};
 use std::alloc::Global;
 use std::process::Abort;
 

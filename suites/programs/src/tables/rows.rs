@@ -1,7 +1,9 @@
-//! What is found in tables: `neli_tables_rows`.
+//! What is found in tables: `neli_tables`.
 
-use neli_tables::{Kind, ReadError, Span, Why};
-use neli_tables_rows::{Options, Table, Tables, Way, is_set, options_of, prefix_of, unnamed_bits};
+use neli_tables::{
+    Kind, Options, ReadError, Span, Table, Tables, Way, Why, is_set, options_of, prefix_of,
+    unnamed_bits,
+};
 
 /// A table with a line of each sort.
 pub const LINKS: &str = "family rt-link 0

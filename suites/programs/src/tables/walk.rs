@@ -1,6 +1,6 @@
 //! Walks by a table: `neli_tables_walk`.
 
-use neli_tables_rows::Table;
+use neli_tables::Table;
 use neli_tables_walk::{Context, Item, Nest, Shape, Walk};
 use std::alloc::Global;
 use std::fmt::Write;

@@ -1,7 +1,7 @@
 use Rattle.std.proofs.Common.{◌∙◌, sym, ap, Some}
 use Rattle.std.specs.Option.{option_map}
-use Rattle.neli_tables_bodies.specs.Bodies.{body_in}
-use Rattle.neli_tables_bodies.specs.declared.head.Head.{Head}
+use Rattle.neli_tables_walk.specs.Bodies.{body_in}
+use Rattle.neli_tables_walk.specs.declared.head.Head.{Head}
 use Rattle.neli_c.specs.Tables.{head_of}
 use Rattle.neli_c.proofs.naming.body_in.Goals as goal
 

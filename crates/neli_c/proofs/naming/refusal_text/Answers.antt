@@ -1,7 +1,7 @@
 use Rattle.std.proofs.Common.{◌≡◌, ◌∙◌, ℤ, ap, option_map, sym, subst, w32}
 use Rattle.std.specs.Prelude.{unsigned_abs}
 use Rattle.std.proofs.lemmas.Int.{to_z-of_z}
-use Rattle.neli_tables_bodies.specs.Bodies.{BodySeen, body_seen}
+use Rattle.neli_tables_walk.specs.Bodies.{BodySeen, body_seen}
 use Rattle.neli_tables_check.specs.Refusals.{place_text, refusal_text}
 use Rattle.neli_c.specs.AnswersShown.{payload_shown}
 use Rattle.neli_c.specs.Named.{Explains, at_in, at_text, said}

@@ -1,8 +1,8 @@
 use Rattle.std.proofs.Common.{◌≡◌, ◌++◌, ◌∷◌, ◌∙◌, [], ap, append_assoc, length, option_map, subst, sym}
 use Rattle.std.specs.Vec.Iter.{into_iter_items}
 use Rattle.std.proofs.lemmas.List.{append-nil, nil_from_length}
-use Rattle.neli_places.specs.Places.{HasRoom, entries_of, pending_of}
-use Rattle.neli_places.specs.Routes.{items_for}
+use Rattle.neli_log.specs.Places.{HasRoom, entries_of, pending_of}
+use Rattle.neli_log.specs.Routes.{items_for}
 use Rattle.neli_log.specs.Staged.{HaveReaders}
 use Rattle.neli_log.proofs.Entries.{gains_more, gains_none, readers_first, readers_left, room_more, room_one}
 use Rattle.neli_log.proofs.handing.push_all.Goals as goal

@@ -1,7 +1,7 @@
 use Rattle.std.proofs.Common.{◌≡◌, ◌++◌, ℕ, Option, length, option_map}
 use Rattle.std.specs.Vec.Iter.{into_iter_items}
-use Rattle.neli_places.specs.Places.{HasRoom, IsTrimmed, entries_of, pending_of}
-use Rattle.neli_places.specs.Routes.{items_for}
+use Rattle.neli_log.specs.Places.{HasRoom, IsTrimmed, entries_of, pending_of}
+use Rattle.neli_log.specs.Routes.{items_for}
 use Rattle.neli_log.specs.Staged.{HaveReaders}
 use Rattle.neli_log.proofs.handing.push_all.Given as goal
 

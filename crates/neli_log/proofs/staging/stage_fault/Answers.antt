@@ -1,4 +1,4 @@
-use Rattle.neli_places.specs.Places.{pending_of}
+use Rattle.neli_log.specs.Places.{pending_of}
 use Rattle.neli_log.proofs.Stages.{staged_fault, staged_unread_fault}
 use Rattle.neli_log.proofs.staging.stage_fault.Goals as goal
 

@@ -1,4 +1,4 @@
-use Rattle.neli_places.specs.Places.{pending_of}
+use Rattle.neli_log.specs.Places.{pending_of}
 use Rattle.neli_log.proofs.Stages.{staged_kept, staged_skipped}
 use Rattle.neli_log.proofs.staging.stage_message.Goals as goal
 

@@ -2,7 +2,7 @@ use Rattle.std.proofs.Common.{◌≡◌, ◌∙◌, ℕ, List, [], None, Some, a
 use Rattle.std.proofs.lemmas.Bool.{eqb-true}
 use Rattle.neli_reader.specs.Agreement.{untyped_layout}
 use Rattle.neli_reader.specs.Cuts.{cut_of}
-use Rattle.neli_places.specs.Places.{pending_of}
+use Rattle.neli_log.specs.Places.{pending_of}
 use Rattle.neli_log.specs.Staged.{AreStaged}
 use Rattle.neli_log.proofs.Stages.{before_within, cut_done, staged_further}
 use Rattle.neli_log.proofs.staging.stage_messages.Goals as goal

@@ -2,7 +2,7 @@ use Rattle.std.proofs.Common.{◌≡◌, length, None}
 use Rattle.neli_wire.specs.Place.{whole}
 use Rattle.neli_reader.specs.Agreement.{untyped_layout}
 use Rattle.neli_reader.specs.Cuts.{cut_of}
-use Rattle.neli_places.specs.Places.{pending_of}
+use Rattle.neli_log.specs.Places.{pending_of}
 use Rattle.neli_log.specs.Staged.{AreStaged, cut_left}
 use Rattle.neli_log.proofs.staging.stage_messages.Given as goal
 

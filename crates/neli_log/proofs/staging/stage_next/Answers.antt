@@ -2,8 +2,8 @@ use Rattle.std.proofs.Common.{[], Some, ap, length, refl, subst, sym}
 use Rattle.neli_wire.specs.Place.{whole}
 use Rattle.neli_reader.specs.Agreement.{untyped_layout}
 use Rattle.neli_reader.specs.Cuts.{cut_of}
-use Rattle.neli_places.specs.Places.{pending_of}
-use Rattle.neli_spans.specs.declared.span.Span.{Span}
+use Rattle.neli_log.specs.Places.{pending_of}
+use Rattle.neli_log.specs.declared.span.Span.{Span}
 use Rattle.neli_log.specs.Staged.{AreStaged}
 use Rattle.neli_log.proofs.Stages.{cut_first, cut_last, staged_found}
 use Rattle.neli_log.proofs.staging.stage_next.Goals as goal

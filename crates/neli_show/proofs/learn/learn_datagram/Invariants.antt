@@ -1,6 +1,6 @@
 use Rattle.std.proofs.Common.{◌≡◌, ℕ}
 use Rattle.neli_show.specs.Learnt.{datagram_learnt}
-use Rattle.neli_tables_rows.specs.Families.{learnt, tables_in}
+use Rattle.neli_tables.specs.Families.{learnt, tables_in}
 use Rattle.neli_show.proofs.learn.learn_datagram.Given as goal
 
 -- what is learnt so far, and then from what is left, is what is learnt from all

@@ -1,6 +1,6 @@
 use Rattle.std.proofs.Common.{◌≡◌, ℕ, drop}
 use Rattle.neli_show.specs.Learnt.{input_learnt}
-use Rattle.neli_tables_rows.specs.Families.{learnt, tables_in}
+use Rattle.neli_tables.specs.Families.{learnt, tables_in}
 use Rattle.neli_show.proofs.learn.learn_input.Given as goal
 
 -- what is learnt so far, and then from the parts that are left, is what is learnt from all

@@ -1,7 +1,7 @@
 use Rattle.std.proofs.Common.{◌∙◌, sym}
 use Rattle.std.proofs.lemmas.List.{map-append}
 use Rattle.neli_tables.specs.Names.{finds}
-use Rattle.neli_tables.proofs.Options.{pass_refused, pass_setting, pass_twice}
+use Rattle.neli_tables.proofs.OptionLines.{pass_refused, pass_setting, pass_twice}
 use Rattle.neli_tables.proofs.setting.settings_of.Goals as goal
 
 pub returns-in-Err : goal.returns-in-Err

@@ -1,4 +1,5 @@
-use Rattle.std.proofs.Common.{◌≡◌, ◌⊎◌, ℤ, true, arith, refl, ap, sym, subst, ◌∙◌, List, Some, length, of_z, to_z, w32}
+use Rattle.std.proofs.Common.{◌≡◌, ◌⊎◌, ℤ, true, arith, refl, ap, sym, subst, ◌∙◌, List, Some, length}
+use Rattle.std.proofs.Common.{of_z, to_z, w32}
 use Rattle.std.proofs.lemmas.Int.{to_z-of_z}
 use Rattle.neli_router.specs.Sends.{asks}
 use Rattle.neli_c.specs.Codes.{in_use, memory, ok}
@@ -8,7 +9,8 @@ use Rattle.neli_router.specs.declared.handle.HandleState.{HandleState}
 use Rattle.neli_c.specs.declared.session.Slot.{Slot}
 use Rattle.neli_c.specs.Slots.{handle_at, put_at}
 use Rattle.neli_c.proofs.FreePlaces.{again}
-use Rattle.neli_c.proofs.Requests.{copied-code, fitting-code, frame-converted, no-matter-of-room, refusal-code}
+use Rattle.neli_c.proofs.Requests.{copied-code, fitting-code, frame-converted, no-matter-of-room}
+use Rattle.neli_c.proofs.Requests.{refusal-code}
 use Rattle.neli_c.proofs.Requests.{refused-else}
 use Rattle.neli_c.proofs.session.Session.send.Goals as goal
 

@@ -6,16 +6,17 @@ use Rattle.neli_reader.specs.Cuts.{cut_of}
 use Rattle.neli_reader.specs.laws.Cuts.{empty_is}
 use Rattle.neli_deliveries.specs.declared.delivery.Delivery.{Delivery}
 use Rattle.neli_deliveries.specs.Deliveries.{datagram_share}
-use Rattle.neli_places.specs.declared.entry.Entry.{Entry}
-use Rattle.neli_places.specs.Places.{pending_of as items_of}
-use Rattle.neli_spans.specs.Spans.{span_bytes}
+use Rattle.neli_log.specs.declared.entry.Entry.{Entry}
+use Rattle.neli_log.specs.Places.{pending_of as items_of}
+use Rattle.neli_log.specs.Spans.{span_bytes}
 use Rattle.neli_log.specs.Contents.{delivery_of, entry_read, part_of}
 use Rattle.neli_log.specs.Log.{pending_of, share_of}
 use Rattle.neli_log.specs.Routed.{AreAwaited, datagram_routed, is_open}
 use Rattle.neli_log.specs.Staged.{deliveries_added, entries_due}
 use Rattle.neli_log.proofs.Routed.{routed_nothing}
 use Rattle.neli_log.proofs.Stages.{staged_each, staged_gains}
-use Rattle.neli_log.proofs.Stores.{awaited_open, due_same, keeps_none, keeps_once_none, mapped_more, mapped_nothing}
+use Rattle.neli_log.proofs.Stores.{awaited_open, due_same, keeps_none, keeps_once_none, mapped_more}
+use Rattle.neli_log.proofs.Stores.{mapped_nothing}
 use Rattle.neli_log.proofs.Stores.{on_ok, received_nothing, share_same}
 use Rattle.neli_log.proofs.store.Store.datagram.Goals as goal
 

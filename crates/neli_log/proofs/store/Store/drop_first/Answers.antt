@@ -1,6 +1,6 @@
 use Rattle.std.proofs.Common.{◌∙◌}
-use Rattle.neli_places.specs.Places.{pending_of as items_of}
-use Rattle.neli_spans.specs.Spans.{span_bytes}
+use Rattle.neli_log.specs.Places.{pending_of as items_of}
+use Rattle.neli_log.specs.Spans.{span_bytes}
 use Rattle.neli_log.specs.Contents.{delivery_of}
 use Rattle.neli_log.proofs.Stores.{mapped_taken}
 use Rattle.neli_log.proofs.store.Store.drop_first.Goals as goal

@@ -1,11 +1,11 @@
 use Rattle.std.proofs.Common.{◌∙◌, ◌++◌, ◌∷◌, [], ap, arith, option_map, sym}
-use Rattle.neli_places.specs.declared.entry.Entry.{Entry}
-use Rattle.neli_places.specs.declared.entry.Route.TheVariants as route
+use Rattle.neli_log.specs.declared.entry.Entry.{Entry}
+use Rattle.neli_log.specs.declared.entry.Route.TheVariants as route
 use Rattle.neli_log.specs.declared.content.Content.{Content}
 use Rattle.neli_log.specs.declared.content.Content.TheVariants as content
-use Rattle.neli_places.specs.Places.{HasReader, entries_of, pending_of}
-use Rattle.neli_places.specs.Routes.{items_for}
-use Rattle.neli_spans.specs.Spans.{span_bytes}
+use Rattle.neli_log.specs.Places.{HasReader, entries_of, pending_of}
+use Rattle.neli_log.specs.Routes.{items_for}
+use Rattle.neli_log.specs.Spans.{span_bytes}
 use Rattle.neli_log.specs.Contents.{delivery_of}
 use Rattle.neli_log.proofs.Entries.{each_one}
 use Rattle.neli_log.proofs.Stores.{blocked_brings, fault_backed, fault_pending, keeps_none, mapped_nothing}

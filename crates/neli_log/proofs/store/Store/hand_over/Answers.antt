@@ -1,6 +1,6 @@
 use Rattle.std.proofs.Common.{◌≡◌, ◌∙◌, ◌++◌, ◌+◌, ◌<◌, ap, length, option_map, subst, sym}
-use Rattle.neli_places.specs.Routes.{items_for}
-use Rattle.neli_spans.specs.Spans.{bytes_of}
+use Rattle.neli_log.specs.Routes.{items_for}
+use Rattle.neli_log.specs.Spans.{bytes_of}
 use Rattle.neli_log.specs.Contents.{spans_of}
 use Rattle.neli_log.specs.Log.{kept_with}
 use Rattle.neli_log.proofs.Stores.{handed_backed, handed_pending, handed_read}

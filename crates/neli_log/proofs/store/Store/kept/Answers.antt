@@ -1,5 +1,5 @@
-use Rattle.neli_places.specs.Places.{pending_of}
-use Rattle.neli_spans.specs.Spans.{span_bytes}
+use Rattle.neli_log.specs.Places.{pending_of}
+use Rattle.neli_log.specs.Spans.{span_bytes}
 use Rattle.neli_log.specs.Contents.{delivery_of}
 use Rattle.neli_log.proofs.Stores.{mapped_empty}
 use Rattle.neli_log.proofs.store.Store.kept.Goals as goal

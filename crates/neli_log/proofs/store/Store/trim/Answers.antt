@@ -1,5 +1,5 @@
 use Rattle.std.proofs.Common.{◌∙◌, ap, arith, length}
-use Rattle.neli_places.specs.Places.{entries_of}
+use Rattle.neli_log.specs.Places.{entries_of}
 use Rattle.neli_log.specs.Contents.{spans_of}
 use Rattle.neli_log.proofs.Stores.{released_backed, released_names, released_pending}
 use Rattle.neli_log.proofs.store.Store.trim.Goals as goal

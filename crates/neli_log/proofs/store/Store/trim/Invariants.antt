@@ -1,5 +1,5 @@
 use Rattle.std.proofs.Common.{◌≡◌, ℕ, Option, length}
-use Rattle.neli_places.specs.Places.{IsSound, entries_of}
+use Rattle.neli_log.specs.Places.{IsSound, entries_of}
 use Rattle.neli_log.specs.Contents.{AreBacked}
 use Rattle.neli_log.specs.Log.{KeepsNoMore, pending_of}
 use Rattle.neli_log.proofs.store.Store.trim.Given as goal

@@ -1,9 +1,0 @@
-use Rattle.std.proofs.Common.{◌∙◌, ap}
-use Rattle.neli_spans.specs.Bytes.{byte_count}
-use Rattle.neli_spans.proofs.Named.{none_named}
-use Rattle.neli_spans.proofs.datagrams.Datagrams.byte_count.Goals as goal
-
-pub returns-clause-none : goal.returns-clause-none
-returns-clause-none c = λ h.
-    let s = c.args.self.now in
-    s.counted ∙ ap byte_count (none_named s.first s.list.items h)

@@ -1,0 +1,95 @@
+-- Keys, and the lines that have them.
+use Rattle.std.proofs.Common.{get_or, ◌≡◌, ◌∙◌, ℕ, ◌+◌, ◌<◌, Bool, true, false, ◌&&◌, ◌==◌, cond, List}
+use Rattle.std.proofs.Common.{drop, length, map, Option, Some, None, Ordering, Less, Equal, Greater}
+use Rattle.std.proofs.Common.{refl, sym, ap}
+use Rattle.std.specs.Option.{option_or}
+use Rattle.std.specs.Ordering.{is_eq, nat_cmp, ordering_then}
+use Rattle.std.specs.Cmp.{unsigned_tied, first_so, second_so}
+use Rattle.std.proofs.lemmas.Bool.{eqb-true}
+use Rattle.neli_tables.specs.declared.line.Line.{Line}
+use Rattle.neli_tables.specs.Lines.{line_seen}
+use Rattle.neli_tables.specs.Index.{first_found}
+use Rattle.neli_tables.specs.RowKeys.{Key, has_key, key_of, place_from, section_after}
+use Rattle.neli_tables.proofs.PassedRows.{turn_at}
+
+-- ---- keys that are the same
+
+then_eq : (a b : Ordering) → is_eq (ordering_then a b) ≡ (is_eq a && is_eq b)
+then_eq Less b = refl
+then_eq Equal b = refl
+then_eq Greater b = refl
+
+abbrev pub key_cmp : Key → Key → Ordering
+key_cmp x y = ordering_then (ordering_then (nat_cmp x.0 y.0) (nat_cmp x.1 y.1)) (nat_cmp x.2 y.2)
+
+-- two keys compare as equal where they are the same
+pub same_key : (x y : Key) → is_eq (key_cmp x y) ≡ has_key y (Some x)
+same_key x y =
+    then_eq (ordering_then (nat_cmp x.0 y.0) (nat_cmp x.1 y.1)) (nat_cmp x.2 y.2)
+    ∙ ap (λ b. b && is_eq (nat_cmp x.2 y.2)) (then_eq (nat_cmp x.0 y.0) (nat_cmp x.1 y.1))
+    ∙ ap (λ b. b && is_eq (nat_cmp x.1 y.1) && is_eq (nat_cmp x.2 y.2)) (unsigned_tied x.0 y.0)
+    ∙ ap (λ b. x.0 == y.0 && b && is_eq (nat_cmp x.2 y.2)) (unsigned_tied x.1 y.1)
+    ∙ ap (λ b. x.0 == y.0 && x.1 == y.1 && b) (unsigned_tied x.2 y.2)
+
+pub key_is : (key k : Key) → has_key key (Some k) ≡ true → k ≡ key
+key_is key k e =
+    let early = first_so (k.0 == key.0 && k.1 == key.1) (k.2 == key.2) e in
+    λ i. (
+      eqb-true k.0 key.0 (first_so _ (k.1 == key.1) early) i,
+      eqb-true k.1 key.1 (second_so (k.0 == key.0) _ early) i,
+      eqb-true k.2 key.2 (second_so (k.0 == key.0 && k.1 == key.1) _ e) i,
+    )
+
+-- ---- what is found once a line is noted
+
+pub none_more : (before : Option ℕ) → before ≡ option_or before None
+none_more None = refl
+none_more (Some place) = refl
+
+module _ (finds : Key → Option ℕ) (key : Key) (place : ℕ) where
+  -- a line before has the key
+  pub noted_before : (k : Key) (first : ℕ) → finds key ≡ Some first
+      → finds k ≡ first_found (finds k) k (Some key) place
+  noted_before k first is = by (finds k) (has_key k (Some key)) refl refl
+    where
+      by : (o : Option ℕ) (b : Bool) → finds k ≡ o → has_key k (Some key) ≡ b
+          → o ≡ option_or o (cond b (Some place) None)
+      by (Some p) b e h = refl
+      by None false e h = refl
+      by None true e h = let no : None ≡ Some first = sym e ∙ ap finds (sym (key_is k key h)) ∙ is in absurd cc
+
+  -- none before has it
+  pub noted_here : (k : Key) (after : Option ℕ) → finds key ≡ None
+      → after ≡ cond (is_eq (key_cmp key k)) (Some place) (finds k)
+      → after ≡ first_found (finds k) k (Some key) place
+  noted_here k after none is =
+      is ∙ ap (λ b. cond b (Some place) (finds k)) (same_key key k)
+      ∙ by (finds k) (has_key k (Some key)) refl refl
+    where
+      by : (o : Option ℕ) (b : Bool) → finds k ≡ o → has_key k (Some key) ≡ b
+          → cond b (Some place) o ≡ option_or o (cond b (Some place) None)
+      by None b e h = refl
+      by (Some p) false e h = refl
+      by (Some p) true e h = let no : None ≡ Some p = sym none ∙ ap finds (key_is k key h) ∙ e in absurd cc
+
+-- ---- the lines that were passed, and those to come
+
+either : (found : Option ℕ) (b : Bool) (place : ℕ) (later : Option ℕ)
+    → option_or found (cond b (Some place) later) ≡ option_or (option_or found (cond b (Some place) None)) later
+either (Some p) b place later = refl
+either None true place later = refl
+either None false place later = refl
+
+-- one line more is noted
+pub pass_line : (key : Key) (whole : Option ℕ) (lines : List Line) (i section : ℕ) (x : Line) (found after : Option ℕ)
+    → whole ≡ option_or found (place_from key section i (drop i (map line_seen lines))) → i < length lines
+    → x ≡ get_or lines i x
+    → after ≡ first_found found key (key_of (section_after section i x.word) (line_seen x)) i
+    → whole ≡ option_or after (place_from key (section_after section i x.word) (i + 1)
+    (drop (i + 1) (map line_seen lines)))
+pass_line key whole lines i section x found after said within at is =
+    let inner = section_after section i x.word in
+    let later = place_from key inner (i + 1) (drop (i + 1) (map line_seen lines)) in
+    turn_at line_seen (λ ls. option_or found (place_from key section i ls)) whole lines i x said within at
+    ∙ either found (has_key key (key_of inner (line_seen x))) i later
+    ∙ ap (λ o. option_or o later) (sym is)

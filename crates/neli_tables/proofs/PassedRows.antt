@@ -1,0 +1,104 @@
+-- Elements that were passed, and those to come.
+use Rattle.std.proofs.Common.{get_or, ◌<◌, ◌≡◌, ◌∙◌, ℕ, ◌+◌, Bool, not, List, [], ◌∷◌, length, drop}
+use Rattle.std.proofs.Common.{take, map, Option}
+use Rattle.std.proofs.Common.{Some, None}
+use Rattle.std.proofs.Common.{cond, nat_lt, refl, sym, ap, arith, length-drop, ◌-◌}
+use Rattle.std.specs.List.{position, prefix_len}
+use Rattle.std.proofs.lemmas.List.{drop_more, drop-map, get_or-map, length-map, take_all, take-map}
+use Rattle.std.specs.Borrow.{Bor}
+use Rattle.std.specs.Option.{option_map, option_or}
+use Rattle.neli_tables.specs.declared.line.Line.{Line}
+use Rattle.neli_tables.specs.declared.setting.Setting.{Setting}
+use Rattle.neli_tables.specs.Lines.{LineSeen, line_seen}
+use Rattle.neli_tables.specs.Settings.{setting_seen}
+use Rattle.neli_tables.specs.Options.{first_word, word_in}
+use Rattle.neli_tables.specs.declared.tables.MessagePlace.{MessagePlace}
+use Rattle.neli_tables.specs.Families.{Lines, message_at, message_from, message_of}
+use Rattle.neli_tables.specs.FoundRows.{before, begins_section, is_case, rows_among, rows_of}
+
+abbrev Lent : Type 0
+Lent = Setting (Bor (List ℕ))
+
+-- what is said of the elements from this one on
+pub turn : {A B R : Type 0} (view : A → B) (f : List B → R) (whole : R) (xs : List A) (i : ℕ) (d : A)
+    → whole ≡ f (drop i (map view xs)) → i < length xs
+    → whole ≡ f (view (get_or xs i d) ∷ drop (i + 1) (map view xs))
+turn view f whole xs i d said within =
+    said ∙ ap f (drop_more (map view xs) i (view d) (omega (arith, within, length-map xs view))
+    ∙ ap (λ y. y ∷ drop (i + 1) (map view xs)) (get_or-map view xs i d (view d) within))
+
+-- the same, by the element there
+pub turn_at : {A B R : Type 0} (view : A → B) (f : List B → R) (whole : R) (xs : List A) (i : ℕ) (x : A)
+    → whole ≡ f (drop i (map view xs)) → i < length xs → x ≡ get_or xs i x
+    → whole ≡ f (view x ∷ drop (i + 1) (map view xs))
+turn_at view f whole xs i x said within at =
+    turn view f whole xs i x said within ∙ ap (λ y. f (view y ∷ drop (i + 1) (map view xs))) (sym at)
+
+prefix_len-map : {A B : Type 0} (view : A → B) (p : B → Bool) (xs : List A)
+    → prefix_len p (map view xs) ≡ prefix_len (λ x. p (view x)) xs
+prefix_len-map view p [] = refl
+prefix_len-map view p (x ∷ xs) = ap (λ n. cond (p (view x)) (1 + n) 0) (prefix_len-map view p xs)
+
+-- what stands first among what is seen
+pub position-map : {A B : Type 0} (view : A → B) (p : B → Bool) (xs : List A)
+    → position p (map view xs) ≡ position (λ x. p (view x)) xs
+position-map view p xs =
+    ap (λ n. cond (nat_lt n (length (map view xs))) (Some n) None) (prefix_len-map view (λ y. not (p y)) xs)
+    ∙ ap (λ n. cond (nat_lt (prefix_len (λ x. not (p (view x))) xs) n)
+    (Some (prefix_len (λ x. not (p (view x))) xs)) None) (length-map xs view)
+
+-- what stands before an index, seen
+pub before-map : {A B : Type 0} (view : A → B) (index : Option ℕ) (xs : List A)
+    → map view (before index xs) ≡ before index (map view xs)
+before-map view (Some i) xs = sym (take-map view i xs)
+before-map view None xs = refl
+
+-- the first word among options
+pub word_here : (whole : Option (List ℕ)) (settings : List Lent) (i : ℕ) (d : Lent) (o : Option (List ℕ))
+    → whole ≡ first_word (drop i (map setting_seen settings)) → i < length settings
+    → o ≡ word_in (setting_seen (get_or settings i d))
+    → whole ≡ option_or o (first_word (drop (i + 1) (map setting_seen settings)))
+word_here whole settings i d o said within is =
+    turn setting_seen first_word whole settings i d said within
+    ∙ ap (λ o. option_or o (first_word (drop (i + 1) (map setting_seen settings)))) (sym is)
+
+-- rows up to the next section
+pub rows_here : (lines : List Line) (index : Option ℕ)
+    → index ≡ position (λ (line : Line). begins_section (line_seen line)) lines
+    → map line_seen (before index lines) ≡ rows_among (map line_seen lines)
+rows_here lines index is =
+    before-map line_seen index lines
+    ∙ ap (λ o. before o (map line_seen lines)) (is ∙ sym (position-map line_seen begins_section lines))
+
+-- what stands behind a section
+pub below : (lines : List Line) (section : ℕ)
+    → take (length lines - (section + 1)) (drop (section + 1) lines) ≡ drop (section + 1) lines
+below lines section = take_all _ (drop (section + 1) lines) (omega (arith, length-drop (section + 1) lines))
+
+-- the rows of a section
+pub rows_below : (lines : List Line) (section : ℕ)
+    → rows_among (map line_seen (take (length lines - (section + 1)) (drop (section + 1) lines)))
+    ≡ rows_of section (map line_seen lines)
+rows_below lines section =
+    ap (λ (ls : List Line). rows_among (map line_seen ls)) (below lines section)
+    ∙ ap rows_among (sym (drop-map line_seen (section + 1) lines))
+
+-- the case that a text picks
+pub case_found : (rows : List Line) (lines : List LineSeen) (choice : ℕ) (text : List ℕ) (index : Option ℕ)
+    → index ≡ position (λ (row : Line). is_case text (line_seen row)) rows → map line_seen rows ≡ rows_of choice lines
+    → option_map (λ n. choice + 1 + n) index
+    ≡ option_map (λ n. choice + 1 + n) (position (is_case text) (rows_of choice lines))
+case_found rows lines choice text index is rows_are =
+    ap (option_map (λ n. choice + 1 + n))
+    (is ∙ sym (position-map line_seen (is_case text) rows) ∙ ap (position (is_case text)) rows_are)
+
+-- a message in one table more
+pub message_here : (protocol : Option ℕ) (way : ℕ) (first : Option ℕ) (number : ℕ) (whole : Option MessagePlace)
+    (tables : List Lines) (i : ℕ) (x : Lines) (o : Option ℕ)
+    → whole ≡ message_from protocol way first number i (drop i tables) → i < length tables → x ≡ get_or tables i x
+    → o ≡ message_of protocol way first number x
+    → whole ≡ message_at i o (message_from protocol way first number (i + 1) (drop (i + 1) tables))
+message_here protocol way first number whole tables i x o said within at is =
+    said ∙ ap (message_from protocol way first number i) (drop_more tables i x within
+    ∙ ap (λ y. y ∷ drop (i + 1) tables) (sym at))
+    ∙ ap (λ m. message_at i m (message_from protocol way first number (i + 1) (drop (i + 1) tables))) (sym is)

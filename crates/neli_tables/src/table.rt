@@ -1,0 +1,246 @@
+//! A family's table.
+
+ghost use Rattle.std.specs.Prelude.{◌≡◌, ◌+◌, ◌<◌, ◌≤◌, List, Ok, IfErr, IfOk, IfSome, length, map, position};
+ghost use Rattle.std.specs.Prelude.{slice_get};
+ghost use Rattle.std.specs.Option.{option_map};
+ghost use Rattle.neli_tables.specs.Lines.{LineSeen, line_seen};
+ghost use Rattle.neli_tables.specs.Schemas.{IsWhyNot, table_in};
+ghost use Rattle.neli_tables.specs.Index.{AreFirsts, Indexes};
+ghost use Rattle.neli_tables.specs.RowKeys.{place_of, rest_key, way_number};
+ghost use Rattle.neli_tables.specs.Options.{options_of};
+ghost use Rattle.neli_tables.specs.FoundRows.{begins_section, case_in, group_in, is_case, message_for};
+ghost use Rattle.neli_tables.specs.FoundRows.{message_in};
+ghost use Rattle.neli_tables.specs.FoundRows.{row_in, rows_among, rows_of};
+
+use crate::bits::mask_of;
+use crate::firsts::Firsts;
+use crate::index::Index;
+use crate::options::{Options, all_options};
+use crate::way::{Way, group_key, is_row, message_key, rest_key, row_key, way_number};
+use crate::{Line, ReadError, Word, read_table};
+use std::alloc::{AllocError, Global};
+use std::marker::Model;
+
+/// The table of a family: its lines, and a map of where they stand. Contracts see it as its lines.
+///
+/// A line is meant by its place among these, counted from 0. Lines that options refer to are meant so too.
+#[derive(Drop)]
+pub struct Table<'t> {
+    lines: Vec<Line<'t>>,
+    options: Vec<Options>,
+    firsts: Firsts,
+    index: Index,
+}
+
+impl<'t> Model for Table<'t> {
+    ghost Value = { List LineSeen };
+
+    ghost view = { λ t. map line_seen t.lines.items };
+
+    ghost invariant = { λ t. Indexes t.index (map line_seen t.lines.items)
+        × AreFirsts t.firsts (map line_seen t.lines.items)
+        × (t.options.items ≡ map options_of (map line_seen t.lines.items)) };
+}
+
+impl<'t> Table<'t> {
+    /// The table that a text is.
+    ///
+    /// Refused as `read_table` refuses it: where a line is none, by the number of the first such line, and where memory
+    /// runs out.
+    pub fn read(alloc: Global, text: &'t [u8]) -> Result<Table<'t>, ReadError>
+        ensures lines { IfOk result (λ table. table_in text.now ≡ Ok table) }
+        ensures refused { IfErr result (IsWhyNot (table_in text.now)) }
+    {
+        let lines = read_table(alloc, text)?;
+        let table = Table::of(alloc, lines)?;
+        Ok(table)
+    }
+
+    /// The table of these lines, which are those of a text. Refused where memory runs out.
+    pub fn of(alloc: Global, lines: Vec<Line<'t>>) -> Result<Table<'t>, AllocError>
+        ensures { IfOk result (λ table. table ≡ map line_seen lines.entry.items) }
+    {
+        let index = Index::of(alloc, &lines)?;
+        let firsts = Firsts::of(alloc, &lines, &index)?;
+        let options = all_options(alloc, &lines)?;
+        Ok(Table {
+            lines,
+            options,
+            firsts,
+            index,
+        })
+    }
+
+    /// All lines; the first is the family.
+    pub fn lines(&self) -> &[Line<'t>]
+        ensures { map line_seen result.now ≡ self.now }
+    {
+        &self.lines
+    }
+
+    /// The line at this place.
+    pub fn line(&self, place: usize) -> Option<&Line<'t>>
+        ensures { option_map (λ line. line_seen line.now) result ≡ slice_get self.now place }
+    {
+        self.lines.get(place)
+    }
+
+    /// What the options of the line at this place say.
+    pub fn options(&self, place: usize) -> Option<&Options>
+        ensures { option_map (λ options. options.now) result
+            ≡ option_map options_of (slice_get self.now place) }
+    {
+        self.options.get(place)
+    }
+
+    /// The rows of the section at this place, in order: the fields of a structure, the values of an enum, the
+    /// attributes of a set, the cases of a choice.
+    pub fn rows(&self, section: usize) -> &[Line<'t>]
+        ensures { map line_seen result.now ≡ rows_of section self.now }
+    {
+        rows_of(&self.lines, section)
+    }
+
+    /// The place of the row that has this number in the section at this place: of an attribute in a set, a case in a
+    /// choice, a value in an enum. Where no row has it, that of the row for all others, `each` or `else`, if there is
+    /// one.
+    pub fn row(&self, section: usize, number: u64) -> Option<usize>
+        ensures { result ≡ row_in self.now section number }
+    {
+        let place = self.likely_place(section, number);
+        if self.firsts.has(place, row_key(section, number)) {
+            return Some(place);
+        }
+        match self.index.find(row_key(section, number)) {
+            Some(place) => Some(place),
+            None => self.rest(section),
+        }
+    }
+
+    /// Where a row stands most likely: each number follows the one before it in most sections.
+    fn likely_place(&self, section: usize, number: u64) -> usize {
+        let start = section.saturating_add(1);
+        let least = match self.lines.get(start) {
+            Some(line) => mask_of(line),
+            None => 0,
+        };
+        start.saturating_add(number.saturating_sub(least) as usize)
+    }
+
+    /// The place of the case that this text picks of the choice at this place, or of `else`, if there is one. Looks at
+    /// one case after the other.
+    pub fn case(&self, choice: usize, text: &[u8]) -> Option<usize>
+        ensures { result ≡ case_in self.now choice text.now }
+    {
+        match case_at(&self.lines, choice, text) {
+            Some(place) => Some(place),
+            None => self.rest(choice),
+        }
+    }
+
+    /// The place of the row for all other numbers or texts of the section at this place: `each` or `else`.
+    pub fn rest(&self, section: usize) -> Option<usize>
+        ensures { result ≡ place_of (rest_key section) self.now }
+    {
+        self.index.find(rest_key(section))
+    }
+
+    /// The place of the message that has this number (of generic netlink its command), goes this way, and whose body
+    /// begins with this byte; `None` for a body without bytes.
+    ///
+    /// One with the option `family=` comes before one without, then one with `request` or `reply` before one that goes
+    /// both ways.
+    pub fn message(&self, way: Way, first: Option<u8>, number: u64) -> Option<usize>
+        ensures { result ≡ message_in self.now (way_number way) first number }
+    {
+        let Some(first) = first else {
+            return self.message_for(way, None, number);
+        };
+        match self.message_for(way, Some(first as u64), number) {
+            Some(place) => Some(place),
+            None => self.message_for(way, None, number),
+        }
+    }
+
+    /// The place of the message for bodies that begin with this byte, or of that for all.
+    fn message_for(&self, way: Way, first: Option<u64>, number: u64) -> Option<usize>
+        ensures { result ≡ message_for self.now (way_number way) first number }
+    {
+        match self.index.find(message_key(way_number(way), first, number)) {
+            Some(place) => Some(place),
+            None => self.index.find(message_key(0, first, number)),
+        }
+    }
+
+    /// The place of the multicast group with this number.
+    pub fn group(&self, number: u64) -> Option<usize>
+        ensures { result ≡ group_in self.now number }
+    {
+        self.index.find(group_key(number))
+    }
+}
+
+/// Whether a line begins a section.
+fn begins_section(line: &Line<'_>) -> bool
+    ensures { result ≡ begins_section (line_seen line.now) }
+{
+    !is_row(line.word)
+}
+
+/// The index of the first of these lines that begins a section.
+fn next_section(lines: &[Line<'_>]) -> Option<usize>
+    ensures value { result ≡ position (λ line. begins_section (line_seen line)) lines.now }
+    ensures within { IfSome result (λ index. index < length lines.now) }
+{
+    lines.iter().position(|line| begins_section(line))
+}
+
+/// These lines, up to the first that begins a section.
+fn rows_among<'s, 't>(lines: &'s [Line<'t>]) -> &'s [Line<'t>]
+    ensures rows { map line_seen result.now ≡ rows_among (map line_seen lines.now) }
+    ensures within { length result.now ≤ length lines.now }
+{
+    match next_section(lines) {
+        Some(index) => &lines[..index],
+        None => lines,
+    }
+}
+
+/// The rows of the section at this place.
+fn rows_of<'s, 't>(lines: &'s [Line<'t>], section: usize) -> &'s [Line<'t>]
+    ensures rows { map line_seen result.now ≡ rows_of section (map line_seen lines.now) }
+    ensures within { 0 < length result.now → section + 1 + length result.now ≤ length lines.now }
+{
+    if section < lines.len() {
+        rows_among(&lines[section + 1..])
+    } else {
+        &[]
+    }
+}
+
+/// Whether this case is picked by this text.
+fn is_case(row: &Line<'_>, text: &[u8]) -> bool
+    ensures { result ≡ is_case text.now (line_seen row.now) }
+{
+    matches!(row.word, Word::Case) && row.span.is_none() && row.name == text
+}
+
+/// The index of the first of these that this text picks.
+fn position_of_case(rows: &[Line<'_>], text: &[u8]) -> Option<usize>
+    ensures value { result ≡ position (λ row. is_case text.now (line_seen row)) rows.now }
+    ensures within { IfSome result (λ index. index < length rows.now) }
+{
+    rows.iter().position(|row| is_case(row, text))
+}
+
+/// The place of the case that this text picks of the choice at this place.
+fn case_at(lines: &[Line<'_>], choice: usize, text: &[u8]) -> Option<usize>
+    ensures { result ≡ option_map (λ index. choice + 1 + index)
+        (position (is_case text.now) (rows_of choice (map line_seen lines.now))) }
+{
+    let rows = rows_of(lines, choice);
+    match position_of_case(rows, text) {
+        Some(index) => Some(choice + 1 + index),
+        None => None,
+    }
+}

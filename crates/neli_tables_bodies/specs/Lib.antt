@@ -1,3 +1,0 @@
-pub mod Bodies
-pub mod Built
-pub mod Controller

@@ -1,3 +1,0 @@
-mod Keyed
-mod Noted
-mod Passed

@@ -1,9 +1,0 @@
-use Rattle.neli_tables.specs.Settings.{setting_seen}
-use Rattle.neli_tables_rows.specs.Options.{options_from}
-use Rattle.neli_tables_rows.proofs.Passed.{turn}
-use Rattle.neli_tables_rows.proofs.options.options_in.Goals as goal
-
-pub loop-setting-preserved : goal.loop-setting-preserved
-loop-setting-preserved c =
-    rw c.note.ensures (turn setting_seen (options_from c.loop-setting.options) _ c.args.settings.now
-    c.loop-setting.setting-index _ c.loop-setting.invariant c.loop-setting-test.true)

@@ -1,6 +1,0 @@
-use Rattle.std.proofs.Common.{◌∙◌}
-use Rattle.neli_tables_rows.proofs.Passed.{rows_below}
-use Rattle.neli_tables_rows.proofs.table.rows_of.Goals as goal
-
-pub returns-then-section-lines-clause-rows : goal.returns-then-section-lines-clause-rows
-returns-then-section-lines-clause-rows c = c.rows_among.ensures.rows ∙ rows_below c.args.lines.now c.args.section

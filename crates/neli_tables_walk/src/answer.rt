@@ -1,0 +1,44 @@
+//! Answers, which all protocols have.
+
+ghost use Rattle.std.specs.Prelude.{◌≡◌};
+ghost use Rattle.neli_tables_walk.specs.Bodies.{answer_in, body_seen, counts_in_bodies};
+ghost use Rattle.neli_tables_walk.specs.Bodies.{is_answer};
+
+use crate::located::{first_table, where_at};
+use crate::{Body, Head};
+use neli_consts::Nlmsg;
+use neli_tables::{Tables, Way};
+
+/// Whether the messages of a protocol state their numbers in their bodies.
+fn counts_in_bodies(tables: &Tables<'_>, protocol: u16) -> bool
+    ensures { result ≡ counts_in_bodies tables.now protocol }
+{
+    match first_table(tables, protocol) {
+        Some(table) => where_at(table).is_some(),
+        None => false,
+    }
+}
+
+/// Whether a message is an answer: an error or an acknowledgement (`NLMSG_ERROR`), or the end of a
+/// dump (`NLMSG_DONE`). A protocol whose messages state their numbers in their bodies, as the
+/// connector, has none.
+pub fn is_answer(tables: &Tables<'_>, head: Head) -> bool
+    ensures { result ≡ is_answer tables.now head }
+{
+    let is_one = head.message_type == u16::from(Nlmsg::Error)
+        || head.message_type == u16::from(Nlmsg::Done);
+    is_one && !counts_in_bodies(tables, head.protocol)
+}
+
+/// The attributes of an answer, as a body of the table that is of every protocol.
+pub fn answer_of<'b, 'w, 't>(
+    tables: &'w Tables<'t>,
+    head: Head,
+    attributes: &'b [u8],
+) -> Body<'b, 'w, 't>
+    ensures { body_seen result ≡ answer_in tables.now head attributes.now }
+{
+    let number = head.message_type as u64;
+    let place = tables.message(head.protocol as u64, Way::Reply, None, number);
+    Body::placed(tables, place, attributes)
+}

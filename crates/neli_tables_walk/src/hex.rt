@@ -1,0 +1,140 @@
+//! Bytes as hexadecimal digits, and what is written with them.
+
+ghost use Rattle.std.specs.Prelude.{Some};
+ghost use Rattle.neli_tables_walk.specs.Hex.{address_text, byte_text, bytes_json, bytes_text};
+ghost use Rattle.neli_tables_walk.specs.Hex.{hardware_text};
+ghost use Rattle.neli_tables_walk.specs.Hex.{hex_text, later_hex_text, uuid_text};
+
+use std::fmt;
+
+/// A byte as two hexadecimal digits.
+#[derive(Clone, Copy)]
+struct HexByte(u8);
+
+impl fmt::Display for HexByte {
+    ghost output = { λ b. Some (byte_text b.0) };
+
+    fn fmt<W: fmt::Write>(&self, f: &mut fmt::Formatter<W>) -> fmt::Result {
+        let (high, low) = (self.0 / 16, self.0 % 16);
+        write!(f, "{high:x}{low:x}")
+    }
+}
+
+/// Bytes as hexadecimal digits, two each, as `0102`.
+#[derive(Clone, Copy)]
+pub struct Hex<'b>(pub &'b [u8]);
+
+impl fmt::Display for Hex<'_> {
+    ghost output = { λ h. Some (hex_text h.0.now) };
+
+    fn fmt<W: fmt::Write>(&self, f: &mut fmt::Formatter<W>) -> fmt::Result {
+        for byte in self.0 {
+            let byte = HexByte(*byte);
+            write!(f, "{byte}")?;
+        }
+        Ok(())
+    }
+}
+
+/// Bytes as hexadecimal digits, each after a colon.
+#[derive(Clone, Copy)]
+struct LaterHex<'b>(&'b [u8]);
+
+impl fmt::Display for LaterHex<'_> {
+    ghost output = { λ h. Some (later_hex_text h.0.now) };
+
+    fn fmt<W: fmt::Write>(&self, f: &mut fmt::Formatter<W>) -> fmt::Result {
+        for byte in self.0 {
+            let byte = HexByte(*byte);
+            write!(f, ":{byte}")?;
+        }
+        Ok(())
+    }
+}
+
+/// A hardware address, as `02:00:00:00:00:01`; nothing where there are no bytes.
+#[derive(Clone, Copy)]
+pub struct Hardware<'b>(pub &'b [u8]);
+
+impl fmt::Display for Hardware<'_> {
+    ghost output = { λ h. Some (hardware_text h.0.now) };
+
+    fn fmt<W: fmt::Write>(&self, f: &mut fmt::Formatter<W>) -> fmt::Result {
+        match self.0 {
+            [] => Ok(()),
+            [first, later @ ..] => {
+                let (first, later) = (HexByte(*first), LaterHex(later));
+                write!(f, "{first}{later}")
+            }
+        }
+    }
+}
+
+/// A hardware address, or that there is none.
+#[derive(Clone, Copy)]
+pub(crate) struct HardwareText<'b>(pub &'b [u8]);
+
+impl fmt::Display for HardwareText<'_> {
+    ghost output = { λ h. Some (address_text h.0.now) };
+
+    fn fmt<W: fmt::Write>(&self, f: &mut fmt::Formatter<W>) -> fmt::Result {
+        match self.0 {
+            [] => write!(f, "empty"),
+            bytes => {
+                let address = Hardware(bytes);
+                write!(f, "{address}")
+            }
+        }
+    }
+}
+
+/// Bytes as one hexadecimal number, as `0x0102`, or `empty` where there are none.
+#[derive(Clone, Copy)]
+pub struct Bytes<'b>(pub &'b [u8]);
+
+impl fmt::Display for Bytes<'_> {
+    ghost output = { λ b. Some (bytes_text b.0.now) };
+
+    fn fmt<W: fmt::Write>(&self, f: &mut fmt::Formatter<W>) -> fmt::Result {
+        match self.0 {
+            [] => write!(f, "empty"),
+            bytes => {
+                let hex = Hex(bytes);
+                write!(f, "0x{hex}")
+            }
+        }
+    }
+}
+
+/// Bytes in JSON, which has no form for them: an object with their digits, as `{"bytes":"0102"}`.
+#[derive(Clone, Copy)]
+pub struct BytesJson<'b>(pub &'b [u8]);
+
+impl fmt::Display for BytesJson<'_> {
+    ghost output = { λ b. Some (bytes_json b.0.now) };
+
+    fn fmt<W: fmt::Write>(&self, f: &mut fmt::Formatter<W>) -> fmt::Result {
+        let hex = Hex(self.0);
+        write!(f, "{{\"bytes\":\"{hex}\"}}")
+    }
+}
+
+/// Sixteen bytes in the form of RFC 4122, as `01020304-0506-0708-090a-0b0c0d0e0f10`; fewer or more
+/// as bytes.
+#[derive(Clone, Copy)]
+pub(crate) struct Uuid<'b>(pub &'b [u8]);
+
+impl fmt::Display for Uuid<'_> {
+    ghost output = { λ u. Some (uuid_text u.0.now) };
+
+    fn fmt<W: fmt::Write>(&self, f: &mut fmt::Formatter<W>) -> fmt::Result {
+        let bytes = self.0;
+        if bytes.len() != 16 {
+            let bytes = Bytes(bytes);
+            return write!(f, "{bytes}");
+        }
+        let (first, second, third) = (Hex(&bytes[..4]), Hex(&bytes[4..6]), Hex(&bytes[6..8]));
+        let (fourth, last) = (Hex(&bytes[8..10]), Hex(&bytes[10..]));
+        write!(f, "{first}-{second}-{third}-{fourth}-{last}")
+    }
+}
