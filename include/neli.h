@@ -53,7 +53,7 @@ enum neli_code {
     NELI_VIOLATION = 6,       /* of a check: an attribute is not as its row says */
     NELI_SHORT = -1,          /* the bytes end before the header, the padding or the number does */
     NELI_LENGTH = -2,         /* a length does not fit: below its header, past the bytes, or past its field */
-    NELI_MEMORY = -3,         /* memory ran out; everything is unchanged */
+    NELI_MEMORY = -3,         /* memory ran out; everything is unchanged, unless the call says otherwise */
     NELI_ROOM = -4,           /* the room is too small; nothing was written, or of a text its beginning */
     NELI_STATE = -5,          /* the router, the dump or the tables are closed, or are open already */
     NELI_HANDLE = -6,         /* no such handle exists, or no item was read */

@@ -137,7 +137,7 @@ size_t neli_host_item_length(const struct neli_host *host);
 bool neli_host_find(const struct neli_host *host, const struct neli_walk *walk, uint16_t number,
                     struct neli_attribute *found);
 
-/* Returns the text of an attribute of the item; NULL if no zero byte ends it. */
+/* Returns the text of an attribute of the item, which stays as long as the item; NULL if no zero byte ends it. */
 const char *neli_host_text(const struct neli_host *host, const struct neli_attribute *attribute);
 
 /* Writes why the kernel refused, after NELI_KERNEL_ERROR: the meaning of its number, its text and its offset, if it
@@ -148,8 +148,8 @@ void neli_host_explain(const struct neli_host *host, int32_t code, const struct 
 
 /* ---- Datagrams, for a program that routes nothing ---- */
 
-/* Waits for a datagram of the kernel, which `neli_host_datagram` then returns. `group` is the group for which it
- * arrived, or 0. */
+/* Waits for a datagram of the kernel, which `neli_host_datagram` then returns; its bytes stay until the next call that
+ * receives. `group` is the group for which it arrived, or 0. */
 int32_t neli_host_receive(struct neli_host *host, size_t *length, uint32_t *group);
 const uint8_t *neli_host_datagram(const struct neli_host *host);
 
