@@ -1,0 +1,71 @@
+//! The places of a router's handles: which is given, what a read leaves, and what is given again after a close.
+//!
+//! A request is of type 18 (`RTM_GETLINK` of `linux/rtnetlink.h`) with `NLM_F_REQUEST | NLM_F_DUMP`; codes are those of
+//! `include/neli.h`.
+
+use neli_c::code::{OK, WAITS};
+use neli_c::session::{NeliItem, NeliSent, Session};
+use std::alloc::Global;
+use std::test::Fail;
+
+const GET_LINK: u16 = 18;
+
+const DUMP: u16 = 0x301;
+
+/// Sends a request, and returns its code and its handle.
+fn sent(session: &mut Session, alloc: Global) -> (i32, usize) {
+    let mut out = [0; 32];
+    let mut sent = NeliSent {
+        length: 0,
+        handle: 77,
+    };
+    let code = session.send(alloc, GET_LINK, DUMP, &[0; 16], &mut out, &mut sent);
+    (code, sent.handle)
+}
+
+/// The code of a read.
+fn read(session: &mut Session, alloc: Global, handle: usize) -> i32 {
+    let mut item = NeliItem {
+        message_type: 0,
+        flags: 0,
+        number: 0,
+        port: 0,
+        error: 0,
+    };
+    session.read(alloc, handle, &mut item)
+}
+
+#[test]
+fn each_request_has_a_handle_of_its_own(rt: HostRuntime) -> Result<(), Fail> {
+    let alloc = rt.alloc();
+    let mut session = Session::new(alloc, 9).unwrap();
+    assert_eq!(rt; sent(&mut session, alloc), (OK, 1));
+    assert_eq!(rt; sent(&mut session, alloc), (OK, 2));
+    Ok(())
+}
+
+#[test]
+fn a_handle_that_was_read_is_read_again(rt: HostRuntime) -> Result<(), Fail> {
+    let alloc = rt.alloc();
+    let mut session = Session::new(alloc, 9).unwrap();
+    let (_, handle) = sent(&mut session, alloc);
+    assert_eq!(rt; read(&mut session, alloc, handle), WAITS);
+    assert_eq!(rt; read(&mut session, alloc, handle), WAITS);
+    Ok(())
+}
+
+#[test]
+fn freed_places_are_given_again_after_multicast_is_closed(rt: HostRuntime) -> Result<(), Fail> {
+    let alloc = rt.alloc();
+    let mut session = Session::new(alloc, 9).unwrap();
+    for handle in [1, 2] {
+        assert_eq!(rt; sent(&mut session, alloc), (OK, handle));
+    }
+    for handle in [1, 2, 0] {
+        assert_eq!(rt; session.close(handle), OK);
+    }
+    for handle in [2, 1, 3] {
+        assert_eq!(rt; sent(&mut session, alloc), (OK, handle));
+    }
+    Ok(())
+}
