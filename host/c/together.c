@@ -133,10 +133,12 @@ void *__wrap_realloc(void *at, size_t size) {
     return is_refused() ? NULL : __real_realloc(at, size);
 }
 
-/* Whichever allocation is refused, none is sent, and the same call can be repeated. */
+/* Whichever allocation is refused, all are sent or none, and then the same call can be repeated. One that makes look-ups
+ * faster may be refused without harm. */
 static void memory_that_is_refused(void) {
     struct neli_host_request requests[] = {question(&loopback), question(&none), question(&loopback)};
     size_t handles[3];
+    unsigned refusals = 0;
     bool was_refused = true;
     for (unsigned k = 1; was_refused; k++) {
         struct neli_host *host = route_host(false);
@@ -145,14 +147,17 @@ static void memory_that_is_refused(void) {
         int32_t code = neli_host_send_all(host, requests, 3, handles);
         was_refused = left_to_refusal == 0;
         left_to_refusal = 0;
-        WANT(code == (was_refused ? NELI_MEMORY : NELI_OK));
-        WANT(host->ledger.count == (was_refused ? 0 : 3));
-        if (was_refused) WANT(neli_host_send_all(host, requests, 3, handles) == NELI_OK);
+        bool ran_out = code == NELI_MEMORY;
+        WANT(code == NELI_OK || (was_refused && ran_out));
+        WANT(host->ledger.count == (ran_out ? 0 : 3));
+        refusals += ran_out;
+        if (ran_out) WANT(neli_host_send_all(host, requests, 3, handles) == NELI_OK);
         want_loopback(host, handles[2]);
         want_no_such_link(host, handles[1]);
         want_loopback(host, handles[0]);
         neli_host_close(host);
     }
+    WANT(refusals > 3);
 }
 
 static const struct test tests[] = {
