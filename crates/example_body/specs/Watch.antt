@@ -1,7 +1,7 @@
 -- A port and its levels on the wire.
 use Rattle.std.specs.Prelude.{ℕ, ◌+◌, ◌<◌, List, Ok, Result, length, sum_by}
 use Rattle.neli.specs.wire.Numbers.{little_bytes}
-use Rattle.neli.specs.wire.DeError.{DeError}
+use Rattle.neli.specs.errors.DeError.{DeError}
 use Rattle.neli.specs.wire.Reading.{◌>>=◌, IfRead, number_at, map_refusal, refusal_within}
 use Rattle.neli.specs.wire.laws.Elements.{elements}
 use Rattle.neli.specs.wire.Writing.{Wire, ◌+++◌, wire_all}

@@ -1,5 +1,6 @@
 pub use Rattle.neli_errno.specs as errno
 pub use Rattle.neli_wire.specs as wire
+pub use Rattle.neli_wire.specs.declared.errors as errors
 pub use Rattle.neli_list.specs as list
 pub use Rattle.neli_attr.specs as attr
 pub use Rattle.neli_body.specs as body

@@ -4,7 +4,7 @@ use Rattle.std.proofs.Common.{◌++◌, length, Option, Some, None, Ok, Err, ref
 use Rattle.std.specs.Prelude.{codes}
 use Rattle.std.proofs.lemmas.Bool.{ltb-false}
 use Rattle.byteorder.specs.Endian.{little_bytes}
-use Rattle.neli_wire.specs.SerError.TheVariants.{Msg}
+use Rattle.neli_wire.specs.declared.errors.SerError.TheVariants.{Msg}
 use Rattle.neli_wire.specs.Frames.{frame_at, IsFrame}
 use Rattle.neli_wire.specs.laws.Elements.{elements}
 use Rattle.neli_wire.specs.laws.FrameLists.{frames-list, frames-more, list-frames}

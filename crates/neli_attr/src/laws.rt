@@ -6,7 +6,7 @@
 
 ghost use Rattle.std.specs.Prelude.{◌≡◌, ◌+◌, ◌<◌, ◌++◌, ◌∷◌, ℕ, List, [], None, Ok, Err, length};
 ghost use Rattle.neli_wire.specs.Constants.{IsEquality};
-ghost use Rattle.neli_wire.specs.DeError.{DeError as Refusal};
+ghost use Rattle.neli_wire.specs.declared.errors.DeError.{DeError as Refusal};
 ghost use Rattle.neli_wire.specs.Frames.{AreFrames, frame_at, frame_takes_memory};
 ghost use Rattle.neli_wire.specs.Reading.{refusal_within};
 ghost use Rattle.neli_wire.specs.laws.Elements.{elements};

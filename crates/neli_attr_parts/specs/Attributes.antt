@@ -1,8 +1,8 @@
 -- Attributes: a header of four bytes, the length of the whole and the type, then a payload, and padding to four bytes.
 use Rattle.std.specs.Prelude.{ℕ, ◌+◌, List, codes, length, Result, Ok, Err, nat_lt, if◌then◌else◌}
 use Rattle.byteorder.specs.Endian.{little_bytes}
-use Rattle.neli_wire.specs.DeError.{DeError}
-use Rattle.neli_wire.specs.SerError.TheVariants.{Msg}
+use Rattle.neli_wire.specs.declared.errors.DeError.{DeError}
+use Rattle.neli_wire.specs.declared.errors.SerError.TheVariants.{Msg}
 use Rattle.neli_wire.specs.Frames.{Layout, frame_at, number_in}
 use Rattle.neli_wire.specs.Writing.{Wire, ◌+++◌, append_wire, pad_wire}
 use Rattle.neli_wire.specs.laws.Elements.{elements}

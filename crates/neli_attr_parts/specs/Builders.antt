@@ -3,8 +3,8 @@ use Rattle.std.specs.Prelude.{◌≡◌, ℕ, ◌+◌, List, codes, length, Opti
 use Rattle.std.specs.Prelude.{Some, None, Result, Ok, Err, nat_lt, if◌then◌else◌}
 use Rattle.neli_wire.specs.Messages.{uninitialized}
 use Rattle.neli_wire.specs.Writing.{Wire}
-use Rattle.neli_wire.specs.SerError.{SerError}
-use Rattle.neli_wire.specs.SerError.TheVariants as ser
+use Rattle.neli_wire.specs.declared.errors.SerError.{SerError}
+use Rattle.neli_wire.specs.declared.errors.SerError.TheVariants as ser
 use Rattle.neli_attr_parts.specs.declared.builders.BuildError.{BuildError}
 use Rattle.neli_attr_parts.specs.declared.builders.BuildError.TheVariants.{UninitializedField, ValidationError, Memory}
 

@@ -11,8 +11,12 @@ use std::alloc::{AllocError, AllocFailed};
 use std::error::Error;
 use std::fmt;
 
-/// The builders, by the type that they make. A number tells a builder's errors from those of the
-/// others; a builder outside these crates takes one from 128 on. 5 is not used.
+/// The builders, by the type that they make. A number tells a builder's errors from those of the others.
+///
+/// Up to 31 they are those of the types that the errors of `neli_reader` name, and 5 is not used. A crate with more
+/// builders says their numbers itself, beside them, from a range of its own: `neli_rtnl` from 32 to 47,
+/// `neli_rtnl_linux` from 48 to 79, `neli_genl` from 80 to 95, `neli_short` from 96 to 111. A builder outside these
+/// crates takes one from 128 on.
 pub mod of {
     /// The number of the builder of `AttrType`.
     pub const ATTR_TYPE: u8 = 0;

@@ -4,11 +4,11 @@
 ghost use Rattle.std.specs.Prelude.{◌≡◌, ◌<◌, None, Ok, Some, codes, length};
 ghost use Rattle.std.specs.IoError.{error_kind};
 ghost use Rattle.std.specs.String.{from_utf8_error_cause};
-ghost use Rattle.neli_wire.specs.DeError.TheVariants as de;
+ghost use Rattle.neli_wire.specs.declared.errors.DeError.TheVariants as de;
 ghost use Rattle.neli_wire.specs.ErrorTexts.{de_text, ser_text};
 ghost use Rattle.neli_wire.specs.Messages.{name_of, uninitialized};
-ghost use Rattle.neli_wire.specs.SerError.TheVariants as ser;
-ghost use Rattle.neli_wire.specs.Utf8.TheVariants as utf8;
+ghost use Rattle.neli_wire.specs.declared.errors.SerError.TheVariants as ser;
+ghost use Rattle.neli_wire.specs.declared.errors.Utf8.TheVariants as utf8;
 ghost use Rattle.neli_wire.specs.laws.Values.{AreSame, AreWrittenAs, GivesOnly, OnlyWhere};
 ghost use Rattle.neli_attr_parts.specs.Builders.{IsMemory, IsMissing, IsRefusedPayload, error_text};
 ghost use Rattle.neli_attr_parts.specs.TypeField.{number_of, type_of};

@@ -1,6 +1,6 @@
 -- Lists of routing attributes with payloads of bytes, which end most bodies of routing netlink.
 use Rattle.std.specs.Prelude.{ℕ, ◌+◌, List, length, map, sum_by, Result, Ok}
-use Rattle.neli_wire.specs.DeError.{DeError}
+use Rattle.neli_wire.specs.declared.errors.DeError.{DeError}
 use Rattle.neli_wire.specs.Writing.{Wire, wire_all}
 use Rattle.neli_wire.specs.Sizes.{align}
 use Rattle.neli_attr.specs.Attributes.{Attr, attributes_in}

@@ -1,7 +1,7 @@
 -- Bodies: a header of fixed size, and what follows it.
 use Rattle.std.specs.Prelude.{ℕ, ◌≤◌, List, length, take, drop, Result, Ok, Err, nat_lt, if◌then◌else◌}
-use Rattle.neli_wire.specs.DeError.{DeError}
-use Rattle.neli_wire.specs.DeError.TheVariants.{InvalidInput}
+use Rattle.neli_wire.specs.declared.errors.DeError.{DeError}
+use Rattle.neli_wire.specs.declared.errors.DeError.TheVariants.{InvalidInput}
 use Rattle.neli_wire.specs.Reading.{◌>>=◌}
 use Rattle.neli_wire.specs.Writing.{Wire, ◌+++◌}
 

@@ -2,7 +2,7 @@
 use Rattle.std.specs.Prelude.{◌≡◌, ℕ, ◌+◌, List, ◌++◌, length, Result, Ok}
 use Rattle.std.specs.List.{All}
 use Rattle.neli_attr.specs.declared.rtattr.Rtattr.{Rtattr}
-use Rattle.neli_wire.specs.DeError.{DeError}
+use Rattle.neli_wire.specs.declared.errors.DeError.{DeError}
 use Rattle.neli_wire.specs.Numbers.{FitsBytes}
 use Rattle.neli_wire.specs.Writing.{Wire}
 use Rattle.neli_body.specs.Attributes.{Attrs, attrs_of, attrs_view, attrs_wire}

@@ -2,7 +2,7 @@
 use Rattle.std.specs.Prelude.{◌≡◌, ℕ, ◌+◌, ℤ, Bool, ◌&&◌, ◌||◌, not, nat_eq, nat_lt, nat_le, min}
 use Rattle.std.specs.Prelude.{if◌then◌else◌, List}
 use Rattle.std.specs.Prelude.{length, drop, Option, Some, None, Result, Ok, Err}
-use Rattle.neli_wire.specs.DeError.{DeError}
+use Rattle.neli_wire.specs.declared.errors.DeError.{DeError}
 use Rattle.neli_reader.specs.Answers.{code_in, echo_end, echoed_in}
 use Rattle.neli_reader.specs.Headers.{Header, flags_of, header_in}
 use Rattle.neli_reader.specs.Kinds.{has_attributes, is_acknowledged, is_capped, is_multi}

@@ -1,9 +1,9 @@
 -- Requests as a kernel takes them, and what it answers: by neli_kernel's own definitions.
 use Rattle.std.specs.Prelude.{◌≡◌, ◌≢◌, ◌⊎◌, ℕ, ℤ, Bool, if◌then◌else◌, List, [], length, Option, Some, None}
 use Rattle.std.specs.Prelude.{Result, Ok, Err}
-use Rattle.neli_wire.specs.DeError.{DeError}
-use Rattle.neli_wire.specs.SerError.{SerError}
-use Rattle.neli_wire.specs.SerError.TheVariants as ser
+use Rattle.neli_wire.specs.declared.errors.DeError.{DeError}
+use Rattle.neli_wire.specs.declared.errors.SerError.{SerError}
+use Rattle.neli_wire.specs.declared.errors.SerError.TheVariants as ser
 use Rattle.neli_wire.specs.Writing.{Wire}
 use Rattle.neli_reader.specs.Answers.{Attributes, ext_ack_in}
 use Rattle.neli_reader.specs.Headers.{flags_of}

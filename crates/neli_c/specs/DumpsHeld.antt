@@ -1,8 +1,8 @@
 -- Dumps as they grow, as neli_kernel says it of its own, and as they are handed out.
 use Rattle.std.specs.Prelude.{◌≡◌, ◌≢◌, ◌⊎◌, ℕ, ◌+◌, ℤ, true, false, nat_le, if◌then◌else◌, List, [], length}
 use Rattle.std.specs.Prelude.{slice_get, Option, Some, None, Result, Ok, Err}
-use Rattle.neli_wire.specs.DeError.{DeError}
-use Rattle.neli_wire.specs.SerError.{SerError}
+use Rattle.neli_wire.specs.declared.errors.DeError.{DeError}
+use Rattle.neli_wire.specs.declared.errors.SerError.{SerError}
 use Rattle.neli_wire.specs.Writing.{Wire}
 use Rattle.neli_reader.specs.Answers.{Attributes, ext_ack_in}
 use Rattle.neli_reader.specs.Headers.{flags_of}

@@ -4,8 +4,8 @@ use Rattle.std.specs.Prelude.{[], ◌∷◌}
 use Rattle.std.specs.Prelude.{length, take, drop, Option, Some, None, Ok, Err}
 use Rattle.std.specs.declared.io.ErrorKind.TheVariants.{UnexpectedEof}
 use Rattle.neli_wire.specs.Bytes.{Reading}
-use Rattle.neli_wire.specs.DeError.{DeError}
-use Rattle.neli_wire.specs.DeError.TheVariants as de
+use Rattle.neli_wire.specs.declared.errors.DeError.{DeError}
+use Rattle.neli_wire.specs.declared.errors.DeError.TheVariants as de
 use Rattle.neli_wire.specs.Frames.{Layout, frame_at}
 use Rattle.neli_wire.specs.Sizes.{align}
 use Rattle.neli_attr.specs.Attributes.{Head}

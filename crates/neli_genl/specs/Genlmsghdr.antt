@@ -12,8 +12,8 @@ use Rattle.neli_attr.specs.declared.nlattr.Nlattr.{Nlattr}
 use Rattle.neli_genl.specs.declared.genlmsghdr.Genlmsghdr.{Genlmsghdr}
 use Rattle.neli_genl.specs.declared.genlmsghdr.GenlmsghdrBuilder.{GenlmsghdrBuilder}
 use Rattle.neli_wire.specs.Bytes.{Reading}
-use Rattle.neli_wire.specs.DeError.{DeError}
-use Rattle.neli_wire.specs.DeError.TheVariants.{InvalidInput}
+use Rattle.neli_wire.specs.declared.errors.DeError.{DeError}
+use Rattle.neli_wire.specs.declared.errors.DeError.TheVariants.{InvalidInput}
 use Rattle.neli_wire.specs.Frames.{number_in}
 use Rattle.neli_wire.specs.Numbers.{little_bytes}
 use Rattle.neli_wire.specs.Reading.{◌>>=◌, IfRead, map_refusal, refusal_within}

@@ -3,7 +3,7 @@ use Rattle.std.proofs.Common.{◌≡◌, ℕ, ◌<◌, Bool, true, false, cond, 
 use Rattle.std.specs.Prelude.{codes, nat_lt}
 use Rattle.std.proofs.lemmas.Bool.{ltb-false}
 use Rattle.std.proofs.lemmas.Nat.{or_lt}
-use Rattle.neli_wire.specs.SerError.TheVariants as ser
+use Rattle.neli_wire.specs.declared.errors.SerError.TheVariants as ser
 use Rattle.neli_wire.specs.Writing.{Wire}
 use Rattle.neli_consts.specs.declared.nlm_f.NlmF.{NlmF}
 use Rattle.neli_reader.specs.Answers.{Attributes}

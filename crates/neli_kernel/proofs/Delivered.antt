@@ -10,7 +10,7 @@ use Rattle.std.proofs.lemmas.Int.{to_z-of_z}
 use Rattle.std.proofs.lemmas.List.{append-nil, drop_at, map-append}
 use Rattle.std.proofs.lemmas.List.Elements.{All-cons, All-head, All-nil, All-push, All-tail}
 use Rattle.byteorder.specs.Numbers.{little_number-reads_back}
-use Rattle.neli_wire.specs.DeError.{DeError}
+use Rattle.neli_wire.specs.declared.errors.DeError.{DeError}
 use Rattle.neli_wire.specs.Frames.{IsFrame, number_in}
 use Rattle.neli_wire.specs.Numbers.{signed_bytes, signed_number}
 use Rattle.neli_wire.specs.Reading.{◌>>=◌}

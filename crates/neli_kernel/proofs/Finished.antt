@@ -6,9 +6,9 @@ use Rattle.std.specs.Int.{w32}
 use Rattle.std.proofs.lemmas.List.{append-nil, map-append}
 use Rattle.std.proofs.lemmas.List.Elements.{All-push}
 use Rattle.std.proofs.lemmas.Nat.{and_or_apart, and_or_self, or_lt}
-use Rattle.neli_wire.specs.DeError.{DeError}
+use Rattle.neli_wire.specs.declared.errors.DeError.{DeError}
 use Rattle.neli_wire.specs.Numbers.{signed_bytes}
-use Rattle.neli_wire.specs.SerError.{SerError}
+use Rattle.neli_wire.specs.declared.errors.SerError.{SerError}
 use Rattle.neli_wire.specs.Sizes.{gap}
 use Rattle.neli_wire.specs.Writing.{Wire, ◌+++◌, zeros_for}
 use Rattle.neli_wire.specs.laws.Numbers.{count-signed}

@@ -1,8 +1,8 @@
 -- A kernel's answers: the message of each (the kernel's `netlink_ack` and `nlmsg_put`), and its bytes.
 use Rattle.std.specs.Prelude.{ℕ, ◌+◌, ◌<◌, ℤ, pos, bit_or, List, [], ◌∷◌, codes, length, nat_lt, if◌then◌else◌, Err}
 use Rattle.neli_wire.specs.Refusals.{IsRefusal, ser_ran_out}
-use Rattle.neli_wire.specs.SerError.{SerError}
-use Rattle.neli_wire.specs.SerError.TheVariants as ser
+use Rattle.neli_wire.specs.declared.errors.SerError.{SerError}
+use Rattle.neli_wire.specs.declared.errors.SerError.TheVariants as ser
 use Rattle.neli_wire.specs.Sizes.{align}
 use Rattle.neli_wire.specs.Writing.{Wire}
 use Rattle.neli_consts.specs.declared.nlm_f.NlmF.{NlmF}

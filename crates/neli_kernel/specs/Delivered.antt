@@ -2,7 +2,7 @@
 use Rattle.std.specs.Prelude.{◌≡◌, ◌≢◌, ◌<◌, ℕ, ◌+◌, ℤ, FitsSigned, List, [], ◌∷◌}
 use Rattle.std.specs.Prelude.{◌++◌, Bool, true, Option, None, Some, Result, Ok, flat_map, length}
 use Rattle.std.specs.Int.{w32}
-use Rattle.neli_wire.specs.DeError.{DeError}
+use Rattle.neli_wire.specs.declared.errors.DeError.{DeError}
 use Rattle.neli_wire.specs.Numbers.{signed_bytes}
 use Rattle.neli_wire.specs.Sizes.{align}
 use Rattle.neli_wire.specs.Writing.{Wire, zeros_for}

@@ -2,8 +2,8 @@
 use Rattle.std.specs.Prelude.{ℕ, ◌+◌, ◌<◌, ℤ, bit_or, List, [], ◌∷◌, ◌++◌}
 use Rattle.std.specs.Prelude.{codes, length, map, nat_lt, if◌then◌else◌, Result, Ok, Err}
 use Rattle.neli_wire.specs.Refusals.{IsRefusal, ser_ran_out}
-use Rattle.neli_wire.specs.SerError.{SerError}
-use Rattle.neli_wire.specs.SerError.TheVariants as ser
+use Rattle.neli_wire.specs.declared.errors.SerError.{SerError}
+use Rattle.neli_wire.specs.declared.errors.SerError.TheVariants as ser
 use Rattle.neli_wire.specs.Writing.{Wire}
 use Rattle.neli_consts.specs.declared.nlm_f.NlmF.{NlmF}
 use Rattle.neli_reader.specs.Answers.{Attributes, answer}

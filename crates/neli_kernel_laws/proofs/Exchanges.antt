@@ -7,7 +7,7 @@ use Rattle.std.proofs.lemmas.Bool.Decides.{leb_tells, nat_tests}
 use Rattle.std.proofs.lemmas.List.{append-nil}
 use Rattle.std.proofs.lemmas.List.Concat.{flat_map-append}
 use Rattle.std.proofs.lemmas.List.Elements.{All-cons, All-head, All-nil, All-tail}
-use Rattle.neli_wire.specs.DeError.{DeError}
+use Rattle.neli_wire.specs.declared.errors.DeError.{DeError}
 use Rattle.neli_reader.specs.Agreement.{untyped_layout}
 use Rattle.neli_reader.specs.Cuts.{Cut, cut_of}
 use Rattle.neli_deliveries.specs.Deliveries.{Untyped}

@@ -1,6 +1,6 @@
 -- A request in a history, and the datagrams that arrived for it.
 use Rattle.std.specs.Prelude.{◌≡◌, ⊤, ◌++◌, ◌∷◌, ℕ, false, List, [], Result}
-use Rattle.neli_wire.specs.DeError.{DeError}
+use Rattle.neli_wire.specs.declared.errors.DeError.{DeError}
 use Rattle.neli_consts.specs.declared.nlm_f.NlmF.{NlmF}
 use Rattle.neli_reader.specs.NlPayload.{NlPayload}
 use Rattle.neli_deliveries.specs.Deliveries.{Untyped}

@@ -1,7 +1,7 @@
 -- The replies to a handle's reads from its messages: one after the other, and then the end.
 use Rattle.std.specs.Prelude.{◌≡◌, ℕ, Bool, true, false, List, length, Option, Some, None, Result, Ok, Err}
 use Rattle.std.specs.List.{list_any, slice_get}
-use Rattle.neli_wire.specs.DeError.{DeError}
+use Rattle.neli_wire.specs.declared.errors.DeError.{DeError}
 use Rattle.neli_deliveries.specs.Deliveries.{Untyped, message}
 use Rattle.neli_deliveries.specs.Readings.{IsReading, Item}
 use Rattle.neli_runs.specs.Reply.{Reply}

@@ -2,7 +2,7 @@
 use Rattle.std.proofs.Common.{◌≡◌, ◌≢◌, ◌+◌, ◌≤◌, ℕ, List, [], length}
 use Rattle.std.proofs.Common.{Some, None, Ok, Err, ap, arith}
 use Rattle.std.specs.Prelude.{Result, option_map}
-use Rattle.neli_wire.specs.DeError.{DeError}
+use Rattle.neli_wire.specs.declared.errors.DeError.{DeError}
 use Rattle.neli_wire.specs.Frames.{frame_at}
 use Rattle.neli_wire.specs.Place.{Place, whole}
 use Rattle.neli_wire.specs.Reading.{refusal_within}

@@ -1,7 +1,7 @@
 -- Messages with lent payloads: the bytes that they were read from.
 use Rattle.std.specs.Prelude.{ℕ, List, Result, Ok}
 use Rattle.neli_wire.specs.Bytes.{Reading}
-use Rattle.neli_wire.specs.DeError.{DeError}
+use Rattle.neli_wire.specs.declared.errors.DeError.{DeError}
 use Rattle.neli_wire.specs.Frames.{Layout}
 use Rattle.neli_wire.specs.Reading.{◌>>=◌}
 use Rattle.neli_reader.specs.Cuts.{Cut, cut_of}

@@ -1,6 +1,6 @@
 -- Walks: the values in a byte list, one by one, and the fault after them.
 use Rattle.std.specs.Prelude.{ℕ, Bool, List, [], ◌∷◌, ◌++◌, find, length, map, Option, Some, None, Result, Ok, Err}
-use Rattle.neli_wire.specs.DeError.{DeError}
+use Rattle.neli_wire.specs.declared.errors.DeError.{DeError}
 use Rattle.neli_reader.specs.Cuts.{Cut, message_before}
 
 -- the fault, if there is one, as the last item

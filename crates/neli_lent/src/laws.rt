@@ -3,7 +3,7 @@
 
 ghost use Rattle.std.specs.Iterator.{YieldsFirstBy};
 ghost use Rattle.std.specs.Prelude.{◌≡◌, ◌+◌, ℕ, List, [], None, Some, Ok, Err, IsErr, length};
-ghost use Rattle.neli_wire.specs.DeError.{DeError as Refusal};
+ghost use Rattle.neli_wire.specs.declared.errors.DeError.{DeError as Refusal};
 ghost use Rattle.neli_wire.specs.Frames.{frame_at};
 ghost use Rattle.neli_attr.specs.AttrType.{AttrType as Field};
 ghost use Rattle.neli_attr.specs.Attributes.{Attr, attributes_in};

@@ -1,8 +1,8 @@
 -- Finding attributes by their type, and reading their payloads.
 use Rattle.std.specs.Prelude.{ℕ, ◌<◌, List, Bool, Option, Some, None, Result}
 use Rattle.std.specs.Prelude.{Err, IsSomeAnd, bit_and, codes, find, length, nat_eq, option_map}
-use Rattle.neli_wire.specs.DeError.{DeError}
-use Rattle.neli_wire.specs.DeError.TheVariants.{Msg}
+use Rattle.neli_wire.specs.declared.errors.DeError.{DeError}
+use Rattle.neli_wire.specs.declared.errors.DeError.TheVariants.{Msg}
 use Rattle.neli_wire.specs.Bytes.{Reading}
 use Rattle.neli_wire.specs.laws.Elements.{elements}
 

@@ -4,7 +4,7 @@ ghost use Rattle.std.specs.Prelude.{◌≡◌, ◌<◌, ℕ, List, Ok, IfErr, If
 ghost use Rattle.std.specs.Option.{option_copied};
 ghost use Rattle.std.specs.Slice.Iter.{iter_rest};
 ghost use Rattle.neli_wire.specs.Refusals.{Refuses};
-ghost use Rattle.neli_wire.specs.DeError.TheVariants.{Memory};
+ghost use Rattle.neli_wire.specs.declared.errors.DeError.TheVariants.{Memory};
 ghost use Rattle.neli_wire.specs.laws.Elements.{elements};
 ghost use Rattle.neli_list.specs.Payloads.{ReadsFirst, RefusesAs};
 ghost use Rattle.neli_list.specs.Lookup.{first_masked, first_of_type, list_found, list_found_takes_memory};

@@ -6,7 +6,7 @@ use Rattle.std.proofs.Common.{length-append, is_some}
 use Rattle.std.specs.List.{slice_get}
 use Rattle.std.specs.Prelude.{slice_range}
 use Rattle.std.proofs.lemmas.List.{append-nil, map-append}
-use Rattle.neli_wire.specs.DeError.{DeError}
+use Rattle.neli_wire.specs.declared.errors.DeError.{DeError}
 use Rattle.neli_wire.specs.Frames.{frame_at}
 use Rattle.neli_wire.specs.laws.Frames.{frame_at-frame, frame_of-frame_at}
 use Rattle.neli_reader.specs.Agreement.{untyped_layout}

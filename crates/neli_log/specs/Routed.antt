@@ -1,7 +1,7 @@
 -- The deliveries of a datagram with their routes, each once.
 use Rattle.std.specs.Prelude.{◌≡◌, ◌⊎◌, ℕ, Bool, List, [], ◌∷◌, ◌++◌, map, Option, Some, None}
 use Rattle.std.specs.Prelude.{if◌then◌else◌, is_some}
-use Rattle.neli_wire.specs.DeError.{DeError}
+use Rattle.neli_wire.specs.declared.errors.DeError.{DeError}
 use Rattle.neli_reader.specs.Cuts.{Cut}
 use Rattle.neli_reader.specs.SocketError.TheVariants as socket
 use Rattle.neli_deliveries.specs.declared.delivery.Delivery.{Delivery}

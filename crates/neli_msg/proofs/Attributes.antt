@@ -2,7 +2,7 @@
 use Rattle.std.proofs.Common.{◌≡◌, List, [], ◌∷◌, Result, Ok, Err, refl, ap, ℕ}
 use Rattle.std.specs.Prelude.{IfOk, IfErr, map}
 use Rattle.std.proofs.lemmas.Result.{IfOk-weaker}
-use Rattle.neli_wire.specs.DeError.{DeError}
+use Rattle.neli_wire.specs.declared.errors.DeError.{DeError}
 use Rattle.neli_wire.specs.Refusals.{Refuses}
 use Rattle.neli_wire.specs.laws.Reading.{refused_first}
 use Rattle.neli_consts.specs.NlmsgerrAttr.{nlmsgerr_attr_of}

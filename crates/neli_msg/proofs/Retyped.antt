@@ -3,7 +3,7 @@ use Rattle.std.proofs.Common.{◌≡◌, ℕ, List, length, Result, Ok, Err, ref
 use Rattle.std.specs.Prelude.{IfErr, IsErrAnd}
 use Rattle.std.proofs.lemmas.Bool.{le-ltb}
 use Rattle.std.proofs.lemmas.List.{take_all}
-use Rattle.neli_wire.specs.DeError.{DeError}
+use Rattle.neli_wire.specs.declared.errors.DeError.{DeError}
 use Rattle.neli_msg.specs.declared.payload.NlPayload.{NlPayload}
 use Rattle.neli_msg.specs.declared.payload.NlPayload.TheVariants as payload
 use Rattle.neli_msg.specs.declared.router_error.RouterError.{RouterError}

@@ -1,7 +1,7 @@
 -- The text of an attribute, if it has one.
 use Rattle.std.proofs.Common.{◌≡◌, sym, ap, ℕ, List, Some, None, Ok, Err}
 use Rattle.std.specs.Result.{result_ok}
-use Rattle.neli_wire.specs.DeError.{DeError}
+use Rattle.neli_wire.specs.declared.errors.DeError.{DeError}
 use Rattle.neli_wire.specs.Strings.{owned_text}
 use Rattle.neli_msg.specs.Explained.{words_in}
 

@@ -1,7 +1,7 @@
 -- The payload of a message, by its type, flags, length and code (RFC 3549 section 2.3.2.2; the kernel's `netlink_ack`).
 use Rattle.std.specs.Prelude.{ℕ, ◌==◌, ◌<◌, ◌&&◌, Bool, List, length}
 use Rattle.std.specs.Prelude.{drop, Result, Ok, bit_and, nat_eq, nat_le, if◌then◌else◌}
-use Rattle.neli_wire.specs.DeError.{DeError}
+use Rattle.neli_wire.specs.declared.errors.DeError.{DeError}
 use Rattle.neli_wire.specs.Frames.{number_in}
 use Rattle.neli_wire.specs.Reading.{◌>>=◌}
 use Rattle.neli_consts.specs.declared.nlm_f.NlmF.{NlmF}

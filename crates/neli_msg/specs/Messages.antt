@@ -1,6 +1,6 @@
 -- Messages: how they lie in bytes (RFC 3549 section 2.3.2; `struct nlmsghdr` of linux/netlink.h).
 use Rattle.std.specs.Prelude.{ℕ, List, Result}
-use Rattle.neli_wire.specs.DeError.{DeError}
+use Rattle.neli_wire.specs.declared.errors.DeError.{DeError}
 use Rattle.neli_wire.specs.Frames.{Layout}
 use Rattle.neli_msg.specs.Framed.{Nlmsghdr}
 use Rattle.neli_msg.specs.declared.payload.NlPayload.{NlPayload}

@@ -1,8 +1,8 @@
 -- Errors of a router: their sources, and their texts.
 use Rattle.std.specs.Prelude.{ℕ, List, ◌++◌, codes, decimal, Option, Some, None}
 use Rattle.std.specs.Option.{option_map}
-use Rattle.neli_wire.specs.DeError.{DeError}
-use Rattle.neli_wire.specs.DeError.TheVariants as de
+use Rattle.neli_wire.specs.declared.errors.DeError.{DeError}
+use Rattle.neli_wire.specs.declared.errors.DeError.TheVariants as de
 use Rattle.neli_wire.specs.ErrorTexts.{de_text}
 use Rattle.neli_msg.specs.declared.socket_error.SocketError.{SocketError}
 use Rattle.neli_msg.specs.declared.socket_error.SocketError.TheVariants as socket

@@ -1,8 +1,8 @@
 //! A header and its payload: the form of all messages.
 
 ghost use Rattle.std.specs.Prelude.{◌≡◌, ◌+◌, ◌≤◌, ℕ, List, Result, Ok, Err, Some, IfOk, IfErr, OnOk, OnErr, length, min};
-ghost use Rattle.neli_wire.specs.DeError.{DeError as Refusal};
-ghost use Rattle.neli_wire.specs.DeError.TheVariants as de;
+ghost use Rattle.neli_wire.specs.declared.errors.DeError.{DeError as Refusal};
+ghost use Rattle.neli_wire.specs.declared.errors.DeError.TheVariants as de;
 ghost use Rattle.neli_wire.specs.Frames.{frame_at, frame_takes_memory};
 ghost use Rattle.neli_wire.specs.Refusals.{Refuses};
 ghost use Rattle.neli_wire.specs.Sizes.{align};

@@ -1,7 +1,7 @@
 -- Walks over next hops, one after the other.
 use Rattle.std.proofs.Common.{◌≡◌, ◌≢◌, ◌+◌, ◌≤◌, ℕ, List, [], length, Some, None, Ok, Err, refl, ap, arith}
 use Rattle.std.specs.Prelude.{option_map}
-use Rattle.neli_wire.specs.DeError.{DeError}
+use Rattle.neli_wire.specs.declared.errors.DeError.{DeError}
 use Rattle.neli_wire.specs.Frames.{frame_at}
 use Rattle.neli_wire.specs.laws.Frames.{IsPlaced, number_in-take}
 use Rattle.neli_wire.specs.Place.{Place, whole}

@@ -10,7 +10,7 @@ use Rattle.neli_lent.specs.Messages.{Lent}
 use Rattle.neli_print.specs.MessageFlags.{flag_seen}
 use Rattle.neli_tables.specs.declared.tables.Tables.{Tables}
 use Rattle.neli_tables_walk.specs.Walks.{Seen}
-use Rattle.neli_wire.specs.DeError.{DeError}
+use Rattle.neli_wire.specs.declared.errors.DeError.{DeError}
 use Rattle.neli_print.specs.declared.flags.FlagForm.{FlagForm}
 use Rattle.neli_print.specs.declared.flags.Left.{Left}
 use Rattle.neli_print.specs.declared.head.Header.{Header}

@@ -7,7 +7,7 @@ use Rattle.neli_lent.specs.Walks.{items_of}
 use Rattle.neli_tables_walk.specs.declared.head.Head.{Head}
 use Rattle.neli_tables_walk.specs.Bodies.{BodySeen, body_in, is_answer}
 use Rattle.neli_tables.specs.declared.tables.Tables.{Tables}
-use Rattle.neli_wire.specs.DeError.{DeError}
+use Rattle.neli_wire.specs.declared.errors.DeError.{DeError}
 use Rattle.neli_wire.specs.Sizes.{align}
 use Rattle.neli_print.specs.declared.head.Header.{Header}
 use Rattle.neli_print.specs.declared.pieces.Colour.TheVariants as colour

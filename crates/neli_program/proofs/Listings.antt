@@ -20,8 +20,8 @@ use Rattle.neli_lent.specs.Messages.{Lent, as_owned, as_owned_takes_memory, lent
 use Rattle.neli_lent.specs.laws.Messages.{owned-read}
 use Rattle.neli_program.proofs.Streams.{appends_more}
 use Rattle.neli_program.specs.declared.line.Line.{Line}
-use Rattle.neli_wire.specs.DeError.{DeError}
-use Rattle.neli_wire.specs.DeError.TheVariants as de
+use Rattle.neli_wire.specs.declared.errors.DeError.{DeError}
+use Rattle.neli_wire.specs.declared.errors.DeError.TheVariants as de
 use Rattle.std.specs.declared.io.ErrorKind.{ErrorKind}
 use Rattle.std.specs.declared.io.ErrorKind.TheVariants.{UnexpectedEof}
 use Rattle.neli_reader.specs.Agreement.{untyped_layout}

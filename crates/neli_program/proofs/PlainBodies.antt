@@ -1,6 +1,6 @@
 -- Payloads of plain bytes are refused for lengths and missing bytes alone, so a datagram of them has two faults only.
 use Rattle.std.proofs.Common.{◌≡◌, ◌≢◌, ℕ, List, Err, Option, Some, None, sym, arith}
-use Rattle.neli_wire.specs.DeError.{DeError}
+use Rattle.neli_wire.specs.declared.errors.DeError.{DeError}
 use Rattle.neli_wire.specs.Frames.{frame_at}
 use Rattle.neli_reader.specs.Agreement.{untyped_layout}
 use Rattle.neli_reader.specs.Cuts.{Cuts}

@@ -3,8 +3,8 @@ use Rattle.std.specs.Prelude.{ℕ, ◌+◌, List, [], ◌∷◌, ◌++◌, codes
 use Rattle.std.specs.Fmt.{decimal, signed_decimal}
 use Rattle.std.specs.declared.io.ErrorKind.TheVariants.{ConnectionReset, UnexpectedEof}
 use Rattle.hex.specs.Hex.{encode_lower}
-use Rattle.neli_wire.specs.DeError.{DeError}
-use Rattle.neli_wire.specs.DeError.TheVariants as de
+use Rattle.neli_wire.specs.declared.errors.DeError.{DeError}
+use Rattle.neli_wire.specs.declared.errors.DeError.TheVariants as de
 use Rattle.neli_reader.specs.Messages.{message_of}
 use Rattle.neli_reader.specs.RouterError.{RouterError}
 use Rattle.neli_reader.specs.RouterError.TheVariants as router

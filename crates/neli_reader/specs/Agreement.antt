@@ -1,7 +1,7 @@
 -- What reading a message untyped and reading it typed have in common.
 use Rattle.std.specs.Prelude.{ℕ, List, Result, Ok}
 use Rattle.neli_wire.specs.Bytes.{Reading}
-use Rattle.neli_wire.specs.DeError.{DeError}
+use Rattle.neli_wire.specs.declared.errors.DeError.{DeError}
 use Rattle.neli_wire.specs.Frames.{Layout}
 use Rattle.neli_wire.specs.Reading.{◌>>=◌}
 use Rattle.neli_msg.specs.declared.payload.NlPayload.{NlPayload}

@@ -1,7 +1,7 @@
 -- Errors of builders: their texts, and the errors that they become.
 use Rattle.std.specs.Prelude.{ℕ, List, Option, Some, None}
-use Rattle.neli_wire.specs.DeError.{DeError}
-use Rattle.neli_wire.specs.DeError.TheVariants as de
+use Rattle.neli_wire.specs.declared.errors.DeError.{DeError}
+use Rattle.neli_wire.specs.declared.errors.DeError.TheVariants as de
 use Rattle.neli_attr.specs.Builders.{error_text, message_in}
 use Rattle.neli_reader.specs.declared.builder_error.BuilderError.{BuilderError}
 use Rattle.neli_reader.specs.declared.builder_error.BuilderError.TheVariants.{Nlmsghdr, Nlmsgerr, NlmsghdrErr}

@@ -1,6 +1,6 @@
 -- The meaning of a datagram: frames of messages, one after the other.
 use Rattle.std.specs.Prelude.{◌≡◌, ◌≢◌, ℕ, zero, suc, List, [], ◌∷◌, ◌++◌, length, Result, Ok, Err, Option, Some, None}
-use Rattle.neli_wire.specs.DeError.{DeError}
+use Rattle.neli_wire.specs.declared.errors.DeError.{DeError}
 use Rattle.neli_wire.specs.Bytes.{Reading}
 use Rattle.neli_wire.specs.Frames.{Layout, AreFrames, frame_at}
 use Rattle.neli_msg.specs.declared.socket_error.SocketError.{SocketError}

@@ -2,7 +2,7 @@
 
 ghost use Rattle.std.specs.Prelude.{◌≡◌, ◌*◌, ◌/◌, ◌≤◌, ◌↔◌, ℕ, List, None, Option, Ok, Err, IsErr, IsOk, length};
 ghost use Rattle.std.specs.List.{All};
-ghost use Rattle.neli_wire.specs.DeError.{DeError as Refusal};
+ghost use Rattle.neli_wire.specs.declared.errors.DeError.{DeError as Refusal};
 ghost use Rattle.neli_wire.specs.Frames.{frame_at};
 ghost use Rattle.neli_wire.specs.Constants.{IsEquality};
 ghost use Rattle.neli_wire.specs.Numbers.{AreBytes};

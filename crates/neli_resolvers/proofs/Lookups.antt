@@ -14,8 +14,8 @@ use Rattle.neli_resolvers.specs.Attributes.{Group, HasBytes, family_name, family
 use Rattle.neli_resolvers.specs.Attributes.{group_attrs_take_memory, group_name_takes_memory, groups}
 use Rattle.neli_resolvers.specs.Attributes.{groups_take_memory}
 use Rattle.std.specs.Result.{result_ok}
-use Rattle.neli_wire.specs.DeError.{DeError}
-use Rattle.neli_wire.specs.DeError.TheVariants.{Msg, Io, Utf8, InvalidInput, Memory}
+use Rattle.neli_wire.specs.declared.errors.DeError.{DeError}
+use Rattle.neli_wire.specs.declared.errors.DeError.TheVariants.{Msg, Io, Utf8, InvalidInput, Memory}
 use Rattle.neli_wire.specs.Reading.{number_at}
 use Rattle.neli_wire.specs.Refusals.{Refuses}
 use Rattle.neli_consts.specs.contracts.genl.CtrlAttrPartialEq.TheImpl.{ghosts as ctrl_attr}

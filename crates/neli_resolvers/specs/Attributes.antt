@@ -1,6 +1,6 @@
 -- The attributes of a family and its multicast groups. Of two with one type the first counts.
 use Rattle.std.specs.Prelude.{ℕ, ◌<◌, Bool, true, false, List, Option, Result, IsSomeAnd, Ok, find, length, option_map}
-use Rattle.neli_wire.specs.DeError.{DeError}
+use Rattle.neli_wire.specs.declared.errors.DeError.{DeError}
 use Rattle.neli_wire.specs.Frames.{frame_at}
 use Rattle.neli_wire.specs.Reading.{◌>>=◌, number_at}
 use Rattle.neli_wire.specs.Strings.{owned_text}

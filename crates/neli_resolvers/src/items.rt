@@ -2,7 +2,7 @@
 
 ghost use Rattle.std.specs.Prelude.{◌≡◌, ◌≢◌, Err, IfErr, IfOk, IsSome, None, OnErr, OnOk, Some, is_some};
 ghost use Rattle.std.specs.Result.{result_ok};
-ghost use Rattle.neli_wire.specs.DeError.TheVariants.{Memory as no_memory};
+ghost use Rattle.neli_wire.specs.declared.errors.DeError.TheVariants.{Memory as no_memory};
 ghost use Rattle.neli_resolvers.specs.Items.{IsCopyOfError, first_error};
 
 use neli_consts::{CtrlAttr, CtrlCmd, GenlId};

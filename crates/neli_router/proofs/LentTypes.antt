@@ -1,7 +1,7 @@
 -- A lent read is an owned one of any types.
 use Rattle.std.proofs.Common.{◌≡◌, ℕ, ℤ, Bool, true, false, ◌<◌, ◌^◌, List, Result, Ok, Err, refl, sym, ap, subst, ◌∙◌}
 use Rattle.std.specs.Prelude.{◌==◌, bit_and, if◌then◌else◌}
-use Rattle.neli_wire.specs.DeError.{DeError}
+use Rattle.neli_wire.specs.declared.errors.DeError.{DeError}
 use Rattle.neli_wire.specs.Reading.{◌>>=◌}
 use Rattle.neli_wire.specs.laws.Reading.{bind_ok, ok_is}
 use Rattle.neli_reader.specs.Framed.{Nlmsghdr, NlmsghdrErr}

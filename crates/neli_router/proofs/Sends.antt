@@ -2,8 +2,8 @@
 use Rattle.std.proofs.Common.{◌≡◌, ℕ, Bool, true, false, Ok, Err, Result, None, Some, refl, sym, ap, subst}
 use Rattle.std.specs.Prelude.{IfErr, IsErrAnd, codes, if◌then◌else◌, nat_lt}
 use Rattle.neli_wire.specs.Refusals.{IsRefusal, ser_ran_out}
-use Rattle.neli_wire.specs.SerError.{SerError}
-use Rattle.neli_wire.specs.SerError.TheVariants as ser
+use Rattle.neli_wire.specs.declared.errors.SerError.{SerError}
+use Rattle.neli_wire.specs.declared.errors.SerError.TheVariants as ser
 use Rattle.neli_wire.specs.Writing.{Wire}
 use Rattle.neli_attr.specs.Builders.{Outcome, ◌>>>◌}
 use Rattle.neli_attr.specs.Builders.Fault.{Invalid}

@@ -1,7 +1,7 @@
 -- The outcome of each command of a run.
 use Rattle.std.specs.Prelude.{◌≡◌, ⊤, ℕ, zero, suc, Bool, true, false, List, [], ◌∷◌, length, Some, Result, Ok, Err}
 use Rattle.std.specs.List.{slice_get}
-use Rattle.neli_wire.specs.DeError.{DeError}
+use Rattle.neli_wire.specs.declared.errors.DeError.{DeError}
 use Rattle.neli_wire.specs.Writing.{Wire}
 use Rattle.neli_reader.specs.RouterError.{RouterError}
 use Rattle.neli_deliveries.specs.declared.delivery.Delivery.{Delivery}

@@ -1,7 +1,7 @@
 -- An answer that was read to its end.
 use Rattle.std.specs.Prelude.{◌≡◌, ◌≤◌, ℕ, suc, ℤ, pos, Bool, true, false, List, length, take, nat_lt, Some, Result, Ok}
 use Rattle.std.specs.List.{list_any, slice_get}
-use Rattle.neli_wire.specs.DeError.{DeError}
+use Rattle.neli_wire.specs.declared.errors.DeError.{DeError}
 use Rattle.neli_reader.specs.Framed.{Nlmsghdr}
 use Rattle.neli_reader.specs.Retyping.{IsTyped}
 use Rattle.neli_deliveries.specs.declared.delivery.Delivery.{Delivery}

@@ -1,8 +1,8 @@
 -- Why an attribute that is there is not read.
 use Rattle.std.specs.Prelude.{◌≡◌, ℕ, List, ◌++◌, codes, decimal, Option, Result, Err, ◌⊎◌}
 use Rattle.std.specs.Option.{option_map}
-use Rattle.neli_wire.specs.DeError.{DeError}
-use Rattle.neli_wire.specs.DeError.TheVariants.{Memory}
+use Rattle.neli_wire.specs.declared.errors.DeError.{DeError}
+use Rattle.neli_wire.specs.declared.errors.DeError.TheVariants.{Memory}
 use Rattle.neli_wire.specs.ErrorTexts.{de_text}
 use Rattle.neli_short.specs.declared.error.AttrError.{AttrError}
 

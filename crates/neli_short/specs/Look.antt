@@ -3,7 +3,7 @@ use Rattle.std.specs.Prelude.{ℕ, ◌-◌, Bool, List, [], ◌∷◌, find, len
 use Rattle.std.specs.Prelude.{Option, Some, None, Result, Ok, Err, IsOkAnd, IsSomeAnd}
 use Rattle.std.specs.Option.{option_map}
 use Rattle.neli_wire.specs.Bytes.{Reading}
-use Rattle.neli_wire.specs.DeError.{DeError}
+use Rattle.neli_wire.specs.declared.errors.DeError.{DeError}
 use Rattle.neli_wire.specs.Reading.{◌>>=◌, value_at}
 use Rattle.neli_attr.specs.Attributes.{Attr}
 use Rattle.neli_attr.specs.Lookup.{is_masked}

@@ -1,6 +1,6 @@
 -- Attributes that are made of a type and a payload, and lists that grow by them.
 use Rattle.std.specs.Prelude.{◌≡◌, ℕ, Bool, false, List, [], ◌∷◌, ◌++◌, Result, Ok, Err, ◌⊎◌}
-use Rattle.neli_wire.specs.SerError.{SerError}
+use Rattle.neli_wire.specs.declared.errors.SerError.{SerError}
 use Rattle.neli_wire.specs.Refusals.{IsRefusal, ser_ran_out}
 use Rattle.neli_wire.specs.Writing.{Wire, wire_all}
 use Rattle.neli_attr.specs.Attributes.{attribute_payload}

@@ -4,7 +4,7 @@ use Rattle.std.proofs.Common.{refl, sym, ap, ◌∙◌, length, subst, arith}
 use Rattle.std.specs.Prelude.{if◌then◌else◌}
 use Rattle.std.specs.Option.{option_map}
 use Rattle.std.proofs.lemmas.List.{append-nil, append_assoc}
-use Rattle.neli_wire.specs.DeError.{DeError}
+use Rattle.neli_wire.specs.declared.errors.DeError.{DeError}
 use Rattle.neli_deliveries.specs.declared.delivery.Delivery.{Delivery}
 use Rattle.neli_deliveries.specs.Readings.{Item}
 use Rattle.neli_router.specs.declared.handle.HandleState.{HandleState}

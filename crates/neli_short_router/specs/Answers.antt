@@ -1,7 +1,7 @@
 -- What reads return, by the reply rule, of an answer from its first delivery on.
 use Rattle.std.specs.Prelude.{◌≡◌, ℕ, Bool, List, ◌++◌, Option, Some, None, ⊤, Result}
 use Rattle.std.specs.List.{AllZip}
-use Rattle.neli_wire.specs.DeError.{DeError}
+use Rattle.neli_wire.specs.declared.errors.DeError.{DeError}
 use Rattle.neli_deliveries.specs.declared.delivery.Delivery.{Delivery}
 use Rattle.neli_deliveries.specs.Readings.{IsReading, Item}
 use Rattle.neli_router.specs.Rule.{has_number}

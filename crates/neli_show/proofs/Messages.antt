@@ -4,7 +4,7 @@ use Rattle.std.specs.List.{list_all}
 use Rattle.std.specs.Prelude.{is_none, is_ok}
 use Rattle.neli_lent.specs.Messages.{messages_in}
 use Rattle.neli_lent.specs.Walks.{items_of}
-use Rattle.neli_wire.specs.DeError.{DeError}
+use Rattle.neli_wire.specs.declared.errors.DeError.{DeError}
 use Rattle.neli_show.specs.Lines.{is_whole_datagram}
 
 -- no item that is left is a fault

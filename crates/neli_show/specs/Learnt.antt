@@ -11,7 +11,7 @@ use Rattle.neli_tables_walk.specs.declared.head.Head.{Head}
 use Rattle.neli_tables_walk.specs.Built.{AreRead, built_in_headings}
 use Rattle.neli_tables.specs.Families.{Lines, generic_in, learnt, learnt_as, tables_in}
 use Rattle.neli_tables.specs.declared.tables.Tables.{Tables}
-use Rattle.neli_wire.specs.DeError.{DeError}
+use Rattle.neli_wire.specs.declared.errors.DeError.{DeError}
 use Rattle.neli_show.specs.Families.{family_in}
 use Rattle.neli_show.specs.Parts.{packet_bytes}
 

@@ -7,7 +7,7 @@ use Rattle.neli_attr.specs.AttrType.{AttrType}
 use Rattle.neli_lent.specs.declared.attribute.LentAttr.{LentAttr}
 use Rattle.neli_lent.specs.Attributes.{attribute_said, attributes_at}
 use Rattle.neli_lent.specs.Walks.{find_in, found_or, map_found}
-use Rattle.neli_wire.specs.DeError.{DeError}
+use Rattle.neli_wire.specs.declared.errors.DeError.{DeError}
 use Rattle.neli_wire.specs.Place.{Place}
 use Rattle.neli_tables_walk.specs.Elements.{Lent}
 use Rattle.neli_tables_walk.specs.Shapes.{attributes_of, has_number}

@@ -8,7 +8,7 @@ use Rattle.neli_attr.specs.laws.Attributes.{attribute-placed}
 use Rattle.neli_attr.specs.TypeField.{type_of}
 use Rattle.neli_reader.specs.laws.Cuts.{frame_at-longer}
 use Rattle.neli_wire.specs.Bytes.{Reading}
-use Rattle.neli_wire.specs.DeError.{DeError}
+use Rattle.neli_wire.specs.declared.errors.DeError.{DeError}
 use Rattle.neli_wire.specs.Frames.{frame_at}
 use Rattle.neli_wire.specs.laws.Frames.{IsPlaced, number_in-take}
 use Rattle.neli_tables_walk.specs.declared.level.Sort.{Sort}

@@ -5,7 +5,7 @@ use Rattle.std.proofs.Common.{refl, sym, ap, ◌∙◌, arith, take, find}
 use Rattle.std.specs.Prelude.{option_map}
 use Rattle.neli_attr.specs.laws.Attributes.{attribute-placed}
 use Rattle.neli_attr.specs.TypeField.{type_of}
-use Rattle.neli_wire.specs.DeError.{DeError}
+use Rattle.neli_wire.specs.declared.errors.DeError.{DeError}
 use Rattle.neli_wire.specs.Frames.{frame_at}
 use Rattle.neli_wire.specs.laws.Frames.{IsPlaced}
 use Rattle.neli_reader.specs.laws.Cuts.{cut_of-end, cut_of-message, cut_of-fault}

@@ -6,7 +6,7 @@ use Rattle.std.proofs.Common.{◌∙◌, append_assoc, arith, eq-eqb, length-app
 use Rattle.std.specs.Option.{option_map}
 use Rattle.std.proofs.lemmas.Bool.{false≢true, le-ltb, lt-ltb}
 use Rattle.std.proofs.lemmas.List.{append-nil}
-use Rattle.neli_wire.specs.DeError.{DeError}
+use Rattle.neli_wire.specs.declared.errors.DeError.{DeError}
 use Rattle.neli_tables_walk.specs.declared.item.Step.{Step}
 use Rattle.neli_tables_walk.specs.declared.level.Level.{Level}
 use Rattle.neli_tables_walk.specs.declared.level.Sort.{Sort}

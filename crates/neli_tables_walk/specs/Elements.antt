@@ -8,7 +8,7 @@ use Rattle.neli_attr.specs.Attributes.{Attr, Head}
 use Rattle.neli_lent.specs.Attributes.{lent_attribute}
 use Rattle.neli_lent.specs.Frames.{headed}
 use Rattle.neli_wire.specs.Bytes.{Reading}
-use Rattle.neli_wire.specs.DeError.{DeError}
+use Rattle.neli_wire.specs.declared.errors.DeError.{DeError}
 use Rattle.neli_wire.specs.Frames.{Layout, frame_at}
 use Rattle.neli_tables_walk.specs.declared.element.Element.{Element}
 use Rattle.neli_tables_walk.specs.declared.level.Sort.{Sort}

@@ -4,7 +4,7 @@ use Rattle.std.specs.Prelude.{length, drop}
 use Rattle.std.specs.Prelude.{Option, Some, None, Result, Ok, Err}
 use Rattle.std.specs.List.{flat_map}
 use Rattle.neli_attr.specs.AttrType.{AttrType}
-use Rattle.neli_wire.specs.DeError.{DeError}
+use Rattle.neli_wire.specs.declared.errors.DeError.{DeError}
 use Rattle.neli_wire.specs.Sizes.{align}
 use Rattle.neli_tables.specs.FoundRows.{row_in}
 use Rattle.neli_tables_walk.specs.declared.item.Found.{Found}

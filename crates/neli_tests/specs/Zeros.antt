@@ -5,7 +5,7 @@ use Rattle.neli.specs.wire.Sizes.{EndsInZeros}
 use Rattle.neli.specs.wire.laws.Sizes.{unpadded-zeros}
 use Rattle.neli.specs.wire.laws.Writing.{written-length, written-no_memory}
 use Rattle.neli.specs.wire.Writing.{Wire}
-use Rattle.neli.specs.wire.SerError.TheVariants as ser
+use Rattle.neli.specs.errors.SerError.TheVariants as ser
 
 -- its bytes
 abbrev pub zeros : ℕ → Wire

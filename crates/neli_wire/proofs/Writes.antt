@@ -2,8 +2,8 @@
 use Rattle.std.proofs.Common.{◌≡◌, ℕ, ◌+◌, ◌<◌, ◌≤◌, List, ◌++◌, length, take, drop}
 use Rattle.std.proofs.Common.{get_or, Ok, Err, refl, sym, ap, ◌∙◌, arith, length-append}
 use Rattle.std.proofs.lemmas.List.{drop_more, length-take}
-use Rattle.neli_wire.specs.SerError.{SerError}
-use Rattle.neli_wire.specs.SerError.TheVariants.{Msg, Io, Utf8, Memory}
+use Rattle.neli_wire.specs.declared.errors.SerError.{SerError}
+use Rattle.neli_wire.specs.declared.errors.SerError.TheVariants.{Msg, Io, Utf8, Memory}
 use Rattle.neli_wire.specs.laws.Writing.{append_wire-err, refused_part_first}
 use Rattle.neli_wire.specs.Writing.{Wire, ◌+++◌, append_wire, RefusesWrite, TakesRoom, wire_all}
 

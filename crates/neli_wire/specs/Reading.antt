@@ -6,8 +6,8 @@ use Rattle.std.specs.declared.io.ErrorKind.TheVariants.{UnexpectedEof}
 use Rattle.neli_wire.specs.Bytes.{Reading, bytes_at, short}
 use Rattle.neli_wire.specs.Place.{Place, place_after}
 use Rattle.neli_wire.specs.Sizes.{gap}
-use Rattle.neli_wire.specs.DeError.{DeError}
-use Rattle.neli_wire.specs.DeError.TheVariants.{Io, InvalidInput}
+use Rattle.neli_wire.specs.declared.errors.DeError.{DeError}
+use Rattle.neli_wire.specs.declared.errors.DeError.TheVariants.{Io, InvalidInput}
 
 -- the next step after a value was read; a refusal stays
 infixl 10 ◌>>=◌

@@ -4,10 +4,10 @@ use Rattle.std.specs.Prelude.{drop, Result, Ok, Err, nat_lt, nat_eq, if◌then�
 use Rattle.std.specs.Str.Lossy.{utf8_valid_len, utf8_error_len}
 use Rattle.std.specs.declared.str.Utf8Error.{Utf8Error}
 use Rattle.neli_wire.specs.Writing.{Wire}
-use Rattle.neli_wire.specs.DeError.{DeError}
-use Rattle.neli_wire.specs.DeError.TheVariants.{InvalidInput, Utf8 as NotText}
-use Rattle.neli_wire.specs.Utf8.{Utf8}
-use Rattle.neli_wire.specs.Utf8.TheVariants.{String as OfString, Str as OfStr}
+use Rattle.neli_wire.specs.declared.errors.DeError.{DeError}
+use Rattle.neli_wire.specs.declared.errors.DeError.TheVariants.{InvalidInput, Utf8 as NotText}
+use Rattle.neli_wire.specs.declared.errors.Utf8.{Utf8}
+use Rattle.neli_wire.specs.declared.errors.Utf8.TheVariants.{String as OfString, Str as OfStr}
 
 -- a text and a zero after it
 abbrev pub text_and_zero : List ℕ → Wire

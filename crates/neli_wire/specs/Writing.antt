@@ -1,7 +1,7 @@
 -- Writing: the bytes of a value, called its wire bytes, or why it has none.
 use Rattle.std.specs.Prelude.{ℕ, ◌<◌, List, [], ◌∷◌, ◌++◌, length, replicate, Result, Ok, Err, ⊤}
 use Rattle.neli_wire.specs.Sizes.{gap}
-use Rattle.neli_wire.specs.SerError.{SerError}
+use Rattle.neli_wire.specs.declared.errors.SerError.{SerError}
 use Rattle.neli_wire.specs.Refusals.{IsRefusal, ser_ran_out}
 
 -- the bytes of a value, or a refusal

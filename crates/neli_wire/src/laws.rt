@@ -13,8 +13,8 @@ ghost use Rattle.neli_wire.specs.Strings.{borrowed_text, nothing, owned_text};
 ghost use Rattle.neli_wire.specs.Writing.{wire_all};
 ghost use Rattle.neli_wire.specs.laws.Elements.{elements};
 ghost use Rattle.neli_wire.specs.laws.Values.{AreNumbers, AreReadAs, AreSame, AreWrittenAs};
-ghost use Rattle.neli_wire.specs.DeError.{DeError as Refusal};
-ghost use Rattle.neli_wire.specs.DeError.TheVariants as de;
+ghost use Rattle.neli_wire.specs.declared.errors.DeError.{DeError as Refusal};
+ghost use Rattle.neli_wire.specs.declared.errors.DeError.TheVariants as de;
 
 use crate::{
     BeU16, BeU32, BeU64, Constant, FromBytes, FromBytesWithInput, FromBytesWithInputBorrowed, Size,

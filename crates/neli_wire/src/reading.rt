@@ -8,8 +8,8 @@ ghost use Rattle.neli_wire.specs.Refusals.{Refuses};
 ghost use Rattle.neli_wire.specs.Reading.{IsLocal, LacksPadding, StripsTo};
 ghost use Rattle.neli_wire.specs.Reading.{exact_reading, exact_takes_memory, refusal_within};
 ghost use Rattle.neli_wire.specs.Sizes.{gap};
-ghost use Rattle.neli_wire.specs.DeError.{DeError as Refusal};
-ghost use Rattle.neli_wire.specs.DeError.TheVariants as de;
+ghost use Rattle.neli_wire.specs.declared.errors.DeError.{DeError as Refusal};
+ghost use Rattle.neli_wire.specs.declared.errors.DeError.TheVariants as de;
 
 use crate::{Cursor, DeError, ToBytes, alignto};
 use std::alloc::Global;

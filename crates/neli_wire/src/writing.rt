@@ -3,7 +3,7 @@
 ghost use Rattle.std.specs.Prelude.{◌≡◌, ℕ, ◌++◌, ◌-◌, ◌<◌, ◌≤◌, List, Ok, Err, IfErr, OnOk, OnErr, length, take};
 ghost use Rattle.neli_wire.specs.Sizes.{EndsInZeros, gap};
 ghost use Rattle.neli_wire.specs.Writing.{Wire, RefusesWrite, append_wire, zeros_for};
-ghost use Rattle.neli_wire.specs.SerError.TheVariants as ser;
+ghost use Rattle.neli_wire.specs.declared.errors.SerError.TheVariants as ser;
 
 use crate::{SerError, Size, alignto};
 use std::alloc::AllocError;

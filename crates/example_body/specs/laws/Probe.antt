@@ -5,7 +5,7 @@ use Rattle.neli.specs.wire.laws.Numbers.{count-unsigned}
 use Rattle.neli.specs.wire.laws.Lists.{both_written, both-no_memory}
 use Rattle.neli.specs.wire.Writing.{Wire}
 use Rattle.neli.specs.wire.laws.Writing.{written-length, written-no_memory}
-use Rattle.neli.specs.wire.SerError.TheVariants.{Memory}
+use Rattle.neli.specs.errors.SerError.TheVariants.{Memory}
 use Rattle.example_body.specs.declared.probe.Probe.{Probe}
 use Rattle.example_body.specs.Probe.{probe_wire}
 

@@ -10,8 +10,8 @@ use Rattle.neli.specs.wire.laws.Elements.{elements}
 use Rattle.neli.specs.wire.laws.Reading.{bind-not, number_at-no_memory}
 use Rattle.neli.specs.wire.Writing.{wire_all}
 use Rattle.neli.specs.wire.laws.Writing.{written-length, written-no_memory}
-use Rattle.neli.specs.wire.DeError.TheVariants.{Memory}
-use Rattle.neli.specs.wire.SerError.TheVariants as ser
+use Rattle.neli.specs.errors.DeError.TheVariants.{Memory}
+use Rattle.neli.specs.errors.SerError.TheVariants as ser
 use Rattle.example_body.specs.declared.watch.Watch.{Watch}
 use Rattle.example_body.specs.Watch.{level_wire, watch_wire, watch_size, watch_fields, watch_of}
 

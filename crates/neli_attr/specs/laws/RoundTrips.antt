@@ -10,7 +10,7 @@ use Rattle.std.proofs.lemmas.Nat.{and_mask, or_lt}
 use Rattle.std.proofs.lemmas.Nat.Bits.{and_pow}
 use Rattle.byteorder.specs.Endian.{little_bytes, little_number}
 use Rattle.byteorder.specs.Numbers.{little_number-reads_back}
-use Rattle.neli_wire.specs.DeError.{DeError}
+use Rattle.neli_wire.specs.declared.errors.DeError.{DeError}
 use Rattle.neli_wire.specs.Sizes.{align}
 use Rattle.neli_wire.specs.Frames.{Layout, IsFrame, AreFrames, number_in}
 use Rattle.neli_wire.specs.laws.FrameLists.{frames-list}

@@ -1,6 +1,6 @@
 -- Laws of routing attributes, which the impls cite.
 use Rattle.std.proofs.Common.{◌≡◌, ◌≢◌, ℕ, ◌+◌, List, length, Ok, Err}
-use Rattle.neli_wire.specs.SerError.TheVariants as ser
+use Rattle.neli_wire.specs.declared.errors.SerError.TheVariants as ser
 use Rattle.neli_wire.specs.Sizes.{EndsInZeros, align}
 use Rattle.neli_wire.specs.Writing.{Wire}
 use Rattle.neli_attr.specs.laws.Attributes.{attribute_wire-length, attribute_wire-no_memory, attribute_wire-zeros}

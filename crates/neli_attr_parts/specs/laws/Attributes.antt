@@ -4,10 +4,10 @@ use Rattle.std.proofs.Common.{[], ◌++◌, length, Result, Ok, Err, refl, ap, �
 use Rattle.std.specs.Prelude.{codes, nat_lt}
 use Rattle.std.proofs.lemmas.List.{length-replicate}
 use Rattle.byteorder.specs.Endian.{little_bytes, little_number}
-use Rattle.neli_wire.specs.DeError.{DeError}
-use Rattle.neli_wire.specs.DeError.TheVariants.{Memory}
-use Rattle.neli_wire.specs.SerError.{SerError}
-use Rattle.neli_wire.specs.SerError.TheVariants as ser
+use Rattle.neli_wire.specs.declared.errors.DeError.{DeError}
+use Rattle.neli_wire.specs.declared.errors.DeError.TheVariants.{Memory}
+use Rattle.neli_wire.specs.declared.errors.SerError.{SerError}
+use Rattle.neli_wire.specs.declared.errors.SerError.TheVariants as ser
 use Rattle.neli_wire.specs.Sizes.{align, EndsInZeros}
 use Rattle.neli_wire.specs.laws.Sizes.{padded-zeros}
 use Rattle.neli_wire.specs.Reading.{IsLocal, number_at, number_as}

@@ -1,7 +1,7 @@
 -- Attributes field by field, as they are read. The laws of attributes tie this to reading by places.
 use Rattle.std.specs.Prelude.{ℕ, List, Result, Ok}
 use Rattle.neli_wire.specs.Bytes.{Reading}
-use Rattle.neli_wire.specs.DeError.{DeError}
+use Rattle.neli_wire.specs.declared.errors.DeError.{DeError}
 use Rattle.neli_wire.specs.Reading.{◌>>=◌, number_at, number_as}
 use Rattle.neli_wire.specs.laws.Steps.{header_then, header_then_takes_memory}
 use Rattle.neli_attr_parts.specs.Attributes.{Attr, Head}

@@ -1,8 +1,8 @@
 -- Laws of lists of routing attributes.
 use Rattle.std.proofs.Common.{◌≡◌, ◌≢◌, ℕ, ◌+◌, List, length, Ok, Err, refl}
 use Rattle.neli_wire.specs.Bytes.{short}
-use Rattle.neli_wire.specs.DeError.TheVariants.{Memory}
-use Rattle.neli_wire.specs.SerError.TheVariants as ser
+use Rattle.neli_wire.specs.declared.errors.DeError.TheVariants.{Memory}
+use Rattle.neli_wire.specs.declared.errors.SerError.TheVariants as ser
 use Rattle.neli_wire.specs.Frames.{frame_at}
 use Rattle.neli_wire.specs.Sizes.{align, EndsInZeros}
 use Rattle.neli_wire.specs.laws.Sizes.{unpadded-zeros}

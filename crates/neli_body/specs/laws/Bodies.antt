@@ -5,9 +5,9 @@ use Rattle.std.proofs.lemmas.Bool.{le-ltb}
 use Rattle.std.proofs.lemmas.List.{take_at, drop_at}
 use Rattle.neli_wire.specs.Bytes.{short}
 use Rattle.neli_wire.specs.Refusals.{Refuses}
-use Rattle.neli_wire.specs.DeError.{DeError}
-use Rattle.neli_wire.specs.DeError.TheVariants.{InvalidInput, Memory}
-use Rattle.neli_wire.specs.SerError.TheVariants as ser
+use Rattle.neli_wire.specs.declared.errors.DeError.{DeError}
+use Rattle.neli_wire.specs.declared.errors.DeError.TheVariants.{InvalidInput, Memory}
+use Rattle.neli_wire.specs.declared.errors.SerError.TheVariants as ser
 use Rattle.neli_wire.specs.laws.Lists.{both_written, both-no_memory}
 use Rattle.neli_wire.specs.laws.Reading.{bind-not, guard-not, refused_first}
 use Rattle.neli_wire.specs.Reading.{exact_reading, exact_takes_memory}

@@ -11,9 +11,9 @@ use Rattle.neli_genl.specs.Genlmsghdr.{Attrs, attrs_size, attrs_wire, genlmsghdr
 use Rattle.neli_genl.specs.Genlmsghdr.{genlmsghdr_wire, parts_of}
 use Rattle.neli_genl.specs.declared.genlmsghdr.Genlmsghdr.{Genlmsghdr}
 use Rattle.neli_wire.specs.Bytes.{Reading, short}
-use Rattle.neli_wire.specs.DeError.{DeError}
-use Rattle.neli_wire.specs.DeError.TheVariants.{InvalidInput, Memory}
-use Rattle.neli_wire.specs.SerError.TheVariants as ser
+use Rattle.neli_wire.specs.declared.errors.DeError.{DeError}
+use Rattle.neli_wire.specs.declared.errors.DeError.TheVariants.{InvalidInput, Memory}
+use Rattle.neli_wire.specs.declared.errors.SerError.TheVariants as ser
 use Rattle.neli_wire.specs.Frames.{frame_at}
 use Rattle.neli_wire.specs.laws.Lists.{both_written, both-no_memory, elements-no_memory, elements-never_short}
 use Rattle.neli_wire.specs.laws.Lists.{map_refusal-never_short, map_refusal-no_memory, wire_all-length}

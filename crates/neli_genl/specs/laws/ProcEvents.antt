@@ -10,8 +10,8 @@ use Rattle.neli_genl.specs.declared.proc_event.ProcEvent.TheVariants.{Ack, Fork,
 use Rattle.neli_genl.specs.declared.proc_event.ProcEvent.TheVariants.{Coredump, Exit}
 use Rattle.neli_genl.specs.declared.proc_event_header.ProcEventHeader.{ProcEventHeader}
 use Rattle.neli_wire.specs.Bytes.{short}
-use Rattle.neli_wire.specs.DeError.{DeError}
-use Rattle.neli_wire.specs.DeError.TheVariants.{InvalidInput, Memory, Msg}
+use Rattle.neli_wire.specs.declared.errors.DeError.{DeError}
+use Rattle.neli_wire.specs.declared.errors.DeError.TheVariants.{InvalidInput, Memory, Msg}
 use Rattle.neli_wire.specs.Frames.{number_in}
 use Rattle.neli_wire.specs.laws.Reading.{bind-not, guard-not}
 use Rattle.neli_wire.specs.Writing.{Wire}

@@ -1,8 +1,8 @@
 -- Laws of refusals, which proofs of readings cite.
 use Rattle.std.proofs.Common.{◌≡◌, Result, Ok, Err, sym, ◌∙◌}
 use Rattle.std.specs.Prelude.{IfErr}
-use Rattle.neli_wire.specs.DeError.{DeError}
-use Rattle.neli_wire.specs.DeError.TheVariants.{Msg, Io, Utf8, InvalidInput, Memory}
+use Rattle.neli_wire.specs.declared.errors.DeError.{DeError}
+use Rattle.neli_wire.specs.declared.errors.DeError.TheVariants.{Msg, Io, Utf8, InvalidInput, Memory}
 use Rattle.neli_wire.specs.Refusals.{Refuses}
 
 -- equal readings have the same refusals

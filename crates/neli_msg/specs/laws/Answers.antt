@@ -1,7 +1,7 @@
 -- Laws of answers: no reading of one is refused as short, or by itself for lack of memory.
 use Rattle.std.proofs.Common.{◌≢◌, ℕ, ◌-◌, ltb, List, length, Result, Ok, Err}
-use Rattle.neli_wire.specs.DeError.{DeError}
-use Rattle.neli_wire.specs.DeError.TheVariants.{InvalidInput, Memory}
+use Rattle.neli_wire.specs.declared.errors.DeError.{DeError}
+use Rattle.neli_wire.specs.declared.errors.DeError.TheVariants.{InvalidInput, Memory}
 use Rattle.neli_wire.specs.Bytes.{short}
 use Rattle.neli_wire.specs.Frames.{frame_at}
 use Rattle.neli_wire.specs.laws.Reading.{bind-not, guard-not}

@@ -1,7 +1,7 @@
 -- Laws of headers.
 use Rattle.std.proofs.Common.{◌≡◌, ◌≢◌, ℕ, List, ◌++◌, length, Ok, Err, arith, length-append}
 use Rattle.byteorder.specs.Endian.{little_bytes}
-use Rattle.neli_wire.specs.SerError.TheVariants as ser
+use Rattle.neli_wire.specs.declared.errors.SerError.TheVariants as ser
 use Rattle.neli_wire.specs.Sizes.{EndsInZeros}
 use Rattle.neli_wire.specs.laws.Sizes.{unpadded-zeros}
 use Rattle.neli_wire.specs.laws.Numbers.{count-unsigned}

@@ -1,7 +1,7 @@
 -- Laws of kinds.
 use Rattle.std.proofs.Common.{◌≢◌, ℕ, List, Result, Err}
-use Rattle.neli_wire.specs.DeError.{DeError}
-use Rattle.neli_wire.specs.DeError.TheVariants.{Memory}
+use Rattle.neli_wire.specs.declared.errors.DeError.{DeError}
+use Rattle.neli_wire.specs.declared.errors.DeError.TheVariants.{Memory}
 use Rattle.neli_wire.specs.laws.Reading.{bind-not}
 use Rattle.neli_consts.specs.declared.nlm_f.NlmF.{NlmF}
 use Rattle.neli_msg.specs.declared.payload.Kind.{Kind}

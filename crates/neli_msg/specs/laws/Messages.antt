@@ -1,7 +1,7 @@
 -- Laws of messages by their places.
 use Rattle.std.proofs.Common.{◌≢◌, ℕ, ◌+◌, ◌≤◌, List, Result, Err, refl, arith}
-use Rattle.neli_wire.specs.DeError.{DeError}
-use Rattle.neli_wire.specs.DeError.TheVariants.{Memory}
+use Rattle.neli_wire.specs.declared.errors.DeError.{DeError}
+use Rattle.neli_wire.specs.declared.errors.DeError.TheVariants.{Memory}
 use Rattle.neli_wire.specs.Frames.{frame_at}
 use Rattle.neli_wire.specs.laws.Frames.{IsPlaced, number_in-take, frame_at-local, frame_at-no_memory}
 use Rattle.neli_wire.specs.Reading.{IsLocal}

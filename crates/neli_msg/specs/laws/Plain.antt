@@ -2,8 +2,8 @@
 use Rattle.std.proofs.Common.{◌≡◌, ℕ, zero, suc, ◌-◌, Bool, true, false, cond, ltb, List}
 use Rattle.std.proofs.Common.{[], ◌∷◌, length, take, drop, Result, Ok, Err, refl, subst}
 use Rattle.neli_wire.specs.Bytes.{Reading, short}
-use Rattle.neli_wire.specs.DeError.{DeError}
-use Rattle.neli_wire.specs.DeError.TheVariants.{InvalidInput}
+use Rattle.neli_wire.specs.declared.errors.DeError.{DeError}
+use Rattle.neli_wire.specs.declared.errors.DeError.TheVariants.{InvalidInput}
 use Rattle.neli_wire.specs.Frames.{Layout, frame_at}
 use Rattle.neli_wire.specs.Reading.{◌>>=◌, is_short, map_refusal, refusal_within}
 use Rattle.neli_wire.specs.Sizes.{align}

@@ -4,8 +4,8 @@ use Rattle.std.proofs.Common.{length, take, drop, Result, Ok, Err, refl, sym, ap
 use Rattle.std.specs.Prelude.{IsErr, IsOk, ◌↔◌}
 use Rattle.std.proofs.lemmas.List.{get_or-drop}
 use Rattle.byteorder.specs.Numbers.{little_from-lt}
-use Rattle.neli_wire.specs.DeError.{DeError}
-use Rattle.neli_wire.specs.DeError.TheVariants.{InvalidInput}
+use Rattle.neli_wire.specs.declared.errors.DeError.{DeError}
+use Rattle.neli_wire.specs.declared.errors.DeError.TheVariants.{InvalidInput}
 use Rattle.neli_wire.specs.Bytes.{short}
 use Rattle.neli_wire.specs.Sizes.{align}
 use Rattle.neli_wire.specs.Frames.{frame_at, number_in}

@@ -2,7 +2,7 @@
 use Rattle.std.proofs.Common.{◌≡◌, ◌≢◌, ℕ, ◌+◌, ◌-◌, ◌≤◌, List, [], ◌++◌}
 use Rattle.std.proofs.Common.{length, Ok, Err, refl, ap, ◌∙◌, arith, length-append}
 use Rattle.std.specs.Int.{w32}
-use Rattle.neli_wire.specs.SerError.TheVariants as ser
+use Rattle.neli_wire.specs.declared.errors.SerError.TheVariants as ser
 use Rattle.std.proofs.lemmas.List.{length-replicate}
 use Rattle.neli_wire.specs.laws.Lists.{both_written, both-no_memory, wire_all-length, wire_all-no_memory}
 use Rattle.neli_wire.specs.laws.Numbers.{count-signed}

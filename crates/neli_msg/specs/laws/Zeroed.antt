@@ -10,8 +10,8 @@ use Rattle.std.proofs.lemmas.List.{append-nil, drop_all, length-replicate, lengt
 use Rattle.std.proofs.lemmas.List.{nil_from_length, replicate-append-replicate, take-take, take_all}
 use Rattle.std.proofs.Math.Seq.{take-add}
 use Rattle.byteorder.specs.Numbers.{little_from-append, little_from-lt}
-use Rattle.neli_wire.specs.DeError.{DeError}
-use Rattle.neli_wire.specs.DeError.TheVariants.{InvalidInput}
+use Rattle.neli_wire.specs.declared.errors.DeError.{DeError}
+use Rattle.neli_wire.specs.declared.errors.DeError.TheVariants.{InvalidInput}
 use Rattle.neli_wire.specs.Frames.{Layout, IsFrame, AreFrames, number_in}
 use Rattle.neli_wire.specs.Numbers.{AreBytes, little_bytes, signed_bytes}
 use Rattle.neli_wire.specs.Sizes.{align}

@@ -8,8 +8,8 @@ use Rattle.std.proofs.lemmas.List.{append-nil, drop-append-le, drop-take, drop_a
 use Rattle.std.proofs.lemmas.List.{drop_at, length-replicate, length-take-le, nil_from_length}
 use Rattle.std.proofs.lemmas.List.{take-append-drop, take-append-le, take-take, take_at}
 use Rattle.byteorder.specs.Endian.{little_number}
-use Rattle.neli_wire.specs.DeError.{DeError}
-use Rattle.neli_wire.specs.DeError.TheVariants.{InvalidInput}
+use Rattle.neli_wire.specs.declared.errors.DeError.{DeError}
+use Rattle.neli_wire.specs.declared.errors.DeError.TheVariants.{InvalidInput}
 use Rattle.neli_wire.specs.Frames.{Layout, IsFrame, AreFrames, number_in}
 use Rattle.neli_wire.specs.Sizes.{align}
 use Rattle.neli_wire.specs.laws.FrameLists.{frames-list, list-frames}

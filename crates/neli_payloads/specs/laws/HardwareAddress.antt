@@ -1,8 +1,8 @@
 -- Laws of hardware addresses.
 use Rattle.std.proofs.Common.{◌≢◌, ℕ, Bool, true, false, cond, List, length, Ok, Err}
 use Rattle.neli_wire.specs.Bytes.{short}
-use Rattle.neli_wire.specs.DeError.{DeError}
-use Rattle.neli_wire.specs.DeError.TheVariants.{InvalidInput, Memory}
+use Rattle.neli_wire.specs.declared.errors.DeError.{DeError}
+use Rattle.neli_wire.specs.declared.errors.DeError.TheVariants.{InvalidInput, Memory}
 use Rattle.neli_payloads.specs.HardwareAddress.{hardware_address}
 
 -- one of two outcomes is neither of these refusals

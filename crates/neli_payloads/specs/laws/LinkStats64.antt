@@ -1,8 +1,8 @@
 -- Laws of the counters of links: no bytes are refused.
 use Rattle.std.proofs.Common.{◌≢◌, ℕ, List, Ok, Err}
 use Rattle.neli_wire.specs.Bytes.{short}
-use Rattle.neli_wire.specs.DeError.{DeError}
-use Rattle.neli_wire.specs.DeError.TheVariants.{Memory}
+use Rattle.neli_wire.specs.declared.errors.DeError.{DeError}
+use Rattle.neli_wire.specs.declared.errors.DeError.TheVariants.{Memory}
 use Rattle.neli_payloads.specs.LinkStats64.{link_stats64_of}
 use Rattle.neli_payloads.specs.declared.link_stats64.LinkStats64.{LinkStats64}
 

@@ -40,8 +40,8 @@ use Rattle.neli_tables_walk.specs.laws.Strings.{digits-plain, plain-append, quot
 use Rattle.neli_tables_walk.specs.laws.Values.{breach-plain, bytes_json-json, fields_json-json}
 use Rattle.neli_tables_walk.specs.laws.Values.{hex-plain, name_json-json, name_text-chars}
 use Rattle.neli_tables_walk.specs.laws.Values.{payload_json-json}
-use Rattle.neli_wire.specs.DeError.{DeError}
-use Rattle.neli_wire.specs.DeError.TheVariants as de
+use Rattle.neli_wire.specs.declared.errors.DeError.{DeError}
+use Rattle.neli_wire.specs.declared.errors.DeError.TheVariants as de
 use Rattle.neli_print.specs.declared.flags.FlagForm.TheVariants.{Strings}
 use Rattle.neli_print.specs.declared.flags.Left.{Left}
 use Rattle.neli_print.specs.declared.head.Header.{Header}

@@ -4,8 +4,8 @@ use Rattle.std.proofs.Common.{List, [], ◌∷◌, ◌++◌, length, Result, Ok,
 use Rattle.std.proofs.Common.{None, refl, sym, ap, subst, ◌∙◌, append_assoc, arith, length-append, drop}
 use Rattle.std.proofs.lemmas.List.{append-nil}
 use Rattle.neli_wire.specs.Bytes.{Reading}
-use Rattle.neli_wire.specs.DeError.{DeError}
-use Rattle.neli_wire.specs.DeError.TheVariants.{Msg, Io, Utf8, InvalidInput, Memory}
+use Rattle.neli_wire.specs.declared.errors.DeError.{DeError}
+use Rattle.neli_wire.specs.declared.errors.DeError.TheVariants.{Msg, Io, Utf8, InvalidInput, Memory}
 use Rattle.neli_wire.specs.Frames.{Layout, IsFrame, AreFrames, frame_at}
 use Rattle.neli_wire.specs.Refusals.{Refuses}
 use Rattle.neli_wire.specs.laws.Frames.{IsPlaced, frame_at-frame, frame_of-frame_at, frame_at-shorter}

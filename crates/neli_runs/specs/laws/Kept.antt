@@ -2,7 +2,7 @@
 use Rattle.std.specs.Prelude.{ℕ, suc, ◌≡◌, ◌≤◌, true, false, nat_lt, nat_le, List, [], ◌∷◌, drop, length, Option, Some}
 use Rattle.std.specs.Prelude.{None, Result}
 use Rattle.std.specs.List.{slice_get}
-use Rattle.neli_wire.specs.DeError.{DeError}
+use Rattle.neli_wire.specs.declared.errors.DeError.{DeError}
 use Rattle.neli_wire.specs.Writing.{Wire}
 use Rattle.neli_deliveries.specs.declared.delivery.Delivery.{Delivery}
 use Rattle.neli_deliveries.specs.Readings.{Item}

@@ -1,8 +1,8 @@
 -- The elements of a list, read one by one: the list that `AreElements` defines, or its first refusal.
 use Rattle.std.specs.Prelude.{ℕ, zero, suc, List, [], ◌∷◌, length, Result, Ok, Err, nat_lt, if◌then◌else◌}
 use Rattle.neli_wire.specs.Bytes.{Reading}
-use Rattle.neli_wire.specs.DeError.{DeError}
-use Rattle.neli_wire.specs.DeError.TheVariants.{InvalidInput}
+use Rattle.neli_wire.specs.declared.errors.DeError.{DeError}
+use Rattle.neli_wire.specs.declared.errors.DeError.TheVariants.{InvalidInput}
 use Rattle.neli_wire.specs.Reading.{◌>>=◌, map_refusal, refusal_within}
 
 -- the elements that a byte list of at most `fuel` bytes spells, one after the other; stuck where one takes no byte

@@ -2,7 +2,7 @@
 use Rattle.std.proofs.Common.{◌≡◌, ℕ, ◌<◌, List, [], ◌∷◌, ◌++◌, length}
 use Rattle.std.proofs.Common.{Ok, Err, refl, sym, ap, ◌∙◌, append_assoc, arith}
 use Rattle.std.proofs.lemmas.List.{append-nil}
-use Rattle.neli_wire.specs.DeError.{DeError}
+use Rattle.neli_wire.specs.declared.errors.DeError.{DeError}
 use Rattle.neli_wire.specs.Frames.{Layout, IsFrame, AreFrames, frame_at}
 use Rattle.neli_wire.specs.laws.Elements.{elements}
 use Rattle.neli_wire.specs.laws.Frames.{IsPlaced, frame_at-frame, frame_of-frame_at, frame_at-local}

@@ -4,8 +4,8 @@ use Rattle.std.proofs.Common.{ltb, List, ◌++◌, length, take, drop, Result, O
 use Rattle.std.proofs.Common.{sym, ap, subst, ◌∙◌, append_assoc, arith, length-append, length-drop}
 use Rattle.std.proofs.lemmas.Bool.{ltb-false, le-ltb}
 use Rattle.std.proofs.lemmas.List.{take_at, drop_at, take-append-drop, length-take-le}
-use Rattle.neli_wire.specs.DeError.{DeError}
-use Rattle.neli_wire.specs.DeError.TheVariants.{Msg, Io, Utf8, InvalidInput, Memory}
+use Rattle.neli_wire.specs.declared.errors.DeError.{DeError}
+use Rattle.neli_wire.specs.declared.errors.DeError.TheVariants.{Msg, Io, Utf8, InvalidInput, Memory}
 use Rattle.byteorder.specs.Endian.{little_number}
 use Rattle.neli_wire.specs.Bytes.{Reading, bytes_at, short}
 use Rattle.neli_wire.specs.Refusals.{Refuses}

@@ -2,8 +2,8 @@
 -- readings by places.
 use Rattle.std.specs.Prelude.{ℕ, ◌-◌, ◌≤◌, List, Result, Ok, Err, nat_lt, if◌then◌else◌}
 use Rattle.neli_wire.specs.Bytes.{Reading, bytes_at}
-use Rattle.neli_wire.specs.DeError.{DeError}
-use Rattle.neli_wire.specs.DeError.TheVariants.{InvalidInput}
+use Rattle.neli_wire.specs.declared.errors.DeError.{DeError}
+use Rattle.neli_wire.specs.declared.errors.DeError.TheVariants.{InvalidInput}
 use Rattle.neli_wire.specs.Reading.{◌>>=◌, IfRead, exact_reading, exact_takes_memory}
 use Rattle.neli_wire.specs.Sizes.{align}
 

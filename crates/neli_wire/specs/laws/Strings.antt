@@ -5,10 +5,10 @@ use Rattle.std.specs.declared.str.Utf8Error.{Utf8Error}
 use Rattle.std.specs.Str.{IsUtf8}
 use Rattle.std.specs.Str.Lossy.{utf8_valid_len}
 use Rattle.std.proofs.lemmas.Str.{utf8_valid_len-IsUtf8}
-use Rattle.neli_wire.specs.DeError.{DeError}
-use Rattle.neli_wire.specs.DeError.TheVariants.{Utf8 as NotText, InvalidInput, Memory}
-use Rattle.neli_wire.specs.Utf8.{Utf8}
-use Rattle.neli_wire.specs.Utf8.TheVariants.{String as OfString, Str as OfStr}
+use Rattle.neli_wire.specs.declared.errors.DeError.{DeError}
+use Rattle.neli_wire.specs.declared.errors.DeError.TheVariants.{Utf8 as NotText, InvalidInput, Memory}
+use Rattle.neli_wire.specs.declared.errors.Utf8.{Utf8}
+use Rattle.neli_wire.specs.declared.errors.Utf8.TheVariants.{String as OfString, Str as OfStr}
 use Rattle.neli_wire.specs.Bytes.{short}
 use Rattle.neli_wire.specs.Strings.{text_and_zero, fault_of, utf8_of, borrowed_text, owned_text, nothing}
 

@@ -2,8 +2,8 @@
 use Rattle.std.proofs.Common.{◌≡◌, ◌≢◌, ℕ, ◌-◌, List, ◌++◌, length, Ok}
 use Rattle.std.proofs.Common.{Err, refl, sym, ap, append_assoc, arith, length-append, Result, subst}
 use Rattle.std.specs.Prelude.{IfErr, IsErrAnd}
-use Rattle.neli_wire.specs.SerError.{SerError}
-use Rattle.neli_wire.specs.SerError.TheVariants.{Msg, Io, Utf8, Memory}
+use Rattle.neli_wire.specs.declared.errors.SerError.{SerError}
+use Rattle.neli_wire.specs.declared.errors.SerError.TheVariants.{Msg, Io, Utf8, Memory}
 use Rattle.neli_wire.specs.Writing.{Wire, ◌+++◌, append_wire, pad_wire, zeros_for, RefusesWrite, TakesRoom}
 
 -- a text after what was appended

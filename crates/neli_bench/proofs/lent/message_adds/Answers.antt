@@ -1,7 +1,7 @@
 use Rattle.std.proofs.Common.{◌≡◌, ℕ, Bool, true, false, List, [], Option, Some, None, Ok, Err, drop, ap, ◌∙◌, rules}
 use Rattle.std.specs.Prelude.{IfSome, if◌then◌else◌, nat_lt, length}
-use Rattle.neli_wire.specs.DeError.{DeError}
-use Rattle.neli_wire.specs.DeError.TheVariants.{InvalidInput}
+use Rattle.neli_wire.specs.declared.errors.DeError.{DeError}
+use Rattle.neli_wire.specs.declared.errors.DeError.TheVariants.{InvalidInput}
 use Rattle.neli_reader.specs.Answers.{after}
 use Rattle.neli_lent.specs.Attributes.{attributes_at}
 use Rattle.neli_lent.specs.Messages.{Lent, message_said}

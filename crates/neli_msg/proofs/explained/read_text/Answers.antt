@@ -1,7 +1,7 @@
 use Rattle.std.proofs.Common.{◌≡◌, ◌-◌, length, take, false, ltb, arith}
 use Rattle.std.proofs.lemmas.Bool.{le-ltb}
 use Rattle.neli_wire.specs.laws.Strings.{utf8_of-text}
-use Rattle.neli_wire.specs.Utf8.TheVariants.{String as OfString}
+use Rattle.neli_wire.specs.declared.errors.Utf8.TheVariants.{String as OfString}
 use Rattle.neli_msg.proofs.explained.read_text.Goals as goal
 
 pub returns-in-Ok-clause-value : goal.returns-in-Ok-clause-value

@@ -1,7 +1,7 @@
 use Rattle.std.proofs.Common.{◌≢◌, ℕ, List, Some, Result, Ok, Err, refl, arith, subst}
 use Rattle.std.proofs.lemmas.Grind.{common_steps}
 use Rattle.std.specs.Prelude.{OnErr}
-use Rattle.neli_wire.specs.DeError.{DeError}
+use Rattle.neli_wire.specs.declared.errors.DeError.{DeError}
 use Rattle.neli_wire.specs.Frames.{Layout, frame_takes_memory}
 use Rattle.neli_msg.specs.declared.socket_error.SocketError.{SocketError}
 use Rattle.neli_msg.specs.declared.socket_error.SocketError.TheVariants as socket

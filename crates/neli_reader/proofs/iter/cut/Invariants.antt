@@ -1,6 +1,6 @@
 use Rattle.std.proofs.Common.{◌≡◌, ◌≤◌, Err, length}
 use Rattle.std.specs.Prelude.{map}
-use Rattle.neli_wire.specs.DeError.{DeError}
+use Rattle.neli_wire.specs.declared.errors.DeError.{DeError}
 use Rattle.neli_wire.specs.Frames.{frame_at}
 use Rattle.neli_msg.specs.Messages.{message_layout, message_of}
 use Rattle.neli_reader.specs.Cuts.{cut_of, messages_before}

@@ -1,7 +1,7 @@
 use Rattle.std.proofs.Common.{arith}
 use Rattle.std.specs.Prelude.{sum_by}
 use Rattle.neli_wire.proofs.Writes.{takes-room}
-use Rattle.neli_wire.specs.SerError.TheVariants.{Memory}
+use Rattle.neli_wire.specs.declared.errors.SerError.TheVariants.{Memory}
 use Rattle.neli_wire.specs.Writing.{wire_all}
 use Rattle.neli_wire.specs.laws.Lists.{wire_all-length}
 use Rattle.neli_wire.specs.laws.Writing.{refuses_by}

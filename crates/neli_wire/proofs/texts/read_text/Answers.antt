@@ -2,7 +2,7 @@ use Rattle.std.proofs.Common.{◌≡◌, ◌-◌, ◌∙◌, length, take, false
 use Rattle.std.specs.Prelude.{string_bytes}
 use Rattle.std.proofs.lemmas.Bool.{le-ltb}
 use Rattle.neli_wire.specs.laws.Strings.{utf8_of-text}
-use Rattle.neli_wire.specs.Utf8.TheVariants.{String as OfString}
+use Rattle.neli_wire.specs.declared.errors.Utf8.TheVariants.{String as OfString}
 use Rattle.neli_wire.proofs.texts.read_text.Goals as goal
 
 pub returns-in_ok-from_str-in-Ok-clause-value : goal.returns-in_ok-from_str-in-Ok-clause-value

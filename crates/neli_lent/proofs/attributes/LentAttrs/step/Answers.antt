@@ -1,6 +1,6 @@
 use Rattle.std.proofs.Common.{rules, ◌≡◌, ◌≢◌, ℕ, List, [], Some, ◌∙◌, sym, ap, length, true, false}
 use Rattle.std.proofs.lemmas.Bool.{eqb-true}
-use Rattle.neli_wire.specs.DeError.{DeError}
+use Rattle.neli_wire.specs.declared.errors.DeError.{DeError}
 use Rattle.neli_wire.specs.Place.{Place, whole}
 use Rattle.neli_wire.specs.Reading.{refusal_within}
 use Rattle.neli_reader.specs.laws.Cuts.{drop_whole, empty_is}

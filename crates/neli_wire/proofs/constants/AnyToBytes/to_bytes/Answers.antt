@@ -1,5 +1,5 @@
 use Rattle.std.proofs.Common.{Ok, arith}
-use Rattle.neli_wire.specs.SerError.TheVariants.{Memory}
+use Rattle.neli_wire.specs.declared.errors.SerError.TheVariants.{Memory}
 use Rattle.neli_wire.specs.laws.Writing.{refuses_by}
 use Rattle.neli_wire.specs.Writing.{Wire}
 use Rattle.neli_wire.proofs.constants.AnyToBytes.to_bytes.Goals as goal

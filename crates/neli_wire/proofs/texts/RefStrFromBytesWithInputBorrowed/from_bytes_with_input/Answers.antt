@@ -1,7 +1,7 @@
 use Rattle.std.proofs.Common.{◌≡◌, ◌∙◌, length, take, ltb, false, refl}
 use Rattle.std.proofs.lemmas.Bool.{le-ltb}
 use Rattle.neli_wire.specs.laws.Strings.{utf8_of-text}
-use Rattle.neli_wire.specs.Utf8.TheVariants.{Str as OfStr}
+use Rattle.neli_wire.specs.declared.errors.Utf8.TheVariants.{Str as OfStr}
 use Rattle.neli_wire.proofs.texts.RefStrFromBytesWithInputBorrowed.from_bytes_with_input.Goals as goal
 
 pub returns-in-Ok-clause-value : goal.returns-in-Ok-clause-value

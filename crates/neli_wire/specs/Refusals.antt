@@ -1,10 +1,10 @@
 -- Refusals: how a call's error relates to the outcome that the definitions give.
 use Rattle.std.specs.Prelude.{◌≡◌, ◌<◌, Bool, true, false, Result, Err, length}
 use Rattle.std.specs.Bool.{MatchBool}
-use Rattle.neli_cursor.specs.declared.errors.SerError.{SerError}
-use Rattle.neli_cursor.specs.declared.errors.SerError.TheVariants as ser
-use Rattle.neli_cursor.specs.declared.errors.DeError.{DeError}
-use Rattle.neli_cursor.specs.declared.errors.DeError.TheVariants as de
+use Rattle.neli_wire.specs.declared.errors.SerError.{SerError}
+use Rattle.neli_wire.specs.declared.errors.SerError.TheVariants as ser
+use Rattle.neli_wire.specs.declared.errors.DeError.{DeError}
+use Rattle.neli_wire.specs.declared.errors.DeError.TheVariants as de
 
 -- e is the outcome's refusal; or e reports that memory ran out, where the call takes some
 abbrev pub IsRefusal : {A E : Type 0} → (E → Bool) → Result A E → Type 0 → E → Type 0

@@ -6,11 +6,11 @@
 
 ghost use Rattle.std.specs.Prelude.{◌≡◌, ◌++◌, IfOk, IfSome, OnErr, Some, None, codes, string_bytes};
 ghost use Rattle.std.specs.Fmt.{decimal};
-ghost use Rattle.neli_cursor.specs.declared.errors.SerError.TheVariants as ser;
-ghost use Rattle.neli_cursor.specs.declared.errors.DeError.TheVariants as de;
-ghost use Rattle.neli_cursor.specs.declared.errors.Utf8.TheVariants as utf8;
-ghost use Rattle.neli_cursor.specs.ErrorTexts.{ser_text, de_text};
-ghost use Rattle.neli_cursor.specs.Refusals.{de_copy_takes_memory, ser_copy_takes_memory};
+ghost use Rattle.neli_wire.specs.declared.errors.SerError.TheVariants as ser;
+ghost use Rattle.neli_wire.specs.declared.errors.DeError.TheVariants as de;
+ghost use Rattle.neli_wire.specs.declared.errors.Utf8.TheVariants as utf8;
+ghost use Rattle.neli_wire.specs.ErrorTexts.{ser_text, de_text};
+ghost use Rattle.neli_wire.specs.Refusals.{de_copy_takes_memory, ser_copy_takes_memory};
 ghost use Rattle.std.specs.IoError.{error_kind};
 ghost use Rattle.std.specs.String.{from_utf8_error_cause};
 

@@ -1,8 +1,8 @@
 -- Bytes: the next ones, or why they cannot be read.
 use Rattle.std.specs.Prelude.{ℕ, List, length, take, drop, Result, Ok, Err, nat_lt, if◌then◌else◌}
 use Rattle.std.specs.declared.io.ErrorKind.TheVariants.{UnexpectedEof}
-use Rattle.neli_cursor.specs.declared.errors.DeError.{DeError}
-use Rattle.neli_cursor.specs.declared.errors.DeError.TheVariants.{Io}
+use Rattle.neli_wire.specs.declared.errors.DeError.{DeError}
+use Rattle.neli_wire.specs.declared.errors.DeError.TheVariants.{Io}
 
 -- the value at the front of a byte list and the bytes after it, or a refusal
 abbrev pub Reading : Type 0 → Type 0

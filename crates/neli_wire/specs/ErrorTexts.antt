@@ -1,10 +1,10 @@
 -- The texts of this library's refusals; the standard library states those of an `Io` and a `Utf8`.
 use Rattle.std.specs.Prelude.{ℕ, List, ◌++◌, codes, Option, Some, None}
 use Rattle.std.specs.Fmt.{decimal}
-use Rattle.neli_cursor.specs.declared.errors.SerError.{SerError}
-use Rattle.neli_cursor.specs.declared.errors.SerError.TheVariants as ser
-use Rattle.neli_cursor.specs.declared.errors.DeError.{DeError}
-use Rattle.neli_cursor.specs.declared.errors.DeError.TheVariants as de
+use Rattle.neli_wire.specs.declared.errors.SerError.{SerError}
+use Rattle.neli_wire.specs.declared.errors.SerError.TheVariants as ser
+use Rattle.neli_wire.specs.declared.errors.DeError.{DeError}
+use Rattle.neli_wire.specs.declared.errors.DeError.TheVariants as de
 
 -- what the refusal of a write prints
 abbrev pub ser_text : SerError → Option (List ℕ)

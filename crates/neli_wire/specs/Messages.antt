@@ -1,8 +1,8 @@
 -- The texts of messages.
 use Rattle.std.specs.Prelude.{ℕ, List, ◌++◌, string_bytes, codes}
-use Rattle.neli_cursor.specs.declared.message.Text.{Text}
-use Rattle.neli_cursor.specs.declared.message.Text.TheVariants.{Fixed, Owned, Uninitialized}
-use Rattle.neli_cursor.specs.declared.message.UninitializedFieldError.{UninitializedFieldError}
+use Rattle.neli_wire.specs.declared.message.Text.{Text}
+use Rattle.neli_wire.specs.declared.message.Text.TheVariants.{Fixed, Owned, Uninitialized}
+use Rattle.neli_wire.specs.declared.message.UninitializedFieldError.{UninitializedFieldError}
 
 -- the text that reports a builder's missing field
 abbrev pub uninitialized : List ℕ → List ℕ

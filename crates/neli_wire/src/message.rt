@@ -1,7 +1,7 @@
 //! Messages: texts that say what is wrong.
 
 ghost use Rattle.std.specs.Prelude.{◌≡◌, ◌<◌, IfOk, IfSome, OnErr, Some, length};
-ghost use Rattle.neli_cursor.specs.Messages.{uninitialized};
+ghost use Rattle.neli_wire.specs.Messages.{uninitialized};
 
 use crate::NoMemory;
 use std::alloc::Global;
@@ -34,7 +34,7 @@ impl Model for MsgError {
 
     ghost coded = { coded_list coded_ℕ };
 
-    ghost use Rattle.neli_cursor.specs.Messages.{text_of};
+    ghost use Rattle.neli_wire.specs.Messages.{text_of};
 
     ghost view = { λ m. text_of m.text };
 }
@@ -98,7 +98,7 @@ pub struct UninitializedFieldError {
 }
 
 impl UninitializedFieldError {
-    ghost use Rattle.neli_cursor.specs.Messages.{name_of};
+    ghost use Rattle.neli_wire.specs.Messages.{name_of};
 
     /// The field with this name is missing.
     pub fn new(field_name: &'static str) -> UninitializedFieldError
@@ -117,7 +117,7 @@ impl UninitializedFieldError {
 
 impl fmt::Display for UninitializedFieldError {
     ghost use Rattle.std.specs.Prelude.{Some};
-    ghost use Rattle.neli_cursor.specs.Messages.{name_of, uninitialized};
+    ghost use Rattle.neli_wire.specs.Messages.{name_of, uninitialized};
 
     ghost output = { λ e. Some (uninitialized (name_of e)) };
 
@@ -131,7 +131,7 @@ impl Error for UninitializedFieldError {}
 
 impl From<UninitializedFieldError> for MsgError {
     ghost use Rattle.std.specs.Prelude.{◌≡◌};
-    ghost use Rattle.neli_cursor.specs.Messages.{name_of, uninitialized};
+    ghost use Rattle.neli_wire.specs.Messages.{name_of, uninitialized};
 
     ghost from_gives = { λ e m. m ≡ uninitialized (name_of e) };
 

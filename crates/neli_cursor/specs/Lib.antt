@@ -1,5 +1,0 @@
-pub mod Bytes
-pub mod ErrorTexts
-pub mod Messages
-pub mod Place
-pub mod Refusals
