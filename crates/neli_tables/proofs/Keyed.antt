@@ -1,10 +1,9 @@
 -- Keys, and the lines that have them.
 use Rattle.std.proofs.Common.{get_or, ◌≡◌, ◌∙◌, ℕ, ◌+◌, ◌<◌, Bool, true, false, ◌&&◌, ◌==◌, cond, List}
-use Rattle.std.proofs.Common.{drop, length, map, Option, Some, None, Ordering, Less, Equal, Greater}
+use Rattle.std.proofs.Common.{drop, length, map, Option, Some, None}
 use Rattle.std.proofs.Common.{refl, sym, ap}
 use Rattle.std.specs.Option.{option_or}
-use Rattle.std.specs.Ordering.{is_eq, nat_cmp, ordering_then}
-use Rattle.std.specs.Cmp.{unsigned_tied, first_so, second_so}
+use Rattle.std.specs.Cmp.{first_so, second_so}
 use Rattle.std.proofs.lemmas.Bool.{eqb-true}
 use Rattle.neli_tables.specs.declared.line.Line.{Line}
 use Rattle.neli_tables.specs.Lines.{line_seen}
@@ -13,23 +12,6 @@ use Rattle.neli_tables.specs.RowKeys.{Key, has_key, key_of, place_from, section_
 use Rattle.neli_tables.proofs.PassedRows.{turn_at}
 
 -- ---- keys that are the same
-
-then_eq : (a b : Ordering) → is_eq (ordering_then a b) ≡ (is_eq a && is_eq b)
-then_eq Less b = refl
-then_eq Equal b = refl
-then_eq Greater b = refl
-
-abbrev pub key_cmp : Key → Key → Ordering
-key_cmp x y = ordering_then (ordering_then (nat_cmp x.0 y.0) (nat_cmp x.1 y.1)) (nat_cmp x.2 y.2)
-
--- two keys compare as equal where they are the same
-pub same_key : (x y : Key) → is_eq (key_cmp x y) ≡ has_key y (Some x)
-same_key x y =
-    then_eq (ordering_then (nat_cmp x.0 y.0) (nat_cmp x.1 y.1)) (nat_cmp x.2 y.2)
-    ∙ ap (λ b. b && is_eq (nat_cmp x.2 y.2)) (then_eq (nat_cmp x.0 y.0) (nat_cmp x.1 y.1))
-    ∙ ap (λ b. b && is_eq (nat_cmp x.1 y.1) && is_eq (nat_cmp x.2 y.2)) (unsigned_tied x.0 y.0)
-    ∙ ap (λ b. x.0 == y.0 && b && is_eq (nat_cmp x.2 y.2)) (unsigned_tied x.1 y.1)
-    ∙ ap (λ b. x.0 == y.0 && x.1 == y.1 && b) (unsigned_tied x.2 y.2)
 
 pub key_is : (key k : Key) → has_key key (Some k) ≡ true → k ≡ key
 key_is key k e =
@@ -60,11 +42,10 @@ module _ (finds : Key → Option ℕ) (key : Key) (place : ℕ) where
 
   -- none before has it
   pub noted_here : (k : Key) (after : Option ℕ) → finds key ≡ None
-      → after ≡ cond (is_eq (key_cmp key k)) (Some place) (finds k)
+      → after ≡ cond (has_key k (Some key)) (Some place) (finds k)
       → after ≡ first_found (finds k) k (Some key) place
   noted_here k after none is =
-      is ∙ ap (λ b. cond b (Some place) (finds k)) (same_key key k)
-      ∙ by (finds k) (has_key k (Some key)) refl refl
+      is ∙ by (finds k) (has_key k (Some key)) refl refl
     where
       by : (o : Option ℕ) (b : Bool) → finds k ≡ o → has_key k (Some key) ≡ b
           → cond b (Some place) o ≡ option_or o (cond b (Some place) None)

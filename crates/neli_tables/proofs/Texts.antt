@@ -1,6 +1,7 @@
 -- Lines and their words, one after the other.
-use Rattle.std.proofs.Common.{Bor, get_or, ◌<◌, ◌≡◌, ◌∙◌, ℕ, ◌+◌, true, false, eqb, List, [], ◌∷◌, ◌++◌}
-use Rattle.std.proofs.Common.{length, drop, map, refl, sym, ap, arith, append_assoc}
+use Rattle.std.proofs.Common.{Bor, get_or, ◌<◌, ◌≡◌, ◌∙◌, ℕ, ◌+◌, suc, Bool, true, false, not, eqb, List, [], ◌∷◌, ◌++◌}
+use Rattle.std.proofs.Common.{length, drop, filter, map, take, refl, sym, ap, arith, append_assoc}
+use Rattle.std.specs.List.{prefix_len}
 use Rattle.std.proofs.lemmas.List.{append-nil, drop_more, get_or-map, length-map}
 use Rattle.neli_tables.specs.Text.{begins_comment, with_words, words_among, words_in, worded_from}
 
@@ -16,40 +17,27 @@ part_left parts i d within =
 
 -- ---- words
 
-comment_first : (part : List ℕ) (parts : List (List ℕ)) → begins_comment part ≡ true → words_among (part ∷ parts) ≡ []
-comment_first part parts is = rw is refl
+abbrev pub is_said : List ℕ → Bool
+is_said word = not (begins_comment word)
 
-empty_first : (part : List ℕ) (parts : List (List ℕ)) → begins_comment part ≡ false → eqb (length part) 0 ≡ true
-    → words_among (part ∷ parts) ≡ words_among parts
-empty_first part parts is none = rw (is, none) refl
+abbrev pub is_filled : List ℕ → Bool
+is_filled word = not (eqb (length word) 0)
 
-word_first : (part : List ℕ) (parts : List (List ℕ)) → begins_comment part ≡ false → eqb (length part) 0 ≡ false
-    → words_among (part ∷ parts) ≡ part ∷ words_among parts
-word_first part parts is some = rw (is, some) refl
+-- the words of a line are the parts up to a comment that are not empty
+pub among : (parts : List (List ℕ)) → words_among parts ≡ filter is_filled (take (prefix_len is_said parts) parts)
+among [] = refl
+among (part ∷ parts) = by (begins_comment part) (eqb (length part) 0) refl refl (among parts)
+  where
+    taken : take (1 + prefix_len is_said parts) (part ∷ parts) ≡ part ∷ take (prefix_len is_said parts) parts
+    taken = let one : suc (prefix_len is_said parts) ≡ 1 + prefix_len is_said parts = omega arith in
+        ap (λ n. take n (part ∷ parts)) (sym one)
 
-pub pass_comment : (whole words : List (List ℕ)) (parts : List (Bor (List ℕ))) (i : ℕ) (d : Bor (List ℕ))
-    → whole ≡ words ++ words_among (drop i (bytes_in parts)) → i < length parts
-    → begins_comment (get_or parts i d).now ≡ true → words ≡ whole
-pass_comment whole words parts i d before within is =
-    sym (before ∙ ap (λ ws. words ++ ws) (ap words_among (part_left parts i d within)
-    ∙ comment_first (get_or parts i d).now (drop (i + 1) (bytes_in parts)) is) ∙ append-nil words)
-
-pub pass_empty : (whole words : List (List ℕ)) (parts : List (Bor (List ℕ))) (i : ℕ) (d : Bor (List ℕ))
-    → whole ≡ words ++ words_among (drop i (bytes_in parts)) → i < length parts
-    → begins_comment (get_or parts i d).now ≡ false → eqb (length (get_or parts i d).now) 0 ≡ true
-    → whole ≡ words ++ words_among (drop (i + 1) (bytes_in parts))
-pass_empty whole words parts i d before within is none =
-    before ∙ ap (λ ws. words ++ ws) (ap words_among (part_left parts i d within)
-    ∙ empty_first (get_or parts i d).now (drop (i + 1) (bytes_in parts)) is none)
-
-pub pass_word : (whole words : List (List ℕ)) (parts : List (Bor (List ℕ))) (i : ℕ) (d : Bor (List ℕ))
-    → whole ≡ words ++ words_among (drop i (bytes_in parts)) → i < length parts
-    → begins_comment (get_or parts i d).now ≡ false → eqb (length (get_or parts i d).now) 0 ≡ false
-    → whole ≡ (words ++ (get_or parts i d).now ∷ []) ++ words_among (drop (i + 1) (bytes_in parts))
-pass_word whole words parts i d before within is some =
-    before ∙ ap (λ ws. words ++ ws) (ap words_among (part_left parts i d within)
-    ∙ word_first (get_or parts i d).now (drop (i + 1) (bytes_in parts)) is some)
-    ∙ sym (append_assoc words ((get_or parts i d).now ∷ []) (words_among (drop (i + 1) (bytes_in parts))))
+    by : (b e : Bool) → begins_comment part ≡ b → eqb (length part) 0 ≡ e
+        → words_among parts ≡ filter is_filled (take (prefix_len is_said parts) parts)
+        → words_among (part ∷ parts) ≡ filter is_filled (take (prefix_len is_said (part ∷ parts)) (part ∷ parts))
+    by true e is none rest = rw is refl
+    by false true is none rest = rw (is, taken, none) rest
+    by false false is none rest = rw (is, taken, none) (ap (λ ws. part ∷ ws) rest)
 
 -- ---- lines
 

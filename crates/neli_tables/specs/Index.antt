@@ -1,8 +1,8 @@
 -- Where the lines of a table stand, by their keys.
-use Rattle.std.specs.Prelude.{◌≡◌, ℕ, Bool, true, false, if◌then◌else◌, List, Option, Some, None, slice_get}
-use Rattle.std.specs.BTreeMap.{get_by}
+use Rattle.std.specs.Prelude.{◌≡◌, ℕ, Bool, true, false, ◌&&◌, ◌==◌, if◌then◌else◌, List, Option, Some, None}
+use Rattle.std.specs.Prelude.{slice_get}
+use Rattle.std.specs.HashMap.{get_by}
 use Rattle.std.specs.Option.{option_or}
-use Rattle.std.specs.Ordering.{nat_cmp, ordering_then}
 use Rattle.neli_tables.specs.Lines.{LineSeen}
 use Rattle.neli_tables.specs.declared.firsts.Firsts.{Firsts}
 use Rattle.neli_tables.specs.declared.index.Index.{Index}
@@ -11,8 +11,7 @@ use Rattle.neli_tables.specs.RowKeys.{Key, has_key, place_of}
 -- what an index has at a key
 abbrev pub finds : Index → Key → Option ℕ
 finds index key =
-    get_by (λ (k : Key). ordering_then (ordering_then (nat_cmp key.0 k.0) (nat_cmp key.1 k.1)) (nat_cmp key.2 k.2))
-    index.map
+    get_by (λ (k : Key). key.0 == k.0 && key.1 == k.1 && key.2 == k.2) index.map
 
 -- what was found before; or this place, where the line there has the key that is meant
 abbrev pub first_found : Option ℕ → Key → Option Key → ℕ → Option ℕ

@@ -1,10 +1,8 @@
 -- The places of the lines that others refer to.
 use Rattle.std.specs.Prelude.{ℕ, ◌+◌, Bool, false, ◌&&◌, if◌then◌else◌, List, [], ◌∷◌, Option, Some}
 use Rattle.std.specs.Prelude.{None, codes}
-use Rattle.std.specs.BTreeMap.{get_by}
 use Rattle.std.specs.Borrow.{Bor}
-use Rattle.std.specs.Cmp.Lexicographic.{slice_cmp}
-use Rattle.std.specs.Ordering.{nat_cmp, ordering_then}
+use Rattle.std.specs.HashMap.{get_by}
 use Rattle.std.specs.Str.{bytes_eq}
 use Rattle.neli_tables.specs.declared.names.Names.{Names}
 use Rattle.neli_tables.specs.declared.word.Word.{Word}
@@ -30,8 +28,7 @@ word_text word.Value = codes "value"
 -- the state of the names at a first word and a name
 abbrev pub finds : Names → Word → List ℕ → Option ℕ
 finds names w name =
-    get_by (λ (k : Bor (List ℕ) × Bor (List ℕ)).
-    ordering_then (slice_cmp nat_cmp (word_text w) k.0.now) (slice_cmp nat_cmp name k.1.now)) names.map
+    get_by (λ (k : Bor (List ℕ) × Bor (List ℕ)). bytes_eq (word_text w) k.0.now && bytes_eq name k.1.now) names.map
 
 -- the first word and the name of a line of these words
 abbrev pub head_of : List (List ℕ) → Option (List ℕ × List ℕ)

@@ -34,7 +34,7 @@ impl Firsts {
         requires { Indexes index.now (map line_seen lines.now) }
         ensures { IfOk result (λ firsts. AreFirsts firsts (map line_seen lines.now)) }
     {
-        let mut keys = Vec::new(alloc);
+        let mut keys = Vec::with_capacity(alloc, lines.len())?;
         let mut section = 0;
         for (place, line) in lines.iter().enumerate() {
             section = section_after(section, place, line.word);

@@ -8,12 +8,12 @@ ghost use Rattle.neli_tables.specs.RowKeys.{Key};
 use crate::Line;
 use crate::way::{Key, key_of, section_after};
 use std::alloc::{AllocError, Global};
-use std::collections::BTreeMap;
+use std::collections::HashMap;
 
 /// The first line with each key, by its place.
 #[derive(Drop)]
 pub struct Index {
-    map: BTreeMap<Key, usize>,
+    map: HashMap<Key, usize>,
 }
 
 impl Index {
@@ -22,7 +22,7 @@ impl Index {
         ensures { IfOk result (λ index. Indexes index (map line_seen lines.now)) }
     {
         let mut index = Index {
-            map: BTreeMap::new(alloc),
+            map: HashMap::new(alloc),
         };
         let mut section = 0;
         for (place, line) in lines.iter().enumerate() {

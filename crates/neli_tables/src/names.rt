@@ -9,13 +9,13 @@ ghost use Rattle.neli_tables.specs.Text.{worded_seen};
 use crate::text::Worded;
 use crate::word::Word;
 use std::alloc::{AllocError, Global};
-use std::collections::BTreeMap;
+use std::collections::HashMap;
 
 /// The lines of a text by their first word and their name: the first of each, by its place among the lines with words,
 /// counted from 0.
 #[derive(Drop)]
 pub(crate) struct Names<'t> {
-    map: BTreeMap<(&'t [u8], &'t [u8]), usize>,
+    map: HashMap<(&'t [u8], &'t [u8]), usize>,
 }
 
 /// The text of a first word.
@@ -57,7 +57,7 @@ impl<'t> Names<'t> {
             → finds names w name ≡ place_in w name 0 (map worded_seen lines.now)) }
     {
         let mut names = Names {
-            map: BTreeMap::new(alloc),
+            map: HashMap::new(alloc),
         };
         let mut index = lines.len();
         while 0 < index {

@@ -175,7 +175,7 @@ pub fn options_of(line: &Line<'_>) -> Options
 pub fn all_options(alloc: Global, lines: &[Line<'_>]) -> Result<Vec<Options>, AllocError>
     ensures { IfOk result (λ all. all.items ≡ map options_of (map line_seen lines.now)) }
 {
-    let mut all = Vec::new(alloc);
+    let mut all = Vec::with_capacity(alloc, lines.len())?;
     for line in lines {
         all.push(options_of(line))?;
     }

@@ -241,7 +241,7 @@ pub(crate) fn settings_of<'t>(
     ensures { Reads settings_seen
         (settings_in (finds names.now) (map (λ word. word.now) words.now)) result }
 {
-    let mut settings = Vec::new(alloc);
+    let mut settings = Vec::with_capacity(alloc, words.len())?;
     for word in words {
         let setting = match setting_of(names, word) {
             Ok(setting) => setting,

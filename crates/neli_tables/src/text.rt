@@ -13,12 +13,12 @@ pub(crate) struct Worded<'t> {
     pub words: Vec<&'t [u8]>,
 }
 
-/// The parts between the bytes with this value, lent.
-fn parts_of<'t>(alloc: Global, text: &'t [u8], mark: u8) -> Result<Vec<&'t [u8]>, AllocError>
+/// The parts of a text between its line ends, lent.
+fn parts_of<'t>(alloc: Global, text: &'t [u8]) -> Result<Vec<&'t [u8]>, AllocError>
     ensures { IfOk result (λ parts. map (λ part. part.now) parts.items
-        ≡ slice_split (λ b. b == mark) text.now) }
+        ≡ slice_split (λ b. b == 10) text.now) }
 {
-    text.split(|byte| *byte == mark).collect(alloc)
+    text.split(|byte| *byte == b'\n').collect(alloc)
 }
 
 /// Whether this word starts a comment.
@@ -35,25 +35,17 @@ fn begins_comment(word: &[u8]) -> bool
 fn words_of<'t>(alloc: Global, line: &'t [u8]) -> Result<Vec<&'t [u8]>, AllocError>
     ensures { IfOk result (λ words. map (λ word. word.now) words.items ≡ words_in line.now) }
 {
-    let parts = parts_of(alloc, line, b' ')?;
-    let mut words = Vec::new(alloc);
-    for part in &parts {
-        if begins_comment(part) {
-            return Ok(words);
-        }
-        if part.is_empty() {
-            continue;
-        }
-        words.push(*part)?;
-    }
-    Ok(words)
+    line.split(|byte| *byte == b' ')
+        .take_while(|word| !begins_comment(word))
+        .filter(|word| !word.is_empty())
+        .collect(alloc)
 }
 
 /// Returns the lines of a text that have words.
 pub(crate) fn worded_lines<'t>(alloc: Global, text: &'t [u8]) -> Result<Vec<Worded<'t>>, AllocError>
     ensures { IfOk result (λ lines. map worded_seen lines.items ≡ worded_in text.now) }
 {
-    let lines = parts_of(alloc, text, b'\n')?;
+    let lines = parts_of(alloc, text)?;
     let mut worded = Vec::new(alloc);
     for (index, line) in lines.iter().enumerate() {
         let words = words_of(alloc, line)?;

@@ -2,7 +2,7 @@
 //! who repeats the read after that would do so without end. Over both stores.
 
 ghost use Rattle.std.specs.Prelude.{◌≡◌, [], Err, Ok};
-ghost use Rattle.neli_wire.specs.DeError.TheVariants as de;
+ghost use Rattle.neli_wire.specs.declared.errors.DeError.TheVariants as de;
 ghost use Rattle.neli_wire.specs.laws.Sizes.{unpadded-rounded};
 
 use super::script::{Step, bytes_of};

@@ -3,7 +3,7 @@
 
 ghost use Rattle.std.specs.Prelude.{Err};
 ghost use Rattle.std.specs.declared.io.ErrorKind.TheVariants.{UnexpectedEof};
-ghost use Rattle.neli_wire.specs.SerError.TheVariants as ser;
+ghost use Rattle.neli_wire.specs.declared.errors.SerError.TheVariants as ser;
 ghost use Rattle.neli_wire.specs.laws.Sizes.{unpadded-rounded};
 
 use super::support::assert_is_at;

@@ -2,7 +2,7 @@
 
 ghost use Rattle.std.specs.Prelude.{[], ◌∷◌, Err, Ok, nat_eq, if◌then◌else◌};
 ghost use Rattle.std.specs.declared.io.ErrorKind.TheVariants.{UnexpectedEof};
-ghost use Rattle.neli_wire.specs.SerError.TheVariants as ser;
+ghost use Rattle.neli_wire.specs.declared.errors.SerError.TheVariants as ser;
 ghost use Rattle.neli_wire.specs.laws.Sizes.{unpadded-rounded};
 
 use super::support::{

@@ -5,5 +5,5 @@ use Rattle.neli_tables.proofs.text.parts_of.Goals as goal
 
 pub returns : goal.returns
 returns c =
-    map_from_collect _ c.collect.ensures.ran (YieldsList-from_slice_split _ (λ b. eqb b c.args.mark) c.args.text.now
+    map_from_collect _ c.collect.ensures.ran (YieldsList-from_slice_split _ (λ b. eqb b 10) c.args.text.now
     c.split.ensures.rest c.split.ensures.done c.split.ensures.closure (λ x b q k. search (rules, tests)))

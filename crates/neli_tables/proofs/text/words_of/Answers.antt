@@ -1,22 +1,18 @@
-use Rattle.std.proofs.Common.{◌∙◌, Bor, List, ℕ, map, sym, ap}
-use Rattle.std.proofs.lemmas.List.{map-append}
-use Rattle.neli_tables.specs.Text.{words_among}
-use Rattle.neli_tables.proofs.Texts.{pass_comment, pass_empty, pass_word}
+use Rattle.std.proofs.Common.{rules, tests, eqb}
+use Rattle.std.specs.List.{slice_split}
+use Rattle.std.proofs.lemmas.Iterator.Consumers.{map_from_collect, YieldsList-from_filter, YieldsList-at}
+use Rattle.std.proofs.lemmas.Iterator.Search.{YieldsList-from_take_while}
+use Rattle.std.proofs.lemmas.Iterator.Splits.{YieldsList-from_slice_split}
+use Rattle.neli_tables.proofs.Texts.{among, is_filled, is_said}
 use Rattle.neli_tables.proofs.text.words_of.Goals as goal
 
-pub returns-then-begins_comment : goal.returns-then-begins_comment
-returns-then-begins_comment c =
-    pass_comment _ _ c.deref-part-items.result.now c.loop-part.part-index _ c.loop-part.invariant c.loop-part-test.true
-    (sym c.begins_comment.ensures ∙ c.if-begins_comment.true)
-    ∙ ap words_among (ap (map (λ (part : Bor (List ℕ)). part.now)) c.deref-part-items.ensures.value ∙ c.in_ok-parts.ensures)
-
-pub loop-part-preserved-then-is_empty : goal.loop-part-preserved-then-is_empty
-loop-part-preserved-then-is_empty c =
-    pass_empty _ _ c.deref-part-items.result.now c.loop-part.part-index _ c.loop-part.invariant c.loop-part-test.true
-    (sym c.begins_comment.ensures ∙ c.if-begins_comment.false) (sym c.is_empty.ensures ∙ c.if-is_empty.true)
-
-pub loop-part-preserved : goal.loop-part-preserved
-loop-part-preserved c =
-    rw (c.in_ok-push.ensures.items, map-append) (pass_word _ _ c.deref-part-items.result.now c.loop-part.part-index _
-    c.loop-part.invariant c.loop-part-test.true
-    (sym c.begins_comment.ensures ∙ c.if-begins_comment.false) (sym c.is_empty.ensures ∙ c.if-is_empty.false))
+pub returns : goal.returns
+returns c =
+    let parts = slice_split (λ b. eqb b 32) c.args.line.now in
+    rw (among parts) (map_from_collect _ c.collect.ensures.ran
+    (YieldsList-from_filter _ is_filled (YieldsList-at c.filter.ensures.source
+    (YieldsList-from_take_while _ is_said (YieldsList-at c.take_while.ensures.source
+    (YieldsList-from_slice_split _ (λ b. eqb b 32) c.args.line.now
+    c.split.ensures.rest c.split.ensures.done c.split.ensures.closure (λ x b q k. search (rules, tests))))
+    c.take_while.ensures.closure c.take_while.ensures.done (λ x b q k. search (rules, tests))))
+    c.filter.ensures.closure (λ x b q k. search (rules, tests))))
