@@ -1,5 +1,5 @@
 -- Elements that were passed, and those to come.
-use Rattle.std.proofs.Common.{get_or, ◌<◌, ◌≡◌, ◌∙◌, ℕ, ◌+◌, Bool, not, List, [], ◌∷◌, length, drop}
+use Rattle.std.proofs.Common.{get_or, ◌<◌, ◌≡◌, ◌∙◌, ℕ, zero, suc, ◌+◌, Bool, not, List, [], ◌∷◌, length, drop}
 use Rattle.std.proofs.Common.{take, map, Option}
 use Rattle.std.proofs.Common.{Some, None}
 use Rattle.std.proofs.Common.{cond, nat_lt, refl, sym, ap, arith, length-drop, ◌-◌}
@@ -11,7 +11,8 @@ use Rattle.neli_tables.specs.declared.line.Line.{Line}
 use Rattle.neli_tables.specs.declared.setting.Setting.{Setting}
 use Rattle.neli_tables.specs.Lines.{LineSeen, line_seen}
 use Rattle.neli_tables.specs.Settings.{setting_seen}
-use Rattle.neli_tables.specs.Options.{first_word, word_in}
+use Rattle.neli_tables.specs.Options.{first_word, options_of, word_in}
+use Rattle.neli_tables.specs.declared.options.Options.{Options}
 use Rattle.neli_tables.specs.declared.tables.MessagePlace.{MessagePlace}
 use Rattle.neli_tables.specs.Families.{Lines, message_at, message_from, message_of}
 use Rattle.neli_tables.specs.FoundRows.{before, begins_section, is_case, rows_among, rows_of}
@@ -102,3 +103,26 @@ message_here protocol way first number whole tables i x o said within at is =
     said ∙ ap (message_from protocol way first number i) (drop_more tables i x within
     ∙ ap (λ y. y ∷ drop (i + 1) tables) (sym at))
     ∙ ap (λ m. message_at i m (message_from protocol way first number (i + 1) (drop (i + 1) tables))) (sym is)
+
+-- ---- the options of rows
+
+-- so many of a list as some first ones of it are
+take_own : {A : Type 0} (i : ℕ) (xs : List A) → take (length (take i xs)) xs ≡ take i xs
+take_own zero xs = refl
+take_own (suc i) [] = refl
+take_own (suc i) (x ∷ xs) = ap (λ ys. x ∷ ys) (take_own i xs)
+
+before_own : {A : Type 0} (index : Option ℕ) (xs : List A) → take (length (before index xs)) xs ≡ before index xs
+before_own (Some i) xs = take_own i xs
+before_own None xs = take_all (length xs) xs (omega arith)
+
+-- the options of the lines that stand where the rows of a section do
+pub rows_options : (options : List Options) (lines : List LineSeen) (rows : List Line) (section : ℕ)
+    → options ≡ map options_of lines → map line_seen rows ≡ rows_of section lines
+    → take (section + 1 + length rows - (section + 1)) (drop (section + 1) options) ≡ map options_of (rows_of section lines)
+rows_options options lines rows section are is =
+    let all = drop (section + 1) lines in
+    let many : section + 1 + length rows - (section + 1) ≡ length (rows_among all) =
+    omega (arith, length-map rows line_seen, ap length is) in
+    rw (are, many, drop-map options_of (section + 1) lines, take-map options_of (length (rows_among all)) all)
+    (ap (map options_of) (before_own (position begins_section all) all))

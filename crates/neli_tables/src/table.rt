@@ -101,6 +101,17 @@ impl<'t> Table<'t> {
         rows_of(&self.lines, section)
     }
 
+    /// What the options of the rows of the section at this place say, in order.
+    pub fn row_options(&self, section: usize) -> &[Options]
+        ensures { result.now ≡ map options_of (rows_of section self.now) }
+    {
+        let rows = rows_of(&self.lines, section);
+        if rows.is_empty() {
+            return &[];
+        }
+        &self.options[section + 1..section + 1 + rows.len()]
+    }
+
     /// The place of the row that has this number in the section at this place: of an attribute in a set, a case in a
     /// choice, a value in an enum. Where no row has it, that of the row for all others, `each` or `else`, if there is
     /// one.
