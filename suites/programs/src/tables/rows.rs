@@ -150,6 +150,28 @@ fn rows_of_a_section_are_in_order(rt: HostRuntime) -> Result<(), ReadError> {
 }
 
 #[test]
+fn options_of_rows_are_in_order(rt: HostRuntime) -> Result<(), ReadError> {
+    let table = Table::read(rt.alloc(), LINKS.as_bytes())?;
+    let names = place_of(&table, b"hardware-type");
+    let wanted = [
+        (Some(Kind::U8), None, false),
+        (Some(Kind::U16), Some(names), false),
+        (Some(Kind::S32), None, false),
+        (Some(Kind::U32), None, true),
+    ];
+    let found = table.row_options(place_of(&table, b"ifinfomsg"));
+    assert_eq!(rt; found.len(), wanted.len());
+    for (options, wanted) in found.iter().zip(wanted) {
+        assert_eq!(rt; (options.kind, options.values, options.hex), wanted);
+    }
+    for section in [b"linkinfo-netkit-attrs".as_slice(), b"rt-link"] {
+        assert!(rt; table.row_options(place_of(&table, section)).is_empty());
+    }
+    assert!(rt; table.row_options(9999).is_empty());
+    Ok(())
+}
+
+#[test]
 fn options_are_typed(rt: HostRuntime) -> Result<(), ReadError> {
     let table = Table::read(rt.alloc(), LINKS.as_bytes())?;
     let data = options_at(&table, b"IFLA_INFO_DATA");
