@@ -2,7 +2,7 @@
 use Rattle.std.proofs.Common.{Bor, get_or, ◌<◌, ◌≡◌, ◌∙◌, ℕ, ◌+◌, suc, Bool, true, false, not, eqb, List, [], ◌∷◌, ◌++◌}
 use Rattle.std.proofs.Common.{length, drop, filter, map, take, refl, sym, ap, arith, append_assoc}
 use Rattle.std.specs.List.{prefix_len}
-use Rattle.std.proofs.lemmas.List.{append-nil, drop_more, get_or-map, length-map}
+use Rattle.std.proofs.lemmas.List.{drop_more, get_or-map, length-map}
 use Rattle.neli_tables.specs.Text.{begins_comment, with_words, words_among, words_in, worded_from}
 
 abbrev pub bytes_in : List (Bor (List ℕ)) → List (List ℕ)
