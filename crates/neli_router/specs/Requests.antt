@@ -1,6 +1,6 @@
 -- Requests to the controller of generic netlink: for the family of a name, and for all families.
 use Rattle.std.specs.Prelude.{◌≡◌, ℕ, ◌+◌, ◌≤◌, Bool, false, List, [], ◌∷◌, ◌++◌, codes, length, nat_lt, if◌then◌else◌}
-use Rattle.std.specs.Prelude.{Result, Ok, Err}
+use Rattle.std.specs.Prelude.{Option, Some, Result, Ok, Err}
 use Rattle.neli_wire.specs.Numbers.{little_bytes}
 use Rattle.neli_wire.specs.Writing.{zeros_for}
 use Rattle.neli_consts.specs.CtrlAttr.{ctrl_attr_number}
@@ -21,7 +21,26 @@ use Rattle.neli_genl.specs.declared.no_user_header.NoUserHeader.{NoUserHeader}
 use Rattle.neli_reader.specs.NlPayload.TheVariants as payload
 use Rattle.neli_reader.specs.RouterError.{RouterError}
 use Rattle.neli_reader.specs.RouterError.TheVariants as router
-use Rattle.neli_router.specs.Sends.{frame_or_refusal}
+use Rattle.neli_deliveries.specs.Lists.{Opens, SameLists, SameListsBut}
+use Rattle.neli_router.specs.declared.handle.HandleState.{HandleState}
+use Rattle.neli_router.specs.declared.verdict.Heard.{Heard}
+use Rattle.neli_router.specs.Sends.{asks, frame_or_refusal, number_after}
+use Rattle.neli_router.specs.Verdicts.{begun}
+
+-- ---- what a request changes
+
+-- a handle for the router's next number is open, of whose answer nothing is known yet, and the number is used up
+abbrev pub Asks : {A : Type 0} → NlmF → HandleState → (number next : ℕ)
+    → (before after : Option ℕ → Option (List A)) → (heard hears : Option ℕ → Option Heard) → Type 0
+Asks flags handle number next before after heard hears =
+    (handle ≡ asks number flags) × (next ≡ number_after number) × Opens number before after
+    × (hears (Some number) ≡ Some begun) × SameListsBut (Some number) heard hears
+
+-- one that is refused changes nothing
+abbrev pub AsksNothing : {A : Type 0} → (number next : ℕ) → (before after : Option ℕ → Option (List A))
+    → (heard hears : Option ℕ → Option Heard) → Type 0
+AsksNothing number next before after heard hears =
+    (next ≡ number) × SameLists before after × SameLists heard hears
 
 -- ---- the contents
 

@@ -1,11 +1,10 @@
 //! Requests to the controller of generic netlink, which knows the number of each family.
 
-ghost use Rattle.std.specs.Prelude.{false, ◌≡◌, ◌≤◌, Some, Ok, IfOk, IfErr, OnOk, OnErr, is_some, length};
-ghost use Rattle.neli_router.specs.Requests.{FamilyTakesMemory, families_request, families_sent, family_request};
-ghost use Rattle.neli_router.specs.Requests.{family_sent, getfamily, name_attribute, sent_to_controller};
-ghost use Rattle.neli_router.specs.Sends.{RefusesSend, asks, number_after};
-ghost use Rattle.neli_router.specs.Verdicts.{begun, heard_of};
-ghost use Rattle.neli_deliveries.specs.Lists.{Opens, SameLists, SameListsBut};
+ghost use Rattle.std.specs.Prelude.{false, ◌≡◌, ◌≤◌, Some, Ok, IfOk, IfErr, OnErr, is_some, length};
+ghost use Rattle.neli_router.specs.Requests.{Asks, AsksNothing, FamilyTakesMemory, families_request, families_sent};
+ghost use Rattle.neli_router.specs.Requests.{family_request, family_sent, getfamily, name_attribute, sent_to_controller};
+ghost use Rattle.neli_router.specs.Sends.{RefusesSend};
+ghost use Rattle.neli_router.specs.Verdicts.{heard_of};
 
 use crate::{Deliveries, NlRouter, NlRouterReceiverHandle};
 use neli_attr::{AttrType, Buffer, BuildError, GenlBuffer, Nlattr, NlattrBuilder};
@@ -56,18 +55,12 @@ impl<D: Deliveries> NlRouter<D> {
             (is_some (D.pending self.old.deliveries (Some self.old.next_seq))) name.now)
             (FamilyTakesMemory
             (is_some (D.pending self.old.deliveries (Some self.old.next_seq))) name.now)) }
-        ensures handle { IfOk result (λ r. r.1 ≡ asks self.old.next_seq NlmF.ACK) }
-        ensures next_seq { OnOk result (self.new.next_seq ≡ number_after self.old.next_seq) }
-        ensures opened { OnOk result (Opens self.old.next_seq
-            (D.pending self.old.deliveries) (D.pending self.new.deliveries)) }
-        ensures err { OnErr result ((self.new.next_seq ≡ self.old.next_seq)
-            × (SameLists (D.pending self.old.deliveries) (D.pending self.new.deliveries))) }
-        ensures heard { OnOk result
-            ((heard_of self.new.heard (Some self.old.next_seq) ≡ Some begun)
-            × SameListsBut (Some self.old.next_seq)
+        ensures asked { IfOk result (λ r. Asks NlmF.ACK r.1 self.old.next_seq self.new.next_seq
+            (D.pending self.old.deliveries) (D.pending self.new.deliveries)
             (heard_of self.old.heard) (heard_of self.new.heard)) }
-        ensures unheard { OnErr result
-            (SameLists (heard_of self.old.heard) (heard_of self.new.heard)) }
+        ensures err { OnErr result (AsksNothing self.old.next_seq self.new.next_seq
+            (D.pending self.old.deliveries) (D.pending self.new.deliveries)
+            (heard_of self.old.heard) (heard_of self.new.heard)) }
         ensures given_up { self.new.given_up ≡ self.old.given_up }
         ensures missed { self.new.missed ≡ self.old.missed }
     {
@@ -111,18 +104,12 @@ impl<D: Deliveries> NlRouter<D> {
             (D.port_of self.old.deliveries) self.old.next_seq
             (is_some (D.pending self.old.deliveries (Some self.old.next_seq))))
             (is_some (D.pending self.old.deliveries (Some self.old.next_seq)) ≡ false)) }
-        ensures handle { IfOk result (λ r. r.1 ≡ asks self.old.next_seq NlmF.DUMP) }
-        ensures next_seq { OnOk result (self.new.next_seq ≡ number_after self.old.next_seq) }
-        ensures opened { OnOk result (Opens self.old.next_seq
-            (D.pending self.old.deliveries) (D.pending self.new.deliveries)) }
-        ensures err { OnErr result ((self.new.next_seq ≡ self.old.next_seq)
-            × (SameLists (D.pending self.old.deliveries) (D.pending self.new.deliveries))) }
-        ensures heard { OnOk result
-            ((heard_of self.new.heard (Some self.old.next_seq) ≡ Some begun)
-            × SameListsBut (Some self.old.next_seq)
+        ensures asked { IfOk result (λ r. Asks NlmF.DUMP r.1 self.old.next_seq self.new.next_seq
+            (D.pending self.old.deliveries) (D.pending self.new.deliveries)
             (heard_of self.old.heard) (heard_of self.new.heard)) }
-        ensures unheard { OnErr result
-            (SameLists (heard_of self.old.heard) (heard_of self.new.heard)) }
+        ensures err { OnErr result (AsksNothing self.old.next_seq self.new.next_seq
+            (D.pending self.old.deliveries) (D.pending self.new.deliveries)
+            (heard_of self.old.heard) (heard_of self.new.heard)) }
         ensures given_up { self.new.given_up ≡ self.old.given_up }
         ensures missed { self.new.missed ≡ self.old.missed }
     {

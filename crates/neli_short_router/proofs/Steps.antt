@@ -14,11 +14,12 @@ use Rattle.neli_deliveries.specs.Readings.{IsReading, Item}
 use Rattle.neli_router.specs.declared.handle.HandleState.{HandleState}
 use Rattle.neli_router.specs.declared.reply.Reply.{Reply}
 use Rattle.neli_router.specs.declared.reply.Reply.TheVariants as reply
+use Rattle.neli_router.specs.declared.router.NlRouter.{NlRouter}
 use Rattle.neli_router.specs.declared.verdict.Heard.{Heard}
 use Rattle.neli_router.specs.Rule.{ends_alone, ends_at, has_number, is_single, item_of, last_item, last_item_of_payload}
 use Rattle.neli_router.specs.Verdicts.{heard_after, heard_with, is_last}
 use Rattle.neli_router.specs.laws.Places.{true_or_false}
-use Rattle.neli_short_router.specs.Reads.{Gives, IsRead, Stand, stand_after, standing}
+use Rattle.neli_short_router.specs.Reads.{Gives, IsRead, LeavesRest, Stand, stand_after, standing}
 
 -- ---- items
 
@@ -284,3 +285,17 @@ ok_same e = cc
 
 pub err_same : {A E : Type 0} {x y : E} → ◌≡◌ {A = Result A E} (Err x) (Err y) → x ≡ y
 err_same e = cc
+
+-- what two reads leave, one after the other
+module _ {D A : Type 0} (port_of : D → ℕ) (pending : D → Option ℕ → A) where
+  pub rest_on : (h t u : HandleState) (r s v : NlRouter D) → LeavesRest port_of pending h t r s
+      → LeavesRest port_of pending t u s v → LeavesRest port_of pending h u r v
+  rest_on h t u r s v a b = (
+    b.0 ∙ a.0,
+    b.1 ∙ a.1,
+    b.2 ∙ a.2,
+    b.3 ∙ a.3,
+    b.4 ∙ a.4,
+    (λ w not. b.5 w (λ e. not (e ∙ a.4)) ∙ a.5 w not),
+    λ w not. b.6 w (λ e. not (e ∙ a.4)) ∙ a.6 w not,
+  )

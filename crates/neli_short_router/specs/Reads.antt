@@ -4,11 +4,13 @@ use Rattle.std.specs.Option.{option_map}
 use Rattle.neli_wire.specs.declared.errors.DeError.{DeError}
 use Rattle.neli_reader.specs.RouterError.TheVariants as router
 use Rattle.neli_deliveries.specs.declared.delivery.Delivery.{Delivery}
+use Rattle.neli_deliveries.specs.Lists.{SameListsBut}
 use Rattle.neli_deliveries.specs.Readings.{IsReading, Item}
 use Rattle.neli_router.specs.declared.handle.HandleState.{HandleState}
+use Rattle.neli_router.specs.declared.router.NlRouter.{NlRouter}
 use Rattle.neli_router.specs.declared.verdict.Heard.{Heard}
 use Rattle.neli_router.specs.Rule.{ends_at, has_number, is_single, item_of}
-use Rattle.neli_router.specs.Verdicts.{heard_after}
+use Rattle.neli_router.specs.Verdicts.{heard_after, heard_of}
 
 -- where the reading of a handle stands: its state, what waits for it if it is open, and what is known of the answer
 pub record Stand : Type 0 where
@@ -20,6 +22,16 @@ pub record Stand : Type 0 where
 abbrev pub standing : HandleState → (Option ℕ → Option (List Delivery)) → (Option ℕ → Option Heard) → Stand
 standing handle pending heard =
     record { handle = handle; waits = pending handle.number; heard = heard handle.number }
+
+-- what reads of a handle leave: the router's port, its next number, what it gave up and what it missed, the handle's
+-- number, and all that is for other handles
+abbrev pub LeavesRest : {D A : Type 0} → (D → ℕ) → (D → Option ℕ → A) → (h t : HandleState) → (r s : NlRouter D)
+    → Type 0
+LeavesRest port_of pending h t r s =
+    (port_of s.deliveries ≡ port_of r.deliveries) × (s.next_seq ≡ r.next_seq) × (s.given_up ≡ r.given_up)
+    × (s.missed ≡ r.missed) × (t.number ≡ h.number)
+    × SameListsBut h.number (pending r.deliveries) (pending s.deliveries)
+    × SameListsBut h.number (heard_of r.heard) (heard_of s.heard)
 
 -- a read returns no item: the handle has ended, or nothing waits
 abbrev pub HasNoItem : Stand → Type 0

@@ -16,7 +16,7 @@ ghost use Rattle.neli_router.specs.Rule.{ends_at, has_number, is_single, item_of
 ghost use Rattle.neli_router.specs.Sends.{RefusesSend, TakesMemory, asks, frame_or_refusal, number_after};
 ghost use Rattle.neli_router.specs.Verdicts.{begun, heard_of, heard_with, verdict_by};
 ghost use Rattle.neli_short_router.specs.Next.{next_of};
-ghost use Rattle.neli_short_router.specs.Reads.{AreReads, HasNoItem, IsRead, standing};
+ghost use Rattle.neli_short_router.specs.Reads.{AreReads, HasNoItem, IsRead, LeavesRest, standing};
 ghost use Rattle.neli_short_router.specs.declared.next.Next.TheVariants as next;
 
 use crate::{Dump, Next, Request};
@@ -102,15 +102,7 @@ fn read_one<D: Deliveries, T: NlType, P: FromBytesWithInput + Size + Drop>(
     handle: &mut NlRouterReceiverHandle<T, P>,
     items: &mut Vec<Result<Nlmsghdr<T, P>, RouterError<T, P>>>,
 ) -> Result<bool, NoMemory>
-    ensures port { D.port_of router.new.deliveries ≡ D.port_of router.old.deliveries }
-    ensures next_seq { router.new.next_seq ≡ router.old.next_seq }
-    ensures given_up { router.new.given_up ≡ router.old.given_up }
-    ensures missed { router.new.missed ≡ router.old.missed }
-    ensures number { handle.new.number ≡ handle.old.number }
-    ensures others { SameListsBut handle.old.number
-        (D.pending router.old.deliveries) (D.pending router.new.deliveries) }
-    ensures unheard { SameListsBut handle.old.number
-        (heard_of router.old.heard) (heard_of router.new.heard) }
+    ensures rest { LeavesRest D.port_of D.pending handle.old handle.new router.old router.new }
     ensures read { result ≡ Ok true → (x : Given T P)
         × IsRead T.wire_value T.wire_number P.view P.wire_length P.read
         (standing handle.old (D.pending router.old.deliveries) (heard_of router.old.heard)) x
@@ -271,15 +263,7 @@ impl<D: Deliveries> Client for NlRouter<D> {
         handle: &mut NlRouterReceiverHandle<T, P>,
         items: &mut Vec<Result<Nlmsghdr<T, P>, RouterError<T, P>>>,
     ) -> Result<Verdict, NoMemory>
-        ensures port { D.port_of self.new.deliveries ≡ D.port_of self.old.deliveries }
-        ensures next_seq { self.new.next_seq ≡ self.old.next_seq }
-        ensures given_up { self.new.given_up ≡ self.old.given_up }
-        ensures missed { self.new.missed ≡ self.old.missed }
-        ensures number { handle.new.number ≡ handle.old.number }
-        ensures others { SameListsBut handle.old.number
-            (D.pending self.old.deliveries) (D.pending self.new.deliveries) }
-        ensures unheard { SameListsBut handle.old.number
-            (heard_of self.old.heard) (heard_of self.new.heard) }
+        ensures rest { LeavesRest D.port_of D.pending handle.old handle.new self.old self.new }
         ensures reads { (given : List (Given T P))
             × AreReads T.wire_value T.wire_number P.view P.wire_length P.read
             (standing handle.old (D.pending self.old.deliveries) (heard_of self.old.heard)) given

@@ -35,8 +35,17 @@ given g c =
     let j = c.in_ok-item.ensures.heard a d ds n in
     ((k.0, k.1, sym is ∙ k.2, k.3, k.4), (j.0, j.1, sym is ∙ j.2, j.3))))
 
-pub returns-in-Item-clause-number : goal.returns-in-Item-clause-number
-returns-in-Item-clause-number g c = (given g (goal.at.returns-in-Item-clause-number g c).After-put).1
+pub returns-in-Item-clause-rest : goal.returns-in-Item-clause-rest
+returns-in-Item-clause-rest g c =
+    let of = c.in_ok-item.ensures in (
+      of.port,
+      of.next_seq,
+      of.given_up,
+      of.missed,
+      (given g (goal.at.returns-in-Item-clause-rest g c).After-put).1,
+      of.others,
+      of.unheard,
+    )
 
 pub returns-in-Item-clause-read : goal.returns-in-Item-clause-read
 returns-in-Item-clause-read g c = λ yes. (
@@ -64,9 +73,11 @@ nothing g c =
     (λ a n. (let k = c.in_ok-item.ensures.waits a n in (k.1, k.2)))
     (λ a d ds n. (let k = c.in_ok-item.ensures.gives a d ds n in (_, k.2)))
 
-pub returns-in-End-clause-number : goal.returns-in-End-clause-number
-returns-in-End-clause-number g c =
-    let same = (nothing g (goal.at.returns-in-End-clause-number g c).In-End).0.0 in rw same refl
+pub returns-in-End-clause-rest : goal.returns-in-End-clause-rest
+returns-in-End-clause-rest g c =
+    let of = c.in_ok-item.ensures in
+    let same = (nothing g (goal.at.returns-in-End-clause-rest g c).In-End).0.0 in
+    (of.port, of.next_seq, of.given_up, of.missed, rw same refl, of.others, of.unheard)
 
 pub returns-in-End-clause-unchanged : goal.returns-in-End-clause-unchanged
 returns-in-End-clause-unchanged g c = λ no.

@@ -3,6 +3,7 @@ use Rattle.std.proofs.lemmas.List.{append_assoc}
 use Rattle.neli_router.specs.Verdicts.{heard_of}
 use Rattle.neli_short_router.specs.Reads.{standing}
 use Rattle.neli_short_router.proofs.Following.{reads_more}
+use Rattle.neli_short_router.proofs.Steps.{rest_on}
 use Rattle.neli_short_router.proofs.client.NlRouterClient.read_into.Goals as goal
 
 pub items-preserved : goal.items-preserved
@@ -11,13 +12,8 @@ items-preserved g c =
     let yes : c.read_one.result ≡ Ok true = c.in_ok-read_one.was ∙ ap (λ b. Ok b) c.if-branch.true in
     let step = c.read_one.ensures.read yes in
     record {
-      port = c.read_one.ensures.port ∙ inv.port;
-      next_seq = c.read_one.ensures.next_seq ∙ inv.next_seq;
-      given_up = c.read_one.ensures.given_up ∙ inv.given_up;
-      missed = c.read_one.ensures.missed ∙ inv.missed;
-      number = c.read_one.ensures.number ∙ inv.number;
-      others = λ w not. c.read_one.ensures.others w (λ e. not (e ∙ inv.number)) ∙ inv.others w not;
-      unheard = λ w not. c.read_one.ensures.unheard w (λ e. not (e ∙ inv.number)) ∙ inv.unheard w not;
+      rest = rest_on g.D.Deliveries.port_of g.D.Deliveries.pending c.args.handle.now c.items.handle
+          c.read_one.new.handle c.args.self.now c.items.self c.read_one.new.router inv.rest c.read_one.ensures.rest;
       reads = (
         inv.reads.0 ++ step.0 ∷ [],
         reads_more g.T.Constant.wire_value g.T.Constant.wire_number g.P.FromBytesWithInput.view g.P.Size.wire_length
