@@ -1,4 +1,5 @@
 mod Around
+mod FieldRows
 mod Lists
 mod Neighbours
 pub mod Offsets

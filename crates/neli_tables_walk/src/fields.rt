@@ -1,16 +1,18 @@
 //! The fields of a structure.
 
-ghost use Rattle.std.specs.Prelude.{Some, codes};
-ghost use Rattle.neli_tables.specs.Lines.{line_seen};
+ghost use Rattle.std.specs.Prelude.{◌≡◌, ◌++◌, Some, codes};
+ghost use Rattle.std.specs.Fmt.{WritesOnOk};
 ghost use Rattle.neli_tables_walk.specs.Cells.{value_json, value_text};
-ghost use Rattle.neli_tables_walk.specs.FieldLists.{field_text_by, member_json_with, members_by};
+ghost use Rattle.neli_tables_walk.specs.FieldLists.{Printed, fields_json_by, fields_text_by, members_by};
 ghost use Rattle.neli_tables_walk.specs.Fields.{fields_json, fields_text};
 ghost use Rattle.neli_tables_walk.specs.Lists.{joined};
+ghost use Rattle.neli_tables_walk.specs.Plains.{item_json, item_text};
 
 use crate::cell::{Value, ValueJson, ValueText};
 use crate::field_bytes::field_bytes;
 use crate::name::{Name, NameJson};
-use neli_tables::{Line, Options, Table, options_of};
+use crate::plain::{Item, ItemJson, ItemText};
+use neli_tables::{Options, Table};
 use std::fmt;
 
 /// The bytes of a structure, and the line that says what they are.
@@ -24,48 +26,132 @@ pub struct Fields<'b, 'w, 't> {
     pub bytes: &'b [u8],
 }
 
-/// A field with its value, after blanks; nothing where it is not there.
-#[derive(Clone, Copy)]
-struct FieldText<'b, 'w, 't> {
-    fields: Fields<'b, 'w, 't>,
-    row: &'w Line<'t>,
+/// What prints the value of a field.
+trait FieldPrinter {
+    /// What it prints of bytes by the options of their line.
+    ghost printed: { Printed };
+
+    /// Prints the value of a field that is these bytes.
+    fn print<W: fmt::Write>(
+        table: &Table<'_>,
+        options: &Options,
+        bytes: &[u8],
+        f: &mut fmt::Formatter<W>,
+    ) -> fmt::Result
+        ensures writes { WritesOnOk W.Write.write_str_gives f.old result
+            (printed table.now options.now bytes.now) f.new };
 }
 
-impl fmt::Display for FieldText<'_, '_, '_> {
-    ghost output = { λ t. Some
-        (field_text_by value_text t.fields.table.now t.fields.bytes.now (line_seen t.row.now)) };
+/// Values as text.
+enum PrintsText {}
 
-    fn fmt<W: fmt::Write>(&self, f: &mut fmt::Formatter<W>) -> fmt::Result {
-        let options = options_of(self.row);
-        match field_bytes(self.row, &options, self.fields.bytes) {
-            Some(part) => {
-                let name = Name(self.row.name);
-                let value = ValueText(Value::of(self.fields.table, &options, part));
-                write!(f, " {name}{value}")
-            }
-            None => Ok(()),
+impl FieldPrinter for PrintsText {
+    ghost printed = { value_text };
+
+    fn print<W: fmt::Write>(
+        table: &Table<'_>,
+        options: &Options,
+        bytes: &[u8],
+        f: &mut fmt::Formatter<W>,
+    ) -> fmt::Result {
+        let value = ValueText(Value::of(table, options, bytes));
+        write!(f, "{value}")
+    }
+}
+
+/// Values in JSON.
+enum PrintsJson {}
+
+impl FieldPrinter for PrintsJson {
+    ghost printed = { value_json };
+
+    fn print<W: fmt::Write>(
+        table: &Table<'_>,
+        options: &Options,
+        bytes: &[u8],
+        f: &mut fmt::Formatter<W>,
+    ) -> fmt::Result {
+        let value = ValueJson(Value::of(table, options, bytes));
+        write!(f, "{value}")
+    }
+}
+
+/// Values of a structure in an array, as text: in it structures are bytes.
+enum PrintsFlatText {}
+
+impl FieldPrinter for PrintsFlatText {
+    ghost printed = { item_text };
+
+    fn print<W: fmt::Write>(
+        table: &Table<'_>,
+        options: &Options,
+        bytes: &[u8],
+        f: &mut fmt::Formatter<W>,
+    ) -> fmt::Result {
+        let value = ItemText(Item::of(table, options, bytes));
+        write!(f, "{value}")
+    }
+}
+
+/// The same in JSON.
+enum PrintsFlatJson {}
+
+impl FieldPrinter for PrintsFlatJson {
+    ghost printed = { item_json };
+
+    fn print<W: fmt::Write>(
+        table: &Table<'_>,
+        options: &Options,
+        bytes: &[u8],
+        f: &mut fmt::Formatter<W>,
+    ) -> fmt::Result {
+        let value = ItemJson(Item::of(table, options, bytes));
+        write!(f, "{value}")
+    }
+}
+
+/// Prints the fields that bytes have, each as its name and its value, after blanks.
+fn write_fields<V: FieldPrinter, W: fmt::Write>(
+    fields: Fields<'_, '_, '_>,
+    f: &mut fmt::Formatter<W>,
+) -> fmt::Result
+    ensures writes { WritesOnOk W.Write.write_str_gives f.old result (fields_text_by V.printed
+        fields.entry.table.now fields.entry.place fields.entry.bytes.now) f.new }
+{
+    let rows = fields.table.rows(fields.place);
+    let all = fields.table.row_options(fields.place);
+    for (index, row) in rows.iter().enumerate() {
+        let options = &all[index];
+        if let Some(part) = field_bytes(row, options, fields.bytes) {
+            let name = Name(row.name);
+            write!(f, " {name}")?;
+            V::print(fields.table, options, part, f)?;
         }
     }
+    Ok(())
 }
 
-/// A member of an object: a field with its value.
-#[derive(Clone, Copy)]
-struct MemberJson<'b, 'w, 't> {
-    table: &'w Table<'t>,
-    name: &'t [u8],
-    options: &'w Options,
-    bytes: &'b [u8],
-}
-
-impl fmt::Display for MemberJson<'_, '_, '_> {
-    ghost output = { λ m. Some
-        (member_json_with value_json m.table.now m.name.now m.options.now m.bytes.now) };
-
-    fn fmt<W: fmt::Write>(&self, f: &mut fmt::Formatter<W>) -> fmt::Result {
-        let name = NameJson(self.name);
-        let value = ValueJson(Value::of(self.table, self.options, self.bytes));
-        write!(f, "{name}:{value}")
+/// Prints the fields that bytes have as members of an object, with commas between them.
+fn write_members<V: FieldPrinter, W: fmt::Write>(
+    fields: Fields<'_, '_, '_>,
+    f: &mut fmt::Formatter<W>,
+) -> fmt::Result
+    ensures writes { WritesOnOk W.Write.write_str_gives f.old result (joined (codes ",")
+        (members_by V.printed fields.entry.table.now fields.entry.place fields.entry.bytes.now)) f.new }
+{
+    let rows = fields.table.rows(fields.place);
+    let all = fields.table.row_options(fields.place);
+    let mut comma = "";
+    for (index, row) in rows.iter().enumerate() {
+        let options = &all[index];
+        if let Some(part) = field_bytes(row, options, fields.bytes) {
+            let name = NameJson(row.name);
+            write!(f, "{comma}{name}:")?;
+            V::print(fields.table, options, part, f)?;
+            comma = ",";
+        }
     }
+    Ok(())
 }
 
 /// The fields that bytes have, as text: each as its name and its value, after blanks.
@@ -76,48 +162,7 @@ impl fmt::Display for FieldsText<'_, '_, '_> {
     ghost output = { λ t. Some (fields_text t.0.table.now t.0.place t.0.bytes.now) };
 
     fn fmt<W: fmt::Write>(&self, f: &mut fmt::Formatter<W>) -> fmt::Result {
-        let rows = self.0.table.rows(self.0.place);
-        for row in rows {
-            let field = FieldText {
-                fields: self.0,
-                row,
-            };
-            write!(f, "{field}")?;
-        }
-        Ok(())
-    }
-}
-
-/// The fields that bytes have as members of an object, with commas between them.
-#[derive(Clone, Copy)]
-struct Members<'b, 'w, 't>(Fields<'b, 'w, 't>);
-
-impl fmt::Display for Members<'_, '_, '_> {
-    ghost output = { λ m. Some (joined (codes ",")
-        (members_by value_json m.0.table.now m.0.place m.0.bytes.now)) };
-
-    fn fmt<W: fmt::Write>(&self, f: &mut fmt::Formatter<W>) -> fmt::Result {
-        let Fields {
-            table,
-            place,
-            bytes,
-        } = self.0;
-        let rows = table.rows(place);
-        let mut comma = "";
-        for row in rows {
-            let options = options_of(row);
-            if let Some(bytes) = field_bytes(row, &options, bytes) {
-                let member = MemberJson {
-                    table,
-                    name: row.name,
-                    options: &options,
-                    bytes,
-                };
-                write!(f, "{comma}{member}")?;
-                comma = ",";
-            }
-        }
-        Ok(())
+        write_fields::<PrintsText, W>(self.0, f)
     }
 }
 
@@ -126,10 +171,37 @@ impl fmt::Display for Members<'_, '_, '_> {
 pub struct FieldsJson<'b, 'w, 't>(pub Fields<'b, 'w, 't>);
 
 impl fmt::Display for FieldsJson<'_, '_, '_> {
-    ghost output = { λ j. Some (fields_json j.0.table.now j.0.place j.0.bytes.now) };
+    ghost output = { λ t. Some (fields_json t.0.table.now t.0.place t.0.bytes.now) };
 
     fn fmt<W: fmt::Write>(&self, f: &mut fmt::Formatter<W>) -> fmt::Result {
-        let members = Members(self.0);
-        write!(f, "{{{members}}}")
+        f.write_str("{")?;
+        write_members::<PrintsJson, W>(self.0, f)?;
+        f.write_str("}")
+    }
+}
+
+/// The fields of a structure in an array, as text. Structures in it are bytes.
+#[derive(Clone, Copy)]
+pub(crate) struct FlatText<'b, 'w, 't>(pub Fields<'b, 'w, 't>);
+
+impl fmt::Display for FlatText<'_, '_, '_> {
+    ghost output = { λ t. Some (fields_text_by item_text t.0.table.now t.0.place t.0.bytes.now) };
+
+    fn fmt<W: fmt::Write>(&self, f: &mut fmt::Formatter<W>) -> fmt::Result {
+        write_fields::<PrintsFlatText, W>(self.0, f)
+    }
+}
+
+/// The fields of a structure in an array, as an object of JSON. Structures in it are bytes.
+#[derive(Clone, Copy)]
+pub(crate) struct FlatJson<'b, 'w, 't>(pub Fields<'b, 'w, 't>);
+
+impl fmt::Display for FlatJson<'_, '_, '_> {
+    ghost output = { λ t. Some (fields_json_by item_json t.0.table.now t.0.place t.0.bytes.now) };
+
+    fn fmt<W: fmt::Write>(&self, f: &mut fmt::Formatter<W>) -> fmt::Result {
+        f.write_str("{")?;
+        write_members::<PrintsFlatJson, W>(self.0, f)?;
+        f.write_str("}")
     }
 }

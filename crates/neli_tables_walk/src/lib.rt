@@ -53,7 +53,6 @@ mod element;
 mod field_bytes;
 mod fields;
 mod flags;
-mod flat;
 mod form;
 mod generic;
 mod head;

@@ -4,8 +4,7 @@ ghost use Rattle.std.specs.Prelude.{◌≡◌, Some, codes};
 ghost use Rattle.neli_tables_walk.specs.Lists.{joined};
 ghost use Rattle.neli_tables_walk.specs.Structures.{structures_members, structures_text};
 
-use crate::fields::Fields;
-use crate::flat::{FlatJson, FlatText};
+use crate::fields::{Fields, FlatJson, FlatText};
 use std::fmt;
 
 /// Structures of so many bytes, one after the other.

@@ -5,12 +5,9 @@ use Rattle.std.specs.Prelude.{nat_lt, bytes_eq}
 use Rattle.std.specs.Char.{digit_char}
 use Rattle.std.specs.Fmt.{decimal}
 use Rattle.std.specs.List.{flat_map, list_all}
-use Rattle.std.specs.Net.Addr.{ipv6_segments}
 use Rattle.std.specs.Net.Text.{compressed_text, dotted_text, groups_text, hex, hex_groups_text}
-use Rattle.std.specs.Net.Text.{ip_text, ipv6_text}
+use Rattle.std.specs.Net.Text.{ipv6_text}
 use Rattle.std.specs.Net.Text.{leading_zero_digits, longest_zero_run}
-use Rattle.std.specs.declared.net.ip_addr.IpAddr.{IpAddr}
-use Rattle.std.specs.declared.net.ip_addr.IpAddr.TheVariants as Ip
 use Rattle.std.proofs.lemmas.Bool.{and_from, and_parts, cond_both}
 use Rattle.neli_tables_walk.specs.Json.{is_plain}
 use Rattle.neli_tables_walk.specs.laws.Strings.{digits-plain, plain-append, glyph-plain}

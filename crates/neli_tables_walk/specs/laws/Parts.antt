@@ -1,10 +1,9 @@
 -- Values, members and elements of JSON, one after the other.
-use Rattle.std.proofs.Common.{◌≡◌, ℕ, Bool, true, false, List, [], ◌∷◌, ◌++◌, codes, pos, refl, sym}
+use Rattle.std.proofs.Common.{◌≡◌, ℕ, Bool, true, false, List, [], ◌∷◌, ◌++◌, codes, pos, sym}
 use Rattle.std.proofs.Common.{subst, append_assoc, append-nil, map}
 use Rattle.std.specs.Fmt.{decimal}
 use Rattle.std.specs.List.{flat_map, list_all}
-use Rattle.neli_tables_walk.specs.Hex.{bytes_json, hex_text}
-use Rattle.neli_tables_walk.specs.Json.{AreElements, AreMembers, IsChars, IsJson, array, element}
+use Rattle.neli_tables_walk.specs.Json.{AreElements, AreMembers, IsJson, array, element}
 use Rattle.neli_tables_walk.specs.Json.{elements}
 use Rattle.neli_tables_walk.specs.Json.{empty_array, empty_object, integer, is_plain, member, members}
 use Rattle.neli_tables_walk.specs.Json.{object}

@@ -1,12 +1,11 @@
 -- What is printed as JSON is one value.
-use Rattle.std.proofs.Common.{◌≡◌, ℕ, ◌/◌, ◌%◌, Bool, true, false, List, [], ◌∷◌, ◌++◌, codes}
+use Rattle.std.proofs.Common.{◌≡◌, ℕ, ◌/◌, ◌%◌, true, false, List, [], ◌∷◌, ◌++◌, codes}
 use Rattle.std.proofs.Common.{length, refl, subst}
-use Rattle.std.proofs.Common.{ℤ, append_assoc, Option, Some, None, drop, take, map, ap, ◌∙◌, sym}
-use Rattle.std.specs.Prelude.{◌==◌, ◌||◌, nat_lt, not, slice_get, slice_range, is_some}
+use Rattle.std.proofs.Common.{ℤ, append_assoc, Option, Some, None, drop, take, ap, ◌∙◌, sym}
+use Rattle.std.specs.Prelude.{◌==◌, ◌||◌, slice_range}
 use Rattle.std.specs.Fmt.{decimal, digits}
 use Rattle.std.specs.List.{list_all}
 use Rattle.std.specs.Net.Addr.{segments_of}
-use Rattle.std.specs.Net.Text.{ipv4_text, ipv6_text}
 use Rattle.std.proofs.lemmas.Bool.{cond_both}
 use Rattle.neli_tables.specs.Lines.{LineSeen}
 use Rattle.neli_tables.specs.declared.options.Options.{Options}
@@ -45,10 +44,10 @@ use Rattle.neli_tables_walk.specs.Named.{number_or_json}
 use Rattle.neli_tables_walk.specs.Named.{part_json}
 use Rattle.neli_tables_walk.specs.Names.{escaped_or_hex, name_json, name_text}
 use Rattle.neli_tables_walk.specs.Numbers.{number_in, plain_number_json, signed_or}
-use Rattle.neli_tables_walk.specs.Plains.{bits_json, bits_width, item_json, kept_plain, numbers_json}
+use Rattle.neli_tables_walk.specs.Plains.{bits_json, bits_width, item_json, kept_plain}
 use Rattle.neli_tables_walk.specs.Plains.{plain_json}
 use Rattle.neli_tables_walk.specs.Plains.{quoted_or_json, text_json}
-use Rattle.neli_tables_walk.specs.Quoted.{escaped, quoted, text_in}
+use Rattle.neli_tables_walk.specs.Quoted.{text_in}
 use Rattle.neli_tables_walk.specs.Values.{form_json, kept_form, line_options, payload_json}
 use Rattle.neli_tables_walk.specs.Values.{payload_json_by}
 use Rattle.neli_tables_walk.specs.laws.Addresses.{dotted-plain, ipv6-plain}

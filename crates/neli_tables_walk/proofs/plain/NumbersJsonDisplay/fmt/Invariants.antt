@@ -1,6 +1,5 @@
-use Rattle.std.proofs.Common.{◌≡◌, ℕ, List, ◌++◌, codes, drop, map, max}
+use Rattle.std.proofs.Common.{◌≡◌, ℕ, List, ◌++◌, codes, map, max}
 use Rattle.std.specs.Fmt.{HasWritten, IsPlainFormatter}
-use Rattle.std.specs.List.{flat_map}
 use Rattle.std.specs.Slice.Iter.{chunks_rest, chunks_size}
 use denote.Text.{Utf8}
 use denote.Shadow.{shadow}

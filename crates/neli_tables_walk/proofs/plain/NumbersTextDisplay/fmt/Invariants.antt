@@ -1,9 +1,7 @@
-use Rattle.std.proofs.Common.{◌≡◌, ℕ, List, ◌++◌, codes, drop, map, max}
+use Rattle.std.proofs.Common.{◌≡◌, ℕ, List, ◌++◌, max}
 use Rattle.std.specs.Fmt.{HasWritten, IsPlainFormatter}
 use Rattle.std.specs.List.{flat_map}
 use Rattle.std.specs.Slice.Iter.{chunks_rest, chunks_size}
-use denote.Text.{Utf8}
-use denote.Shadow.{shadow}
 use Rattle.neli_tables_walk.specs.Lists.{parts_of}
 use Rattle.neli_tables_walk.specs.Plains.{blank_part_text, numbers_text}
 use Rattle.neli_tables_walk.proofs.plain.NumbersTextDisplay.fmt.Given as goal

@@ -1,24 +1,21 @@
-use Rattle.std.proofs.Common.{◌≡◌, ℕ, List, ◌++◌, codes, drop, map, max}
+use Rattle.std.proofs.Common.{◌≡◌, ℕ, List, ◌++◌, codes, drop, map}
 use Rattle.std.specs.Fmt.{HasWritten, IsPlainFormatter}
 use Rattle.std.specs.List.{flat_map}
-use Rattle.std.specs.Slice.Iter.{chunks_rest, chunks_size}
 use denote.Text.{Utf8}
 use denote.Shadow.{shadow}
 use Rattle.neli_tables.specs.Lines.{line_seen}
 use Rattle.neli_tables_walk.specs.FieldLists.{member_by, members_by}
-use Rattle.neli_tables_walk.specs.Cells.{value_json}
 use Rattle.neli_tables_walk.specs.Lists.{joined}
 use Rattle.neli_tables_walk.proofs.ValueLists.{after}
-use Rattle.neli_tables_walk.proofs.fields.MembersDisplay.fmt.Given as goal
+use Rattle.neli_tables_walk.proofs.fields.write_members.Given as goal
 
 -- what is written, and the members of the rows that are left, are all members
-abbrev pub invariant-loop-row : goal.invariant-loop-row
-invariant-loop-row g l =
+abbrev pub invariant-loop-index : goal.invariant-loop-index
+invariant-loop-index g l =
+    let by = g.V.FieldPrinter.printed in
     shadow (Utf8 l.comma) ×
     (IsPlainFormatter l.initial.f
     → (done : List ℕ) × HasWritten g.W.Write.write_str_gives l.initial.f done l.f
     × (done ++ after (codes ",") l.comma
-    (flat_map (member_by value_json l.fn.self.0.table.now l.fn.self.0.bytes.now)
-    (drop l.row-index (map line_seen l.rows)))
-    ≡ joined (codes ",")
-    (members_by value_json l.fn.self.0.table.now l.fn.self.0.place l.fn.self.0.bytes.now)))
+    (flat_map (member_by by l.fields.table.now l.fields.bytes.now) (drop l.index (map line_seen l.rows)))
+    ≡ joined (codes ",") (members_by by l.fields.table.now l.fields.place l.fields.bytes.now)))

@@ -1,0 +1,49 @@
+-- The rows of a structure, and what their options say.
+use Rattle.std.proofs.Common.{◌≡◌, ◌∙◌, ◌<◌, ℕ, List, ◌++◌, codes, length, map, get_or, Option, Some}
+use Rattle.std.proofs.Common.{ap, sym, arith}
+use Rattle.std.proofs.lemmas.List.{append_assoc, get_or-map, length-map}
+use Rattle.neli_tables.specs.declared.line.Line.{Line}
+use Rattle.neli_tables.specs.declared.options.Options.{Options}
+use Rattle.neli_tables.specs.Families.{Lines}
+use Rattle.neli_tables.specs.Lines.{LineSeen, line_seen}
+use Rattle.neli_tables.specs.Options.{options_of}
+use Rattle.neli_tables_walk.specs.FieldBytes.{field_bytes_by}
+use Rattle.neli_tables_walk.specs.FieldLists.{Printed, field_text_by, member_by, member_json_with, member_with, text_if}
+use Rattle.neli_tables_walk.specs.Names.{name_json, name_text}
+
+-- the options at the place of a row are the row's
+pub options_here : (rows : List Line) (all : List Options) (lines : List LineSeen) (i : ℕ) (x : Line) (o : Options)
+    → map line_seen rows ≡ lines → all ≡ map options_of lines → i < length rows → x ≡ get_or rows i x
+    → get_or all i o ≡ options_of (line_seen x)
+options_here rows all lines i x o are said within at =
+    ap (λ os. get_or os i o) (said ∙ ap (map options_of) (sym are))
+    ∙ get_or-map options_of (map line_seen rows) i (line_seen x) o (omega (arith, within, length-map rows line_seen))
+    ∙ ap options_of (get_or-map line_seen rows i x (line_seen x) within ∙ ap line_seen (sym at))
+
+module _ (by : Printed) (table : Lines) (bytes : List ℕ) (row : LineSeen) (o : Options) (same : o ≡ options_of row) where
+  -- the text of a field that has these bytes, or none
+  pub field_has : (part : Option (List ℕ)) → part ≡ field_bytes_by row o bytes
+      → field_text_by by table bytes row ≡ text_if by table row part
+  field_has part is =
+      ap (λ (p : Options). text_if by table row (field_bytes_by row p bytes)) (sym same)
+      ∙ ap (text_if by table row) (sym is)
+
+  -- its member of an object
+  pub member_has : (part : Option (List ℕ)) → part ≡ field_bytes_by row o bytes
+      → member_by by table bytes row ≡ member_with by table row.name o part
+  member_has part is =
+      ap (λ (p : Options). member_with by table row.name p (field_bytes_by row p bytes)) (sym same)
+      ∙ ap (member_with by table row.name o) (sym is)
+
+  -- what is printed of a field: a blank and its name, and its value
+  pub field_printed : (part : List ℕ) → Some part ≡ field_bytes_by row o bytes
+      → field_text_by by table bytes row ≡ (codes " " ++ name_text row.name) ++ by table o part
+  field_printed part is =
+      field_has (Some part) is
+      ∙ ap (λ (p : Options). codes " " ++ (name_text row.name ++ by table p part)) (sym same)
+      ∙ sym (append_assoc (codes " ") (name_text row.name) (by table o part))
+
+  -- and of a member: its name and a colon, and its value
+  pub member_printed : (part : List ℕ)
+      → member_json_with by table row.name o part ≡ (name_json row.name ++ codes ":") ++ by table o part
+  member_printed part = sym (append_assoc (name_json row.name) (codes ":") (by table o part))
