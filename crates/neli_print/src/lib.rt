@@ -5,8 +5,9 @@
 //!   tables.
 //! - [`ItemText`], [`ItemJson`]: an item of a walk over attributes.
 //! - [`laws`]: JSON is one value a message, and lines of such values a datagram.
+//! - [`inputs`]: the datagrams of a file, raw, as hexadecimal text or as a pcap file.
 //!
-//! Each is printed by `Display`, and takes no memory. What it prints is a function of the tables
+//! Each of the first three is printed by `Display`, and takes no memory. What it prints is a function of the tables
 //! and the bytes: `datagram_text`, `message_json` and the others of `specs/`.
 #![tactic(auto)]
 
@@ -17,6 +18,7 @@ mod fault;
 mod flag_rows;
 mod flags;
 mod head;
+pub mod inputs;
 mod item;
 mod item_json;
 mod item_text;

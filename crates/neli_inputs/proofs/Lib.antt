@@ -1,2 +1,0 @@
-mod Records
-mod Texts
