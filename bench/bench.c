@@ -18,7 +18,8 @@
 #define MEGABYTE (1u << 20)
 #define LARGEST (16 * MEGABYTE)
 #define SIZES 3
-#define READERS 5
+#define READERS 6
+#define COPIES 256 /* attributes of a message, at most, whose payloads are copied */
 #define ROOM 16 /* messages or attributes that one call gives: what it fills stays in the nearest cache */
 #ifndef ROUNDS
 #define ROUNDS 40
@@ -102,6 +103,85 @@ static bool mnl_link_attributes(const uint8_t *bytes, size_t length, uint64_t *t
 static bool mnl_route_attributes(const uint8_t *bytes, size_t length, uint64_t *total)
 {
 	return mnl_attributes(bytes, length, sizeof(struct rtmsg), total);
+}
+
+/* ---- libmnl, with each payload copied, as an owned reader does */
+
+/* What was copied of one message: external, so that no copy can be left out. */
+void *copies[COPIES];
+
+static void free_copies(size_t count)
+{
+	for (size_t i = 0; i < count; i++)
+		free(copies[i]);
+}
+
+/* Copies bytes into memory of their own; nothing for none. */
+static bool copy(size_t *count, const void *bytes, size_t length)
+{
+	if (length == 0)
+		return true;
+	if (*count == COPIES || !(copies[*count] = malloc(length)))
+		return false;
+	memcpy(copies[(*count)++], bytes, length);
+	return true;
+}
+
+static bool copied_headers(const uint8_t *bytes, size_t length, uint64_t *total)
+{
+	const struct nlmsghdr *message = (const struct nlmsghdr *)bytes;
+	int left = (int)length;
+	uint64_t sum = 0;
+
+	while (mnl_nlmsg_ok(message, left)) {
+		size_t count = 0;
+		bool is_copied = copy(&count, mnl_nlmsg_get_payload(message), mnl_nlmsg_get_payload_len(message));
+
+		sum += message->nlmsg_len;
+		free_copies(count);
+		if (!is_copied)
+			return false;
+		message = mnl_nlmsg_next(message, &left);
+	}
+	*total = sum;
+	return left == 0;
+}
+
+/* `header` is the size of the bytes before the attributes. */
+static inline bool copied_attributes(const uint8_t *bytes, size_t length, unsigned int header, uint64_t *total)
+{
+	const struct nlmsghdr *message = (const struct nlmsghdr *)bytes;
+	int left = (int)length;
+	uint64_t sum = 0;
+
+	while (mnl_nlmsg_ok(message, left)) {
+		const struct nlattr *attribute;
+		bool is_copied = true;
+		size_t count = 0;
+
+		mnl_attr_for_each(attribute, message, header) {
+			uint16_t size = mnl_attr_get_payload_len(attribute);
+
+			is_copied = is_copied && copy(&count, mnl_attr_get_payload(attribute), size);
+			sum += mnl_attr_get_type(attribute) + size;
+		}
+		free_copies(count);
+		if (!is_copied)
+			return false;
+		message = mnl_nlmsg_next(message, &left);
+	}
+	*total = sum;
+	return left == 0;
+}
+
+static bool copied_link_attributes(const uint8_t *bytes, size_t length, uint64_t *total)
+{
+	return copied_attributes(bytes, length, sizeof(struct ifinfomsg), total);
+}
+
+static bool copied_route_attributes(const uint8_t *bytes, size_t length, uint64_t *total)
+{
+	return copied_attributes(bytes, length, sizeof(struct rtmsg), total);
 }
 
 /* ---- this library, by its calls for C that give several messages or attributes at once */
@@ -379,12 +459,14 @@ int main(int argc, char **argv)
 		    { .name = "calls", .run = call_headers },
 		    { .name = "single", .run = single_headers },
 		    { .name = "lent", .run = neli_bench_lent_headers },
+		    { .name = "copied", .run = copied_headers },
 		    { .name = "owned", .run = neli_bench_owned_headers } } },
 		{ "attributes",
 		  { { .name = "libmnl", .run = mnl_link_attributes },
 		    { .name = "calls", .run = call_link_attributes },
 		    { .name = "single", .run = single_link_attributes },
 		    { .name = "lent", .run = neli_bench_lent_link_attributes },
+		    { .name = "copied", .run = copied_link_attributes },
 		    { .name = "owned", .run = neli_bench_owned_link_attributes } } },
 	};
 	struct subject routes[] = {
@@ -393,12 +475,14 @@ int main(int argc, char **argv)
 		    { .name = "calls", .run = call_headers },
 		    { .name = "single", .run = single_headers },
 		    { .name = "lent", .run = neli_bench_lent_headers },
+		    { .name = "copied", .run = copied_headers },
 		    { .name = "owned", .run = neli_bench_owned_headers } } },
 		{ "attributes",
 		  { { .name = "libmnl", .run = mnl_route_attributes },
 		    { .name = "calls", .run = call_route_attributes },
 		    { .name = "single", .run = single_route_attributes },
 		    { .name = "lent", .run = neli_bench_lent_route_attributes },
+		    { .name = "copied", .run = copied_route_attributes },
 		    { .name = "owned", .run = neli_bench_owned_route_attributes } } },
 	};
 
