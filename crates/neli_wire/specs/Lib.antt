@@ -1,5 +1,6 @@
 pub mod Bytes
 pub mod Constants
+pub mod Counts
 pub mod ErrorTexts
 pub mod Frames
 pub mod laws

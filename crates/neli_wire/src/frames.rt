@@ -1,12 +1,14 @@
 //! Frames: a header that states the length of the whole, the payload, and padding to four bytes.
 
-ghost use Rattle.std.specs.Prelude.{◌≡◌, ◌≤◌, Ok, IfOk, IfErr, OnOk, OnErr};
+ghost use Rattle.std.specs.Prelude.{◌≡◌, ◌≤◌, ◌<◌, ◌*◌, ℕ, Ok, IfOk, IfErr, OnOk, OnErr, length};
 ghost use Rattle.neli_wire.specs.laws.Steps.{padded_payload_at, padded_payload_takes_memory};
 ghost use Rattle.neli_wire.specs.Place.{whole};
 ghost use Rattle.neli_wire.specs.Refusals.{Refuses};
 ghost use Rattle.neli_wire.specs.Sizes.{align};
+ghost use Rattle.neli_wire.specs.Counts.{AreCounted};
 
 use crate::{Cursor, DeError, FromBytesWithInput, alignto};
+use byteorder::{ByteOrder, LittleEndian};
 use std::alloc::Global;
 
 /// Reads what follows a header of `size` bytes that states `len` for the whole frame: the payload and the padding to
@@ -37,4 +39,35 @@ pub fn read_padded_payload<P: FromBytesWithInput>(
     ahead.bytes(alignto(len) - len)?;
     *cursor = ahead;
     Ok(payload)
+}
+
+/// The fewest bytes of a frame that states its length in its first two bytes, the header of an attribute.
+const LEAST: usize = 4;
+
+/// How many frames the bytes are, one after the other, by the lengths that these state in their first two bytes; 0 where
+/// the bytes are not such frames. Attributes are, and messages below 65536 bytes.
+pub(crate) fn frames_in(bytes: &[u8]) -> usize
+    ensures frames { 0 < result → AreCounted result bytes.now }
+    ensures all { (n : ℕ) → AreCounted n bytes.now → result ≡ n }
+    ensures few { 4 * result ≤ length bytes.now }
+{
+    let mut cursor = Cursor::new(bytes);
+    let mut count = 0;
+    while LEAST <= cursor.rest().len() {
+        let rest = cursor.rest();
+        let len = LittleEndian::read_u16(rest) as usize;
+        if len < LEAST {
+            return 0;
+        }
+        let end = alignto(len);
+        if rest.len() < end {
+            return 0;
+        }
+        cursor.advance(end);
+        count += 1;
+    }
+    if cursor.rest().len() > 0 {
+        return 0;
+    }
+    count
 }

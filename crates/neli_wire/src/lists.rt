@@ -10,6 +10,7 @@ ghost use Rattle.neli_wire.specs.Reading.{refusal_within};
 ghost use Rattle.neli_wire.specs.laws.Sizes.{unpadded-rounded, unpadded-zeros};
 ghost use Rattle.neli_wire.specs.Writing.{RefusesWrite, append_wire, wire_all};
 
+use crate::frames::frames_in;
 use crate::implementing::{undo_on_refusal, within_input};
 use crate::{Cursor, DeError, FromBytes, FromBytesWithInput, SerError, Size, ToBytes};
 use std::alloc::Global;
@@ -55,7 +56,8 @@ pub fn write_all<T: ToBytes>(items: &[T], buffer: &mut Vec<u8>) -> Result<(), Se
     undo_on_refusal(buffer, start, outcome)
 }
 
-/// Reads all of the bytes as values, one after the other.
+/// Reads all of the bytes as values, one after the other. Where the bytes are frames, room for all of them is asked for
+/// at once.
 ///
 /// An element that takes no byte while bytes are left is `InvalidInput` of the whole number of
 /// bytes.
@@ -63,7 +65,7 @@ pub fn read_all<T: FromBytes>(alloc: Global, bytes: &[u8]) -> Result<Vec<T>, DeE
     ensures value { IfOk result (λ v. elements T.read bytes.now ≡ Ok (map T.view v.items)) }
     ensures refused { IfErr result (Refuses (elements T.read bytes.now) (0 < length bytes.now)) }
 {
-    let mut items = Vec::new(alloc);
+    let mut items = Vec::with_capacity(alloc, frames_in(bytes))?;
     let mut cursor = Cursor::new(bytes);
     while cursor.position() < bytes.len() {
         let start = cursor.position();
