@@ -12,6 +12,7 @@ use Rattle.neli_tables.specs.declared.setting.Setting.{Setting}
 use Rattle.neli_tables.specs.Lines.{LineSeen, line_seen}
 use Rattle.neli_tables.specs.Settings.{setting_seen}
 use Rattle.neli_tables.specs.Options.{first_word, options_of, word_in}
+use Rattle.neli_tables.specs.Plain.{name_seen, plain_name}
 use Rattle.neli_tables.specs.declared.options.Options.{Options}
 use Rattle.neli_tables.specs.declared.tables.MessagePlace.{MessagePlace}
 use Rattle.neli_tables.specs.Families.{Lines, message_at, message_from, message_of}
@@ -116,13 +117,30 @@ before_own : {A : Type 0} (index : Option ℕ) (xs : List A) → take (length (b
 before_own (Some i) xs = take_own i xs
 before_own None xs = take_all (length xs) xs (omega arith)
 
+-- what is kept of the lines that stand where the rows of a section do
+rows_kept : {A : Type 0} (f : LineSeen → A) (kept : List A) (lines : List LineSeen) (rows : List Line) (section : ℕ)
+    → kept ≡ map f lines → map line_seen rows ≡ rows_of section lines
+    → take (section + 1 + length rows - (section + 1)) (drop (section + 1) kept) ≡ map f (rows_of section lines)
+rows_kept f kept lines rows section are is =
+    let all = drop (section + 1) lines in
+    let many : section + 1 + length rows - (section + 1) ≡ length (rows_among all) =
+    omega (arith, length-map rows line_seen, ap length is) in
+    rw (are, many, drop-map f (section + 1) lines, take-map f (length (rows_among all)) all)
+    (ap (map f) (before_own (position begins_section all) all))
+
 -- the options of the lines that stand where the rows of a section do
 pub rows_options : (options : List Options) (lines : List LineSeen) (rows : List Line) (section : ℕ)
     → options ≡ map options_of lines → map line_seen rows ≡ rows_of section lines
     → take (section + 1 + length rows - (section + 1)) (drop (section + 1) options) ≡ map options_of (rows_of section lines)
-rows_options options lines rows section are is =
-    let all = drop (section + 1) lines in
-    let many : section + 1 + length rows - (section + 1) ≡ length (rows_among all) =
-    omega (arith, length-map rows line_seen, ap length is) in
-    rw (are, many, drop-map options_of (section + 1) lines, take-map options_of (length (rows_among all)) all)
-    (ap (map options_of) (before_own (position begins_section all) all))
+rows_options options lines rows section are is = rows_kept options_of options lines rows section are is
+
+-- and their names
+pub rows_names : (names : List (Option (Bor (List ℕ)))) (lines : List LineSeen) (rows : List Line) (section : ℕ)
+    → map name_seen names ≡ map plain_name lines → map line_seen rows ≡ rows_of section lines
+    → map name_seen (take (section + 1 + length rows - (section + 1)) (drop (section + 1) names))
+    ≡ map plain_name (rows_of section lines)
+rows_names names lines rows section are is =
+    let many = section + 1 + length rows - (section + 1) in
+    sym (take-map name_seen many (drop (section + 1) names))
+    ∙ ap (take many) (sym (drop-map name_seen (section + 1) names))
+    ∙ rows_kept plain_name (map name_seen names) lines rows section are is

@@ -15,3 +15,4 @@ pub mod Index
 pub mod RowKeys
 pub mod Options
 pub mod FoundRows
+pub mod Plain

@@ -5,6 +5,7 @@
 //!   what a choice picks by a text, each by its place among the table's lines.
 //! - [`Options`], [`prefix_of`]: what the options of a line say.
 //! - [`is_set`], [`unnamed_bits`]: the names of the bits of a value, and the bits that have none.
+//! - [`are_plain`]: texts that need no escape in quotes, as the names that a table keeps to be printed as they stand.
 //! - [`Tables`]: the tables of several families, and the numbers of those of generic netlink, once they are learnt.
 //!
 //! A row is found in a map that is made once, when a table is read.
@@ -19,6 +20,7 @@ mod line;
 mod names;
 mod number;
 mod options;
+mod plain;
 mod rows;
 mod schema;
 mod section;
@@ -36,6 +38,7 @@ pub use kind::Kind;
 pub use line::Line;
 pub use number::Span;
 pub use options::{Options, options_of, prefix_of};
+pub use plain::are_plain;
 pub use schema::{ReadError, read_table};
 pub use setting::{Said, Setting, Value};
 pub use table::Table;

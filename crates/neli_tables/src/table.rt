@@ -1,13 +1,14 @@
 //! A family's table.
 
 ghost use Rattle.std.specs.Prelude.{◌≡◌, ◌+◌, ◌<◌, ◌≤◌, List, Ok, IfErr, IfOk, IfSome, length, map, position};
-ghost use Rattle.std.specs.Prelude.{slice_get};
+ghost use Rattle.std.specs.Prelude.{option_and_then, slice_get};
 ghost use Rattle.std.specs.Option.{option_map};
 ghost use Rattle.neli_tables.specs.Lines.{LineSeen, line_seen};
 ghost use Rattle.neli_tables.specs.Schemas.{IsWhyNot, table_in};
 ghost use Rattle.neli_tables.specs.Index.{AreFirsts, Indexes};
 ghost use Rattle.neli_tables.specs.RowKeys.{place_of, rest_key, way_number};
 ghost use Rattle.neli_tables.specs.Options.{options_of};
+ghost use Rattle.neli_tables.specs.Plain.{name_seen, plain_name};
 ghost use Rattle.neli_tables.specs.FoundRows.{begins_section, case_in, group_in, is_case, message_for};
 ghost use Rattle.neli_tables.specs.FoundRows.{message_in};
 ghost use Rattle.neli_tables.specs.FoundRows.{row_in, rows_among, rows_of};
@@ -16,6 +17,7 @@ use crate::bits::mask_of;
 use crate::firsts::Firsts;
 use crate::index::Index;
 use crate::options::{Options, all_options};
+use crate::plain::plain_names;
 use crate::way::{Way, group_key, is_row, message_key, rest_key, row_key, way_number};
 use crate::{Line, ReadError, Word, read_table};
 use std::alloc::{AllocError, Global};
@@ -28,6 +30,7 @@ use std::marker::Model;
 pub struct Table<'t> {
     lines: Vec<Line<'t>>,
     options: Vec<Options>,
+    names: Vec<Option<&'t str>>,
     firsts: Firsts,
     index: Index,
 }
@@ -39,7 +42,8 @@ impl<'t> Model for Table<'t> {
 
     ghost invariant = { λ t. Indexes t.index (map line_seen t.lines.items)
         × AreFirsts t.firsts (map line_seen t.lines.items)
-        × (t.options.items ≡ map options_of (map line_seen t.lines.items)) };
+        × (t.options.items ≡ map options_of (map line_seen t.lines.items))
+        × (map name_seen t.names.items ≡ map plain_name (map line_seen t.lines.items)) };
 }
 
 impl<'t> Table<'t> {
@@ -63,9 +67,11 @@ impl<'t> Table<'t> {
         let index = Index::of(alloc, &lines)?;
         let firsts = Firsts::of(alloc, &lines, &index)?;
         let options = all_options(alloc, &lines)?;
+        let names = plain_names(alloc, &lines)?;
         Ok(Table {
             lines,
             options,
+            names,
             firsts,
             index,
         })
@@ -110,6 +116,28 @@ impl<'t> Table<'t> {
             return &[];
         }
         &self.options[section + 1..section + 1 + rows.len()]
+    }
+
+    /// The name of the line at this place, where it is printed as it stands: each of its bytes is a printing character
+    /// of ASCII that needs no escape in quotes.
+    pub fn plain_name(&self, place: usize) -> Option<&'t str>
+        ensures { name_seen result ≡ option_and_then plain_name (slice_get self.now place) }
+    {
+        match self.names.get(place) {
+            Some(name) => *name,
+            None => None,
+        }
+    }
+
+    /// The same of the rows of the section at this place, in order.
+    pub fn row_names(&self, section: usize) -> &[Option<&'t str>]
+        ensures { map name_seen result.now ≡ map plain_name (rows_of section self.now) }
+    {
+        let rows = rows_of(&self.lines, section);
+        if rows.is_empty() {
+            return &[];
+        }
+        &self.names[section + 1..section + 1 + rows.len()]
     }
 
     /// The place of the row that has this number in the section at this place: of an attribute in a set, a case in a

@@ -172,6 +172,22 @@ fn options_of_rows_are_in_order(rt: HostRuntime) -> Result<(), ReadError> {
 }
 
 #[test]
+fn names_without_escapes_are_kept(rt: HostRuntime) -> Result<(), ReadError> {
+    let text = "family rt-link 0\nenum named\n  value up\"per 1\n  value ~lower~ 2\n  value ä 3\n";
+    let table = Table::read(rt.alloc(), text.as_bytes())?;
+    let wanted = [None, Some("~lower~"), None];
+    assert_eq!(rt; table.row_names(1), wanted.as_slice());
+    for (index, name) in wanted.iter().enumerate() {
+        assert_eq!(rt; table.plain_name(2 + index), *name, "at {index}");
+    }
+    assert_eq!(rt; table.plain_name(0), Some("rt-link"));
+    assert_eq!(rt; table.plain_name(5), None);
+    assert!(rt; table.row_names(0).is_empty());
+    assert!(rt; table.row_names(9999).is_empty());
+    Ok(())
+}
+
+#[test]
 fn options_are_typed(rt: HostRuntime) -> Result<(), ReadError> {
     let table = Table::read(rt.alloc(), LINKS.as_bytes())?;
     let data = options_at(&table, b"IFLA_INFO_DATA");
