@@ -1,8 +1,9 @@
 /* Times the router of this library by the program `neli_tool replay`, and through the calls for C, a process for each
  * run.
  *
- * A script opens handles, hands in messages of 16 bytes, a datagram each, and reads them. What the program prints, and
- * what the calls answer, is counted; where a count is not what it has to be, the driver ends with status 1. */
+ * A script opens handles, hands in messages of 16 bytes, a datagram each, and reads them; through the calls also where
+ * the router keeps them. What the program prints, and what the calls answer, is counted; where a count is not what it
+ * has to be, the driver ends with status 1. */
 #include "neli.h"
 #include <stdbool.h>
 #include <stdio.h>
@@ -124,8 +125,21 @@ static unsigned read_one(struct neli_router *router, size_t handle) {
     return 1;
 }
 
+/* Reads a message where the router keeps it. */
+static unsigned lend_one(struct neli_router *router, size_t handle) {
+    struct neli_lent lent;
+    int32_t code = neli_router_lend(router, handle, &lent);
+    if (code == NELI_WAITS) return 0;
+    if (code != NELI_ITEM || lent.message.length != 16 || neli_router_pass(router, handle) != NELI_OK)
+        fail("a message is not lent");
+    return 1;
+}
+
+/* How a message is read. */
+typedef unsigned reader(struct neli_router *router, size_t handle);
+
 /* Does what a script says, and ends the process. */
-static void play(const struct script *s) {
+static void play(const struct script *s, reader *one) {
     struct neli_router router = NELI_ROUTER_CLOSED;
     size_t *handles = malloc(s->open * sizeof *handles);
     unsigned items = 0;
@@ -139,18 +153,27 @@ static void play(const struct script *s) {
     if (s->dropped) neli_router_close(&router, NELI_MULTICAST);
     for (unsigned i = 0; i < s->messages; i += s->batch) {
         for (unsigned k = i; k < i + s->batch; k++) hand_in(&router, s->dropped, s->over ? k % s->over : ~0u);
-        for (unsigned k = i; s->over && k < i + s->batch; k++) items += read_one(&router, handles[k % s->over]);
+        for (unsigned k = i; s->over && k < i + s->batch; k++) items += one(&router, handles[k % s->over]);
     }
     _exit(items != items_of(s));
+}
+
+static struct cost run_by(reader *one, const struct script *s) {
+    pid_t child = fork();
+    if (child < 0) fail("no process");
+    if (!child) play(s, one);
+    return cost_of(child, "not each message was read once through C");
 }
 
 /* The tool is not needed. */
 static struct cost run_calls(const char *tool, const struct script *s) {
     (void)tool;
-    pid_t child = fork();
-    if (child < 0) fail("no process");
-    if (!child) play(s);
-    return cost_of(child, "not each message was read once through C");
+    return run_by(read_one, s);
+}
+
+static struct cost run_lent(const char *tool, const struct script *s) {
+    (void)tool;
+    return run_by(lend_one, s);
 }
 
 /* ---- the table */
@@ -178,12 +201,16 @@ static void compare_by(runner *run, const char *tool, struct script kept) {
            all.kilobytes / 1024.0);
 }
 
-/* A line of the table. */
+/* A line of the table; what is read is also lent. */
 static void compare(const char *tool, struct script kept, unsigned first, unsigned second) {
     printf("%8u %8u ", first, second);
     compare_by(run, tool, kept);
     printf("  ");
     compare_by(run_calls, tool, kept);
+    if (kept.over) {
+        printf("  ");
+        compare_by(run_lent, tool, kept);
+    }
     printf("\n");
     fflush(stdout);
 }
@@ -195,8 +222,10 @@ int main(int argc, char **argv) {
         return 2;
     }
     printf("%d messages of 16 bytes, a datagram each, with %d open handles\n\n", MESSAGES, OPEN);
-    puts(" waiting  handles     neli_tool: ns a message      MB      through C: ns a message      MB");
-    puts(" at most they are      all dropped  differ     all        all dropped  differ     all");
+    puts(" waiting  handles     neli_tool: ns a message      MB      through C: ns a message      MB"
+         "           lent: ns a message      MB");
+    puts(" at most they are      all dropped  differ     all        all dropped  differ     all"
+         "        all dropped  differ     all");
     for (unsigned batch = 1000; batch <= MESSAGES; batch *= 1000)
         for (int i = 0; i < 3; i++) {
             struct script script = {OPEN, MESSAGES, handles[i], batch, false};

@@ -143,6 +143,15 @@ struct neli_item {
     int32_t error; /* the code of an error, an acknowledgement or the end of a dump; 0 elsewhere */
 };
 
+/* An item that is lent: a message where the router keeps it. Its payload is all of the bytes, so each call that takes
+ * bytes and a message takes these two. */
+struct neli_lent {
+    struct neli_message message;
+    const uint8_t *bytes; /* never null */
+    size_t length;
+    int32_t error; /* the code of a kernel's error; 0 elsewhere */
+};
+
 /* A verdict on an answer, beside the code that neli_router_verdict returns. */
 struct neli_verdict {
     int32_t error; /* the code of the kernel's error, or of the dump that failed, as -19 for ENODEV; 0 elsewhere */
@@ -270,6 +279,8 @@ int32_t neli_c_router_fault(struct neli_router *router, int32_t error_number);
 int32_t neli_c_router_read(struct neli_router *router, size_t handle, struct neli_item *item);
 int32_t neli_c_router_listen(struct neli_router *router, struct neli_item *item);
 int32_t neli_c_router_item(struct neli_router *router, uint8_t *out, size_t room, size_t *length);
+int32_t neli_c_router_lend(struct neli_router *router, size_t handle, struct neli_lent *lent);
+int32_t neli_c_router_pass(struct neli_router *router, size_t handle);
 int32_t neli_c_router_verdict(struct neli_router *router, size_t handle, struct neli_verdict *verdict);
 int32_t neli_c_router_give_up(struct neli_router *router, size_t handle);
 int32_t neli_c_router_close(struct neli_router *router, size_t handle);
@@ -599,6 +610,25 @@ static inline int32_t neli_router_listen(struct neli_router *router, struct neli
 static inline int32_t neli_router_item(struct neli_router *router, uint8_t *out, size_t room, size_t *length) {
     if (router == NULL || !neli_is_slice(out, room) || length == NULL) return NELI_NULL;
     return neli_c_router_item(router, neli_write_at(out), room, length);
+}
+
+/* Lends the next item of a handle where the router keeps it: no byte is copied, and no memory is taken. It returns what
+ * neli_router_read does, but never NELI_MEMORY. The item stays the next one until neli_router_pass, and `lent` with its
+ * bytes until the next call of this router. At NELI_KERNEL_ERROR the message is the error, as neli_get_answer reads it;
+ * at any other code but NELI_ITEM there are no bytes. What neli_router_item copies stays as it was. */
+static inline int32_t neli_router_lend(struct neli_router *router, size_t handle, struct neli_lent *lent) {
+    if (router == NULL || lent == NULL) return NELI_NULL;
+    lent->bytes = neli_read_at(NULL);
+    lent->length = 0;
+    return neli_c_router_lend(router, handle, lent);
+}
+
+/* Goes on to a handle's next item: the handle, what waits and the verdict change as by neli_router_read, so both kinds
+ * of reads may take turns. Where none waits nothing changes. It takes no memory. NELI_HANDLE if the handle is not
+ * open. */
+static inline int32_t neli_router_pass(struct neli_router *router, size_t handle) {
+    if (router == NULL) return NELI_NULL;
+    return neli_c_router_pass(router, handle);
 }
 
 /* Reports the verdict on the answer to a handle's request, by the items read from it: whether it is complete.

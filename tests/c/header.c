@@ -294,6 +294,64 @@ static void check_verdicts(void) {
     CHECK(neli_router_free(&router) == NELI_OK);
 }
 
+/* Items are lent where the router keeps them, and go by when they are passed. */
+static void check_lent(void) {
+    struct neli_router router = NELI_ROUTER_CLOSED;
+    struct neli_sent first, second;
+    struct neli_item item;
+    struct neli_lent lent, again;
+    struct neli_answer answer;
+    struct neli_verdict verdict;
+    uint8_t out[64];
+    size_t size;
+    /* Of handle 1 (number 0) two messages, between them one of handle 2 (number 1). */
+    const uint8_t datagram[] = {
+        20, 0, 0, 0, 16, 0, 2, 0, 0, 0, 0, 0, 9, 0, 0, 0, 1, 2, 3, 4,
+        24, 0, 0, 0, 17, 0, 2, 0, 1, 0, 0, 0, 9, 0, 0, 0, 5, 6, 7, 8, 9, 10, 11, 12,
+        16, 0, 0, 0, 18, 0, 2, 0, 0, 0, 0, 0, 9, 0, 0, 0,
+    };
+    CHECK(neli_router_lend(&router, 1, &lent) == NELI_STATE && lent.length == 0 && lent.bytes != NULL);
+    CHECK(neli_router_pass(&router, 1) == NELI_STATE && neli_router_pass(NULL, 1) == NELI_NULL);
+    CHECK(neli_router_lend(NULL, 1, &lent) == NELI_NULL && neli_router_lend(&router, 1, NULL) == NELI_NULL);
+    CHECK(neli_router_new(&router, 9) == NELI_OK && neli_router_lend(&router, 1, &lent) == NELI_HANDLE);
+    CHECK(neli_router_pass(&router, 1) == NELI_HANDLE);
+    CHECK(neli_router_send(&router, 18, 0x300, NULL, 0, out, sizeof out, &first) == NELI_OK);
+    CHECK(neli_router_send(&router, 18, 4, NULL, 0, out, sizeof out, &second) == NELI_OK);
+    CHECK(neli_router_lend(&router, first.handle, &lent) == NELI_WAITS && neli_router_pass(&router, 1) == NELI_OK);
+    CHECK(neli_router_datagram(&router, datagram, sizeof datagram, NULL, 0) == NELI_OK);
+    CHECK(neli_router_lend(&router, second.handle, &lent) == NELI_ITEM && lent.message.type == 17);
+    CHECK(lent.length == 8 && memcmp(lent.bytes, datagram + 36, 8) == 0 && lent.message.number == 1);
+    CHECK(neli_router_lend(&router, first.handle, &lent) == NELI_ITEM && lent.message.type == 16);
+    CHECK(lent.message.length == 20 && lent.message.flags == 2 && lent.message.number == 0 && lent.message.port == 9);
+    CHECK(lent.message.payload == 0 && lent.message.payload_length == 4 && lent.error == 0);
+    CHECK(lent.length == 4 && memcmp(lent.bytes, datagram + 16, 4) == 0);
+    CHECK(neli_router_lend(&router, first.handle, &again) == NELI_ITEM && again.bytes == lent.bytes);
+    CHECK(neli_router_read(&router, first.handle, &item) == NELI_ITEM && item.type == 16 && item.number == 0);
+    CHECK(neli_router_item(&router, out, sizeof out, &size) == NELI_OK && memcmp(out, datagram, 20) == 0);
+    CHECK(neli_router_lend(&router, first.handle, &lent) == NELI_ITEM && lent.message.type == 18 && lent.length == 0);
+    CHECK(lent.bytes != NULL && neli_router_pass(&router, first.handle) == NELI_OK);
+    CHECK(neli_router_lend(&router, first.handle, &lent) == NELI_WAITS && lent.length == 0);
+    CHECK(neli_router_item(&router, out, sizeof out, &size) == NELI_OK && size == 20);
+    CHECK(neli_router_lend(&router, second.handle, &lent) == NELI_ITEM && memcmp(lent.bytes, datagram + 36, 8) == 0);
+    CHECK(neli_router_pass(&router, second.handle) == NELI_OK);
+    CHECK(end_dump(&router, 0, 0, 0) == NELI_OK && neli_router_lend(&router, first.handle, &lent) == NELI_ITEM);
+    CHECK(lent.message.type == 3 && neli_get_answer(lent.bytes, lent.length, &lent.message, &answer) == NELI_OK);
+    CHECK(neli_router_verdict(&router, first.handle, &verdict) == NELI_WAITS);
+    CHECK(neli_router_pass(&router, first.handle) == NELI_OK);
+    CHECK(neli_router_verdict(&router, first.handle, &verdict) == NELI_OK);
+    CHECK(neli_router_lend(&router, first.handle, &lent) == NELI_END && neli_router_pass(&router, 1) == NELI_OK);
+    CHECK(neli_router_set_number(&router, 7) == NELI_OK);
+    CHECK(neli_router_send(&router, 18, 4, NULL, 0, out, sizeof out, &first) == NELI_OK);
+    CHECK(neli_router_datagram(&router, error_bytes, sizeof error_bytes, NULL, 0) == NELI_OK);
+    CHECK(neli_router_lend(&router, first.handle, &lent) == NELI_KERNEL_ERROR && lent.error == -19);
+    CHECK(lent.length == 28 && memcmp(lent.bytes, error_bytes + 16, 28) == 0);
+    CHECK(neli_get_answer(lent.bytes, lent.length, &lent.message, &answer) == NELI_OK && answer.code == -19);
+    CHECK(neli_router_pass(&router, first.handle) == NELI_OK);
+    CHECK(neli_router_lend(&router, first.handle, &lent) == NELI_END);
+    CHECK(neli_router_fault(&router, 104) == NELI_OK && neli_router_lend(&router, second.handle, &lent) == NELI_LINK);
+    CHECK(neli_router_free(&router) == NELI_OK && neli_router_lend(&router, 1, &lent) == NELI_STATE);
+}
+
 /* Handles that were closed are given again, the last one first, and then new ones; the others stay, and multicast's is
  * never given. */
 static void check_handles(void) {
@@ -326,6 +384,7 @@ int main(void) {
     check_refusals();
     check_router();
     check_verdicts();
+    check_lent();
     check_handles();
     printf("header.c: %s\n", failures == 0 ? "each call answers as include/neli.h says" : "failed");
     return failures != 0;

@@ -3,6 +3,7 @@ pub mod Explained
 pub mod Frames
 pub mod FreePlaces
 pub mod Hears
+pub mod Lends
 pub mod Listens
 pub mod Opened
 pub mod OutOfPlace

@@ -2,10 +2,12 @@ pub mod AnswersShown
 pub mod Asked
 pub mod Codes
 pub mod DumpsHeld
+pub mod Lending
 pub mod Listens
 pub mod Lists
 pub mod Named
 pub mod Opens
+pub mod Places
 pub mod Printed
 pub mod Reads
 pub mod Sessions

@@ -58,7 +58,7 @@ fn left<'b>(bytes: &'b [u8], walk: NeliWalk) -> Option<&'b [u8]>
 }
 
 /// The fields of a message whose payload lies at this place.
-fn message_at(lent: &LentMessage<'_, u16>, payload: usize) -> NeliMessage
+pub(crate) fn message_at(lent: &LentMessage<'_, u16>, payload: usize) -> NeliMessage
     ensures header { header_shown result ≡ lent.now.header }
     ensures payload { result.payload ≡ payload }
     ensures payload_length { result.payload_length ≡ length lent.now.payload.now }

@@ -8,10 +8,14 @@ ghost use Rattle.neli_c.specs.Sessions.{ClosesHandle, IsNew, ReadsPlace, Refuses
 ghost use Rattle.neli_c.specs.Sessions.{SendsNothing};
 ghost use Rattle.neli_c.specs.Sessions.{SendsRequest, SetsNumber, TakesDatagram, TakesFault, WritesItem};
 ghost use Rattle.neli_c.specs.Verdicts.{GivesUpHandle, HearsHandle, TellsVerdict};
+ghost use Rattle.neli_c.specs.Lending.{LendsPlace, PassesPlace};
+ghost use Rattle.neli_c.specs.Places.{IsLeft};
+ghost use Rattle.std.specs.Borrow.{sem};
 ghost use Rattle.neli_c.specs.Listens.{Listens, Misses, MissesSame};
 ghost use Rattle.neli_c.specs.Slots.{handle_at};
 
 use crate::code::{MEMORY, OK, STATE};
+use crate::lending::NeliLent;
 use crate::opaque::NeliRouter;
 use crate::session::{NeliItem, NeliSent, NeliVerdict, Session};
 use std::alloc::Global;
@@ -229,6 +233,71 @@ pub extern "C" fn neli_c_router_item(
         return STATE;
     };
     let code = session.item(alloc, out, size);
+    router.put(session);
+    code
+}
+
+/// The code of a lend, and the bytes that are lent then: they keep the router as it is.
+#[derive(Clone, Copy)]
+struct Lending<'r> {
+    code: i32,
+    bytes: &'r [u8],
+}
+
+/// Lends the next item of a handle.
+fn lend<'r>(router: &'r mut NeliRouter, handle: usize, lent: &mut NeliLent<'r>) -> Lending<'r>
+    ensures* same { sem 𝓛 (IsLeft router.entry) }
+    ensures closed { router.old.place.value ≡ None
+        → (result.code ≡ state) × (lent.new ≡ lent.old) }
+    ensures open { IfSome router.old.place.value
+        (λ s. LendsPlace result.code handle s lent.old lent.new) }
+{
+    let code = match router.lend() {
+        Some(session) => session.lend(handle, lent),
+        None => STATE,
+    };
+    Lending {
+        code,
+        bytes: lent.bytes,
+    }
+}
+
+/// Lends the next item of a handle, where the router keeps it, until the next call that changes the router; 0 is the
+/// handle of multicast. It takes no memory, and the router is unchanged: the item stays the next one until
+/// `neli_c_router_pass`.
+///
+/// Returns what `neli_c_router_read` returns, but never `MEMORY`; without `ITEM` or `KERNEL_ERROR` `lent` is unchanged.
+#[unsafe(no_mangle)]
+pub extern "C" fn neli_c_router_lend<'r>(
+    router: &'r mut NeliRouter,
+    handle: usize,
+    lent: &mut NeliLent<'r>,
+) -> i32
+    ensures* same { sem 𝓛 (IsLeft router.entry) }
+    ensures closed { router.old.place.value ≡ None → (result ≡ state) × (lent.new ≡ lent.old) }
+    ensures open { IfSome router.old.place.value
+        (λ s. LendsPlace result handle s lent.old lent.new) }
+{
+    lend(router, handle, lent).code
+}
+
+/// Goes on to a handle's next item, as `neli_c_router_read` does, but reads nothing and takes no memory; where none
+/// waits nothing changes.
+///
+/// Returns `OK`, or `HANDLE` if the handle is not open.
+#[unsafe(no_mangle)]
+pub extern "C" fn neli_c_router_pass(alloc: Global, router: &mut NeliRouter, handle: usize) -> i32
+    ensures closed { router.old.place.value ≡ None
+        → (result ≡ state) × (router.new.place.value ≡ None) }
+    ensures open { IfSome router.old.place.value (λ s. IsSome router.new.place.value
+        × IfSome router.new.place.value (PassesPlace result handle s)) }
+    ensures missed { IfSome router.old.place.value
+        (λ s. IfSome router.new.place.value (MissesSame s)) }
+{
+    let Some(mut session) = router.take(alloc) else {
+        return STATE;
+    };
+    let code = session.pass(handle);
     router.put(session);
     code
 }

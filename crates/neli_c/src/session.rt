@@ -12,6 +12,7 @@ ghost use Rattle.neli_c.specs.Sessions.{SendsNothing, SendsRequest, SetsNumber, 
 ghost use Rattle.neli_c.specs.Sessions.{TakesFault, TakesKind, WritesItem};
 ghost use Rattle.neli_c.specs.Sessions.{error_flags, error_message, item_code, item_message};
 ghost use Rattle.neli_c.specs.Sessions.{item_shown, reply_code, shown_of};
+ghost use Rattle.neli_c.specs.Lending.{LendsHandle, PassesHandle};
 ghost use Rattle.neli_c.specs.Verdicts.{GivesUpHandle, HearsHandle, TellsVerdict};
 ghost use Rattle.neli_router.specs.Listening.{missed_with};
 ghost use Rattle.neli_router.specs.declared.listening.Missed.TheVariants as missed;
@@ -22,6 +23,7 @@ ghost use Rattle.neli_c.specs.Slots.{AreFree, handle_at, later_places, next_plac
 ghost use Rattle.neli_c.specs.declared.session.Slot.TheVariants as slot;
 
 use crate::code::{HANDLE, ITEM, KERNEL_ERROR, LENGTH, LINK, MEMORY, OK, OVERRUN, ROOM, WAITS};
+use crate::lending::{NeliLent, give};
 use crate::outcome::{filtered_byte, is_overrun, kind_of, of_error, of_verdict, verdict_error};
 use crate::write::copy;
 use neli_attr::Buffer;
@@ -464,6 +466,40 @@ impl Session {
             .next_typed::<u16, Buffer, _, _>(alloc, &mut handle);
         self.handles[k] = Slot::Open(handle);
         hold(answer, &mut self.held, item)
+    }
+
+    /// Lends the next item of a handle, which stays the next one.
+    pub fn lend<'r>(&'r self, k: usize, lent: &mut NeliLent<'r>) -> i32
+        ensures none { handle_at k self.now.handles.items ≡ None
+            → (result ≡ no_handle) × (lent.new ≡ lent.old) }
+        ensures some { IfSome (handle_at k self.now.handles.items)
+            (λ h. LendsHandle result h self.now lent.old lent.new) }
+    {
+        let Some(reader) = handle_of(&self.handles, k) else {
+            return HANDLE;
+        };
+        give(self.router.lend_next(reader), lent)
+    }
+
+    /// Goes on to a handle's next item.
+    pub fn pass(&mut self, k: usize) -> i32
+        ensures none { handle_at k self.old.handles.items ≡ None
+            → (result ≡ no_handle) × (self.new ≡ self.old) }
+        ensures some { IfSome (handle_at k self.old.handles.items) (λ h. (after : HandleState)
+            × (result ≡ ok)
+            × (self.new.handles.items ≡ slice_set self.old.handles.items k (slot.Open after))
+            × (self.new.freed ≡ self.old.freed)
+            × ((ks : List ℕ) → HasFree self.old ks → HasFree self.new ks)
+            × (self.new.held ≡ self.old.held)
+            × PassesHandle h after self.old self.new) }
+        ensures missed { MissesSame self.old self.new }
+    {
+        let Some(mut passed) = take(&mut self.handles, k, 0) else {
+            return HANDLE;
+        };
+        self.router.pass(&mut passed);
+        self.handles[k] = Slot::Open(passed);
+        OK
     }
 
     /// Copies the bytes of the held message.

@@ -3,7 +3,9 @@
 //! A request is of type 18 (`RTM_GETLINK` of `linux/rtnetlink.h`) with `NLM_F_REQUEST | NLM_F_DUMP`; codes are those of
 //! `include/neli.h`.
 
-use neli_c::code::{OK, WAITS};
+use neli_c::code::{HANDLE, ITEM, OK, WAITS};
+use neli_c::lending::NeliLent;
+use neli_c::lent::NeliMessage;
 use neli_c::session::{NeliItem, NeliSent, Session};
 use std::alloc::Global;
 use std::test::Fail;
@@ -67,5 +69,54 @@ fn freed_places_are_given_again_after_multicast_is_closed(rt: HostRuntime) -> Re
     for handle in [2, 1, 3] {
         assert_eq!(rt; sent(&mut session, alloc), (OK, handle));
     }
+    Ok(())
+}
+
+const NOTHING: &[u8] = &[];
+
+/// The code of a lend, and the bytes and the number of the message.
+fn lent<'r>(session: &'r Session, handle: usize) -> (i32, &'r [u8], u32) {
+    let mut lent = NeliLent {
+        message: NeliMessage {
+            length: 0,
+            message_type: 0,
+            flags: 0,
+            number: 77,
+            port: 0,
+            payload: 0,
+            payload_length: 0,
+        },
+        bytes: NOTHING,
+        error: 0,
+    };
+    let code = session.lend(handle, &mut lent);
+    (code, lent.bytes, lent.message.number)
+}
+
+/// Two messages with the flag MULTI: of number 1 with the payload 1 2 3 4, and of number 0 with 5 6 7 8.
+const TWO: [u8; 40] = [
+    20, 0, 0, 0, 16, 0, 2, 0, 1, 0, 0, 0, 9, 0, 0, 0, 1, 2, 3, 4, 20, 0, 0, 0, 16, 0, 2, 0, 0, 0,
+    0, 0, 9, 0, 0, 0, 5, 6, 7, 8,
+];
+
+#[test]
+fn a_lent_item_stays_until_it_is_passed(rt: HostRuntime) -> Result<(), Fail> {
+    let alloc = rt.alloc();
+    let mut session = Session::new(alloc, 9).unwrap();
+    assert_eq!(rt; sent(&mut session, alloc), (OK, 1));
+    assert_eq!(rt; sent(&mut session, alloc), (OK, 2));
+    assert_eq!(rt; lent(&session, 1), (WAITS, NOTHING, 77));
+    assert_eq!(rt; session.datagram(alloc, &TWO, &[]), OK);
+    assert_eq!(rt; lent(&session, 1), (ITEM, &TWO[36..], 0));
+    assert_eq!(rt; lent(&session, 2), (ITEM, &TWO[16..20], 1));
+    assert_eq!(rt; lent(&session, 1), (ITEM, &TWO[36..], 0));
+    assert_eq!(rt; session.pass(1), OK);
+    assert_eq!(rt; lent(&session, 1), (WAITS, NOTHING, 77));
+    assert_eq!(rt; lent(&session, 2), (ITEM, &TWO[16..20], 1));
+    assert_eq!(rt; session.pass(1), OK);
+    assert_eq!(rt; read(&mut session, alloc, 2), ITEM);
+    assert_eq!(rt; lent(&session, 2), (WAITS, NOTHING, 77));
+    assert_eq!(rt; session.pass(3), HANDLE);
+    assert_eq!(rt; lent(&session, 3), (HANDLE, NOTHING, 77));
     Ok(())
 }

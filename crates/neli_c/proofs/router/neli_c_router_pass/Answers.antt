@@ -1,0 +1,15 @@
+use Rattle.neli_c.specs.Lending.{PassesPlace}
+use Rattle.neli_c.specs.Listens.{MissesSame}
+use Rattle.neli_c.proofs.Opened.{carried, carried-along}
+use Rattle.neli_c.proofs.router.neli_c_router_pass.Goals as goal
+
+pub returns-clause-open : goal.returns-clause-open
+returns-clause-open c =
+    carried (λ z. PassesPlace z c.args.handle) c.pass-code.result _ _ _ c.deref_mut.result.now _
+    (record { sfits = c.pass-code.type_inv }) c.in-Some.ensures.taken c.deref_mut.ensures.value c.put.ensures
+    (c.pass-code.ensures.none, c.pass-code.ensures.some)
+
+pub returns-clause-missed : goal.returns-clause-missed
+returns-clause-missed c =
+    carried-along (λ s t. MissesSame s t) _ _ _ c.deref_mut.result.now _ c.in-Some.ensures.taken
+    c.deref_mut.ensures.value c.put.ensures c.pass-code.ensures.missed
