@@ -127,7 +127,7 @@ impl<I: TryClone> FrameList<I> {
         ensures value { IfOk result (λ list. list ≡ self.now) }
         ensures memory { OnErr result (0 < length self.now) }
     {
-        let mut items = Vec::new(*self.items.allocator());
+        let mut items = Vec::with_capacity(*self.items.allocator(), self.len())?;
         for item in &self.items {
             items.push(item.try_clone()?)?;
         }

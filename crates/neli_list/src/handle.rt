@@ -280,7 +280,7 @@ impl<I> FrameList<I> {
         ensures memory { OnErr result (0 < length self.now) }
     {
         let items = self.as_ref();
-        let mut attrs = Vec::new(alloc);
+        let mut attrs = Vec::with_capacity(alloc, items.len())?;
         for attr in items {
             attrs.push(attr.to_typed()?)?;
         }
