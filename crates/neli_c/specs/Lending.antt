@@ -87,10 +87,11 @@ PassesHandle h h' s t =
     × (h' ≡ record h {
       single_given = h.single_given || is_single (λ n. n) (has_number h.number) (untyped d);
       ended = ends_at (λ n. n) h.needs_ack (has_number h.number) h.single_given (untyped d);
-    })
-    × (heard_of t.router.heard h.number
+    }))
+    × (h.ended ≡ false → (d : Delivery) (ds : List Delivery) → pending s h.number ≡ Some (d ∷ ds)
+    → heard_of t.router.heard h.number
     ≡ option_map (heard_with (λ n. n) h.needs_ack (has_number h.number) h.single_given (untyped d))
-    (heard_of s.router.heard h.number)))
+    (heard_of s.router.heard h.number))
     × ((w : Option ℕ) → w ≢ h.number → pending t w ≡ pending s w)
     × ((w : Option ℕ) → w ≢ h.number → heard_of t.router.heard w ≡ heard_of s.router.heard w)
     × (t.router.deliveries.port ≡ s.router.deliveries.port) × (t.router.next_seq ≡ s.router.next_seq)

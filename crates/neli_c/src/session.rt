@@ -497,9 +497,20 @@ impl Session {
         let Some(mut passed) = take(&mut self.handles, k, 0) else {
             return HANDLE;
         };
-        self.router.pass(&mut passed);
+        self.go_past(&mut passed);
         self.handles[k] = Slot::Open(passed);
         OK
+    }
+
+    /// Goes on to the next item of this handle, which has left its place.
+    fn go_past(&mut self, handle: &mut Handle)
+        ensures passes { PassesHandle handle.old handle.new self.old self.new }
+        ensures handles { self.new.handles ≡ self.old.handles }
+        ensures freed { self.new.freed ≡ self.old.freed }
+        ensures held { self.new.held ≡ self.old.held }
+        ensures missed { MissesSame self.old self.new }
+    {
+        self.router.pass(handle);
     }
 
     /// Copies the bytes of the held message.
