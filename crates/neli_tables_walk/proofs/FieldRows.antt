@@ -1,12 +1,14 @@
 -- The rows of a structure, and what their options say.
-use Rattle.std.proofs.Common.{◌≡◌, ◌∙◌, ◌<◌, ℕ, List, ◌++◌, codes, length, map, get_or, Option, Some}
+use Rattle.std.proofs.Common.{◌≡◌, ◌∙◌, ◌<◌, ℕ, List, ◌++◌, codes, length, map, get_or, Option, Some, None}
 use Rattle.std.proofs.Common.{ap, sym, arith}
+use Rattle.std.specs.Borrow.{Bor}
 use Rattle.std.proofs.lemmas.List.{append_assoc, get_or-map, length-map}
 use Rattle.neli_tables.specs.declared.line.Line.{Line}
 use Rattle.neli_tables.specs.declared.options.Options.{Options}
 use Rattle.neli_tables.specs.Families.{Lines}
 use Rattle.neli_tables.specs.Lines.{LineSeen, line_seen}
 use Rattle.neli_tables.specs.Options.{options_of}
+use Rattle.neli_tables.specs.Plain.{name_seen, plain_name}
 use Rattle.neli_tables_walk.specs.FieldBytes.{field_bytes_by}
 use Rattle.neli_tables_walk.specs.FieldLists.{Printed, field_text_by, member_by, member_json_with, member_with, text_if}
 use Rattle.neli_tables_walk.specs.Names.{name_json, name_text}
@@ -19,6 +21,18 @@ options_here rows all lines i x o are said within at =
     ap (λ os. get_or os i o) (said ∙ ap (map options_of) (sym are))
     ∙ get_or-map options_of (map line_seen rows) i (line_seen x) o (omega (arith, within, length-map rows line_seen))
     ∙ ap options_of (get_or-map line_seen rows i x (line_seen x) within ∙ ap line_seen (sym at))
+
+-- the name that is kept at the place of a row is the row's
+pub name_here : (rows : List Line) (names : List (Option (Bor (List ℕ)))) (lines : List LineSeen) (i : ℕ) (x : Line)
+    → map line_seen rows ≡ lines → map name_seen names ≡ map plain_name lines → i < length rows → x ≡ get_or rows i x
+    → name_seen (get_or names i None) ≡ plain_name (line_seen x)
+name_here rows names lines i x are kept within at =
+    let many : length names ≡ length rows =
+    omega (arith, length-map names name_seen, length-map lines plain_name, length-map rows line_seen, ap length kept, ap length are) in
+    sym (get_or-map name_seen names i None None (omega (arith, many, within)))
+    ∙ ap (λ ns. get_or ns i None) (kept ∙ ap (map plain_name) (sym are))
+    ∙ get_or-map plain_name (map line_seen rows) i (line_seen x) None (omega (arith, within, length-map rows line_seen))
+    ∙ ap plain_name (get_or-map line_seen rows i x (line_seen x) within ∙ ap line_seen (sym at))
 
 module _ (by : Printed) (table : Lines) (bytes : List ℕ) (row : LineSeen) (o : Options) (same : o ≡ options_of row) where
   -- the text of a field that has these bytes, or none

@@ -7,11 +7,16 @@ use Rattle.std.specs.Char.{encode_utf8}
 use Rattle.std.specs.List.{flat_map, list_all}
 use Rattle.std.specs.Str.{IsUtf8}
 use Rattle.std.specs.Cmp.{first_so, second_so}
-use Rattle.std.specs.Prelude.{true}
+use Rattle.std.specs.Prelude.{Bool, Option, Some, None, true, ◌&&◌, if◌then◌else◌, option_and_then, unwrap_or}
+use Rattle.std.proofs.lemmas.Bool.{cond_both}
+use Rattle.std.specs.Str.{is_utf8}
 use Rattle.std.proofs.lemmas.List.Sums.{AllPass-from_list_all}
 use Rattle.std.proofs.lemmas.Str.{chars-IsAscii, encode_ascii}
 use Rattle.std.proofs.lemmas.Str.Ascii.{IsAscii-from_all}
-use Rattle.neli_tables_walk.specs.Quoted.{escaped, escaped_char, is_plain}
+use Rattle.neli_tables.specs.Lines.{LineSeen}
+use Rattle.neli_tables.specs.Plain.{is_plain, plain_name}
+use Rattle.neli_tables_walk.specs.Names.{escaped_or_hex, name_in, name_text}
+use Rattle.neli_tables_walk.specs.Quoted.{escaped, escaped_char, text_in}
 
 -- a text's first character stands first
 escaped_first :
@@ -56,3 +61,25 @@ escaped_plain text plain =
     ap (flat_map escaped_char) (chars-IsAscii text (IsAscii-from_all text
     (λ k d within. below_128 _ (AllPass-from_list_all is_plain text plain k d within))))
     ∙ plain_chars text plain
+
+-- a name that is kept is printed as it stands
+plain_text : (name : List ℕ) → list_all is_plain name ≡ true → is_utf8 name ≡ true → name ≡ name_text name
+unfolding text_in
+plain_text name plain is =
+    sym (ap (λ (b : Bool). escaped_or_hex name (if b then Some name else None)) is ∙ escaped_plain name plain)
+
+pub kept_text : (line : LineSeen) (text : List ℕ) → Some text ≡ plain_name line → text ≡ name_text line.name
+kept_text line text =
+    let plain = list_all is_plain line.name in
+    let valid = is_utf8 line.name in
+    cond_both (plain && valid) (Some line.name) None
+    (λ (o : Option (List ℕ)). Some text ≡ o → text ≡ name_text line.name)
+    (λ e is. ap (λ (o : Option (List ℕ)). unwrap_or o text) is
+    ∙ plain_text line.name (first_so plain valid e) (second_so plain valid e))
+    (λ e is. cc)
+
+-- and so is that of the line at a place
+pub kept_name : (line : Option LineSeen) (text : List ℕ) → Some text ≡ option_and_then plain_name line
+    → text ≡ name_text (name_in line)
+kept_name (Some line) text is = kept_text line text is
+kept_name None text is = cc

@@ -1,5 +1,5 @@
 -- Texts in quotes: strings of JSON (RFC 8259, section 7).
-use Rattle.std.specs.Prelude.{ℕ, ◌/◌, ◌%◌, ◌||◌, ◌&&◌, ◌==◌, nat_lt, Bool, false, not, if◌then◌else◌, List}
+use Rattle.std.specs.Prelude.{ℕ, ◌/◌, ◌%◌, ◌||◌, ◌&&◌, ◌==◌, nat_lt, Bool, false, if◌then◌else◌, List}
 use Rattle.std.specs.Prelude.{◌++◌, codes}
 use Rattle.std.specs.Prelude.{Option, Some, None}
 use Rattle.std.specs.Char.{encode_utf8}
@@ -18,10 +18,6 @@ escape_of c =
     else (if c == 13 then Letter 114
     else (if c == 9 then Letter 116
     else (if nat_lt c 32 || (nat_lt 126 c && nat_lt c 160) then Number else Plain))))
-
--- a byte is a character that stands as itself
-abbrev pub is_plain : ℕ → Bool
-is_plain b = nat_lt 31 b && (nat_lt b 127 && (not (b == 34) && not (b == 92)))
 
 -- its bytes
 abbrev pub escape_text : ℕ → Escape → List ℕ

@@ -10,6 +10,7 @@ use crate::plain::{Item, ItemJson, ItemText};
 use crate::structures::{Structures, StructuresJson, StructuresText};
 use neli_tables::{Options, Table};
 use std::fmt;
+use std::fmt::Display;
 
 /// Bytes, what they are, and the options that say the names of their values.
 #[derive(Clone, Copy)]
@@ -98,11 +99,11 @@ impl fmt::Display for ValueText<'_, '_, '_> {
         match self.0.cell {
             Cell::Plain(plain) => {
                 let item = ItemText(self.0.item(plain));
-                write!(f, "{item}")
+                Display::fmt(&item, f)
             }
             Cell::Structures(place, size) => {
                 let structures = StructuresText(self.0.structures(place, size));
-                write!(f, "{structures}")
+                Display::fmt(&structures, f)
             }
         }
     }
@@ -119,7 +120,7 @@ impl fmt::Display for ValueJson<'_, '_, '_> {
         match self.0.cell {
             Cell::Plain(plain) => {
                 let item = ItemJson(self.0.item(plain));
-                write!(f, "{item}")
+                Display::fmt(&item, f)
             }
             Cell::Structures(place, size) => {
                 let structures = StructuresJson(self.0.structures(place, size));

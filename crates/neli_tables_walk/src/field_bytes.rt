@@ -51,9 +51,12 @@ fn first_zero(bytes: &[u8]) -> Option<usize>
 fn before_zero(kind: Option<Kind>, bytes: &[u8]) -> &[u8]
     ensures { result.now ≡ before_zero kind bytes.now }
 {
-    match (kind, first_zero(bytes)) {
-        (Some(Kind::Text), Some(end)) => &bytes[..end],
-        _ => bytes,
+    if !matches!(kind, Some(Kind::Text)) {
+        return bytes;
+    }
+    match first_zero(bytes) {
+        Some(end) => &bytes[..end],
+        None => bytes,
     }
 }
 

@@ -2,18 +2,24 @@
 
 ghost use Rattle.std.specs.Prelude.{◌≡◌, ◌++◌, Some, codes};
 ghost use Rattle.std.specs.Fmt.{WritesOnOk};
+ghost use Rattle.neli_tables.specs.Lines.{line_seen};
+ghost use Rattle.neli_tables.specs.Plain.{name_seen, plain_name};
 ghost use Rattle.neli_tables_walk.specs.Cells.{value_json, value_text};
 ghost use Rattle.neli_tables_walk.specs.FieldLists.{Printed, fields_json_by, fields_text_by, members_by};
 ghost use Rattle.neli_tables_walk.specs.Fields.{fields_json, fields_text};
 ghost use Rattle.neli_tables_walk.specs.Lists.{joined};
+ghost use Rattle.neli_tables_walk.specs.Names.{name_json, name_text};
 ghost use Rattle.neli_tables_walk.specs.Plains.{item_json, item_text};
 
 use crate::cell::{Value, ValueJson, ValueText};
 use crate::field_bytes::field_bytes;
-use crate::name::{Name, NameJson};
+use crate::name::Name;
+use crate::named::{NamedJson, NamedText};
+use crate::numbered::number_by;
 use crate::plain::{Item, ItemJson, ItemText};
-use neli_tables::{Options, Table};
+use neli_tables::{Line, Options, Table};
 use std::fmt;
+use std::fmt::Display;
 
 /// The bytes of a structure, and the line that says what they are.
 #[derive(Clone, Copy)]
@@ -54,8 +60,12 @@ impl FieldPrinter for PrintsText {
         bytes: &[u8],
         f: &mut fmt::Formatter<W>,
     ) -> fmt::Result {
+        if let Some(number) = number_by(table, options, bytes) {
+            f.write_str(" ")?;
+            return Display::fmt(&NamedText(number), f);
+        }
         let value = ValueText(Value::of(table, options, bytes));
-        write!(f, "{value}")
+        Display::fmt(&value, f)
     }
 }
 
@@ -71,8 +81,11 @@ impl FieldPrinter for PrintsJson {
         bytes: &[u8],
         f: &mut fmt::Formatter<W>,
     ) -> fmt::Result {
+        if let Some(number) = number_by(table, options, bytes) {
+            return Display::fmt(&NamedJson(number), f);
+        }
         let value = ValueJson(Value::of(table, options, bytes));
-        write!(f, "{value}")
+        Display::fmt(&value, f)
     }
 }
 
@@ -89,7 +102,7 @@ impl FieldPrinter for PrintsFlatText {
         f: &mut fmt::Formatter<W>,
     ) -> fmt::Result {
         let value = ItemText(Item::of(table, options, bytes));
-        write!(f, "{value}")
+        Display::fmt(&value, f)
     }
 }
 
@@ -106,8 +119,55 @@ impl FieldPrinter for PrintsFlatJson {
         f: &mut fmt::Formatter<W>,
     ) -> fmt::Result {
         let value = ItemJson(Item::of(table, options, bytes));
-        write!(f, "{value}")
+        Display::fmt(&value, f)
     }
+}
+
+/// Prints the name of a row, which is kept where it needs no escape.
+fn write_row_name<W: fmt::Write>(
+    row: &Line<'_>,
+    kept: Option<&str>,
+    f: &mut fmt::Formatter<W>,
+) -> fmt::Result
+    requires { name_seen kept ≡ plain_name (line_seen row.now) }
+    ensures writes { WritesOnOk W.Write.write_str_gives f.old result
+        (name_text row.now.name.now) f.new }
+{
+    match kept {
+        Some(name) => f.write_str(name),
+        None => Display::fmt(&Name(row.name), f),
+    }
+}
+
+/// Prints the name of a field after a blank.
+fn write_name<W: fmt::Write>(
+    row: &Line<'_>,
+    kept: Option<&str>,
+    f: &mut fmt::Formatter<W>,
+) -> fmt::Result
+    requires { name_seen kept ≡ plain_name (line_seen row.now) }
+    ensures writes { WritesOnOk W.Write.write_str_gives f.old result
+        (codes " " ++ name_text row.now.name.now) f.new }
+{
+    f.write_str(" ")?;
+    write_row_name(row, kept, f)
+}
+
+/// Prints the name of a member as a string, after what stands before it, and the colon behind it.
+fn write_key<W: fmt::Write>(
+    before: &str,
+    row: &Line<'_>,
+    kept: Option<&str>,
+    f: &mut fmt::Formatter<W>,
+) -> fmt::Result
+    requires { name_seen kept ≡ plain_name (line_seen row.now) }
+    ensures writes { WritesOnOk W.Write.write_str_gives f.old result
+        (before.now ++ (name_json row.now.name.now ++ codes ":")) f.new }
+{
+    f.write_str(before)?;
+    f.write_str("\"")?;
+    write_row_name(row, kept, f)?;
+    f.write_str("\":")
 }
 
 /// Prints the fields that bytes have, each as its name and its value, after blanks.
@@ -120,11 +180,11 @@ fn write_fields<V: FieldPrinter, W: fmt::Write>(
 {
     let rows = fields.table.rows(fields.place);
     let all = fields.table.row_options(fields.place);
+    let names = fields.table.row_names(fields.place);
     for (index, row) in rows.iter().enumerate() {
         let options = &all[index];
         if let Some(part) = field_bytes(row, options, fields.bytes) {
-            let name = Name(row.name);
-            write!(f, " {name}")?;
+            write_name(row, names[index], f)?;
             V::print(fields.table, options, part, f)?;
         }
     }
@@ -141,12 +201,12 @@ fn write_members<V: FieldPrinter, W: fmt::Write>(
 {
     let rows = fields.table.rows(fields.place);
     let all = fields.table.row_options(fields.place);
+    let names = fields.table.row_names(fields.place);
     let mut comma = "";
     for (index, row) in rows.iter().enumerate() {
         let options = &all[index];
         if let Some(part) = field_bytes(row, options, fields.bytes) {
-            let name = NameJson(row.name);
-            write!(f, "{comma}{name}:")?;
+            write_key(comma, row, names[index], f)?;
             V::print(fields.table, options, part, f)?;
             comma = ",";
         }

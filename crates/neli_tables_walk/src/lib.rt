@@ -31,7 +31,7 @@
 //! - [`Fields`]: the bytes of a structure, and its line. [`FieldsText`] and [`FieldsJson`] print
 //!   them.
 //! - [`breach_of`]: how a payload cannot be of its kind. Such a payload is printed as bytes.
-//! - [`Name`], [`NameJson`]: a name that stands in a table.
+//! - [`Name`], [`NameJson`]: a name that stands in a table. [`LineName`]: that of the line at a place.
 //! - [`number_in`]: the number that bytes are by its [`Width`]. [`without_zero`]: a text in bytes.
 //! - [`Quoted`], [`Hex`], [`Hardware`], [`Bytes`], [`BytesJson`]: texts, bytes and hardware
 //!   addresses.
@@ -64,6 +64,7 @@ mod located;
 mod name;
 mod named;
 mod number;
+mod numbered;
 mod offset;
 mod payload;
 mod plain;
@@ -86,7 +87,7 @@ pub use hex::{Bytes, BytesJson, Hardware, Hex};
 pub use item::{Found, Item, Path, Rest, Step};
 pub use level::MAX_DEPTH;
 pub use located::body_of;
-pub use name::{Name, NameJson};
+pub use name::{LineName, Name, NameJson};
 pub use number::{Number, Width, number_in, width_of};
 pub use offset::find;
 pub use payload::{Payload, PayloadJson, PayloadText, breach_of};

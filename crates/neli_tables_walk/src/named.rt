@@ -10,6 +10,7 @@ use crate::name::{Name, NameJson};
 use crate::number::{Number, NumberJson, NumberText, Width, number_in};
 use neli_tables::{Options, Table};
 use std::fmt;
+use std::fmt::Display;
 
 /// A number, and the options that say its names.
 #[derive(Clone, Copy)]
@@ -58,19 +59,19 @@ impl fmt::Display for NamedText<'_, '_> {
     fn fmt<W: fmt::Write>(&self, f: &mut fmt::Formatter<W>) -> fmt::Result {
         if let Some(place) = self.0.options.flags {
             let flags = FlagsText(self.0.flags(place));
-            return write!(f, "{flags}");
+            return Display::fmt(&flags, f);
         }
         match self.0.name() {
             Some(name) => {
                 let name = Name(name);
-                write!(f, "{name}")
+                Display::fmt(&name, f)
             }
             None => {
                 let number = NumberText {
                     number: self.0.number,
                     is_hex: self.0.options.hex,
                 };
-                write!(f, "{number}")
+                Display::fmt(&number, f)
             }
         }
     }
@@ -86,16 +87,16 @@ impl fmt::Display for NamedJson<'_, '_> {
     fn fmt<W: fmt::Write>(&self, f: &mut fmt::Formatter<W>) -> fmt::Result {
         if let Some(place) = self.0.options.flags {
             let flags = FlagsJson(self.0.flags(place));
-            return write!(f, "{flags}");
+            return Display::fmt(&flags, f);
         }
         match self.0.name() {
             Some(name) => {
                 let name = NameJson(name);
-                write!(f, "{name}")
+                Display::fmt(&name, f)
             }
             None => {
                 let number = NumberJson(self.0.number);
-                write!(f, "{number}")
+                Display::fmt(&number, f)
             }
         }
     }
@@ -135,11 +136,11 @@ impl fmt::Display for PartText<'_, '_, '_> {
                     options,
                     number,
                 });
-                write!(f, "{number}")
+                Display::fmt(&number, f)
             }
             None => {
                 let bytes = Bytes(bytes);
-                write!(f, "{bytes}")
+                Display::fmt(&bytes, f)
             }
         }
     }
@@ -166,11 +167,11 @@ impl fmt::Display for PartJson<'_, '_, '_> {
                     options,
                     number,
                 });
-                write!(f, "{number}")
+                Display::fmt(&number, f)
             }
             None => {
                 let bytes = BytesJson(bytes);
-                write!(f, "{bytes}")
+                Display::fmt(&bytes, f)
             }
         }
     }

@@ -9,6 +9,7 @@ ghost use Rattle.byteorder.specs.Endian.{big_number, little_number};
 use byteorder::{BigEndian, ByteOrder, LittleEndian};
 use neli_tables::Kind;
 use std::fmt;
+use std::fmt::Display;
 
 /// How a number lies in its bytes.
 #[derive(Clone, Copy, Debug, PartialEq, Eq)]
@@ -84,6 +85,21 @@ fn big_number(bytes: &[u8], is_signed: bool) -> Number
     }
 }
 
+/// The bits of a number in at most eight bytes, with the lowest first. The sizes that kinds have are
+/// read at once.
+fn little_bits(bytes: &[u8]) -> u64
+    requires some { 1 ≤ length bytes.now }
+    requires few { length bytes.now ≤ 8 }
+    ensures { result ≡ little_number (length bytes.now) bytes.now }
+{
+    match bytes.len() {
+        2 => LittleEndian::read_u16(bytes) as u64,
+        4 => LittleEndian::read_u32(bytes) as u64,
+        8 => LittleEndian::read_u64(bytes),
+        size => LittleEndian::read_uint(bytes, size),
+    }
+}
+
 /// The number in at most eight bytes, with the lowest first.
 fn little_number(bytes: &[u8], is_signed: bool) -> Number
     requires some { 1 ≤ length bytes.now }
@@ -93,7 +109,7 @@ fn little_number(bytes: &[u8], is_signed: bool) -> Number
 {
     let size = bytes.len();
     Number {
-        bits: LittleEndian::read_uint(bytes, size),
+        bits: little_bits(bytes),
         signed: if is_signed {
             Some(LittleEndian::read_int(bytes, size))
         } else {
@@ -132,8 +148,8 @@ impl fmt::Display for NumberText {
         let bits = self.number.bits;
         match self.number.signed {
             _ if self.is_hex => write!(f, "0x{bits:x}"),
-            Some(signed) => write!(f, "{signed}"),
-            None => write!(f, "{bits}"),
+            Some(signed) => Display::fmt(&signed, f),
+            None => Display::fmt(&bits, f),
         }
     }
 }
@@ -148,8 +164,8 @@ impl fmt::Display for NumberJson {
     fn fmt<W: fmt::Write>(&self, f: &mut fmt::Formatter<W>) -> fmt::Result {
         let bits = self.0.bits;
         match self.0.signed {
-            Some(signed) => write!(f, "{signed}"),
-            None => write!(f, "{bits}"),
+            Some(signed) => Display::fmt(&signed, f),
+            None => Display::fmt(&bits, f),
         }
     }
 }

@@ -9,8 +9,11 @@ use crate::cell::{Value, ValueJson, ValueText};
 use crate::fields::{Fields, FieldsJson, FieldsText};
 use crate::form::{Cell, Form, Plain, form_of};
 use crate::hex::{Bytes, BytesJson};
+use crate::named::{NamedJson, NamedText};
+use crate::numbered::number_by;
 use neli_tables::{Options, Table};
 use std::fmt;
+use std::fmt::Display;
 
 /// The bytes of an attribute or a body, and the line that says what they are.
 #[derive(Clone, Copy)]
@@ -119,11 +122,11 @@ impl fmt::Display for FormText<'_, '_, '_> {
         match self.0.form {
             Form::Cell(cell) => {
                 let value = ValueText(self.0.value(cell));
-                write!(f, "{value}")
+                Display::fmt(&value, f)
             }
             Form::Fields(place) => {
                 let fields = FieldsText(self.0.fields(place));
-                write!(f, "{fields}")
+                Display::fmt(&fields, f)
             }
         }
     }
@@ -140,11 +143,11 @@ impl fmt::Display for FormJson<'_, '_, '_> {
         match self.0.form {
             Form::Cell(cell) => {
                 let value = ValueJson(self.0.value(cell));
-                write!(f, "{value}")
+                Display::fmt(&value, f)
             }
             Form::Fields(place) => {
                 let fields = FieldsJson(self.0.fields(place));
-                write!(f, "{fields}")
+                Display::fmt(&fields, f)
             }
         }
     }
@@ -160,8 +163,12 @@ impl fmt::Display for PayloadText<'_, '_, '_> {
     fn fmt<W: fmt::Write>(&self, f: &mut fmt::Formatter<W>) -> fmt::Result {
         match self.0.table.options(self.0.place) {
             Some(options) => {
+                if let Some(number) = number_by(self.0.table, options, self.0.bytes) {
+                    f.write_str(" ")?;
+                    return Display::fmt(&NamedText(number), f);
+                }
                 let value = FormText(Shown::of(&self.0, options));
-                write!(f, "{value}")
+                Display::fmt(&value, f)
             }
             None => {
                 let bytes = Bytes(self.0.bytes);
@@ -181,12 +188,15 @@ impl fmt::Display for PayloadJson<'_, '_, '_> {
     fn fmt<W: fmt::Write>(&self, f: &mut fmt::Formatter<W>) -> fmt::Result {
         match self.0.table.options(self.0.place) {
             Some(options) => {
+                if let Some(number) = number_by(self.0.table, options, self.0.bytes) {
+                    return Display::fmt(&NamedJson(number), f);
+                }
                 let value = FormJson(Shown::of(&self.0, options));
-                write!(f, "{value}")
+                Display::fmt(&value, f)
             }
             None => {
                 let bytes = BytesJson(self.0.bytes);
-                write!(f, "{bytes}")
+                Display::fmt(&bytes, f)
             }
         }
     }

@@ -14,6 +14,7 @@ use crate::quoted::{Quoted, text_in};
 use crate::socket::{AddressJson, AddressText, SocketJson, SocketText};
 use neli_tables::{Options, Table};
 use std::fmt;
+use std::fmt::Display;
 
 /// Bytes, what they are, and the options that say the names of their values.
 #[derive(Clone, Copy)]
@@ -102,11 +103,11 @@ impl fmt::Display for TextText<'_> {
         match text_in(self.0) {
             Some(text) => {
                 let text = Quoted(text);
-                write!(f, "{text}")
+                Display::fmt(&text, f)
             }
             None => {
                 let bytes = Bytes(self.0);
-                write!(f, "{bytes}")
+                Display::fmt(&bytes, f)
             }
         }
     }
@@ -123,11 +124,11 @@ impl fmt::Display for TextJson<'_> {
         match text_in(self.0) {
             Some(text) => {
                 let text = Quoted(text);
-                write!(f, "{text}")
+                Display::fmt(&text, f)
             }
             None => {
                 let bytes = BytesJson(self.0);
-                write!(f, "{bytes}")
+                Display::fmt(&bytes, f)
             }
         }
     }
@@ -247,7 +248,7 @@ impl fmt::Display for ItemJson<'_, '_, '_> {
         let bytes = self.0.bytes;
         match self.0.plain {
             Plain::Flag => write!(f, "true"),
-            Plain::Number(width) => write!(f, "{}", PartJson(self.0.part(width, bytes))),
+            Plain::Number(width) => Display::fmt(&PartJson(self.0.part(width, bytes)), f),
             Plain::Numbers(width) => write!(
                 f,
                 "[{}]",
@@ -256,13 +257,13 @@ impl fmt::Display for ItemJson<'_, '_, '_> {
                     width
                 }
             ),
-            Plain::Bits => write!(f, "{}", BitsJson(self.0)),
-            Plain::Text | Plain::ZeroText => write!(f, "{}", TextJson(without_zero(bytes))),
+            Plain::Bits => Display::fmt(&BitsJson(self.0), f),
+            Plain::Text | Plain::ZeroText => Display::fmt(&TextJson(without_zero(bytes)), f),
             Plain::Hardware => write!(f, "\"{}\"", Hardware(bytes)),
-            Plain::Ipv4 | Plain::Ipv6 | Plain::Ip => write!(f, "{}", AddressJson(bytes)),
-            Plain::Socket => write!(f, "{}", SocketJson(bytes)),
+            Plain::Ipv4 | Plain::Ipv6 | Plain::Ip => Display::fmt(&AddressJson(bytes), f),
+            Plain::Socket => Display::fmt(&SocketJson(bytes), f),
             Plain::Uuid => write!(f, "\"{}\"", Uuid(bytes)),
-            Plain::Bytes => write!(f, "{}", BytesJson(bytes)),
+            Plain::Bytes => Display::fmt(&BytesJson(bytes), f),
         }
     }
 }

@@ -1,10 +1,11 @@
 //! Texts in quotes, as strings of JSON (RFC 8259, section 7).
 
 ghost use Rattle.std.specs.Prelude.{◌≡◌, Some};
-ghost use Rattle.std.specs.List.{list_all};
 ghost use Rattle.std.specs.Option.{option_map};
-ghost use Rattle.neli_tables_walk.specs.Quoted.{escape_of, escaped, escaped_char, is_plain, quoted, text_in};
+ghost use Rattle.neli_tables_walk.specs.Quoted.{escape_of, escaped, escaped_char, quoted, text_in};
 
+use neli_tables::are_plain;
+use std::fmt::Display;
 use std::{fmt, str};
 
 /// The form of a character in a string of JSON.
@@ -55,20 +56,6 @@ impl fmt::Display for EscapedChar {
     }
 }
 
-/// Whether a byte is a character that stands as itself in a string.
-fn is_plain(byte: u8) -> bool
-    ensures { result ≡ is_plain byte }
-{
-    0x1f < byte && byte < 0x7f && byte != b'"' && byte != b'\\'
-}
-
-/// Whether all bytes stand as themselves in a string, as those of most texts do.
-fn are_plain(bytes: &[u8]) -> bool
-    ensures { result ≡ list_all is_plain bytes.now }
-{
-    bytes.iter().all(|byte| is_plain(*byte))
-}
-
 /// The characters of a text in their form in a string, one after the other.
 #[derive(Clone, Copy)]
 struct EscapedChars<'t>(&'t str);
@@ -99,7 +86,7 @@ impl fmt::Display for Escaped<'_> {
             f.write_str(text)
         } else {
             let chars = EscapedChars(text);
-            write!(f, "{chars}")
+            Display::fmt(&chars, f)
         }
     }
 }

@@ -8,7 +8,8 @@
 use neli_tables::Table;
 use neli_tables_routing::RoutingTable;
 use neli_tables_walk::{
-    Fields, FieldsJson, FieldsText, Name, NameJson, Payload, PayloadJson, PayloadText, breach_of,
+    Fields, FieldsJson, FieldsText, LineName, Name, NameJson, Payload, PayloadJson, PayloadText,
+    breach_of,
 };
 use std::alloc::Global;
 use std::fmt::Write;
@@ -666,6 +667,38 @@ fn names_are_escaped(rt: HostRuntime) -> Result<(), Fail> {
         assert_eq!(rt; text.as_str(), wanted, "at {name:?}");
         assert_eq!(rt; json.as_str(), wanted_json, "at {name:?}");
     }
+    Ok(())
+}
+
+#[test]
+fn names_of_lines_are_escaped(rt: HostRuntime) -> Result<(), Fail> {
+    let alloc = rt.alloc();
+    let lines =
+        "family f 0\nstruct a\"b 3\n  field plain 0..1 u8\n  field \x1b[ 1..2 u8\n  field ä 2..3 u8\n";
+    let table = Table::read(alloc, lines.as_bytes())?;
+    for (place, wanted) in [
+        (0, "f"),
+        (1, "a\\\"b"),
+        (2, "plain"),
+        (3, "\\u001b["),
+        (4, "ä"),
+        (5, ""),
+    ] {
+        let mut text = String::new(alloc);
+        let table = &table;
+        write!(text, "{}", LineName { table, place })?;
+        assert_eq!(rt; text.as_str(), wanted, "at {place}");
+    }
+    let fields = Fields {
+        table: &table,
+        place: 1,
+        bytes: b"\x07\x08\x09",
+    };
+    let (mut text, mut json) = (String::new(alloc), String::new(alloc));
+    write!(text, "{}", FieldsText(fields))?;
+    write!(json, "{}", FieldsJson(fields))?;
+    assert_eq!(rt; text.as_str(), " plain 7 \\u001b[ 8 ä 9");
+    assert_eq!(rt; json.as_str(), "{\"plain\":7,\"\\u001b[\":8,\"ä\":9}");
     Ok(())
 }
 

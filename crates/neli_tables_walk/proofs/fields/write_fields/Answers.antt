@@ -7,10 +7,10 @@ use Rattle.neli_tables.specs.Lines.{line_seen}
 use Rattle.neli_tables.specs.Options.{no_options}
 use Rattle.neli_tables_walk.specs.FieldLists.{field_text_by}
 use Rattle.neli_tables_walk.specs.Names.{name_text}
-use Rattle.neli_tables_walk.proofs.FieldRows.{field_has, field_printed, options_here}
+use Rattle.neli_tables_walk.proofs.FieldRows.{field_has, field_printed, name_here, options_here}
 use Rattle.neli_tables_walk.proofs.ValueLists.{rows-flat-step}
 use Rattle.neli_tables_walk.proofs.fields.write_fields.Goals as goal
-use Rattle.neli_tables_walk.proofs.fields.write_fields.Goals.{in-Some+in_ok-write+in_ok-print, in_default}
+use Rattle.neli_tables_walk.proofs.fields.write_fields.Goals.{in-Some+in_ok-write_name+in_ok-print, in_default}
 
 pub loop-index-init : goal.loop-index-init
 loop-index-init g c = λ plain.
@@ -32,11 +32,11 @@ loop-index-preserved g c = λ plain.
     let rest = flat_map f (drop (c.loop-index.index + 1) (map line_seen rows)) in
     let step = rows-flat-step f line_seen rows c.loop-index.index row i.0 _ c.loop-index-test.true c.index-rows-index.is i.2 in
     elim c.match-field_bytes.branch [
-      | in-Some+in_ok-write+in_ok-print w ↦ (
+      | in-Some+in_ok-write_name+in_ok-print w ↦ (
           let part = w.in-Some.part.now in
           let text = (codes " " ++ name_text row.name.now) ++ by table o part in
-          let name : HasWritten g.W.Write.write_str_gives c.loop-index.f (codes " " ++ name_text row.name.now) w.write.new.self = search rules in
-          let value : HasWritten g.W.Write.write_str_gives w.write.new.self (by table o part) w.print.new.f = search rules in (
+          let name : HasWritten g.W.Write.write_str_gives c.loop-index.f (codes " " ++ name_text row.name.now) w.write_name.new.f = search rules in
+          let value : HasWritten g.W.Write.write_str_gives w.write_name.new.f (by table o part) w.print.new.f = search rules in (
             i.0 ++ text,
             subst (λ h. HasWritten g.W.Write.write_str_gives c.args.f.now (i.0 ++ text) h) (sym w.f-is)
                 (has_written_append _ _ _ _ _ _ i.1 (has_written_append _ _ _ _ _ _ name value)),
@@ -51,3 +51,8 @@ loop-index-preserved g c = λ plain.
             ∙ step,
       )
     ]
+
+pub write_name-requires : goal.write_name-requires
+write_name-requires g c =
+    name_here c.rows-rows.result.now c.row_names-names.result.now _ c.loop-index.index c.index-rows-index.result
+    c.rows-rows.ensures c.row_names-names.ensures c.loop-index-test.true c.index-rows-index.is

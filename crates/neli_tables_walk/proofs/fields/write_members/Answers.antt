@@ -7,10 +7,10 @@ use Rattle.neli_tables.specs.Options.{no_options}
 use Rattle.neli_tables_walk.specs.FieldLists.{member_by, member_json_with}
 use Rattle.neli_tables_walk.specs.Lists.{joined}
 use Rattle.neli_tables_walk.specs.Names.{name_json}
-use Rattle.neli_tables_walk.proofs.FieldRows.{member_has, member_printed, options_here}
+use Rattle.neli_tables_walk.proofs.FieldRows.{member_has, member_printed, name_here, options_here}
 use Rattle.neli_tables_walk.proofs.ValueLists.{after-first, rows-after-skip, rows-after-step}
 use Rattle.neli_tables_walk.proofs.fields.write_members.Goals as goal
-use Rattle.neli_tables_walk.proofs.fields.write_members.Goals.{in-Some+in_ok-write+in_ok-print, in_default}
+use Rattle.neli_tables_walk.proofs.fields.write_members.Goals.{in-Some+in_ok-write_key+in_ok-print, in_default}
 
 pub loop-index-init : goal.loop-index-init
 loop-index-init g c =
@@ -32,7 +32,7 @@ loop-index-preserved g c =
     c.row_options-all.ensures c.loop-index-test.true c.index-rows-index.is in
     let h = λ (ts : List (List ℕ)). ts in
     elim c.match-field_bytes.branch [
-      | in-Some+in_ok-write+in_ok-print w ↦ rw (w.f-is, w.comma-is) (
+      | in-Some+in_ok-write_key+in_ok-print w ↦ rw (w.f-is, w.comma-is) (
         search rules,
         λ plain.
             let i = c.loop-index.invariant.1 plain in
@@ -41,8 +41,8 @@ loop-index-preserved g c =
             let text = member_json_with by table row.name.now o part in
             let whole = append_assoc comma (name_json row.name.now ++ codes ":") (by table o part)
             ∙ ap (λ t. comma ++ t) (sym (member_printed by table bytes (line_seen row) o same part)) in
-            let name : HasWritten g.W.Write.write_str_gives c.loop-index.f (comma ++ (name_json row.name.now ++ codes ":")) w.write.new.self = search rules in
-            let value : HasWritten g.W.Write.write_str_gives w.write.new.self (by table o part) w.print.new.f = search rules in (
+            let name : HasWritten g.W.Write.write_str_gives c.loop-index.f (comma ++ (name_json row.name.now ++ codes ":")) w.write_key.new.f = search rules in
+            let value : HasWritten g.W.Write.write_str_gives w.write_key.new.f (by table o part) w.print.new.f = search rules in (
               i.0 ++ (comma ++ text),
               has_written_append _ _ _ _ _ _ i.1 (has_written_of_eq _ _ _ _ _ whole (has_written_append _ _ _ _ _ _ name value)),
               rows-after-step (member_by by table bytes) h line_seen rows at row c.loop-index-test.true
@@ -62,3 +62,8 @@ loop-index-preserved g c =
             ),
       )
     ]
+
+pub write_key-requires : goal.write_key-requires
+write_key-requires g c =
+    name_here c.rows-rows.result.now c.row_names-names.result.now _ c.loop-index.index c.index-rows-index.result
+    c.rows-rows.ensures c.row_names-names.ensures c.loop-index-test.true c.index-rows-index.is
