@@ -49,7 +49,7 @@ fault_at = cut_of-fault untyped_layout (layout_with-placed (λ n. n) _) (omega a
 -- ---- lines so far
 
 -- one frame more
-frames_more : (front frame : List ℕ) (ms : List Raw) (m : Raw) → AreFrames untyped_layout front ms
+pub frames_more : (front frame : List ℕ) (ms : List Raw) (m : Raw) → AreFrames untyped_layout front ms
     → IsFrame untyped_layout frame m.0 m.1 → AreFrames untyped_layout (front ++ frame) (ms ++ m ∷ [])
 frames_more front frame [] m are is =
     (frame, [], ap (λ (x : List ℕ). x ++ frame) are ∙ sym (append-nil frame), is, refl)

@@ -1,10 +1,13 @@
 -- What is written of a datagram that is read and written again.
-use Rattle.std.specs.Prelude.{◌≡◌, ◌≢◌, ◌≤◌, List, [], ℕ, None, length}
+use Rattle.std.specs.Prelude.{◌≡◌, ◌≢◌, ◌⊎◌, ◌≤◌, ◌+◌, ⊤, List, [], ℕ, Option, None, Some, Ok, length, MatchOption}
+use Rattle.neli_wire.specs.declared.errors.DeError.{DeError}
+use Rattle.neli_wire.specs.Frames.{frame_at}
+use Rattle.neli_reader.specs.Agreement.{untyped_layout}
 use Rattle.std.specs.List.{All}
-use Rattle.neli_reader.specs.Zeroed.{HasNoTail, datagram_zeroed}
+use Rattle.neli_reader.specs.Zeroed.{HasNoTail, datagram_zeroed, untyped_wire}
 use Rattle.neli_program.specs.declared.line.Ending.{Ending}
 use Rattle.neli_program.specs.declared.line.Ending.TheVariants.{Whole, Tail, Memory}
-use Rattle.neli_program.specs.Listing.{ending_of, raw_cut}
+use Rattle.neli_program.specs.Listing.{Raw, ending_of, raw_cut}
 
 -- all its bytes with zeros for padding, where it has no fault and all of it is read; nothing, and the ending of its
 -- fault, where it has one; nothing, and the ending for a tail, where a message has one; or memory ran out, which a
@@ -17,3 +20,16 @@ Rewrites bytes written Tail =
 Rewrites bytes written Memory = (16 ≤ length bytes) × (written ≡ [])
 Rewrites bytes written e =
     ((raw_cut bytes).1 ≢ None) × (e ≡ ending_of (raw_cut bytes).1) × (written ≡ [])
+
+-- what a message that begins these bytes is written again as: as many bytes as it has; none where a part of it is not read
+abbrev pub IsAgain : List ℕ → Option (List ℕ) → Type 0
+IsAgain bytes again =
+    (m : Raw) × (later : List ℕ) × (frame_at untyped_layout bytes ≡ Ok (m, later))
+    × MatchOption again (¬ HasNoTail m)
+    (λ w. HasNoTail m × (untyped_wire m ≡ Ok w) × (length w + length later ≡ length bytes))
+
+-- nothing is written of a datagram that goes on so after a tail, which ends as its fault says, or by the tail
+abbrev pub TailEnds : List ℕ → List ℕ → Ending → Type 0
+TailEnds left written e =
+    (written ≡ []) × ((e ≡ Memory) ⊎ (((raw_cut left).1 ≡ None) × (e ≡ Tail))
+    ⊎ ((f : DeError) × ((raw_cut left).1 ≡ Some f) × (e ≡ ending_of (Some f))))

@@ -37,7 +37,7 @@ pub fn fault_ending(fault: &DeError) -> Ending
 }
 
 /// The ending where the next line is refused with this error.
-fn ending_at(error: &DeError) -> Ending
+pub(crate) fn ending_at(error: &DeError) -> Ending
     ensures { result ≡ ending_by error.now }
 {
     match error {

@@ -1,24 +1,27 @@
 //! A datagram that is read and written again.
 
-ghost use Rattle.std.specs.Prelude.{◌≡◌, ◌↔◌, IsTrue};
-ghost use Rattle.std.specs.List.{All};
+ghost use Rattle.std.specs.Prelude.{◌≡◌, ◌↔◌, ◌≤◌, ◌+◌, ◌++◌, [], IsTrue, IfOk, IfErr, length, take, drop};
+ghost use Rattle.std.specs.Option.{option_map};
+ghost use Rattle.neli_wire.specs.Frames.{frame_at};
+ghost use Rattle.neli_wire.specs.Numbers.{AreBytes};
+ghost use Rattle.neli_wire.specs.Refusals.{Refuses};
+ghost use Rattle.neli_reader.specs.Agreement.{untyped_layout};
 ghost use Rattle.neli_reader.specs.Messages.{message_of};
 ghost use Rattle.neli_reader.specs.Kinds.{tail_of};
 ghost use Rattle.neli_reader.specs.Zeroed.{HasNoTail, IsAllRead};
 ghost use Rattle.neli_program.specs.declared.status.Status.TheVariants as status;
-ghost use Rattle.neli_program.specs.Listing.{ending_of};
-ghost use Rattle.neli_program.specs.Rewriting.{Rewrites};
+ghost use Rattle.neli_program.specs.Rewriting.{IsAgain, Rewrites, TailEnds};
 ghost use Rattle.neli_program.specs.Runs.{Prints};
 
 use crate::input::{InputError, read_whole};
 use crate::line::{Ending, RawMessage};
-use crate::listing::{fault_ending, out_of_memory, status_of, write_text};
+use crate::listing::{ending_at, fault_ending, out_of_memory, status_of, write_text};
 use crate::status::Status;
 use bitflags::Flags;
 use neli_attr::Buffer;
 use neli_consts::NlmF;
-use neli_reader::{NlPayload, cut};
-use neli_wire::ToBytes;
+use neli_reader::{NlPayload, Nlmsghdr, cut};
+use neli_wire::{Cursor, DeError, FromBytes, ToBytes};
 use std::alloc::Global;
 use std::io::{Read, Write};
 
@@ -59,57 +62,90 @@ fn is_whole(message: &RawMessage) -> bool
     }
 }
 
-/// Whether all of each message was read.
-fn are_whole(messages: &[RawMessage]) -> bool
-    ensures { IsTrue result ↔ All (λ m. HasNoTail (message_of (λ b. b) m)) messages.now }
+/// What the message that begins these bytes is written again as: as many bytes as it has, or none where a part of it is
+/// not read.
+///
+/// Refused as reading it is; memory may run out where a header is there.
+fn message_again(alloc: Global, bytes: &[u8]) -> Result<Option<Vec<u8>>, DeError>
+    ensures value { IfOk result (λ again. IsAgain bytes.now (option_map (λ w. w.items) again)) }
+    ensures refused { IfErr result (Refuses (frame_at untyped_layout bytes.now) (16 ≤ length bytes.now)) }
 {
-    for message in messages {
-        if !is_whole(message) {
-            return false;
-        }
+    let mut cursor = Cursor::new(bytes);
+    let message: RawMessage = Nlmsghdr::from_bytes(alloc, &mut cursor)?;
+    if !is_whole(&message) {
+        return Ok(None);
     }
-    true
+    let mut written = Vec::new(alloc);
+    let Ok(()) = message.to_bytes(&mut written) else {
+        return Err(DeError::Memory);
+    };
+    // What is written is as long as what was read.
+    if written.len() + cursor.rest().len() != bytes.len() {
+        return Err(DeError::Memory);
+    }
+    Ok(Some(written))
 }
 
-/// What a datagram is written again as.
-///
-/// Where it has a fault, it is not written, nor where a message has bytes that are not read.
-#[tactic(auto, using(crate::proofs::Rewritings::rewritten, crate::proofs::Rewritings::has_tail, crate::proofs::Rewritings::has_fault, crate::proofs::Rewritings::refused_long))]
-pub fn rewriting_of(alloc: Global, bytes: &[u8]) -> Rewriting
-    ensures { Rewrites bytes.now result.bytes.items result.ending }
+/// Puts bytes over those at a place.
+fn put(bytes: &mut Vec<u8>, at: usize, piece: &[u8])
+    requires { at + length piece.now ≤ length bytes.old.items }
+    ensures { bytes.new.items ≡ take at bytes.old.items ++ (piece.now
+        ++ drop (at + length piece.now) bytes.old.items) }
 {
-    let mut written = Vec::new(alloc);
-    let Ok((messages, fault)) = cut::<u16, Buffer>(alloc, bytes) else {
-        let ending = Ending::Memory;
-        return Rewriting {
-            bytes: written,
-            ending,
-        };
+    bytes[at..at + piece.len()].copy_from_slice(piece);
+}
+
+/// Nothing is written, for this ending.
+fn nothing(alloc: Global, ending: Ending) -> Rewriting
+    ensures { (result.bytes.items ≡ []) × (result.ending ≡ ending) }
+{
+    let bytes = Vec::new(alloc);
+    Rewriting { bytes, ending }
+}
+
+/// Nothing is written of a datagram that goes on so with a message that has a tail: a fault after it stands before the
+/// tail.
+fn after_tail(alloc: Global, left: &[u8]) -> Rewriting
+    ensures { TailEnds left.now result.bytes.items result.ending }
+{
+    let Ok((_messages, fault)) = cut::<u16, Buffer>(alloc, left) else {
+        return nothing(alloc, Ending::Memory);
     };
     if let Some(fault) = fault {
-        let ending = fault_ending(&fault);
-        return Rewriting {
-            bytes: written,
-            ending,
-        };
+        return nothing(alloc, fault_ending(&fault));
     }
-    if !are_whole(&messages) {
-        let ending = Ending::Tail;
-        return Rewriting {
-            bytes: written,
-            ending,
-        };
+    nothing(alloc, Ending::Tail)
+}
+
+/// A law: what a slice of bytes has are bytes. It does nothing.
+fn are_bytes(bytes: &[u8])
+    ensures { AreBytes bytes.now }
+{
+    let _ = bytes;
+}
+
+/// What a datagram is written again as, in the memory that it has: message by message over itself.
+///
+/// Where it has a fault, it is not written, nor where a message has bytes that are not read.
+pub fn rewriting_of(alloc: Global, bytes: Vec<u8>) -> Rewriting
+    ensures { Rewrites bytes.items result.bytes.items result.ending }
+{
+    are_bytes(&bytes);
+    let mut text = bytes;
+    let mut at = 0;
+    while at < text.len() {
+        match message_again(alloc, &text[at..]) {
+            Ok(Some(written)) => {
+                put(&mut text, at, &written);
+                at += written.len();
+            }
+            Ok(None) => return after_tail(alloc, &text[at..]),
+            Err(error) => return nothing(alloc, ending_at(&error)),
+        }
     }
-    let Ok(()) = messages.to_bytes(&mut written) else {
-        let ending = Ending::Memory;
-        return Rewriting {
-            bytes: written,
-            ending,
-        };
-    };
     let ending = Ending::Whole;
     Rewriting {
-        bytes: written,
+        bytes: text,
         ending,
     }
 }
@@ -128,7 +164,7 @@ pub fn list_zero<R: Read, W: Write>(alloc: Global, input: &mut R, output: &mut W
         Err(InputError::Memory) => return out_of_memory(output),
         Err(InputError::Failed | InputError::Endless) => return Status::NoInput,
     };
-    let rewriting = rewriting_of(alloc, &bytes);
+    let rewriting = rewriting_of(alloc, bytes);
     match write_text(&rewriting.bytes, rewriting.ending, output) {
         Ok(()) => status_of(rewriting.ending),
         Err(_) => Status::NoOutput,

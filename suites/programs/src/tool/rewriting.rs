@@ -134,7 +134,8 @@ fn assert_same_lines(rt: &impl Abort, alloc: Global, row: &str, first: &[u8], se
 
 // Written once more, nothing changes.
 fn assert_is_zeroed(rt: &impl Abort, alloc: Global, row: &str, bytes: &[u8]) {
-    let again = rewriting_of(alloc, bytes);
+    let owned = Vec::from_slice(alloc, bytes).expect(rt, "memory");
+    let again = rewriting_of(alloc, owned);
     let written = (again.bytes.as_slice(), again.ending);
     assert_is_at(rt, row, written, (bytes, Ending::Whole));
 }

@@ -1,35 +1,45 @@
-use Rattle.std.proofs.Common.{rules, sym, subst}
-use Rattle.std.specs.Prelude.{IsTrue}
-use Rattle.std.specs.List.{All}
-use Rattle.neli_reader.specs.Messages.{message_of}
-use Rattle.neli_reader.specs.Zeroed.{HasNoTail}
-use Rattle.neli_program.proofs.Rewritings.{has_tail, no_fault, refused_long, rewritten}
+use Rattle.std.proofs.Common.{◌≡◌, ◌+◌, ◌++◌, ◌<◌, ◌≤◌, List, ℕ, length, take, drop, sym, ap, ◌∙◌, arith}
+use Rattle.neli_program.proofs.Rewritings.{rest_is, zeroed_all, zeroed_error, zeroed_more, zeroed_none, zeroed_tail}
 use Rattle.neli_program.proofs.rewriting.rewriting_of.Goals as goal
 
-pub returns-then-not-are_whole : goal.returns-then-not-are_whole
-returns-then-not-are_whole c =
-    let cut = no_fault c.args.bytes.now c.in-Ok.messages.items c.in-Ok.fault c.in-Ok.ensures.cut
-    c.in_default-fault.not-Some in
-    has_tail c.args.bytes.now c.new-written.result.items c.in-Ok.messages.items c.new-written.ensures.items cut
-    (λ whole.
-    let all : IsTrue c.are_whole.result = c.are_whole.ensures.1
-    (subst (All (λ m. HasNoTail (message_of (λ b. b) m))) (sym c.deref.ensures.value) whole) in
-    let none : IsTrue c.are_whole.result → ⊥ = λ yes. let no = c.if-not-are_whole.true in cc in
-    none all)
+pub loop-at-init : goal.loop-at-init
+loop-at-init c = record {
+  zeroed = zeroed_none c.args.bytes.items;
+  small = rw c.deref.ensures.value at c.are_bytes.ensures;
+}
+
+pub loop-at-preserved : goal.loop-at-preserved
+loop-at-preserved c =
+    let text = c.loop-at.text.items in
+    let at = c.loop-at.at in
+    let written = c.in-Ok-Some.written.items in
+    let again = rw (c.deref-in-loop-at.ensures.value, rest_is c.loop-at.text.items c.loop-at.at, c.in-Ok-Some.field-0-is) at c.in-Ok-Some.ensures.value in
+    let more = zeroed_more c.args.bytes.items text at written c.loop-at.invariant.zeroed again in
+    let put : c.put.new.bytes.items ≡ take at text ++ (written ++ drop (at + length written) text) =
+    c.put.ensures ∙ ap (λ (w : List ℕ). take at text ++ (w ++ drop (at + length w) text))
+    c.deref-in-Ok-Some.ensures.value in
+    let next : at + c.len-at.result ≡ at + length written =
+    ap (λ (n : ℕ). at + n) (c.len-at.ensures ∙ c.in-Ok-Some.written.ok.0) in
+    record {
+      zeroed = rw (put, next) more;
+      small = c.loop-at.invariant.small;
+    }
+
+pub returns-in-Ok-None : goal.returns-in-Ok-None
+returns-in-Ok-None c =
+    let again = rw (c.deref-in-loop-at.ensures.value, rest_is c.loop-at.text.items c.loop-at.at, c.in-Ok-None.field-0-is) at c.in-Ok-None.ensures.value in
+    zeroed_tail c.args.bytes.items c.loop-at.text.items c.loop-at.at c.after_tail.result.bytes.items
+    c.after_tail.result.ending c.loop-at.invariant.zeroed again
+    (rw (c.deref-in-Ok-None.ensures.value, rest_is c.loop-at.text.items c.loop-at.at) at c.after_tail.ensures)
+
+pub returns-in-Err : goal.returns-in-Err
+returns-in-Err c =
+    rw (c.nothing.ensures.0, c.nothing.ensures.1, c.ending_at.ensures) (zeroed_error c.args.bytes.items
+    c.loop-at.text.items c.loop-at.at c.in-Err.error c.loop-at.invariant.zeroed
+    (omega (arith, c.loop-at-test.true, c.len.ensures, c.loop-at.text.ok.0))
+    (rw (c.deref-in-loop-at.ensures.value, rest_is c.loop-at.text.items c.loop-at.at) at c.in-Err.ensures.refused))
 
 pub returns : goal.returns
 returns c =
-    let cut = no_fault c.args.bytes.now c.in-Ok.messages.items c.in-Ok.fault c.in-Ok.ensures.cut
-    c.in_default-fault.not-Some in
-    rewritten c.args.bytes.now c.new-written.result.items c.to_bytes.new.buffer.items c.in-Ok.messages.items
-    c.type_inv.bytes cut
-    (subst (All (λ m. HasNoTail (message_of (λ b. b) m))) c.deref.ensures.value
-    (c.are_whole.ensures.0 c.if-not-are_whole.false))
-    c.new-written.ensures.items c.in-Ok-to_bytes.ensures.appended
-
-pub returns-in_default-to_bytes : goal.returns-in_default-to_bytes
-returns-in_default-to_bytes c = (
-  refused_long c.args.bytes.now c.in-Ok.messages.items c.in-Ok.fault c.in_default-to_bytes.field-0
-      c.in-Ok.ensures.cut c.in_default-to_bytes.ensures.refused,
-  search rules,
-)
+    zeroed_all c.args.bytes.items c.loop-at.text.items c.loop-at.at c.loop-at.invariant.small
+    c.loop-at.invariant.zeroed (omega (arith, c.loop-at-test.false, c.len.ensures, c.loop-at.text.ok.0))
