@@ -80,7 +80,7 @@ impl<T: Drop> Places<T> {
         ensures place_room { KeepsPlaceRoom self.old self.new }
     {
         let at = self.base + self.entries.len() as u64;
-        let _ = self.shared.push_back(Shared {
+        self.shared.push_back_reserved(Shared {
             at,
             readers: self.caught_up,
         });
@@ -111,6 +111,6 @@ fn append<T: Drop>(
     ensures links_room { (deque_len links.new ≡ deque_len links.old + 1)
         × (deque_capacity links.new ≡ deque_capacity links.old) }
 {
-    let _ = entries.push_back(entry);
-    let _ = links.push_back(None);
+    entries.push_back_reserved(entry);
+    links.push_back_reserved(None);
 }

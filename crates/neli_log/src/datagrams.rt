@@ -83,7 +83,7 @@ impl Datagrams {
         ensures bytes { bytes_of self.new ≡ bytes_of self.old + length bytes.items }
     {
         let size = bytes.len();
-        let _ = self.list.push_back(Datagram { bytes, spans });
+        self.list.push_back_reserved(Datagram { bytes, spans });
         self.bytes += size;
     }
 

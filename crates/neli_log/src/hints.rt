@@ -31,7 +31,7 @@ impl Hints {
     }
 
     /// The hint for a number.
-    #[inline]
+    #[inline(always)]
     pub fn hint(&self, number: u32) -> usize {
         match self.indices.get(slot(number, self.indices.len())) {
             None => 0,
@@ -70,13 +70,23 @@ impl Hints {
 }
 
 /// Which of so many hints is a number's own.
-#[inline]
+#[inline(always)]
 fn slot(number: u32, count: usize) -> usize {
     number as usize & count.wrapping_sub(1)
 }
 
+/// The index of a number in the table, looked up by its hash.
+#[inline(never)]
+fn hashed_index<V>(numbers: &IndexMap<u32, V>, number: u32) -> Option<usize>
+    ensures found { IfSome result
+        (λ i. (v : V) × (slice_get numbers.now.entries i ≡ Some (number, v))) }
+    ensures none { IsNone result → get nat_eq numbers.now number ≡ None }
+{
+    numbers.get_index_of(&number)
+}
+
 /// The index of a number in the table, if it is there.
-#[inline]
+#[inline(always)]
 fn index_of<V>(numbers: &IndexMap<u32, V>, hint: usize, number: u32) -> Option<usize>
     ensures found { IfSome result
         (λ i. (v : V) × (slice_get numbers.now.entries i ≡ Some (number, v))) }
@@ -87,11 +97,19 @@ fn index_of<V>(numbers: &IndexMap<u32, V>, hint: usize, number: u32) -> Option<u
             return Some(hint);
         }
     }
-    numbers.get_index_of(&number)
+    hashed_index(numbers, number)
+}
+
+/// What belongs to a number in the table, looked up by its hash.
+#[inline(never)]
+fn hashed<V: Copy>(numbers: &IndexMap<u32, V>, number: u32) -> Option<V>
+    ensures { result ≡ get nat_eq numbers.now number }
+{
+    numbers.get(&number).copied()
 }
 
 /// What belongs to a number in the table, if it is there.
-#[inline]
+#[inline(always)]
 pub fn value_of<V: Copy>(numbers: &IndexMap<u32, V>, hint: usize, number: u32) -> Option<V>
     ensures { result ≡ get nat_eq numbers.now number }
 {
@@ -100,10 +118,11 @@ pub fn value_of<V: Copy>(numbers: &IndexMap<u32, V>, hint: usize, number: u32) -
             return Some(*value);
         }
     }
-    numbers.get(&number).copied()
+    hashed(numbers, number)
 }
 
 /// Replaces what belongs to a number that is in the table.
+#[inline(always)]
 pub fn put<V: Copy>(numbers: &mut IndexMap<u32, V>, hint: usize, number: u32, value: V)
     requires { is_some (get nat_eq numbers.old number) ≡ true }
     ensures updates { (q : ℕ) → get nat_eq numbers.new q

@@ -14,6 +14,7 @@ use neli_wire::{FromBytesWithInput, NoMemory, Size};
 use std::alloc::Global;
 
 /// Returns the message in a span's bytes, or why it cannot be read as these types.
+#[inline(always)]
 pub(crate) fn typed<T: NlType, P: FromBytesWithInput + Size>(
     alloc: Global,
     span: &[u8],

@@ -1,16 +1,18 @@
 //! The deliveries of a datagram, before any list changes.
 
-ghost use Rattle.std.specs.Prelude.{◌≡◌, ◌<◌, ℕ, List, [], ◌∷◌, None, Some, Option, IfOk, OnOk, length};
+ghost use Rattle.std.specs.Prelude.{◌≡◌, ◌↔◌, ◌<◌, ℕ, List, [], ◌∷◌, None, Some, Option, IfOk, OnOk, length};
+ghost use Rattle.std.specs.Prelude.{IsTrue, is_some, true};
 ghost use Rattle.neli_wire.specs.Place.{whole};
 ghost use Rattle.neli_reader.specs.Agreement.{untyped_layout};
 ghost use Rattle.neli_reader.specs.Cuts.{Cut as Rest};
 ghost use Rattle.neli_reader.specs.Cuts.{cut_of, message_before};
 ghost use Rattle.neli_deliveries.specs.Deliveries.{Untyped};
 ghost use Rattle.neli_lent.specs.Spans.{Spells};
-ghost use Rattle.neli_log.specs.Places.{pending_of};
+ghost use Rattle.neli_log.specs.Places.{HasReader, pending_of};
 ghost use Rattle.neli_log.specs.Contents.{entry_read, part_of, span_of};
 ghost use Rattle.neli_log.specs.Routed.{is_open, message_routed};
 ghost use Rattle.neli_log.specs.Staged.{AreStaged, IsFound, cut_left};
+ghost use Rattle.neli_log.specs.declared.entry.Route.{Route as Way};
 
 use crate::content::Content;
 use crate::next::{Address, next_message};
@@ -34,6 +36,8 @@ fn entry_of(
         → entry_read (part_of bytes) result
         ≡ message_routed port (is_open (pending_of places.now)) groups.now u }
     ensures span { span_of result.item ≡ span ∷ [] }
+    ensures open { (n : ℕ) → result.route ≡ Way.Number n
+        → is_some (pending_of places.now (Some n)) ≡ true }
 {
     if !groups.is_empty() {
         return Entry {
@@ -54,6 +58,17 @@ fn entry_of(
     }
 }
 
+/// Whether an entry with this route has a receiver; a number that it goes to is open.
+fn is_received(places: &Places<Content>, route: Route) -> bool
+    requires { (n : ℕ) → route ≡ Way.Number n → is_some (pending_of places.now (Some n)) ≡ true }
+    ensures { IsTrue result ↔ HasReader (pending_of places.now) route }
+{
+    match route {
+        Route::Number(_) => true,
+        _ => places.has_reader(route),
+    }
+}
+
 /// Adds the entry of a message, if it has a receiver.
 fn stage_message(
     port: u32,
@@ -71,7 +86,7 @@ fn stage_message(
         span.end rest) }
 {
     let entry = entry_of(port, places, groups, address, span);
-    if places.has_reader(entry.route) {
+    if is_received(places, entry.route) {
         entries.push(entry)?;
     }
     Ok(())

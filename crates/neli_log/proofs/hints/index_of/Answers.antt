@@ -1,5 +1,4 @@
 use Rattle.std.proofs.Common.{Some, sym, ap, ◌∙◌}
-use Rattle.neli_log.proofs.Numbers.{found_at}
 use Rattle.neli_log.proofs.hints.index_of.Goals as goal
 
 pub returns-then-hinted-number-clause-found : goal.returns-then-hinted-number-clause-found
@@ -7,7 +6,3 @@ returns-then-hinted-number-clause-found g c = (
   c.in-Some.field-0-1.now,
   sym c.in-Some.ensures.entry ∙ ap (λ k. Some (k, c.in-Some.field-0-1.now)) c.if-hinted-number.true,
 )
-
-pub returns-clause-found : goal.returns-clause-found
-returns-clause-found g c =
-    found_at c.args.numbers.now c.args.number c.get_index_of.result c.get_index_of.ensures.index

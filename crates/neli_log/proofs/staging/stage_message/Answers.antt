@@ -8,11 +8,11 @@ returns-in_ok-push c = λ serial at bytes u cut rest h f.
     (staged_kept (pending_of c.args.places.now) c.args.port serial bytes c.args.groups.now cut c.args.entries.now.items
     at u rest c.entry_of-entry.result c.args.span c.args.address h f
     (c.entry_of-entry.ensures.read bytes u f.spells f.number f.port) c.entry_of-entry.ensures.span
-    (c.has_reader.ensures.0 c.if-has_reader.true))
+    (c.is_received.ensures.0 c.if-is_received.true))
 
-pub returns-else-has_reader : goal.returns-else-has_reader
-returns-else-has_reader c = λ serial at bytes u cut rest h f.
+pub returns-else-is_received : goal.returns-else-is_received
+returns-else-is_received c = λ serial at bytes u cut rest h f.
     staged_skipped (pending_of c.args.places.now) c.args.port serial bytes c.args.groups.now cut
     c.args.entries.now.items at u rest c.entry_of-entry.result c.args.span c.args.address h f
     (c.entry_of-entry.ensures.read bytes u f.spells f.number f.port)
-    (λ r. (let yes = c.has_reader.ensures.1 r in let no = c.if-has_reader.false in cc))
+    (λ r. (let yes = c.is_received.ensures.1 r in let no = c.if-is_received.false in cc))

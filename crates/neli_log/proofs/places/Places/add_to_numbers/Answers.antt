@@ -1,6 +1,5 @@
-use Rattle.std.proofs.Common.{refl, Some, ◌≡◌, ◌+◌, [], ◌∷◌, ◌++◌, arith, ap, length, true}
+use Rattle.std.proofs.Common.{refl, Some, ◌≡◌, ◌+◌, [], ◌∷◌, ◌++◌, arith, ap, length}
 use Rattle.std.specs.HashMap.{values}
-use Rattle.std.specs.Prelude.{is_ok}
 use Rattle.neli_log.specs.Places.{place_of}
 use Rattle.neli_log.specs.declared.entry.Entry.{Entry}
 use Rattle.neli_log.specs.declared.place.Shared.{Shared}
@@ -21,12 +20,13 @@ returns-clause-trimmed g c =
     let e : Entry _ = record { item = c.args.item; route = Numbers } in
     let len : c.len.result ≡ length s.entries.items = omega (arith, s.entries.ok.0, c.len.ensures) in
     let x : Shared = record { at = s.base + c.len.result; readers = s.caught_up } in
-    let ok : is_ok c.push_back.result ≡ true = c.push_back.ensures.succeeds (omega (arith, c.requires.room.shared)) in
-    let shared : c.push_back.new.self.items ≡ s.shared.items ++ x ∷ [] = rw ok at c.push_back.ensures.items in
+    let shared : c.push_back_reserved.new.self.items ≡ s.shared.items ++ x ∷ [] =
+    c.push_back_reserved.ensures.items in
     let o = first_open s.numbers.entries c.requires.some in
     record {
       sound = sound_added (place_of s) (values s.numbers) s.base s.shared_base 0 _ c.append.new.entries.items _
-          c.append.new.links.items _ c.push_back.new.self.items c.append.ensures.entries c.append.ensures.links shared
+          c.append.new.links.items _ c.push_back_reserved.new.self.items c.append.ensures.entries
+          c.append.ensures.links shared
           (sound_add_shared (place_of s) (place_of s) (values s.numbers)
           (values s.numbers) s.base s.shared_base s.caught_up s.entries.items s.links.items s.shared.items e h
           c.requires.room.positions
