@@ -312,11 +312,13 @@ impl NlRouter<Log> {
         if state.ended {
             return LentReply::End;
         }
-        if !self.deliveries.is_open(state.number) {
-            return LentReply::Item(Err(LentError::ClosedChannel));
-        }
         match self.deliveries.lend_first(state.number) {
-            None => LentReply::Waits,
+            None => {
+                if self.deliveries.is_open(state.number) {
+                    return LentReply::Waits;
+                }
+                LentReply::Item(Err(LentError::ClosedChannel))
+            }
             Some(delivery) => LentReply::Item(item_of(state, delivery)),
         }
     }
@@ -363,14 +365,13 @@ impl NlRouter<Log> {
         if state.ended {
             return;
         }
-        if !self.deliveries.is_open(state.number) {
-            handle.set_state(HandleState {
-                ended: true,
-                ..state
-            });
-            return;
-        }
         let Some(delivery) = self.deliveries.lend_first(state.number) else {
+            if !self.deliveries.is_open(state.number) {
+                handle.set_state(HandleState {
+                    ended: true,
+                    ..state
+                });
+            }
             return;
         };
         let step = step_past(state, delivery);
