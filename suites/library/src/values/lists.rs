@@ -39,10 +39,13 @@ fn lists_with_an_input(rt: HostRuntime) {
 
 #[test]
 fn whole_byte_lists(rt: HostRuntime) {
-    let rows: [(&[u8], Result<&[u16], Refusal>); 3] = [
+    let rows: [(&[u8], Result<&[u16], Refusal>); 5] = [
         (&[], Ok(&[])),
         (&[1, 0, 2, 0], Ok(&[1, 2])),
         (&[1, 0, 2], Err(Refusal::Input(3))),
+        // Numbers that could be the lengths of frames.
+        (&[4, 0, 0, 0, 4, 0, 0, 0], Ok(&[4, 0, 4, 0])),
+        (&[4, 0, 0, 0, 5, 0, 0], Err(Refusal::Input(7))),
     ];
     for (bytes, want) in rows {
         assert_list(&rt, &read_all(rt.alloc(), bytes), want);
