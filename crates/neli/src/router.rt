@@ -11,7 +11,7 @@ pub mod synchronous {
     pub use neli_router::{LentError, LentReply, laws as laws_of_handles};
     pub use neli_runs::{
         Command, Deliveries, Delivery, GivenUp, HandleState, Heard, Loss, Missed, NlRouter,
-        NlRouterReceiverHandle, Notice, Outcome, Reply, Verdict, filtered_of, laws, run,
+        NlRouterReceiverHandle, Notice, OpenRun, Outcome, Reply, Verdict, filtered_of, laws, run,
         verdict_of,
     };
 }

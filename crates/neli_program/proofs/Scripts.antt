@@ -1,16 +1,19 @@
 -- Scripts, line by line.
-use Rattle.std.proofs.Common.{Bor, get_or, ◌<◌, ◌≡◌, ◌∙◌, ℕ, ◌+◌, Bool, false, eqb, List, [], ◌∷◌, ◌++◌, length, drop}
-use Rattle.std.proofs.Common.{map, Option, Some, None, Result, Ok, Err, refl, sym, ap, subst, arith, rules}
-use Rattle.std.proofs.Common.{append_assoc, OnErr, zero, suc}
+use Rattle.std.proofs.Common.{Bor, map, ◌≤◌, get_or, ◌<◌, ◌≡◌, ◌∙◌, ℕ, ◌+◌, Bool, true, false, eqb, List, [], ◌∷◌, ◌++◌, length, drop}
+use Rattle.std.proofs.Common.{Option, Some, None, Result, Ok, Err, refl, sym, ap, subst, arith, rules}
+use Rattle.std.proofs.Common.{append_assoc, length-append, suc}
 use Rattle.std.specs.List.{AllZip, flat_map}
 use Rattle.std.specs.Option.{option_to_list}
 use Rattle.std.proofs.lemmas.Grind.{flat_map-append}
-use Rattle.std.proofs.lemmas.List.{append-nil, drop_more, get_or-map, length-map}
+use Rattle.std.proofs.lemmas.List.{append-nil, drop_more, drop_all, get_or-map, length-map}
 use Rattle.std.proofs.lemmas.Bool.Decides.{nat_tests}
 use Rattle.neli_runs.specs.declared.command.Command.{Command}
+use Rattle.neli_runs.specs.laws.Kept.{Handles, Pending}
 use Rattle.neli_program.specs.declared.entry.Entry.{Entry}
 use Rattle.neli_program.specs.declared.entry.Entry.TheVariants.{Port, Number, Request, Datagram, Fault, Read, Close}
-use Rattle.neli_program.specs.Script.{AreCommands, IsTold, entry_if, entries_from, entry_in, telling_takes_memory}
+use Rattle.neli_program.specs.Plays.{Follows, HasPlayed}
+use Rattle.neli_program.specs.Replays.{Answers}
+use Rattle.neli_program.specs.Script.{AreCommands, IsTold, entries_of, entry_if, entries_from, entry_in, lines_in, port_of}
 use Rattle.neli_program.specs.Script.{with_line, words_in}
 
 -- ---- what a router is told
@@ -34,64 +37,6 @@ told_push entries cs e told before one = (
       ∙ sym (flat_map-append option_to_list before.0 (told ∷ [])
       ∙ ap (λ xs. flat_map option_to_list before.0 ++ xs) (append-nil (option_to_list told))),
 )
-
-pub told_none : (entries : List Entry) (cs : List Told) (e : Entry) → AreCommands entries cs → IsTold e None
-    → AreCommands (entries ++ e ∷ []) cs
-told_none entries cs e before one =
-    subst (AreCommands (entries ++ e ∷ [])) (append-nil cs) (told_push entries cs e None before one)
-
-pub told_some : (entries : List Entry) (cs : List Told) (e : Entry) (c : Told) → AreCommands entries cs
-    → IsTold e (Some c) → AreCommands (entries ++ e ∷ []) (cs ++ c ∷ [])
-told_some entries cs e c before one = told_push entries cs e (Some c) before one
-
--- ---- where memory is asked for
-
-no_command : (e : Entry) (rest : List Entry) → AreCommands (e ∷ rest) [] → IsTold e None × AreCommands rest []
-no_command e rest ([], zips, none) = absurd zips
-no_command e rest (None ∷ told, zips, none) = (zips.0, (told, zips.1, none))
-no_command e rest (Some c ∷ told, zips, none) = absurd cc
-
--- entries of which no command comes tell nothing, each of them
-told_nothing : (entries : List Entry) (i : ℕ) (e : Entry) → (i < length entries) × (e ≡ get_or entries i e)
-    → AreCommands entries [] → IsTold e None
-told_nothing [] i e at none = absurd (omega (arith, at.0))
-told_nothing (x ∷ xs) zero e at none =
-    let same : e ≡ x = at.1 in subst (λ (y : Entry). IsTold y None) (sym same) (no_command x xs none).0
-told_nothing (x ∷ xs) (suc i) e at none = told_nothing xs i e (omega (arith, at.0), at.1) (no_command x xs none).1
-
-not_told : (e : Entry) → telling_takes_memory e → IsTold e None → ⊥
-not_told (Port n) takes told = takes
-not_told (Number n) takes told = takes
-not_told (Request message_type flags bytes) takes told = takes
-not_told (Datagram mask bytes) takes told = told
-not_told (Fault kind) takes told = takes
-not_told (Read handle) takes told = takes
-not_told (Close handle) takes told = takes
-
-not_both : (e : Entry) (c : Told) → IsTold e (Some c) → IsTold e None → ⊥
-not_both (Port n) c told none = cc
-not_both (Number n) c told none = cc
-not_both (Request message_type flags bytes) c told none = cc
-not_both (Datagram mask bytes) c told none = none
-not_both (Fault kind) c told none = cc
-not_both (Read handle) c told none = cc
-not_both (Close handle) c told none = cc
-
-on_err : {V E : Type 0} (result : Result V E) (said : Type 0) → said → OnErr result said
-on_err (Ok v) said is = tt
-on_err (Err e) said is = is
-
--- an entry whose command takes memory, or that tells one, is none of those that tell nothing
-pub telling_refused : {V E : Type 0} (result : Result V E) (entries : List Entry) (i : ℕ) (e : Entry)
-    → (i < length entries) × (e ≡ get_or entries i e) → telling_takes_memory e
-    → OnErr result (¬ AreCommands entries [])
-telling_refused result entries i e at takes =
-    on_err result _ (λ none. not_told e takes (told_nothing entries i e at none))
-
-pub told_refused : {V E : Type 0} (result : Result V E) (entries : List Entry) (i : ℕ) (e : Entry) (c : Told)
-    → (i < length entries) × (e ≡ get_or entries i e) → IsTold e (Some c) → OnErr result (¬ AreCommands entries [])
-told_refused result entries i e c at told =
-    on_err result _ (λ none. not_both e c told (told_nothing entries i e at none))
 
 -- ---- lines
 
@@ -133,40 +78,206 @@ read_bad said first k line lines some is =
 
 -- ---- one line more
 
-abbrev bytes_in : List (Bor (List ℕ)) → List (List ℕ)
-bytes_in lines = map (λ line. line.now) lines
+-- so many lines of the script were played: what they said, what the router was told by it, and what is left to read
+abbrev pub IsPlayed : List ℕ → Bool → ℕ → ℕ → ℕ → Pending → Handles → ℕ → List ℕ → Type 0
+IsPlayed script first count port next pending handles sent text =
+    (said : List Entry) × (commands : List Told)
+    × (entries_of script ≡ after said (entries_from first (count + 1) (drop count (lines_in script))))
+    × (first ≡ eqb (length said) 0) × AreCommands said commands
+    × HasPlayed (port_of said) port next pending handles sent text commands
 
-line_left : (lines : List (Bor (List ℕ))) (i : ℕ) (d : Bor (List ℕ)) → i < length lines
-    → drop i (bytes_in lines) ≡ (get_or lines i d).now ∷ drop (i + 1) (bytes_in lines)
-line_left lines i d within =
-    drop_more (bytes_in lines) i d.now (omega (arith, within, length-map lines (λ (line : Bor (List ℕ)). line.now)))
-    ∙ ap (λ line. line ∷ drop (i + 1) (bytes_in lines))
-    (get_or-map (λ (line : Bor (List ℕ)). line.now) lines i d d.now within)
+-- the next line of a script
+abbrev pub IsNext : List ℕ → ℕ → List ℕ → Type 0
+IsNext script count line = (count < length (lines_in script)) × (line ≡ get_or (lines_in script) count line)
 
-pub pass_empty : (whole : Result (List Entry) ℕ) (said : List Entry) (first : Bool) (lines : List (Bor (List ℕ)))
-    (i : ℕ) (d : Bor (List ℕ)) → whole ≡ after said (entries_from first (i + 1) (drop i (bytes_in lines)))
-    → i < length lines → length (get_or lines i d).now ≡ 0
-    → whole ≡ after said (entries_from first (i + 1 + 1) (drop (i + 1) (bytes_in lines)))
-pass_empty whole said first lines i d before within none =
-    before ∙ ap (after said) (ap (entries_from first (i + 1)) (line_left lines i d within)
-    ∙ read_empty first (i + 1) (get_or lines i d).now (drop (i + 1) (bytes_in lines)) none)
+line_left : (script : List ℕ) (count : ℕ) (line : List ℕ) → IsNext script count line
+    → drop count (lines_in script) ≡ line ∷ drop (count + 1) (lines_in script)
+line_left script count line at =
+    drop_more (lines_in script) count line at.0
+    ∙ ap (λ l. l ∷ drop (count + 1) (lines_in script)) (sym at.1)
 
-pub pass_entry : (whole : Result (List Entry) ℕ) (said : List Entry) (first : Bool) (lines : List (Bor (List ℕ)))
-    (i : ℕ) (d : Bor (List ℕ)) (e : Entry) → whole ≡ after said (entries_from first (i + 1) (drop i (bytes_in lines)))
-    → i < length lines → eqb (length (get_or lines i d).now) 0 ≡ false
-    → entry_if first (entry_in (words_in (get_or lines i d).now)) ≡ Some e
-    → whole ≡ after (said ++ e ∷ []) (entries_from false (i + 1 + 1) (drop (i + 1) (bytes_in lines)))
-pass_entry whole said first lines i d e before within some is =
-    before ∙ (ap (λ ls. after said (entries_from first (i + 1) ls)) (line_left lines i d within)
-    ∙ read_more said first (i + 1) (get_or lines i d).now (drop (i + 1) (bytes_in lines)) e some is)
+after_none : (later : Result (List Entry) ℕ) → later ≡ after [] later
+after_none (Ok entries) = refl
+after_none (Err k) = refl
 
-pub pass_bad : (whole : Result (List Entry) ℕ) (said : List Entry) (first : Bool) (lines : List (Bor (List ℕ))) (i : ℕ)
-    (d : Bor (List ℕ)) → whole ≡ after said (entries_from first (i + 1) (drop i (bytes_in lines))) → i < length lines
-    → eqb (length (get_or lines i d).now) 0 ≡ false → entry_if first (entry_in (words_in (get_or lines i d).now)) ≡ None
-    → whole ≡ Err (i + 1)
-pass_bad whole said first lines i d before within some is =
-    before ∙ (ap (λ ls. after said (entries_from first (i + 1) ls)) (line_left lines i d within)
-    ∙ read_bad said first (i + 1) (get_or lines i d).now (drop (i + 1) (bytes_in lines)) some is)
+pub played_none : (script : List ℕ) (port next : ℕ) (pending : Pending) (handles : Handles) (sent : ℕ) (text : List ℕ) → HasPlayed 0 port next pending handles sent text []
+    → IsPlayed script true 0 port next pending handles sent text
+played_none script port next pending handles sent text begun =
+    ([], [], after_none (entries_from true 1 (lines_in script)), refl, ([], tt, refl), begun)
 
-pub not_none : (n m : ℕ) → n ≡ m + 1 → eqb n 0 ≡ false
+pub played_empty : (script : List ℕ) (first : Bool) (count port next : ℕ) (pending : Pending) (handles : Handles) (sent : ℕ) (text line : List ℕ)
+    → IsPlayed script first count port next pending handles sent text → IsNext script count line → length line ≡ 0
+    → IsPlayed script first (count + 1) port next pending handles sent text
+played_empty script first count port next pending handles sent text line (said, commands, is, begins, are, has) at none =
+    let left = line_left script count line at in (
+      said,
+      commands,
+      is ∙ ap (after said) (ap (entries_from first (count + 1)) left
+          ∙ read_empty first (count + 1) line (drop (count + 1) (lines_in script)) none),
+      begins,
+      are,
+      has,
+    )
+
+pub played_bad : (script : List ℕ) (first : Bool) (count port next : ℕ) (pending : Pending) (handles : Handles) (sent : ℕ) (text line : List ℕ)
+    → IsPlayed script first count port next pending handles sent text → IsNext script count line → eqb (length line) 0 ≡ false
+    → entry_if first (entry_in (words_in line)) ≡ None → entries_of script ≡ Err (count + 1)
+played_bad script first count port next pending handles sent text line (said, commands, is, begins, are, has) at some none =
+    let left = line_left script count line at in
+    is ∙ (ap (λ ls. after said (entries_from first (count + 1) ls)) left
+    ∙ read_bad said first (count + 1) line (drop (count + 1) (lines_in script)) some none)
+
+said_more : (script : List ℕ) (said : List Entry) (first : Bool) (count : ℕ) (line : List ℕ) (e : Entry)
+    → entries_of script ≡ after said (entries_from first (count + 1) (drop count (lines_in script)))
+    → IsNext script count line → eqb (length line) 0 ≡ false → entry_if first (entry_in (words_in line)) ≡ Some e
+    → entries_of script
+    ≡ after (said ++ e ∷ []) (entries_from false (count + 1 + 1) (drop (count + 1) (lines_in script)))
+said_more script said first count line e is at some says =
+    let left = line_left script count line at in
+    is ∙ (ap (λ ls. after said (entries_from first (count + 1) ls)) left
+    ∙ read_more said first (count + 1) line (drop (count + 1) (lines_in script)) e some says)
+
+-- only the first line sets a port
+first_port : (first : Bool) (n : ℕ) (said : Option Entry) → entry_if first said ≡ Some (Port n) → first ≡ true
+first_port true n said is = refl
+first_port false n None is = absurd cc
+first_port false n (Some (Port m)) is = absurd cc
+first_port false n (Some (Number m)) is = absurd cc
+first_port false n (Some (Request t f b)) is = absurd cc
+first_port false n (Some (Datagram m b)) is = absurd cc
+first_port false n (Some (Fault k)) is = absurd cc
+first_port false n (Some (Read h)) is = absurd cc
+first_port false n (Some (Close h)) is = absurd cc
+
+no_length : (n : ℕ) → true ≡ eqb (suc n) 0 → ⊥
+no_length n none = search (rules, nat_tests, none)
+
+nothing_said : (said : List Entry) → true ≡ eqb (length said) 0 → said ≡ []
+nothing_said [] none = refl
+nothing_said (e ∷ said) none = absurd (no_length (length said) none)
+
+not_none : (n m : ℕ) → n ≡ m + 1 → eqb n 0 ≡ false
 not_none n m is = search (rules, nat_tests)
+
+something_said : (said : List Entry) (e : Entry) → false ≡ eqb (length (said ++ e ∷ [])) 0
+something_said said e = sym (not_none (length (said ++ e ∷ [])) (length said) (length-append said (e ∷ [])))
+
+-- ---- a port that is not set by this line stays
+
+abbrev IsNoPort : Entry → Type 0
+IsNoPort e = (n : ℕ) → e ≡ Port n → ⊥
+
+same_port : (said : List Entry) (e : Entry) → IsNoPort e → port_of (said ++ e ∷ []) ≡ port_of said
+same_port [] (Port n) other = absurd (other n refl)
+same_port [] (Number n) other = refl
+same_port [] (Request t f b) other = refl
+same_port [] (Datagram m b) other = refl
+same_port [] (Fault k) other = refl
+same_port [] (Read h) other = refl
+same_port [] (Close h) other = refl
+same_port (Port n ∷ said) e other = refl
+same_port (Number n ∷ said) e other = refl
+same_port (Request t f b ∷ said) e other = refl
+same_port (Datagram m b ∷ said) e other = refl
+same_port (Fault k ∷ said) e other = refl
+same_port (Read h ∷ said) e other = refl
+same_port (Close h ∷ said) e other = refl
+
+-- another line than a port
+abbrev IsFollowed : Entry → ℕ → ℕ → Pending → Handles → ℕ → List ℕ → ℕ → ℕ → Pending → Handles → ℕ → List ℕ → Type 0
+IsFollowed e port next pending handles sent text port' next' pending' handles' sent' text' =
+    (pid : ℕ) (commands : List Told) → HasPlayed pid port next pending handles sent text commands
+    → (told : Option Told) × IsTold e told × HasPlayed pid port' next' pending' handles' sent' text' (commands ++ option_to_list told)
+
+played_other : (script : List ℕ) (first : Bool) (count port next : ℕ) (pending : Pending) (handles : Handles) (sent : ℕ) (text line : List ℕ) (e : Entry)
+    (port' next' : ℕ) (pending' : Pending) (handles' : Handles) (sent' : ℕ) (text' : List ℕ) → IsPlayed script first count port next pending handles sent text → IsNext script count line
+    → eqb (length line) 0 ≡ false → entry_if first (entry_in (words_in line)) ≡ Some e → IsNoPort e
+    → IsFollowed e port next pending handles sent text port' next' pending' handles' sent' text' → IsPlayed script false (count + 1) port' next' pending' handles' sent' text'
+played_other script first count port next pending handles sent text line e port' next' pending' handles' sent' text' (said, commands, is, begins, are, has) at some says
+    other follows =
+    let done = follows (port_of said) commands has in (
+      said ++ e ∷ [],
+      commands ++ option_to_list done.0,
+      said_more script said first count line e is at some says,
+      something_said said e,
+      told_push said commands e done.0 are done.1,
+      subst (λ p. HasPlayed p port' next' pending' handles' sent' text' (commands ++ option_to_list done.0)) (sym (same_port said e other)) done.2,
+    )
+
+played_port : (script : List ℕ) (first : Bool) (count port next : ℕ) (pending : Pending) (handles : Handles) (sent : ℕ) (text line : List ℕ) (n : ℕ)
+    (port' next' : ℕ) (pending' : Pending) (handles' : Handles) (sent' : ℕ) (text' : List ℕ) → IsPlayed script first count port next pending handles sent text → IsNext script count line
+    → eqb (length line) 0 ≡ false → entry_if first (entry_in (words_in line)) ≡ Some (Port n)
+    → HasPlayed n port' next' pending' handles' sent' text' [] → IsPlayed script false (count + 1) port' next' pending' handles' sent' text'
+played_port script first count port next pending handles sent text line n port' next' pending' handles' sent' text' (said, commands, is, begins, are, has) at some says
+    begun =
+    let nothing : said ≡ [] = nothing_said said
+    (sym (first_port first n (entry_in (words_in line)) says) ∙ begins) in (
+      Port n ∷ [],
+      [],
+      said_more script [] first count line (Port n)
+          (subst (λ (s : List Entry). entries_of script
+          ≡ after s (entries_from first (count + 1) (drop count (lines_in script)))) nothing is) at some says,
+      refl,
+      (None ∷ [], (refl, tt), refl),
+      begun,
+    )
+
+pub played_line : (script : List ℕ) (first : Bool) (count port next : ℕ) (pending : Pending) (handles : Handles) (sent : ℕ) (text line : List ℕ) (e : Entry)
+    (port' next' : ℕ) (pending' : Pending) (handles' : Handles) (sent' : ℕ) (text' : List ℕ) → IsPlayed script first count port next pending handles sent text → IsNext script count line
+    → eqb (length line) 0 ≡ false → entry_if first (entry_in (words_in line)) ≡ Some e
+    → Follows e port next pending handles sent text port' next' pending' handles' sent' text' → IsPlayed script false (count + 1) port' next' pending' handles' sent' text'
+played_line script first count port next pending handles sent text line (Port n) port' next' pending' handles' sent' text' so
+    at some says follows =
+    played_port script first count port next pending handles sent text line n port' next' pending' handles' sent' text'
+    so at some says follows
+played_line script first count port next pending handles sent text line (Number n) port' next' pending' handles' sent' text' so
+    at some says follows =
+    played_other script first count port next pending handles sent text line (Number n) port' next' pending' handles' sent' text'
+    so at some says (λ m e. cc) follows
+played_line script first count port next pending handles sent text line (Request t f b) port' next' pending' handles' sent' text' so
+    at some says follows =
+    played_other script first count port next pending handles sent text line (Request t f b) port' next' pending' handles' sent' text'
+    so at some says (λ m e. cc) follows
+played_line script first count port next pending handles sent text line (Datagram m b) port' next' pending' handles' sent' text' so
+    at some says follows =
+    played_other script first count port next pending handles sent text line (Datagram m b) port' next' pending' handles' sent' text'
+    so at some says (λ m e. cc) follows
+played_line script first count port next pending handles sent text line (Fault k) port' next' pending' handles' sent' text' so
+    at some says follows =
+    played_other script first count port next pending handles sent text line (Fault k) port' next' pending' handles' sent' text'
+    so at some says (λ m e. cc) follows
+played_line script first count port next pending handles sent text line (Read h) port' next' pending' handles' sent' text' so
+    at some says follows =
+    played_other script first count port next pending handles sent text line (Read h) port' next' pending' handles' sent' text'
+    so at some says (λ m e. cc) follows
+played_line script first count port next pending handles sent text line (Close h) port' next' pending' handles' sent' text' so
+    at some says follows =
+    played_other script first count port next pending handles sent text line (Close h) port' next' pending' handles' sent' text'
+    so at some says (λ m e. cc) follows
+
+-- all lines were played
+pub played_all : (script : List ℕ) (first : Bool) (count port next : ℕ) (pending : Pending) (handles : Handles)
+    (sent : ℕ) (text : List ℕ) → IsPlayed script first count port next pending handles sent text
+    → length (lines_in script) ≤ count → Answers script text
+played_all script first count port next pending handles sent text (said, commands, is, begins, are, has) all =
+    let no_more : drop count (lines_in script) ≡ [] = drop_all count (lines_in script) all in
+    let says : entries_of script ≡ Ok said =
+    is ∙ ap (λ ls. after said (entries_from first (count + 1) ls)) no_more ∙ ap Ok (append-nil said) in
+    (port_of said, commands, has.0, (said, says, refl, are), (has.1.sent, has.1.answered), has.2)
+
+-- the line of a script at a place, among its lines as they are lent
+pub next_of : (script : List ℕ) (lines : List (Bor (List ℕ))) (i : ℕ) (d : Bor (List ℕ))
+    → map (λ (line : Bor (List ℕ)). line.now) lines ≡ lines_in script → i < length lines
+    → IsNext script i (get_or lines i d).now
+next_of script lines i d are within =
+    let line = (get_or lines i d).now in (
+      omega (arith, within, ap length are, length-map lines (λ (l : Bor (List ℕ)). l.now)),
+      sym (get_or-map (λ (l : Bor (List ℕ)). l.now) lines i d line within)
+          ∙ ap (λ (ls : List (List ℕ)). get_or ls i line) are,
+    )
+
+pub none_next : (script : List ℕ) (lines : List (Bor (List ℕ))) (i : ℕ)
+    → map (λ (line : Bor (List ℕ)). line.now) lines ≡ lines_in script → length lines ≤ i
+    → length (lines_in script) ≤ i
+none_next script lines i are none =
+    omega (arith, none, ap length are, length-map lines (λ (l : Bor (List ℕ)). l.now))

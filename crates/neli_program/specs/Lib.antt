@@ -1,6 +1,7 @@
 pub mod Inputs
 pub mod Lines
 pub mod Listing
+pub mod Plays
 pub mod Replays
 pub mod Report
 pub mod Requests

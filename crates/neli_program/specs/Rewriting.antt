@@ -1,5 +1,5 @@
 -- What is written of a datagram that is read and written again.
-use Rattle.std.specs.Prelude.{◌≡◌, ◌≢◌, ◌⊎◌, ◌≤◌, ◌+◌, ⊤, List, [], ℕ, Option, None, Some, Ok, length, MatchOption}
+use Rattle.std.specs.Prelude.{◌≡◌, ◌≢◌, ◌⊎◌, ◌≤◌, ◌+◌, List, [], ℕ, Option, None, Some, Ok, length, MatchOption}
 use Rattle.neli_wire.specs.declared.errors.DeError.{DeError}
 use Rattle.neli_wire.specs.Frames.{frame_at}
 use Rattle.neli_reader.specs.Agreement.{untyped_layout}

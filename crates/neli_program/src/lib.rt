@@ -15,6 +15,7 @@ pub mod input;
 pub mod laws;
 pub mod line;
 pub mod listing;
+mod play;
 pub mod replay;
 mod report;
 pub mod rewriting;

@@ -1,17 +1,17 @@
 //! A script that is read and answered.
 
-ghost use Rattle.std.specs.Prelude.{◌≡◌, IfOk};
+ghost use Rattle.std.specs.Prelude.{◌≡◌, OnOk};
+ghost use Rattle.std.specs.Io.KnownBytes.{Appends};
 ghost use Rattle.neli_program.specs.declared.status.Status.TheVariants as status;
-ghost use Rattle.neli_program.specs.Replays.{AreOutcomes, PrintsBadLine, PrintsMemory, PrintsReplay};
+ghost use Rattle.neli_program.specs.Replays.{PrintsBadLine, PrintsMemory, PrintsReplay};
 
 use crate::input::{InputError, read_whole};
-use crate::report::{RawOutcome, write_report};
-use crate::script::{Script, ScriptError, read_script};
+use crate::play::play;
+use crate::script::ScriptError;
 use crate::status::Status;
-use neli_attr::Buffer;
-use neli_runs::{Deliveries, run};
-use neli_wire::NoMemory;
+use neli_runs::Deliveries;
 use std::alloc::Global;
+use std::io;
 use std::io::{Read, Write};
 
 /// Writes that memory ran out.
@@ -42,21 +42,19 @@ fn write_bad_line<W: Write>(line: usize, output: &mut W) -> Status
     }
 }
 
-/// Lets a new router do what a script says, and answers what came of each command.
-///
-/// Refused where memory runs out.
-fn outcomes_of<D: Deliveries>(alloc: Global, script: Script) -> Result<Vec<RawOutcome>, NoMemory>
-    ensures { IfOk result
-        (λ outcomes. AreOutcomes script.pid script.commands.items outcomes.items) }
+/// Writes a text, and passes all on.
+fn write_whole<W: Write>(text: &[u8], output: &mut W) -> io::Result<()>
+    ensures { OnOk result (Appends (W.contents output.old) (W.contents output.new) text.now) }
 {
-    let Script { pid, commands } = script;
-    run::<D, u16, Buffer, u16, Buffer>(alloc, pid, commands)
+    output.write_all(text)?;
+    output.flush()
 }
 
 /// Reads a script, does what it says with a new router that keeps its deliveries in a `D`, and writes a line
 /// for each command.
 ///
-/// The whole script is read before anything is written. Where a line is bad, only the number of the first
+/// The whole script is played before anything is written: its text and the lines of its outcomes are kept until then,
+/// and no command or outcome. Where a line is bad, only the number of the first
 /// such line is written; where memory runs out, only that. Nothing is written where the input fails or does
 /// not end.
 pub fn replay<D: Deliveries, R: Read, W: Write>(
@@ -73,15 +71,12 @@ pub fn replay<D: Deliveries, R: Read, W: Write>(
         Err(InputError::Memory) => return write_memory(output),
         Err(InputError::Failed | InputError::Endless) => return Status::NoInput,
     };
-    let script = match read_script(alloc, &bytes) {
-        Ok(script) => script,
+    let text = match play::<D>(alloc, &bytes) {
+        Ok(text) => text,
         Err(ScriptError::BadLine(line)) => return write_bad_line(line, output),
         Err(ScriptError::Memory) => return write_memory(output),
     };
-    let Ok(outcomes) = outcomes_of::<D>(alloc, script) else {
-        return write_memory(output);
-    };
-    match write_report(&outcomes, output) {
+    match write_whole(&text, output) {
         Ok(()) => Status::Whole,
         Err(_) => Status::NoOutput,
     }

@@ -1,9 +1,9 @@
 //! The lines of outcomes.
 
-ghost use Rattle.std.specs.Prelude.{◌≡◌, ◌+◌, OnOk};
+ghost use Rattle.std.specs.Prelude.{◌≡◌, ◌++◌, codes, OnOk};
 ghost use Rattle.std.specs.Io.KnownBytes.{Appends};
 ghost use Rattle.hex.specs.Hex.{encode_lower};
-ghost use Rattle.neli_program.specs.Report.{error_text, fault_text, outcome_text, refusal_text, report, sends};
+ghost use Rattle.neli_program.specs.Report.{error_text, fault_text, outcome_text, refusal_text, sends};
 
 use crate::line::Line;
 use neli_attr::Buffer;
@@ -119,7 +119,7 @@ fn write_outcome<W: Write>(outcome: &RawOutcome, handle: usize, output: &mut W) 
 }
 
 /// How many requests were sent by a command of which this came: one or none.
-fn count_sent(outcome: &RawOutcome) -> usize
+pub(crate) fn count_sent(outcome: &RawOutcome) -> usize
     ensures { result ≡ sends outcome.now }
 {
     match outcome {
@@ -128,18 +128,15 @@ fn count_sent(outcome: &RawOutcome) -> usize
     }
 }
 
-/// Writes a line for each outcome, and passes all on that was written.
-///
-/// Handles are numbered: k is that of the k-th request that was sent.
-pub(crate) fn write_report<W: Write>(outcomes: &[RawOutcome], output: &mut W) -> io::Result<()>
+/// Writes the line of what came of a command, where so many requests were sent with it, and ends it.
+pub(crate) fn write_line<W: Write>(
+    outcome: &RawOutcome,
+    handle: usize,
+    output: &mut W,
+) -> io::Result<()>
     ensures { OnOk result (Appends (W.contents output.old) (W.contents output.new)
-        (report 0 outcomes.now)) }
+        (outcome_text handle outcome.now ++ codes "\n")) }
 {
-    let mut handle = 0;
-    for outcome in outcomes {
-        handle += count_sent(outcome);
-        write_outcome(outcome, handle, output)?;
-        writeln!(output)?;
-    }
-    output.flush()
+    write_outcome(outcome, handle, output)?;
+    writeln!(output)
 }

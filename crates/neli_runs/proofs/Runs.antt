@@ -3,20 +3,16 @@ use Rattle.std.proofs.Common.{ℕ, ◌≡◌, List, [], ◌∷◌, ◌++◌, Som
 use Rattle.std.proofs.lemmas.List.{append-nil}
 use Rattle.std.specs.List.{slice_get}
 use Rattle.neli_wire.specs.declared.errors.DeError.{DeError}
+use Rattle.neli_wire.specs.Writing.{Wire}
 use Rattle.neli_runs.specs.declared.command.Command.{Command}
 use Rattle.neli_runs.specs.declared.command.Outcome.{Outcome}
-use Rattle.neli_runs.specs.History.{History}
-use Rattle.neli_runs.specs.Outcomes.{EachAfter}
-use Rattle.neli_runs.specs.laws.Kept.{StepKeeps, Handles, Holds, Pending, multicast}
+use Rattle.neli_runs.specs.History.{History, past}
+use Rattle.neli_runs.specs.Outcomes.{EachAfter, IsAnswered, IsSent}
+use Rattle.neli_runs.specs.OpenRuns.{GoesOn}
+use Rattle.neli_runs.specs.laws.Kept.{Handles, Holds, IsStep, Pending, StepIsRight, StepKeeps, multicast}
 use Rattle.neli_runs.proofs.Steps.{agrees_start}
 
 module _ {ST SP RT RP : Type 0} where
-  -- the history of commands and outcomes after a history
-  abbrev pub past : History ST SP RT RP → List (Command ST SP) → List (Outcome ST SP RT RP) → History ST SP RT RP
-  past h [] os = h
-  past h (c ∷ cs) [] = h
-  past h (c ∷ cs) (o ∷ os) = past ((c, o) ∷ h) cs os
-
   module _ (Said : History ST SP RT RP → Command ST SP → Outcome ST SP RT RP → Type 0) where
     pub past_push : (h : History ST SP RT RP) (cs : List (Command ST SP)) (os : List (Outcome ST SP RT RP))
         (c : Command ST SP) (o : Outcome ST SP RT RP) → EachAfter Said h cs os
@@ -72,3 +68,22 @@ module _ {ST SP K P V : Type 0} (type_of : ℕ → K) (number : K → ℕ) (view
   went Said pid port next next' pending pending' handles handles' c o h e goes =
       subst (λ p. StepKeeps type_of number view size read
       (Said p) p next pending handles next' pending' handles' c o) e goes h
+
+module _ {ST SP K P V : Type 0} (type_of : ℕ → K) (number : K → ℕ) (view : P → V) (size : P → ℕ) (read : List ℕ
+    → Result V DeError) (number_of : ST → ℕ) (wire : SP → Wire) (wire_size : SP → ℕ) where
+  -- a step of a session goes on with all that was done
+  pub goes_on : (port port' next next' : ℕ) (pending pending' : Pending) (handles handles' : Handles) (c : Command ST SP)
+      (o : Outcome ST SP K P) → port' ≡ port
+      → IsStep type_of number view size read number_of wire wire_size port next pending handles next' pending' handles' c o
+      → GoesOn type_of number view size read number_of wire wire_size port next pending handles port' next' pending' handles'
+      c o
+  goes_on port port' next next' pending pending' handles handles' c o same goes pid cs os done =
+      let one = went type_of number view size read
+      (StepIsRight type_of number view size read number_of wire wire_size) pid port next next' pending pending' handles
+      handles' c o (past [] cs os) done.same_port goes done.holds in
+      record {
+        same_port = same ∙ done.same_port;
+        sent = each_push (IsSent number_of wire wire_size pid) [] cs os c o done.sent one.0.0;
+        answered = each_push (IsAnswered type_of number view size read pid) [] cs os c o done.answered one.0.1;
+        holds = rw (past_push (IsSent number_of wire wire_size pid) [] cs os c o done.sent) one.1;
+      }

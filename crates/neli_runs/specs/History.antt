@@ -85,6 +85,14 @@ module _ {ST SP RT RP : Type 0} where
   with_item outcome.Waits theirs before = before
   with_item outcome.NoHandle theirs before = before
 
+  -- ---- what was done
+
+  -- the history of commands and outcomes after a history
+  abbrev pub past : History ST SP RT RP → List (Command ST SP) → List (Outcome ST SP RT RP) → History ST SP RT RP
+  past h [] os = h
+  past h (c ∷ cs) [] = h
+  past h (c ∷ cs) (o ∷ os) = past ((c, o) ∷ h) cs os
+
   -- ---- sequence numbers
 
   -- the number of sent requests

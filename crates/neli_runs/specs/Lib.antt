@@ -8,6 +8,7 @@ pub use Rattle.neli_router.specs.GivenUp
 pub mod Deliveries
 pub mod History
 pub mod OtherReads
+pub mod OpenRuns
 pub mod Outcomes
 pub mod Regrouping
 pub mod Whole

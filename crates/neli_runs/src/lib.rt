@@ -1,6 +1,7 @@
 //! Whole runs of the router: any list of sends, datagrams, faults, reads and closes.
 //!
 //! - [`run`] performs a list of [`Command`]s, and returns one [`Outcome`] for each.
+//! - [`OpenRun`] performs one command after the other, and keeps none of them.
 //! - [`NlRouter`] is the router itself, call by call.
 //!
 //! Three pages define the outcomes of a run: `specs/History.antt` (which numbers are open),
@@ -10,6 +11,7 @@
 
 mod command;
 pub mod laws;
+mod open_run;
 mod session;
 mod whole_run;
 
@@ -18,4 +20,5 @@ pub use neli_router::{
     Deliveries, Delivery, GivenUp, HandleState, Heard, Loss, Missed, NlRouter,
     NlRouterReceiverHandle, Notice, Reply, Verdict, filtered_of, verdict_of,
 };
+pub use open_run::OpenRun;
 pub use whole_run::run;

@@ -3,8 +3,7 @@
 ghost use Rattle.std.specs.Prelude.{IfOk};
 ghost use Rattle.neli_runs.specs.Outcomes.{Each, IsAnswered, IsSent};
 
-use crate::session::Session;
-use crate::{Command, Deliveries, Outcome};
+use crate::{Command, Deliveries, OpenRun, Outcome};
 use neli_consts::NlType;
 use neli_wire::{FromBytesWithInput, NoMemory, Size, ToBytes};
 use std::alloc::Global;
@@ -34,10 +33,10 @@ where
         (λ outcomes. Each (IsAnswered RT.wire_value RT.wire_number
         RP.view RP.wire_length RP.read pid) commands.items outcomes.items) }
 {
-    let mut session: Session<D, RT, RP> = Session::start(alloc, pid)?;
+    let mut open: OpenRun<D, RT, RP> = OpenRun::start::<ST, SP>(alloc, pid)?;
     let mut outcomes = Vec::new(alloc);
     for command in commands {
-        let outcome = session.step(alloc, command)?;
+        let outcome = open.perform(alloc, command)?;
         outcomes.push(outcome)?;
     }
     Ok(outcomes)

@@ -2,7 +2,7 @@
 //! nothing: when repeated, it returns what it returns without a refusal, and so does each call after it.
 //! [`super::entries`] tests what the log keeps when a call is refused.
 
-use super::script::{Script, Step, assert_told, kind_once, outcomes};
+use super::script::{Script, Step, assert_told, kind_once, outcomes, outcomes_in_turn};
 use super::steps::Asker;
 use super::support::assert_is_at;
 use super::{answers, conversations, datagrams, entries, faults, numbers};
@@ -32,6 +32,16 @@ fn run<D: Deliveries>(rt: &impl Abort, alloc: Global, script: Script) {
     assert_told(rt, row, &came, steps);
 }
 
+/// Performs them command by command, by a new run once more if memory ran out.
+fn run_in_turn<D: Deliveries>(rt: &impl Abort, alloc: Global, script: Script) {
+    let (row, port, steps) = script;
+    let came = match outcomes_in_turn::<D>(alloc, port, steps) {
+        Ok(came) => came,
+        Err(_) => outcomes_in_turn::<D>(alloc, port, steps).expect(rt, "memory"),
+    };
+    assert_told(rt, row, &came, steps);
+}
+
 /// Plays these scripts over each store by calls.
 fn call_all(rt: &impl Abort, alloc: Global, scripts: &[Script]) {
     for script in scripts {
@@ -45,6 +55,14 @@ fn run_all(rt: &impl Abort, alloc: Global, scripts: &[Script]) {
     for script in scripts {
         run::<Queues>(rt, alloc, *script);
         run::<Log>(rt, alloc, *script);
+    }
+}
+
+#[test]
+fn open_runs_for_answers_are_answered_again(rt: HostRuntime) {
+    for script in &answers::SCRIPTS {
+        run_in_turn::<Queues>(&rt, rt.alloc(), *script);
+        run_in_turn::<Log>(&rt, rt.alloc(), *script);
     }
 }
 

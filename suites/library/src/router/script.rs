@@ -7,7 +7,7 @@ use example_store::Limited;
 use neli::consts::nl::NlmF;
 use neli::err::{DeError, NoMemory, RouterError, SocketError};
 use neli::nl::{NlPayload, Nlmsghdr};
-use neli::router::synchronous::{Command, Deliveries, Log, Outcome, Queues, run};
+use neli::router::synchronous::{Command, Deliveries, Log, OpenRun, Outcome, Queues, run};
 use neli::types::Buffer;
 use neli::utils::Groups;
 use std::alloc::Global;
@@ -248,6 +248,21 @@ pub fn outcomes<D: Deliveries>(
     run::<D, u16, Buffer, u16, Buffer>(alloc, port, commands)
 }
 
+/// The same, command by command, where none is kept.
+pub fn outcomes_in_turn<D: Deliveries>(
+    alloc: Global,
+    port: u32,
+    steps: &[(Step, Told)],
+) -> Result<Vec<Came>, NoMemory> {
+    let mut open: OpenRun<D, u16, Buffer> = OpenRun::start::<u16, Buffer>(alloc, port)?;
+    let mut came = Vec::new(alloc);
+    for (step, _) in steps {
+        let outcome = open.perform(alloc, command(alloc, *step)?)?;
+        came.push(outcome)?;
+    }
+    Ok(came)
+}
+
 /// The kind of the outcome at a place.
 fn told_at(came: &[Came], place: usize) -> Option<Told> {
     match came.get(place) {
@@ -264,8 +279,8 @@ pub fn assert_told(rt: &impl Abort, row: &str, came: &[Came], steps: &[(Step, To
     }
 }
 
-/// Performs steps over this store with a router of this port: by one run, and by the router's own calls. Asserts that
-/// each has the outcome beside it, and that both have equal outcomes, which it returns.
+/// Performs steps over this store with a router of this port: by one run, command by command, and by the router's own
+/// calls. Asserts that each has the outcome beside it, and that all have equal outcomes, which it returns.
 fn play_over<D: Deliveries>(
     rt: &impl Abort,
     alloc: Global,
@@ -274,9 +289,11 @@ fn play_over<D: Deliveries>(
     steps: &[(Step, Told)],
 ) -> Vec<Came> {
     let of_run = outcomes::<D>(alloc, port, steps).expect(rt, "memory");
+    let in_turn = outcomes_in_turn::<D>(alloc, port, steps).expect(rt, "memory");
     let of_calls = called::<D>(rt, alloc, port, steps);
     assert_told(rt, row, &of_run, steps);
     assert_told(rt, row, &of_calls, steps);
+    assert_alike(rt, alloc, row, &of_run, &in_turn);
     assert_alike(rt, alloc, row, &of_run, &of_calls);
     of_run
 }

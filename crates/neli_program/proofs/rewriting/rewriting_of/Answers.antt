@@ -1,4 +1,4 @@
-use Rattle.std.proofs.Common.{◌≡◌, ◌+◌, ◌++◌, ◌<◌, ◌≤◌, List, ℕ, length, take, drop, sym, ap, ◌∙◌, arith}
+use Rattle.std.proofs.Common.{◌≡◌, ◌+◌, ◌++◌, List, ℕ, length, take, drop, ap, ◌∙◌, arith}
 use Rattle.neli_program.proofs.Rewritings.{rest_is, zeroed_all, zeroed_error, zeroed_more, zeroed_none, zeroed_tail}
 use Rattle.neli_program.proofs.rewriting.rewriting_of.Goals as goal
 
