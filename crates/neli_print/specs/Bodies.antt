@@ -9,8 +9,9 @@ use Rattle.neli_tables_walk.specs.declared.shape.Shape.TheVariants as shape
 use Rattle.neli_tables_walk.specs.Shapes.{ContextSeen}
 use Rattle.neli_tables_walk.specs.Hex.{bytes_json, bytes_text}
 use Rattle.neli_tables_walk.specs.Values.{payload_json, payload_text}
+use Rattle.neli_tables_walk.specs.Names.{line_name}
 use Rattle.neli_print.specs.Lists.{list_member, list_text}
-use Rattle.neli_print.specs.Names.{Lines, line_name, structure_members, structure_text}
+use Rattle.neli_print.specs.Names.{Lines, structure_members, structure_text}
 use Rattle.neli_print.specs.Pieces.{indent}
 use Rattle.neli_print.specs.Rests.{rest_member, rest_of, rest_words, struct_in}
 

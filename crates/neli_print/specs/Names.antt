@@ -6,20 +6,12 @@ use Rattle.neli_tables.specs.declared.word.Word.TheVariants as word
 use Rattle.neli_tables.specs.Lines.{LineSeen}
 use Rattle.neli_tables_walk.specs.declared.item.Step.{Step}
 use Rattle.neli_tables_walk.specs.Fields.{fields_json, fields_text}
-use Rattle.neli_tables_walk.specs.Names.{name_json, name_text}
+use Rattle.neli_tables_walk.specs.Names.{line_name, name_json, name_text}
 use Rattle.neli_print.specs.declared.pieces.Colour.TheVariants as colour
 use Rattle.neli_print.specs.Pieces.{painted}
 
 abbrev pub Lines : Type 0
 Lines = List LineSeen
-
-abbrev pub name_in : Option LineSeen → List ℕ
-name_in (Some line) = line.name
-name_in None = []
-
--- the name of the line at a place
-abbrev pub line_name : Lines → ℕ → List ℕ
-line_name table place = name_in (slice_get table place)
 
 -- the name of an attribute, if it has a row
 abbrev pub row_name : Lines → Option Step → Option (List ℕ)

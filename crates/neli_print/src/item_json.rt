@@ -8,7 +8,7 @@ ghost use Rattle.neli_print.specs.ItemsJson.{label_json, left_json, row_json, va
 
 use crate::fault::Fault;
 use crate::item::{Open, last_step};
-use crate::names::{NameMember, Structure, StructureMembers, row_name};
+use crate::names::{NameMember, Structure, StructureMembers, row_name_bytes};
 use crate::pieces::{Repeated, When};
 use crate::rests::{RestMember, rest_of};
 use neli_attr::AttrType;
@@ -32,7 +32,7 @@ impl fmt::Display for Label<'_, '_, '_> {
 
     fn fmt<W: fmt::Write>(&self, f: &mut fmt::Formatter<W>) -> fmt::Result {
         let number = *self.kind.nla_type();
-        let name = NameMember(row_name(self.table, self.step));
+        let name = NameMember(row_name_bytes(self.table, self.step));
         let nested = When {
             holds: *self.kind.nla_nested(),
             text: ",\"nested\":true",

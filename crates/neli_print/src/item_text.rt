@@ -2,6 +2,7 @@
 
 ghost use Rattle.std.specs.Prelude.{Some};
 ghost use Rattle.std.specs.Option.{option_copied, option_map};
+ghost use Rattle.neli_tables_walk.specs.Names.{line_name};
 ghost use Rattle.neli_tables_walk.specs.Walks.{item_seen};
 ghost use Rattle.neli_print.specs.ItemsText.{breach_words, content_text, element_text, index_words};
 ghost use Rattle.neli_print.specs.ItemsText.{item_text, label_text, left_text, name_words};
@@ -15,31 +16,28 @@ use crate::rests::{RestWords, rest_of};
 use neli_attr::AttrType;
 use neli_tables::Table;
 use neli_tables_walk::{
-    Breach, Bytes, Found, Item, Name, Payload, PayloadText, Rest, Shape, Step, breach_of,
+    Breach, Bytes, Found, Item, LineName, Payload, PayloadText, Rest, Shape, Step, breach_of,
 };
 use std::fmt;
 
 /// An attribute by its name, or by its number if it has no row.
 #[derive(Clone, Copy)]
-struct RowName<'t> {
+struct RowName<'w, 't> {
     is_coloured: bool,
-    name: Option<&'t [u8]>,
+    name: Option<LineName<'w, 't>>,
     number: u16,
 }
 
-impl fmt::Display for RowName<'_> {
-    ghost output = { λ r. Some (row_words r.is_coloured (option_map (λ name. name.now) r.name)
-        r.number) };
+impl fmt::Display for RowName<'_, '_> {
+    ghost output = { λ r. Some (row_words r.is_coloured
+        (option_map (λ name. line_name name.table.now name.place) r.name) r.number) };
 
     #[tactic(auto, unfolding(crate::specs::ItemsText::row_words))]
     fn fmt<W: fmt::Write>(&self, f: &mut fmt::Formatter<W>) -> fmt::Result {
         let start = escape(self.is_coloured, Colour::Attribute);
         let end = escape(self.is_coloured, Colour::End);
         match self.name {
-            Some(name) => {
-                let name = Name(name);
-                write!(f, "{start}{name}{end}")
-            }
+            Some(name) => write!(f, "{start}{name}{end}"),
             None => {
                 let number = self.number;
                 write!(f, "{start}{number}{end}")

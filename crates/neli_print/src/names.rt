@@ -2,13 +2,14 @@
 
 ghost use Rattle.std.specs.Prelude.{◌≡◌, Some, take};
 ghost use Rattle.std.specs.Option.{option_copied, option_map};
-ghost use Rattle.neli_print.specs.Names.{is_each, is_each_row, line_name, name_member};
+ghost use Rattle.neli_tables_walk.specs.Names.{line_name};
+ghost use Rattle.neli_print.specs.Names.{is_each, is_each_row, name_member};
 ghost use Rattle.neli_print.specs.Names.{row_name, structure_members, structure_text};
 
 use crate::item::front_of;
 use crate::pieces::{Colour, escape};
 use neli_tables::{Table, Word};
-use neli_tables_walk::{Fields, FieldsJson, FieldsText, Name, NameJson, Nest, Step};
+use neli_tables_walk::{Fields, FieldsJson, FieldsText, LineName, Name, NameJson, Nest, Step};
 use std::fmt;
 
 /// The name of the line at this place; empty where there is none.
@@ -22,7 +23,21 @@ pub(crate) fn line_name<'w, 't>(table: &'w Table<'t>, place: usize) -> &'t [u8]
 }
 
 /// The name of an attribute, if it has a row.
-pub(crate) fn row_name<'w, 't>(table: &'w Table<'t>, step: Option<&Step>) -> Option<&'t [u8]>
+pub(crate) fn row_name<'w, 't>(
+    table: &'w Table<'t>,
+    step: Option<&Step>,
+) -> Option<LineName<'w, 't>>
+    ensures { option_map (λ name. line_name name.table.now name.place) result
+        ≡ row_name table.now (option_copied step.entry) }
+{
+    Some(LineName {
+        table,
+        place: step?.row?,
+    })
+}
+
+/// The bytes of that name.
+pub(crate) fn row_name_bytes<'w, 't>(table: &'w Table<'t>, step: Option<&Step>) -> Option<&'t [u8]>
     ensures { option_map (λ name. name.now) result ≡ row_name table.now (option_copied step.entry) }
 {
     Some(line_name(table, step?.row?))

@@ -31,7 +31,7 @@ use Rattle.neli_tables_walk.specs.Hex.{bytes_json, hex_text}
 use Rattle.neli_tables_walk.specs.Json.{AreElements, AreMembers, AreSoManyLines, IsChars, IsJson, IsLine}
 use Rattle.neli_tables_walk.specs.Json.{both, is_plain, member, members, object, plain, string, truth}
 use Rattle.neli_tables_walk.specs.Json.{integer}
-use Rattle.neli_tables_walk.specs.Names.{name_json, name_text}
+use Rattle.neli_tables_walk.specs.Names.{line_name, name_json, name_text}
 use Rattle.neli_tables_walk.specs.Quoted.{quoted}
 use Rattle.neli_tables_walk.specs.Values.{payload_breach, payload_json}
 use Rattle.neli_tables_walk.specs.laws.Parts.{FirstElements, Turns, array_of, comma, first_elements_more}
@@ -61,7 +61,7 @@ use Rattle.neli_print.specs.ItemsJson.{row_json, value_json}
 use Rattle.neli_print.specs.Lists.{body_open, list_member}
 use Rattle.neli_print.specs.Messages.{content_members, datagram_json, fault_json, json_from}
 use Rattle.neli_print.specs.Messages.{message_json, place_behind}
-use Rattle.neli_print.specs.Names.{Lines, line_name, name_member, row_name, structure_members}
+use Rattle.neli_print.specs.Names.{Lines, name_member, row_name, structure_members}
 use Rattle.neli_print.specs.Pieces.{repeated, when}
 use Rattle.neli_print.specs.Rests.{rest_member, rest_of, struct_in}
 use Rattle.neli_print.specs.Replies.{attributes_members, code_in, code_members, echo_members}
