@@ -56,8 +56,12 @@ pub fn write_all<T: ToBytes>(items: &[T], buffer: &mut Vec<u8>) -> Result<(), Se
     undo_on_refusal(buffer, start, outcome)
 }
 
-/// Reads all of the bytes as values, one after the other. Where the bytes are frames, room for all of them is asked for
-/// at once.
+/// The most values whose room is asked for at once. A list of more attributes takes a kilobyte or more, for which the
+/// heap of glibc first puts all of its small free pieces together: it grows as it is read, which is faster.
+const ROOM: usize = 31;
+
+/// Reads all of the bytes as values, one after the other. Where the bytes are few frames, room for all of them is asked
+/// for at once.
 ///
 /// An element that takes no byte while bytes are left is `InvalidInput` of the whole number of
 /// bytes.
@@ -65,7 +69,8 @@ pub fn read_all<T: FromBytes>(alloc: Global, bytes: &[u8]) -> Result<Vec<T>, DeE
     ensures value { IfOk result (λ v. elements T.read bytes.now ≡ Ok (map T.view v.items)) }
     ensures refused { IfErr result (Refuses (elements T.read bytes.now) (0 < length bytes.now)) }
 {
-    let mut items = Vec::with_capacity(alloc, frames_in(bytes))?;
+    let count = frames_in(bytes);
+    let mut items = Vec::with_capacity(alloc, if count <= ROOM { count } else { 0 })?;
     let mut cursor = Cursor::new(bytes);
     while cursor.position() < bytes.len() {
         let start = cursor.position();
