@@ -2,15 +2,18 @@
  * run.
  *
  * A script opens handles, hands in messages of 16 bytes, a datagram each, and reads them; through the calls also where
- * the router keeps them. What the program prints, and what the calls answer, is counted; where a count is not what it
- * has to be, the driver ends with status 1. */
+ * the router keeps them. Beside it stands libmnl's walk over the headers of a dump, in the same run. What the program
+ * prints, and what the calls answer, is counted; where a count is not what it has to be, the driver ends with status 1,
+ * and with 2 where all counts are right and a target of docs/SPEED.md is missed. */
 #include "neli.h"
+#include <libmnl/libmnl.h>
 #include <stdbool.h>
 #include <stdio.h>
 #include <stdlib.h>
 #include <string.h>
 #include <sys/resource.h>
 #include <sys/wait.h>
+#include <time.h>
 #include <unistd.h>
 
 #ifndef ROUNDS
@@ -18,6 +21,9 @@
 #endif
 
 enum { OPEN = 100000, MESSAGES = 1000000, STRAYS = 100000 };
+
+/* How many times libmnl's walk over a header a message may take, and opening or closing a handle. */
+enum { MOST_OF_A_MESSAGE = 40, MOST_OF_A_HANDLE = 100 };
 
 struct script {
     unsigned open;     /* handles that are opened first */
@@ -104,6 +110,13 @@ static struct cost run(const char *tool, const struct script *s) {
 
 /* ---- through the calls for C */
 
+static size_t open_one(struct neli_router *router) {
+    struct neli_sent sent;
+    uint8_t out[16];
+    if (neli_router_send(router, 16, 0, NULL, 0, out, sizeof out, &sent) != NELI_OK) fail("no handle");
+    return sent.handle;
+}
+
 /* Hands in a message of type 16 with flag MULTI, for this number. */
 static void hand_in(struct neli_router *router, bool dropped, uint32_t number) {
     static const uint32_t group = 1;
@@ -144,12 +157,7 @@ static void play(const struct script *s, reader *one) {
     size_t *handles = malloc(s->open * sizeof *handles);
     unsigned items = 0;
     if (!handles || neli_router_new(&router, 0) != NELI_OK) fail("no memory");
-    for (unsigned i = 0; i < s->open; i++) {
-        struct neli_sent sent;
-        uint8_t out[16];
-        if (neli_router_send(&router, 16, 0, NULL, 0, out, sizeof out, &sent) != NELI_OK) fail("no handle");
-        handles[i] = sent.handle;
-    }
+    for (unsigned i = 0; i < s->open; i++) handles[i] = open_one(&router);
     if (s->dropped) neli_router_close(&router, NELI_MULTICAST);
     for (unsigned i = 0; i < s->messages; i += s->batch) {
         for (unsigned k = i; k < i + s->batch; k++) hand_in(&router, s->dropped, s->over ? k % s->over : ~0u);
@@ -176,6 +184,62 @@ static struct cost run_lent(const char *tool, const struct script *s) {
     return run_by(lend_one, s);
 }
 
+/* ---- libmnl, and handles by themselves */
+
+/* The processor time of this process, in nanoseconds. */
+static double now(void) {
+    struct timespec time;
+    clock_gettime(CLOCK_PROCESS_CPUTIME_ID, &time);
+    return time.tv_sec * 1e9 + time.tv_nsec;
+}
+
+/* What libmnl's walk over the headers of a dump takes for one of them, in the best of many rounds over a megabyte. */
+static double header_time(const char *path) {
+    enum { SIZE = 1 << 20, ROUNDS_OF_WALK = 200 };
+    static uint8_t bytes[SIZE];
+    FILE *in = fopen(path, "rb");
+    size_t length = in ? fread(bytes, 1, SIZE, in) : 0, all = length;
+    if (!length || length == SIZE) fail("the dump is not read");
+    fclose(in);
+    for (; all + length <= SIZE; all += length) memcpy(bytes + all, bytes, length);
+    double best = 0;
+    for (int i = 0; i < ROUNDS_OF_WALK; i++) {
+        int left = (int)all;
+        size_t count = 0, sum = 0;
+        double start = now();
+        const struct nlmsghdr *message = (const struct nlmsghdr *)bytes;
+        for (; mnl_nlmsg_ok(message, left); message = mnl_nlmsg_next(message, &left)) {
+            sum += message->nlmsg_len;
+            count++;
+        }
+        double each = (now() - start) / (double)count;
+        if (left || sum != all) fail("libmnl did not walk over the whole dump");
+        if (!i || each < best) best = each;
+    }
+    return best;
+}
+
+/* Opens so many handles, and then closes one of them, taken at random, and opens another, as many times. */
+static void time_handles(unsigned count, double *opening, double *changing) {
+    struct neli_router router = NELI_ROUTER_CLOSED;
+    size_t *handles = malloc(count * sizeof *handles);
+    if (!handles || neli_router_new(&router, 0) != NELI_OK) fail("no memory");
+    double start = now();
+    for (unsigned i = 0; i < count; i++) handles[i] = open_one(&router);
+    double opened = now();
+    uint32_t random = 1;
+    for (unsigned i = 0; i < count; i++) {
+        random = random * 1664525 + 1013904223;
+        size_t *one = &handles[(random >> 8) % count];
+        if (neli_router_close(&router, *one) != NELI_OK) fail("a handle is not closed");
+        *one = open_one(&router);
+    }
+    *opening = (opened - start) / count;
+    *changing = (now() - opened) / count;
+    neli_router_free(&router);
+    free(handles);
+}
+
 /* ---- the table */
 
 typedef struct cost runner(const char *tool, const struct script *s);
@@ -191,52 +255,78 @@ static struct cost best(runner *run, const char *tool, struct script s) {
     return least;
 }
 
-/* A script, and the same one with its messages dropped. */
-static void compare_by(runner *run, const char *tool, struct script kept) {
+/* A script, and the same one with its messages dropped; returns what a message of the first takes. */
+static double compare_by(runner *run, const char *tool, struct script kept) {
     struct script dropped = kept;
     dropped.dropped = true;
     struct cost all = best(run, tool, kept), rest = best(run, tool, dropped);
     double each = 1e9 / kept.messages;
     printf(" %7.0f %7.0f %7.0f %7.1f", all.seconds * each, rest.seconds * each, (all.seconds - rest.seconds) * each,
            all.kilobytes / 1024.0);
+    return all.seconds * each;
 }
 
-/* A line of the table; what is read is also lent. */
-static void compare(const char *tool, struct script kept, unsigned first, unsigned second) {
+/* A line of the table; what is read is also lent, and set beside a header. Returns whether the target is met. */
+static bool compare(const char *tool, double header, struct script kept, unsigned first, unsigned second) {
+    double lent = 0;
     printf("%8u %8u ", first, second);
     compare_by(run, tool, kept);
     printf("  ");
-    compare_by(run_calls, tool, kept);
+    double read = compare_by(run_calls, tool, kept);
     if (kept.over) {
         printf("  ");
-        compare_by(run_lent, tool, kept);
+        lent = compare_by(run_lent, tool, kept);
+        printf(" %5.0f %5.0f", read / header, lent / header);
     }
     printf("\n");
     fflush(stdout);
+    return lent <= MOST_OF_A_MESSAGE * header;
+}
+
+/* The table of handles; returns whether the target is met. */
+static bool compare_handles(double header) {
+    bool is_met = true;
+    puts("\n    open   opening one   closing one and opening another   times a header");
+    for (unsigned count = 1000; count <= OPEN; count *= 10) {
+        double opening = 0, changing = 0;
+        for (int i = 0; i < ROUNDS; i++) {
+            double opened, changed;
+            time_handles(count, &opened, &changed);
+            if (!i || opened < opening) opening = opened;
+            if (!i || changed < changing) changing = changed;
+        }
+        printf("%8u %10.0f ns %30.0f ns %10.0f %6.0f\n", count, opening, changing, opening / header, changing / header);
+        is_met = is_met && changing <= MOST_OF_A_HANDLE * header;
+    }
+    return is_met;
 }
 
 int main(int argc, char **argv) {
     static const unsigned handles[] = {1, 1000, 100000};
-    if (argc != 2) {
-        fputs("usage: router NELI_TOOL\n", stderr);
-        return 2;
+    bool is_met = true;
+    if (argc != 3) {
+        fputs("usage: router NELI_TOOL DUMP\n", stderr);
+        return 1;
     }
+    double header = header_time(argv[2]);
+    printf("libmnl's walk over a header: %.1f ns\n", header);
     printf("%d messages of 16 bytes, a datagram each, with %d open handles\n\n", MESSAGES, OPEN);
     puts(" waiting  handles     neli_tool: ns a message      MB      through C: ns a message      MB"
-         "           lent: ns a message      MB");
+         "           lent: ns a message      MB  times a header");
     puts(" at most they are      all dropped  differ     all        all dropped  differ     all"
-         "        all dropped  differ     all");
+         "        all dropped  differ     all   read  lent");
     for (unsigned batch = 1000; batch <= MESSAGES; batch *= 1000)
         for (int i = 0; i < 3; i++) {
             struct script script = {OPEN, MESSAGES, handles[i], batch, false};
-            compare(argv[1], script, batch, handles[i]);
+            is_met = compare(argv[1], header, script, batch, handles[i]) && is_met;
         }
     printf("\n%d strays, of which none is read\n\n", STRAYS);
     puts("                      neli_tool: ns a stray        MB      through C: ns a stray        MB");
     puts("  strays     open      all dropped  differ     all        all dropped  differ     all");
     for (int i = 0; i < 3; i++) {
         struct script script = {handles[i], STRAYS, 0, STRAYS, false};
-        compare(argv[1], script, STRAYS, handles[i]);
+        compare(argv[1], header, script, STRAYS, handles[i]);
     }
-    return 0;
+    is_met = compare_handles(header) && is_met;
+    return is_met ? 0 : 2;
 }
