@@ -4,6 +4,7 @@ use Rattle.std.proofs.Common.{Option, Some, None, Result, Ok, Err, refl, sym, ap
 use Rattle.std.proofs.Common.{append_assoc, length-append, suc}
 use Rattle.std.specs.List.{AllZip, flat_map}
 use Rattle.std.specs.Option.{option_to_list}
+use Rattle.std.specs.Prelude.{OnOk}
 use Rattle.std.proofs.lemmas.Grind.{flat_map-append}
 use Rattle.std.proofs.lemmas.List.{append-nil, drop_more, drop_all, get_or-map, length-map}
 use Rattle.std.proofs.lemmas.Bool.Decides.{nat_tests}
@@ -11,7 +12,7 @@ use Rattle.neli_runs.specs.declared.command.Command.{Command}
 use Rattle.neli_runs.specs.laws.Kept.{Handles, Pending}
 use Rattle.neli_program.specs.declared.entry.Entry.{Entry}
 use Rattle.neli_program.specs.declared.entry.Entry.TheVariants.{Port, Number, Request, Datagram, Fault, Read, Close}
-use Rattle.neli_program.specs.Plays.{Follows, HasPlayed}
+use Rattle.neli_program.specs.Plays.{Follows, HasPlayed, Performs}
 use Rattle.neli_program.specs.Replays.{Answers}
 use Rattle.neli_program.specs.Script.{AreCommands, IsTold, entries_of, entry_if, entries_from, entry_in, lines_in, port_of}
 use Rattle.neli_program.specs.Script.{with_line, words_in}
@@ -281,3 +282,31 @@ pub none_next : (script : List ℕ) (lines : List (Bor (List ℕ))) (i : ℕ)
     → length (lines_in script) ≤ i
 none_next script lines i are none =
     omega (arith, none, ap length are, length-map lines (λ (l : Bor (List ℕ)). l.now))
+
+-- ---- a command that a line tells
+
+on_ok : {A E : Type 0} (r : Result A E) (P Q : Type 0) → (P → Q) → OnOk r P → OnOk r Q
+on_ok (Ok v) P Q f p = f p
+on_ok (Err e) P Q f p = p
+
+module _ (port next : ℕ) (pending : Pending) (handles : Handles) (sent : ℕ) (text : List ℕ) (port' next' : ℕ)
+    (pending' : Pending) (handles' : Handles) (sent' : ℕ) (text' : List ℕ) where
+  followed : (e : Entry) (command : Told) → IsTold e (Some command)
+      → Performs command port next pending handles sent text port' next' pending' handles' sent' text'
+      → Follows e port next pending handles sent text port' next' pending' handles' sent' text'
+  followed (Port n) command told performs = absurd cc
+  followed (Number n) command told performs = λ pid commands played. (Some command, told, performs pid commands played)
+  followed (Request t f b) command told performs = λ pid commands played.
+      (Some command, told, performs pid commands played)
+  followed (Datagram m b) command told performs = λ pid commands played.
+      (Some command, told, performs pid commands played)
+  followed (Fault k) command told performs = λ pid commands played. (Some command, told, performs pid commands played)
+  followed (Read h) command told performs = λ pid commands played. (Some command, told, performs pid commands played)
+  followed (Close h) command told performs = λ pid commands played. (Some command, told, performs pid commands played)
+
+  pub all_followed : {A E : Type 0} (r : Result A E) (e : Entry) (told : Option Told) (command : Told) → IsTold e told
+      → told ≡ Some command
+      → OnOk r (Performs command port next pending handles sent text port' next' pending' handles' sent' text')
+      → OnOk r (Follows e port next pending handles sent text port' next' pending' handles' sent' text')
+  all_followed r e told command says is performs =
+      on_ok r _ _ (followed e command (subst (IsTold e) is says)) performs
