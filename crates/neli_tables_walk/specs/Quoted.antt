@@ -1,5 +1,5 @@
 -- Texts in quotes: strings of JSON (RFC 8259, section 7).
-use Rattle.std.specs.Prelude.{ℕ, ◌/◌, ◌%◌, ◌||◌, ◌&&◌, ◌==◌, nat_lt, Bool, false, if◌then◌else◌, List}
+use Rattle.std.specs.Prelude.{ℕ, ◌/◌, ◌%◌, ◌||◌, ◌&&◌, ◌==◌, nat_lt, false, if◌then◌else◌, List}
 use Rattle.std.specs.Prelude.{◌++◌, codes}
 use Rattle.std.specs.Prelude.{Option, Some, None}
 use Rattle.std.specs.Char.{encode_utf8}
