@@ -1,5 +1,6 @@
 mod Around
 mod FieldRows
+mod Digits
 mod Lists
 mod Neighbours
 pub mod Offsets

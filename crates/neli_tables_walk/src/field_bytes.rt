@@ -27,12 +27,13 @@ fn keeps_part(options: &Options) -> bool
 
 /// The bytes from one place up to another, where they are there; else those that are left, where
 /// a part is to be kept.
-fn bytes_at(is_part: bool, start: usize, end: usize, bytes: &[u8]) -> Option<&[u8]>
-    ensures { option_map (λ part. part.now) result ≡ bytes_at is_part start end bytes.now }
+fn bytes_at<'b>(options: &Options, start: usize, end: usize, bytes: &'b [u8]) -> Option<&'b [u8]>
+    ensures { option_map (λ part. part.now) result
+        ≡ bytes_at (keeps_part options.now) start end bytes.now }
 {
     if start <= end && end <= bytes.len() {
         Some(&bytes[start..end])
-    } else if is_part && start < bytes.len() {
+    } else if keeps_part(options) && start < bytes.len() {
         Some(&bytes[start..])
     } else {
         None
@@ -67,6 +68,6 @@ pub fn field_bytes<'b>(row: &Line<'_>, options: &Options, bytes: &'b [u8]) -> Op
 {
     let span = row.span?;
     let (start, end) = (span.first as usize, span.last as usize);
-    let part = bytes_at(keeps_part(options), start, end, bytes)?;
+    let part = bytes_at(options, start, end, bytes)?;
     Some(before_zero(options.kind, part))
 }

@@ -15,7 +15,7 @@ use crate::cell::{Value, ValueJson, ValueText};
 use crate::field_bytes::field_bytes;
 use crate::name::Name;
 use crate::named::{NamedJson, NamedText};
-use crate::numbered::number_by;
+use crate::numbered::{digits_by, number_by, write_digits};
 use crate::plain::{Item, ItemJson, ItemText};
 use neli_tables::{Line, Options, Table};
 use std::fmt;
@@ -60,6 +60,10 @@ impl FieldPrinter for PrintsText {
         bytes: &[u8],
         f: &mut fmt::Formatter<W>,
     ) -> fmt::Result {
+        if let Some(number) = digits_by(options, bytes) {
+            f.write_str(" ")?;
+            return write_digits(number, f);
+        }
         if let Some(number) = number_by(table, options, bytes) {
             f.write_str(" ")?;
             return Display::fmt(&NamedText(number), f);
@@ -81,6 +85,9 @@ impl FieldPrinter for PrintsJson {
         bytes: &[u8],
         f: &mut fmt::Formatter<W>,
     ) -> fmt::Result {
+        if let Some(number) = digits_by(options, bytes) {
+            return write_digits(number, f);
+        }
         if let Some(number) = number_by(table, options, bytes) {
             return Display::fmt(&NamedJson(number), f);
         }
@@ -124,6 +131,7 @@ impl FieldPrinter for PrintsFlatJson {
 }
 
 /// Prints the name of a row, which is kept where it needs no escape.
+#[inline(always)]
 fn write_row_name<W: fmt::Write>(
     row: &Line<'_>,
     kept: Option<&str>,

@@ -6,6 +6,7 @@ ghost use Rattle.neli_tables_walk.specs.Hex.{hardware_text};
 ghost use Rattle.neli_tables_walk.specs.Hex.{hex_text, later_hex_text, uuid_text};
 
 use std::fmt;
+use std::fmt::Display;
 
 /// A byte as two hexadecimal digits.
 #[derive(Clone, Copy)]
@@ -30,7 +31,7 @@ impl fmt::Display for Hex<'_> {
     fn fmt<W: fmt::Write>(&self, f: &mut fmt::Formatter<W>) -> fmt::Result {
         for byte in self.0 {
             let byte = HexByte(*byte);
-            write!(f, "{byte}")?;
+            Display::fmt(&byte, f)?;
         }
         Ok(())
     }
@@ -46,7 +47,8 @@ impl fmt::Display for LaterHex<'_> {
     fn fmt<W: fmt::Write>(&self, f: &mut fmt::Formatter<W>) -> fmt::Result {
         for byte in self.0 {
             let byte = HexByte(*byte);
-            write!(f, ":{byte}")?;
+            f.write_str(":")?;
+            Display::fmt(&byte, f)?;
         }
         Ok(())
     }
@@ -64,7 +66,8 @@ impl fmt::Display for Hardware<'_> {
             [] => Ok(()),
             [first, later @ ..] => {
                 let (first, later) = (HexByte(*first), LaterHex(later));
-                write!(f, "{first}{later}")
+                Display::fmt(&first, f)?;
+                Display::fmt(&later, f)
             }
         }
     }

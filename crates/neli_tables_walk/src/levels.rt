@@ -231,7 +231,8 @@ pub fn nested_bytes<'b>(nest: &Nest, payload: &'b [u8]) -> &'b [u8]
     &payload[start..]
 }
 
-/// The path to the innermost of these lists.
+/// The path to the innermost of these lists. It is made where it stays: a path is long.
+#[inline(never)]
 fn path_to(levels: &[Level<'_>]) -> Path
     requires { length levels.now < MAX_DEPTH }
     ensures { result.steps.items ≡ map (λ l. l.inside) levels.now }

@@ -1,14 +1,20 @@
 //! Payloads and fields that are one number.
 
-ghost use Rattle.std.specs.Prelude.{◌≡◌, ◌++◌, IfSome, codes};
+ghost use Rattle.std.specs.Prelude.{◌≡◌, ◌++◌, IfSome, None, codes};
+ghost use Rattle.std.specs.Fmt.{WritesOnOk};
+ghost use Rattle.neli_tables.specs.Families.{Lines};
 ghost use Rattle.neli_tables_walk.specs.Cells.{value_json, value_text};
 ghost use Rattle.neli_tables_walk.specs.Named.{number_json, number_text};
+ghost use Rattle.neli_tables_walk.specs.Numbers.{plain_number_json};
 ghost use Rattle.neli_tables_walk.specs.Values.{form_json, form_text, kept_form};
 
 use crate::form::{Cell, Form, Plain, form_of};
 use crate::named::Named;
-use crate::number::number_in;
-use neli_tables::{Options, Table};
+use crate::number::{Number, number_in};
+use byteorder::{ByteOrder, LittleEndian};
+use neli_tables::{Kind, Options, Table};
+use std::fmt;
+use std::fmt::Display;
 
 /// The number that bytes are by these options, if they are one. As which it is printed needs no
 /// further look at its kind.
@@ -38,4 +44,49 @@ pub fn number_by<'w, 't>(
         options,
         number: number_in(width, bytes)?,
     })
+}
+
+/// A number without a sign.
+fn unsigned(bits: u64) -> Number
+    ensures { result ≡ record { bits = bits; signed = None } }
+{
+    Number { bits, signed: None }
+}
+
+/// The number that bytes are by these options, if it is printed in decimal digits.
+pub fn digits_by(options: &Options, bytes: &[u8]) -> Option<Number>
+    ensures text { IfSome result (λ n. (table : Lines) → value_text table options.now bytes.now
+        ≡ codes " " ++ plain_number_json n) }
+    ensures json { IfSome result (λ n. (table : Lines) → value_json table options.now bytes.now
+        ≡ plain_number_json n) }
+    ensures payload_text { IfSome result (λ n. (table : Lines) → form_text table options.now
+        (kept_form table options.now bytes.now) bytes.now ≡ codes " " ++ plain_number_json n) }
+    ensures payload_json { IfSome result (λ n. (table : Lines) → form_json table options.now
+        (kept_form table options.now bytes.now) bytes.now ≡ plain_number_json n) }
+{
+    if options.array || options.hex || options.values.is_some() || options.flags.is_some() {
+        return None;
+    }
+    Some(match (options.kind?, bytes.len()) {
+        (Kind::U8, 1) => unsigned(bytes[0] as u64),
+        (Kind::U16, 2) => unsigned(LittleEndian::read_u16(bytes) as u64),
+        (Kind::U32, 4) => unsigned(LittleEndian::read_u32(bytes) as u64),
+        (Kind::U64, 8) => unsigned(LittleEndian::read_u64(bytes)),
+        (Kind::S32, 4) => Number {
+            bits: LittleEndian::read_u32(bytes) as u64,
+            signed: Some(LittleEndian::read_i32(bytes) as i64),
+        },
+        _ => return None,
+    })
+}
+
+/// Prints a number in decimal digits. 0, the most frequent one, is one piece.
+pub fn write_digits<W: fmt::Write>(number: Number, f: &mut fmt::Formatter<W>) -> fmt::Result
+    ensures { WritesOnOk W.Write.write_str_gives f.old result (plain_number_json number) f.new }
+{
+    match number.signed {
+        Some(signed) => Display::fmt(&signed, f),
+        None if number.bits == 0 => f.write_str("0"),
+        None => Display::fmt(&number.bits, f),
+    }
 }

@@ -10,7 +10,7 @@ use crate::fields::{Fields, FieldsJson, FieldsText};
 use crate::form::{Cell, Form, Plain, form_of};
 use crate::hex::{Bytes, BytesJson};
 use crate::named::{NamedJson, NamedText};
-use crate::numbered::number_by;
+use crate::numbered::{digits_by, number_by, write_digits};
 use neli_tables::{Options, Table};
 use std::fmt;
 use std::fmt::Display;
@@ -163,6 +163,10 @@ impl fmt::Display for PayloadText<'_, '_, '_> {
     fn fmt<W: fmt::Write>(&self, f: &mut fmt::Formatter<W>) -> fmt::Result {
         match self.0.table.options(self.0.place) {
             Some(options) => {
+                if let Some(number) = digits_by(options, self.0.bytes) {
+                    f.write_str(" ")?;
+                    return write_digits(number, f);
+                }
                 if let Some(number) = number_by(self.0.table, options, self.0.bytes) {
                     f.write_str(" ")?;
                     return Display::fmt(&NamedText(number), f);
@@ -188,6 +192,9 @@ impl fmt::Display for PayloadJson<'_, '_, '_> {
     fn fmt<W: fmt::Write>(&self, f: &mut fmt::Formatter<W>) -> fmt::Result {
         match self.0.table.options(self.0.place) {
             Some(options) => {
+                if let Some(number) = digits_by(options, self.0.bytes) {
+                    return write_digits(number, f);
+                }
                 if let Some(number) = number_by(self.0.table, options, self.0.bytes) {
                     return Display::fmt(&NamedJson(number), f);
                 }
