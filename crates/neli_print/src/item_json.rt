@@ -8,7 +8,7 @@ ghost use Rattle.neli_print.specs.ItemsJson.{label_json, left_json, row_json, va
 
 use crate::fault::Fault;
 use crate::item::{Open, last_step};
-use crate::names::{NameMember, Structure, StructureMembers, row_name_bytes};
+use crate::names::{LineNameMember, Structure, StructureMembers, row_name};
 use crate::pieces::{Repeated, When};
 use crate::rests::{RestMember, rest_of};
 use neli_attr::AttrType;
@@ -17,6 +17,7 @@ use neli_tables_walk::{
     Breach, BytesJson, Found, Hex, Item, Payload, PayloadJson, Rest, Shape, Step, breach_of,
 };
 use std::fmt;
+use std::fmt::Display;
 
 /// The first members of an attribute: its number, its name if it has a row, and the flags of its
 /// type.
@@ -32,7 +33,7 @@ impl fmt::Display for Label<'_, '_, '_> {
 
     fn fmt<W: fmt::Write>(&self, f: &mut fmt::Formatter<W>) -> fmt::Result {
         let number = *self.kind.nla_type();
-        let name = NameMember(row_name_bytes(self.table, self.step));
+        let name = LineNameMember(row_name(self.table, self.step));
         let nested = When {
             holds: *self.kind.nla_nested(),
             text: ",\"nested\":true",
@@ -41,7 +42,11 @@ impl fmt::Display for Label<'_, '_, '_> {
             holds: *self.kind.nla_network_order(),
             text: ",\"net_byteorder\":true",
         };
-        write!(f, "\"number\":{number}{name}{nested}{order}")
+        f.write_str("\"number\":")?;
+        Display::fmt(&number, f)?;
+        Display::fmt(&name, f)?;
+        Display::fmt(&nested, f)?;
+        Display::fmt(&order, f)
     }
 }
 
@@ -71,7 +76,11 @@ impl fmt::Display for Row<'_, '_, '_> {
         let broken = BreachMember(breach_of(&self.0));
         let value = PayloadJson(self.0);
         let rest = RestMember(rest_of(self.0.table, self.0.place, self.0.bytes));
-        write!(f, "{broken},\"value\":{value}{rest}}}")
+        Display::fmt(&broken, f)?;
+        f.write_str(",\"value\":")?;
+        Display::fmt(&value, f)?;
+        Display::fmt(&rest, f)?;
+        f.write_str("}")
     }
 }
 
@@ -112,7 +121,7 @@ impl fmt::Display for Content<'_, '_, '_> {
                     place: *place,
                     bytes: self.payload,
                 });
-                write!(f, "{row}")
+                Display::fmt(&row, f)
             }
             Shape::Nest(nest) => {
                 let structure = StructureMembers(Structure::of_nest(
@@ -170,7 +179,9 @@ impl fmt::Display for Element<'_, '_, '_, '_> {
                     step: self.step,
                     kind,
                 };
-                write!(f, "{{{label}{content}")
+                f.write_str("{")?;
+                Display::fmt(&label, f)?;
+                Display::fmt(&content, f)
             }
             None => {
                 let length = self.found.payload.len();
@@ -226,7 +237,9 @@ impl fmt::Display for ItemJson<'_, '_, '_, '_> {
                     step: last_step(self.item),
                     found,
                 };
-                write!(f, "{ends}{comma}{element}")
+                Display::fmt(&ends, f)?;
+                Display::fmt(&comma, f)?;
+                Display::fmt(&element, f)
             }
             Err(rest) => {
                 let left = Left(rest);

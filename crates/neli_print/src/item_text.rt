@@ -19,6 +19,7 @@ use neli_tables_walk::{
     Breach, Bytes, Found, Item, LineName, Payload, PayloadText, Rest, Shape, Step, breach_of,
 };
 use std::fmt;
+use std::fmt::Display;
 
 /// An attribute by its name, or by its number if it has no row.
 #[derive(Clone, Copy)]
@@ -37,7 +38,11 @@ impl fmt::Display for RowName<'_, '_> {
         let start = escape(self.is_coloured, Colour::Attribute);
         let end = escape(self.is_coloured, Colour::End);
         match self.name {
-            Some(name) => write!(f, "{start}{name}{end}"),
+            Some(name) => {
+                Display::fmt(&start, f)?;
+                Display::fmt(&name, f)?;
+                Display::fmt(&end, f)
+            }
             None => {
                 let number = self.number;
                 write!(f, "{start}{number}{end}")
@@ -90,7 +95,8 @@ impl fmt::Display for NameWords<'_, '_, '_> {
             is_each: is_each(self.table, self.step),
             number: self.number,
         };
-        write!(f, "{name}{index}")
+        Display::fmt(&name, f)?;
+        Display::fmt(&index, f)
     }
 }
 
@@ -165,7 +171,9 @@ impl fmt::Display for Content<'_, '_, '_> {
                 let broken = BreachWords(breach_of(&payload));
                 let value = PayloadText(payload);
                 let rest = RestWords(rest_of(self.table, *place, self.payload));
-                write!(f, "{broken}{value}{rest}")
+                Display::fmt(&broken, f)?;
+                Display::fmt(&value, f)?;
+                Display::fmt(&rest, f)
             }
             Shape::Nest(nest) => {
                 let blank = When {
@@ -176,7 +184,8 @@ impl fmt::Display for Content<'_, '_, '_> {
                     is_coloured: self.is_coloured,
                     structure: Structure::of_nest(self.table, nest, self.payload),
                 };
-                write!(f, "{blank}{structure}")
+                Display::fmt(&blank, f)?;
+                Display::fmt(&structure, f)
             }
             Shape::Hops(_) => Ok(()),
             Shape::Bytes => write!(f, " {bytes}"),
@@ -217,7 +226,8 @@ impl fmt::Display for Element<'_, '_, '_, '_> {
                     step: self.step,
                     kind,
                 };
-                write!(f, "{label}{content}")
+                Display::fmt(&label, f)?;
+                Display::fmt(&content, f)
             }
             None => {
                 let start = escape(self.is_coloured, Colour::Attribute);
@@ -275,7 +285,10 @@ impl fmt::Display for ItemText<'_, '_, '_, '_> {
                     step: last_step(self.item),
                     found,
                 };
-                write!(f, "{around}{inside}{element}\n")
+                Display::fmt(&around, f)?;
+                Display::fmt(&inside, f)?;
+                Display::fmt(&element, f)?;
+                f.write_str("\n")
             }
             Err(rest) => {
                 let left = Left {

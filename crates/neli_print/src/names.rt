@@ -11,6 +11,7 @@ use crate::pieces::{Colour, escape};
 use neli_tables::{Table, Word};
 use neli_tables_walk::{Fields, FieldsJson, FieldsText, LineName, Name, NameJson, Nest, Step};
 use std::fmt;
+use std::fmt::Display;
 
 /// The name of the line at this place; empty where there is none.
 pub(crate) fn line_name<'w, 't>(table: &'w Table<'t>, place: usize) -> &'t [u8]
@@ -34,13 +35,6 @@ pub(crate) fn row_name<'w, 't>(
         table,
         place: step?.row?,
     })
-}
-
-/// The bytes of that name.
-pub(crate) fn row_name_bytes<'w, 't>(table: &'w Table<'t>, step: Option<&Step>) -> Option<&'t [u8]>
-    ensures { option_map (λ name. name.now) result ≡ row_name table.now (option_copied step.entry) }
-{
-    Some(line_name(table, step?.row?))
 }
 
 /// Whether the line at this place is a row for each number that has none of its own.
@@ -78,6 +72,26 @@ impl fmt::Display for NameMember<'_> {
             Some(name) => {
                 let name = NameJson(name);
                 write!(f, ",\"name\":{name}")
+            }
+            None => Ok(()),
+        }
+    }
+}
+
+/// The same of the name of a line.
+#[derive(Clone, Copy)]
+pub(crate) struct LineNameMember<'w, 't>(pub Option<LineName<'w, 't>>);
+
+impl fmt::Display for LineNameMember<'_, '_> {
+    ghost output = { λ n. Some (name_member
+        (option_map (λ name. line_name name.table.now name.place) n.0)) };
+
+    fn fmt<W: fmt::Write>(&self, f: &mut fmt::Formatter<W>) -> fmt::Result {
+        match self.0 {
+            Some(name) => {
+                f.write_str(",\"name\":\"")?;
+                Display::fmt(&name, f)?;
+                f.write_str("\"")
             }
             None => Ok(()),
         }

@@ -1,7 +1,7 @@
 //! Pieces of lines.
 
-ghost use Rattle.std.specs.Prelude.{◌≡◌, Some, codes};
-ghost use Rattle.neli_print.specs.Pieces.{escape_of, repeated, when};
+ghost use Rattle.std.specs.Prelude.{◌≡◌, Some};
+ghost use Rattle.neli_print.specs.Pieces.{escape_of, indent, repeated, when};
 
 use std::fmt;
 
@@ -18,18 +18,32 @@ impl fmt::Display for Repeated {
     fn fmt<W: fmt::Write>(&self, f: &mut fmt::Formatter<W>) -> fmt::Result {
         let text = self.text;
         for _time in 0..self.count {
-            write!(f, "{text}")?;
+            f.write_str(text)?;
         }
         Ok(())
     }
 }
 
 /// Two blanks a level.
-pub(crate) fn indent(count: usize) -> Repeated
-    ensures text { result.text.now ≡ codes "  " }
-    ensures count { result.count ≡ count }
+#[derive(Clone, Copy)]
+pub(crate) struct Blanks(usize);
+
+impl fmt::Display for Blanks {
+    ghost output = { λ i. Some (indent i.0) };
+
+    fn fmt<W: fmt::Write>(&self, f: &mut fmt::Formatter<W>) -> fmt::Result {
+        for _level in 0..self.0 {
+            f.write_str("  ")?;
+        }
+        Ok(())
+    }
+}
+
+/// Two blanks for each of so many levels.
+pub(crate) fn indent(count: usize) -> Blanks
+    ensures { result.0 ≡ count }
 {
-    Repeated { text: "  ", count }
+    Blanks(count)
 }
 
 /// A text, if something holds.
@@ -47,7 +61,7 @@ impl fmt::Display for When {
     fn fmt<W: fmt::Write>(&self, f: &mut fmt::Formatter<W>) -> fmt::Result {
         let text = self.text;
         if self.holds {
-            write!(f, "{text}")
+            f.write_str(text)
         } else {
             Ok(())
         }

@@ -2,7 +2,7 @@
 use Rattle.std.proofs.Common.{◌≡◌, ℕ, zero, suc, ◌+◌, Bool, true, false, List, [], ◌++◌, codes}
 use Rattle.std.proofs.Common.{refl, sym, ap, subst, ◌∙◌, append_assoc, append-nil, arith}
 use Rattle.std.specs.List.{list_all}
-use Rattle.neli_tables_walk.specs.Json.{AreElements, AreMembers, IsJson, is_plain, object}
+use Rattle.neli_tables_walk.specs.Json.{AreMembers, IsJson, is_plain, object}
 use Rattle.neli_tables_walk.specs.laws.Parts.{FirstElements, Turns, array_of, comma, first_elements_more}
 use Rattle.neli_tables_walk.specs.laws.Parts.{part, turns_then}
 use Rattle.neli_print.specs.Pieces.{repeated}

@@ -1,6 +1,6 @@
 -- What is printed as JSON is one value a message, and lines of such values a datagram.
-use Rattle.std.proofs.Common.{◌≡◌, ℕ, zero, suc, ◌+◌, ◌-◌, ◌≤◌, min, max, Bool, true, false, not}
-use Rattle.std.proofs.Common.{List, [], ◌∷◌, ◌++◌, codes, length, drop, take, refl, sym, ap, subst}
+use Rattle.std.proofs.Common.{◌≡◌, ℕ, zero, suc, ◌+◌, ◌-◌, ◌≤◌, Bool, true, false, not}
+use Rattle.std.proofs.Common.{List, [], ◌∷◌, ◌++◌, codes, length, take, refl, sym, ap, subst}
 use Rattle.std.proofs.Common.{◌∙◌, append_assoc, append-nil, arith, Option, Some, None, Result, Ok}
 use Rattle.std.proofs.Common.{Err, eq-eqb}
 use Rattle.std.specs.Prelude.{ℤ, ◌==◌, ◌||◌, nat_lt, unwrap_or}
@@ -11,7 +11,7 @@ use Rattle.bitflags.specs.Sets.{Row}
 use Rattle.neli_attr.specs.AttrType.{AttrType}
 use Rattle.neli_errno.specs.Errnos.{Row as ErrnoRow}
 use Rattle.neli_lent.specs.Messages.{Lent, messages_in}
-use Rattle.neli_lent.specs.Walks.{fault_item, items_of}
+use Rattle.neli_lent.specs.Walks.{items_of}
 use Rattle.neli_tables_walk.specs.declared.generic.GenericHeader.{GenericHeader}
 use Rattle.neli_tables_walk.specs.declared.head.Head.{Head}
 use Rattle.neli_tables_walk.specs.Bodies.{BodySeen, answer_in, body_context, body_in, body_shape}
@@ -29,7 +29,7 @@ use Rattle.neli_tables_walk.specs.Breaches.{breach_text}
 use Rattle.neli_tables_walk.specs.Fields.{fields_json}
 use Rattle.neli_tables_walk.specs.Hex.{bytes_json, hex_text}
 use Rattle.neli_tables_walk.specs.Json.{AreElements, AreMembers, AreSoManyLines, IsChars, IsJson, IsLine}
-use Rattle.neli_tables_walk.specs.Json.{both, is_plain, member, members, object, plain, string, truth}
+use Rattle.neli_tables_walk.specs.Json.{both, is_plain, members, object, plain, string, truth}
 use Rattle.neli_tables_walk.specs.Json.{integer}
 use Rattle.neli_tables_walk.specs.Names.{line_name, name_json, name_text}
 use Rattle.neli_tables_walk.specs.Quoted.{quoted}
@@ -55,9 +55,8 @@ use Rattle.neli_print.specs.Flags.{after_flag, all_left, left_without, flag_text
 use Rattle.neli_print.specs.Flags.{is_named, mark, rest_text}
 use Rattle.neli_print.specs.Heads.{header_flags, header_members, header_of, rows_of}
 use Rattle.neli_print.specs.Items.{after_item, depth_in, has_items, last_step, opened, opens_list}
-use Rattle.neli_print.specs.ItemsJson.{breach_member, content_json, element_json, element_with}
+use Rattle.neli_print.specs.ItemsJson.{breach_member, content_json, element_with}
 use Rattle.neli_print.specs.ItemsJson.{item_json, items_json, label_json, left_json, object_json}
-use Rattle.neli_print.specs.ItemsJson.{row_json, value_json}
 use Rattle.neli_print.specs.Lists.{body_open, list_member}
 use Rattle.neli_print.specs.Messages.{content_members, datagram_json, fault_json, json_from}
 use Rattle.neli_print.specs.Messages.{message_json, place_behind}
