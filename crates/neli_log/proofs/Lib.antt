@@ -14,3 +14,4 @@ pub mod Adds
 pub mod Keeps
 pub mod Readers
 pub mod Named
+pub mod Aheads

@@ -25,9 +25,8 @@ use Rattle.neli_log.specs.Spans.{AreApart, AreSpansOf, Apart, IsWithin}
 use Rattle.neli_reader.specs.SocketError.TheVariants as socket
 use Rattle.neli_log.specs.declared.entry.Route.TheVariants as route
 use Rattle.neli_log.specs.declared.content.Content.{Content}
-use Rattle.neli_log.specs.declared.content.Content.TheVariants as content
 use Rattle.neli_log.specs.declared.next.Address.{Address}
-use Rattle.neli_log.specs.Contents.{AreMessages, entry_read, part_of, span_of, spans_of}
+use Rattle.neli_log.specs.Contents.{AreMessages, delivery_of, entry_read, part_of, span_of, spans_of}
 use Rattle.neli_log.specs.Routed.{AreAwaited, is_open, message_routed}
 use Rattle.neli_log.specs.Staged.{AreDueBefore, AreStaged, HaveReaders, IsFound, deliveries_added}
 use Rattle.neli_log.specs.Staged.{entries_due}
@@ -137,16 +136,17 @@ module _ (P : Option ℕ → Option (List Content)) (port serial : ℕ) (bytes g
 
   -- ---- the fault at the end
 
-  pub staged_fault : (es : List (Entry Content)) (at : ℕ) (fault : DeError)
+  pub staged_fault : (es : List (Entry Content)) (at : ℕ) (c : Content) (fault : DeError)
+      → delivery_of (part_of bytes) c ≡ delivery.Fault (socket.De fault) → span_of c ≡ []
       → AreStaged P port serial bytes groups cut es at ([], Some fault) → HasReader P route.Numbers
-      → AreStaged P port serial bytes groups cut (es ++ entry (content.Fault (socket.De fault)) route.Numbers ∷ []) at
-      ([], None)
-  staged_fault es at fault h r =
-      let e : Entry Content = entry (content.Fault (socket.De fault)) route.Numbers in
-      let spans : spans_of (es ++ e ∷ []) ≡ spans_of es = spans_push es e ∙ append-nil (spans_of es) in
+      → AreStaged P port serial bytes groups cut (es ++ entry c route.Numbers ∷ []) at ([], None)
+  staged_fault es at c fault says none h r =
+      let e : Entry Content = entry c route.Numbers in
+      let spans : spans_of (es ++ e ∷ []) ≡ spans_of es =
+      spans_push es e ∙ ap (λ ss. spans_of es ++ ss) none ∙ append-nil (spans_of es) in
       record {
         each = each_push es e (entry (delivery.Fault (socket.De fault)) route.Numbers) ([], Some fault) ([], None)
-            h.each refl refl r;
+            h.each refl (ap (λ d. entry d route.Numbers) says) r;
         spans = subst (AreSpansOf serial at) (sym spans) h.spans;
         messages = subst (AreMessages (part_of bytes)) (sym spans) h.messages;
         readers = readers_push es e r h.readers;

@@ -24,6 +24,7 @@ use Rattle.neli_log.specs.declared.span.Span.{Span}
 use Rattle.neli_log.specs.declared.datagrams.Datagrams.{Datagrams}
 use Rattle.neli_log.specs.Spans.{AreSpansOf, SpansName, next_serial, span_bytes}
 use Rattle.neli_log.specs.declared.content.Content.{Content}
+use Rattle.neli_deliveries.specs.declared.delivery.Delivery.TheVariants as delivery
 use Rattle.neli_log.specs.declared.content.Content.TheVariants as content
 use Rattle.neli_log.specs.Contents.{AreBacked, AreMessages, IsReadable, delivery_of, entry_read, part_of}
 use Rattle.neli_log.specs.Contents.{span_of}
@@ -106,7 +107,7 @@ span_dropped (suc k) (e ∷ es) i x at =
     )
 
 -- the span of the first item of a list is one of the entries'
-item_span : (w : Option ℕ) (es : List (Entry Content)) (c : Content) (cs : List Content) (x : Span)
+pub item_span : (w : Option ℕ) (es : List (Entry Content)) (c : Content) (cs : List Content) (x : Span)
     → items_for w es ≡ c ∷ cs → span_of c ≡ x ∷ [] → (j : ℕ) × (slice_get (spans_of es) j ≡ Some x)
 item_span w [] c cs x is has = cc
 item_span w (e ∷ es) c cs x is has = elim (true_or_false (leads w e.route)) [
@@ -273,37 +274,38 @@ pub unread_brings : (P : Option ℕ → Option (List Content)) (w : Option ℕ) 
 unread_brings P None e none opened = refl
 unread_brings P (Some q) e none opened = absurd (none (Some q, opened, refl))
 
-pub fault_brings : (text : Span → List ℕ) (w : Option ℕ) (e : SocketError) → is_would_block e ≡ false
-    → map (delivery_of text) (items_for w (record { item = content.Fault e; route = route.Numbers } ∷ []))
-    ≡ fault_share w e
-fault_brings text None e h = refl
-fault_brings text (Some q) e h = rw h refl
+pub fault_brings : (text : Span → List ℕ) (w : Option ℕ) (c : Content) (e : SocketError)
+    → delivery_of text c ≡ delivery.Fault e → is_would_block e ≡ false
+    → map (delivery_of text) (items_for w (record { item = c; route = route.Numbers } ∷ [])) ≡ fault_share w e
+fault_brings text None c e says h = refl
+fault_brings text (Some q) c e says h = rw (h, says) refl
 
-pub fault_pending : (text : Span → List ℕ) (w : Option ℕ) (e : SocketError) (o o' : Option (List Content))
+pub fault_pending : (text : Span → List ℕ) (w : Option ℕ) (c : Content) (e : SocketError)
+    (o o' : Option (List Content)) → delivery_of text c ≡ delivery.Fault e
     → is_would_block e ≡ false → o' ≡ option_map (λ xs. xs ++ items_for w
-    (record { item = content.Fault e; route = route.Numbers } ∷ [])) o
+    (record { item = c; route = route.Numbers } ∷ [])) o
     → option_map (map (delivery_of text)) o' ≡ option_map (λ ds. ds ++ fault_share w e)
     (option_map (map (delivery_of text)) o)
-fault_pending text w e o o' h is = rw is (by o)
+fault_pending text w c e o o' says h is = rw is (by o)
   where
     by : (o : Option (List Content)) → option_map (map (delivery_of text))
-        (option_map (λ xs. xs ++ items_for w (record { item = content.Fault e; route = route.Numbers } ∷ [])) o)
+        (option_map (λ xs. xs ++ items_for w (record { item = c; route = route.Numbers } ∷ [])) o)
         ≡ option_map (λ ds. ds ++ fault_share w e) (option_map (map (delivery_of text)) o)
     by None = refl
     by (Some xs) = ap (λ ds. Some ds) (map-append (delivery_of text) xs
-        (items_for w (record { item = content.Fault e; route = route.Numbers } ∷ []))
-        ∙ ap (λ ds. map (delivery_of text) xs ++ ds) (fault_brings text w e h))
+        (items_for w (record { item = c; route = route.Numbers } ∷ []))
+        ∙ ap (λ ds. map (delivery_of text) xs ++ ds) (fault_brings text w c e says h))
 
-pub fault_spans : (es : List (Entry Content)) (e : SocketError)
-    → spans_of (es ++ record { item = content.Fault e; route = route.Numbers } ∷ []) ≡ spans_of es
-fault_spans es e = spans_append es (record { item = content.Fault e; route = route.Numbers } ∷ [])
-    ∙ append-nil (spans_of es)
+pub fault_spans : (es : List (Entry Content)) (c : Content) → span_of c ≡ []
+    → spans_of (es ++ record { item = c; route = route.Numbers } ∷ []) ≡ spans_of es
+fault_spans es c none = spans_append es (record { item = c; route = route.Numbers } ∷ [])
+    ∙ ap (λ ss. spans_of es ++ (ss ++ [])) none ∙ append-nil (spans_of es)
 
-pub fault_backed : (d : Datagrams) (es es' : List (Entry Content)) (e : SocketError)
-    → es' ≡ es ++ record { item = content.Fault e; route = route.Numbers } ∷ [] → AreBacked d es → AreBacked d es'
-fault_backed d es es' e is h = rw is (record {
-  names = rw (fault_spans es e) h.names;
-  messages = rw (fault_spans es e) h.messages;
+pub fault_backed : (d : Datagrams) (es es' : List (Entry Content)) (c : Content) → span_of c ≡ []
+    → es' ≡ es ++ record { item = c; route = route.Numbers } ∷ [] → AreBacked d es → AreBacked d es'
+fault_backed d es es' c none is h = rw is (record {
+  names = rw (fault_spans es c none) h.names;
+  messages = rw (fault_spans es c none) h.messages;
 })
 
 -- ---- a result

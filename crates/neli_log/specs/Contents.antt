@@ -26,7 +26,7 @@ delivery_read kind (Err e) = delivery.Fault (socket.De e)
 abbrev pub delivery_of : (Span → List ℕ) → Content → Delivery
 delivery_of part (content.Message s) = delivery_read message (frame_at untyped_layout (part s))
 delivery_of part (content.Stray s) = delivery_read stray (frame_at untyped_layout (part s))
-delivery_of part (content.Fault e) = delivery.Fault e
+delivery_of part (content.Fault b) = delivery.Fault b.value
 
 -- an entry as its delivery, with its route
 abbrev pub entry_read : (Span → List ℕ) → Entry Content → Entry Delivery
@@ -36,7 +36,7 @@ entry_read part e = entry (delivery_of part e.item) e.route
 abbrev pub span_of : Content → List Span
 span_of (content.Message s) = s ∷ []
 span_of (content.Stray s) = s ∷ []
-span_of (content.Fault e) = []
+span_of (content.Fault b) = []
 
 -- the spans of entries, in their order
 abbrev pub spans_of : List (Entry Content) → List Span
@@ -60,4 +60,4 @@ part_of bytes s = slice_range bytes s.start s.end
 abbrev pub IsReadable : Datagrams → Content → Type 0
 IsReadable kept (content.Message s) = IsNamed kept s × IsSpan (span_bytes kept s)
 IsReadable kept (content.Stray s) = IsNamed kept s × IsSpan (span_bytes kept s)
-IsReadable kept (content.Fault e) = Unit {0}
+IsReadable kept (content.Fault b) = Unit {0}

@@ -9,3 +9,4 @@ pub mod Log
 pub mod Next
 pub mod Staged
 pub mod Lending
+pub mod Ahead

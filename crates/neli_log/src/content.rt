@@ -10,6 +10,6 @@ pub(crate) enum Content {
     Message(Span),
     /// A message that arrived for no group, and has another port than the router's or a number that is not open.
     Stray(Span),
-    /// A datagram could not be read to its end, or the link failed.
-    Fault(SocketError),
+    /// A datagram could not be read to its end, or the link failed. It is on the heap, so that an entry is short.
+    Fault(Box<SocketError>),
 }

@@ -4,7 +4,7 @@ ghost use Rattle.std.specs.Prelude.{◌≡◌};
 ghost use Rattle.neli_log.specs.Bytes.{byte_count};
 
 use crate::part::part;
-use crate::span::{Datagram, Span};
+use crate::span::{Bytes, Datagram, Span};
 use std::alloc::{AllocError, Global};
 use std::collections::VecDeque;
 
@@ -69,7 +69,7 @@ impl Datagrams {
     }
 
     /// Keeps a datagram that has this many spans, at least one; the room must exist.
-    pub fn keep(&mut self, bytes: Vec<u8>, spans: usize)
+    pub fn keep(&mut self, bytes: Bytes, spans: usize)
         requires some { 0 < spans }
         requires room { HasRoom (length bytes.items) self.old }
         ensures names { (old new : List Named) → SpansName self.old old
@@ -116,6 +116,6 @@ impl Datagrams {
         ensures { result.now ≡ span_bytes self.now s }
     {
         let datagram = &self.list[(s.datagram - self.first) as usize];
-        part(&datagram.bytes, s.start, s.end)
+        part(datagram.bytes.as_slice(), s.start, s.end)
     }
 }

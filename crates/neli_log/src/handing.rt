@@ -13,6 +13,7 @@ ghost use Rattle.neli_log.specs.Log.{kept_with};
 ghost use Rattle.neli_log.specs.Staged.{HaveReaders};
 
 use crate::content::Content;
+use crate::span::Bytes;
 use crate::{Datagrams, Entry, Places};
 use neli_wire::NoMemory;
 use std::alloc::Global;
@@ -81,7 +82,7 @@ pub(crate) fn keep_copy(
     if spans == 0 {
         return Ok(());
     }
-    let copy = Vec::from_slice(alloc, bytes)?;
+    let copy = Bytes::from_slice(alloc, bytes)?;
     datagrams.reserve(copy.len())?;
     datagrams.keep(copy, spans);
     Ok(())

@@ -42,7 +42,7 @@ fn lent(span: &[u8]) -> LentMessage<'_, u16>
 
 impl Store {
     /// An entry's delivery.
-    fn lend<'b>(&'b self, content: &'b Content) -> LentDelivery<'b>
+    pub(crate) fn lend<'b>(&'b self, content: &'b Content) -> LentDelivery<'b>
         requires { IsReadable self.now.datagrams content.now }
         ensures { IsLent (delivery_of (span_bytes self.now.datagrams) content.now) result }
     {

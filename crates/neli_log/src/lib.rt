@@ -4,7 +4,7 @@
 //! - [`Places`]: the entries, each stored once, and a place among them for each list that waits; [`Entry`], [`Route`].
 //! - [`Datagrams`]: each datagram, stored once, as long as a [`Span`] names a part of it.
 //! - [`laws`]: `==` of routes and of spans is equality.
-//! - [`LentDelivery`]: the first delivery that waits, lent in place by [`Log::lend_first`].
+//! - [`LentDelivery`]: the first delivery that waits, lent in place by [`Log::lend_first`]; [`Ahead`]: all of them.
 //!
 //! A datagram's bytes are copied once, and a message is a span of them. An entry of the log is such a span or a fault,
 //! with the route that was decided on arrival; each open number, and multicast until it is closed, has a place among
@@ -29,10 +29,11 @@
 //! `specs/Routes.antt` defines the receivers of entries; `specs/Places.antt` and `specs/Spans.antt` what the fields of
 //! `Places` and `Datagrams` hold; `specs/Contents.antt` the delivery of an entry, `specs/Routed.antt` the routes of a datagram's deliveries,
 //! `specs/Log.antt` what the fields hold, `specs/Next.antt` and `specs/Staged.antt` the reading of a datagram, step by
-//! step, and `specs/Lending.antt` what is lent.
+//! step, `specs/Lending.antt` what is lent, and `specs/Ahead.antt` what waits from a place on.
 #![tactic(auto)]
 
 mod adding;
+mod ahead;
 mod chains;
 mod content;
 mod counts;
@@ -54,6 +55,7 @@ mod span;
 mod staging;
 mod store;
 
+pub use ahead::Ahead;
 pub use datagrams::Datagrams;
 pub use entry::{Entry, Route};
 pub use lending::LentDelivery;

@@ -16,7 +16,7 @@ use crate::places::Places;
 
 impl<T: Drop> Places<T> {
     /// The position of the entry for all numbers with this serial number.
-    fn shared_position(&self, passed: u64) -> Option<u64>
+    pub(crate) fn shared_position(&self, passed: u64) -> Option<u64>
         requires { self.now.shared_base ≤ passed }
         ensures { result ≡ slice_get (map (λ s. s.at) self.now.shared.items)
             (passed - self.now.shared_base) }

@@ -62,7 +62,7 @@ impl<T: Drop> Places<T> {
     }
 
     #[inline]
-    fn place(&self, whose: Option<u32>) -> Option<Place>
+    pub(crate) fn place(&self, whose: Option<u32>) -> Option<Place>
         ensures { result ≡ place_of self.now whose }
     {
         match whose {

@@ -1,5 +1,7 @@
 //! Spans, and the datagrams that they name.
 
+use smallvec::SmallVec;
+
 /// The bytes from `start` up to `end` of the datagram with this serial number.
 #[derive(Clone, Copy, Debug, PartialEq, Eq)]
 pub struct Span {
@@ -11,9 +13,12 @@ pub struct Span {
     pub end: usize,
 }
 
+/// The bytes of a datagram. As many as an acknowledgement has take no memory of their own.
+pub type Bytes = SmallVec<u8, 40>;
+
 /// A datagram, and the number of its spans that remain.
 #[derive(Drop)]
 pub(crate) struct Datagram {
-    pub(crate) bytes: Vec<u8>,
+    pub(crate) bytes: Bytes,
     pub(crate) spans: usize,
 }

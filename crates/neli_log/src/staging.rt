@@ -94,6 +94,7 @@ fn stage_message(
 
 /// Adds the entry of the fault that ends a datagram, if it has a receiver.
 fn stage_fault(
+    alloc: Global,
     places: &Places<Content>,
     fault: DeError,
     entries: &mut Vec<Entry<Content>>,
@@ -105,8 +106,9 @@ fn stage_fault(
         entries.new.items at ([], None)) }
 {
     if places.has_reader(Route::Numbers) {
+        let fault = Box::new(alloc, SocketError::De(fault))?;
         entries.push(Entry {
-            item: Content::Fault(SocketError::De(fault)),
+            item: Content::Fault(fault),
             route: Route::Numbers,
         })?;
     }
@@ -196,7 +198,7 @@ pub(crate) fn staged(
 {
     let (mut entries, fault) = stage_messages(alloc, port, places, serial, bytes, groups)?;
     if let Some(fault) = fault {
-        stage_fault(places, fault, &mut entries)?;
+        stage_fault(alloc, places, fault, &mut entries)?;
     }
     Ok(entries)
 }

@@ -208,9 +208,10 @@ impl Store {
         if !self.places.has_reader(Route::Numbers) {
             return Ok(());
         }
+        let fault = Box::new(self.alloc, error)?;
         self.places.reserve(1)?;
         self.places.push(Entry {
-            item: Content::Fault(error),
+            item: Content::Fault(fault),
             route: Route::Numbers,
         });
         Ok(())

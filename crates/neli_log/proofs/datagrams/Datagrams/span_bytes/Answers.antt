@@ -23,7 +23,7 @@ part-requires-clause-within c =
     let here = slice_get_read d.list.items (length d.list.items)
     (c.args.s.datagram - d.first) c.index-datagram.result.now refl w.3 c.index-datagram.ensures in
     let same = same_read d.list.items (c.args.s.datagram - d.first) w.0 c.index-datagram.result.now w.1 here in
-    rw (c.deref.ensures.value, ← same) w.5
+    rw (c.as_slice.ensures, ← same) w.5
 
 pub returns : goal.returns
 returns c =
@@ -31,5 +31,5 @@ returns c =
     let w = span_in d.first d.list.items r.0 r.1 c.args.s r.2 r.3 in
     let here = slice_get_read d.list.items (length d.list.items)
     (c.args.s.datagram - d.first) c.index-datagram.result.now refl w.3 c.index-datagram.ensures in
-    text_read c.args.s d.list.items (c.args.s.datagram - d.first) c.index-datagram.result.now c.deref.result.now here
-    c.deref.ensures.value c.part.ensures
+    text_read c.args.s d.list.items (c.args.s.datagram - d.first) c.index-datagram.result.now c.as_slice.result.now here
+    c.as_slice.ensures c.part.ensures

@@ -1,4 +1,5 @@
-use Rattle.std.proofs.Common.{◌∙◌, ◌++◌, ◌∷◌, [], ap, arith, option_map, sym}
+use Rattle.std.proofs.Common.{◌∙◌, ◌++◌, ◌∷◌, [], ap, arith, option_map, refl, sym}
+use Rattle.neli_deliveries.specs.declared.delivery.Delivery.TheVariants as delivery
 use Rattle.neli_log.specs.declared.entry.Entry.{Entry}
 use Rattle.neli_log.specs.declared.entry.Route.TheVariants as route
 use Rattle.neli_log.specs.declared.content.Content.{Content}
@@ -29,19 +30,20 @@ returns-then-not-has_reader-clause-ok c = λ w.
 pub returns-clause-ok : goal.returns-clause-ok
 returns-clause-ok c = λ w.
     let s = c.args.self.now in
-    let e : Entry Content = record { item = content.Fault c.args.error; route = route.Numbers } in
-    fault_pending (span_bytes s.datagrams) w c.args.error (pending_of s.places w) (pending_of c.push.new.self w)
+    let e : Entry Content = record { item = content.Fault c.in_ok-fault.fault; route = route.Numbers } in
+    fault_pending (span_bytes s.datagrams) w (content.Fault c.in_ok-fault.fault) c.args.error (pending_of s.places w)
+    (pending_of c.push.new.self w) (ap (λ x. delivery.Fault x) c.in_ok-fault.ensures.ok)
     (sym c.would_block.ensures ∙ c.if-would_block.false)
     (c.push.ensures.more w ∙ ap (option_map (λ xs. xs ++ items_for w (e ∷ []))) (c.in_ok-reserve.ensures.same w))
 
 pub returns-clause-log : goal.returns-clause-log
 returns-clause-log c =
     let s = c.args.self.now in
-    let e : Entry Content = record { item = content.Fault c.args.error; route = route.Numbers } in
+    let e : Entry Content = record { item = content.Fault c.in_ok-fault.fault; route = route.Numbers } in
     record {
       trimmed = c.push.ensures.trimmed;
-      backed = fault_backed s.datagrams (entries_of s.places) (entries_of c.push.new.self) c.args.error
-          (c.push.ensures.entries ∙ ap (λ es. es ++ e ∷ []) c.in_ok-reserve.ensures.entries) c.requires.backed;
+      backed = fault_backed s.datagrams (entries_of s.places) (entries_of c.push.new.self)
+          (content.Fault c.in_ok-fault.fault) refl (c.push.ensures.entries ∙ ap (λ es. es ++ e ∷ []) c.in_ok-reserve.ensures.entries) c.requires.backed;
     }
 
 pub returns-then-would_block-clause-kept : goal.returns-then-would_block-clause-kept
@@ -53,7 +55,7 @@ returns-then-not-has_reader-clause-kept c = ([], keeps_none c.args.self.now [])
 pub returns-clause-kept : goal.returns-clause-kept
 returns-clause-kept c =
     let s = c.args.self.now in
-    let e : Entry Content = record { item = content.Fault c.args.error; route = route.Numbers } in (
+    let e : Entry Content = record { item = content.Fault c.in_ok-fault.fault; route = route.Numbers } in (
       e ∷ [],
       record {
         entries = c.push.ensures.entries ∙ ap (λ es. es ++ e ∷ []) c.in_ok-reserve.ensures.entries;
