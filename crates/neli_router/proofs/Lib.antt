@@ -3,3 +3,4 @@ mod Sends
 mod Settling
 mod LentItems
 mod LentTypes
+mod Aheads

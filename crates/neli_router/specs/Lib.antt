@@ -6,3 +6,4 @@ pub mod Rule
 pub mod Sends
 pub mod Verdicts
 pub mod laws
+pub mod Ahead

@@ -146,6 +146,9 @@ impl<D: Deliveries> NlRouter<D> {
         ensures given_up { self.new.given_up.items
             ≡ still_open (D.pending self.new.deliveries) self.old.given_up.items }
     {
+        if self.given_up.is_empty() {
+            return;
+        }
         settle_each(&mut self.deliveries, &self.given_up, bytes);
         self.forget_closed();
     }

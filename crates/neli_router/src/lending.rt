@@ -124,7 +124,7 @@ fn last_item<'b>(
 }
 
 /// The item that is lent of a delivery.
-fn item_of<'b>(
+pub(crate) fn item_of<'b>(
     state: HandleState,
     delivery: LentDelivery<'b>,
 ) -> Result<LentMessage<'b, u16>, LentError<'b>>
@@ -204,7 +204,7 @@ fn item_verdict(ended: bool, item: &Result<LentMessage<'_, u16>, LentError<'_>>)
 
 /// What a step past a delivery changes.
 #[derive(Clone, Copy)]
-struct Step {
+pub(crate) struct Step {
     single: bool,
     ended: bool,
     last: bool,
@@ -230,7 +230,7 @@ impl Step {
 }
 
 /// The step past a delivery.
-fn step_past(state: HandleState, delivery: LentDelivery<'_>) -> Step
+pub(crate) fn step_past(state: HandleState, delivery: LentDelivery<'_>) -> Step
     ensures { result ≡ lent_step state.needs_ack (has_number state.number) state.single_given
         delivery.entry }
 {
@@ -253,7 +253,7 @@ fn step_past(state: HandleState, delivery: LentDelivery<'_>) -> Step
 }
 
 /// A handle's state after a step.
-fn state_after(state: HandleState, step: Step) -> HandleState
+pub(crate) fn state_after(state: HandleState, step: Step) -> HandleState
     ensures { result ≡ record state {
       single_given = state.single_given || step.single;
       ended = step.ended;

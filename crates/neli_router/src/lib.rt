@@ -6,15 +6,17 @@
 //! - [`Reply`]: what a read answers: an item, the end, or a wait.
 //! - [`Verdict`]: how an answer stands: whether what was given is all of it; [`verdict_of`] returns it of items in a list.
 //! - [`NlRouter::lend_next`] and [`NlRouter::pass`]: the same read of a router over a log, without a copy; [`LentReply`] is
-//!   what it answers.
+//!   what it answers. [`NlRouter::lend_items`] lends all that wait, one after the other ([`ItemsAhead`]).
 //! - [`laws`]: `==` of what is known of handles is equality, and a lent read is an owned one.
 //!
 //! `specs/Rule.antt` defines where a handle's answers end and what each read returns; `specs/Sends.antt` the bytes of a
 //! request, and the three causes that refuse it; `specs/Requests.antt` the two requests to the controller of generic
 //! netlink; `specs/Verdicts.antt` the verdict on an answer, and `specs/GivenUp.antt` what is kept of one that was given
-//! up; `specs/Lending.antt` what a lent read lends, and what passing it changes.
+//! up; `specs/Lending.antt` what a lent read lends, and what passing it changes; `specs/Ahead.antt` the same of items that
+//! are lent one after the other.
 #![tactic(auto)]
 
+mod ahead;
 mod given_up;
 mod handle;
 mod items;
@@ -27,6 +29,7 @@ mod router;
 mod rule;
 mod verdict;
 
+pub use ahead::ItemsAhead;
 pub use given_up::GivenUp;
 pub use handle::{HandleState, NlRouterReceiverHandle};
 pub use items::{filtered_of, verdict_of};

@@ -423,6 +423,8 @@ fn frame<ST: NlType, SP: ToBytes + Drop>(
         return Err(RouterError::Msg(MsgError::from_static(length_refusal())));
     };
     let mut bytes = Vec::new(alloc);
+    // Where this is refused, writing asks for room piece by piece.
+    let _ = bytes.reserve(message.padded_size());
     match message.to_bytes(&mut bytes) {
         Ok(()) => Ok(bytes),
         Err(error) => Err(SocketError::from(error).into()),
