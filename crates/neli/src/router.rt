@@ -8,7 +8,7 @@ pub mod synchronous {
         CtrlError, CtrlItem, find_genl_family, find_genl_family_and_group, find_nl_mcast_group,
         lookup_id, resolve_genl_family, resolve_nl_mcast_group,
     };
-    pub use neli_router::{LentError, LentReply, laws as laws_of_handles};
+    pub use neli_router::{ItemsAhead, LentError, LentReply, laws as laws_of_handles};
     pub use neli_runs::{
         Command, Deliveries, Delivery, GivenUp, HandleState, Heard, Loss, Missed, NlRouter,
         NlRouterReceiverHandle, Notice, OpenRun, Outcome, Reply, Verdict, filtered_of, laws, run,

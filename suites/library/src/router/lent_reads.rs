@@ -103,6 +103,77 @@ fn step(
     goes_on
 }
 
+/// Items lent one after the other are those of owned reads; a second walk gives the same, and the router stays.
+#[test]
+fn items_ahead_are_those_of_owned_reads(rt: HostRuntime) {
+    let alloc = rt.alloc();
+    for (row, flags, datagrams, _, _) in &ROWS {
+        let (mut lends, _multicast) = NlRouter::<Log>::new(alloc, 7);
+        let (mut reads, _multicast) = NlRouter::<Log>::new(alloc, 7);
+        let lent = request(&rt, alloc, &mut lends, *flags);
+        let mut read = request(&rt, alloc, &mut reads, *flags);
+        for text in *datagrams {
+            come(&rt, alloc, &mut lends, text);
+            come(&rt, alloc, &mut reads, text);
+        }
+        let kept = lends.deliveries().kept();
+        let mut items = lends.lend_items(&lent);
+        let mut goes_on = true;
+        while goes_on {
+            let owned = reads.next_typed::<u16, Buffer, _, _>(alloc, &mut read);
+            let owned = owned.expect(&rt, "memory");
+            for reply in [items.ahead().lend_next(), items.lend_next()] {
+                let same = match (reply, &owned) {
+                    (LentReply::Item(lent), Reply::Item(item)) => is_item(&rt, alloc, lent, item),
+                    (LentReply::End, Reply::End) => true,
+                    (LentReply::Waits, Reply::Waits) => true,
+                    _ => false,
+                };
+                assert_is_at(&rt, row, same, true);
+            }
+            goes_on = matches!(&owned, Reply::Item(_));
+        }
+        assert_is_at(&rt, row, lends.deliveries().kept(), kept);
+    }
+}
+
+/// What waits in a log for a number, lent one after the other: the deliveries that single reads give.
+#[test]
+fn deliveries_ahead_are_those_that_wait(rt: HostRuntime) {
+    let alloc = rt.alloc();
+    for (row, flags, datagrams, _, _) in &ROWS {
+        let (mut router, _multicast) = NlRouter::<Log>::new(alloc, 7);
+        let mut handle = request(&rt, alloc, &mut router, *flags);
+        for text in *datagrams {
+            come(&rt, alloc, &mut router, text);
+        }
+        let number = handle.state().number;
+        let mut count = 0;
+        {
+            let mut ahead = router.deliveries().ahead(number).expect(&rt, "it is open");
+            while ahead.lend_next().is_some() {
+                count += 1;
+            }
+            assert_is_at(&rt, row, ahead.ahead().lend_next().is_none(), true);
+        }
+        assert_is_at(
+            &rt,
+            row,
+            router.deliveries().ahead(Some(4711)).is_none(),
+            true,
+        );
+        let mut read = 0;
+        while router.deliveries().lend_first(number).is_some() {
+            read += 1;
+            if handle.state().ended {
+                break;
+            }
+            router.pass(&mut handle);
+        }
+        assert_is_at(&rt, row, read <= count, true);
+    }
+}
+
 #[test]
 fn a_lent_read_is_an_owned_one(rt: HostRuntime) {
     let alloc = rt.alloc();
