@@ -2,3 +2,4 @@ mod Lines
 mod Messages
 mod Numerals
 mod Shown
+mod WrittenOut

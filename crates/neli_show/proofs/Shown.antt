@@ -1,10 +1,11 @@
 -- What a run writes of an input.
 use Rattle.std.proofs.Common.{◌≡◌, ℕ, suc, ◌+◌, ◌<◌, arith, List, [], ◌∷◌, ◌++◌, length, take}
 use Rattle.std.proofs.Common.{get_or, Option, Some, None, IfSome, append-nil, ap, subst, sym, ◌∙◌}
-use Rattle.std.proofs.KnownBytes.{Appends-trans}
+use Rattle.std.proofs.Output.{has_written_append, has_written_of_eq}
 use Rattle.std.proofs.Math.Seq.{take-suc}
 use Rattle.std.proofs.lemmas.Grind.{flat_map-append}
-use Rattle.std.specs.Io.KnownBytes.{Appends}
+use Rattle.std.specs.declared.fmt.Formatter.{Formatter}
+use Rattle.std.specs.Fmt.{HasWritten, IsPlainFormatter}
 use Rattle.std.specs.List.{flat_map}
 use Rattle.neli_tables_walk.specs.Json.{AreLines, AreSoManyLines}
 use Rattle.neli_show.specs.declared.request.Output.{Output}
@@ -64,11 +65,13 @@ pub input-json : (input : List ℕ) (old new : Option (List ℕ)) → WritesInpu
 input-json input old new written =
     (written.3.0, written.3.1, (input_lines written.0 written.1, written.3.2))
 
--- the texts of the parts so far are written, and then that of one more
-pub appends_part : {X : Type 0} (f : X → List ℕ) (xs : List X) (i : ℕ) (d : X)
-    (a b c : Option (List ℕ))
-    → i < length xs → Appends a b (flat_map f (take i xs)) → Appends b c (f (get_or xs i d))
-    → Appends a c (flat_map f (take (i + 1) xs))
-appends_part f xs i d a b c less before part =
-    subst (λ (text : List ℕ). Appends a c text) (sym (flat-take f xs i d less))
-    (Appends-trans a b c _ _ before part)
+-- the parts so far are printed, and one more
+pub printed_part : {X W : Type 0} (took : W → List ℕ → W → Type 0) (start f g : Formatter W)
+    (text : X → List ℕ) (parts : List X) (i : ℕ) (d : X) → i < length parts
+    → (IsPlainFormatter start → HasWritten took start (flat_map text (take i parts)) f)
+    → (IsPlainFormatter f → HasWritten took f (text (get_or parts i d)) g)
+    → IsPlainFormatter start → HasWritten took start (flat_map text (take (i + 1) parts)) g
+printed_part took start f g text parts i d less so_far prints plain =
+    let before = so_far plain in
+    has_written_of_eq took start _ _ g (sym (flat-take text parts i d less))
+    (has_written_append took start _ f _ g before (prints before.plain))

@@ -1,4 +1,5 @@
 pub mod Families
+pub mod Gathered
 pub mod Learnt
 pub mod Lines
 pub mod Numbers

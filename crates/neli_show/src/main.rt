@@ -8,10 +8,12 @@
 //!   command line.
 //! - [`learn`]: the numbers of generic netlink's families, from a word ([`family`]) and from the
 //!   controller's messages.
-//! - [`part`]: a part of the input, as it is printed. [`whole`]: whether all of it is messages.
+//! - [`part`]: a part of the input, as it is printed. [`gathered`]: what is printed, written by pieces
+//!   of many bytes. [`whole`]: whether all of it is messages.
 #![tactic(auto)]
 
 mod family;
+mod gathered;
 mod learn;
 mod part;
 mod request;
@@ -20,12 +22,8 @@ mod whole;
 
 use crate::run::run;
 use std::env::Env;
-use std::io::BufWriter;
 use std::process::ExitCode;
 use std::{env, io};
-
-/// How many bytes are written at once, where there is memory for so many.
-const OUTPUT: usize = 65536;
 
 /// The words after the program's name.
 fn arguments<R: Env + AllocGlobal>(rt: &R) -> io::Result<Vec<String>> {
@@ -36,16 +34,12 @@ fn arguments<R: Env + AllocGlobal>(rt: &R) -> io::Result<Vec<String>> {
 fn main(rt: HostRuntime) -> ExitCode {
     let words = arguments(&rt);
     let alloc = rt.alloc();
-    // Without memory for a buffer each piece of a line is written by itself.
-    let status = match BufWriter::with_capacity(alloc, OUTPUT, rt.stdout()) {
-        Ok(mut out) => run(alloc, &words, &mut rt.stdin(), &mut out, &mut rt.stderr()),
-        Err(_) => run(
-            alloc,
-            &words,
-            &mut rt.stdin(),
-            &mut rt.stdout(),
-            &mut rt.stderr(),
-        ),
-    };
+    let status = run(
+        alloc,
+        &words,
+        &mut rt.stdin(),
+        &mut rt.stdout(),
+        &mut rt.stderr(),
+    );
     ExitCode::from(status.code())
 }

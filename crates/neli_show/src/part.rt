@@ -1,13 +1,14 @@
 //! A part of an input, as it is printed.
 
 ghost use Rattle.std.specs.Prelude.{◌≡◌, Some};
-ghost use Rattle.neli_show.specs.Parts.{datagram_by, packet_bytes, part_by, refusal_by};
+ghost use Rattle.neli_show.specs.Parts.{datagram_by, input_by, packet_bytes, part_by, refusal_by};
 
 use crate::request::Output;
-use neli_print::inputs::{Item, Packet, Refusal};
+use neli_print::inputs::{Input, Item, Packet, Refusal};
 use neli_print::{Colour, Datagram, DatagramJson, DatagramText, escape};
 use neli_tables::Tables;
 use std::fmt;
+use std::fmt::Display;
 
 /// The bytes of a datagram of an input.
 pub fn packet_bytes<'a>(bytes: &'a [u8], packet: &Packet) -> &'a [u8]
@@ -32,21 +33,21 @@ impl fmt::Display for Printed<'_, '_, '_> {
         match self.output {
             Output::Json => {
                 let json = DatagramJson(datagram);
-                write!(f, "{json}")
+                Display::fmt(&json, f)
             }
             Output::Text => {
                 let text = DatagramText {
                     is_coloured: false,
                     datagram,
                 };
-                write!(f, "{text}")
+                Display::fmt(&text, f)
             }
             Output::Colour => {
                 let text = DatagramText {
                     is_coloured: true,
                     datagram,
                 };
-                write!(f, "{text}")
+                Display::fmt(&text, f)
             }
         }
     }
@@ -104,7 +105,7 @@ impl fmt::Display for Part<'_, '_, '_> {
                     bytes: packet_bytes(self.bytes, &packet),
                 };
                 let printed = Printed { output, datagram };
-                write!(f, "{printed}")
+                Display::fmt(&printed, f)
             }
             Err(refusal) => {
                 let place = self.item.place;
@@ -113,8 +114,40 @@ impl fmt::Display for Part<'_, '_, '_> {
                     place,
                     refusal,
                 };
-                write!(f, "{refused}")
+                Display::fmt(&refused, f)
             }
         }
+    }
+}
+
+/// The parts of an input, in order.
+#[derive(Clone, Copy)]
+pub struct Parts<'i, 'w, 't> {
+    /// The form.
+    pub output: Output,
+    /// The tables that they are read by.
+    pub tables: &'w Tables<'t>,
+    /// The protocol of datagrams for which the input states none.
+    pub protocol: u16,
+    /// The input.
+    pub input: &'i Input,
+}
+
+impl fmt::Display for Parts<'_, '_, '_> {
+    ghost output = { λ p. Some (input_by p.output p.tables.now p.protocol
+        p.input.now.bytes.items p.input.now.items.items) };
+
+    fn fmt<W: fmt::Write>(&self, f: &mut fmt::Formatter<W>) -> fmt::Result {
+        for item in &self.input.items {
+            let part = Part {
+                output: self.output,
+                tables: self.tables,
+                protocol: self.protocol,
+                bytes: &self.input.bytes,
+                item,
+            };
+            Display::fmt(&part, f)?;
+        }
+        Ok(())
     }
 }

@@ -13,16 +13,17 @@ ghost use Rattle.neli_show.specs.Runs.{last_word};
 ghost use Rattle.neli_show.specs.Runs.{printed_status, status_code, unread_status};
 ghost use Rattle.neli_tables_walk.specs.Json.{AreLines};
 
+use crate::gathered::print;
 use crate::learn::{learn_input, learn_word};
-use crate::part::Part;
+use crate::part::Parts;
 use crate::request::{Output, Request, request_of};
 use crate::whole::is_whole_input;
 use neli_print::inputs::{Input, read_input};
 use neli_tables::{ReadError, Tables};
 use neli_tables_walk::built_in;
 use std::alloc::Global;
-use std::io;
 use std::io::{ErrorKind, Read, Write};
+use std::{fmt, io};
 
 /// How a run ended.
 #[derive(Clone, Copy, Debug, PartialEq, Eq)]
@@ -77,26 +78,26 @@ fn print_input<W: Write>(
     tables: &Tables<'_>,
     request: Request,
     input: &Input,
-) -> io::Result<()>
+) -> fmt::Result
     ensures { OnOk result (Appends (W.contents out.old) (W.contents out.new)
         (input_by request.output tables.now request.protocol input.now.bytes.items
         input.now.items.items)) }
 {
-    for item in &input.items {
-        let part = Part {
-            output: request.output,
-            tables,
-            protocol: request.protocol,
-            bytes: &input.bytes,
-            item,
-        };
-        write!(out, "{part}")?;
+    let parts = Parts {
+        output: request.output,
+        tables,
+        protocol: request.protocol,
+        input,
+    };
+    print(out, parts)?;
+    match out.flush() {
+        Ok(()) => Ok(()),
+        Err(_) => Err(fmt::Error),
     }
-    out.flush()
 }
 
 /// The status of a run that printed its input, which is messages alone or not; or of one whose output failed.
-fn status_of(printed: io::Result<()>, is_whole: bool) -> Status
+fn status_of(printed: fmt::Result, is_whole: bool) -> Status
     ensures ok { IsOk printed → result ≡ printed_status is_whole }
     ensures err { IsErr printed → result ≡ Status.NoOutput }
 {
