@@ -91,6 +91,18 @@ int32_t neli_host_send_all(struct neli_host *host, const struct neli_host_reques
  * lost, if the next item that is read is this handle's. */
 int32_t neli_host_next(struct neli_host *host, size_t handle, struct neli_message *message);
 
+/* Lends the next item of a handle where the router keeps it, as neli_router_lend does, and may wait for datagrams. It
+ * returns what `neli_host_next` does, but copies no byte, takes no memory for the item, and leaves it the next one:
+ * `lent` with its bytes stays until the next call of this host. An error message for NELI_MULTICAST is an item. A loss
+ * for NELI_MULTICAST counts as read when it is returned. NELI_HANDLE for NELI_HOST_UNASKED; NELI_MEMORY while
+ * `neli_host_next` has an item of this handle for which memory ran out, which it returns when it is called again. */
+int32_t neli_host_lend(struct neli_host *host, size_t handle, struct neli_lent *lent);
+
+/* Goes on to a handle's next item, so that the one before counts as read; where none waits nothing changes. Both kinds
+ * of reads may take turns. NELI_HANDLE if the handle is not open. NELI_MEMORY only for NELI_MULTICAST, at a message
+ * that is an error or cannot be read, and then nothing changes. */
+int32_t neli_host_pass(struct neli_host *host, size_t handle);
+
 /* Reports the verdict on the answer to a request, by the items read from it: whether `neli_host_next` returned all of
  * it. A code of `neli_router_verdict`, whose words hold here; NELI_WAITS also if there was no memory yet for the item
  * that was read last. Call it before the handle is closed. */

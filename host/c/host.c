@@ -342,18 +342,60 @@ int32_t neli_host_verdict(struct neli_host *host, size_t handle, struct neli_ver
     return neli_router_verdict(&host->router, handle, verdict);
 }
 
+/* Takes in the next datagram, or waits for one. */
+static int32_t wait_for_more(struct neli_host *host, int64_t end) {
+    int32_t code = take_in(host);
+    if (code != NELI_WAITS) return code;
+    code = link_wait(&host->link, end);
+    return code == NELI_LINK ? failed(host, host->link.fault) : code;
+}
+
 int32_t neli_host_next(struct neli_host *host, size_t handle, struct neli_message *message) {
     int64_t end = link_end_of_wait(&host->link);
     for (;;) {
         int32_t code = read_now(host, handle, message);
         if (code != NELI_WAITS) return code;
-        code = take_in(host);
-        if (code == NELI_WAITS) {
-            code = link_wait(&host->link, end);
-            if (code == NELI_LINK) return failed(host, host->link.fault);
-        }
+        code = wait_for_more(host, end);
         if (code != NELI_OK) return code;
     }
+}
+
+/* ---- What is lent ---- */
+
+/* Lends the next item of a handle. An error message to groups is an item as any other. */
+static int32_t lend_now(struct neli_host *host, size_t handle, struct neli_lent *lent) {
+    int fault = handle == NELI_MULTICAST ? take_loss(&host->heard) : 0;
+    if (fault != 0) return failed(host, fault);
+    int32_t code = neli_router_lend(&host->router, handle, lent);
+    if (code == NELI_LINK) return failed(host, host->last_fault);
+    return handle == NELI_MULTICAST && code == NELI_KERNEL_ERROR ? NELI_ITEM : code;
+}
+
+int32_t neli_host_lend(struct neli_host *host, size_t handle, struct neli_lent *lent) {
+    int64_t end = link_end_of_wait(&host->link);
+    if (host->is_taken && host->taken == handle) return NELI_MEMORY;
+    for (;;) {
+        int32_t code = lend_now(host, handle, lent);
+        if (code != NELI_WAITS) return code;
+        code = wait_for_more(host, end);
+        if (code != NELI_OK) return code;
+    }
+}
+
+/* Goes past the next message for groups. One that would end the handle is read by the listener, who goes on. */
+static int32_t pass_multicast(struct neli_host *host) {
+    struct neli_lent lent;
+    int32_t code = neli_router_lend(&host->router, NELI_MULTICAST, &lent);
+    if (code == NELI_HANDLE) return code;
+    if (code == NELI_ITEM) neli_router_pass(&host->router, NELI_MULTICAST);
+    else if (code != NELI_WAITS) code = read_router(host, NELI_MULTICAST);
+    if (code == NELI_MEMORY) return code;
+    if (has_read(code)) host->heard.read++;
+    return NELI_OK;
+}
+
+int32_t neli_host_pass(struct neli_host *host, size_t handle) {
+    return handle == NELI_MULTICAST ? pass_multicast(host) : neli_router_pass(&host->router, handle);
 }
 
 /* ---- A picture ---- */

@@ -16,9 +16,11 @@ import ctypes
 import errno
 import os
 import struct
+import weakref
 
 __all__ = [
-    "NetlinkError", "NetlinkSocket", "Reply", "Verdict", "Message", "Attribute", "nla", "messages", "version", "stamp",
+    "NetlinkError", "NetlinkSocket", "Reply", "Verdict", "Message", "Lent", "Attribute", "nla", "messages", "version",
+    "stamp",
 ]  # and the constants below
 
 # linux/netlink.h, linux/rtnetlink.h, linux/if_link.h, linux/if_addr.h
@@ -57,6 +59,10 @@ class _Message(ctypes.Structure):
     _fields_ = [("length", ctypes.c_uint32), ("type", ctypes.c_uint16), ("flags", ctypes.c_uint16),
                 ("number", ctypes.c_uint32), ("port", ctypes.c_uint32),
                 ("payload", ctypes.c_size_t), ("payload_length", ctypes.c_size_t)]
+
+
+class _Lent(ctypes.Structure):
+    _fields_ = [("message", _Message), ("bytes", ctypes.c_void_p), ("length", ctypes.c_size_t), ("error", ctypes.c_int32)]
 
 
 class _Attribute(ctypes.Structure):
@@ -107,6 +113,8 @@ def _library():
         "neli_host_send": (i32, [pointer, u16, u16, ctypes.c_char_p, size, pointer]),
         "neli_host_send_all": (i32, [pointer, pointer, size, pointer]),
         "neli_host_next": (i32, [pointer, size, pointer]),
+        "neli_host_lend": (i32, [pointer, size, pointer]),
+        "neli_host_pass": (i32, [pointer, size]),
         "neli_host_verdict": (i32, [pointer, size, pointer]),
         "neli_host_close_request": (i32, [pointer, size]),
         "neli_host_item": (pointer, [pointer]),
@@ -163,7 +171,7 @@ class Attribute:
         return f"Attribute({self.number}, {self.payload!r})"
 
     def __bytes__(self):
-        return self.payload
+        return bytes(self.payload)
 
     def _number(self, form):
         size = struct.calcsize(form)
@@ -185,7 +193,7 @@ class Attribute:
 
     def text(self):
         """The text before the first zero byte; bytes that are no UTF-8 are kept, as os.fsdecode keeps them."""
-        text, zero, _ = self.payload.partition(b"\0")
+        text, zero, _ = bytes(self.payload).partition(b"\0")
         if not zero:
             raise ValueError(f"attribute {self.number} is no text: no zero byte ends it")
         return os.fsdecode(text)
@@ -204,16 +212,20 @@ def _first(attributes, number):
 
 
 def _attributes(data, start, end):
+    return [Attribute(it.number, it.flags, data[it.payload : it.payload + it.payload_length])
+            for it in _places(data, start, end)]
+
+
+def _places(data, start, end):
+    """The attributes in these bytes, by their places."""
     walk, room, count = _Walk(start, end), (_Attribute * 32)(), ctypes.c_size_t()
-    found = []
     while True:
         code = _lib.neli_c_next_attributes(data, len(data), ctypes.byref(walk), room, len(room), ctypes.byref(count))
         if code == END:
-            return found
+            return
         if code != ITEM:
             raise ValueError(_text_of(code))
-        for it in room[: count.value]:
-            found.append(Attribute(it.number, it.flags, data[it.payload : it.payload + it.payload_length]))
+        yield from room[: count.value]
 
 
 class Message:
@@ -238,8 +250,8 @@ class Message:
         """Whether the kernel marked it: the listed objects changed meanwhile."""
         return bool(self.flags & NLM_F_DUMP_INTR)
 
-    def attrs(self, header_size=None):
-        """The attributes after the body's header, which has 4 bytes in generic netlink and else its type's size."""
+    def _start(self, header_size):
+        """Where the attributes begin in the payload."""
         if header_size is None:
             header_size = 4 if self.family not in (None, NETLINK_ROUTE) else _HEADERS.get(self.type & ~3)
         if header_size is None:
@@ -247,11 +259,71 @@ class Message:
         start = (header_size + 3) & ~3
         if start > len(self.payload):
             raise ValueError(_text_of(SHORT))
-        return _attributes(self.payload, start, len(self.payload))
+        return start
+
+    def attrs(self, header_size=None):
+        """The attributes after the body's header, which has 4 bytes in generic netlink and else its type's size."""
+        return _attributes(self.payload, self._start(header_size), len(self.payload))
 
     def get_attr(self, number, header_size=None):
         """The first attribute with this number, or None."""
         return _first(self.attrs(header_size), number)
+
+
+class _LentAttribute(Attribute):
+    """An attribute of a lent message."""
+
+    def __init__(self, of, number, flags, start, end):
+        super().__init__(number, flags, of._view(start, end))
+        self._of, self._place = of, (start, end)
+
+    def attrs(self):
+        return self._of._attributes(*self._place)
+
+
+class Lent(Message):
+    """A message where the library keeps it: its `payload`, and those of its attributes, are views that copy nothing.
+
+    They stay until the next call of the socket, which releases them: a view that is used later raises a ValueError.
+    Where a slice or another object of yours still shows the bytes then, the call raises a BufferError and does nothing,
+    so that no view ever shows freed memory: release it, and make the same call again. `bytes(lent.payload)` is a copy.
+    """
+
+    def __init__(self, lent, family, keeps):
+        read = lent.message
+        self.type, self.flags, self.sequence_number, self.port = read.type, read.flags, read.number, read.port
+        self.family, self._read, self._views = family, read, []
+        self._memory = (ctypes.c_char * lent.length).from_address(lent.bytes)
+        self._memory.keeps = keeps  # as long as a view shows it
+        self.payload = self._view(0, lent.length)
+
+    def _view(self, start, end):
+        if self._memory is None:
+            raise ValueError("the message is no longer lent")
+        if start == end:
+            return memoryview(b"")
+        self._views.append(memoryview(self._memory).cast("B").toreadonly()[start:end])
+        return self._views[-1]
+
+    def _attributes(self, start, end):
+        if self._memory is None:
+            raise ValueError("the message is no longer lent")
+        return [_LentAttribute(self, it.number, it.flags, it.payload, it.payload + it.payload_length)
+                for it in _places(self._memory, start, end)]
+
+    def attrs(self, header_size=None):
+        """The attributes after the body's header, as of any message."""
+        return self._attributes(self._start(header_size), len(self.payload))
+
+    def _release(self):
+        """Ends all views of it; BufferError if something else still shows its bytes."""
+        for view in self._views:
+            view.release()
+        if self._memory is not None:
+            shown, self._memory = weakref.ref(self._memory), None
+            self._memory = shown()
+        if self._memory is not None:
+            raise BufferError("a slice of a lent message is still held: release it before the next call")
 
 
 def messages(data, family=None):
@@ -311,19 +383,33 @@ class Reply:
     def __next__(self):
         while self._handle is not None:
             code, message = self._sock._next(self._handle)
-            if code == ITEM and message.type not in (NLMSG_ERROR, NLMSG_DONE):
+            if self._gives(code, message):
                 return message
-            if code == END:
-                verdict = self.verdict()
-                self.close()
-                if not verdict.is_complete:
-                    raise self._sock._error(verdict.code, abs(verdict.error))
-            elif code != ITEM:
-                error = self._sock._error(code)
-                if not (code == LINK and error.code in (errno.EAGAIN, errno.ECANCELED)):
-                    self.close()
-                raise error
         raise StopIteration
+
+    def _gives(self, code, message):
+        """Whether what was read is given; raises what is to be raised in its place, and closes the answer at its end."""
+        if code == ITEM:
+            return message.type not in (NLMSG_ERROR, NLMSG_DONE)
+        if code == END:
+            verdict = self.verdict()
+            self.close()
+            if not verdict.is_complete:
+                raise self._sock._error(verdict.code, abs(verdict.error))
+            return False
+        error = self._sock._error(code)
+        if not (code == LINK and error.code in (errno.EAGAIN, errno.ECANCELED)):
+            self.close()
+        raise error
+
+    def lent(self):
+        """As the iterator, but each message is a Lent: nothing is copied. The next step ends what is lent."""
+        while self._handle is not None:
+            code, message = self._sock._lend(self._handle)
+            if code == KERNEL_ERROR:
+                code, message = self._sock._next(self._handle)  # copied, for its words
+            if self._gives(code, message):
+                yield message
 
     def verdict(self):
         """Whether the answer is complete; for a closed one the last known verdict."""
@@ -344,7 +430,7 @@ class NetlinkSocket:
     """A socket of a netlink family, in these multicast groups, which delivers each reply to its request."""
 
     def __init__(self, family=NETLINK_ROUTE, groups=()):
-        self.family, self._at, self._said = family, None, None
+        self.family, self._at, self._said, self._lent = family, None, None, None
         self._open(groups)
 
     def _open(self, groups):
@@ -364,6 +450,7 @@ class NetlinkSocket:
         self._open(groups)
 
     def close(self):
+        self._end_lent()
         at, self._at = self._at, None
         if at:
             _lib.neli_host_close(at)
@@ -421,19 +508,50 @@ class NetlinkSocket:
             raise self._error(code)
 
     def _verdict(self, handle, said):
+        self._end_lent()
         return _lib.neli_host_verdict(self._at, handle, said)
 
     def _close_request(self, handle):
+        self._end_lent()
         _lib.neli_host_close_request(self._at, handle)
 
-    def _next(self, handle):
-        """The next item of a handle. A signal's handler runs, and the wait continues if it raises nothing."""
+    def _wait_in(self, call, handle, read):
+        """The code of a call that reads. A signal's handler runs, and the wait continues if it raises nothing."""
         while True:
-            read = _Message()
-            code = _lib.neli_host_next(self._opened(), handle, ctypes.byref(read))
+            code = call(self._opened(), handle, ctypes.byref(read))
             if code != LINK or _lib.neli_host_fault(self._at) != errno.EINTR:
-                break
-        self._said = None
+                return code
+
+    def _lend_into(self, handle, lent):
+        return self._wait_in(_lib.neli_host_lend, handle, lent)
+
+    def _lend(self, handle):
+        """The next item of a handle, lent until the next call, which goes on to the one after it."""
+        lent = _Lent()
+        self._end_lent()
+        code, self._said = self._lend_into(handle, lent), None
+        if code != ITEM:
+            return code, None
+        message = Lent(lent, self.family, self)
+        self._lent = handle, message
+        return code, message
+
+    def _end_lent(self):
+        """Ends what is lent, before each call that may change what the library keeps."""
+        if self._lent:
+            handle, message = self._lent
+            message._release()
+            self._lent = None
+            self._pass(handle)
+
+    def _pass(self, handle):
+        _lib.neli_host_pass(self._at, handle)
+
+    def _next(self, handle):
+        """The next item of a handle."""
+        read = _Message()
+        self._end_lent()
+        code, self._said = self._wait_in(_lib.neli_host_next, handle, read), None
         if code in (ITEM, KERNEL_ERROR):
             data = ctypes.string_at(_lib.neli_host_item(self._at), _lib.neli_host_item_length(self._at))
             self._said = Message(data, read, self.family)
@@ -442,6 +560,7 @@ class NetlinkSocket:
     def request(self, msg_type, msg_flags=NLM_F_ACK, body=b""):
         """Sends a request, and returns its Reply. `body` is the header of its type, and attributes of `nla`."""
         handle, body = ctypes.c_size_t(), bytes(body)
+        self._end_lent()
         self._well(_lib.neli_host_send(self._opened(), msg_type, msg_flags, body, len(body), ctypes.byref(handle)))
         return Reply(self, handle.value)
 
@@ -453,6 +572,7 @@ class NetlinkSocket:
         requests = [_Request(kind, flags, bytes(body), len(body)) for kind, flags, body in requests]
         handles = (ctypes.c_size_t * max(1, len(requests)))()
         array = (_Request * max(1, len(requests)))(*requests)
+        self._end_lent()
         self._well(_lib.neli_host_send_all(self._opened(), array, len(requests), handles))
         return [Reply(self, it) for it in handles[: len(requests)]]
 
@@ -478,4 +598,13 @@ class NetlinkSocket:
         code, message = self._next(MULTICAST)
         if code == ITEM:
             return message
+        raise self._error(code)
+
+    def get_lent(self):
+        """As `get`, but the message is a Lent: nothing is copied, and the next call ends what is lent."""
+        code, message = self._lend(MULTICAST)
+        if code == ITEM:
+            return message
+        if code < 0 and code != LINK:
+            self._pass(MULTICAST)
         raise self._error(code)

@@ -54,6 +54,8 @@ def _library():
         "neli_c_router_send": [pointer, u16, u16, *slice_of, *room],
         "neli_c_router_datagram": [pointer, *slice_of, pointer, size],
         "neli_c_router_read": [pointer, size, pointer],
+        "neli_c_router_lend": [pointer, size, pointer],
+        "neli_c_router_pass": [pointer, size],
         "neli_c_router_listen": [pointer, pointer],
         "neli_c_router_item": [pointer, *room],
         "neli_c_router_verdict": [pointer, size, pointer],
@@ -163,17 +165,20 @@ class SimulatedSocket(neli.NetlinkSocket):
 
     def __init__(self, serve, family=neli.NETLINK_ROUTE, port=4711):
         self.family, self._said, self._serve, self._port, self._router = family, None, serve, port, _Opaque()
+        self._lent = None
         self._at = ctypes.byref(self._router)
         self._well(_lib.neli_c_router_new(self._at, port))
 
     port = property(lambda self: self._port)
 
     def close(self):
+        self._end_lent()
         _lib.neli_c_router_free(ctypes.byref(self._router))
         self._at = None
 
     def request(self, msg_type, msg_flags=NLM_F_ACK, body=b""):
         body, sent, out = bytes(body), _Sent(), ctypes.create_string_buffer(len(body) + 32)
+        self._end_lent()
         self._well(_lib.neli_c_router_send(self._opened(), msg_type, msg_flags, body, len(body), out, len(out),
                                            ctypes.byref(sent)))
         for request in requests(out.raw[: sent.length], self._port):
@@ -184,15 +189,25 @@ class SimulatedSocket(neli.NetlinkSocket):
     def deliver(self, datagram, group=0):
         """Has a datagram come to a group, as `notification` makes one; or to the port, where it is 0."""
         groups = ctypes.c_uint32(group)
+        self._end_lent()
         self._well(_lib.neli_c_router_datagram(self._opened(), datagram, len(datagram), ctypes.byref(groups), 1))
 
     def _verdict(self, handle, said):
+        self._end_lent()
         return _lib.neli_c_router_verdict(self._at, handle, said)
 
     def _close_request(self, handle):
+        self._end_lent()
         _lib.neli_c_router_give_up(self._at, handle)
 
+    def _lend_into(self, handle, lent):
+        return _lib.neli_c_router_lend(self._opened(), handle, ctypes.byref(lent))
+
+    def _pass(self, handle):
+        _lib.neli_c_router_pass(self._at, handle)
+
     def _next(self, handle):
+        self._end_lent()
         item, read, self._said = _Item(), neli._Message(), None
         words = [ctypes.byref(item)] if handle == MULTICAST else [handle, ctypes.byref(item)]
         read_one = _lib.neli_c_router_listen if handle == MULTICAST else _lib.neli_c_router_read

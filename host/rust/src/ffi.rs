@@ -105,6 +105,16 @@ pub struct Item {
     pub error: i32,
 }
 
+/// `struct neli_lent`. Its pointer is not null.
+#[repr(C)]
+#[derive(Clone, Copy, Debug)]
+pub struct RawLent {
+    pub message: Message,
+    bytes: *const u8,
+    length: usize,
+    error: i32,
+}
+
 /// `struct neli_verdict`.
 #[repr(C)]
 #[derive(Clone, Copy, Debug, Default)]
@@ -176,6 +186,8 @@ unsafe extern "C" {
     fn neli_c_router_read(router: *mut RawRouter, handle: usize, item: *mut Item) -> i32;
     fn neli_c_router_listen(router: *mut RawRouter, item: *mut Item) -> i32;
     fn neli_c_router_item(router: *mut RawRouter, out: *mut u8, room: usize, length: *mut usize) -> i32;
+    fn neli_c_router_lend(router: *mut RawRouter, handle: usize, lent: *mut RawLent) -> i32;
+    fn neli_c_router_pass(router: *mut RawRouter, handle: usize) -> i32;
     fn neli_c_router_verdict(router: *mut RawRouter, handle: usize, verdict: *mut Verdict) -> i32;
     fn neli_c_router_close(router: *mut RawRouter, handle: usize) -> i32;
 }
@@ -234,12 +246,16 @@ pub fn end_message(out: &mut [u8], writer: &Writer) -> i32 {
     unsafe { neli_c_end_message(out.as_mut_ptr(), out.len(), writer) }
 }
 
-/// A router of the library that is open until it is dropped. Each call is `&mut`, so that no two overlap.
+/// A router of the library that is open until it is dropped. Each call is `&mut`, so that no two overlap, and forgets
+/// what is lent, so that it is read only until then.
 #[derive(Debug)]
-pub struct Router(RawRouter);
+pub struct Router {
+    raw: RawRouter,
+    lent: Option<RawLent>,
+}
 
 // SAFETY: the state is memory of the C library's heap, which any thread may use and free, and the library keeps nothing
-// of a thread. It is reached by `&mut` alone.
+// of a thread. It is reached by `&mut` alone, and what is lent of it by a borrow of the router.
 unsafe impl Send for Router {}
 
 impl Router {
@@ -249,15 +265,21 @@ impl Router {
         // SAFETY: all bytes of a closed router are zero, and the library keeps nothing of its address, so that it may
         // be moved afterwards; it is neither `Copy` nor `Clone`.
         match unsafe { neli_c_router_new(&mut raw, port) } {
-            END => Ok(Router(raw)),
+            END => Ok(Router { raw, lent: None }),
             code => Err(code),
         }
+    }
+
+    /// The router for a call, which ends what is lent.
+    fn raw(&mut self) -> &mut RawRouter {
+        self.lent = None;
+        &mut self.raw
     }
 
     /// Sets the sequence number of the next request.
     pub fn set_number(&mut self, number: u32) -> i32 {
         // SAFETY: the router is open, and borrowed exclusively.
-        unsafe { neli_c_router_set_number(&mut self.0, number) }
+        unsafe { neli_c_router_set_number(self.raw(), number) }
     }
 
     /// A request with this body, written into `out`.
@@ -265,7 +287,7 @@ impl Router {
         // SAFETY: the router is open, and borrowed exclusively; each pointer and its length are those of one slice, and
         // that of `out` is exclusive, so they are apart.
         unsafe {
-            neli_c_router_send(&mut self.0, kind, flags, body.as_ptr(), body.len(), out.as_mut_ptr(), out.len(), sent)
+            neli_c_router_send(self.raw(), kind, flags, body.as_ptr(), body.len(), out.as_mut_ptr(), out.len(), sent)
         }
     }
 
@@ -273,50 +295,75 @@ impl Router {
     pub fn datagram(&mut self, bytes: &[u8], groups: &[u32]) -> i32 {
         // SAFETY: the router is open, and borrowed exclusively; each pointer and its length are those of one slice.
         // The library copies what it keeps.
-        unsafe { neli_c_router_datagram(&mut self.0, bytes.as_ptr(), bytes.len(), groups.as_ptr(), groups.len()) }
+        unsafe { neli_c_router_datagram(self.raw(), bytes.as_ptr(), bytes.len(), groups.as_ptr(), groups.len()) }
     }
 
     /// Takes in a fault of the socket.
     pub fn fault(&mut self, error_number: i32) -> i32 {
         // SAFETY: the router is open, and borrowed exclusively.
-        unsafe { neli_c_router_fault(&mut self.0, error_number) }
+        unsafe { neli_c_router_fault(self.raw(), error_number) }
     }
 
     /// Reads the next item of a handle.
     pub fn read(&mut self, handle: usize, item: &mut Item) -> i32 {
         // SAFETY: the router is open, and borrowed exclusively, as `item` is.
-        unsafe { neli_c_router_read(&mut self.0, handle, item) }
+        unsafe { neli_c_router_read(self.raw(), handle, item) }
     }
 
     /// Reads what comes to groups next.
     pub fn listen(&mut self, item: &mut Item) -> i32 {
         // SAFETY: the router is open, and borrowed exclusively, as `item` is.
-        unsafe { neli_c_router_listen(&mut self.0, item) }
+        unsafe { neli_c_router_listen(self.raw(), item) }
     }
 
     /// The bytes of the item that was read last.
     pub fn item(&mut self, out: &mut [u8], length: &mut usize) -> i32 {
         // SAFETY: the router is open, and borrowed exclusively; pointer and length are those of one exclusive slice.
-        unsafe { neli_c_router_item(&mut self.0, out.as_mut_ptr(), out.len(), length) }
+        unsafe { neli_c_router_item(self.raw(), out.as_mut_ptr(), out.len(), length) }
+    }
+
+    /// Lends the next item of a handle: `lent` gives it, until the next call.
+    pub fn lend(&mut self, handle: usize) -> i32 {
+        let empty: &'static [u8] = &[];
+        let mut lent = RawLent { message: Message::default(), bytes: empty.as_ptr(), length: 0, error: 0 };
+        // SAFETY: the router is open, and borrowed exclusively, as `lent` is, whose pointer is not null. What is
+        // written there is kept as long as no other call is made.
+        let code = unsafe { neli_c_router_lend(self.raw(), handle, &mut lent) };
+        self.lent = matches!(code, ITEM | KERNEL_ERROR).then_some(lent);
+        code
+    }
+
+    /// The item that the last call has lent, if it was `lend` and there was one: its header, and its payload.
+    pub fn lent(&self) -> Option<(&Message, &[u8])> {
+        let lent = self.lent.as_ref()?;
+        // SAFETY: the library keeps these bytes until the next call of the router, which takes `&mut self`, and each
+        // sets `lent` to none before. So they stay while this borrow of the router does.
+        Some((&lent.message, unsafe { std::slice::from_raw_parts(lent.bytes, lent.length) }))
+    }
+
+    /// Goes on to the next item of a handle.
+    pub fn pass(&mut self, handle: usize) -> i32 {
+        // SAFETY: the router is open, and borrowed exclusively.
+        unsafe { neli_c_router_pass(self.raw(), handle) }
     }
 
     /// How the answer to the request of a handle stands.
     pub fn verdict(&mut self, handle: usize, verdict: &mut Verdict) -> i32 {
         // SAFETY: the router is open, and borrowed exclusively, as `verdict` is.
-        unsafe { neli_c_router_verdict(&mut self.0, handle, verdict) }
+        unsafe { neli_c_router_verdict(self.raw(), handle, verdict) }
     }
 
     /// Closes a handle.
     pub fn close(&mut self, handle: usize) -> i32 {
         // SAFETY: the router is open, and borrowed exclusively.
-        unsafe { neli_c_router_close(&mut self.0, handle) }
+        unsafe { neli_c_router_close(self.raw(), handle) }
     }
 }
 
 impl Drop for Router {
     fn drop(&mut self) {
         // SAFETY: the router is open, and nobody uses it afterwards.
-        unsafe { neli_c_router_free(&mut self.0) };
+        unsafe { neli_c_router_free(self.raw()) };
     }
 }
 

@@ -2,7 +2,7 @@
 
 use super::kernel::{RawDump, Request};
 use super::tables::{Named, RawTables};
-use super::{Answer, Attribute, Item, Message, RawRouter, Sent, Verdict, Walk, Writer};
+use super::{Answer, Attribute, Item, Message, RawLent, RawRouter, Sent, Verdict, Walk, Writer};
 use std::mem::offset_of;
 
 const HEADER: &str = include_str!(env!("NELI_FILE_NELI_H"));
@@ -49,6 +49,7 @@ fn rust_type(c: &str) -> String {
         "struct neli_writer" => "Writer",
         "struct neli_sent" => "Sent",
         "struct neli_item" => "Item",
+        "struct neli_lent" => "RawLent",
         "struct neli_verdict" => "Verdict",
         "struct neli_router" => "RawRouter",
         "struct neli_request" => "Request",
@@ -110,6 +111,7 @@ fn structs_are_laid_out_as_in_c() {
         (size_of::<Writer>(), 16),
         (size_of::<Sent>(), 16),
         (size_of::<Item>(), 16),
+        (size_of::<RawLent>(), 56),
         (size_of::<Verdict>(), 8),
         (size_of::<RawRouter>(), 16),
         (size_of::<Request>(), 48),
@@ -124,6 +126,7 @@ fn structs_are_laid_out_as_in_c() {
     assert_eq!((offset_of!(Attribute, number), offset_of!(Attribute, payload)), (4, 8));
     assert_eq!((offset_of!(Answer, echo_number), offset_of!(Answer, attributes)), (12, 24));
     assert_eq!((offset_of!(Item, number), offset_of!(Item, error)), (4, 12));
+    assert_eq!((offset_of!(RawLent, bytes), offset_of!(RawLent, length), offset_of!(RawLent, error)), (32, 40, 48));
     assert_eq!(offset_of!(Verdict, filtered), 4);
     assert_eq!(offset_of!(RawRouter, state), 8);
     assert_eq!((offset_of!(Request, port), offset_of!(Request, wants_echo)), (32, 40));

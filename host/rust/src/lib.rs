@@ -36,6 +36,7 @@ pub mod consts;
 pub mod err;
 mod ffi;
 pub mod genl;
+pub mod lent;
 pub mod link;
 pub mod nl;
 pub mod recording;

@@ -5,7 +5,9 @@ use super::verdict::Verdict;
 use crate::consts::nl::NlmF;
 use crate::err::{RouterError, SocketError, refused};
 use crate::ffi;
+use crate::lent::LentMessage;
 use crate::link::{Arrived, Link};
+use crate::types::Buffer;
 use std::collections::{HashMap, VecDeque};
 use std::io;
 use std::ops::Range;
@@ -101,6 +103,14 @@ impl Losses {
 /// What comes of a read.
 pub(super) enum Step {
     Item(Vec<u8>),
+    Error(RouterError),
+    End,
+    Waits,
+}
+
+/// What comes of a lend. `lent` gives an item.
+pub(super) enum Lend {
+    Item,
     Error(RouterError),
     End,
     Waits,
@@ -479,6 +489,60 @@ impl State {
                 ffi::LINK | ffi::OVERRUN => {}
                 code => return code,
             }
+        }
+    }
+
+    // ---- What is lent
+
+    /// Lends the next item of a handle, which stays there. An error in its place is passed.
+    pub(super) fn lend(&mut self, handle: usize) -> Lend {
+        if let (MULTICAST, Some(fault)) = (handle, self.losses.as_mut().and_then(Losses::next)) {
+            return Lend::Error(fault.error());
+        }
+        match self.router.lend(handle) {
+            ffi::ITEM => Lend::Item,
+            ffi::KERNEL_ERROR if handle == MULTICAST => Lend::Item,
+            ffi::WAITS => Lend::Waits,
+            ffi::END => Lend::End,
+            code => {
+                let error = self.lent_error(code);
+                Lend::Error(self.pass(handle).err().unwrap_or(error))
+            }
+        }
+    }
+
+    /// The item that was lent by the last call.
+    pub(super) fn lent(&self) -> Option<LentMessage<'_>> {
+        self.router.lent().map(|(head, payload)| LentMessage::new(head, payload))
+    }
+
+    /// Goes past the next item of a handle. To groups, one that would end the handle is read by the listener, who goes
+    /// on.
+    pub(super) fn pass(&mut self, handle: usize) -> Result<(), RouterError> {
+        if handle != MULTICAST {
+            self.router.pass(handle);
+            return Ok(());
+        }
+        let is_read = match self.router.lend(MULTICAST) {
+            ffi::ITEM => self.router.pass(MULTICAST) == ffi::END,
+            ffi::WAITS | ffi::HANDLE => false,
+            _ => match self.listen(&mut ffi::Item::default()) {
+                ffi::MEMORY => return Err(RouterError::Memory),
+                code => matches!(code, ffi::ITEM | ffi::SHORT | ffi::LENGTH | ffi::BYTES),
+            },
+        };
+        if let (true, Some(losses)) = (is_read, &mut self.losses) {
+            losses.read += 1;
+        }
+        Ok(())
+    }
+
+    /// The error of a lend, by its code: that of the kernel is what is lent.
+    fn lent_error(&self, code: i32) -> RouterError {
+        match self.lent().map(|it| it.to_nlmsghdr::<u16, Buffer>()) {
+            Some(Ok(message)) => message.into_err().map_or_else(|| self.error(code), RouterError::Nlmsgerr),
+            Some(Err(error)) => error.into(),
+            None => self.error(code),
         }
     }
 

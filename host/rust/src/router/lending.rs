@@ -1,0 +1,175 @@
+//! A router that lends: each item is read where the library keeps it, and no byte is copied.
+
+use super::state::{Lend, MULTICAST, State};
+use super::verdict::Verdict;
+use crate::ToBytes;
+use crate::consts::nl::NlmF;
+use crate::consts::socket::NlFamily;
+use crate::err::RouterError;
+use crate::lent::LentMessage;
+use crate::link::Link;
+use crate::nl::{NlPayload, NlType};
+use crate::socket::synchronous::{NlSocketHandle, Wait};
+use crate::utils::Groups;
+use std::sync::Arc;
+
+/// A router of one owner, over a link of its own, which is a socket where nothing else is said.
+///
+/// An item borrows the router, so the compiler refuses a call while it is held:
+///
+/// ```compile_fail,E0499
+/// # use neli::err::RouterError;
+/// # use neli::router::lending::{LendingHandle, LendingRouter};
+/// fn keep(router: &mut LendingRouter, links: &LendingHandle) -> Result<usize, RouterError> {
+///     let link = router.lend_next(links)?;
+///     router.pass(links)?;
+///     Ok(link.map_or(0, |it| it.nl_payload().len()))
+/// }
+/// ```
+///
+/// The same in the other order is built:
+///
+/// ```
+/// # use neli::err::RouterError;
+/// # use neli::router::lending::{LendingHandle, LendingRouter};
+/// fn keep(router: &mut LendingRouter, links: &LendingHandle) -> Result<usize, RouterError> {
+///     let length = router.lend_next(links)?.map_or(0, |it| it.nl_payload().len());
+///     router.pass(links)?;
+///     Ok(length)
+/// }
+/// ```
+#[derive(Debug)]
+pub struct LendingRouter<L = NlSocketHandle> {
+    state: State,
+    link: Arc<L>,
+}
+
+/// What the items of one request are lent by, or what comes to the router's groups. It is of one router, and says
+/// nothing to another one. What still comes for one that is not closed is kept until the router is dropped.
+#[derive(Debug)]
+pub struct LendingHandle {
+    handle: usize,
+    number: Option<u32>,
+}
+
+impl LendingRouter {
+    /// A router over a new socket, and the handle of what comes to its groups. Refused where the system gives no such
+    /// socket, or memory runs out.
+    pub fn connect(family: NlFamily, port: Option<u32>, groups: Groups) -> Result<(Self, LendingHandle), RouterError> {
+        Self::over(NlSocketHandle::connect(family, port, groups)?)
+    }
+}
+
+impl<L: Link + 'static> LendingRouter<L> {
+    /// A router over a link, which nobody else receives from, and the handle of what comes to its groups. Refused where
+    /// memory runs out.
+    ///
+    /// ```
+    /// use neli::consts::nl::NlmF;
+    /// use neli::consts::rtnl::{Ifa, RtAddrFamily, RtScope, Rtm};
+    /// use neli::consts::socket::NlFamily;
+    /// use neli::nl::NlPayload;
+    /// use neli::recording::Recording;
+    /// use neli::router::lending::LendingRouter;
+    /// use neli::rtnl::IfaddrmsgBuilder;
+    ///
+    /// # fn main() -> Result<(), Box<dyn std::error::Error>> {
+    /// let file = include_bytes!("../../tests/recordings/addresses.pcap");
+    /// let (mut router, _multicast) = LendingRouter::over(Recording::from_pcap(file, NlFamily::Route)?)?;
+    /// let all = IfaddrmsgBuilder::default()
+    ///     .ifa_family(RtAddrFamily::Inet)
+    ///     .ifa_prefixlen(0)
+    ///     .ifa_scope(RtScope::Universe)
+    ///     .ifa_index(0)
+    ///     .build()?;
+    /// let addresses = router.send(Rtm::Getaddr, NlmF::DUMP, NlPayload::Payload(all))?;
+    /// let mut labels = String::new();
+    /// while let Some(message) = router.lend_next(&addresses)? {
+    ///     if message.nl_type() == u16::from(Rtm::Newaddr) {
+    ///         // struct ifaddrmsg has 8 bytes.
+    ///         if let Some(label) = message.get_attrs(8)?.get_attribute(Ifa::Label)? {
+    ///             labels += label.get_str()?;
+    ///             labels.push(' ');
+    ///         }
+    ///     }
+    ///     router.pass(&addresses)?;
+    /// }
+    /// assert_eq!(labels, "lo veth0 veth0:x veth2 veth2 br0 ");
+    /// # Ok(())
+    /// # }
+    /// ```
+    pub fn over(link: L) -> Result<(Self, LendingHandle), RouterError> {
+        let link = Arc::new(link);
+        let state = State::new(Arc::clone(&link) as Arc<dyn Link>)?;
+        Ok((LendingRouter { state, link }, LendingHandle { handle: MULTICAST, number: None }))
+    }
+
+    /// The link.
+    pub fn link(&self) -> &L {
+        &self.link
+    }
+
+    /// Sends a request, and gives the handle of its items. A dump goes out when the one before has ended, and what
+    /// comes of that waits at its handle.
+    ///
+    /// Refused where the body can't be written, as `SeqInUse` where an answer with its number may still come, where the
+    /// link refuses to send it, and where memory runs out.
+    pub fn send<T: NlType, P: ToBytes>(
+        &mut self,
+        nl_type: T,
+        nl_flags: NlmF,
+        nl_payload: NlPayload<T, P>,
+    ) -> Result<LendingHandle, RouterError> {
+        let body = nl_payload.body()?;
+        self.state.settle(nl_flags.contains(NlmF::DUMP))?;
+        let (bytes, number, handle) = self.state.request(nl_type.into(), nl_flags, &body)?;
+        if let Err(error) = self.link.send(&bytes) {
+            self.state.take_back(number);
+            return Err(error.into());
+        }
+        Ok(LendingHandle { handle, number: Some(number) })
+    }
+
+    /// Lends the next item of a handle, until the next call of the router; none after the last. It waits until one
+    /// comes. The item stays the next one until [`pass`](LendingRouter::pass). Of what comes to groups there is no last
+    /// one, and an error message to them is an item.
+    ///
+    /// Where the kernel refuses a request, and where something is lost or can't be read, that is an error in an item's
+    /// place, and is passed. Refused also where the wait is over, where memory runs out, and as `ClosedChannel` where
+    /// the handle is not open.
+    pub fn lend_next(&mut self, handle: &LendingHandle) -> Result<Option<LentMessage<'_>>, RouterError> {
+        let wait = Wait::begin(self.link.limit());
+        loop {
+            match self.state.lend(handle.handle) {
+                Lend::Item => return Ok(self.state.lent()),
+                Lend::Error(error) => return Err(error),
+                Lend::End => return Ok(None),
+                Lend::Waits => {}
+            }
+            if !self.state.receive()? {
+                self.link.wait(wait.left()?)?;
+            }
+        }
+    }
+
+    /// Goes on to a handle's next item; where none waits nothing changes.
+    ///
+    /// Refused as `Memory` alone, at an error message to groups, and then it stays the next one.
+    pub fn pass(&mut self, handle: &LendingHandle) -> Result<(), RouterError> {
+        self.state.pass(handle.handle)
+    }
+
+    /// How the answer to the request of a handle stands, by the items that were passed: whether that is all. Of what
+    /// comes to groups it is always `Pending`.
+    pub fn verdict(&mut self, handle: &LendingHandle) -> Verdict {
+        handle.number.map_or(Verdict::Pending, |_| self.state.verdict(handle.handle).0)
+    }
+
+    /// Closes a handle. What still comes for its request is nobody's then, and is not kept.
+    pub fn close(&mut self, handle: LendingHandle) {
+        match handle.number {
+            Some(number) => self.state.give_up(number),
+            None => self.state.close(MULTICAST),
+        }
+    }
+}
