@@ -4,6 +4,7 @@ mod Digits
 mod Lists
 mod Neighbours
 pub mod Offsets
+mod Visited
 mod Walks
 pub mod Attributes
 pub mod BodyTexts

@@ -23,4 +23,5 @@ pub mod Plains
 pub mod Quoted
 pub mod Structures
 pub mod Values
+pub mod Visited
 pub mod laws

@@ -148,6 +148,7 @@ fn write_row_name<W: fmt::Write>(
 }
 
 /// Prints the name of a field after a blank.
+#[inline(always)]
 fn write_name<W: fmt::Write>(
     row: &Line<'_>,
     kept: Option<&str>,
@@ -162,6 +163,7 @@ fn write_name<W: fmt::Write>(
 }
 
 /// Prints the name of a member as a string, after what stands before it, and the colon behind it.
+#[inline(always)]
 fn write_key<W: fmt::Write>(
     before: &str,
     row: &Line<'_>,

@@ -1,6 +1,7 @@
 //! What a walk gives.
 
 ghost use Rattle.std.specs.Prelude.{◌≡◌, []};
+ghost use Rattle.neli_tables_walk.specs.Visited.{parts_of};
 
 use crate::Shape;
 use crate::level::MAX_DEPTH;
@@ -72,4 +73,27 @@ pub struct Item<'b> {
     pub path: Path,
     /// What stands there.
     pub content: Result<Found<'b>, Rest<'b>>,
+}
+
+/// An item without its path.
+#[derive(Debug, Drop)]
+pub struct Visit<'b> {
+    /// How many lists it stands in, each in a nest of the one before.
+    pub lists: usize,
+    /// The attribute or the hop itself; `None` where it is what is left behind those of a list.
+    pub step: Option<Step>,
+    /// What stands there.
+    pub content: Result<Found<'b>, Rest<'b>>,
+}
+
+impl Visit<'_> {
+    /// How many parts its path has.
+    pub(crate) fn parts(&self) -> usize
+        ensures { result ≡ parts_of self.now }
+    {
+        match self.content {
+            Ok(_) => self.lists,
+            Err(_) => self.lists.saturating_sub(1),
+        }
+    }
 }

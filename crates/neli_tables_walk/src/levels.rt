@@ -1,19 +1,20 @@
 //! The lists that a walk is in.
 
 ghost use Rattle.std.specs.Prelude.{◌≡◌, ◌≢◌, ◌-◌, ◌<◌, ◌≤◌, [], ◌∷◌, ◌++◌, Ok, Err, None, Some};
-ghost use Rattle.std.specs.Prelude.{IsNone, length, map};
+ghost use Rattle.std.specs.Prelude.{IfSome, IsNone, length, map, take};
 ghost use Rattle.std.specs.Option.{option_map};
 ghost use Rattle.arrayvec.specs.ArrayVec.{array_vec_len};
 ghost use Rattle.neli_tables_walk.specs.Elements.{element_at, element_seen};
 ghost use Rattle.neli_tables_walk.specs.Shapes.{context_seen, listed_seen, onto};
-ghost use Rattle.neli_tables_walk.specs.Walks.{closed, inner_items, item_seen, list_of};
+ghost use Rattle.neli_tables_walk.specs.Visited.{item_at, next_at, parts_of, visit_seen, visited};
+ghost use Rattle.neli_tables_walk.specs.Walks.{closed, inner_items, list_of};
 ghost use Rattle.neli_tables_walk.specs.Walks.{listed_bytes, nested_bytes};
 ghost use Rattle.neli_tables_walk.specs.Walks.{next_item, open_items, shape_in, sort_in, step_of};
 ghost use Rattle.neli_tables_walk.specs.Walks.{walked};
 
 use crate::element::{Element, take_element};
 use crate::level::{Level, Listed, MAX_DEPTH, Sort};
-use crate::{Context, Found, Item, Nest, Path, Rest, Shape, Step};
+use crate::{Context, Found, Item, Nest, Path, Rest, Shape, Step, Visit};
 use arrayvec::ArrayVec;
 use neli_wire::{DeError, alignto};
 
@@ -25,12 +26,34 @@ pub struct Levels<'b, 'w, 't> {
 }
 
 impl<'b, 'w, 't> Levels<'b, 'w, 't> {
-    /// The next item: of the innermost list that has something left.
+    /// The next item, with its path.
     pub fn take_item(&mut self) -> Option<Item<'b>>
         ensures context { self.new.context ≡ self.old.context }
         ensures items { open_items (context_seen self.old.context) [] [] self.old.open.items
             ≡ next_item result
             (open_items (context_seen self.old.context) [] [] self.new.open.items) }
+        ensures end { IsNone result
+            → open_items (context_seen self.new.context) [] [] self.new.open.items ≡ [] }
+    {
+        let visit = self.take_visit()?;
+        let levels = self.open.as_slice();
+        prove!(levels.len() <= MAX_DEPTH);
+        let path = path_to(&levels[..visit.parts()]);
+        Some(Item {
+            path,
+            content: visit.content,
+        })
+    }
+
+    /// The next item without its path: of the innermost list that has something left.
+    pub fn take_visit(&mut self) -> Option<Visit<'b>>
+        ensures context { self.new.context ≡ self.old.context }
+        ensures items { open_items (context_seen self.old.context) [] [] self.old.open.items
+            ≡ next_at result self.new.open.items
+            (open_items (context_seen self.old.context) [] [] self.new.open.items) }
+        ensures visit { IfSome result (λ v. visited (item_at v self.new.open.items)
+            ≡ visit_seen v) }
+        ensures parts { IfSome result (λ v. parts_of v ≤ length self.new.open.items) }
         ensures end { IsNone result
             → open_items (context_seen self.new.context) [] [] self.new.open.items ≡ [] }
     {
@@ -45,14 +68,16 @@ impl<'b, 'w, 't> Levels<'b, 'w, 't> {
     }
 
     /// The next item of a list that was taken out as the innermost, and is put back.
-    fn advance(&mut self, level: Level<'b>) -> Item<'b>
+    fn advance(&mut self, level: Level<'b>) -> Visit<'b>
         requires room { array_vec_len self.old.open < MAX_DEPTH }
         requires some { level.rest.now ≢ [] }
         ensures context { self.new.context ≡ self.old.context }
-        ensures items { item_seen result
+        ensures items { item_at result self.new.open.items
             ∷ open_items (context_seen self.old.context) [] [] self.new.open.items
             ≡ open_items (context_seen self.old.context) [] []
             (self.old.open.items ++ level.entry ∷ []) }
+        ensures visit { visited (item_at result self.new.open.items) ≡ visit_seen result }
+        ensures parts { parts_of result ≤ length self.new.open.items }
     {
         match take_element(&level.list.sort, level.rest) {
             Ok((element, rest)) => self.give_element(level, element, rest),
@@ -61,53 +86,59 @@ impl<'b, 'w, 't> Levels<'b, 'w, 't> {
     }
 
     /// What is left of a list, which then has nothing left.
-    fn give_rest(&mut self, level: Level<'b>, error: DeError) -> Item<'b>
+    fn give_rest(&mut self, level: Level<'b>, error: DeError) -> Visit<'b>
         requires room { array_vec_len self.old.open < MAX_DEPTH }
         requires some { level.rest.now ≢ [] }
         requires fault { element_at level.list.sort level.rest.now ≡ Err error }
         ensures context { self.new.context ≡ self.old.context }
-        ensures items { item_seen result
+        ensures items { item_at result self.new.open.items
             ∷ open_items (context_seen self.old.context) [] [] self.new.open.items
             ≡ open_items (context_seen self.old.context) [] []
             (self.old.open.items ++ level.entry ∷ []) }
+        ensures visit { visited (item_at result self.new.open.items) ≡ visit_seen result }
+        ensures parts { parts_of result ≤ length self.new.open.items }
     {
-        let path = path_to(self.open.as_slice());
         self.open.push(Level { rest: &[], ..level });
         let bytes = level.rest;
-        Item {
-            path,
+        Visit {
+            lists: self.open.len(),
+            step: None,
             content: Err(Rest { bytes, error }),
         }
     }
 
     /// The element that is next in a list; if it is a nest, what it has comes next.
-    fn give_element(&mut self, level: Level<'b>, element: Element<'b>, rest: &'b [u8]) -> Item<'b>
+    fn give_element(&mut self, level: Level<'b>, element: Element<'b>, rest: &'b [u8]) -> Visit<'b>
         requires room { array_vec_len self.old.open < MAX_DEPTH }
         requires found { element_at level.list.sort level.rest.now
             ≡ Ok (element_seen element, rest.now) }
         ensures context { self.new.context ≡ self.old.context }
-        ensures items { item_seen result
+        ensures items { item_at result self.new.open.items
             ∷ open_items (context_seen self.old.context) [] [] self.new.open.items
             ≡ open_items (context_seen self.old.context) [] []
             (self.old.open.items ++ level.entry ∷ []) }
+        ensures visit { visited (item_at result self.new.open.items) ≡ visit_seen result }
+        ensures parts { parts_of result ≤ length self.new.open.items }
     {
         let payload = element.payload;
         let step = self.step_of(&level.list, &element);
-        let mut path = path_to(self.open.as_slice());
-        path.steps.push(step);
         let shape = self.shape_of(&level.list, &step, &element);
         self.open.push(Level {
             rest,
             inside: step,
             ..level
         });
+        let lists = self.open.len();
         let shape = self.enter(shape, payload);
-        let content = Ok(Found {
-            kind: element.kind,
-            payload,
-            shape,
-        });
-        Item { path, content }
+        Visit {
+            lists,
+            step: Some(step),
+            content: Ok(Found {
+                kind: element.kind,
+                payload,
+                shape,
+            }),
+        }
     }
 
     /// The part of a path that an element of this list is.
@@ -149,6 +180,9 @@ impl<'b, 'w, 't> Levels<'b, 'w, 't> {
     fn enter(&mut self, shape: Shape, payload: &'b [u8]) -> Shape
         requires { array_vec_len self.old.open ≤ MAX_DEPTH }
         ensures context { self.new.context ≡ self.old.context }
+        ensures kept { take (length self.old.open.items) self.new.open.items
+            ≡ self.old.open.items }
+        ensures more { length self.old.open.items ≤ length self.new.open.items }
         ensures full { array_vec_len self.old.open ≡ MAX_DEPTH
             → (result ≡ closed shape)
             × (open_items (context_seen self.old.context) [] [] self.new.open.items
@@ -231,10 +265,11 @@ pub fn nested_bytes<'b>(nest: &Nest, payload: &'b [u8]) -> &'b [u8]
     &payload[start..]
 }
 
-/// The path to the innermost of these lists. It is made where it stays: a path is long.
+/// The path to what was given last of the innermost of these lists. It is made where it stays: a
+/// path is long.
 #[inline(never)]
 fn path_to(levels: &[Level<'_>]) -> Path
-    requires { length levels.now < MAX_DEPTH }
+    requires { length levels.now ≤ MAX_DEPTH }
     ensures { result.steps.items ≡ map (λ l. l.inside) levels.now }
 {
     let mut steps = ArrayVec::new();

@@ -54,6 +54,7 @@ fn unsigned(bits: u64) -> Number
 }
 
 /// The number that bytes are by these options, if it is printed in decimal digits.
+#[inline(always)]
 pub fn digits_by(options: &Options, bytes: &[u8]) -> Option<Number>
     ensures text { IfSome result (λ n. (table : Lines) → value_text table options.now bytes.now
         ≡ codes " " ++ plain_number_json n) }
@@ -81,6 +82,7 @@ pub fn digits_by(options: &Options, bytes: &[u8]) -> Option<Number>
 }
 
 /// Prints a number in decimal digits. 0, the most frequent one, is one piece.
+#[inline(always)]
 pub fn write_digits<W: fmt::Write>(number: Number, f: &mut fmt::Formatter<W>) -> fmt::Result
     ensures { WritesOnOk W.Write.write_str_gives f.old result (plain_number_json number) f.new }
 {

@@ -3,11 +3,12 @@
 ghost use Rattle.std.specs.Prelude.{◌≡◌, [], List, IsNone};
 ghost use Rattle.std.specs.Iterator.{YieldsFirstBy, item_count};
 ghost use Rattle.neli_tables_walk.specs.Shapes.{context_seen};
+ghost use Rattle.neli_tables_walk.specs.Visited.{VisitsFirst};
 ghost use Rattle.neli_tables_walk.specs.Walks.{Seen, item_seen, next_item, open_items, walk_items};
 
 use crate::level::Sort;
 use crate::levels::{Levels, level_of, nested_bytes};
-use crate::{Context, Item, Nest};
+use crate::{Context, Item, Nest, Visit};
 use arrayvec::ArrayVec;
 use std::marker::Model;
 
@@ -43,6 +44,15 @@ impl<'b, 'w, 't> Walk<'b, 'w, 't> {
         }
     }
 
+    /// The same items without their paths, for which less is done.
+    pub fn visits(self) -> Visits<'b, 'w, 't>
+        ensures { result ≡ self.entry }
+    {
+        Visits {
+            levels: self.levels,
+        }
+    }
+
     /// The next item.
     pub(crate) fn step(&mut self) -> Option<Item<'b>>
         ensures items { self.old ≡ next_item result self.new }
@@ -60,6 +70,41 @@ impl<'b, 'w, 't> Iterator for Walk<'b, 'w, 't> {
     ghost remaining = { item_count (λ (items : List Seen). items) };
 
     fn next(&mut self) -> Option<Item<'b>> {
+        self.step()
+    }
+}
+
+/// The items of a walk without their paths.
+///
+/// An iterator, as [`Walk`]. Contracts see it as the items that are left.
+#[derive(Drop)]
+pub struct Visits<'b, 'w, 't> {
+    levels: Levels<'b, 'w, 't>,
+}
+
+impl<'b, 'w, 't> Model for Visits<'b, 'w, 't> {
+    ghost Value = { List Seen };
+
+    ghost view = { λ w. open_items (context_seen w.levels.context) [] [] w.levels.open.items };
+}
+
+impl<'b, 'w, 't> Visits<'b, 'w, 't> {
+    /// The next item.
+    fn step(&mut self) -> Option<Visit<'b>>
+        ensures { VisitsFirst self.old result self.new }
+    {
+        self.levels.take_visit()
+    }
+}
+
+impl<'b, 'w, 't> Iterator for Visits<'b, 'w, 't> {
+    type Item = Visit<'b>;
+
+    ghost next_gives = { VisitsFirst };
+
+    ghost remaining = { item_count (λ (items : List Seen). items) };
+
+    fn next(&mut self) -> Option<Visit<'b>> {
         self.step()
     }
 }

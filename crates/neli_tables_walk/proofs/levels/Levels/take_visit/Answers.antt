@@ -3,7 +3,7 @@ use Rattle.std.proofs.lemmas.Bool.{eqb-true}
 use Rattle.neli_tables_walk.specs.Shapes.{context_seen}
 use Rattle.neli_reader.specs.laws.Cuts.{empty_is}
 use Rattle.neli_tables_walk.proofs.Walks.{open-out}
-use Rattle.neli_tables_walk.proofs.levels.Levels.take_item.Goals as goal
+use Rattle.neli_tables_walk.proofs.levels.Levels.take_visit.Goals as goal
 
 pub advance-requires-clause-room : goal.advance-requires-clause-room
 advance-requires-clause-room c =

@@ -1,7 +1,7 @@
 use Rattle.std.proofs.Common.{◌≡◌, ◌≤◌, [], length}
 use Rattle.neli_tables_walk.specs.Walks.{open_items}
 use Rattle.neli_tables_walk.specs.Shapes.{context_seen}
-use Rattle.neli_tables_walk.proofs.levels.Levels.take_item.Given as goal
+use Rattle.neli_tables_walk.proofs.levels.Levels.take_visit.Given as goal
 
 abbrev pub decreases-loop-level : goal.decreases-loop-level
 decreases-loop-level l = length l.self.open.items
