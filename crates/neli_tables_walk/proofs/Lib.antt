@@ -1,6 +1,6 @@
 mod Around
 mod FieldRows
-mod Digits
+mod Pairs
 mod Lists
 mod Neighbours
 pub mod Offsets

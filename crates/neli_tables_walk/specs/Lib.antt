@@ -5,6 +5,7 @@ pub mod Walks
 pub mod Bodies
 pub mod Built
 pub mod Controller
+pub mod Digits
 pub mod Addresses
 pub mod Breaches
 pub mod Cells

@@ -15,7 +15,8 @@ use crate::cell::{Value, ValueJson, ValueText};
 use crate::field_bytes::field_bytes;
 use crate::name::Name;
 use crate::named::{NamedJson, NamedText};
-use crate::numbered::{digits_by, number_by, write_digits};
+use crate::number::NumberJson;
+use crate::numbered::{digits_by, number_by};
 use crate::plain::{Item, ItemJson, ItemText};
 use neli_tables::{Line, Options, Table};
 use std::fmt;
@@ -62,7 +63,7 @@ impl FieldPrinter for PrintsText {
     ) -> fmt::Result {
         if let Some(number) = digits_by(options, bytes) {
             f.write_str(" ")?;
-            return write_digits(number, f);
+            return Display::fmt(&NumberJson(number), f);
         }
         if let Some(number) = number_by(table, options, bytes) {
             f.write_str(" ")?;
@@ -86,7 +87,7 @@ impl FieldPrinter for PrintsJson {
         f: &mut fmt::Formatter<W>,
     ) -> fmt::Result {
         if let Some(number) = digits_by(options, bytes) {
-            return write_digits(number, f);
+            return Display::fmt(&NumberJson(number), f);
         }
         if let Some(number) = number_by(table, options, bytes) {
             return Display::fmt(&NamedJson(number), f);

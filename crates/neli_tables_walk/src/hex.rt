@@ -1,12 +1,32 @@
 //! Bytes as hexadecimal digits, and what is written with them.
 
-ghost use Rattle.std.specs.Prelude.{Some};
+ghost use Rattle.std.specs.Prelude.{◌≡◌, Some};
 ghost use Rattle.neli_tables_walk.specs.Hex.{address_text, byte_text, bytes_json, bytes_text};
 ghost use Rattle.neli_tables_walk.specs.Hex.{hardware_text};
 ghost use Rattle.neli_tables_walk.specs.Hex.{hex_text, later_hex_text, uuid_text};
 
 use std::fmt;
 use std::fmt::Display;
+
+/// Two hexadecimal digits for each byte from 0 to 255, one after the other.
+const HEX_PAIRS: &str = "\
+000102030405060708090a0b0c0d0e0f101112131415161718191a1b1c1d1e1f\
+202122232425262728292a2b2c2d2e2f303132333435363738393a3b3c3d3e3f\
+404142434445464748494a4b4c4d4e4f505152535455565758595a5b5c5d5e5f\
+606162636465666768696a6b6c6d6e6f707172737475767778797a7b7c7d7e7f\
+808182838485868788898a8b8c8d8e8f909192939495969798999a9b9c9d9e9f\
+a0a1a2a3a4a5a6a7a8a9aaabacadaeafb0b1b2b3b4b5b6b7b8b9babbbcbdbebf\
+c0c1c2c3c4c5c6c7c8c9cacbcccdcecfd0d1d2d3d4d5d6d7d8d9dadbdcdddedf\
+e0e1e2e3e4e5e6e7e8e9eaebecedeeeff0f1f2f3f4f5f6f7f8f9fafbfcfdfeff";
+
+/// The two hexadecimal digits of a byte.
+#[inline(always)]
+fn byte_text(byte: u8) -> &'static str
+    ensures { result.now ≡ byte_text byte }
+{
+    let at = byte as usize * 2;
+    &HEX_PAIRS[at..at + 2]
+}
 
 /// A byte as two hexadecimal digits.
 #[derive(Clone, Copy)]
@@ -16,8 +36,7 @@ impl fmt::Display for HexByte {
     ghost output = { λ b. Some (byte_text b.0) };
 
     fn fmt<W: fmt::Write>(&self, f: &mut fmt::Formatter<W>) -> fmt::Result {
-        let (high, low) = (self.0 / 16, self.0 % 16);
-        write!(f, "{high:x}{low:x}")
+        f.write_str(byte_text(self.0))
     }
 }
 

@@ -33,6 +33,7 @@
 //! - [`breach_of`]: how a payload cannot be of its kind. Such a payload is printed as bytes.
 //! - [`Name`], [`NameJson`]: a name that stands in a table. [`LineName`]: that of the line at a place.
 //! - [`number_in`]: the number that bytes are by its [`Width`]. [`without_zero`]: a text in bytes.
+//! - [`Decimal`], [`SignedDecimal`]: numbers in decimal digits.
 //! - [`Quoted`], [`Hex`], [`Hardware`], [`Bytes`], [`BytesJson`]: texts, bytes and hardware
 //!   addresses.
 //!
@@ -49,6 +50,7 @@ mod cell;
 mod chosen;
 mod context;
 mod controller;
+mod digits;
 mod element;
 mod field_bytes;
 mod fields;
@@ -80,6 +82,7 @@ pub use breach::{Breach, without_zero};
 pub use built::built_in;
 pub use context::Context;
 pub use controller::{first_payload, learn_from};
+pub use digits::{Decimal, SignedDecimal};
 pub use fields::{Fields, FieldsJson, FieldsText};
 pub use generic::{GENERIC_HEADER_SIZE, GenericHeader};
 pub use head::Head;

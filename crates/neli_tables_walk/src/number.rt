@@ -6,6 +6,7 @@ ghost use Rattle.neli_tables_walk.specs.Numbers.{plain_number_text};
 ghost use Rattle.neli_tables_walk.specs.Numbers.{width_of, width_with};
 ghost use Rattle.byteorder.specs.Endian.{big_number, little_number};
 
+use crate::digits::{Decimal, SignedDecimal};
 use byteorder::{BigEndian, ByteOrder, LittleEndian};
 use neli_tables::Kind;
 use std::fmt;
@@ -146,11 +147,10 @@ impl fmt::Display for NumberText {
 
     fn fmt<W: fmt::Write>(&self, f: &mut fmt::Formatter<W>) -> fmt::Result {
         let bits = self.number.bits;
-        match self.number.signed {
-            _ if self.is_hex => write!(f, "0x{bits:x}"),
-            Some(signed) => Display::fmt(&signed, f),
-            None => Display::fmt(&bits, f),
+        if self.is_hex {
+            return write!(f, "0x{bits:x}");
         }
+        Display::fmt(&NumberJson(self.number), f)
     }
 }
 
@@ -162,10 +162,9 @@ impl fmt::Display for NumberJson {
     ghost output = { λ n. Some (plain_number_json n.0) };
 
     fn fmt<W: fmt::Write>(&self, f: &mut fmt::Formatter<W>) -> fmt::Result {
-        let bits = self.0.bits;
         match self.0.signed {
-            Some(signed) => Display::fmt(&signed, f),
-            None => Display::fmt(&bits, f),
+            Some(signed) => Display::fmt(&SignedDecimal(signed), f),
+            None => Display::fmt(&Decimal(self.0.bits), f),
         }
     }
 }

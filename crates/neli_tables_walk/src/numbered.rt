@@ -1,7 +1,6 @@
 //! Payloads and fields that are one number.
 
 ghost use Rattle.std.specs.Prelude.{◌≡◌, ◌++◌, IfSome, None, codes};
-ghost use Rattle.std.specs.Fmt.{WritesOnOk};
 ghost use Rattle.neli_tables.specs.Families.{Lines};
 ghost use Rattle.neli_tables_walk.specs.Cells.{value_json, value_text};
 ghost use Rattle.neli_tables_walk.specs.Named.{number_json, number_text};
@@ -13,8 +12,6 @@ use crate::named::Named;
 use crate::number::{Number, number_in};
 use byteorder::{ByteOrder, LittleEndian};
 use neli_tables::{Kind, Options, Table};
-use std::fmt;
-use std::fmt::Display;
 
 /// The number that bytes are by these options, if they are one. As which it is printed needs no
 /// further look at its kind.
@@ -79,16 +76,4 @@ pub fn digits_by(options: &Options, bytes: &[u8]) -> Option<Number>
         },
         _ => return None,
     })
-}
-
-/// Prints a number in decimal digits. 0, the most frequent one, is one piece.
-#[inline(always)]
-pub fn write_digits<W: fmt::Write>(number: Number, f: &mut fmt::Formatter<W>) -> fmt::Result
-    ensures { WritesOnOk W.Write.write_str_gives f.old result (plain_number_json number) f.new }
-{
-    match number.signed {
-        Some(signed) => Display::fmt(&signed, f),
-        None if number.bits == 0 => f.write_str("0"),
-        None => Display::fmt(&number.bits, f),
-    }
 }

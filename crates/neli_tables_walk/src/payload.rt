@@ -10,7 +10,8 @@ use crate::fields::{Fields, FieldsJson, FieldsText};
 use crate::form::{Cell, Form, Plain, form_of};
 use crate::hex::{Bytes, BytesJson};
 use crate::named::{NamedJson, NamedText};
-use crate::numbered::{digits_by, number_by, write_digits};
+use crate::number::NumberJson;
+use crate::numbered::{digits_by, number_by};
 use neli_tables::{Options, Table};
 use std::fmt;
 use std::fmt::Display;
@@ -165,7 +166,7 @@ impl fmt::Display for PayloadText<'_, '_, '_> {
             Some(options) => {
                 if let Some(number) = digits_by(options, self.0.bytes) {
                     f.write_str(" ")?;
-                    return write_digits(number, f);
+                    return Display::fmt(&NumberJson(number), f);
                 }
                 if let Some(number) = number_by(self.0.table, options, self.0.bytes) {
                     f.write_str(" ")?;
@@ -193,7 +194,7 @@ impl fmt::Display for PayloadJson<'_, '_, '_> {
         match self.0.table.options(self.0.place) {
             Some(options) => {
                 if let Some(number) = digits_by(options, self.0.bytes) {
-                    return write_digits(number, f);
+                    return Display::fmt(&NumberJson(number), f);
                 }
                 if let Some(number) = number_by(self.0.table, options, self.0.bytes) {
                     return Display::fmt(&NamedJson(number), f);
