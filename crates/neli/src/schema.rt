@@ -18,6 +18,6 @@ pub use neli_tables_system::SystemTable;
 pub use neli_tables_walk::{
     Body, Breach, Context, Fields, FieldsJson, FieldsText, Found, GENERIC_HEADER_SIZE,
     GenericHeader, Head, Item, MAX_DEPTH, Name, NameJson, Nest, Path, Payload, PayloadJson,
-    PayloadText, Rest, Shape, Step, Walk, answer_of, body_of, breach_of, built_in, first_payload,
-    is_answer, learn_from,
+    PayloadText, Rest, Shape, Step, Visit, Visits, Walk, answer_of, body_of, breach_of, built_in,
+    first_payload, is_answer, learn_from,
 };

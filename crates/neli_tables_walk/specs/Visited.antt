@@ -1,5 +1,5 @@
 -- Items without their paths.
-use Rattle.std.specs.Prelude.{ℕ, ◌≡◌, ◌+◌, ◌-◌, List, [], ◌∷◌, length, map, slice_get, take}
+use Rattle.std.specs.Prelude.{ℕ, ◌≡◌, ◌≤◌, ◌+◌, ◌-◌, List, [], ◌∷◌, length, map, slice_get, take}
 use Rattle.std.specs.Prelude.{Option, Some, None, Result, Ok, Err}
 use Rattle.neli_wire.specs.declared.errors.DeError.{DeError}
 use Rattle.neli_tables_walk.specs.declared.item.Found.{Found}
@@ -34,11 +34,12 @@ visited item = (lists_with (length item.0) item.1, own_step item.0 item.1, item.
 abbrev pub visit_seen : Visit → Visited
 visit_seen v = (v.lists, v.step, content_seen v.content)
 
--- the first of these items is visited, if there is one, and the others are left
+-- the first of these items is visited, if there is one, and the others are left; it stands in ten
+-- lists at most
 abbrev pub VisitsFirst : List Seen → Option Visit → List Seen → Type 0
 VisitsFirst items None left = (items ≡ []) × (left ≡ [])
 VisitsFirst items (Some v) left =
-    (item : Seen) × (items ≡ item ∷ left) × (visited item ≡ visit_seen v)
+    (item : Seen) × (items ≡ item ∷ left) × (visited item ≡ visit_seen v) × (v.lists ≤ 10)
 
 -- ---- the path of what is visited, by the lists that are open after it
 

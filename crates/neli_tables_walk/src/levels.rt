@@ -54,6 +54,7 @@ impl<'b, 'w, 't> Levels<'b, 'w, 't> {
         ensures visit { IfSome result (λ v. visited (item_at v self.new.open.items)
             ≡ visit_seen v) }
         ensures parts { IfSome result (λ v. parts_of v ≤ length self.new.open.items) }
+        ensures few { IfSome result (λ v. v.lists ≤ MAX_DEPTH) }
         ensures end { IsNone result
             → open_items (context_seen self.new.context) [] [] self.new.open.items ≡ [] }
     {
@@ -78,6 +79,7 @@ impl<'b, 'w, 't> Levels<'b, 'w, 't> {
             (self.old.open.items ++ level.entry ∷ []) }
         ensures visit { visited (item_at result self.new.open.items) ≡ visit_seen result }
         ensures parts { parts_of result ≤ length self.new.open.items }
+        ensures few { result.lists ≤ MAX_DEPTH }
     {
         match take_element(&level.list.sort, level.rest) {
             Ok((element, rest)) => self.give_element(level, element, rest),
@@ -97,6 +99,7 @@ impl<'b, 'w, 't> Levels<'b, 'w, 't> {
             (self.old.open.items ++ level.entry ∷ []) }
         ensures visit { visited (item_at result self.new.open.items) ≡ visit_seen result }
         ensures parts { parts_of result ≤ length self.new.open.items }
+        ensures few { result.lists ≤ MAX_DEPTH }
     {
         self.open.push(Level { rest: &[], ..level });
         let bytes = level.rest;
@@ -119,6 +122,7 @@ impl<'b, 'w, 't> Levels<'b, 'w, 't> {
             (self.old.open.items ++ level.entry ∷ []) }
         ensures visit { visited (item_at result self.new.open.items) ≡ visit_seen result }
         ensures parts { parts_of result ≤ length self.new.open.items }
+        ensures few { result.lists ≤ MAX_DEPTH }
     {
         let payload = element.payload;
         let step = self.step_of(&level.list, &element);

@@ -2,8 +2,8 @@
 
 use neli::lent::LentMessages;
 use neli::schema::{
-    Head, PathText, Payload, PayloadText, ReadError, RoutingTable, Shape, Table, Tables, body_of,
-    check, find,
+    Head, PathText, Payload, PayloadText, ReadError, RoutingTable, Shape, Step, Table, Tables,
+    Walk, body_of, check, find,
 };
 use std::alloc::Global;
 use std::fmt::Write;
@@ -13,6 +13,11 @@ use std::test::Fail;
 const DATAGRAM: &[u8] =
     b"\x24\0\0\0\x50\0\0\0\0\0\0\0\0\0\0\0\x02\0\0\0\x08\0\x01\0\xfe\xff\xff\xff\
     \x08\0\x02\0\x01\0\0\0";
+
+/// A body of `RTM_NEWLINK` with `IFLA_LINKINFO` (18) around `IFLA_INFO_KIND` (1), then `IFLA_MTU` (4) and a byte that is
+/// no attribute (`linux/if_link.h`).
+const LINK: &[u8] = b"\0\0\x01\0\x02\0\0\0\0\0\0\0\0\0\0\0\
+    \x10\0\x12\0\x0a\0\x01\0dummy\0\0\0\x08\0\x04\0\xdc\x05\0\0\x07";
 
 /// The table of its family alone.
 fn tables(alloc: Global) -> Result<Tables<'static>, ReadError> {
@@ -65,5 +70,46 @@ fn attributes_have_names_and_values(rt: HostRuntime) -> Result<(), Fail> {
         text.as_str(),
         "NETCONFA_IFINDEX -2;NETCONFA_FORWARDING 1; NETCONFA_FORWARDING"
     );
+    Ok(())
+}
+
+/// What a walk visits: the number of each attribute behind that of the lists around it.
+fn visited(alloc: Global, walk: Walk<'_, '_, '_>) -> Result<String, Fail> {
+    let mut text = String::new(alloc);
+    for visit in walk.visits() {
+        let lists = visit.lists;
+        match (visit.step, visit.content) {
+            (
+                Some(Step {
+                    number: Some(number),
+                    ..
+                }),
+                Ok(_),
+            ) => write!(text, "{lists}:{number} ")?,
+            (None, Err(rest)) => {
+                let bytes = rest.bytes.len();
+                write!(text, "{lists}:rest of {bytes} ")?
+            }
+            _ => write!(text, "?")?,
+        }
+    }
+    Ok(text)
+}
+
+#[test]
+fn visits_count_the_lists_around(rt: HostRuntime) -> Result<(), Fail> {
+    let alloc = rt.alloc();
+    let mut tables = Tables::new(alloc);
+    tables.add(Table::read(alloc, RoutingTable::RtLink.text())?)?;
+    let head = Head {
+        protocol: 0,
+        message_type: 16,
+        flags: 0,
+    };
+    let text = match body_of(&tables, head, LINK).walk() {
+        Some(walk) => visited(alloc, walk)?,
+        None => String::new(alloc),
+    };
+    assert_eq!(rt; text.as_str(), "1:18 2:1 1:4 2:rest of 1 ");
     Ok(())
 }
