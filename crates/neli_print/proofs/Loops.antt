@@ -9,6 +9,7 @@ use Rattle.std.specs.declared.fmt.Formatter.{Formatter}
 use Rattle.neli_lent.specs.Messages.{Lent}
 use Rattle.neli_print.specs.MessageFlags.{flag_seen}
 use Rattle.neli_tables.specs.declared.tables.Tables.{Tables}
+use Rattle.neli_tables_walk.specs.Visited.{Visited, visited}
 use Rattle.neli_tables_walk.specs.Walks.{Seen}
 use Rattle.neli_wire.specs.declared.errors.DeError.{DeError}
 use Rattle.neli_print.specs.declared.flags.FlagForm.{FlagForm}
@@ -17,9 +18,9 @@ use Rattle.neli_print.specs.declared.head.Header.{Header}
 use Rattle.neli_print.specs.declared.item.Open.{Open}
 use Rattle.neli_print.specs.Flags.{after_flag, flag_text, flags_from, rest_text}
 use Rattle.neli_print.specs.Heads.{header_of}
-use Rattle.neli_print.specs.Items.{after_item}
-use Rattle.neli_print.specs.ItemsJson.{item_json, items_json}
-use Rattle.neli_print.specs.ItemsText.{item_text, items_text}
+use Rattle.neli_print.specs.Items.{after_visit}
+use Rattle.neli_print.specs.ItemsJson.{items_json, visit_json}
+use Rattle.neli_print.specs.ItemsText.{items_text, visit_text}
 use Rattle.neli_print.specs.Messages.{json_from, lines_from, message_json, message_text}
 use Rattle.neli_print.specs.Messages.{place_behind}
 use Rattle.neli_print.specs.Names.{Lines}
@@ -109,29 +110,35 @@ flags_printed took start f g form set left rows i all over prints so_far =
 
 -- ---- items of a walk
 
-pub item_json_printed :
+-- an item, by what is said where it is visited
+pub visit_json_printed :
     {W : Type 0} (took : W → List ℕ → W → Type 0) (start f g : Formatter W) (table : Lines)
-    (o after : Open) (item : Seen) (left later : List Seen) (all : List ℕ) → left ≡ item ∷ later
-    → after ≡ after_item o item → Prints took f (item_json table o item) g
+    (o after : Open) (v : Visited) (item : Seen) (left later : List Seen) (all : List ℕ)
+    → visited item ≡ v → left ≡ item ∷ later → after ≡ after_visit o v
+    → Prints took f (visit_json table o v) g
     → IsPrinted took start f (items_json table o left) all
     → IsPrinted took start g (items_json table after later) all
-item_json_printed took start f g table o after item left later all is opened prints so_far =
-    printed_more took start f g (item_json table o item) (items_json table after later)
+visit_json_printed took start f g table o after v item left later all seen is opened prints so_far =
+    printed_more took start f g (visit_json table o v) (items_json table after later)
     (items_json table o left) all prints
     (ap (items_json table o) is
-    ∙ ap (λ (a : Open). item_json table o item ++ items_json table a later) (sym opened))
+    ∙ ap (λ (w : Visited). visit_json table o w ++ items_json table (after_visit o w) later) seen
+    ∙ ap (λ (a : Open). visit_json table o v ++ items_json table a later) (sym opened))
     so_far
 
-pub item_text_printed :
+pub visit_text_printed :
     {W : Type 0} (took : W → List ℕ → W → Type 0) (start f g : Formatter W) (coloured : Bool)
-    (table : Lines) (level : ℕ) (item : Seen) (left later : List Seen) (all : List ℕ)
-    → left ≡ item ∷ later → Prints took f (item_text coloured table level item) g
+    (table : Lines) (level : ℕ) (v : Visited) (item : Seen) (left later : List Seen)
+    (all : List ℕ) → visited item ≡ v → left ≡ item ∷ later
+    → Prints took f (visit_text coloured table level v) g
     → IsPrinted took start f (items_text coloured table level left) all
     → IsPrinted took start g (items_text coloured table level later) all
-item_text_printed took start f g coloured table level item left later all is prints so_far =
-    printed_more took start f g (item_text coloured table level item)
+visit_text_printed took start f g coloured table level v item left later all seen is prints so_far =
+    printed_more took start f g (visit_text coloured table level v)
     (items_text coloured table level later) (items_text coloured table level left) all prints
-    (ap (items_text coloured table level) is) so_far
+    (ap (items_text coloured table level) is
+    ∙ ap (λ (w : Visited). visit_text coloured table level w ++ items_text coloured table level later) seen)
+    so_far
 
 -- ---- messages of a datagram
 

@@ -7,6 +7,7 @@ use Rattle.neli_wire.specs.declared.errors.DeError.{DeError}
 use Rattle.neli_tables_walk.specs.declared.item.Step.{Step}
 use Rattle.neli_tables_walk.specs.declared.shape.Shape.{Shape}
 use Rattle.neli_tables_walk.specs.declared.shape.Shape.TheVariants as shape
+use Rattle.neli_tables_walk.specs.Visited.{Visited, visited}
 use Rattle.neli_tables_walk.specs.Walks.{Said, Seen}
 use Rattle.neli_tables_walk.specs.declared.breach.Breach.{Breach}
 use Rattle.neli_tables_walk.specs.declared.breach.Breach.TheVariants.{Shorter}
@@ -15,7 +16,7 @@ use Rattle.neli_tables_walk.specs.Hex.{bytes_json, hex_text}
 use Rattle.neli_tables_walk.specs.Values.{payload_breach, payload_json}
 use Rattle.neli_print.specs.declared.item.Open.{Open}
 use Rattle.neli_print.specs.Faults.{fault_text}
-use Rattle.neli_print.specs.Items.{after_item, depth_in, last_step}
+use Rattle.neli_print.specs.Items.{after_item, depth_in}
 use Rattle.neli_print.specs.Names.{Lines, name_member, row_name, structure_members}
 use Rattle.neli_print.specs.Pieces.{repeated, when}
 use Rattle.neli_print.specs.Rests.{rest_member, rest_of}
@@ -72,17 +73,21 @@ left_json bytes e =
     codes "{\"fault\":\"" ++ (fault_text e
     ++ (codes "\",\"rest\":\"" ++ (hex_text bytes ++ codes "\"}")))
 
-abbrev pub object_json : Lines → List Step → Result Said (List ℕ × DeError) → List ℕ
-object_json table path (Ok said) = element_json table (last_step path) said
-object_json table path (Err left) = left_json left.0 left.1
+abbrev pub object_json : Lines → Option Step → Result Said (List ℕ × DeError) → List ℕ
+object_json table step (Ok said) = element_json table step said
+object_json table step (Err left) = left_json left.0 left.1
 
--- an item: the ends of the lists that it is not in, a comma unless it is the first, and its object
-abbrev pub item_json : Lines → Open → Seen → List ℕ
-item_json table o item =
-    let depth = depth_in o item in
+-- what is visited: the ends of the lists that it is not in, a comma unless it is the first, and its
+-- object
+abbrev pub visit_json : Lines → Open → Visited → List ℕ
+visit_json table o v =
+    let depth = depth_in o v.0 in
     repeated (codes "]}") (o.lists - depth)
-    ++ (when (not o.is_first || not (depth == o.lists)) (codes ",")
-    ++ object_json table item.0 item.1)
+    ++ (when (not o.is_first || not (depth == o.lists)) (codes ",") ++ object_json table v.1 v.2)
+
+-- an item
+abbrev pub item_json : Lines → Open → Seen → List ℕ
+item_json table o item = visit_json table o (visited item)
 
 -- the items of a list, and its end
 abbrev pub items_json : Lines → Open → List Seen → List ℕ

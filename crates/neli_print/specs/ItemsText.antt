@@ -7,6 +7,7 @@ use Rattle.neli_wire.specs.declared.errors.DeError.{DeError}
 use Rattle.neli_tables_walk.specs.declared.item.Step.{Step}
 use Rattle.neli_tables_walk.specs.declared.shape.Shape.{Shape}
 use Rattle.neli_tables_walk.specs.declared.shape.Shape.TheVariants as shape
+use Rattle.neli_tables_walk.specs.Visited.{Visited, visited}
 use Rattle.neli_tables_walk.specs.Walks.{Said, Seen}
 use Rattle.neli_tables_walk.specs.declared.breach.Breach.{Breach}
 use Rattle.neli_tables_walk.specs.declared.breach.Breach.TheVariants.{Shorter}
@@ -16,7 +17,6 @@ use Rattle.neli_tables_walk.specs.Names.{name_text}
 use Rattle.neli_tables_walk.specs.Values.{payload_breach, payload_text}
 use Rattle.neli_print.specs.declared.pieces.Colour.TheVariants as colour
 use Rattle.neli_print.specs.Faults.{fault_text}
-use Rattle.neli_print.specs.Items.{last_step, lists_around}
 use Rattle.neli_print.specs.Names.{Lines, is_each, row_name, structure_text}
 use Rattle.neli_print.specs.Pieces.{indent, painted, when}
 use Rattle.neli_print.specs.Rests.{rest_of, rest_words}
@@ -83,15 +83,18 @@ left_text coloured bytes e =
     painted coloured colour.Error (codes "fault")
     ++ (codes ": " ++ (fault_text e ++ (codes ": " ++ bytes_text bytes)))
 
-abbrev pub words_of : Bool → Lines → List Step → Result Said (List ℕ × DeError) → List ℕ
-words_of coloured table path (Ok said) = element_text coloured table (last_step path) said
-words_of coloured table path (Err left) = left_text coloured left.0 left.1
+abbrev pub words_of : Bool → Lines → Option Step → Result Said (List ℕ × DeError) → List ℕ
+words_of coloured table step (Ok said) = element_text coloured table step said
+words_of coloured table step (Err left) = left_text coloured left.0 left.1
 
--- an item: two blanks for each level and each list around its own, and its line
+-- what is visited: two blanks for each level and each list around its own, and its line
+abbrev pub visit_text : Bool → Lines → ℕ → Visited → List ℕ
+visit_text coloured table level v =
+    indent level ++ (indent (v.0 - 1) ++ (words_of coloured table v.1 v.2 ++ codes "\n"))
+
+-- an item
 abbrev pub item_text : Bool → Lines → ℕ → Seen → List ℕ
-item_text coloured table level item =
-    indent level ++ (indent (lists_around item - 1)
-    ++ (words_of coloured table item.0 item.1 ++ codes "\n"))
+item_text coloured table level item = visit_text coloured table level (visited item)
 
 -- the items of a list
 abbrev pub items_text : Bool → Lines → ℕ → List Seen → List ℕ

@@ -1,30 +1,53 @@
 //! An item of a walk, whatever the form that prints it.
 
 ghost use Rattle.std.specs.Prelude.{◌≡◌, ◌^◌, ◌≤◌, take};
-ghost use Rattle.std.specs.Option.{option_copied};
+ghost use Rattle.neli_tables_walk.specs.Visited.{visit_seen, visited};
 ghost use Rattle.neli_tables_walk.specs.Walks.{content_seen, item_seen};
-ghost use Rattle.neli_print.specs.Items.{after_item, depth_in, last_step, lists_around, opens_list};
+ghost use Rattle.neli_print.specs.Items.{after_item, after_visit, depth_in, entry_seen};
+ghost use Rattle.neli_print.specs.Items.{opens_list};
 
-use neli_tables_walk::{Found, Item, Rest, Shape, Step};
+use neli_tables_walk::{Found, Item, Rest, Shape, Step, Visit};
 
-/// The last part of an item's path: the attribute itself; of what is left of a list the nest that
-/// this is in.
-pub(crate) fn last_step<'i>(item: &'i Item<'_>) -> Option<&'i Step>
-    ensures { option_copied result ≡ last_step item.now.path.steps.items }
-{
-    item.path.steps().last()
+/// An item as it is printed.
+#[derive(Clone, Copy)]
+pub(crate) struct Entry<'i, 'b> {
+    /// How many lists are around it: as many as its path has parts, and one more around what is left
+    /// of a list.
+    pub lists: usize,
+    /// The attribute or the hop itself; `None` where it is what is left of a list.
+    pub step: Option<Step>,
+    /// What stands there.
+    pub content: &'i Result<Found<'b>, Rest<'b>>,
 }
 
-/// How many lists of attributes are around an item: as many as its path has parts, and one more
-/// around what is left of a list.
-pub(crate) fn lists_around(item: &Item<'_>) -> usize
-    ensures value { result ≡ lists_around (item_seen item.now) }
-    ensures few { result ≤ 2 ^ 63 }
-{
-    let steps = item.path.steps().len();
-    match item.content {
-        Ok(_) => steps,
-        Err(_) => steps + 1,
+impl<'i, 'b> Entry<'i, 'b> {
+    /// The entry of an item with its path.
+    pub(crate) fn of_item(item: &'i Item<'b>) -> Entry<'i, 'b>
+        ensures seen { entry_seen result ≡ visited (item_seen item.now) }
+        ensures few { result.lists ≤ 2 ^ 63 }
+    {
+        let steps = item.path.steps();
+        let (lists, step) = match item.content {
+            Ok(_) => (steps.len(), steps.last().copied()),
+            Err(_) => (steps.len() + 1, None),
+        };
+        Entry {
+            lists,
+            step,
+            content: &item.content,
+        }
+    }
+
+    /// The entry of an item without its path.
+    pub(crate) fn of_visit(visit: &'i Visit<'b>) -> Entry<'i, 'b>
+        ensures seen { entry_seen result ≡ visit_seen visit.now }
+        ensures lists { result.lists ≡ visit.now.lists }
+    {
+        Entry {
+            lists: visit.lists,
+            step: visit.step,
+            content: &visit.content,
+        }
     }
 }
 
@@ -64,21 +87,28 @@ impl Open {
         is_first: true,
     };
 
-    /// How many are open around an item: as many as it is in, but no more than were open, and one
-    /// at least.
-    pub(crate) fn depth(&self, item: &Item<'_>) -> usize
-        ensures value { result ≡ depth_in self.now (item_seen item.now) }
-        ensures few { result ≤ 2 ^ 63 }
+    /// How many are open around an item that is in so many: as many, but no more than were open, and
+    /// one at least.
+    pub(crate) fn depth(&self, lists: usize) -> usize
+        ensures { result ≡ depth_in self.now lists }
     {
-        lists_around(item).min(self.lists).max(1)
+        lists.min(self.lists).max(1)
     }
 
     /// What is open after an item.
     pub fn after(&self, item: &Item<'_>) -> Open
         ensures { result ≡ after_item self.now (item_seen item.now) }
     {
-        let depth = self.depth(item);
-        if opens_list(&item.content) {
+        self.after_entry(Entry::of_item(item))
+    }
+
+    /// What is open after an entry.
+    pub(crate) fn after_entry(&self, item: Entry<'_, '_>) -> Open
+        requires { item.lists ≤ 2 ^ 63 }
+        ensures { result ≡ after_visit self.now (entry_seen item.entry) }
+    {
+        let depth = self.depth(item.lists);
+        if opens_list(item.content) {
             Open {
                 lists: depth + 1,
                 is_first: true,

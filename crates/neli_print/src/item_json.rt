@@ -1,20 +1,22 @@
 //! An item of a walk in JSON.
 
 ghost use Rattle.std.specs.Prelude.{Some};
-ghost use Rattle.std.specs.Option.{option_copied};
 ghost use Rattle.neli_tables_walk.specs.Walks.{item_seen};
+ghost use Rattle.neli_print.specs.Items.{entry_seen};
 ghost use Rattle.neli_print.specs.ItemsJson.{breach_member, content_json, element_json, item_json};
 ghost use Rattle.neli_print.specs.ItemsJson.{label_json, left_json, row_json, value_json};
+ghost use Rattle.neli_print.specs.ItemsJson.{visit_json};
 
 use crate::fault::Fault;
-use crate::item::{Open, last_step};
+use crate::item::{Entry, Open};
 use crate::names::{LineNameMember, Structure, StructureMembers, row_name};
 use crate::pieces::{Repeated, When};
 use crate::rests::{RestMember, rest_of};
 use neli_attr::AttrType;
 use neli_tables::Table;
 use neli_tables_walk::{
-    Breach, BytesJson, Found, Hex, Item, Payload, PayloadJson, Rest, Shape, Step, breach_of,
+    Breach, BytesJson, Decimal, Found, Hex, Item, Payload, PayloadJson, Rest, Shape, Step,
+    breach_of,
 };
 use std::fmt;
 use std::fmt::Display;
@@ -22,17 +24,17 @@ use std::fmt::Display;
 /// The first members of an attribute: its number, its name if it has a row, and the flags of its
 /// type.
 #[derive(Clone, Copy)]
-struct Label<'i, 'w, 't> {
+struct Label<'w, 't> {
     table: &'w Table<'t>,
-    step: Option<&'i Step>,
+    step: Option<Step>,
     kind: AttrType<u16>,
 }
 
-impl fmt::Display for Label<'_, '_, '_> {
-    ghost output = { λ l. Some (label_json l.table.now (option_copied l.step) l.kind) };
+impl fmt::Display for Label<'_, '_> {
+    ghost output = { λ l. Some (label_json l.table.now l.step l.kind) };
 
     fn fmt<W: fmt::Write>(&self, f: &mut fmt::Formatter<W>) -> fmt::Result {
-        let number = *self.kind.nla_type();
+        let number = Decimal(*self.kind.nla_type() as u64);
         let name = LineNameMember(row_name(self.table, self.step));
         let nested = When {
             holds: *self.kind.nla_nested(),
@@ -158,12 +160,12 @@ impl fmt::Display for Content<'_, '_, '_> {
 #[derive(Clone, Copy)]
 struct Element<'i, 'b, 'w, 't> {
     table: &'w Table<'t>,
-    step: Option<&'i Step>,
+    step: Option<Step>,
     found: &'i Found<'b>,
 }
 
 impl fmt::Display for Element<'_, '_, '_, '_> {
-    ghost output = { λ e. Some (element_json e.table.now (option_copied e.step)
+    ghost output = { λ e. Some (element_json e.table.now e.step
         (e.found.now.kind, e.found.now.payload.now, e.found.now.shape)) };
 
     fn fmt<W: fmt::Write>(&self, f: &mut fmt::Formatter<W>) -> fmt::Result {
@@ -221,7 +223,29 @@ impl fmt::Display for ItemJson<'_, '_, '_, '_> {
     ghost output = { λ i. Some (item_json i.table.now i.open (item_seen i.item.now)) };
 
     fn fmt<W: fmt::Write>(&self, f: &mut fmt::Formatter<W>) -> fmt::Result {
-        let depth = self.open.depth(self.item);
+        let json = EntryJson {
+            table: self.table,
+            open: self.open,
+            entry: Entry::of_item(self.item),
+        };
+        Display::fmt(&json, f)
+    }
+}
+
+/// An entry in JSON: the ends of the lists that it is not in, a comma if it needs one, and an object;
+/// the object of a nest, of hops and of a hop ends with the list in it.
+#[derive(Clone, Copy)]
+pub(crate) struct EntryJson<'i, 'b, 'w, 't> {
+    pub table: &'w Table<'t>,
+    pub open: Open,
+    pub entry: Entry<'i, 'b>,
+}
+
+impl fmt::Display for EntryJson<'_, '_, '_, '_> {
+    ghost output = { λ e. Some (visit_json e.table.now e.open (entry_seen e.entry)) };
+
+    fn fmt<W: fmt::Write>(&self, f: &mut fmt::Formatter<W>) -> fmt::Result {
+        let depth = self.open.depth(self.entry.lists);
         let ends = Repeated {
             text: "]}",
             count: self.open.lists.saturating_sub(depth),
@@ -230,11 +254,11 @@ impl fmt::Display for ItemJson<'_, '_, '_, '_> {
             holds: !self.open.is_first || depth != self.open.lists,
             text: ",",
         };
-        match &self.item.content {
+        match self.entry.content {
             Ok(found) => {
                 let element = Element {
                     table: self.table,
-                    step: last_step(self.item),
+                    step: self.entry.step,
                     found,
                 };
                 Display::fmt(&ends, f)?;

@@ -1,15 +1,16 @@
 //! An item of a walk as a line of text.
 
 ghost use Rattle.std.specs.Prelude.{Some};
-ghost use Rattle.std.specs.Option.{option_copied, option_map};
+ghost use Rattle.std.specs.Option.{option_map};
 ghost use Rattle.neli_tables_walk.specs.Names.{line_name};
 ghost use Rattle.neli_tables_walk.specs.Walks.{item_seen};
+ghost use Rattle.neli_print.specs.Items.{entry_seen};
 ghost use Rattle.neli_print.specs.ItemsText.{breach_words, content_text, element_text, index_words};
 ghost use Rattle.neli_print.specs.ItemsText.{item_text, label_text, left_text, name_words};
-ghost use Rattle.neli_print.specs.ItemsText.{row_words};
+ghost use Rattle.neli_print.specs.ItemsText.{row_words, visit_text};
 
 use crate::fault::Fault;
-use crate::item::{last_step, lists_around};
+use crate::item::Entry;
 use crate::names::{Structure, StructureText, is_each, row_name};
 use crate::pieces::{Colour, When, escape, indent};
 use crate::rests::{RestWords, rest_of};
@@ -73,15 +74,15 @@ impl fmt::Display for IndexWords {
 
 /// An attribute by its name or its number, or both where the name is that of each number.
 #[derive(Clone, Copy)]
-struct NameWords<'i, 'w, 't> {
+struct NameWords<'w, 't> {
     is_coloured: bool,
     table: &'w Table<'t>,
-    step: Option<&'i Step>,
+    step: Option<Step>,
     number: u16,
 }
 
-impl fmt::Display for NameWords<'_, '_, '_> {
-    ghost output = { λ n. Some (name_words n.is_coloured n.table.now (option_copied n.step)
+impl fmt::Display for NameWords<'_, '_> {
+    ghost output = { λ n. Some (name_words n.is_coloured n.table.now n.step
         n.number) };
 
     #[tactic(auto, unfolding(crate::specs::ItemsText::name_words))]
@@ -102,15 +103,15 @@ impl fmt::Display for NameWords<'_, '_, '_> {
 
 /// An attribute: its name or its number, and the flags of its type.
 #[derive(Clone, Copy)]
-struct Label<'i, 'w, 't> {
+struct Label<'w, 't> {
     is_coloured: bool,
     table: &'w Table<'t>,
-    step: Option<&'i Step>,
+    step: Option<Step>,
     kind: AttrType<u16>,
 }
 
-impl fmt::Display for Label<'_, '_, '_> {
-    ghost output = { λ l. Some (label_text l.is_coloured l.table.now (option_copied l.step)
+impl fmt::Display for Label<'_, '_> {
+    ghost output = { λ l. Some (label_text l.is_coloured l.table.now l.step
         l.kind) };
 
     fn fmt<W: fmt::Write>(&self, f: &mut fmt::Formatter<W>) -> fmt::Result {
@@ -128,7 +129,9 @@ impl fmt::Display for Label<'_, '_, '_> {
             holds: *self.kind.nla_network_order(),
             text: " net_byteorder",
         };
-        write!(f, "{name}{nested}{order}")
+        Display::fmt(&name, f)?;
+        Display::fmt(&nested, f)?;
+        Display::fmt(&order, f)
     }
 }
 
@@ -203,12 +206,12 @@ impl fmt::Display for Content<'_, '_, '_> {
 struct Element<'i, 'b, 'w, 't> {
     is_coloured: bool,
     table: &'w Table<'t>,
-    step: Option<&'i Step>,
+    step: Option<Step>,
     found: &'i Found<'b>,
 }
 
 impl fmt::Display for Element<'_, '_, '_, '_> {
-    ghost output = { λ e. Some (element_text e.is_coloured e.table.now (option_copied e.step)
+    ghost output = { λ e. Some (element_text e.is_coloured e.table.now e.step
         (e.found.now.kind, e.found.now.payload.now, e.found.now.shape)) };
 
     fn fmt<W: fmt::Write>(&self, f: &mut fmt::Formatter<W>) -> fmt::Result {
@@ -275,14 +278,38 @@ impl fmt::Display for ItemText<'_, '_, '_, '_> {
         (item_seen i.item.now)) };
 
     fn fmt<W: fmt::Write>(&self, f: &mut fmt::Formatter<W>) -> fmt::Result {
+        let text = EntryText {
+            is_coloured: self.is_coloured,
+            table: self.table,
+            level: self.level,
+            entry: Entry::of_item(self.item),
+        };
+        Display::fmt(&text, f)
+    }
+}
+
+/// An entry as a line of text.
+#[derive(Clone, Copy)]
+pub(crate) struct EntryText<'i, 'b, 'w, 't> {
+    pub is_coloured: bool,
+    pub table: &'w Table<'t>,
+    pub level: usize,
+    pub entry: Entry<'i, 'b>,
+}
+
+impl fmt::Display for EntryText<'_, '_, '_, '_> {
+    ghost output = { λ e. Some (visit_text e.is_coloured e.table.now e.level
+        (entry_seen e.entry)) };
+
+    fn fmt<W: fmt::Write>(&self, f: &mut fmt::Formatter<W>) -> fmt::Result {
         let around = indent(self.level);
-        let inside = indent(lists_around(self.item).saturating_sub(1));
-        match &self.item.content {
+        let inside = indent(self.entry.lists.saturating_sub(1));
+        match self.entry.content {
             Ok(found) => {
                 let element = Element {
                     is_coloured: self.is_coloured,
                     table: self.table,
-                    step: last_step(self.item),
+                    step: self.entry.step,
                     found,
                 };
                 Display::fmt(&around, f)?;

@@ -4,12 +4,13 @@ ghost use Rattle.std.specs.Prelude.{Some};
 ghost use Rattle.neli_tables_walk.specs.Shapes.{context_seen};
 ghost use Rattle.neli_print.specs.Lists.{list_items_json, list_member, list_text};
 
-use crate::item::Open;
-use crate::item_json::ItemJson;
-use crate::item_text::ItemText;
+use crate::item::{Entry, Open};
+use crate::item_json::EntryJson;
+use crate::item_text::EntryText;
 use crate::pieces::Repeated;
 use neli_tables_walk::{Context, Nest, Walk};
 use std::fmt;
+use std::fmt::Display;
 
 /// The attributes of a body, which begins with a structure or not.
 #[derive(Clone, Copy)]
@@ -37,14 +38,14 @@ impl fmt::Display for ListText<'_, '_, '_> {
             nest,
             bytes,
         } = self.list;
-        for item in Walk::new(context, nest, bytes) {
-            let text = ItemText {
+        for visit in Walk::new(context, nest, bytes).visits() {
+            let text = EntryText {
                 is_coloured: self.is_coloured,
                 table: context.table,
                 level: self.level,
-                item: &item,
+                entry: Entry::of_visit(&visit),
             };
-            write!(f, "{text}")?;
+            Display::fmt(&text, f)?;
         }
         Ok(())
     }
@@ -65,14 +66,15 @@ impl fmt::Display for ListItems<'_, '_, '_> {
             bytes,
         } = self.0;
         let mut open = Open::BODY;
-        for item in Walk::new(context, nest, bytes) {
-            let json = ItemJson {
+        for visit in Walk::new(context, nest, bytes).visits() {
+            let entry = Entry::of_visit(&visit);
+            let json = EntryJson {
                 table: context.table,
                 open,
-                item: &item,
+                entry,
             };
-            write!(f, "{json}")?;
-            open = open.after(&item);
+            Display::fmt(&json, f)?;
+            open = open.after_entry(entry);
         }
         let ends = Repeated {
             text: "]}",

@@ -1,7 +1,7 @@
 //! Names of lines, as parts of a printed line.
 
 ghost use Rattle.std.specs.Prelude.{◌≡◌, Some, take};
-ghost use Rattle.std.specs.Option.{option_copied, option_map};
+ghost use Rattle.std.specs.Option.{option_map};
 ghost use Rattle.neli_tables_walk.specs.Names.{line_name};
 ghost use Rattle.neli_print.specs.Names.{is_each, is_each_row, name_member};
 ghost use Rattle.neli_print.specs.Names.{row_name, structure_members, structure_text};
@@ -24,12 +24,9 @@ pub(crate) fn line_name<'w, 't>(table: &'w Table<'t>, place: usize) -> &'t [u8]
 }
 
 /// The name of an attribute, if it has a row.
-pub(crate) fn row_name<'w, 't>(
-    table: &'w Table<'t>,
-    step: Option<&Step>,
-) -> Option<LineName<'w, 't>>
+pub(crate) fn row_name<'w, 't>(table: &'w Table<'t>, step: Option<Step>) -> Option<LineName<'w, 't>>
     ensures { option_map (λ name. line_name name.table.now name.place) result
-        ≡ row_name table.now (option_copied step.entry) }
+        ≡ row_name table.now step }
 {
     Some(LineName {
         table,
@@ -51,8 +48,8 @@ fn is_each_row(table: &Table<'_>, row: Option<usize>) -> bool
 }
 
 /// Whether the row of an attribute stands for each number that has none of its own.
-pub(crate) fn is_each(table: &Table<'_>, step: Option<&Step>) -> bool
-    ensures { result ≡ is_each table.now (option_copied step.entry) }
+pub(crate) fn is_each(table: &Table<'_>, step: Option<Step>) -> bool
+    ensures { result ≡ is_each table.now step }
 {
     match step {
         Some(step) => is_each_row(table, step.row),

@@ -22,6 +22,7 @@ use Rattle.neli_tables_walk.specs.declared.shape.Nest.{Nest}
 use Rattle.neli_tables_walk.specs.declared.shape.Shape.{Shape}
 use Rattle.neli_tables_walk.specs.declared.shape.Shape.TheVariants as shape
 use Rattle.neli_tables_walk.specs.Shapes.{ContextSeen}
+use Rattle.neli_tables_walk.specs.Visited.{Visited, visited}
 use Rattle.neli_tables_walk.specs.Walks.{Said, Seen, walk_items}
 use Rattle.neli_tables_walk.specs.declared.breach.Breach.{Breach}
 use Rattle.neli_tables_walk.specs.declared.breach.Breach.TheVariants.{Shorter}
@@ -54,9 +55,10 @@ use Rattle.neli_print.specs.Faults.{fault_text}
 use Rattle.neli_print.specs.Flags.{after_flag, all_left, left_without, flag_text, flags_from}
 use Rattle.neli_print.specs.Flags.{is_named, mark, rest_text}
 use Rattle.neli_print.specs.Heads.{header_flags, header_members, header_of, rows_of}
-use Rattle.neli_print.specs.Items.{after_item, depth_in, has_items, last_step, opened, opens_list}
+use Rattle.neli_print.specs.Items.{after_item, after_visit, depth_in, has_items, opened, opens_list}
 use Rattle.neli_print.specs.ItemsJson.{breach_member, content_json, element_with}
 use Rattle.neli_print.specs.ItemsJson.{item_json, items_json, label_json, left_json, object_json}
+use Rattle.neli_print.specs.ItemsJson.{visit_json}
 use Rattle.neli_print.specs.Lists.{body_open, list_member}
 use Rattle.neli_print.specs.Messages.{content_members, datagram_json, fault_json, json_from}
 use Rattle.neli_print.specs.Messages.{message_json, place_behind}
@@ -230,10 +232,11 @@ left-json bytes e =
 
 -- ---- items
 
-object-turns : (n : ℕ) (table : Lines) (path : List Step) (content : Result Said (List ℕ × DeError))
-    → Turns (IsPlace n) (IsOpenAfter n (opens_list content)) (object_json table path content)
-object-turns n table path (Ok said) = element-turns n table (last_step path) said.0 said.1 said.2
-object-turns n table path (Err left) =
+object-turns : (n : ℕ) (table : Lines) (step : Option Step)
+    (content : Result Said (List ℕ × DeError))
+    → Turns (IsPlace n) (IsOpenAfter n (opens_list content)) (object_json table step content)
+object-turns n table step (Ok said) = element-turns n table step said.0 said.1 said.2
+object-turns n table step (Err left) =
     place_end n (left_json left.0 left.1) (left-json left.0 left.1)
 
 -- so many lists are open
@@ -253,12 +256,12 @@ comma-same true (suc k) d n e = rw (ne_eqb d n (λ same. omega (arith, e, same))
 comma-same false zero d n e = refl
 comma-same false (suc k) d n e = refl
 
-item-at : (table : Lines) (o : Open) (item : Seen) (d : ℕ) → 1 ≤ d → d ≤ o.lists
-    → Turns (IsOpenAs o) (IsOpenAs (opened d (opens_list item.1)))
+visit-at : (table : Lines) (o : Open) (v : Visited) (d : ℕ) → 1 ≤ d → d ≤ o.lists
+    → Turns (IsOpenAs o) (IsOpenAs (opened d (opens_list v.2)))
     (repeated (codes "]}") (o.lists - d)
-    ++ (when (not o.is_first || not (d == o.lists)) (codes ",") ++ object_json table item.0 item.1))
-item-at table o item zero some few before is = absurd (omega (arith, some))
-item-at table o item (suc m) some few before is =
+    ++ (when (not o.is_first || not (d == o.lists)) (codes ",") ++ object_json table v.1 v.2))
+visit-at table o v zero some few before is = absurd (omega (arith, some))
+visit-at table o v (suc m) some few before is =
     let n = o.lists in
     let k = n - suc m in
     let first = o.is_first in
@@ -270,22 +273,22 @@ item-at table o item (suc m) some few before is =
     let placed : IsPlace (suc m) (closed ++ mark)
     = subst (λ (l : List ℕ). IsPlace (suc m) (closed ++ l)) (sym (comma-same first k (suc m) n all))
     (place_begin (suc m) (after_ends k first) closed are) in
-    let object = object_json table item.0 item.1 in
-    let done = object-turns (suc m) table item.0 item.1 (closed ++ mark) placed in
-    subst (IsOpenAs (opened (suc m) (opens_list item.1)))
+    let object = object_json table v.1 v.2 in
+    let done = object-turns (suc m) table v.1 v.2 (closed ++ mark) placed in
+    subst (IsOpenAs (opened (suc m) (opens_list v.2)))
     (append_assoc closed mark object ∙ append_assoc before (repeated (codes "]}") k)
     (mark ++ object))
-    (opened-after (suc m) (opens_list item.1) ((closed ++ mark) ++ object) done)
+    (opened-after (suc m) (opens_list v.2) ((closed ++ mark) ++ object) done)
 
-item-turns : (table : Lines) (o : Open) (item : Seen) → 1 ≤ o.lists
-    → Turns (IsOpenAs o) (IsOpenAs (after_item o item)) (item_json table o item)
-item-turns table o item some =
-    item-at table o item (depth_in o item) (omega arith) (omega (arith, some))
+visit-turns : (table : Lines) (o : Open) (v : Visited) → 1 ≤ o.lists
+    → Turns (IsOpenAs o) (IsOpenAs (after_visit o v)) (visit_json table o v)
+visit-turns table o v some =
+    visit-at table o v (depth_in o v.0) (omega arith) (omega (arith, some))
 
-depth-some : (o : Open) (item : Seen) → 1 ≤ (after_item o item).lists
-depth-some o item = by (opens_list item.1)
+depth-some : (o : Open) (v : Visited) → 1 ≤ (after_visit o v).lists
+depth-some o v = by (opens_list v.2)
   where
-    by : (opens : Bool) → 1 ≤ (opened (depth_in o item) opens).lists
+    by : (opens : Bool) → 1 ≤ (opened (depth_in o v.0) opens).lists
     by true = omega arith
     by false = omega arith
 
@@ -302,8 +305,8 @@ items-turns table [] o some before is =
 items-turns table (item ∷ items) o some before is =
     turns_then (IsOpenAs o) (IsOpenAs (after_item o item)) AreMembers
     (item_json table o item) (items_json table (after_item o item) items)
-    (item-turns table o item some)
-    (items-turns table items (after_item o item) (depth-some o item)) before is
+    (visit-turns table o (visited item) some)
+    (items-turns table items (after_item o item) (depth-some o (visited item))) before is
 
 list-more : (context : ContextSeen) (nest : Nest) (bytes : List ℕ)
     → More (list_member context nest bytes)

@@ -1,7 +1,7 @@
 use Rattle.std.proofs.Common.{◌++◌, codes, ap, rules, ◌∙◌}
 use Rattle.std.proofs.Output.{has_written_append, has_written_of_eq}
 use Rattle.std.specs.Fmt.{HasWritten, decimal}
-use Rattle.std.specs.Option.{option_copied, option_map}
+use Rattle.std.specs.Option.{option_map}
 use Rattle.neli_tables_walk.specs.Names.{line_name}
 use Rattle.neli_print.specs.Names.{name_member, row_name}
 use Rattle.neli_print.specs.Pieces.{when}
@@ -22,9 +22,9 @@ returns-clause-writes g c = λ plain ok.
     has_written_of_eq took _ _ _ _
     (ap (λ n. codes "\"number\":" ++ (decimal n ++ (name-text ++ (nested-text ++ order-text)))) c.nla_type.ensures
     ∙ ap (λ t. codes "\"number\":" ++ (decimal me.kind.nla_type ++ (name_member t ++ (nested-text ++ order-text)))) c.row_name.ensures
-    ∙ ap (λ b. codes "\"number\":" ++ (decimal me.kind.nla_type ++ (name_member (row_name me.table.now (option_copied me.step))
+    ∙ ap (λ b. codes "\"number\":" ++ (decimal me.kind.nla_type ++ (name_member (row_name me.table.now me.step)
     ++ (when b (codes ",\"nested\":true") ++ order-text)))) c.nla_nested.ensures
-    ∙ ap (λ b. codes "\"number\":" ++ (decimal me.kind.nla_type ++ (name_member (row_name me.table.now (option_copied me.step))
+    ∙ ap (λ b. codes "\"number\":" ++ (decimal me.kind.nla_type ++ (name_member (row_name me.table.now me.step)
     ++ (when me.kind.nla_nested (codes ",\"nested\":true") ++ when b (codes ",\"net_byteorder\":true"))))) c.nla_network_order.ensures)
     (has_written_append _ _ _ _ _ _ head (has_written_append _ _ _ _ _ _ number (has_written_append _ _ _ _ _ _ name
     (has_written_append _ _ _ _ _ _ nested order))))
