@@ -12,6 +12,16 @@ use std::io::Write;
 /// How many bytes are gathered at most before they are written.
 const ROOM: usize = 32768;
 
+/// Writes a text.
+fn write_text<W: Write>(out: &mut W, text: &str) -> fmt::Result
+    ensures { OnOk result (Appends (W.contents out.old) (W.contents out.new) text.now) }
+{
+    match out.write_all(text.as_bytes()) {
+        Ok(()) => Ok(()),
+        Err(_) => Err(fmt::Error),
+    }
+}
+
 /// Text on its way to a writer: pieces are gathered, and written together.
 #[derive(Drop)]
 pub struct Gathered<'o, W> {
@@ -38,13 +48,9 @@ impl<'o, W: Write> Gathered<'o, W> {
             (W.contents self.new.out.now) self.old.text.bytes) }
         ensures empty { OnOk result (self.new.text.bytes ≡ []) }
     {
-        match self.out.write_all(self.text.as_str().as_bytes()) {
-            Ok(()) => {
-                self.text.clear();
-                Ok(())
-            }
-            Err(_) => Err(fmt::Error),
-        }
+        write_text(self.out, self.text.as_str())?;
+        self.text.clear();
+        Ok(())
     }
 
     /// Writes what is gathered, and then this piece.
@@ -55,10 +61,7 @@ impl<'o, W: Write> Gathered<'o, W> {
             (held W.contents self.new) piece.now) }
     {
         self.write_out()?;
-        match self.out.write_all(piece.as_bytes()) {
-            Ok(()) => Ok(()),
-            Err(_) => Err(fmt::Error),
-        }
+        write_text(self.out, piece)
     }
 
     /// Writes what is gathered, and returns the writer.
@@ -68,10 +71,8 @@ impl<'o, W: Write> Gathered<'o, W> {
             (W.contents result.0.now) self.entry.text.bytes) }
     {
         let Gathered { out, text } = self;
-        match out.write_all(text.as_str().as_bytes()) {
-            Ok(()) => (out, Ok(())),
-            Err(_) => (out, Err(fmt::Error)),
-        }
+        let written = write_text(out, text.as_str());
+        (out, written)
     }
 }
 
