@@ -1,3 +1,4 @@
+pub mod Aheads
 pub mod DumpPlaces
 pub mod Explained
 pub mod Frames

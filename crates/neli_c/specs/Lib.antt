@@ -1,3 +1,4 @@
+pub mod Ahead
 pub mod AnswersShown
 pub mod Asked
 pub mod Codes

@@ -21,7 +21,7 @@ pub struct NeliLent<'r> {
 }
 
 /// A message, with the code of the error that it is.
-fn stored<'r>(message: &LentMessage<'r, u16>, error: i32) -> NeliLent<'r>
+pub(crate) fn stored<'r>(message: &LentMessage<'r, u16>, error: i32) -> NeliLent<'r>
     ensures { IsStored message.now error result }
 {
     NeliLent {

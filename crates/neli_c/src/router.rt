@@ -8,6 +8,7 @@ ghost use Rattle.neli_c.specs.Sessions.{ClosesHandle, IsNew, ReadsPlace, Refuses
 ghost use Rattle.neli_c.specs.Sessions.{SendsNothing};
 ghost use Rattle.neli_c.specs.Sessions.{SendsRequest, SetsNumber, TakesDatagram, TakesFault, WritesItem};
 ghost use Rattle.neli_c.specs.Verdicts.{GivesUpHandle, HearsHandle, TellsVerdict};
+ghost use Rattle.neli_c.specs.Ahead.{LendsItems, PassesItems};
 ghost use Rattle.neli_c.specs.Lending.{LendsPlace, PassesPlace};
 ghost use Rattle.neli_c.specs.Places.{IsLeft};
 ghost use Rattle.std.specs.Borrow.{sem};
@@ -281,6 +282,52 @@ pub extern "C" fn neli_c_router_lend<'r>(
     lend(router, handle, lent).code
 }
 
+/// Lends the next items of a handle.
+fn lend_items<'r>(
+    router: &'r mut NeliRouter,
+    handle: usize,
+    items: &mut [NeliLent<'r>],
+    count: &mut usize,
+) -> Lending<'r>
+    ensures* same { sem 𝓛 (IsLeft router.entry) }
+    ensures closed { router.old.place.value ≡ None
+        → (result.code ≡ state) × (items.new ≡ items.old) × (count.new ≡ 0) }
+    ensures open { IfSome router.old.place.value
+        (λ s. LendsItems result.code handle s items.old items.new count.new) }
+{
+    let code = match router.lend() {
+        Some(session) => session.lend_items(handle, items, count),
+        None => {
+            *count = 0;
+            STATE
+        }
+    };
+    Lending { code, bytes: &[] }
+}
+
+/// Lends the messages that wait for a handle, one after the other, as many as there is room for, and `count` is their
+/// number: each is the one that `neli_c_router_lend` lends once those before it are passed. The router is unchanged:
+/// they stay the next ones until `neli_c_router_pass_items`, and what is lent until the next call that changes the
+/// router. It takes no memory.
+///
+/// Returns `ITEM`. Where no message comes next `count` is 0, and it returns what `neli_c_router_lend` into the first
+/// place does; or `ROOM` if there is room for none.
+#[unsafe(no_mangle)]
+pub extern "C" fn neli_c_router_lend_items<'r>(
+    router: &'r mut NeliRouter,
+    handle: usize,
+    items: &mut [NeliLent<'r>],
+    count: &mut usize,
+) -> i32
+    ensures* same { sem 𝓛 (IsLeft router.entry) }
+    ensures closed { router.old.place.value ≡ None
+        → (result ≡ state) × (items.new ≡ items.old) × (count.new ≡ 0) }
+    ensures open { IfSome router.old.place.value
+        (λ s. LendsItems result handle s items.old items.new count.new) }
+{
+    lend_items(router, handle, items, count).code
+}
+
 /// Goes on to a handle's next item, as `neli_c_router_read` does, but reads nothing and takes no memory; where none
 /// waits nothing changes.
 ///
@@ -298,6 +345,31 @@ pub extern "C" fn neli_c_router_pass(alloc: Global, router: &mut NeliRouter, han
         return STATE;
     };
     let code = session.pass(handle);
+    router.put(session);
+    code
+}
+
+/// Goes on past so many of a handle's items: as so many calls of `neli_c_router_pass`.
+///
+/// Returns `OK`, or `HANDLE` if the handle is not open.
+#[unsafe(no_mangle)]
+pub extern "C" fn neli_c_router_pass_items(
+    alloc: Global,
+    router: &mut NeliRouter,
+    handle: usize,
+    count: usize,
+) -> i32
+    ensures closed { router.old.place.value ≡ None
+        → (result ≡ state) × (router.new.place.value ≡ None) }
+    ensures open { IfSome router.old.place.value (λ s. IsSome router.new.place.value
+        × IfSome router.new.place.value (PassesItems result handle count s)) }
+    ensures missed { IfSome router.old.place.value
+        (λ s. IfSome router.new.place.value (MissesSame s)) }
+{
+    let Some(mut session) = router.take(alloc) else {
+        return STATE;
+    };
+    let code = session.pass_items(handle, count);
     router.put(session);
     code
 }

@@ -12,6 +12,7 @@ ghost use Rattle.neli_c.specs.Sessions.{SendsNothing, SendsRequest, SetsNumber, 
 ghost use Rattle.neli_c.specs.Sessions.{TakesFault, TakesKind, WritesItem};
 ghost use Rattle.neli_c.specs.Sessions.{error_flags, error_message, item_code, item_message};
 ghost use Rattle.neli_c.specs.Sessions.{item_shown, reply_code, shown_of};
+ghost use Rattle.neli_c.specs.Ahead.{LendsFirst, LendsItems, PassesTimes, StoresAhead, messages_at};
 ghost use Rattle.neli_c.specs.Lending.{LendsHandle, PassesHandle};
 ghost use Rattle.neli_c.specs.Verdicts.{GivesUpHandle, HearsHandle, TellsVerdict};
 ghost use Rattle.neli_router.specs.Listening.{missed_with};
@@ -22,6 +23,7 @@ ghost use Rattle.neli_c.specs.Listens.{HoldsNotice, Listens, Misses, MissesSame,
 ghost use Rattle.neli_c.specs.Slots.{AreFree, handle_at, later_places, next_place, put_at};
 ghost use Rattle.neli_c.specs.declared.session.Slot.TheVariants as slot;
 
+use crate::ahead::fill;
 use crate::code::{HANDLE, ITEM, KERNEL_ERROR, LENGTH, LINK, MEMORY, OK, OVERRUN, ROOM, WAITS};
 use crate::lending::{NeliLent, give};
 use crate::outcome::{filtered_byte, is_overrun, kind_of, of_error, of_verdict, verdict_error};
@@ -481,6 +483,38 @@ impl Session {
         give(self.router.lend_next(reader), lent)
     }
 
+    /// Lends the messages that come next for a handle, as many as there is room for: returns their number.
+    fn lend_ahead<'r>(&'r self, k: usize, items: &mut [NeliLent<'r>]) -> usize
+        ensures { StoresAhead result (messages_at k self.now) items.old items.new }
+    {
+        match handle_of(&self.handles, k) {
+            Some(reader) => fill(&mut self.router.lend_items(reader), items),
+            None => 0,
+        }
+    }
+
+    /// Lends the next item of a handle into the first place.
+    fn lend_first<'r>(&'r self, k: usize, items: &mut [NeliLent<'r>]) -> i32
+        ensures { LendsFirst result k self.now items.old items.new }
+    {
+        if items.is_empty() {
+            return ROOM;
+        }
+        self.lend(k, &mut items[0])
+    }
+
+    /// Lends the next items of a handle, which stay the next ones.
+    pub fn lend_items<'r>(&'r self, k: usize, items: &mut [NeliLent<'r>], count: &mut usize) -> i32
+        ensures { LendsItems result k self.now items.old items.new count.new }
+    {
+        *count = self.lend_ahead(k, items);
+        if *count > 0 {
+            ITEM
+        } else {
+            self.lend_first(k, items)
+        }
+    }
+
     /// Goes on to a handle's next item.
     pub fn pass(&mut self, k: usize) -> i32
         ensures none { handle_at k self.old.handles.items ≡ None
@@ -500,6 +534,40 @@ impl Session {
         self.go_past(&mut passed);
         self.handles[k] = Slot::Open(passed);
         OK
+    }
+
+    /// Goes on past so many items of a handle.
+    pub fn pass_items(&mut self, k: usize, count: usize) -> i32
+        ensures none { handle_at k self.old.handles.items ≡ None
+            → (result ≡ no_handle) × (self.new ≡ self.old) }
+        ensures some { IfSome (handle_at k self.old.handles.items) (λ h. (after : HandleState)
+            × (result ≡ ok)
+            × (self.new.handles.items ≡ slice_set self.old.handles.items k (slot.Open after))
+            × (self.new.freed ≡ self.old.freed)
+            × ((ks : List ℕ) → HasFree self.old ks → HasFree self.new ks)
+            × (self.new.held ≡ self.old.held)
+            × PassesTimes count h after self.old self.new) }
+        ensures missed { MissesSame self.old self.new }
+    {
+        let Some(mut passed) = take(&mut self.handles, k, 0) else {
+            return HANDLE;
+        };
+        self.go_past_items(&mut passed, count);
+        self.handles[k] = Slot::Open(passed);
+        OK
+    }
+
+    /// Goes on past so many items of this handle, which has left its place.
+    fn go_past_items(&mut self, handle: &mut Handle, count: usize)
+        ensures passes { PassesTimes count handle.old handle.new self.old self.new }
+        ensures handles { self.new.handles ≡ self.old.handles }
+        ensures freed { self.new.freed ≡ self.old.freed }
+        ensures held { self.new.held ≡ self.old.held }
+        ensures missed { MissesSame self.old self.new }
+    {
+        for done in 0..count {
+            self.go_past(handle);
+        }
     }
 
     /// Goes on to the next item of this handle, which has left its place.

@@ -1,0 +1,14 @@
+use Rattle.std.proofs.Common.{◌∙◌}
+use Rattle.neli_c.proofs.Aheads.{once-more}
+use Rattle.neli_c.proofs.session.Session.go_past_items.Goals as goal
+
+pub loop-done-preserved : goal.loop-done-preserved
+loop-done-preserved c =
+    let was = c.loop-done.invariant in
+    let r = c.go_past.ensures in (
+      once-more c.loop-done.done _ _ _ _ _ _ was.0 r.passes,
+      r.handles ∙ was.1,
+      r.freed ∙ was.2,
+      r.held ∙ was.3,
+      r.missed ∙ was.4,
+    )

@@ -1,0 +1,44 @@
+//! The messages that wait for a handle, stored one after the other. They take no memory, and no byte is copied.
+
+ghost use Rattle.std.specs.Prelude.{◌≡◌, IfSome, IsNone, ◌∷◌, [], pos};
+ghost use Rattle.neli_lent.specs.Messages.{message_said};
+ghost use Rattle.neli_log.specs.Lending.{Lends};
+ghost use Rattle.neli_c.specs.Ahead.{Message, StoresAhead, message_in, messages_in};
+
+use crate::lending::{NeliLent, stored};
+use neli_lent::LentMessage;
+use neli_router::{ItemsAhead, LentReply};
+
+/// The message that is lent, if it is one.
+fn message_in<'r>(reply: LentReply<'r>) -> Option<LentMessage<'r, u16>>
+    ensures { result ≡ message_in reply.entry }
+{
+    match reply {
+        LentReply::Item(Ok(message)) => Some(message),
+        _ => None,
+    }
+}
+
+/// Lends the next message, if one comes next.
+fn next_message<'r>(ahead: &mut ItemsAhead<'r>) -> Option<LentMessage<'r, u16>>
+    ensures some { IfSome result (λ m. (u : Message) × Lends (message_said m) u
+        × (messages_in ahead.old ≡ u ∷ messages_in ahead.new)) }
+    ensures none { IsNone result → messages_in ahead.old ≡ [] }
+{
+    message_in(ahead.lend_next())
+}
+
+/// Stores messages, as many as there is room for or as come next: returns their number.
+pub(crate) fn fill<'r>(ahead: &mut ItemsAhead<'r>, items: &mut [NeliLent<'r>]) -> usize
+    ensures { StoresAhead result (messages_in ahead.old) items.old items.new }
+{
+    let mut given = 0;
+    while given < items.len() {
+        let Some(message) = next_message(ahead) else {
+            return given;
+        };
+        items[given] = stored(&message, 0);
+        given += 1;
+    }
+    given
+}
